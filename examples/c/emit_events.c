@@ -5,22 +5,20 @@
 
 #include "yaml_c.h"
 
-enum { STREAM_START = 1, STREAM_END, DOCUMENT_START, DOCUMENT_END, ALIAS, SCALAR, SEQUENCE_START, SEQUENCE_END, MAPPING_START, MAPPING_END };
-
 /* The arena: every text of the events, one after another. */
 static const uint8_t texts[] = "from" "Oslo" "to" "place" "!city";
 
 static const struct yaml_c_event events[] = {
-    {.kind = STREAM_START},
-    {.kind = DOCUMENT_START, .implicit = 1},
-    {.kind = MAPPING_START, .implicit = 1},
-    {.kind = SCALAR, .implicit = 1, .quoted_implicit = 1, .value = {0, 4}},
-    {.kind = SCALAR, .has_anchor = 1, .anchor = {10, 5}, .has_tag = 1, .tag = {15, 5}, .value = {4, 4}},
-    {.kind = SCALAR, .implicit = 1, .quoted_implicit = 1, .value = {8, 2}},
-    {.kind = ALIAS, .anchor = {10, 5}},
-    {.kind = MAPPING_END},
-    {.kind = DOCUMENT_END, .implicit = 1},
-    {.kind = STREAM_END},
+    {.kind = YAML_C_STREAM_START},
+    {.kind = YAML_C_DOCUMENT_START, .implicit = 1},
+    {.kind = YAML_C_MAPPING_START, .implicit = 1},
+    {.kind = YAML_C_SCALAR, .implicit = 1, .quoted_implicit = 1, .value = {0, 4}},
+    {.kind = YAML_C_SCALAR, .has_anchor = 1, .anchor = {10, 5}, .has_tag = 1, .tag = {15, 5}, .value = {4, 4}},
+    {.kind = YAML_C_SCALAR, .implicit = 1, .quoted_implicit = 1, .value = {8, 2}},
+    {.kind = YAML_C_ALIAS, .anchor = {10, 5}},
+    {.kind = YAML_C_MAPPING_END},
+    {.kind = YAML_C_DOCUMENT_END, .implicit = 1},
+    {.kind = YAML_C_STREAM_END},
 };
 
 /* By the settings of a new emitter, without directives. */
@@ -39,7 +37,7 @@ int main(void) {
     fwrite(yaml, 1, result.length, stdout);
     free(yaml);
     int32_t status =
-        yaml_emit((struct yaml_c_event[]){{.kind = STREAM_START}, {.kind = MAPPING_END}}, 2, NULL, 0, NULL, 0, NULL, NULL, 0, &result);
+        yaml_emit((struct yaml_c_event[]){{.kind = YAML_C_STREAM_START}, {.kind = YAML_C_MAPPING_END}}, 2, NULL, 0, NULL, 0, NULL, NULL, 0, &result);
     if (status != YAML_REFUSED) return 1;
     printf("%s: event %" PRIu64 ", %s\n", yaml_status_text(status), result.event, yaml_error_text(result.error));
     if (yaml_c_version() != YAML_C_VERSION) return 1;

@@ -5,8 +5,6 @@
 
 #include "yaml_c.h"
 
-enum { STREAM_START = 1, STREAM_END, DOCUMENT_START, DOCUMENT_END, ALIAS, SCALAR, SEQUENCE_START, SEQUENCE_END, MAPPING_START, MAPPING_END };
-
 static struct yaml_c_emitter emitter;
 static struct yaml_c_result result;
 
@@ -27,16 +25,18 @@ static int write_flushed(void) {
 static int write_so_far(void) { return yaml_c_emitter_flush(&emitter, &result) == YAML_DONE && write_flushed(); }
 
 static int give_document(const char *first, const char *second) {
-    return give(DOCUMENT_START, "") && give(SEQUENCE_START, "") && give(SCALAR, first) && give(SCALAR, second) && give(SEQUENCE_END, "")
-        && give(DOCUMENT_END, "");
+    return give(YAML_C_DOCUMENT_START, "") && give(YAML_C_SEQUENCE_START, "") && give(YAML_C_SCALAR, first)
+        && give(YAML_C_SCALAR, second) && give(YAML_C_SEQUENCE_END, "") && give(YAML_C_DOCUMENT_END, "");
 }
 
 int main(void) {
     if (yaml_c_emitter_new(NULL, &emitter) != YAML_DONE) return 1;
-    int done = give(STREAM_START, "") && give_document("one", "yes") && write_flushed() && give_document("two", "x: y") && write_flushed();
-    done = done && give(DOCUMENT_START, "") && give(SEQUENCE_START, "") && give(SCALAR, "three") && give(SCALAR, "four") && write_so_far();
-    done = done && give(SCALAR, "five") && give(SEQUENCE_END, "") && give(DOCUMENT_END, "") && write_flushed();
-    if (done && !give(SCALAR, "six")) printf("refused: %s\n", yaml_error_text(result.error));
+    int done = give(YAML_C_STREAM_START, "");
+    done = done && give_document("one", "yes") && write_flushed() && give_document("two", "x: y") && write_flushed();
+    done = done && give(YAML_C_DOCUMENT_START, "") && give(YAML_C_SEQUENCE_START, "") && give(YAML_C_SCALAR, "three");
+    done = done && give(YAML_C_SCALAR, "four") && write_so_far();
+    done = done && give(YAML_C_SCALAR, "five") && give(YAML_C_SEQUENCE_END, "") && give(YAML_C_DOCUMENT_END, "") && write_flushed();
+    if (done && !give(YAML_C_SCALAR, "six")) printf("refused: %s\n", yaml_error_text(result.error));
     yaml_c_emitter_delete(&emitter);
     return !done;
 }

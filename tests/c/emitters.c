@@ -5,8 +5,6 @@
 
 #include "yaml_c.h"
 
-enum { STREAM_START = 1, STREAM_END, DOCUMENT_START, DOCUMENT_END, ALIAS, SCALAR, SEQUENCE_START, SEQUENCE_END, MAPPING_START, MAPPING_END };
-
 static int failures;
 static int calls;
 
@@ -41,8 +39,8 @@ static void give(uint32_t kind, const char *text, int32_t status, uint32_t error
 
 static void begin(void) {
     make("a new emitter", YAML_DONE);
-    give(STREAM_START, "", YAML_DONE, 0);
-    give(DOCUMENT_START, "", YAML_DONE, 0);
+    give(YAML_C_STREAM_START, "", YAML_DONE, 0);
+    give(YAML_C_DOCUMENT_START, "", YAML_DONE, 0);
 }
 
 /* Takes the output into a buffer of `capacity` bytes: these bytes, or with YAML_TOO_SMALL only their number. */
@@ -66,20 +64,20 @@ static void flush(int32_t status, uint32_t error) {
 static void written(void) {
     begin();
     take("nothing is written", 0, "");
-    give(SEQUENCE_START, "", YAML_DONE, 0);
-    give(SCALAR, "one", YAML_DONE, 0);
-    give(SCALAR, "two", YAML_DONE, 0);
+    give(YAML_C_SEQUENCE_START, "", YAML_DONE, 0);
+    give(YAML_C_SCALAR, "one", YAML_DONE, 0);
+    give(YAML_C_SCALAR, "two", YAML_DONE, 0);
     take("nothing is flushed", 128, "");
     flush(YAML_DONE, 0);
     take("one byte too few", 10, "- one\n- two");
     take("just enough", 11, "- one\n- two");
     take("nothing is left", 0, "");
-    give(SCALAR, "three", YAML_DONE, 0);
-    give(SEQUENCE_END, "", YAML_DONE, 0);
-    give(DOCUMENT_END, "", YAML_DONE, 0);
-    give(STREAM_END, "", YAML_DONE, 0);
+    give(YAML_C_SCALAR, "three", YAML_DONE, 0);
+    give(YAML_C_SEQUENCE_END, "", YAML_DONE, 0);
+    give(YAML_C_DOCUMENT_END, "", YAML_DONE, 0);
+    give(YAML_C_STREAM_END, "", YAML_DONE, 0);
     take("the rest", 128, "\n- three\n");
-    give(SCALAR, "late", YAML_REFUSED, YAML_EXPECTED_NOTHING);
+    give(YAML_C_SCALAR, "late", YAML_REFUSED, YAML_EXPECTED_NOTHING);
     yaml_c_emitter_delete(emitter);
 }
 
@@ -89,13 +87,13 @@ static void named(void) {
     struct yaml_c_event start, city;
     memset(&start, 0, sizeof start);
     memset(&city, 0, sizeof city);
-    start.kind = DOCUMENT_START;
+    start.kind = YAML_C_DOCUMENT_START;
     start.has_version = start.directives.length = 1;
     start.major = start.minor = 1;
     directives[0].handle.length = 3;
     directives[0].prefix.start = 3;
     directives[0].prefix.length = 11;
-    city.kind = SCALAR;
+    city.kind = YAML_C_SCALAR;
     city.has_anchor = city.has_tag = 1;
     city.anchor.start = 14;
     city.anchor.length = 2;
@@ -104,13 +102,13 @@ static void named(void) {
     city.value.start = 31;
     city.value.length = 4;
     make("a new emitter", YAML_DONE);
-    give(STREAM_START, "", YAML_DONE, 0);
+    give(YAML_C_STREAM_START, "", YAML_DONE, 0);
     check("a start", yaml_c_emitter_emit(emitter, &start, directives, 1, (const uint8_t *)texts, sizeof texts - 1, &result), YAML_DONE, 0, 0);
     check("a city", yaml_c_emitter_emit(emitter, &city, directives, 0, (const uint8_t *)texts, sizeof texts - 1, &result), YAML_DONE, 0, 0);
     city.value.length = 5;
     check("a text past the arena", yaml_c_emitter_emit(emitter, &city, directives, 0, (const uint8_t *)texts, sizeof texts - 1, &result),
           YAML_BAD_EVENT, 0, 0);
-    give(DOCUMENT_END, "", YAML_DONE, 0);
+    give(YAML_C_DOCUMENT_END, "", YAML_DONE, 0);
     take("a document", 128, "%YAML 1.1\n%TAG !e! tag:e,2000:\n--- &a1 !e!city Oslo\n");
     yaml_c_emitter_delete(emitter);
 }
@@ -118,14 +116,14 @@ static void named(void) {
 static void refused(void) {
     begin();
     give(11, "", YAML_BAD_EVENT, 0);
-    give(SCALAR, "\xff", YAML_BAD_EVENT, 0);
-    give(SCALAR, "one", YAML_DONE, 0);
-    give(DOCUMENT_END, "", YAML_DONE, 0);
-    give(SCALAR, "two", YAML_REFUSED, YAML_EXPECTED_DOCUMENT_START);
-    give(DOCUMENT_START, "", YAML_REFUSED, YAML_EXPECTED_DOCUMENT_START);
+    give(YAML_C_SCALAR, "\xff", YAML_BAD_EVENT, 0);
+    give(YAML_C_SCALAR, "one", YAML_DONE, 0);
+    give(YAML_C_DOCUMENT_END, "", YAML_DONE, 0);
+    give(YAML_C_SCALAR, "two", YAML_REFUSED, YAML_EXPECTED_DOCUMENT_START);
+    give(YAML_C_DOCUMENT_START, "", YAML_REFUSED, YAML_EXPECTED_DOCUMENT_START);
     give(11, "", YAML_BAD_EVENT, 0);
-    give(SCALAR, "\xff", YAML_BAD_EVENT, 0);
-    give(SCALAR, "two", YAML_REFUSED, YAML_EXPECTED_DOCUMENT_START);
+    give(YAML_C_SCALAR, "\xff", YAML_BAD_EVENT, 0);
+    give(YAML_C_SCALAR, "two", YAML_REFUSED, YAML_EXPECTED_DOCUMENT_START);
     flush(YAML_REFUSED, YAML_EXPECTED_DOCUMENT_START);
     take("what stands before the refused event", 128, "one\n");
     yaml_c_emitter_delete(emitter);
@@ -135,19 +133,19 @@ static void set(void) {
     settings.encoding = 4;
     make("an unknown encoding", YAML_BAD_SETTINGS);
     settings.encoding = 0;
-    settings.line_break = 3;
+    settings.line_break = YAML_C_CRLF;
     settings.limit = 5;
     settings.skip = 2; /* not read */
     begin();
-    give(SCALAR, "one", YAML_DONE, 0);
-    give(DOCUMENT_END, "", YAML_DONE, 0);
+    give(YAML_C_SCALAR, "one", YAML_DONE, 0);
+    give(YAML_C_DOCUMENT_END, "", YAML_DONE, 0);
     take("CR and LF", 5, "one\r\n");
-    give(STREAM_END, "", YAML_DONE, 0);
+    give(YAML_C_STREAM_END, "", YAML_DONE, 0);
     yaml_c_emitter_delete(emitter);
     settings.limit = 4;
     begin();
-    give(SCALAR, "one", YAML_DONE, 0);
-    give(DOCUMENT_END, "", YAML_REFUSED, YAML_PAST_LIMIT);
+    give(YAML_C_SCALAR, "one", YAML_DONE, 0);
+    give(YAML_C_DOCUMENT_END, "", YAML_REFUSED, YAML_PAST_LIMIT);
     take("up to the limit", 128, "one\r");
     yaml_c_emitter_delete(emitter);
     memset(&settings, 0, sizeof settings);
@@ -156,15 +154,15 @@ static void set(void) {
 /* Two emitters, by turns. */
 static void two(void) {
     begin();
-    give(SCALAR, "first", YAML_DONE, 0);
+    give(YAML_C_SCALAR, "first", YAML_DONE, 0);
     emitter = &kept[1];
     begin();
-    give(SCALAR, "second", YAML_DONE, 0);
-    give(DOCUMENT_END, "", YAML_DONE, 0);
+    give(YAML_C_SCALAR, "second", YAML_DONE, 0);
+    give(YAML_C_DOCUMENT_END, "", YAML_DONE, 0);
     take("the second", 128, "second\n");
     yaml_c_emitter_delete(emitter);
     emitter = &kept[0];
-    give(DOCUMENT_END, "", YAML_DONE, 0);
+    give(YAML_C_DOCUMENT_END, "", YAML_DONE, 0);
     take("the first", 128, "first\n");
     yaml_c_emitter_delete(emitter);
 }
@@ -175,14 +173,14 @@ static void nulls(void) {
     memset(&start, 0, sizeof start);
     memset(&item, 0, sizeof item);
     memset(&result, 0, sizeof result);
-    start.kind = STREAM_START;
-    item.kind = ALIAS;
+    start.kind = YAML_C_STREAM_START;
+    item.kind = YAML_C_ALIAS;
     check("no settings", yaml_c_emitter_new(NULL, emitter), YAML_DONE, 0, 0);
     check("no arrays", yaml_c_emitter_emit(emitter, &start, NULL, 0, NULL, 0, &result), YAML_DONE, 0, 0);
     check("no room, and none needed", yaml_c_emitter_take_output(emitter, NULL, 0, &result), YAML_DONE, 0, 0);
-    give(DOCUMENT_START, "", YAML_DONE, 0);
-    give(SCALAR, "one", YAML_DONE, 0);
-    give(DOCUMENT_END, "", YAML_DONE, 0);
+    give(YAML_C_DOCUMENT_START, "", YAML_DONE, 0);
+    give(YAML_C_SCALAR, "one", YAML_DONE, 0);
+    give(YAML_C_DOCUMENT_END, "", YAML_DONE, 0);
     check("no room", yaml_c_emitter_take_output(emitter, NULL, 0, &result), YAML_TOO_SMALL, 4, 0);
     item.anchor.length = 1;
     check("a text of none", yaml_c_emitter_emit(emitter, &item, NULL, 0, NULL, 0, &result), YAML_BAD_EVENT, 0, 0);
@@ -190,7 +188,54 @@ static void nulls(void) {
     yaml_c_emitter_delete(emitter);
 }
 
+/* A JSON text: its status, and the place that is reported. */
+static void give_json(const char *text, int32_t status, uint32_t line, uint32_t column) {
+    static struct yaml_c_json_settings by;
+    int32_t got;
+    by.depth = 2;
+    memset(&result, 0xff, sizeof result);
+    got = yaml_c_emitter_emit_json(emitter, (const uint8_t *)text, strlen(text), &by, &result);
+    calls++;
+    if (got == status && result.line == line && result.column == column && result.length == 0 && result.event == 0 && result.error == 0) return;
+    failures++;
+    printf("%s: status %d, line %lu, column %lu\n", text, (int)got, (unsigned long)result.line, (unsigned long)result.column);
+}
+
+/* JSON within events: as a value, as an item, in canonical form, and what is no JSON. */
+static void json(void) {
+    settings = yaml_c_value_settings();
+    begin();
+    give(YAML_C_MAPPING_START, "", YAML_DONE, 0);
+    give(YAML_C_SCALAR, "a", YAML_DONE, 0);
+    give_json("[\"no\", 1e5]", YAML_DONE, 0, 0);
+    give(YAML_C_SCALAR, "b", YAML_DONE, 0);
+    give_json("\xff", YAML_NOT_JSON, 1, 1);
+    give_json("{\"c\": true}", YAML_DONE, 0, 0);
+    give(YAML_C_MAPPING_END, "", YAML_DONE, 0);
+    give(YAML_C_DOCUMENT_END, "", YAML_DONE, 0);
+    take("JSON among events", 128, "---\na:\n  - 'no'\n  - 1.0e+5\nb:\n  c: true\n");
+    give(YAML_C_DOCUMENT_START, "", YAML_DONE, 0);
+    give_json("[1, [2], [[", YAML_TOO_DEEP, 1, 11);
+    take("nothing of it is flushed", 0, "");
+    yaml_c_emitter_delete(emitter);
+    begin();
+    give_json("{\"a\": 1,\n \"a\": 2}", YAML_DUPLICATE_NAME, 2, 2);
+    yaml_c_emitter_delete(emitter);
+    begin();
+    give_json("", YAML_NOT_JSON, 1, 1);
+    yaml_c_emitter_delete(emitter);
+    memset(&settings, 0, sizeof settings);
+    settings.canonical = 1;
+    begin();
+    give_json("[1, null]", YAML_DONE, 0, 0);
+    give(YAML_C_DOCUMENT_END, "", YAML_DONE, 0);
+    take("with all tags", 128, "---\n[\n  !!int \"1\",\n  !!null \"null\",\n]\n");
+    yaml_c_emitter_delete(emitter);
+    memset(&settings, 0, sizeof settings);
+}
+
 int main(void) {
+    json();
     written();
     named();
     refused();

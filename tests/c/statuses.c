@@ -36,21 +36,21 @@ static void begin(void) {
     texts_len = 0;
     directives[0].handle = place("!e!");
     directives[0].prefix = place("tag:e,2000:");
-    events[0].kind = 1;
-    events[1].kind = 3;
+    events[0].kind = YAML_C_STREAM_START;
+    events[1].kind = YAML_C_DOCUMENT_START;
     events[1].has_version = 1;
     events[1].major = 1;
     events[1].minor = 1;
     events[1].directives.length = 1;
-    events[2].kind = 6;
+    events[2].kind = YAML_C_SCALAR;
     events[2].has_anchor = 7; /* any number but 0 is on */
     events[2].anchor = place("a1");
     events[2].has_tag = 1;
     events[2].tag = place("tag:e,2000:city");
     events[2].value = place("Oslo");
-    events[3].kind = 4;
+    events[3].kind = YAML_C_DOCUMENT_END;
     events[3].implicit = 1;
-    events[4].kind = 2;
+    events[4].kind = YAML_C_STREAM_END;
 }
 
 static const char yaml[] = "%YAML 1.1\n%TAG !e! tag:e,2000:\n--- &a1 !e!city Oslo\n";
@@ -102,7 +102,7 @@ static void bad_settings(void) {
 
 static void bad_numbers(void) {
     static const uint32_t kinds[] = {0, 11, UINT32_MAX};
-    static const size_t starts[] = {7, 9};
+    static const uint32_t starts[] = {YAML_C_SEQUENCE_START, YAML_C_MAPPING_START};
     size_t i;
     for (i = 0; i < COUNT(kinds); i++) {
         begin();
@@ -117,7 +117,7 @@ static void bad_numbers(void) {
     expect_bad("a scalar's style", 2);
     for (i = 0; i < COUNT(starts); i++) {
         begin();
-        events[2].kind = (uint32_t)starts[i];
+        events[2].kind = starts[i];
         events[2].style = 3;
         expect_bad("a collection's style", 2);
     }
@@ -144,7 +144,7 @@ static void bad_spans(void) {
     expect_bad_span("a handle past the arena", &directives[0].handle, SIZE_MAX, 3, 1);
     expect_bad_span("a prefix past the arena", &directives[0].prefix, 3, SIZE_MAX, 1);
     begin();
-    events[2].kind = 5;
+    events[2].kind = YAML_C_ALIAS;
     events[2].anchor.length = 1000;
     expect_bad("an alias past the arena", 2);
 }
@@ -184,7 +184,7 @@ static void unread(void) {
 static void refused(void) {
     begin();
     expect("an event before the stream", 0, 0, YAML_DONE, 0, 0, 0, "");
-    events[0].kind = 2;
+    events[0].kind = YAML_C_STREAM_END;
     expect("no stream's start", 5, sizeof out, YAML_REFUSED, 0, 0, YAML_EXPECTED_STREAM_START, "");
     begin();
     events[1].minor = 3;
@@ -197,7 +197,7 @@ static void refused(void) {
     events[2].anchor.length = 0;
     expect("an empty anchor", 5, sizeof out, YAML_REFUSED, 0, 2, YAML_ANCHOR_EMPTY, "");
     begin();
-    events[3].kind = 6;
+    events[3].kind = YAML_C_SCALAR;
     expect("a second root", 5, sizeof out, YAML_REFUSED, 0, 3, YAML_EXPECTED_DOCUMENT_END, "");
     begin();
     settings.limit = sizeof yaml - 1;
@@ -240,8 +240,11 @@ static void json_settings(void) {
     struct yaml_c_json_settings given;
     memset(&given, 0, sizeof given);
     expect_json("the defaults", text, given, YAML_DONE, 0, 0, "---\na:\n  - 1\n  - b: 2\n");
+    expect_json("no line is folded", "\"aaaaaaa " EIGHTY " iiii\"", given, YAML_DONE, 0, 0, "--- aaaaaaa " EIGHTY " iiii\n");
+    given.width = 80;
     expect_json("a space in column 80", "\"aaaaaa " EIGHTY " iiii\"", given, YAML_DONE, 0, 0, "--- aaaaaa " EIGHTY " iiii\n");
     expect_json("a space in column 81", "\"aaaaaaa " EIGHTY " iiii\"", given, YAML_DONE, 0, 0, "--- aaaaaaa " EIGHTY "\n  iiii\n");
+    given.width = 0;
     given.indent = 4;
     expect_json("an indent of 4", text, given, YAML_DONE, 0, 0, "---\na:\n    - 1\n    -   b: 2\n");
     given.no_indented_sequences = 1;
@@ -267,9 +270,14 @@ static void json_refused(void) {
     expect_json("a byte order mark", "\xef\xbb\xbf{}", given, YAML_NOT_JSON, 1, 1, "");
     expect_json("no UTF-8", "\"\xff\"", given, YAML_NOT_JSON, 1, 2, "");
     expect_json("half a character in the third line", "[\n1,\n \"\xc3\xa9\xc3", given, YAML_NOT_JSON, 3, 4, "");
-    expect_json("no UTF-8 behind what is no JSON", "]\x80", given, YAML_NOT_JSON, 1, 2, "");
+    expect_json("no UTF-8 in what is no JSON", "]\x80", given, YAML_NOT_JSON, 1, 2, "");
+    expect_json("no UTF-8 behind what is no JSON", "]\xf0", given, YAML_NOT_JSON, 1, 1, "");
+    expect_json("no UTF-8 behind JSON", "1 \xf0", given, YAML_NOT_JSON, 1, 3, "");
+    expect_json("no UTF-8 behind JSON and what is none", "[1] ]\xf0", given, YAML_NOT_JSON, 1, 5, "");
+    expect_json("no UTF-8 behind a name twice", "{\"a\":1,\"a\":2}\xf0", given, YAML_DUPLICATE_NAME, 1, 8, "");
     given.depth = 1;
-    expect_json("too deep", "[[1]]", given, YAML_TOO_DEEP, 0, 0, "");
+    expect_json("too deep", "[[1]]", given, YAML_TOO_DEEP, 1, 2, "");
+    expect_json("too deep in the second line", "[1,\n {}]", given, YAML_TOO_DEEP, 2, 2, "");
 }
 
 /* Arrays in arrays, 100,000 deep, by yaml_from_json, over a text and a buffer of so many bytes, and 5 more. */
@@ -296,18 +304,18 @@ static void deep(void) {
     begin();
     settings.width = -1;
     if (good) {
-        nested[0].kind = 1;
-        nested[1].kind = 3;
+        nested[0].kind = YAML_C_STREAM_START;
+        nested[1].kind = YAML_C_DOCUMENT_START;
         nested[1].implicit = 1;
         for (i = 0; i < levels; i++) {
-            nested[2 + i].kind = 7;
+            nested[2 + i].kind = YAML_C_SEQUENCE_START;
             nested[2 + i].implicit = 1;
-            nested[2 + i].style = 2;
-            nested[2 + levels + i].kind = 8;
+            nested[2 + i].style = YAML_C_FLOW;
+            nested[2 + levels + i].kind = YAML_C_SEQUENCE_END;
         }
-        nested[2 + 2 * levels].kind = 4;
+        nested[2 + 2 * levels].kind = YAML_C_DOCUMENT_END;
         nested[2 + 2 * levels].implicit = 1;
-        nested[3 + 2 * levels].kind = 2;
+        nested[3 + 2 * levels].kind = YAML_C_STREAM_END;
         good = yaml_emit(nested, count, directives, 0, texts, 0, &settings, brackets, count, &result) == YAML_DONE
             && result.length == 2 * levels + 1 && brackets[levels - 1] == '[' && brackets[levels] == ']' && brackets[2 * levels] == '\n';
     }
@@ -343,9 +351,9 @@ static void long_output(void) {
     int good = text != NULL && buffer != NULL;
     begin();
     memset(events + 1, 0, 2 * sizeof *events);
-    events[1].kind = 3;
+    events[1].kind = YAML_C_DOCUMENT_START;
     events[1].implicit = 1;
-    events[2].kind = 6;
+    events[2].kind = YAML_C_SCALAR;
     events[2].implicit = 1;
     events[2].value.length = letters;
     settings.width = -1;

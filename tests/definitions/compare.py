@@ -266,7 +266,7 @@ def main():
     p.add_argument("--kind", choices=list(LEMMAS))
     p.add_argument("--check", default=os.environ.get("CHECK", "rt check"))
     o = p.parse_args()
-    beside = ROOT.parent / "shared" / "oracle_next"
+    beside = ROOT.parent / "shared" / "oracle"
     model = o.model or (beside if beside.is_dir() else None)
     if not model: cases = stored()[:o.count + o.count // 3]
     else: cases = modelled(model, o.first, o.count, o.kind) + (modelled(model, o.first, o.count // 3, "resolved") if o.kind is None else [])

@@ -2,12 +2,19 @@
 #![tactic(auto)]
 
 mod arguments;
+mod bounds;
+mod checking;
+mod each;
+mod faults;
+mod names;
 mod options;
 mod output;
 mod program;
+mod sending;
+mod sources;
 mod version;
 
-use crate::arguments::read_arguments;
+use crate::arguments::{conversion_of, read_arguments};
 use crate::program::{refuse_arguments, serve};
 use std::io;
 use std::process::ExitCode;
@@ -18,7 +25,10 @@ fn main(rt: HostRuntime) -> ExitCode {
     let stderr = rt.stderr();
     let mut faults = io::writer(&stderr);
     let status = match read_arguments(&rt) {
-        Ok(words) => serve(&rt, words.as_slice(), &stdin, &mut faults),
+        Ok(words) => {
+            let asked = conversion_of(rt.alloc(), words.as_slice());
+            serve(&rt, &rt, &asked, &stdin, &mut faults)
+        }
         Err(error) => refuse_arguments(&error, &mut faults),
     };
     ExitCode::from(status)

@@ -24,18 +24,37 @@ const INDENT_HELP: &str = "Columns for each level, 2 to 9 [default: 2]";
 const INDENT_LONG: &str =
     "Columns for each level, 2 to 9; 2 by default.{n}Example: json2yaml --indent=4 in.json";
 
-const WIDTH_HELP: &str = "Lines are folded past this column; a negative one: never [default: 80]";
+const WIDTH_HELP: &str = "Folds texts of several words past this column [default: never]";
 
 const WIDTH_LONG: &str =
-    "Texts of several words are folded past this column; never, if it is negative. 80 by default.{n}Example: json2yaml --width=-1 in.json";
+    "Folds a text of several words at the first space past this column, so a line may be longer; never, if it is negative. A column up to \
+    twice the indent is taken for 80. Never by default.{n}Example: json2yaml --width=80 in.json";
 
-const DEPTH_HELP: &str = "How deep arrays and objects may nest, up to 1000000 [default: 1000]";
+const HEADING_HELP: &str = "Writes a text as comments before all else";
+
+const HEADING_LONG: &str =
+    "Writes a text before all else, each line of it as a comment: behind # and a space.{n}Example: json2yaml --heading=Generated in.json";
+
+const EACH_HELP: &str = "Writes each FILE.json to FILE.yaml beside it";
+
+const EACH_LONG: &str =
+    "Writes each file to one beside it, whose name ends in .yaml in place of .json. Each appears whole or not at all, and one that is refused \
+    leaves the others as they are.{n}Example: json2yaml --each first.json last.json";
+
+const DEPTH_HELP: &str = "How deep arrays and objects may nest, up to 10000 [default: 1000]";
 
 const DEPTH_LONG: &str =
-    "How deep arrays and objects may nest, up to 1000000; 1000 by default.{n}Example: json2yaml --depth=5000 deep.json";
+    "How deep arrays and objects may nest: up to 10000, and up to 1000000 with --flow and neither --width nor --canonical, where all of \
+    a document stands in one line; 1000 by default.{n}Example: json2yaml --depth=5000 deep.json";
 
 /// The options without a value, each with a line of help and a longer one.
 const FLAGS: &[(&str, &str, &str)] = &[
+    (
+        "check",
+        "Writes nothing; status 1 where --output or --each would change a file",
+        "Writes nothing, and compares what would be written with what is there: by --output, or by --each. Where a file differs or is missing, \
+        a line names it, and the status is 1.{n}Example: json2yaml --check --output=out.yaml in.json",
+    ),
     (
         "flow",
         "Arrays and objects between brackets, as in JSON",
@@ -51,6 +70,12 @@ const FLAGS: &[(&str, &str, &str)] = &[
         "Portable mode off: no --- where none is needed",
         "Leaves portable mode: no --- before the first document where none is needed, and U+2028 and U+2029 as themselves.\
         {n}Example: json2yaml --no-portable in.json",
+    ),
+    (
+        "no-document-start",
+        "No --- before the first document",
+        "Writes no --- before the first document. U+2028 and U+2029 are escaped as in portable mode, which this leaves.\
+        {n}Example: json2yaml --no-document-start in.json",
     ),
     (
         "no-indented-sequences",
@@ -96,6 +121,17 @@ fn output_option<'a>(alloc: Global) -> Arg<'a> {
     option_with_value(alloc, "output", "FILE", OUTPUT_HELP, OUTPUT_LONG).short('o')
 }
 
+fn heading_option<'a>(alloc: Global) -> Arg<'a> {
+    option_with_value(alloc, "heading", "TEXT", HEADING_HELP, HEADING_LONG)
+}
+
+/// The option that converts each file by itself.
+fn each_flag<'a>(alloc: Global) -> Result<Arg<'a>, AllocError> {
+    flag(alloc, "each", EACH_HELP, EACH_LONG)
+        .conflicts_with("output")?
+        .requires_arg("files")
+}
+
 fn indent_option<'a>(alloc: Global) -> Arg<'a> {
     let option = option_with_value(alloc, "indent", "COLUMNS", INDENT_HELP, INDENT_LONG);
     option.value_parser(clap::value_parser!(i32).range(2..=9))
@@ -117,6 +153,8 @@ fn depth_option<'a>(alloc: Global) -> Arg<'a> {
 fn with_settings<'a>(alloc: Global, command: Command<'a>) -> Result<Command<'a>, AllocError> {
     command
         .arg(output_option(alloc))?
+        .arg(each_flag(alloc)?)?
+        .arg(heading_option(alloc))?
         .arg(indent_option(alloc))?
         .arg(width_option(alloc))?
         .arg(depth_option(alloc))

@@ -1,181 +1,61 @@
 //! The program: what its arguments ask for is done with files and the standard streams.
-ghost use Rattle.std.specs.Prelude.{◌≡◌, ◌≤◌, OnOk};
-ghost use Rattle.yaml_json.specs.Wrote.{IsBare};
+ghost use Rattle.std.specs.Prelude.{◌≡◌, ◌≤◌, IfErr, IfOk, OnOk, false, option_map};
+ghost use Rattle.clap.specs.Values.{kind_of};
+ghost use Rattle.json2yaml.specs.Conversions.{AllDone, HaveYaml, IsDone, OfFiles};
+ghost use Rattle.json2yaml.specs.Bounds as bounds;
 ghost use Rattle.json2yaml.specs.Faults as statuses;
 
-use crate::arguments::{Conversion, conversion_of};
+use crate::arguments::Conversion;
+use crate::bounds::{MOST_INDENTED, is_allowed};
+use crate::checking::check;
+use crate::each::convert_each;
+use crate::faults::{NO_MEMORY, give_up, report};
 use crate::output::{Beside, is_written_in_place};
+use crate::sending::send_buffered;
+use crate::sources::{STREAM, Sources};
 use clap::Error as UsageError;
 use clap::error::ErrorKind as UsageKind;
-use std::alloc::Global;
-use std::io::{BufWriter, ErrorKind, IsTerminal, Write};
+use std::io::{ErrorKind, IsTerminal, Write};
+use std::os::fd::AsFd;
 use std::rt::Runtime;
 use std::{fs, io};
-use yaml_json::{JsonError, JsonSettings, StreamError, Writer, send_json_texts, yaml_error_t};
+use yaml_json::StreamError;
 
-/// The name that means standard input, or standard output for the file that is written.
-const STREAM: &str = "-";
-
-/// How many bytes are written at once.
-const BUFFER_SIZE: usize = 65_536;
-
-/// What is reported where no memory is left.
-const NO_MEMORY: StreamError = StreamError::Refused(JsonError::Emitter(yaml_error_t::Memory));
-
-/// The program's status: 1 where a text isn't written as YAML, 3 where reading, writing or memory failed.
-fn status_of(error: &StreamError) -> u8
-    ensures { result ≡ statuses.status_of error.now }
-{
-    match error {
-        StreamError::Refused(JsonError::Emitter(yaml_error_t::Memory)) => 3,
-        StreamError::Refused(_) | StreamError::NotText { .. } => 1,
-        StreamError::ReadFailed(_) | StreamError::WriteFailed(_) => 3,
-    }
-}
-
-/// What an error of the writer is for the program.
-fn writer_error(error: yaml_error_t) -> StreamError {
-    StreamError::Refused(JsonError::Emitter(error))
-}
-
-/// Whether no memory was left.
-fn is_out_of_memory(error: &StreamError) -> bool {
-    match error {
-        StreamError::Refused(JsonError::Emitter(yaml_error_t::Memory)) => true,
-        StreamError::ReadFailed(error) | StreamError::WriteFailed(error) => {
-            error.kind() == ErrorKind::OutOfMemory
-        }
-        _ => false,
-    }
-}
-
-/// Sends on the YAML of the JSON texts of a file, or of standard input, but for the last document, which is left to the writer.
-fn send_file<R: Runtime + AllocGlobal, W: Write>(
-    rt: &R,
-    writer: &mut Writer<Global>,
-    name: &str,
-    sink: &mut W,
-    settings: &JsonSettings,
-) -> Result<(), StreamError>
-    requires { IsBare writer.old }
-    ensures { OnOk result (IsBare writer.new) }
-{
-    if name == STREAM {
-        return send_json_texts(rt.alloc(), writer, &mut rt.reader(), sink, *settings);
-    }
-    let mut file = fs::open(rt, name).map_err(StreamError::ReadFailed)?;
-    send_json_texts(rt.alloc(), writer, &mut file, sink, *settings)
-}
-
-/// Begins the next document of a writer, and sends on those before it.
-fn begin_next<W: Write>(writer: &mut Writer<Global>, sink: &mut W) -> Result<(), StreamError>
-    requires { IsBare writer.old }
-    ensures { IsBare writer.new }
-{
-    writer.next_document().map_err(writer_error)?;
-    writer.send(sink).map_err(StreamError::WriteFailed)
-}
-
-/// Sends on the YAML of the JSON texts of some files. Returns the file at which it failed, and why.
-fn send_files<'a, R: Runtime + AllocGlobal, W: Write>(
-    rt: &R,
-    writer: &mut Writer<Global>,
-    names: &[&'a str],
-    sink: &mut W,
-    settings: &JsonSettings,
-) -> Result<(), (Option<&'a str>, StreamError)>
-    requires { IsBare writer.old }
-{
-    let mut first = true;
-    for name in names {
-        if !first {
-            begin_next(writer, sink).map_err(|error| (Some(*name), error))?;
-        }
-        first = false;
-        send_file(rt, writer, name, sink, settings).map_err(|error| (Some(*name), error))?;
-    }
-    Ok(())
-}
-
-/// Sends on the YAML of all that is to be converted, but for the last document, which is left to the writer.
-fn send_texts<'a, R: Runtime + AllocGlobal, W: Write>(
-    rt: &R,
-    writer: &mut Writer<Global>,
-    conversion: &Conversion<'a>,
-    sink: &mut W,
-) -> Result<(), (Option<&'a str>, StreamError)>
-    requires { IsBare writer.old }
-{
-    let settings = &conversion.settings;
-    if conversion.files.is_empty() {
-        send_file(rt, writer, STREAM, sink, settings).map_err(|error| (None, error))
-    } else {
-        send_files(rt, writer, conversion.files.as_slice(), sink, settings)
-    }
-}
-
-/// Ends the last document, and writes it.
-fn send_last<W: Write>(writer: Writer<Global>, sink: &mut W) -> Result<(), StreamError> {
-    match writer.finish() {
-        Ok(bytes) => sink
-            .write_all(bytes.as_slice())
-            .map_err(StreamError::WriteFailed),
-        Err(error) => Err(writer_error(error)),
-    }
-}
-
-/// Sends on the YAML of all that is to be converted.
-fn send_all<'a, R: Runtime + AllocGlobal, W: Write>(
-    rt: &R,
-    conversion: &Conversion<'a>,
-    sink: &mut W,
-) -> Result<(), (Option<&'a str>, StreamError)> {
-    let mut writer = match Writer::new(rt.alloc(), conversion.settings.writer) {
-        Ok(writer) => writer,
-        Err(error) => return Err((None, writer_error(error))),
-    };
-    send_texts(rt, &mut writer, conversion, sink)?;
-    send_last(writer, sink).map_err(|error| (None, error))
-}
-
-/// Sends on all that is to be converted through a buffer, which is flushed at the end, whatever went wrong.
-fn send_buffered<'a, R: Runtime + AllocGlobal, W: Write + Drop>(
-    rt: &R,
-    conversion: &Conversion<'a>,
-    sink: W,
-) -> Result<(), (Option<&'a str>, StreamError)> {
-    let mut buffer = match BufWriter::with_capacity(rt.alloc(), BUFFER_SIZE, sink) {
-        Ok(buffer) => buffer,
-        Err(error) => return Err((None, StreamError::WriteFailed(error))),
-    };
-    let sent = send_all(rt, conversion, &mut buffer);
-    let flushed = buffer.flush();
-    sent?;
-    flushed.map_err(|error| (None, StreamError::WriteFailed(error)))
-}
-
-/// Writes to a file what is to be converted, which appears whole or not at all. (Not inlined: the names of files that it makes
-/// take much stack, which a run without `-o` doesn't need.)
+/// Writes what is to be converted to a device or a pipe, say, where it lies. (Not inlined, as what names files in `output`.)
 #[inline(never)]
-fn send_to_file<'a, R: Runtime + AllocGlobal>(
-    rt: &R,
+fn send_in_place<'a, S: Sources + AllocGlobal>(
+    rt: &HostRuntime,
+    sources: &S,
     conversion: &Conversion<'a>,
     name: &str,
-) -> Result<(), (Option<&'a str>, StreamError)> {
-    if is_written_in_place(rt, name) {
-        return match fs::create(rt, name) {
-            Ok(file) => send_buffered(rt, conversion, file),
-            Err(error) => Err((None, StreamError::WriteFailed(error))),
-        };
+) -> Result<(), (Option<&'a str>, StreamError)>
+    ensures { OnOk result (OfFiles (S.bytes_of sources.now) conversion.now (HaveYaml conversion.now.settings)) }
+{
+    match fs::create(rt, name) {
+        Ok(file) => send_buffered(sources, conversion, file),
+        Err(error) => Err((None, StreamError::WriteFailed(error))),
     }
-    let (file, beside) = match Beside::create(rt, name) {
+}
+
+/// Writes what is to be converted to a file, which appears whole or not at all.
+#[inline(never)]
+fn send_to_file<'a, S: Sources + AllocGlobal>(
+    rt: &HostRuntime,
+    sources: &S,
+    conversion: &Conversion<'a>,
+    name: &str,
+) -> Result<(), (Option<&'a str>, StreamError)>
+    ensures { OnOk result (OfFiles (S.bytes_of sources.now) conversion.now (HaveYaml conversion.now.settings)) }
+{
+    let beside = match Beside::create(rt, name) {
         Ok(made) => made,
         Err(error) => return Err((None, StreamError::WriteFailed(error))),
     };
-    match send_buffered(rt, conversion, file) {
-        Ok(()) => beside
-            .replace(rt)
-            .map_err(|error| (None, StreamError::WriteFailed(error))),
+    match send_buffered(sources, conversion, beside.file()) {
+        Ok(()) => match beside.replace(rt) {
+            Ok(()) => Ok(()),
+            Err(error) => Err((None, StreamError::WriteFailed(error))),
+        },
         Err(stop) => {
             beside.remove(rt);
             Err(stop)
@@ -183,84 +63,90 @@ fn send_to_file<'a, R: Runtime + AllocGlobal>(
     }
 }
 
-/// Writes what is to be converted where it is to be written.
-fn send<'a, R: Runtime + AllocGlobal>(
-    rt: &R,
+/// Writes what is to be converted to a file, or to standard output.
+fn send<'a, S: Sources + AllocGlobal>(
+    rt: &HostRuntime,
+    sources: &S,
     conversion: &Conversion<'a>,
-) -> Result<(), (Option<&'a str>, StreamError)> {
-    match conversion.output {
-        Some(name) if name != STREAM => send_to_file(rt, conversion, name),
-        _ => send_buffered(rt, conversion, io::writer(rt)),
-    }
-}
-
-/// A file's name as a message shows it, where `stream` is what the program reads or writes without a name.
-fn shown<'a>(name: Option<&'a str>, stream: &'a str) -> &'a str {
-    match name {
-        Some(name) if name != STREAM => name,
-        _ => stream,
-    }
-}
-
-/// Says in a line what went wrong, with the name of the file that can't be read or written, or whose text is refused.
-fn write_error<W: Write>(
-    error: &StreamError,
-    name: Option<&str>,
-    faults: &mut W,
-) -> io::Result<()> {
-    if is_out_of_memory(error) {
-        return writeln!(faults, "json2yaml: out of memory");
-    }
-    match (error, name) {
-        (StreamError::ReadFailed(error), name) => {
-            let name = shown(name, "standard input");
-            writeln!(faults, "json2yaml: cannot read {name}: {error}")
-        }
-        (StreamError::WriteFailed(error), name) => {
-            let name = shown(name, "standard output");
-            writeln!(faults, "json2yaml: cannot write {name}: {error}")
-        }
-        (_, Some(name)) => {
-            let name = shown(Some(name), "standard input");
-            writeln!(faults, "json2yaml: {name}: {error}")
-        }
-        (_, None) => writeln!(faults, "json2yaml: {error}"),
-    }
-}
-
-/// Says what went wrong, unless it is that nobody reads what is written, and returns the status.
-fn give_up<W: Write>(error: &StreamError, name: Option<&str>, faults: &mut W) -> u8
-    ensures { result ≡ statuses.status_of error.now }
+    target: Option<&str>,
+) -> Result<(), (Option<&'a str>, StreamError)>
+    ensures { OnOk result (OfFiles (S.bytes_of sources.now) conversion.now (HaveYaml conversion.now.settings)) }
 {
-    if !matches!(error, StreamError::WriteFailed(error) if error.kind() == ErrorKind::BrokenPipe) {
-        let _reported = write_error(error, name, faults);
+    match target {
+        Some(name) if name != STREAM => {
+            if is_written_in_place(rt, name) {
+                send_in_place(rt, sources, conversion, name)
+            } else {
+                send_to_file(rt, sources, conversion, name)
+            }
+        }
+        _ => send_buffered(sources, conversion, io::writer(rt)),
     }
-    status_of(error)
 }
 
-/// Converts, says what went wrong, and returns the status.
-fn convert<R: Runtime + AllocGlobal, W: Write>(
-    rt: &R,
-    conversion: &Conversion<'_>,
-    faults: &mut W,
-) -> u8
-    ensures { result ≤ 3 }
-{
-    match send(rt, conversion) {
-        Ok(()) => 0,
-        Err((_, error @ StreamError::WriteFailed(_))) => give_up(&error, conversion.output, faults),
-        Err((name, error)) => give_up(&error, name, faults),
-    }
+/// Whether standard input is read.
+fn reads_stream(conversion: &Conversion<'_>) -> bool {
+    conversion.files.is_empty() || conversion.files.contains(&STREAM)
 }
 
 /// Says that the program waits for what is typed.
 fn hint<I: IsTerminal, W: Write>(conversion: &Conversion<'_>, stdin: &I, faults: &mut W) {
-    let reads = conversion.files.is_empty() || conversion.files.contains(&STREAM);
-    if reads && stdin.is_terminal() {
+    if reads_stream(conversion) && stdin.is_terminal() {
         let _reported = writeln!(
             faults,
             "json2yaml: reading JSON from the terminal, up to Ctrl-D; json2yaml --help tells more"
         );
+    }
+}
+
+/// Returns the system's error where standard input is to be read and is closed. (A file that is opened before that is noticed has the
+/// number of standard input, and would be read in its place.)
+fn check_stream<I: AsFd>(conversion: &Conversion<'_>, stdin: &I) -> io::Result<()> {
+    if reads_stream(conversion) {
+        let _open = stdin.as_fd().try_clone_to_owned()?;
+    }
+    Ok(())
+}
+
+/// Writes what is to be converted to a file, or to standard output, or compares it with what is there; says what went wrong, and returns the status.
+pub fn perform<S: Sources + AllocGlobal, W: Write>(
+    rt: &HostRuntime,
+    sources: &S,
+    conversion: &Conversion<'_>,
+    target: Option<&str>,
+    faults: &mut W,
+) -> u8
+    ensures known { result ≤ 3 }
+    ensures done { result ≡ 0 → IsDone (S.bytes_of sources.now) conversion.now (option_map (λ name. name.now) target.entry) }
+{
+    match target {
+        Some(name) if conversion.checks => check(sources, conversion, name, faults),
+        _ => {
+            let sent = send(rt, sources, conversion, target);
+            report(&sent, target, faults)
+        }
+    }
+}
+
+/// Converts each file by itself or all together, says what went wrong, and returns the status.
+fn convert<S: Sources + AllocGlobal, I: IsTerminal + AsFd, W: Write>(
+    rt: &HostRuntime,
+    sources: &S,
+    conversion: &Conversion<'_>,
+    stdin: &I,
+    faults: &mut W,
+) -> u8
+    ensures known { result ≤ 3 }
+    ensures done { result ≡ 0 → AllDone (S.bytes_of sources.now) conversion.now conversion.now.each }
+{
+    hint(conversion, stdin, faults);
+    if let Err(error) = check_stream(conversion, stdin) {
+        return give_up(&StreamError::ReadFailed(error), None, faults);
+    }
+    if conversion.each {
+        convert_each(rt, sources, conversion, faults)
+    } else {
+        perform(rt, sources, conversion, conversion.output, faults)
     }
 }
 
@@ -277,7 +163,8 @@ pub fn refuse_arguments<W: Write>(error: &io::Error, faults: &mut W) -> u8
 
 /// Says why the arguments ask for no conversion, which may be that they ask for help, and returns the program's status.
 fn answer<R: Runtime, W: Write>(rt: &R, error: &UsageError, faults: &mut W) -> u8
-    ensures { result ≤ 3 }
+    ensures known { result ≤ 3 }
+    ensures status { statuses.IsStatusOfUsage (kind_of error.now) result }
 {
     match error.kind() {
         UsageKind::OutOfMemory => give_up(&NO_MEMORY, None, faults),
@@ -292,20 +179,53 @@ fn answer<R: Runtime, W: Write>(rt: &R, error: &UsageError, faults: &mut W) -> u
     }
 }
 
+/// Says that arrays and objects can't nest as deep as is asked for, and returns the program's status.
+fn refuse_depth<W: Write>(faults: &mut W) -> u8
+    ensures { result ≡ 2 }
+{
+    let _reported = writeln!(
+        faults,
+        "json2yaml: --depth past {MOST_INDENTED} needs --flow, and neither --width nor --canonical: else the output grows with the \
+        square of the depth"
+    );
+    2
+}
+
+/// Whether there is no file that what would be written can be compared with.
+fn lacks_target(conversion: &Conversion<'_>) -> bool {
+    conversion.checks
+        && !conversion.each
+        && !matches!(conversion.output, Some(name) if name != STREAM)
+}
+
+/// Says that there is nothing to compare with, and returns the program's status.
+fn refuse_check<W: Write>(faults: &mut W) -> u8
+    ensures { result ≡ 2 }
+{
+    let _reported = writeln!(
+        faults,
+        "json2yaml: --check needs --each, or --output with a file"
+    );
+    2
+}
+
 /// Does what the arguments ask for, says on `faults` what went wrong, and returns the program's status.
-pub fn serve<R: Runtime + AllocGlobal, I: IsTerminal, W: Write>(
-    rt: &R,
-    arguments: &[String],
+pub fn serve<S: Sources + AllocGlobal, I: IsTerminal + AsFd, W: Write>(
+    rt: &HostRuntime,
+    sources: &S,
+    asked: &Result<Conversion<'_>, UsageError>,
     stdin: &I,
     faults: &mut W,
 ) -> u8
-    ensures { result ≤ 3 }
+    ensures known { result ≤ 3 }
+    ensures done { result ≡ 0 → IfOk asked.now (λ conversion. AllDone (S.bytes_of sources.now) conversion conversion.each) }
+    ensures bounded { IfOk asked.now (λ conversion. bounds.is_allowed conversion.settings ≡ false → result ≡ 2) }
+    ensures refused { IfErr asked.now (λ error. statuses.IsStatusOfUsage (kind_of error) result) }
 {
-    match conversion_of(rt.alloc(), arguments) {
-        Ok(conversion) => {
-            hint(&conversion, stdin, faults);
-            convert(rt, &conversion, faults)
-        }
-        Err(error) => answer(rt, &error, faults),
+    match asked {
+        Ok(conversion) if !is_allowed(&conversion.settings) => refuse_depth(faults),
+        Ok(conversion) if lacks_target(conversion) => refuse_check(faults),
+        Ok(conversion) => convert(rt, sources, conversion, stdin, faults),
+        Err(error) => answer(rt, error, faults),
     }
 }

@@ -2,7 +2,7 @@
 use Rattle.yaml_base.proofs.Common.{ℕ, ◌+◌, ◌<◌, ◌≤◌, count_by, is_none, option_and_then, Option, None, Some, nat_lt, length, Bool, cond, false, not, true}
 use Rattle.yaml_base.proofs.Common.{◌&&◌, List, [], ◌++◌, ◌∷◌, refl, ◌≡◌, lt-ltb, ltb-true, append-nil, append_assoc, ap, sym, ◌∙◌, arith, list_all-append}
 use Rattle.yaml_base.proofs.Common.{sum_by-append, list_all, option_or, Event, stream_end, document_end, sequence_start, sequence_end, mapping_start}
-use Rattle.yaml_base.proofs.Common.{mapping_end, no_nodes, nodes_and, no_pairs, pairs_and, Level, at_item, at_key, at_value, Partial, before_stream}
+use Rattle.yaml_base.proofs.Common.{mapping_end, Level, at_item, at_key, at_value, Partial, before_stream, and_from, and_parts}
 use Rattle.yaml_base.proofs.Common.{between_documents, within_document, after_root, after_stream, push, pushed, partial_of, empty_scalar, outer_missing}
 use Rattle.yaml_base.proofs.Common.{levels_missing, missing, missing_after, completion, some_if, name_or_tag_fault, content_fault, expected, place_fault}
 use Rattle.yaml_base.proofs.Common.{most_open, begins_collection, ends_collection, open_levels, depth_fault, refusal_at, refusal, is_sound, open_count}
@@ -11,6 +11,7 @@ use Rattle.yaml_base.{proofs.NoFaults.neither, proofs.NoFaults.is_none_none, pro
 use Rattle.yaml_base.{proofs.Trees.stream_pushed, specs.Pieces.innermost_missing, specs.Refusal.BeginsAccepted, specs.Refusal.RefusedExactly}
 use Rattle.yaml_base.{specs.declared.errors.yaml_error_t.yaml_error_t, specs.declared.errors.yaml_error_t.TheVariants.TooDeep}
 use Rattle.yaml_base.proofs.Completions.{pushed-append, stream_completed, completion_pushed, prefix_is_partial}
+use Rattle.yaml_base.proofs.Common.{nat_tests}
 
 -- no prefix leaves too many collections open
 abbrev IsShallow : List Event → Type 0
@@ -23,18 +24,6 @@ pub record Stands (canonical : Bool) (events : List Event) : Type 0 where
   pub sound : list_all (is_sound canonical) events ≡ true
   pub shallow : IsShallow events
 
-and_left : (a b : Bool) → a && b ≡ true → a ≡ true
-and_left true b h = refl
-and_left false b h = h
-
-and_right : (a b : Bool) → a && b ≡ true → b ≡ true
-and_right true b h = h
-and_right false b h = cc
-
-and_both : (a b : Bool) → a ≡ true → b ≡ true → a && b ≡ true
-and_both true b h k = k
-and_both false b h k = h
-
 -- What begins an accepted list stands.
 pub stands_from_begins : (canonical : Bool) (events : List Event) → BeginsAccepted canonical events → Stands canonical events
 stands_from_begins canonical events given =
@@ -45,8 +34,9 @@ stands_from_begins canonical events given =
     record {
       partial = begun.0;
       is_partial = begun.1;
-      sound = and_left (list_all (is_sound canonical) events) (list_all (is_sound canonical) rest)
-          (sym (list_all-append (is_sound canonical) events rest) ∙ given.accepted.sound);
+      sound =
+          (and_parts (list_all (is_sound canonical) events) (list_all (is_sound canonical) rest)
+          (sym (list_all-append (is_sound canonical) events rest) ∙ given.accepted.sound)).0;
       shallow = (λ prefix more is. given.accepted.shallow prefix (more ++ rest) (sym (append_assoc prefix more rest) ∙ ap (λ events. events ++ rest) is));
     }
 
@@ -56,28 +46,19 @@ record Easy (canonical : Bool) (events : List Event) : Type 0 where
   none : count_by begins_collection events ≡ 0
 
 easy_both : (canonical : Bool) (a b : List Event) → Easy canonical a → Easy canonical b → Easy canonical (a ++ b)
-easy_both canonical a b h k = grind (arith, list_all-append, and_both, sum_by-append)
+easy_both canonical a b h k = grind (arith, list_all-append, and_from, sum_by-append)
 
 outer_easy : (canonical : Bool) (outer : List Level) → Easy canonical (flat_map outer_missing outer)
 outer_easy canonical [] = record { sound = refl; none = refl }
 outer_easy canonical (at_item c items ∷ outer) = easy_both canonical (sequence_end ∷ []) (flat_map outer_missing outer) (record { sound = refl; none = refl })
     (outer_easy canonical outer)
-outer_easy true (at_key c pairs ∷ outer) = easy_both true (empty_scalar ∷ mapping_end ∷ []) (flat_map outer_missing outer)
-    (record { sound = refl; none = refl }) (outer_easy true outer)
-outer_easy false (at_key c pairs ∷ outer) = easy_both false (empty_scalar ∷ mapping_end ∷ []) (flat_map outer_missing outer)
-    (record { sound = refl; none = refl }) (outer_easy false outer)
+outer_easy canonical (at_key c pairs ∷ outer) = easy_both canonical (empty_scalar ∷ mapping_end ∷ []) (flat_map outer_missing outer)
+    (record { sound = grind (arith, nat_tests); none = refl }) (outer_easy canonical outer)
 outer_easy canonical (at_value c pairs key ∷ outer) = easy_both canonical (mapping_end ∷ []) (flat_map outer_missing outer)
     (record { sound = refl; none = refl }) (outer_easy canonical outer)
 
 innermost_easy : (canonical : Bool) (level : Level) → Easy canonical (innermost_missing level)
-innermost_easy true (at_item c no_nodes) = record { sound = refl; none = refl }
-innermost_easy false (at_item c no_nodes) = record { sound = refl; none = refl }
-innermost_easy canonical (at_item c (nodes_and items last)) = record { sound = refl; none = refl }
-innermost_easy true (at_key c no_pairs) = record { sound = refl; none = refl }
-innermost_easy false (at_key c no_pairs) = record { sound = refl; none = refl }
-innermost_easy canonical (at_key c (pairs_and pairs key value)) = record { sound = refl; none = refl }
-innermost_easy true (at_value c pairs key) = record { sound = refl; none = refl }
-innermost_easy false (at_value c pairs key) = record { sound = refl; none = refl }
+innermost_easy canonical level = record { sound = grind (arith, nat_tests); none = grind (arith, nat_tests) }
 
 levels_easy : (canonical : Bool) (levels : List Level) → Easy canonical (levels_missing levels)
 levels_easy true [] = record { sound = refl; none = refl }
@@ -148,7 +129,7 @@ begins_from_stands canonical events stands =
             stream = stream_completed p;
             is_stream = partial_of_events (completion events) (after_stream (stream_completed p)) (completion_pushed events p stands.is_partial) ∙ same;
             sound = list_all-append (is_sound canonical) events (missing p)
-                ∙ and_both (list_all (is_sound canonical) events) (list_all (is_sound canonical) (missing p)) stands.sound easy.sound;
+                ∙ and_from (list_all (is_sound canonical) events) (list_all (is_sound canonical) (missing p)) stands.sound easy.sound;
             shallow = shallow_more events (missing p) stands.shallow (bound most_open all);
           };
     }
@@ -216,8 +197,8 @@ next_stands canonical before event given accepted =
       partial = pushes.0;
       is_partial = pushed_next before event p given.is_partial ∙ ap (λ o. option_and_then (λ next. Some next) o) pushes.1;
       sound = list_all-append (is_sound canonical) before (event ∷ [])
-          ∙ and_both (list_all (is_sound canonical) before) (list_all (is_sound canonical) (event ∷ [])) given.sound
-          (and_both (is_sound canonical event) true sound_event refl);
+          ∙ and_from (list_all (is_sound canonical) before) (list_all (is_sound canonical) (event ∷ [])) given.sound
+          (and_from (is_sound canonical event) true sound_event refl);
       shallow = shallow_more before (event ∷ []) given.shallow
           (few_starts before event most_open (length (open_levels p)) (begins_collection event) refl (open_count-levels before p given.is_partial) all room);
     }
@@ -246,8 +227,8 @@ not_refused canonical before event given next =
     let sounds : list_all (is_sound canonical) before
     && list_all (is_sound canonical) (event ∷ []) ≡ true = sym (list_all-append (is_sound canonical) before (event ∷ [])) ∙ next.sound in
     let sound_event : is_sound canonical event
-    ≡ true = and_left (is_sound canonical event) true
-    (and_right (list_all (is_sound canonical) before) (list_all (is_sound canonical) (event ∷ [])) sounds) in
+    ≡ true = (and_parts (is_sound canonical event) true
+    (and_parts (list_all (is_sound canonical) before) (list_all (is_sound canonical) (event ∷ [])) sounds).1).0 in
     let own_none : option_or names content ≡ None = is_none_none (option_or names content) sound_event in
     let stands_at : is_none (push p event)
     ≡ false = some_pushed (push p event) next.partial (sym (pushed_next before event p given.is_partial) ∙ next.is_partial) in

@@ -1,7 +1,7 @@
 -- Reading line breaks undoes the writing of them; and lines stay indented as their breaks are written.
 use Rattle.yaml_base.proofs.Common.{nat_tests, arith, ℕ, if◌then◌else◌, ◌==◌, Bool, false, not, true, ◌&&◌, ◌||◌, [], ◌++◌, ◌∷◌, refl, ◌≡◌, eqb-true, or_cases}
 use Rattle.yaml_base.proofs.Common.{and_parts, and_from, or_parts, or_left, or_right, not-true, Text, line_feed, carriage_return, next_line, space, is_break}
-use Rattle.yaml_base.proofs.Common.{break_text, with_breaks_written, with_line_breaks_read, is_rendered_text, is_indented_text, LineBreak}
+use Rattle.yaml_base.proofs.Common.{break_text, with_breaks_written, with_line_breaks_read, is_rendered_text, is_indented_text, LineBreak, false≢true}
 use Rattle.yaml_base.proofs.Common.{carriage_return_break, line_feed_break, both_break}
 use Rattle.yaml_base.specs.LineBreaks.{line_breaks_read_after, begins_indented}
 
@@ -10,54 +10,38 @@ pub rendered-cons : (c : ℕ) (rest : Text) → is_rendered_text (c ∷ rest) �
     → ((c == carriage_return) ≡ false) × ((c == next_line) ≡ false) × (is_rendered_text rest ≡ true)
 rendered-cons c rest h = grind (arith, and_parts, or_parts, not-true)
 
--- one character of a text whose line breaks are LF
-lf-step : (c : ℕ) (rest : Text) (b : Bool) → (c == line_feed) ≡ b → (c == carriage_return) ≡ false → (c == next_line) ≡ false
-    → line_breaks_read_after false (with_breaks_written line_feed_break rest) ≡ rest
-    → line_breaks_read_after false ((if b then line_feed ∷ [] else c ∷ []) ++ with_breaks_written line_feed_break rest) ≡ c ∷ rest
-lf-step c rest true is not_cr not_nel ih = let e : c ≡ line_feed = eqb-true c _ is in rw (e, ih)
-lf-step c rest false is not_cr not_nel ih = rw (is, not_cr, not_nel, ih)
+-- after a CR a line break that begins with LF would be its second half
+abbrev reads_after : LineBreak → (after_cr : Bool) → Bool
+reads_after carriage_return_break after = true
+reads_after _ after = not after
 
-lf-read : (text : Text) → is_rendered_text text ≡ true
-    → line_breaks_read_after false (with_breaks_written line_feed_break text) ≡ text
-lf-read [] h = refl
-lf-read (c ∷ rest) h =
+-- one character of a text with such line breaks
+break-step : (setting : LineBreak) (after : Bool) (c : ℕ) (rest : Text) (b : Bool) → reads_after setting after ≡ true
+    → (c == line_feed) ≡ b → (c == carriage_return) ≡ false → (c == next_line) ≡ false
+    → ((next : Bool) → reads_after setting next ≡ true → line_breaks_read_after next (with_breaks_written setting rest) ≡ rest)
+    → line_breaks_read_after after ((if b then break_text setting else c ∷ []) ++ with_breaks_written setting rest) ≡ c ∷ rest
+break-step carriage_return_break after c rest true k is not_cr not_nel ih = let e : c ≡ line_feed = eqb-true c _ is in rw (e, ih true refl)
+break-step line_feed_break false c rest true k is not_cr not_nel ih = let e : c ≡ line_feed = eqb-true c _ is in rw (e, ih false refl)
+break-step both_break false c rest true k is not_cr not_nel ih = let e : c ≡ line_feed = eqb-true c _ is in rw (e, ih false refl)
+break-step line_feed_break true c rest true k is not_cr not_nel ih = absurd (false≢true k)
+break-step both_break true c rest true k is not_cr not_nel ih = absurd (false≢true k)
+break-step carriage_return_break after c rest false k is not_cr not_nel ih = rw (is, not_cr, not_nel, ih false refl)
+break-step line_feed_break after c rest false k is not_cr not_nel ih = rw (is, not_cr, not_nel, ih false refl)
+break-step both_break after c rest false k is not_cr not_nel ih = rw (is, not_cr, not_nel, ih false refl)
+
+break-read : (setting : LineBreak) (after : Bool) (text : Text) → reads_after setting after ≡ true → is_rendered_text text ≡ true
+    → line_breaks_read_after after (with_breaks_written setting text) ≡ text
+break-read setting after [] k h = refl
+break-read setting after (c ∷ rest) k h =
     let p = rendered-cons c rest h in
-    lf-step c rest (c == line_feed) refl p.0 p.1 (lf-read rest p.2)
-
--- of a text whose line breaks are CR: after one the flag is on, and no LF follows
-cr-step : (after : Bool) (c : ℕ) (rest : Text) (b : Bool) → (c == line_feed) ≡ b → (c == carriage_return) ≡ false → (c == next_line) ≡ false
-    → ((after : Bool) → line_breaks_read_after after (with_breaks_written carriage_return_break rest) ≡ rest)
-    → line_breaks_read_after after ((if b then carriage_return ∷ [] else c ∷ []) ++ with_breaks_written carriage_return_break rest) ≡ c ∷ rest
-cr-step after c rest true is not_cr not_nel ih = let e : c ≡ line_feed = eqb-true c _ is in rw (e, ih true)
-cr-step after c rest false is not_cr not_nel ih = rw (is, not_cr, not_nel, ih false)
-
-cr-read : (after : Bool) (text : Text) → is_rendered_text text ≡ true
-    → line_breaks_read_after after (with_breaks_written carriage_return_break text) ≡ text
-cr-read after [] h = refl
-cr-read after (c ∷ rest) h =
-    let p = rendered-cons c rest h in
-    cr-step after c rest (c == line_feed) refl p.0 p.1 (λ next. cr-read next rest p.2)
-
--- of a text whose line breaks are CR LF: the flag is off again after the LF
-both-step : (c : ℕ) (rest : Text) (b : Bool) → (c == line_feed) ≡ b → (c == carriage_return) ≡ false → (c == next_line) ≡ false
-    → line_breaks_read_after false (with_breaks_written both_break rest) ≡ rest
-    → line_breaks_read_after false ((if b then carriage_return ∷ line_feed ∷ [] else c ∷ []) ++ with_breaks_written both_break rest) ≡ c ∷ rest
-both-step c rest true is not_cr not_nel ih = let e : c ≡ line_feed = eqb-true c _ is in rw (e, ih)
-both-step c rest false is not_cr not_nel ih = rw (is, not_cr, not_nel, ih)
-
-both-read : (text : Text) → is_rendered_text text ≡ true
-    → line_breaks_read_after false (with_breaks_written both_break text) ≡ text
-both-read [] h = refl
-both-read (c ∷ rest) h =
-    let p = rendered-cons c rest h in
-    both-step c rest (c == line_feed) refl p.0 p.1 (both-read rest p.2)
+    break-step setting after c rest (c == line_feed) k refl p.0 p.1 (λ next j. break-read setting next rest j p.2)
 
 -- a rendered text is what its line breaks read as, however they are written
 pub breaks-round : (setting : LineBreak) (text : Text) → is_rendered_text text ≡ true
     → with_line_breaks_read (with_breaks_written setting text) ≡ text
-breaks-round carriage_return_break text h = cr-read false text h
-breaks-round line_feed_break text h = lf-read text h
-breaks-round both_break text h = both-read text h
+breaks-round carriage_return_break text h = break-read carriage_return_break false text refl h
+breaks-round line_feed_break text h = break-read line_feed_break false text refl h
+breaks-round both_break text h = break-read both_break false text refl h
 
 -- joined texts are rendered where both are
 pub rendered-append : (a b : Text) → is_rendered_text a ≡ true → is_rendered_text b ≡ true → is_rendered_text (a ++ b) ≡ true

@@ -4,7 +4,8 @@ use Rattle.yaml_base.proofs.Common.{◌++◌, ◌∷◌, refl, ◌≡◌, ap, sy
 use Rattle.yaml_base.proofs.Common.{plain, single_quoted, double_quoted, literal, folded, TagDirective, Scalar, Collection, Event, stream_start, stream_end}
 use Rattle.yaml_base.proofs.Common.{document_start, document_end, alias, scalar, sequence_start, sequence_end, mapping_start, mapping_end, scalar_tag}
 use Rattle.yaml_base.proofs.Common.{collection_tag, Stream, stream_events, tree_of, first_standing, layout, Piece, Standing, RenderedPiece, piece_without_body}
-use Rattle.yaml_base.proofs.Common.{render_properties, render_alias, render_separation, render_body, open_ended_after, choice_of, body_at, is_written_in_flow}
+use Rattle.yaml_base.proofs.Common.{render_properties, render_alias, render_separation, render_body, open_ended_after, style_asked_at, choice_of, body_at}
+use Rattle.yaml_base.proofs.Common.{is_written_in_flow}
 use Rattle.yaml_base.proofs.Common.{Brackets, square, curly, render_end, Role, as_root, as_item, as_key, as_value, Place, is_key, is_undented, deeper}
 use Rattle.yaml_base.proofs.Common.{is_simple_scalar, is_simple_collection, render_flow_place, render_place, settings_for, text_written, bytes_written}
 use Rattle.yaml_base.proofs.Common.{list_layout, Encoding, Effective, effective, Frame, Stage, at_stream, at_document, at_node, at_document_end, next_place}
@@ -88,8 +89,8 @@ module _ (s : Effective) (e : Encoding) (limit : ℕ) (breaks12 : Bool) (same : 
   choice_other : (place : Place) (simple : Bool) (content : Scalar) → choice_of other place simple content ≡ choice_of s place simple content
   choice_other place simple content =
       ap (λ (special : Bool). chosen (allowances (record { unicode = s.unicode; breaks12 = special }) content.value)
-      content.style (is_empty content.value) (is_some (scalar_tag s.canonical content)) content.plain_implicit content.quoted_implicit place.in_flow simple
-      s.canonical)
+      (style_asked_at s place content) (is_empty content.value) (is_some (scalar_tag s.canonical content))
+      content.plain_implicit content.quoted_implicit place.in_flow simple s.canonical)
       same
 
   scalar_other : (directives : List TagDirective) (place : Place) (simple : Bool) (content : Scalar) (standing : Standing)

@@ -1,5 +1,6 @@
 -- The names that most proofs here cite, passed on from one place. Declares nothing.
-pub use Rattle.std.{proofs.Math.Bool.or-true, proofs.lemmas.Grind.flat_map-append, proofs.lemmas.List.length-map, proofs.lemmas.List.map-append}
+pub use Rattle.std.proofs.Math.Bool.{or-true, and-false, and-true}
+pub use Rattle.std.{proofs.lemmas.Grind.flat_map-append, proofs.lemmas.List.length-map, proofs.lemmas.List.map-append}
 pub use Rattle.std.{proofs.lemmas.List.Folds.list_all-append, proofs.lemmas.List.Folds.list_any-append, proofs.lemmas.List.Splits.slice_split-cons_yes}
 pub use Rattle.std.{proofs.lemmas.List.Splits.slice_split-cons_no, proofs.lemmas.List.Sums.sum_by-append, proofs.lemmas.List.Sums.take_while-cons}
 pub use Rattle.std.{proofs.lemmas.Slice.Eq.bytes_eq-Decides, specs.Char.digit_value, specs.Char.len_utf8, specs.Fmt.digit_glyph, specs.Fmt.digits_onto}
@@ -44,7 +45,8 @@ pub use Rattle.yaml_base.specs.Layout.{piece_without_body, tag_count, has_direct
 pub use Rattle.yaml_base.specs.Layout.{is_simple_scalar, render_document_start, is_simple_collection, has_no_nodes, document_start_piece, has_no_pairs}
 pub use Rattle.yaml_base.specs.Layout.{is_simple, document_end_piece, render_properties, root_place, render_alias, render_document, is_simple_at, flow_break}
 pub use Rattle.yaml_base.specs.Layout.{render_separation, has_no_documents, opening_or_comma, render_body, render_documents, key_indicator, render_flow_place}
-pub use Rattle.yaml_base.specs.Layout.{first_standing, stream_end_piece, open_ended_after, charset_of, choice_of, layout, body_at, render_place, start_piece}
+pub use Rattle.yaml_base.specs.Layout.{first_standing, stream_end_piece, open_ended_after, charset_of, style_asked_at, choice_of, layout, body_at, render_place}
+pub use Rattle.yaml_base.specs.Layout.{start_piece}
 pub use Rattle.yaml_base.specs.Layout.{asks_flow, is_written_in_flow, Brackets, square, curly, empty_or_comma, render_end, entry_place, render_node}
 pub use Rattle.yaml_base.specs.Layout.{render_nodes, render_pairs}
 pub use Rattle.yaml_base.specs.LineBreaks.{break_text, with_breaks_written, with_line_breaks_read, is_read_break, is_rendered_text, is_indented_text}
@@ -91,7 +93,7 @@ pub use Rattle.yaml_base.specs.scalars.Analysis.{Charset, Allowances, somewhere,
 pub use Rattle.yaml_base.specs.scalars.BlockHeader.{ending, indentation_hint, ending_hint, render_hint, ends_in_break}
 pub use Rattle.yaml_base.specs.scalars.DoubleQuoted.{short_escapes, letter_among, escape_after_backslash, escape_text, needs_escape, character_text}
 pub use Rattle.yaml_base.specs.scalars.DoubleQuoted.{double_inside, render_quote}
-pub use Rattle.yaml_base.specs.scalars.Style.{Choice, lacks_tag_and_flags, is_plain, requested_style, quoted_style, fitting_style, fits_plain, chosen}
+pub use Rattle.yaml_base.specs.scalars.Style.{Choice, lacks_tag_and_flags, is_plain, is_block, requested_style, quoted_style, fitting_style, fits_plain, chosen}
 pub use Rattle.yaml_base.specs.streams.StreamContent.{Stood, stood_plain, stood_quoted, stood_bare, Tagging, with_tag, without_tag, Tree, alias_tree}
 pub use Rattle.yaml_base.specs.streams.StreamContent.{scalar_tree, Trees, sequence_tree, TreePairs, mapping_tree, no_trees, trees_and, no_tree_pairs}
 pub use Rattle.yaml_base.specs.streams.StreamContent.{tree_pairs_and, DocumentTree, document_agrees, documents_in_order, agrees}

@@ -1,6 +1,6 @@
 -- The completion of a list that begins a stream is a stream.
 use Rattle.yaml_base.proofs.Common.{nat_tests, arith, option_and_then, Option, None, Some, true, List, [], ◌++◌, ◌∷◌, refl, ◌≡◌, any_style, DocumentStart}
-use Rattle.yaml_base.proofs.Common.{Event, stream_end, document_end, Node, scalar_node, sequence_node, mapping_node, no_nodes, nodes_and, no_pairs, pairs_and}
+use Rattle.yaml_base.proofs.Common.{Event, Node, scalar_node, sequence_node, mapping_node, no_nodes, nodes_and, no_pairs, pairs_and}
 use Rattle.yaml_base.proofs.Common.{Documents, no_documents, documents_and, Stream, Level, at_item, at_key, at_value, Partial, before_stream, between_documents}
 use Rattle.yaml_base.proofs.Common.{within_document, after_root, after_stream, with_node, push, pushed, partial_of, outer_missing, levels_missing, missing}
 use Rattle.yaml_base.proofs.Common.{completion, Encoding}

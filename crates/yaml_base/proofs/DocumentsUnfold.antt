@@ -1,5 +1,5 @@
 -- The events of a document unfold its graph.
-use Rattle.yaml_base.proofs.Common.{suc, ℕ, ◌+◌, ◌≤◌, if◌then◌else◌, ◌==◌, Contains, count_by, unwrap_or, bytes_eq, Option, None, Some, length, Bool, cond}
+use Rattle.yaml_base.proofs.Common.{suc, ℕ, ◌+◌, ◌≤◌, if◌then◌else◌, ◌==◌, Contains, count_by, unwrap_or, Option, None, Some, length, Bool, cond}
 use Rattle.yaml_base.proofs.Common.{false, true, ◌||◌, List, [], ◌++◌, ◌∷◌, refl, ◌≡◌, eqb-true, ne_eqb, append-nil, inl, inr, ap, subst, sym, ◌∙◌, arith}
 use Rattle.yaml_base.proofs.Common.{or-true, or_cases, same_from_decides, Decides-eqb, nat_tests, Contains-append_left, Contains-append_right}
 use Rattle.yaml_base.proofs.Common.{filter_map-append, sum_by-append, bytes_eq-Decides, filter_map, flat_map, list_any, Text, Event, document_start}
@@ -14,7 +14,7 @@ use Rattle.yaml_base.proofs.UnfoldTrees.{placed_steps, Fits, Walks, walk_placed,
 
 -- ---- occurrences are counted as entries
 
-count_cons : {X : Type 0} (test : X → Bool) (x : X) (xs : List X) → count_by test (x ∷ xs) ≡ cond (test x) 1 0 + count_by test xs
+pub count_cons : {X : Type 0} (test : X → Bool) (x : X) (xs : List X) → count_by test (x ∷ xs) ≡ cond (test x) 1 0 + count_by test xs
 count_cons test x xs = sum_by-append (λ y. cond (test y) 1 0) (x ∷ []) xs ∙ omega arith
 
 -- by a test that tells the place of one node
@@ -43,12 +43,7 @@ carried_by : (walk : List Step) (number : ℕ) (name : Text) → anchor_of walk 
     → has_anchor name (node_occurrence anchor other) ≡ (number == other)
 carried_by walk number name is other None none =
     sym (ne_eqb number other (λ same. let both : Some name ≡ None = sym is ∙ ap (anchor_of walk) same ∙ none in cc))
-carried_by walk number name is other (Some anchor) also =
-    same_from_decides (bytes_eq name anchor) (number == other) (
-      λ equal. anchors_differ walk number other name is (also ∙ ap (λ (a : Text). Some a) (sym ((bytes_eq-Decides name anchor).0 equal))),
-      λ same. (bytes_eq-Decides name anchor).1 (let both : Some name ≡ Some anchor = sym is ∙ ap (anchor_of walk) same ∙ also in cc),
-    )
-    (Decides-eqb number other)
+carried_by walk number name is other (Some anchor) also = grind (arith, nat_tests, same_from_decides, anchors_differ, bytes_eq-Decides, Decides-eqb)
 
 -- a step meets this node again
 abbrev is_again : ℕ → Step → Bool
@@ -196,7 +191,7 @@ tree_unfolds graph walk made orderly =
           (not_entered (list_any (is_entry_of number) walk) (λ entered. unreached (orderly.reached number entered)));
     }
 
-some_nodes : (count : ℕ) → (count == 0) ≡ false → 1 ≤ count
+pub some_nodes : (count : ℕ) → (count == 0) ≡ false → 1 ≤ count
 some_nodes count some = grind (arith, nat_tests, some)
 
 -- of a whole graph that has nodes

@@ -106,12 +106,8 @@ only_tag tag (Some other) error none is = cc
 
 prefix_writable : (anchor : Option Text) (tag : Text) (held : Held) → option_and_then anchor_fault anchor ≡ None
     → IsWritable (opening_event_of anchor tag held)
-prefix_writable anchor tag (scalar_held value style) none =
-    record { named = λ error is. only_tag tag (option_and_then anchor_fault anchor) error none is; content = refl }
-prefix_writable anchor tag (sequence_held items style) none =
-    record { named = λ error is. only_tag tag (option_and_then anchor_fault anchor) error none is; content = refl }
-prefix_writable anchor tag (mapping_held pairs style) none =
-    record { named = λ error is. only_tag tag (option_and_then anchor_fault anchor) error none is; content = refl }
+prefix_writable anchor tag held none =
+    record { named = λ error is. only_tag tag (option_and_then anchor_fault anchor) error none (grind (arith, is)); content = grind (arith) }
 
 -- each of some events
 abbrev AreWritable : List Event → Type 0

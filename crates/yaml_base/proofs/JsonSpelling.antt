@@ -1,9 +1,9 @@
 -- What a number of JSON is spelled as is the same number.
-use Rattle.yaml_base.proofs.Common.{nat_tests, ℕ, ◌*◌, ◌+◌, if◌then◌else◌, Option, None, Some, codes, neg_ℤ, negsuc, pos, ℤ, ◌+ℤ◌, Bool, false, not, true, ◌&&◌}
-use Rattle.yaml_base.proofs.Common.{[], ◌++◌, ◌≡◌, append-nil, ap, sym, arith, Decides-int_eq, digits_value, Text, is_word, JsonExponent, JsonNumber}
-use Rattle.yaml_base.proofs.Common.{exponent_value, json_value, number_meant, means_number, Decimal, meant_integer, meant_decimal, signed}
+use Rattle.yaml_base.proofs.Common.{nat_tests, ℕ, ◌*◌, ◌+◌, Option, codes, neg_ℤ, negsuc, pos, ℤ, ◌+ℤ◌, Bool, false, true}
+use Rattle.yaml_base.proofs.Common.{[], ◌++◌, ◌≡◌, append-nil, arith, Decides-int_eq, digits_value, Text, JsonExponent, JsonNumber}
+use Rattle.yaml_base.proofs.Common.{json_value, number_meant, means_number, Decimal, signed}
 use Rattle.std.{proofs.lemmas.Int.ints, proofs.lemmas.Int.Digits.digits_value_push, specs.Ordering.int_eq, specs.Prelude.◌*ℤ◌, specs.Prelude.◌-ℤ◌}
-use Rattle.yaml_base.specs.values.JsonNumbers.{value_with, is_same_number}
+use Rattle.yaml_base.specs.values.JsonNumbers.{is_same_number}
 
 same_integer : (a b : ℤ) → a ≡ b → int_eq a b ≡ true
 same_integer a b h = (Decides-int_eq a b).1 h

@@ -1,4 +1,5 @@
 pub mod Common
+pub mod AllPass
 pub mod Prefixes
 pub mod Stages
 pub mod Progress

@@ -1,7 +1,8 @@
 -- Texts that are written out: ASCII without a break.
-use Rattle.yaml_base.proofs.Common.{suc, zero, ℕ, nat_lt, Bool, false, not, true, ◌&&◌, List, [], ◌∷◌, refl, ◌≡◌, ltb-true, ap, ◌∙◌, arith, and_parts}
-use Rattle.yaml_base.proofs.Common.{or_from, not-true, chars-IsAscii, list_all, list_any, chars, is_break}
+use Rattle.yaml_base.proofs.Common.{suc, zero, ℕ, nat_lt, Bool, false, not, true, ◌&&◌, List, [], ◌∷◌, ◌≡◌, ltb-true, ap, ◌∙◌, arith, and_parts}
+use Rattle.yaml_base.proofs.Common.{not-true, chars-IsAscii, list_all, list_any, chars, is_break}
 use Rattle.std.specs.Prelude.{IsAscii}
+use Rattle.yaml_base.proofs.AllPass.{none_pass}
 
 -- characters of ASCII that are no breaks; computes at a literal
 abbrev pub are_plain : List ℕ → Bool
@@ -14,10 +15,7 @@ plain_ascii (b ∷ bytes) h zero = ltb-true b 128
 plain_ascii (b ∷ bytes) h (suc i) = plain_ascii bytes (and_parts (nat_lt b 128 && not (is_break b)) (are_plain bytes) h).1 i
 
 plain_unbroken : (bytes : List ℕ) → are_plain bytes ≡ true → list_any is_break bytes ≡ false
-plain_unbroken [] h = refl
-plain_unbroken (b ∷ bytes) h =
-    let both = and_parts (nat_lt b 128 && not (is_break b)) (are_plain bytes) h in
-    or_from _ _ (not-true _ (and_parts (nat_lt b 128) (not (is_break b)) both.0).1) (plain_unbroken bytes both.1)
+plain_unbroken bytes h = none_pass (λ b. nat_lt b 128 && not (is_break b)) is_break (λ b e. not-true _ (and_parts (nat_lt b 128) (not (is_break b)) e).1) bytes h
 
 -- the characters of a literal are its bytes
 pub chars-literal : (bytes : List ℕ) → are_plain bytes ≡ true → chars bytes ≡ bytes

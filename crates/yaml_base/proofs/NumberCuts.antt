@@ -1,13 +1,15 @@
 -- A number's spelling, cut where the schemas cut it: past its sign, at its point, at its exponent.
+use Rattle.std.specs.Char.{is_digit}
 use Rattle.yaml_base.proofs.Common.{suc, ℕ, if◌then◌else◌, ⊤, ◌==◌, Option, None, Some, codes, length, Bool, false, not, true, ◌||◌, List, [], ◌++◌}
 use Rattle.yaml_base.proofs.Common.{◌∷◌, refl, ◌≡◌, eqb-true, ne_eqb, append-nil, ap, ◌∙◌, arith, and_parts, and_from, and_left, or_from, or_left}
 use Rattle.yaml_base.proofs.Common.{not_from_false, false≢true, slice_split-cons_yes, take_while-cons, list_all, slice_split, take_while, Text, named}
 use Rattle.yaml_base.proofs.Common.{JsonExponent, minus, exponent_negative, exponent_spelled, Resolved, words_of_core, words_of_11, is_point}
 use Rattle.yaml_base.proofs.Common.{is_exponent_letter, is_plus_or_minus, is_decimal, first_meets, past_sign, is_negative, are_digits, is_underscore}
 use Rattle.yaml_base.proofs.Common.{ungrouped, are_grouped, is_hyphen, is_date, in_date, timestamp_11}
-use Rattle.std.proofs.lemmas.List.{Elements.All-cons, Elements.All-append, Splits.slice_split_none, Splits.slice_split_at, Sums.AllPass-from_list_all}
+use Rattle.std.proofs.lemmas.List.{Elements.All-cons, Elements.All-append, Splits.slice_split_none, Splits.slice_split_at}
 use Rattle.std.specs.List.{All}
 use Rattle.yaml_base.proofs.SchemaWords.{named_unlike}
+use Rattle.yaml_base.proofs.AllPass.{all_pass, uncut_by}
 
 -- Digits
 
@@ -34,33 +36,21 @@ some_digits c digits h =
 
 -- digits are grouped, and have no underscore
 pub digits_grouped : (digits : Text) → list_all is_decimal digits ≡ true → are_grouped 10 digits ≡ true
-digits_grouped [] h = refl
-digits_grouped (c ∷ digits) h = and_from (is_decimal c || is_underscore c) (are_grouped 10 digits) (or_left (is_decimal c) _ both.0)
-    (digits_grouped digits both.1)
-  where
-    both : (is_decimal c ≡ true) × (list_all is_decimal digits ≡ true)
-    both = and_parts (is_decimal c) (list_all is_decimal digits) h
+digits_grouped digits h = all_pass is_decimal (λ c. is_digit c 10 || is_underscore c) (λ c e. or_left (is_decimal c) _ e) digits h
 
 pub digits_ungrouped : (digits : Text) → list_all is_decimal digits ≡ true → ungrouped digits ≡ digits
 digits_ungrouped [] h = refl
 digits_ungrouped (c ∷ digits) h =
+    let both : (is_decimal c ≡ true) × (list_all is_decimal digits ≡ true) = and_parts (is_decimal c) (list_all is_decimal digits) h in
     ap (λ x. if not x then c ∷ ungrouped digits else ungrouped digits) (digit_unlike c 0x5F refl both.0)
     ∙ ap (λ text. c ∷ text) (digits_ungrouped digits both.1)
-  where
-    both : (is_decimal c ≡ true) × (list_all is_decimal digits ≡ true)
-    both = and_parts (is_decimal c) (list_all is_decimal digits) h
 
 -- Cuts
-
--- a sign that is no digit stands in no digits
-free : (sign : ℕ → Bool) → ((c : ℕ) → is_decimal c ≡ true → sign c ≡ false) → (digits : Text) → list_all is_decimal digits ≡ true
-    → All (λ c. sign c ≡ false) digits
-free sign other digits h k d within = other _ (AllPass-from_list_all is_decimal digits h k d within)
 
 -- digits aren't cut
 pub uncut : (sign : ℕ → Bool) → ((c : ℕ) → is_decimal c ≡ true → sign c ≡ false) → (digits : Text) → list_all is_decimal digits ≡ true
     → slice_split sign digits ≡ digits ∷ []
-uncut sign other digits h = slice_split_none sign digits (free sign other digits h)
+uncut sign other digits h = slice_split_none sign digits (uncut_by is_decimal sign other digits h)
 
 pub no_point : (digits : Text) → list_all is_decimal digits ≡ true → slice_split is_point digits ≡ digits ∷ []
 no_point digits h = uncut is_point digit_no_point digits h
@@ -72,7 +62,7 @@ no_exponent digits h = uncut is_exponent_letter digit_no_exponent_letter digits 
 pub at_point : (whole fraction : Text) → list_all is_decimal whole ≡ true → list_all is_decimal fraction ≡ true
     → slice_split is_point (whole ++ (codes "." ++ fraction)) ≡ whole ∷ fraction ∷ []
 at_point whole fraction h g =
-    slice_split_at is_point whole 0x2E fraction (free is_point digit_no_point whole h) refl
+    slice_split_at is_point whole 0x2E fraction (uncut_by is_decimal is_point digit_no_point whole h) refl
     ∙ ap (λ parts. whole ∷ parts) (no_point fraction g)
 
 -- the mantissa of a spelling
@@ -92,8 +82,8 @@ HasDigits (Some exponent) = are_digits 10 exponent.digits ≡ true
 no_exponent_letter_in_mantissa : (whole fraction : Text) → list_all is_decimal whole ≡ true → list_all is_decimal fraction ≡ true
     → All (λ c. is_exponent_letter c ≡ false) (mantissa_of whole fraction)
 no_exponent_letter_in_mantissa whole fraction h g =
-    All-append (λ c. is_exponent_letter c ≡ false) whole (codes "." ++ fraction) (free is_exponent_letter digit_no_exponent_letter whole h)
-    (All-cons (λ c. is_exponent_letter c ≡ false) 0x2E fraction refl (free is_exponent_letter digit_no_exponent_letter fraction g))
+    All-append (λ c. is_exponent_letter c ≡ false) whole (codes "." ++ fraction) (uncut_by is_decimal is_exponent_letter digit_no_exponent_letter whole h)
+    (All-cons (λ c. is_exponent_letter c ≡ false) 0x2E fraction refl (uncut_by is_decimal is_exponent_letter digit_no_exponent_letter fraction g))
 
 -- a spelling with a point is cut at its `e`
 pub at_exponent : (whole fraction : Text) (exponent : Option JsonExponent) → list_all is_decimal whole ≡ true → list_all is_decimal fraction ≡ true
@@ -108,7 +98,7 @@ at_exponent whole fraction (Some exponent) h g e = by (exponent_negative exponen
     signed_uncut : (sign : ℕ) → is_exponent_letter sign ≡ false → slice_split is_exponent_letter (sign ∷ exponent.digits) ≡ (sign ∷ exponent.digits) ∷ []
     signed_uncut sign other =
         slice_split_none is_exponent_letter (sign ∷ exponent.digits)
-        (All-cons (λ c. is_exponent_letter c ≡ false) sign exponent.digits other (free is_exponent_letter digit_no_exponent_letter exponent.digits digits))
+        (All-cons (λ c. is_exponent_letter c ≡ false) sign exponent.digits other (uncut_by is_decimal is_exponent_letter digit_no_exponent_letter exponent.digits digits))
 
     prefix : (sign : ℕ) → is_exponent_letter sign ≡ false
         → slice_split is_exponent_letter (mantissa_of whole fraction ++ 0x65 ∷ sign ∷ exponent.digits)
@@ -158,12 +148,10 @@ date_prefix : (digits rest : Text) → list_all is_decimal digits ≡ true → f
 date_prefix [] [] h g = refl
 date_prefix [] (c ∷ rest) h g = take_while-cons in_date c rest ∙ ap (λ x. if x then c ∷ take_while in_date rest else []) g
 date_prefix (c ∷ digits) rest h g =
+    let both : (is_decimal c ≡ true) × (list_all is_decimal digits ≡ true) = and_parts (is_decimal c) (list_all is_decimal digits) h in
     take_while-cons in_date c (digits ++ rest)
     ∙ ap (λ x. if x then c ∷ take_while in_date (digits ++ rest) else []) (or_left (is_decimal c) (is_hyphen c) both.0)
     ∙ ap (λ text. c ∷ text) (date_prefix digits rest both.1 g)
-  where
-    both : (is_decimal c ≡ true) × (list_all is_decimal digits ≡ true)
-    both = and_parts (is_decimal c) (list_all is_decimal digits) h
 
 -- a cut of two parts or fewer is no date
 abbrev Short : List Text → Type 0

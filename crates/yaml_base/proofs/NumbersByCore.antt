@@ -1,6 +1,6 @@
 -- The core schema reads the spelling of a number of JSON as that number.
 use Rattle.yaml_base.proofs.Common.{arith, nat_tests, ℕ, if◌then◌else◌, ◌==◌, Option, None, Some, codes, neg_ℤ, pos, ℤ, ◌+ℤ◌, length, Bool, false, true, List}
-use Rattle.yaml_base.proofs.Common.{[], ◌++◌, ◌∷◌, refl, ◌≡◌, append_assoc, ap, sym, ◌∙◌, and_parts, and_from, and_left, and_right, list_all-append, list_all}
+use Rattle.yaml_base.proofs.Common.{[], ◌++◌, ◌∷◌, ◌≡◌, append_assoc, ap, sym, ◌∙◌, and_parts, and_from, and_left, and_right, list_all-append, list_all}
 use Rattle.yaml_base.proofs.Common.{slice_split, digits_value, Text, JsonExponent, minus, exponent_value, exponent_spelled, Decimal, Resolved, meant_integer}
 use Rattle.yaml_base.proofs.Common.{meant_decimal, first_reading, is_exponent_letter, is_decimal, first_meets, signed, are_digits, decimal_of_digits}
 use Rattle.yaml_base.proofs.Common.{exponent_read, times_power_of_ten, scientific, core_integer, core_based, core_decimal, resolved_by_core}

@@ -7,7 +7,6 @@ use Rattle.std.proofs.lemmas.List.{drop_all}
 use Rattle.std.specs.List.{find}
 use Rattle.yaml_base.specs.declared.{directives.yaml_tag_directive_t.yaml_tag_directive_t, directives.yaml_version_directive_t.yaml_version_directive_t}
 use Rattle.yaml_base.specs.declared.{nodes.yaml_node_data_t.yaml_node_data_t, nodes.yaml_node_pair_t.yaml_node_pair_t, nodes.yaml_node_t.yaml_node_t}
-use Rattle.yaml_base.specs.declared.nodes.yaml_node_data_t.TheVariants.{Mapping, Scalar, Sequence}
 use Rattle.yaml_base.specs.graphs.SeenNodes.{seen_number, seen_pair, seen_held, seen_node, seen_document, names_node, numbers_of}
 
 -- a search from a place on finds what stands there
@@ -45,22 +44,12 @@ key_outside count i pairs d within outside =
 
 pub value_outside : (count i : ℕ) (pairs : List yaml_node_pair_t) (d : yaml_node_pair_t) → i < length pairs → names_node count (get_or pairs i d).key ≡ true
     → names_node count (get_or pairs i d).value ≡ false → first_outside count (numbers_of_pairs (drop i pairs)) ≡ Some (get_or pairs i d).value
-value_outside count i pairs d within key outside =
-    let pair = get_or pairs i d in
-    let rest = numbers_of_pairs (drop (i + 1) pairs) in
-    ap (first_outside count) (pair_at pairs i d within)
-    ∙ ap (λ (b : Bool). cond (not b) (Some pair.key) (first_outside count (pair.value ∷ rest))) key
-    ∙ ap (λ (b : Bool). cond (not b) (Some pair.value) (first_outside count rest)) outside
+value_outside count i pairs d within key outside = grind (arith, nat_tests, pair_at)
 
 pub pair_within : (count i : ℕ) (pairs : List yaml_node_pair_t) (d : yaml_node_pair_t) → i < length pairs → names_node count (get_or pairs i d).key ≡ true
     → names_node count (get_or pairs i d).value ≡ true
     → first_outside count (numbers_of_pairs (drop i pairs)) ≡ first_outside count (numbers_of_pairs (drop (i + 1) pairs))
-pair_within count i pairs d within key value =
-    let pair = get_or pairs i d in
-    let rest = numbers_of_pairs (drop (i + 1) pairs) in
-    ap (first_outside count) (pair_at pairs i d within)
-    ∙ ap (λ (b : Bool). cond (not b) (Some pair.key) (first_outside count (pair.value ∷ rest))) key
-    ∙ ap (λ (b : Bool). cond (not b) (Some pair.value) (first_outside count rest)) value
+pair_within count i pairs d within key value = grind (arith, nat_tests, pair_at)
 
 -- at a place of the list: the node's numbers, and then those behind it
 at_place : {A : Type 0} (count i : ℕ) (nodes : List (yaml_node_t A)) (node : yaml_node_t A) → i < length nodes → node ≡ get_or nodes i node

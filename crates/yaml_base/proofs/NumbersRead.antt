@@ -59,17 +59,13 @@ integer_without_sign negative c digits h whole =
 past_sign_11 : (negative : Bool) (c : ℕ) (whole rest : Text) (meant : Resolved) → list_all is_decimal (c ∷ whole) ≡ true → first_meets in_date rest ≡ false
     → first_reading (numbers_11 negative ((c ∷ whole) ++ rest)) ≡ meant → resolved_by_11 (minus negative ++ ((c ∷ whole) ++ rest)) ≡ meant
 past_sign_11 negative c whole rest meant h g reads =
+    let text : Text = minus negative ++ ((c ∷ whole) ++ rest) in
+    let digit : is_decimal c ≡ true = (and_parts (is_decimal c) (list_all is_decimal whole) h).0 in
     passed (named words_of_11 text) (timestamp_11 text ∷ numbers_11 (is_negative text) (past_sign text)) (no_word_of_11 negative c (whole ++ rest) digit)
     ∙ passed (timestamp_11 text) (numbers_11 (is_negative text) (past_sign text)) (no_timestamp negative (c ∷ whole) rest h g)
     ∙ ap (λ t. first_reading (numbers_11 (is_negative text) t)) (past_minus negative c (whole ++ rest) digit)
     ∙ ap (λ x. first_reading (numbers_11 x ((c ∷ whole) ++ rest))) (minus_read negative c (whole ++ rest) digit)
     ∙ reads
-  where
-    text : Text
-    text = minus negative ++ ((c ∷ whole) ++ rest)
-
-    digit : is_decimal c ≡ true
-    digit = (and_parts (is_decimal c) (list_all is_decimal whole) h).0
 
 -- an integer by 1.1
 integer_by_11 : (negative : Bool) (c : ℕ) (digits : Text) → list_all is_decimal (c ∷ digits) ≡ true → Whole c digits
@@ -140,37 +136,23 @@ exponent_digits (Some exponent) h = h
 
 -- the spelling of a number means by both schemas what it is to mean
 pub spelling_read : (number : JsonNumber) → is_json_number number ≡ true → ReadAs (yaml_number number) (number_meant number)
-spelling_read number h = (ap resolved_by_11 regrouped ∙ read.0, ap resolved_by_core regrouped ∙ read.1)
-  where
-    whole_fraction : Bool
-    whole_fraction = is_whole number.whole && elim number.fraction as (λ _. Bool) [ None ↦ true | Some digits ↦ are_digits 10 digits ]
-
-    well_exponent : Bool
-    well_exponent = elim number.exponent as (λ _. Bool) [ None ↦ true | Some exponent ↦ are_digits 10 exponent.digits ]
-
-    outer : (whole_fraction ≡ true) × (well_exponent ≡ true)
-    outer = and_parts whole_fraction well_exponent h
-
-    inner : (is_whole number.whole ≡ true) × (elim number.fraction as (λ _. Bool) [ None ↦ true | Some digits ↦ are_digits 10 digits ] ≡ true)
-    inner = and_parts (is_whole number.whole) _ outer.0
-
-    rest : Text
-    rest = if is_json_integer number then [] else after_whole (fraction_or_default (codes "0") number) number.exponent
-
-    regrouped : yaml_number number ≡ minus number.negative ++ (number.whole ++ rest)
-    regrouped = append_assoc (minus number.negative) number.whole rest
-
-    read : ReadAs (minus number.negative ++ (number.whole ++ rest)) (number_meant number)
-    read =
-        parts_read number.negative number.whole (fraction_or_default (codes "0") number) number.exponent inner.0 (fraction_digits number.fraction inner.1)
-        (exponent_digits number.exponent outer.1) (is_json_integer number)
+spelling_read number h =
+    let whole_fraction : Bool = is_whole number.whole && elim number.fraction as (λ _. Bool) [ None ↦ true | Some digits ↦ are_digits 10 digits ] in
+    let well_exponent : Bool = elim number.exponent as (λ _. Bool) [ None ↦ true | Some exponent ↦ are_digits 10 exponent.digits ] in
+    let outer : (whole_fraction ≡ true) × (well_exponent ≡ true) = and_parts whole_fraction well_exponent h in
+    let inner : (is_whole number.whole ≡ true) × (elim number.fraction as (λ _. Bool) [ None ↦ true | Some digits ↦ are_digits 10 digits ] ≡ true) =
+    and_parts (is_whole number.whole) _ outer.0 in
+    let rest : Text = if is_json_integer number then [] else after_whole (fraction_or_default (codes "0") number) number.exponent in
+    let regrouped : yaml_number number ≡ minus number.negative ++ (number.whole ++ rest) = append_assoc (minus number.negative) number.whole rest in
+    let read : ReadAs (minus number.negative ++ (number.whole ++ rest)) (number_meant number) =
+    parts_read number.negative number.whole (fraction_or_default (codes "0") number) number.exponent inner.0 (fraction_digits number.fraction inner.1)
+    (exponent_digits number.exponent outer.1) (is_json_integer number) in
+    (ap resolved_by_11 regrouped ∙ read.0, ap resolved_by_core regrouped ∙ read.1)
 
 -- so every number of JSON, so spelled, is that number by both
 pub numbers_are_read : NumbersAreRead
-numbers_are_read number h = (
-  ap (means_number (json_value number)) read.0 ∙ spelling_keeps_value number,
-  ap (means_number (json_value number)) read.1 ∙ spelling_keeps_value number,
-)
-  where
-    read : ReadAs (yaml_number number) (number_meant number)
-    read = spelling_read number h
+numbers_are_read number h =
+    let read : ReadAs (yaml_number number) (number_meant number) = spelling_read number h in (
+      ap (means_number (json_value number)) read.0 ∙ spelling_keeps_value number,
+      ap (means_number (json_value number)) read.1 ∙ spelling_keeps_value number,
+    )

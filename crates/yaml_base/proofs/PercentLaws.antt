@@ -7,6 +7,7 @@ use Rattle.yaml_base.proofs.Common.{byte_escaped, character_written, percent_esc
 use Rattle.std.{proofs.Common.⊎_elim, proofs.lemmas.Str.is_utf8-from_IsUtf8}
 use lib.Utf8.{encode, encodes, scalar}
 use Rattle.yaml_base.specs.reading.ReadPercent.{between_forms, digit_given, byte_given, form_bytes}
+use Rattle.yaml_base.proofs.AllPass.{all_pass}
 
 abbrev pub are_bytes : List ℕ → Bool
 are_bytes bs = list_all (λ b. nat_lt b 256) bs
@@ -129,9 +130,7 @@ abbrev pub stands_in_prefix : ℕ → Bool
 stands_in_prefix c = stands_written c || c == 0x21
 
 all_in_prefix : (text : Text) → list_all stands_written text ≡ true → list_all stands_in_prefix text ≡ true
-all_in_prefix [] h = refl
-all_in_prefix (c ∷ text) h =
-    let both = and_parts (stands_written c) (list_all stands_written text) h in and_from _ _ (rw both.0 refl) (all_in_prefix text both.1)
+all_in_prefix text h = all_pass stands_written stands_in_prefix (λ c e. rw e refl) text h
 
 first_in_prefix : (kept : Bool) (c : ℕ) → (kept ≡ true → stands_in_prefix c ≡ true) → list_all stands_in_prefix (character_written kept c) ≡ true
 first_in_prefix true c k = rw (k refl) refl

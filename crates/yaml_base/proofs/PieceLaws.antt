@@ -98,14 +98,7 @@ start_not_closed (sequence_start c) (within_document e d s levels) q given = gri
 start_not_closed (mapping_start c) (within_document e d s levels) q given = grind (arith)
 start_not_closed (sequence_start c) p q given = cc
 start_not_closed (mapping_start c) p q given = cc
-start_not_closed (stream_start e) p q given = refl
-start_not_closed stream_end p q given = refl
-start_not_closed (document_start d) p q given = refl
-start_not_closed (document_end i) p q given = refl
-start_not_closed (alias name) p q given = refl
-start_not_closed (scalar content) p q given = refl
-start_not_closed sequence_end p q given = refl
-start_not_closed mapping_end p q given = refl
+start_not_closed event p q given = refl
 
 abbrev NotClosed : List Event → Partial → Partial → Type 0
 NotClosed events p q = pushed p events ≡ Some q → closes_at_once events (missing q) ≡ false

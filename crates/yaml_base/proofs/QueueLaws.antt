@@ -1,7 +1,7 @@
 -- What is held back: it begins with an event that awaits others, and nothing of a whole stream is held back.
 use Rattle.yaml_base.proofs.Common.{suc, ℕ, ◌+◌, ◌≤◌, if◌then◌else◌, ◌==◌, count_by, nat_lt, drop, length, take, Bool, cond, false, true, ◌&&◌, ◌||◌, List}
-use Rattle.yaml_base.proofs.Common.{[], map, ◌++◌, ◌∷◌, refl, ◌≡◌, eq-eqb, length-append, append_assoc, ap, ◌∙◌, arith, sum_by-append}
-use Rattle.yaml_base.proofs.Common.{list_any, Event, document_start, document_end, sequence_start, sequence_end, mapping_start, mapping_end, Node}
+use Rattle.yaml_base.proofs.Common.{[], ◌++◌, ◌∷◌, refl, ◌≡◌, eq-eqb, length-append, append_assoc, ap, ◌∙◌, arith, sum_by-append, and_right, or_right}
+use Rattle.yaml_base.proofs.Common.{list_any, Event, document_start, document_end, sequence_start, sequence_end, mapping_start, mapping_end, Node, nat_tests}
 use Rattle.yaml_base.proofs.Common.{alias_node, scalar_node, Nodes, sequence_node, Pairs, mapping_node, no_nodes, nodes_and, no_pairs, pairs_and, Document}
 use Rattle.yaml_base.proofs.Common.{Documents, no_documents, documents_and, Stream, node_events, nodes_events, pairs_events, document_events}
 use Rattle.yaml_base.proofs.Common.{documents_events, stream_events, first_ends_collection, closes_at_once, awaited, is_balanced, nonempty_prefixes, is_ready}
@@ -52,14 +52,10 @@ no_start_alone event ready = refl
 abbrev OpenAt : List Event → List Event → ℕ → Type 0
 OpenAt events more k = closes_at_once (take k events) (drop k events ++ more) ≡ false
 
-and_false : (a b : Bool) → b ≡ false → a && b ≡ false
-and_false true b h = h
-and_false false b h = refl
-
 open_next : (first next : Event) (rest more : List Event) (b : Bool) → is_ready next rest ≡ b → OpenAt (next ∷ rest) more (if b then suc (written rest) else 0)
     → OpenAt (first ∷ next ∷ rest) more (suc (if b then suc (written rest) else 0))
 open_next first next rest more true is others = others
-open_next first next rest more false is others = and_false (begins_collection first) (ends_collection next) (no_end_held next rest is)
+open_next first next rest more false is others = and_right (begins_collection first) (ends_collection next) (no_end_held next rest is)
 
 open_first : (first : Event) (rest more : List Event) (b : Bool) → is_ready first rest ≡ b → OpenAt rest more (written rest)
     → OpenAt (first ∷ rest) more (if b then suc (written rest) else 0)
@@ -118,22 +114,12 @@ document_balanced x = balanced_around (document_start x.start) (document_end x.e
 -- A list is a prefix of itself.
 whole_prefix : (first : Event) (rest : List Event) (p : List Event → Bool) → p (first ∷ rest) ≡ true → list_any p (nonempty_prefixes (first ∷ rest)) ≡ true
 whole_prefix first [] p h = ap (λ b. b || false) h
-whole_prefix first (next ∷ rest) p h =
-    or_right (p (first ∷ [])) (list_any p (map (λ prefix. first ∷ prefix) (nonempty_prefixes (next ∷ rest))))
-    (any_map p (λ prefix. first ∷ prefix) (nonempty_prefixes (next ∷ rest)) ∙ whole_prefix next rest (λ prefix. p (first ∷ prefix)) h)
-  where
-    or_right : (a b : Bool) → b ≡ true → a || b ≡ true
-    or_right true b h = refl
-    or_right false b h = h
-
-or_last : (a b : Bool) → b ≡ true → a || b ≡ true
-or_last true b h = refl
-or_last false b h = h
+whole_prefix first (next ∷ rest) p h = grind (arith, nat_tests, any_map, whole_prefix next rest (λ prefix. p (first ∷ prefix)) h)
 
 -- A start is ready where its end is there.
 balanced_ready : (start : Event) (inside rest : List Event) → Balanced (start ∷ inside) → is_ready start (inside ++ rest) ≡ true
 balanced_ready start inside rest h =
-    or_last (awaited start == 0 || nat_lt (awaited start) (length (start ∷ (inside ++ rest))))
+    or_right (awaited start == 0 || nat_lt (awaited start) (length (start ∷ (inside ++ rest))))
     (list_any is_balanced (nonempty_prefixes (start ∷ (inside ++ rest))))
     (any_prefix (start ∷ inside) rest is_balanced
     (whole_prefix start inside is_balanced (eq-eqb (count_by is_start (start ∷ inside)) (count_by is_end (start ∷ inside)) h.counts)))

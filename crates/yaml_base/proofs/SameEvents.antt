@@ -1,6 +1,6 @@
 -- Isomorphic graphs are dumped as events that differ in styles alone, so in canonical mode as the same bytes.
-use Rattle.yaml_base.proofs.Common.{ℕ, ◌≤◌, ◌==◌, All, unwrap_or, option_map, bytes_eq, Option, None, Some, length, false, true, List}
-use Rattle.yaml_base.proofs.Common.{[], map, ◌++◌, ◌∷◌, refl, ◌≡◌, inl, inr, ap, sym, ◌∙◌, arith, nat_tests, map-append, All-head, All-tail, Text, any_style}
+use Rattle.yaml_base.proofs.Common.{All, unwrap_or, option_map, bytes_eq, Option, None, Some, length, false, true, List}
+use Rattle.yaml_base.proofs.Common.{[], map, ◌++◌, ◌∷◌, refl, ◌≡◌, inl, inr, ap, sym, ◌∙◌, arith, map-append, All-head, All-tail, Text, any_style}
 use Rattle.yaml_base.proofs.Common.{any_layout, DocumentStart, Event, stream_start, stream_end, document_start, document_end, alias, scalar, sequence_start}
 use Rattle.yaml_base.proofs.Common.{sequence_end, mapping_start, mapping_end, encoding_asked, output_of, Encoding, Settings, AreDumped, label_at, Isomorphic}
 use Rattle.yaml_base.proofs.Common.{Held, scalar_held, sequence_held, mapping_held, GraphNode, Graph, node_numbered, Step, enters, leaves, meets_again}
@@ -10,6 +10,7 @@ use Rattle.std.specs.Prelude.{flat_map}
 use Rattle.yaml_base.{proofs.ContentsUnfold.dumped_stream, proofs.Unstyled.unstyled, proofs.Unstyled.outputs_same, specs.graphs.Isomorphic.IsWrittenAlike}
 use Rattle.yaml_base.{specs.graphs.Isomorphic.AreWrittenAlike, specs.graphs.Meetings.steps, specs.graphs.Unfolding.NodeKind}
 use Rattle.yaml_base.proofs.SameWalks.{node_of_step, AllReached, renumbered, same_walks, anchors_alike}
+use Rattle.yaml_base.proofs.DocumentsUnfold.{some_nodes}
 
 -- ---- a node's events, by its label
 
@@ -84,9 +85,6 @@ steps_alike first second iso walk (step ∷ part) all reached =
     ∙ sym (map-append unstyled (step_events first walk step) (flat_map (step_events first walk) part))
 
 -- ---- documents
-
-some_nodes : (count : ℕ) → (count == 0) ≡ false → 1 ≤ count
-some_nodes count some = grind (arith, nat_tests, some)
 
 abbrev events_within : Graph → List Event
 events_within graph = flat_map (step_events graph (steps graph)) (steps graph)

@@ -2,7 +2,7 @@
 -- same but for the numbers of the nodes.
 use Rattle.yaml_base.proofs.Common.{suc, ℕ, ◌+◌, ◌≤◌, ⊤, ◌==◌, Contains, option_map, Option, None, Some, nat_lt, length, Bool, cond, false, not, true, ◌||◌}
 use Rattle.yaml_base.proofs.Common.{List, [], map, ◌++◌, ◌∷◌, refl, ◌≡◌, eq-eqb, eqb-true, length-append, append-nil, append_assoc, inl, inr, ap, subst, sym}
-use Rattle.yaml_base.proofs.Common.{◌∙◌, arith, same_from_decides, length-map, map-append, Contains-append_left, Contains-append_right, filter}
+use Rattle.yaml_base.proofs.Common.{◌∙◌, arith, same_from_decides, length-map, map-append, Contains-append_left, Contains-append_right, filter, nat_tests}
 use Rattle.yaml_base.proofs.Common.{filter_map, list_any, position, position_or_len, Text, Isomorphic, Graph, children, is_whole, Step, enters, leaves}
 use Rattle.yaml_base.proofs.Common.{meets_again, is_entry_of, node_met_again, first_of_each, shared_nodes, numbered_name, anchor_of, Placed, alias_placed}
 use Rattle.yaml_base.proofs.Common.{PlacedNodes, node_placed, none_placed, placed_and, number_at, numbers_at, IsReached, first_reached, child_reached}
@@ -273,12 +273,7 @@ without_alike : (first second : Graph) (iso : Isomorphic first second) (x : ℕ)
     → filter (λ other. not (other == iso.partner x)) (map iso.partner xs) ≡ map iso.partner (filter (λ other. not (other == x)) xs)
 without_alike first second iso x [] reached all = refl
 without_alike first second iso x (y ∷ ys) reached all =
-    let partner = iso.partner in
-    ap (λ (b : Bool). cond (not b) (partner y ∷ filter (λ other. not (other == partner x)) (map partner ys))
-    (filter (λ other. not (other == partner x)) (map partner ys))) (same_test first second iso y x (all y (inl refl)) reached)
-    ∙ ap (λ (rest : List ℕ). cond (not (y == x)) (partner y ∷ rest) rest)
-    (without_alike first second iso x ys reached (λ number within. all number (inr within)))
-    ∙ mapped_cond (not (y == x)) partner y (filter (λ other. not (other == x)) ys)
+    grind (arith, nat_tests, same_test, mapped_cond, without_alike first second iso x ys reached (λ number within. all number (inr within)))
 
 firsts_alike : (first second : Graph) (iso : Isomorphic first second) (xs : List ℕ) → NumbersReached first xs
     → first_of_each (map iso.partner xs) ≡ map iso.partner (first_of_each xs)

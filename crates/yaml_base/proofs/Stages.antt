@@ -70,14 +70,7 @@ within_follows e d s (level ∷ levels) t (frame ∷ frames) mapping_end h q eff
     end_follows e d s level levels t frame frames mapping_end q (closed level mapping_end) h.1 given
 within_follows e d s (level ∷ levels) t [] event h q eff empty standing given = absurd h
 within_follows e d s [] t frames event h q eff empty standing given = cc
-within_follows e d s (level ∷ levels) t (frame ∷ frames) (stream_start x) h q eff empty standing given =
-    let none = closed_none level (stream_start x) refl in cc
-within_follows e d s (level ∷ levels) t (frame ∷ frames) stream_end h q eff empty standing given =
-    let none = closed_none level stream_end refl in cc
-within_follows e d s (level ∷ levels) t (frame ∷ frames) (document_start x) h q eff empty standing given =
-    let none = closed_none level (document_start x) refl in cc
-within_follows e d s (level ∷ levels) t (frame ∷ frames) (document_end x) h q eff empty standing given =
-    let none = closed_none level (document_end x) refl in cc
+within_follows e d s (level ∷ levels) t (frame ∷ frames) event h q eff empty standing given = let none = closed_none level event refl in cc
 
 pub step_stands : (p : Partial) (stage : Stage) (event : Event) → StandsFor p stage → Follows p stage event
 step_stands before_stream at_stream (stream_start encoding) h q s empty standing given =

@@ -41,13 +41,10 @@ nodes_begin (nodes_and items last) rest follows opens =
 pairs_begin : (pairs : Pairs) (rest : List Event) (follows : Bool) → ends_next rest follows ≡ false → ends_next (pairs_events pairs ++ rest) follows ≡ false
 pairs_begin no_pairs rest follows opens = opens
 pairs_begin (pairs_and pairs key value) rest follows opens =
-    grind (
-      arith,
-      append_assoc,
-      node_begins,
-      pairs_begin pairs (node_events key ++ (node_events value ++ rest)) follows (node_begins key (node_events value
-          ++ rest) follows),
-    )
+    ap (λ events. ends_next events follows)
+    (append_assoc (pairs_events pairs) (node_events key ++ node_events value) rest
+    ∙ ap (λ after. pairs_events pairs ++ after) (append_assoc (node_events key) (node_events value) rest))
+    ∙ pairs_begin pairs (node_events key ++ (node_events value ++ rest)) follows (node_begins key (node_events value ++ rest) follows)
 
 -- A collection's end follows its start at once exactly where it is empty.
 sequence_ends : (items : Nodes) (rest : List Event) (follows : Bool) → ends_next (nodes_events items ++ sequence_end ∷ rest) follows ≡ has_no_nodes items
@@ -163,15 +160,8 @@ pub documents_steps : (x : Documents) (s : Effective) (follows : Bool) (rest : L
     ≡ after_pieces (render_documents s x standing) (steps s follows rest (at_document (has_no_documents x)))
 documents_steps no_documents s follows rest standing = refl
 documents_steps (documents_and x last) s follows rest standing =
-    grind (
-      arith,
-      append_assoc,
-      after_pieces-same,
-      document_steps,
-      after_pieces-then_pieces,
-      documents_steps x s follows (document_events last ++ rest)
-          standing,
-    )
+    let before = documents_steps x s follows (document_events last ++ rest) standing in
+    grind (arith, append_assoc, after_pieces-same, document_steps, after_pieces-then_pieces, before)
 
 -- The layout of a stream is what its events give, one after another.
 pub stream_steps : (t : Stream) (s : Effective) → (steps s false (stream_events t) at_stream first_standing).pieces ≡ layout s t

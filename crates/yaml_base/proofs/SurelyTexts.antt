@@ -2,7 +2,7 @@
 use Rattle.yaml_base.proofs.Common.{nat_tests, arith, ℕ, if◌then◌else◌, ⊤, ◌==◌, Option, None, Bool, false, not, true, ◌&&◌, ◌||◌, List, [], ◌∷◌, ◌⊎◌, refl}
 use Rattle.yaml_base.proofs.Common.{◌≡◌, eqb-true, true≢false, inl, inr, ap, ◌∙◌, and_cases, and_left, or_parts, not-false, not-true, list_all, list_any, Text}
 use Rattle.yaml_base.proofs.Common.{named, Resolved, meant_text, first_reading, words_of_core, words_of_11, is_plus_or_minus, is_decimal, first_meets}
-use Rattle.yaml_base.proofs.Common.{past_sign, are_digits, core_based, resolved_by_core, is_underscore, are_grouped, based_11, past, resolved_by_11}
+use Rattle.yaml_base.proofs.Common.{past_sign, core_based, resolved_by_core, is_underscore, are_grouped, based_11, past, resolved_by_11}
 use Rattle.yaml_base.proofs.Common.{is_reserved, is_symbol, is_based, is_number_letter, in_number, is_numeric}
 use Rattle.yaml_base.proofs.{SchemaWords.named_unlike, no_numbers.NumbersHoldDigits.without_digits, no_numbers.NumbersWithin.with_others}
 use Rattle.yaml_base.proofs.no_numbers.NoNumbers.{NoNumber, off, past_cons}
@@ -90,19 +90,12 @@ text_by_core text word based none = grind (arith, nothing_read, word_by_core, ba
 
 -- a text that is surely one means a text by both
 pub surely_text : SurelyTextIsText
-surely_text text h = (text_by_11 text word based none, text_by_core text word based none)
-  where
-    prefix : ((is_reserved text || is_symbol text || is_based text) ≡ false) × (is_numeric text ≡ false)
-    prefix = or_parts (is_reserved text || is_symbol text || is_based text) (is_numeric text) (not-true _ h)
-
-    others : ((is_reserved text || is_symbol text) ≡ false) × (is_based text ≡ false)
-    others = or_parts (is_reserved text || is_symbol text) (is_based text) prefix.0
-
-    word : is_reserved text ≡ false
-    word = (or_parts (is_reserved text) (is_symbol text) others.0).0
-
-    based : is_based text ≡ false
-    based = others.1
-
-    none : NoNumber text
-    none = number_none text prefix.1
+surely_text text h =
+    let prefix : ((is_reserved text || is_symbol text || is_based text) ≡ false) × (is_numeric text ≡ false) =
+    or_parts (is_reserved text || is_symbol text || is_based text) (is_numeric text) (not-true _ h) in
+    let others : ((is_reserved text || is_symbol text) ≡ false) × (is_based text ≡ false) =
+    or_parts (is_reserved text || is_symbol text) (is_based text) prefix.0 in
+    let word : is_reserved text ≡ false = (or_parts (is_reserved text) (is_symbol text) others.0).0 in
+    let based : is_based text ≡ false = others.1 in
+    let none : NoNumber text = number_none text prefix.1 in
+    (text_by_11 text word based none, text_by_core text word based none)

@@ -121,7 +121,7 @@ spelling_is P own (directive ∷ rest) tag found whole by =
 
 -- Directives in force are found
 
-same_text : (text : Text) → bytes_eq text text ≡ true
+pub same_text : (text : Text) → bytes_eq text text ≡ true
 same_text text = (bytes_eq-Decides text text).1 refl
 
 -- directives that don't give a handle are passed over

@@ -1,9 +1,10 @@
 -- A written tag is one word: it holds no white space, and it is never the bare tag.
-use Rattle.yaml_base.proofs.Common.{ℕ, None, Bool, false, true, ◌||◌, List, [], ◌++◌, ◌∷◌, refl, ◌≡◌, inl, inr, ap, sym, ◌∙◌, arith, and_parts, or_parts}
+use Rattle.yaml_base.proofs.Common.{ℕ, None, Bool, false, true, ◌||◌, List, [], ◌++◌, ◌∷◌, refl, ◌≡◌, ap, sym, ◌∙◌, arith, or_parts}
 use Rattle.yaml_base.proofs.Common.{or_from, nat_tests, list_all, list_any, Text, is_alpha, is_blank, is_break, TagDirective, percent_escaped, suffix_escaped}
 use Rattle.yaml_base.proofs.Common.{exclamation_mark, handle_fault, directives_fault, directives_in_force, Spelling, spelling, spelled}
 use Rattle.yaml_base.proofs.PercentLaws.{stands_written, escaped_stands, suffix_stands, separates, written_never_separates, suffix_begins}
 use Rattle.yaml_base.proofs.TagForms.{IsHandle, handle_form, spelling_is, in_force_found}
+use Rattle.yaml_base.proofs.AllPass.{none_pass, fewer_pass}
 
 any-append : (p : ℕ → Bool) (xs ys : Text) → list_any p xs ≡ false → list_any p ys ≡ false → list_any p (xs ++ ys) ≡ false
 any-append p [] ys h k = k
@@ -18,29 +19,20 @@ alpha_ends_no_word : (c : ℕ) → is_alpha c ≡ true → ends_word c ≡ false
 alpha_ends_no_word c h = grind (arith, nat_tests)
 
 pub letters_end_no_word : (text : Text) → list_all is_alpha text ≡ true → list_any ends_word text ≡ false
-letters_end_no_word [] h = refl
-letters_end_no_word (c ∷ rest) h =
-    let both = and_parts (is_alpha c) (list_all is_alpha rest) h in
-    or_from _ _ (alpha_ends_no_word c both.0) (letters_end_no_word rest both.1)
+letters_end_no_word text h = none_pass is_alpha ends_word alpha_ends_no_word text h
 
 pub handle_ends_no_word : (handle : Text) → IsHandle handle → list_any ends_word handle ≡ false
 handle_ends_no_word handle h = grind (arith, nat_tests, any-append, letters_end_no_word)
 
 never_separates : (text : Text) → list_all stands_written text ≡ true → list_any separates text ≡ false
-never_separates [] h = refl
-never_separates (c ∷ rest) h =
-    let both = and_parts (stands_written c) (list_all stands_written rest) h in
-    or_from _ _ (written_never_separates c both.0) (never_separates rest both.1)
+never_separates text h = none_pass stands_written separates written_never_separates text h
 
 -- percent forms hold no blank, no break, no `!`, no `<` and no `>`
 pub escaped_never_separates : (text : Text) → list_any separates (percent_escaped text) ≡ false
 escaped_never_separates text = never_separates (percent_escaped text) (escaped_stands text)
 
 separates_not_ends : (text : Text) → list_any separates text ≡ false → list_any ends_word text ≡ false
-separates_not_ends [] h = refl
-separates_not_ends (c ∷ rest) h =
-    let both = or_parts (separates c) (list_any separates rest) h in
-    or_from _ _ (or_parts (ends_word c) _ both.0).0 (separates_not_ends rest both.1)
+separates_not_ends text h = fewer_pass separates ends_word (λ c e. (or_parts (ends_word c) _ e).0) text h
 
 escaped_ends_no_word : (text : Text) → list_any ends_word (percent_escaped text) ≡ false
 escaped_ends_no_word text = separates_not_ends (percent_escaped text) (escaped_never_separates text)

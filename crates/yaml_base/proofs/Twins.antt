@@ -1,11 +1,12 @@
 -- Two trees of one shape, each with the numbers of its own graph: what stands at each place of both, and that the numbers
 -- there belong together.
 use Rattle.yaml_base.proofs.Common.{suc, zero, ℕ, ◌+◌, ◌≤◌, ⊤, Contains, count_by, Option, Bool, cond, false, true, List, [], map, ◌++◌, ◌∷◌, ◌⊎◌, refl, ◌≡◌}
-use Rattle.yaml_base.proofs.Common.{inl, inr, ap, subst, sym, ◌∙◌, arith, map-append, Contains-append_left, Contains-append_right, sum_by-append, Text}
+use Rattle.yaml_base.proofs.Common.{inl, inr, ap, subst, sym, ◌∙◌, arith, map-append, Contains-append_left, Contains-append_right, Text}
 use Rattle.yaml_base.proofs.Common.{label_at, Graph, children, Shape, no_shapes, Placed, alias_placed, PlacedNodes, node_placed, none_placed, placed_and}
 use Rattle.yaml_base.proofs.Common.{number_at, numbers_at, HasShape, HaveShapes, Occurrence, alias_occurrence, node_occurrence, occurrences}
 use Rattle.yaml_base.proofs.Common.{occurrences_below, IsReached, child_reached}
 use Rattle.yaml_base.specs.graphs.Unfolding.{alias_shape, Shapes, node_shape, shapes_and}
+use Rattle.yaml_base.proofs.DocumentsUnfold.{count_cons}
 
 -- ---- trees with two numbers at each place
 
@@ -146,10 +147,7 @@ mutual
 
   first_occurrences_below : (twins : Twins) → occurrences_below (firsts_placed twins) ≡ map first_of (pairs_below twins)
   first_occurrences_below none_twins = refl
-  first_occurrences_below (twins_and before last) =
-      ap (λ all. all ++ occurrences (first_placed last)) (first_occurrences_below before)
-      ∙ ap (λ all. map first_of (pairs_below before) ++ all) (first_occurrences last)
-      ∙ sym (map-append first_of (pairs_below before) (pairs last))
+  first_occurrences_below (twins_and before last) = simp (first_occurrences_below before, first_occurrences last, map-append)
 
 mutual
   pub second_occurrences : (twin : Twin) → occurrences (second_placed twin) ≡ map second_of (pairs twin)
@@ -158,10 +156,7 @@ mutual
 
   second_occurrences_below : (twins : Twins) → occurrences_below (seconds_placed twins) ≡ map second_of (pairs_below twins)
   second_occurrences_below none_twins = refl
-  second_occurrences_below (twins_and before last) =
-      ap (λ all. all ++ occurrences (second_placed last)) (second_occurrences_below before)
-      ∙ ap (λ all. map second_of (pairs_below before) ++ all) (second_occurrences last)
-      ∙ sym (map-append second_of (pairs_below before) (pairs last))
+  second_occurrences_below (twins_and before last) = simp (second_occurrences_below before, second_occurrences last, map-append)
 
 -- ---- one of a list
 
@@ -226,9 +221,6 @@ mutual
       ]
 
 -- ---- a test that one element meets meets no other
-
-count_cons : {X : Type 0} (test : X → Bool) (x : X) (xs : List X) → count_by test (x ∷ xs) ≡ cond (test x) 1 0 + count_by test xs
-count_cons test x xs = sum_by-append (λ y. cond (test y) 1 0) (x ∷ []) xs ∙ omega arith
 
 some_counted : {X : Type 0} (test : X → Bool) (x : X) (xs : List X) → IsIn x xs → test x ≡ true → 1 ≤ count_by test xs
 some_counted test x [] within meets = absurd within

@@ -7,6 +7,7 @@ use Rattle.yaml_base.proofs.Common.{Graph, node_numbered, numbers_held, numbers_
 use Rattle.yaml_base.proofs.Common.{opening_event_of, opening_events, closing_event_of, closing_events, step_events, node_shape_of, nodes_shapes, pairs_shapes}
 use Rattle.yaml_base.proofs.Common.{Placed, alias_placed, PlacedNodes, node_placed, none_placed, placed_and, numbers_at, label_of, HasShape, HaveShapes}
 use Rattle.yaml_base.proofs.UnfoldTrees.{placed_steps, below_steps, Fits, AllFit}
+use Rattle.yaml_base.proofs.Common.{nat_tests}
 
 -- ---- the tree of events
 
@@ -50,14 +51,7 @@ even_pairs none_placed half even = refl
 even_pairs (placed_and none_placed last) half even = absurd (omega (arith, even))
 even_pairs (placed_and (placed_and before key) value) zero even =
     absurd (omega (arith, even, length-append (numbers_at (placed_and before key)) (numbers_at (placed_and none_placed value))))
-even_pairs (placed_and (placed_and before key) value) (suc half) even =
-    even_pairs before half
-    (omega (
-      arith,
-      even,
-      length-append (numbers_at (placed_and before key)) (numbers_at (placed_and none_placed value)),
-      length-append (numbers_at before) (numbers_at (placed_and none_placed key)),
-    ))
+even_pairs (placed_and (placed_and before key) value) (suc half) even = grind (arith, nat_tests, length-append, even_pairs before half)
 
 two_each : (pairs : List NumberPair) → length (flat_map (λ (pair : NumberPair). pair.key ∷ pair.value ∷ []) pairs) ≡ length pairs + length pairs
 two_each [] = omega arith

@@ -4,9 +4,9 @@ use Rattle.yaml_base.proofs.Common.{◌&&◌, ◌||◌, List, [], ◌++◌, ◌�
 use Rattle.yaml_base.proofs.Common.{sym, ◌∙◌, arith, or-true, or_cases, cases_eq, filter_map-append, list_any-append, filter_map, list_all, list_any, Text}
 use Rattle.yaml_base.proofs.Common.{GraphNode, Graph, node_numbered, numbers_held, numbers_in, children, is_whole, Step, enters, leaves, meets_again}
 use Rattle.yaml_base.proofs.Common.{is_entry_of, steps_from, Placed, alias_placed, PlacedNodes, node_placed, none_placed, placed_and, number_at, numbers_at}
-use Rattle.yaml_base.proofs.Common.{Occurrence, alias_occurrence, node_occurrence, occurrences, occurrences_below}
+use Rattle.yaml_base.proofs.Common.{Occurrence, alias_occurrence, node_occurrence, occurrences, occurrences_below, and_parts}
 use Rattle.std.{proofs.lemmas.List.Elements.Contains-append_cases, specs.List.fold, specs.List.slice_get}
-use Rattle.yaml_base.proofs.UnfoldSteps.{from_node, none_added, is_meeting_of}
+use Rattle.yaml_base.proofs.UnfoldSteps.{from_node, none_added, is_meeting_of, still_any}
 
 -- the steps of the walk over a tree
 abbrev mutual
@@ -41,29 +41,24 @@ pub record Names (count number : ℕ) : Type 0 where
   pub first : 1 ≤ number
   pub last : number ≤ count
 
--- the parts of a test
-pub both_true : (a b : Bool) → (a && b) ≡ true → (a ≡ true) × (b ≡ true)
-both_true true b both = (refl, both)
-both_true false b both = cc
-
 -- whether all numbers name a node
 abbrev name_nodes : ℕ → List ℕ → Bool
 name_nodes count numbers = list_all (λ number. nat_le 1 number && nat_le number count) numbers
 
 first_names : (count number : ℕ) (numbers : List ℕ) → name_nodes count (number ∷ numbers) ≡ true → Names count number
-first_names count number numbers all = grind (arith, both_true, leb-true)
+first_names count number numbers all = grind (arith, and_parts, leb-true)
 
 rest_names : (count number : ℕ) (numbers : List ℕ) → name_nodes count (number ∷ numbers) ≡ true → name_nodes count numbers ≡ true
-rest_names count number numbers all = (both_true (nat_le 1 number && nat_le number count) (name_nodes count numbers) all).1
+rest_names count number numbers all = (and_parts (nat_le 1 number && nat_le number count) (name_nodes count numbers) all).1
 
 -- one of the nodes, and what it holds
 found : (count : ℕ) (nodes : List GraphNode) (place : ℕ) → list_all (λ node. name_nodes count (numbers_held node.held)) nodes ≡ true → place < length nodes
     → (node : GraphNode) × (slice_get nodes place ≡ Some node) × (name_nodes count (numbers_held node.held) ≡ true)
 found count [] place all within = absurd (omega (arith, within))
 found count (node ∷ nodes) zero all within =
-    (node, refl, (both_true (name_nodes count (numbers_held node.held)) (list_all (λ other. name_nodes count (numbers_held other.held)) nodes) all).0)
+    (node, refl, (and_parts (name_nodes count (numbers_held node.held)) (list_all (λ other. name_nodes count (numbers_held other.held)) nodes) all).0)
 found count (node ∷ nodes) (suc place) all within =
-    found count nodes place (both_true (name_nodes count (numbers_held node.held)) (list_all (λ other. name_nodes count (numbers_held other.held)) nodes) all).1
+    found count nodes place (and_parts (name_nodes count (numbers_held node.held)) (list_all (λ other. name_nodes count (numbers_held other.held)) nodes) all).1
     (omega (arith, within))
 
 -- a whole graph has the node of a number, and the numbers of its children name nodes
@@ -200,9 +195,6 @@ walk_placed named graph whole some =
 
 -- ---- the children of a node that is entered are met
 
-any_left : (test : Step → Bool) (xs ys : List Step) → list_any test xs ≡ true → list_any test (xs ++ ys) ≡ true
-any_left test xs ys is = list_any-append test xs ys ∙ ap (λ (b : Bool). b || list_any test ys) is
-
 any_right : (test : Step → Bool) (xs ys : List Step) → list_any test ys ≡ true → list_any test (xs ++ ys) ≡ true
 any_right test xs ys is = list_any-append test xs ys ∙ ap (λ (b : Bool). list_any test xs || b) is ∙ or-true (list_any test xs)
 
@@ -220,7 +212,7 @@ numbers_met none_placed child (k, within, is) = absurd (omega (arith, within))
 numbers_met (placed_and before last) child within =
     elim (Contains-append_cases (numbers_at before) (number_at last ∷ []) child within) as
     (λ _. list_any (is_meeting_of child) (below_steps before ++ placed_steps last) ≡ true) [
-      | inl earlier ↦ any_left (is_meeting_of child) (below_steps before) (placed_steps last) (numbers_met before child earlier)
+      | inl earlier ↦ still_any (is_meeting_of child) (below_steps before) (placed_steps last) (numbers_met before child earlier)
       | inr now ↦
           any_right (is_meeting_of child) (below_steps before) (placed_steps last)
           (subst (λ (n : ℕ). list_any (is_meeting_of n) (placed_steps last) ≡ true) (only_one (number_at last) child now) (root_met last))
@@ -230,7 +222,7 @@ numbers_met (placed_and before last) child within =
 within_met : (child number : ℕ) (below : List Step) → list_any (is_meeting_of child) below ≡ true
     → list_any (is_meeting_of child) (enters number ∷ (below ++ leaves number ∷ [])) ≡ true
 within_met child number below is = any_right (is_meeting_of child) (enters number ∷ []) (below ++ leaves number ∷ [])
-    (any_left (is_meeting_of child) below (leaves number ∷ []) is)
+    (still_any (is_meeting_of child) below (leaves number ∷ []) is)
 
 mutual
   pub children_met : (named : ℕ → Option Text) (graph : Graph) (placed : Placed) (number child : ℕ) → Fits named graph placed
@@ -258,7 +250,7 @@ mutual
       elim (or_cases (list_any (is_entry_of number) (below_steps before)) (list_any (is_entry_of number) (placed_steps last))
       (sym (list_any-append (is_entry_of number) (below_steps before) (placed_steps last)) ∙ entered))
       as (λ _. list_any (is_meeting_of child) (below_steps before ++ placed_steps last) ≡ true) [
-        | inl earlier ↦ any_left (is_meeting_of child) (below_steps before) (placed_steps last) (below_met named graph before number child fit.0 earlier within)
+        | inl earlier ↦ still_any (is_meeting_of child) (below_steps before) (placed_steps last) (below_met named graph before number child fit.0 earlier within)
         | inr now ↦ any_right (is_meeting_of child) (below_steps before) (placed_steps last) (children_met named graph last number child fit.1 now within)
       ]
 

@@ -6,7 +6,7 @@ use Rattle.yaml_base.proofs.Common.{stream_events, render_if, render_closing_mar
 use Rattle.yaml_base.proofs.Common.{render_document_marker, first_standing, layout, Piece, Standing, piece_without_body, Role, encoding_asked, settings_for}
 use Rattle.yaml_base.proofs.Common.{bytes_written, output_of, list_layout, ends_collection, Encoding, Settings, Effective, effective, Frame, Stage, at_stream}
 use Rattle.yaml_base.proofs.Common.{at_document, at_node, Stepped, start_step, step, ends_next, Steps, then_steps, steps, directives_in_force, Allowances}
-use Rattle.yaml_base.proofs.Common.{chosen}
+use Rattle.yaml_base.proofs.Common.{chosen, or_left, or_right}
 use Rattle.yaml_base.proofs.{StepLaws.stream_steps, Trees.tree_of-stream_events}
 
 -- an event of no style; a document's start is implicit
@@ -49,18 +49,11 @@ start_unstyled s on directives frames undented simple empty role start standing 
 -- ---- a document's start
 
 third_on : (a b c d : Bool) → c ≡ true → (a || b || c || d) ≡ true
-third_on true b c d on = refl
-third_on false true c d on = refl
-third_on false false true d on = refl
-third_on false false false d on = cc
-
-either_on : (a b : Bool) → a ≡ true → (a || b) ≡ true
-either_on true b on = refl
-either_on false b on = cc
+third_on a b c d on = or_left ((a || b) || c) d (or_right (a || b) c on)
 
 always_explicit : (s : Effective) (first : Bool) (start : DocumentStart) → s.canonical ≡ true → is_explicit (s.canonical || s.portable) first start ≡ true
 always_explicit s first start on =
-    third_on (not start.implicit) (not first) (s.canonical || s.portable) (has_directives start) (either_on s.canonical s.portable on)
+    third_on (not start.implicit) (not first) (s.canonical || s.portable) (has_directives start) (or_left s.canonical s.portable on)
 
 abbrev document_by : Effective → DocumentStart → Standing → (explicit : Bool) → Stepped
 document_by s start standing explicit =

@@ -1,24 +1,26 @@
 -- The text of a node, one piece for each of its events.
 -- Source, unless a definition names its own: libyaml's emitter.
-use Rattle.std.specs.Prelude.{ℕ, Bool, true, false, Option, None, Some, List, [], ◌∷◌, ◌++◌, ◌||◌, not, codes, is_some, filter_map, flat_map, if◌then◌else◌}
+use Rattle.std.specs.Prelude.{ℕ, Bool, true, false, Option, None, Some, List, [], ◌∷◌, ◌++◌, ◌||◌, ◌&&◌, not, codes, is_some, filter_map, flat_map}
+use Rattle.std.specs.Prelude.{if◌then◌else◌}
 use Rattle.yaml_base.specs.Characters.{Text}
 use Rattle.yaml_base.specs.Settings.{Effective, escapes_separators}
 use Rattle.yaml_base.specs.Cursor.{Cursor, Rendered, render_nothing, render_then, render_text, new_line, space_if, render_name}
 use Rattle.yaml_base.specs.Indicators as indicators
-use Rattle.yaml_base.specs.Event.{ScalarStyle, plain, single_quoted, literal, folded, CollectionStyle, flow, TagDirective, Scalar, Collection}
+use Rattle.yaml_base.specs.Event.{ScalarStyle, plain, single_quoted, double_quoted, literal, folded, CollectionStyle, flow, TagDirective, Scalar, Collection}
 use Rattle.yaml_base.specs.Percent.{percent_escaped, suffix_escaped}
 use Rattle.yaml_base.specs.Tags.{Spelling, shorthand, verbatim, spelling}
 use Rattle.yaml_base.specs.scalars.Analysis.{Charset, is_empty, allowances}
-use Rattle.yaml_base.specs.scalars.Style.{Choice, chosen}
+use Rattle.yaml_base.specs.scalars.Style.{Choice, is_block, chosen}
 use Rattle.yaml_base.specs.scalars.Plain.{plain_body}
 use Rattle.yaml_base.specs.scalars.SingleQuoted.{single_quoted_body}
 use Rattle.yaml_base.specs.scalars.DoubleQuoted.{double_quoted_body}
-use Rattle.yaml_base.specs.scalars.BlockHeader.{header_open_ended}
+use Rattle.yaml_base.specs.scalars.BlockHeader.{begins_blank, header_open_ended}
 use Rattle.yaml_base.specs.scalars.Literal.{literal_body}
 use Rattle.yaml_base.specs.scalars.Folded.{folded_body}
 use Rattle.yaml_base.specs.Grammar.{Node, alias_node, scalar_node, sequence_node, mapping_node, Nodes, no_nodes, nodes_and, Pairs, no_pairs, pairs_and}
 use Rattle.yaml_base.specs.Event.{scalar_tag, collection_tag}
-use Rattle.yaml_base.specs.Places.{Role, as_item, as_key, as_value, Place, is_undented, line_column, deeper, entries_column, has_no_nodes, has_no_pairs}
+use Rattle.yaml_base.specs.Places.{Role, as_item, as_key, as_value, Place, is_root, is_undented, line_column, deeper, entries_column, has_no_nodes}
+use Rattle.yaml_base.specs.Places.{has_no_pairs}
 use Rattle.yaml_base.specs.Places.{is_simple, is_simple_at, render_place}
 
 -- Pieces. Source: this project.
@@ -157,12 +159,19 @@ open_ended_after _ value open_ended = open_ended
 abbrev pub charset_of : Effective → Charset
 charset_of s = record { unicode = s.unicode; breaks12 = escapes_separators s }
 
+-- the style that is asked for at a place: in portable mode a root asks for double quotes in place of a block style whose
+-- header would have a digit, since readers of YAML 1.2 count that digit in two ways (this project)
+abbrev pub style_asked_at : Effective → Place → Scalar → ScalarStyle
+style_asked_at s place content =
+    if is_block content.style && is_root place && s.portable && begins_blank content.value
+    then double_quoted else content.style
+
 -- the style of a scalar at its place
 abbrev pub choice_of : Effective → Place → (simple : Bool) → Scalar → Choice
 choice_of s place simple content =
     chosen
     (allowances (charset_of s) content.value)
-    content.style (is_empty content.value) (is_some (scalar_tag s.canonical content))
+    (style_asked_at s place content) (is_empty content.value) (is_some (scalar_tag s.canonical content))
     content.plain_implicit content.quoted_implicit (place.in_flow) simple s.canonical
 
 -- what stands before a scalar's body: its place's indicators, its anchor and tag, and a space

@@ -1,6 +1,6 @@
 -- Where a node stands, which keys are simple, and what a place puts before its node.
 -- Source, unless a definition names its own: libyaml's emitter.
-use Rattle.std.specs.Prelude.{ℕ, Bool, true, false, Option, None, Some, List, ◌||◌, ◌&&◌, ◌+◌, not, nat_le, length, codes, unwrap_or, encode_utf8_all}
+use Rattle.std.specs.Prelude.{ℕ, Bool, true, false, Option, None, Some, List, ◌||◌, ◌&&◌, ◌+◌, not, nat_le, length, codes, is_none, unwrap_or, encode_utf8_all}
 use Rattle.std.specs.Prelude.{if◌then◌else◌}
 use Rattle.std.specs.List.{list_any}
 use Rattle.yaml_base.specs.Characters.{Text, is_break}
@@ -26,6 +26,10 @@ pub record Place : Type 0 where
   pub in_flow : Bool
   pub role : Role
   pub column : Option ℕ
+
+-- a root: no entries stand around it
+abbrev pub is_root : Place → Bool
+is_root place = is_none place.column
 
 -- a node is the key of a pair
 abbrev pub is_key : Role → Bool

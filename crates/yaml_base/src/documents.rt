@@ -40,7 +40,7 @@ pub struct yaml_document_t<A: Allocator> {
     ghost whole: { IsTrue (is_none (first_outside (length nodes.items) (all_numbers nodes.items))) },
 }
 
-/// Whether `number` names one of `count` nodes.
+/// Returns whether `number` names one of `count` nodes.
 fn names_node(count: usize, number: i32) -> bool
     ensures { result ≡ is_named count number }
 {
@@ -72,7 +72,7 @@ fn outside_pairs(count: usize, pairs: &[yaml_node_pair_t]) -> Option<i32>
     None
 }
 
-/// The first number in `contents` that names none of `count` nodes.
+/// Returns the first number in `contents` that names none of `count` nodes.
 fn outside_node<A: Allocator>(count: usize, contents: &yaml_node_data_t<A>) -> Option<i32>
     ensures { result ≡ first_outside count (numbers_of contents.now) }
 {
@@ -98,8 +98,8 @@ fn outside_nodes<A: Allocator>(count: usize, nodes: &[yaml_node_t<A>]) -> Option
 impl<A: Allocator> yaml_document_t<A> {
     ghost use Rattle.yaml_base.specs.graphs.Documents.{graph_of};
 
-    /// A document of these nodes, or the first number that names none of them, in the order of
-    /// nodes, items, and keys before values. The arguments are then dropped.
+    /// Returns a document of these nodes, or the first number that names none of them, in the order of nodes, items, and keys
+    /// before values. The arguments are then dropped.
     pub fn from_nodes(
         version: Option<yaml_version_directive_t>,
         tags: Vec<yaml_tag_directive_t<A>, A>,
@@ -145,7 +145,7 @@ impl<A: Allocator> yaml_document_t<A> {
         }
     }
 
-    /// The nodes, that of number 1 first. The directives are dropped.
+    /// Returns the nodes, that of number 1 first. The directives are dropped.
     pub fn into_nodes(self) -> Vec<yaml_node_t<A>, A>
         ensures { map seen_node result.items ≡ (graph_of self).nodes }
     {
@@ -159,7 +159,7 @@ impl<A: Allocator> yaml_document_t<A> {
         let _document = self;
     }
 
-    /// The node of a number; none where the number names none.
+    /// Returns the node of a number; none where the number names none.
     pub fn get_node(&self, index: i32) -> Option<&yaml_node_t<A>>
         ensures { option_map (λ node. seen_node node.now) result ≡ node_numbered (graph_of self.now) (seen_number index) }
     {
@@ -175,49 +175,49 @@ impl<A: Allocator> yaml_document_t<A> {
         self.nodes.as_slice().get(place)
     }
 
-    /// Node 1; none where there are no nodes.
+    /// Returns node 1; none where there are no nodes.
     pub fn root(&self) -> Option<&yaml_node_t<A>>
         ensures { option_map (λ node. seen_node node.now) result ≡ node_numbered (graph_of self.now) 1 }
     {
         self.nodes.as_slice().first()
     }
 
-    /// Whether there are no nodes.
+    /// Returns whether there are no nodes.
     pub fn is_empty(&self) -> bool
         ensures { result ≡ (length (graph_of self.now).nodes == 0) }
     {
         self.nodes.is_empty()
     }
 
-    /// How many nodes there are.
+    /// Returns how many nodes there are.
     pub fn node_count(&self) -> i32
         ensures { result ≡ pos (length (graph_of self.now).nodes) }
     {
         self.nodes.len() as i32
     }
 
-    /// The version, if one was given.
+    /// Returns the version, if one was given.
     pub fn version_directive(&self) -> Option<yaml_version_directive_t>
         ensures { option_map seen_version result ≡ (graph_of self.now).start.version }
     {
         self.version_directive
     }
 
-    /// The directives that were given.
+    /// Returns the directives that were given.
     pub fn tag_directives(&self) -> &[yaml_tag_directive_t<A>]
         ensures { map seen_directive result.now ≡ (graph_of self.now).start.directives }
     {
         self.tag_directives.as_slice()
     }
 
-    /// Whether `---` may be left out.
+    /// Returns whether `---` may be left out.
     pub fn start_implicit(&self) -> bool
         ensures { result ≡ (graph_of self.now).start.implicit }
     {
         self.start_implicit
     }
 
-    /// Whether `...` may be left out.
+    /// Returns whether `...` may be left out.
     pub fn end_implicit(&self) -> bool
         ensures { result ≡ (graph_of self.now).end_implicit }
     {

@@ -64,7 +64,7 @@ pub enum yaml_error_t {
 }
 
 impl yaml_error_t {
-    /// The layer that the refusal comes from.
+    /// Returns the layer that the refusal comes from.
     pub fn kind(self) -> yaml_error_type_t
         ensures { result ≡ kind_of self }
     {
@@ -75,7 +75,7 @@ impl yaml_error_t {
         }
     }
 
-    /// The refusal in words; empty for a refused growth.
+    /// Returns the refusal in words; empty for a refused growth.
     pub fn problem(self) -> &'static str
         ensures { result.now ≡ problem_text self }
     {

@@ -8,7 +8,7 @@ use Rattle.yaml_base.specs.{declared.errors.yaml_error_t.yaml_error_t, scripts.S
 use Rattle.yaml_c.specs.{Emission.HasAllRead, Emission.EmitsRecords, Emission.FlushesAfter, EventRecords.before_others, declared.events.Emission.Emission}
 use Rattle.yaml_c.specs.{declared.records.DirectiveRecord.DirectiveRecord, declared.records.EventRecord.EventRecord}
 use Rattle.yaml_c.specs.declared.events.Emission.TheVariants.{BadEvent, Done, NoMemory, NoRoom, Refused}
-use Rattle.yaml_emitter.{proofs.standing.KeptDocuments.documents_kept, proofs.standing.KeptDocuments.documents_stay, specs.Promises.Promised}
+use Rattle.yaml_emitter.{proofs.standing.KeptDocuments.documents_without_error, proofs.standing.KeptDocuments.documents_stay, specs.Promises.Promised}
 use Rattle.yaml_pen.specs.Wrote.{Grows}
 use Rattle.yaml_tool.{proofs.RunLemmas.ended_without, proofs.RunLemmas.flushed_last, specs.Runs.EmitsAll, specs.Runs.FlushFails, specs.Runs.EndsAt}
 use Rattle.yaml_tool.specs.declared.answers.run_answer_t.TheVariants as run
@@ -100,7 +100,7 @@ refused_next arena directives records first earlier state i number last d event 
       grew = grew;
       documents =
           documents_stay set (events_in has.given) earlier.page.output state.page.output
-          (documents_kept set (events_in has.given) earlier promised none) grew.output;
+          (documents_without_error set (events_in has.given) earlier promised none) grew.output;
       failed = failed;
     })
 

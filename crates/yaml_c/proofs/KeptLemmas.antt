@@ -23,10 +23,10 @@ pub takes_event : (event : Event) (answer : Result (Unit {0}) yaml_error_t) (bef
     → TakesEvent event before after
 takes_event event answer before after emits =
     record {
-      stands = emits.stands;
+      stands = emits.moves.stands;
       promised = emits.promised;
-      waits = λ given all stood none same. none_of_ok after.error answer emits.answered (emits.waits given all stood none same);
-      grows = emits.grows;
+      waits = λ given all stood none same. none_of_ok after.error answer emits.moves.answered (emits.waits given all stood none same);
+      grows = emits.moves.grows;
       kept = emits.kept;
-      set = emits.set;
+      set = emits.moves.set;
     }

@@ -3,6 +3,7 @@ pub mod Utf8
 pub mod DirectiveLemmas
 pub mod EmissionLemmas
 pub mod GivingLemmas
+pub mod JsonEventLemmas
 pub mod JsonLemmas
 pub mod KeptLemmas
 pub mod MovingLemmas

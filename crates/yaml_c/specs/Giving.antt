@@ -1,8 +1,7 @@
 -- How a record is given to an emitter.
-use Rattle.std.specs.Prelude.{◌≡◌, Bool, true, false, Option, None, Some, Result, Err}
+use Rattle.std.specs.Prelude.{◌≡◌, Bool, true, false, Option, None, Some}
 use Rattle.yaml_base.specs.Event.{Event, scalar}
 use Rattle.yaml_base.specs.Seen.{seen_event}
-use Rattle.yaml_base.specs.declared.errors.yaml_error_t.{yaml_error_t}
 use Rattle.yaml_emitter.specs.BorrowedTexts.{seen_scalar}
 use Rattle.yaml_emitter.specs.EmitsEvent.{EmitsEvent}
 use Rattle.yaml_emitter.specs.Queue.{are_ready_by_one_more}
@@ -32,8 +31,3 @@ abbrev pub GaveRecord : Option Event → Giving → (before after : State) → T
 GaveRecord read (Emitted answer) before after = (event : Event) × (read ≡ Some event) × EmitsEvent before event answer after
 GaveRecord read Unreadable before after = (read ≡ None) × (after ≡ before)
 GaveRecord read NoMemory before after = (after ≡ before) × MayCopy read before
-
--- what a call says that was given a borrowed scalar, by the emitter's own error after it
-abbrev pub giving_of : Result (Unit {0}) yaml_error_t → Option yaml_error_t → Giving
-giving_of (Err error) None = NoMemory
-giving_of answer error = Emitted answer

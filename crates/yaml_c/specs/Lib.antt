@@ -7,3 +7,4 @@ pub mod Giving
 pub mod Handle
 pub mod JsonAnswers
 pub mod Kept
+pub mod JsonEvents

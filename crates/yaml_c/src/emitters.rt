@@ -166,7 +166,7 @@ fn tell_giving(giving: Giving, report: &mut CallResult) -> i32
     }
 }
 
-fn status_of(error: yaml_error_t) -> i32
+pub(crate) fn status_of(error: yaml_error_t) -> i32
     ensures { result ≡ status_of (Some error) }
 {
     match error {

@@ -1,12 +1,12 @@
 //! Records given to an emitter one by one.
 ghost use Rattle.std.specs.Prelude.{◌≡◌, true, Some};
 ghost use Rattle.yaml_c.specs.EventRecords as meaning;
-ghost use Rattle.yaml_c.specs.Giving.{GaveRecord, given_event, giving_of};
+ghost use Rattle.yaml_c.specs.Giving.{GaveRecord, given_event};
 
 use crate::records::{DirectiveRecord, EventRecord, GivenEvent, event_of};
 use std::alloc::Allocator;
 use yaml_base::yaml_error_t;
-use yaml_emitter::{yaml_emitter_emit, yaml_emitter_emit_scalar, yaml_emitter_t};
+use yaml_emitter::{ScalarAnswer, yaml_emitter_emit, yaml_emitter_emit_scalar, yaml_emitter_t};
 
 /// How a record was given to an emitter.
 #[derive(Clone, Copy)]
@@ -49,18 +49,10 @@ fn give_event<A: Allocator + Copy>(
     match event {
         GivenEvent::Owned(event) => Giving::Emitted(yaml_emitter_emit(emitter, event)),
         GivenEvent::Scalar(content) => {
-            let answer = yaml_emitter_emit_scalar(emitter, &content);
-            giving_of(answer, emitter.error())
+            match yaml_emitter_emit_scalar(emitter, &content) {
+                ScalarAnswer::Taken(answer) => Giving::Emitted(answer),
+                ScalarAnswer::NotTaken => Giving::NoMemory,
+            }
         }
-    }
-}
-
-/// How a scalar was given. An error that isn't the emitter's says that the scalar had to wait, and couldn't be copied.
-fn giving_of(answer: Result<(), yaml_error_t>, error: Option<yaml_error_t>) -> Giving
-    ensures { result ≡ giving_of answer error }
-{
-    match (answer, error) {
-        (Err(_), None) => Giving::NoMemory,
-        _ => Giving::Emitted(answer),
     }
 }

@@ -7,6 +7,7 @@ mod emitters;
 mod events;
 mod giving;
 mod handle;
+mod json_events;
 mod json_texts;
 mod raw_box;
 mod records;

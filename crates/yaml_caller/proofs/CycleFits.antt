@@ -1,13 +1,13 @@
 -- The dump of a document that holds itself is accepted and fits, so that nothing but memory can give out.
-use Rattle.yaml_caller.proofs.Common.{if◌then◌else◌, ◌==◌, None, Some, Err, codes, length, Bool, false, true, List, [], ◌++◌, ◌∷◌, refl, ◌≡◌, append_assoc}
-use Rattle.yaml_caller.proofs.Common.{inl, inr, ap, subst, sym, ◌∙◌, any_style, block, Event, stream_end, scalar_node, no_documents, documents_and, Stream}
-use Rattle.yaml_caller.proofs.Common.{IsAccepted, Graph, string_tag, mapping_tag, document_event_list, cycle_graph, letter_settings, opening, closing}
+use Rattle.yaml_caller.proofs.Common.{None, Some, Err, codes, false, true, List, [], ◌++◌, ◌∷◌, refl, ◌≡◌, append_assoc}
+use Rattle.yaml_caller.proofs.Common.{inl, inr, ap, sym, ◌∙◌, any_style, block, Event, stream_end, scalar_node, no_documents, documents_and, Stream}
+use Rattle.yaml_caller.proofs.Common.{IsAccepted, Graph, string_tag, mapping_tag, cycle_graph, cycle_settings}
 use Rattle.yaml_caller.proofs.Common.{Dumps, StandsAfter, State}
 use Rattle.yaml_base.proofs.Common.{alias_node, mapping_node, no_pairs, pairs_and}
 use Rattle.std.{proofs.Common.lit≤, specs.Char.encode_utf8}
 use Rattle.yaml_base.specs.{declared.errors.yaml_error_t.yaml_error_t, declared.errors.yaml_error_t.TheVariants.Memory, graphs.Meetings.decimal_digits}
-use Rattle.yaml_caller.proofs.{Dumped.dumped_cycle, Dumped.cycle_events, OnlyMemory.only_memory, OnlyMemory.prefix_fits, OnlyMemory.shallow}
-use Rattle.yaml_dump.specs.Dumps.{FailsAt, FailsDump}
+use Rattle.yaml_caller.proofs.{Dumped.dumped_is, Dumped.cycle_events, OnlyMemory.only_memory, OnlyMemory.prefix_fits, OnlyMemory.shallow}
+use Rattle.yaml_dump.proofs.Emissions.{fails_error, fails_promised}
 use Rattle.yaml_emitter.specs.{Promises.FitsLimit, Uncut.IsUncut}
 
 abbrev cycle_stream : Stream
@@ -32,34 +32,25 @@ accepted : IsAccepted true cycle_events
 unfolding decimal_digits
 accepted = record { stream = cycle_stream; is_stream = refl; sound = refl; shallow = shallow cycle_events (lit≤ tt) }
 
-uncut : IsUncut letter_settings cycle_events
+uncut : IsUncut cycle_settings cycle_events
 unfolding encode_utf8 decimal_digits
 uncut = lit≤ tt
 
 -- so an accepted list that fits begins with each prefix of it
-pub cycle_fits : (all rest : List Event) → all ++ rest ≡ cycle_events → FitsLimit letter_settings all
-cycle_fits all rest begins = prefix_fits letter_settings cycle_events all rest accepted uncut begins
+pub cycle_fits : (all rest : List Event) → all ++ rest ≡ cycle_events → FitsLimit cycle_settings all
+cycle_fits all rest begins = prefix_fits cycle_settings cycle_events all rest accepted uncut begins
 
 -- a dump on a new emitter that fails
 pub dump_memory : (graph : Graph) (before after : State) (error : yaml_error_t) → before.opened ≡ false → graph ≡ cycle_graph
-    → StandsAfter letter_settings [] before
+    → StandsAfter cycle_settings [] before
     → Dumps graph before (Err error) after → error ≡ Memory
-dump_memory graph before after error unopened is stands (inl failed) = cc
-dump_memory graph before after error unopened is stands (inr emits) =
-    let some =
-    subst
-    (λ (g : Graph).
-    FailsDump before.opened letter_settings []
-    (opening before.opened ++ (if length g.nodes == 0 then closing before.closed else document_event_list g)) error after)
-    is (emits letter_settings [] stands)
-    in
-    fails_memory (subst (λ (b : Bool). FailsDump b letter_settings [] (opening b ++ document_event_list cycle_graph) error after) unopened some).fails
-  where
-    fails_memory : FailsAt letter_settings [] dumped_cycle error after → error ≡ Memory
-    fails_memory fails =
-        only_memory letter_settings (fails.before ++ fails.event ∷ []) after error
-        (cycle_fits (fails.before ++ fails.event ∷ []) (fails.later ++ stream_end ∷ [])
-        (append_assoc fails.before (fails.event ∷ []) (fails.later ++ stream_end ∷ [])
-        ∙ sym (append_assoc fails.before (fails.event ∷ fails.later) (stream_end ∷ []))
-        ∙ ap (λ given. given ++ stream_end ∷ []) fails.parts))
-        fails.promised fails.failed
+dump_memory graph before after error unopened is stands (inl failed) = failed.0
+dump_memory graph before after error unopened is stands (inr dump) =
+    let fails = dump.fails in
+    let parts = fails.parts ∙ dumped_is graph before unopened is in
+    only_memory cycle_settings (fails.earlier ++ fails.event ∷ []) after error
+    (cycle_fits (fails.earlier ++ fails.event ∷ []) (fails.later ++ stream_end ∷ [])
+    (append_assoc fails.earlier (fails.event ∷ []) (fails.later ++ stream_end ∷ [])
+    ∙ sym (append_assoc fails.earlier (fails.event ∷ fails.later) (stream_end ∷ []))
+    ∙ ap (λ given. given ++ stream_end ∷ []) parts))
+    (fails_promised fails cycle_settings [] (record { texts = stands.texts; so = stands.so })) (fails_error fails)

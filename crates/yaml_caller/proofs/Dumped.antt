@@ -1,10 +1,10 @@
 -- What the promises of a dump come to for a document that holds itself.
 use Rattle.yaml_caller.proofs.Common.{if◌then◌else◌, ◌==◌, OnOk, None, Result, Err, Ok, length, Bool, false, true, ◌||◌, List, [], ◌++◌, ◌∷◌}
-use Rattle.yaml_caller.proofs.Common.{refl, ◌≡◌, inl, inr, ap, subst, ◌∙◌, All-nil, All-cons, Text, any_style, block, Event, stream_start, stream_end}
+use Rattle.yaml_caller.proofs.Common.{refl, ◌≡◌, ap, subst, ◌∙◌, All-nil, All-cons, Text, any_style, block, Event, stream_start, stream_end}
 use Rattle.yaml_caller.proofs.Common.{output_of, held_back, AreDumped, GraphNode, Graph, document_event_list, IsDocument, cycle_graph, cycle_bytes}
-use Rattle.yaml_caller.proofs.Common.{letter_settings, opening, closing, Dumps, StandsAfter, State}
+use Rattle.yaml_caller.proofs.Common.{cycle_settings, opening, closing, Dumps, StandsAfter, State}
 use Rattle.yaml_base.proofs.Common.{reads_alike, NumberPair, scalar_held, mapping_held}
-use Rattle.yaml_dump.proofs.Common.{EmitsAll}
+use Rattle.yaml_dump.specs.Dumps.{dumped_events}
 use Rattle.std.specs.Char.{encode_utf8}
 use Rattle.yaml_base.specs.{declared.errors.yaml_error_t.yaml_error_t, graphs.Meetings.decimal_digits}
 
@@ -25,7 +25,7 @@ abbrev pub cycle_events : List Event
 cycle_events = dumped_cycle ++ stream_end ∷ []
 
 -- by the definitions, without any emitter
-pub cycle_row : output_of letter_settings cycle_events ≡ cycle_bytes
+pub cycle_row : output_of cycle_settings cycle_events ≡ cycle_bytes
 unfolding encode_utf8 decimal_digits
 cycle_row = refl
 
@@ -35,7 +35,7 @@ unfolding decimal_digits
 none_waits = refl
 
 -- no document is lost, and no tag has a flow indicator
-pub all_portable : reads_alike letter_settings.portable letter_settings.canonical cycle_events ≡ true
+pub all_portable : reads_alike cycle_settings.portable cycle_settings.canonical cycle_events ≡ true
 unfolding decimal_digits
 all_portable = refl
 
@@ -49,17 +49,18 @@ one_dumped =
       parts = refl;
     }
 
--- a dump on a new emitter that returns Ok
-pub after_dump : (graph : Graph) (before after : State) (done : Unit {0}) → before.opened ≡ false → graph ≡ cycle_graph → StandsAfter letter_settings [] before
-    → Dumps graph before (Ok done) after → StandsAfter letter_settings dumped_cycle after
-after_dump graph before after done unopened is stands (inl failed) = absurd (cc)
-after_dump graph before after done unopened is stands (inr emits) =
-    let some =
-    subst
-    (λ (g : Graph). EmitsAll letter_settings [] (opening before.opened ++ (if length g.nodes == 0 then closing before.closed else document_event_list g)) after)
-    is (emits letter_settings [] stands)
-    in
-    (subst (λ (b : Bool). EmitsAll letter_settings [] (opening b ++ document_event_list cycle_graph) after) unopened some).stands
+-- what a dump on a new emitter emits
+pub dumped_is : (graph : Graph) (before : State) → before.opened ≡ false → graph ≡ cycle_graph → dumped_events before graph ≡ dumped_cycle
+dumped_is graph before unopened is =
+    ap (λ (g : Graph). opening before.opened ++ (if length g.nodes == 0 then closing before.closed else document_event_list g)) is
+    ∙ ap (λ (b : Bool). opening b ++ document_event_list cycle_graph) unopened
+
+-- one that returns Ok
+pub after_dump : (graph : Graph) (before after : State) (done : Unit {0}) → before.opened ≡ false → graph ≡ cycle_graph → StandsAfter cycle_settings [] before
+    → Dumps graph before (Ok done) after → StandsAfter cycle_settings dumped_cycle after
+after_dump graph before after done unopened is stands emits =
+    subst (λ (events : List Event). StandsAfter cycle_settings events after) (dumped_is graph before unopened is)
+    (emits.moves.stands cycle_settings [] (record { texts = stands.texts; so = stands.so }))
 
 -- it doesn't close the stream
 pub still_open : (graph : Graph) (was now : Bool) → graph ≡ cycle_graph → was ≡ false → now ≡ (was || length graph.nodes == 0) → now ≡ false

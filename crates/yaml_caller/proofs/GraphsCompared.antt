@@ -13,6 +13,8 @@ use Rattle.yaml_base.{specs.graphs.Isomorphic.IsWrittenAlike}
 use Rattle.yaml_base.specs.declared.errors.yaml_error_t.TheVariants.{Memory, TagEmpty, TooDeep, WriteError}
 use Rattle.yaml_caller.specs.{GraphBytes.WritesGraph, GraphBytes.AreRefused}
 use Rattle.yaml_pen.proofs.Writing.{none_from_result, some_from_result}
+use Rattle.yaml_dump.proofs.Emissions.{fails_error, fails_promised}
+use Rattle.yaml_dump.specs.Dumps.{dumped_events}
 use Rattle.yaml_dump.proofs.{EqualBytesLemmas.one_reading, EqualBytesLemmas.equal_graphs_give_bytes, GraphLemmas.written_whole}
 
 -- ---- a graph and its nodes alone
@@ -157,36 +159,32 @@ why_failed events all rest state error begins promised is = inr (inr (refused_in
 abbrev pub before_end : Graph → List Event
 before_end graph = stream_start None ∷ document_event_list (bare graph)
 
-emitted : (graph : Graph) (before after : State) → before.opened ≡ false → bare graph ≡ graph → (length graph.nodes == 0) ≡ false
-    → (before_events : List Event)
-    → before_events ≡ opening before.opened ++ (if length graph.nodes == 0 then closing before.closed else document_event_list graph)
-    → before_events ≡ before_end graph
-emitted graph before after unopened is nonempty events are =
-    are
-    ∙ ap (λ (b : Bool). opening b ++ (if length graph.nodes == 0 then closing before.closed else document_event_list graph)) unopened
+dumped_is : (graph : Graph) (before : State) → before.opened ≡ false → bare graph ≡ graph → (length graph.nodes == 0) ≡ false
+    → dumped_events before graph ≡ before_end graph
+dumped_is graph before unopened is nonempty =
+    ap (λ (b : Bool). opening b ++ (if length graph.nodes == 0 then closing before.closed else document_event_list graph)) unopened
     ∙ ap (λ (b : Bool). stream_start None ∷ (if b then closing before.closed else document_event_list graph)) nonempty
     ∙ ap (λ (g : Graph). stream_start None ∷ document_event_list g) (sym is)
 
 pub stands_dumped : (graph : Graph) (before after : State) (done : Unit {0}) → before.opened ≡ false → bare graph ≡ graph
     → (length graph.nodes == 0) ≡ false → StandsAfter typed_settings [] before
     → Dumps graph before (Ok done) after → StandsAfter typed_settings (before_end graph) after
-stands_dumped graph before after done unopened is nonempty stands (inl failed) = absurd (cc)
-stands_dumped graph before after done unopened is nonempty stands (inr emits) =
-    subst (λ events. StandsAfter typed_settings events after) (emitted graph before after unopened is nonempty _ refl)
-    (emits typed_settings [] stands).stands
+stands_dumped graph before after done unopened is nonempty stands emits =
+    subst (λ (events : List Event). StandsAfter typed_settings events after) (dumped_is graph before unopened is nonempty)
+    (emits.moves.stands typed_settings [] (record { texts = stands.texts; so = stands.so }))
 
 pub dump_fails : (graph : Graph) (before after : State) (error : yaml_error_t) → before.opened ≡ false → bare graph ≡ graph
     → (length graph.nodes == 0) ≡ false → StandsAfter typed_settings [] before
     → Dumps graph before (Err error) after → Fails (graph_events graph) error after
-dump_fails graph before after error unopened is nonempty stands (inl failed) = inl (let same : error ≡ Memory = cc in same)
-dump_fails graph before after error unopened is nonempty stands (inr emits) =
-    let fails = (emits typed_settings [] stands).fails in
-    let parts : fails.before ++ fails.event ∷ fails.later ≡ before_end graph = fails.parts ∙ emitted graph before after unopened is nonempty _ refl in
-    why_failed (graph_events graph) (fails.before ++ fails.event ∷ []) (fails.later ++ stream_end ∷ []) after error
-    (append_assoc fails.before (fails.event ∷ []) (fails.later ++ stream_end ∷ [])
-    ∙ sym (append_assoc fails.before (fails.event ∷ fails.later) (stream_end ∷ []))
+dump_fails graph before after error unopened is nonempty stands (inl failed) = inl failed.0
+dump_fails graph before after error unopened is nonempty stands (inr dump) =
+    let fails = dump.fails in
+    let parts : fails.earlier ++ fails.event ∷ fails.later ≡ before_end graph = fails.parts ∙ dumped_is graph before unopened is nonempty in
+    why_failed (graph_events graph) (fails.earlier ++ fails.event ∷ []) (fails.later ++ stream_end ∷ []) after error
+    (append_assoc fails.earlier (fails.event ∷ []) (fails.later ++ stream_end ∷ [])
+    ∙ sym (append_assoc fails.earlier (fails.event ∷ fails.later) (stream_end ∷ []))
     ∙ ap (λ events. events ++ stream_end ∷ []) parts)
-    fails.promised fails.failed
+    (fails_promised fails typed_settings [] (record { texts = stands.texts; so = stands.so })) (fails_error fails)
 
 -- what closing the stream comes to
 pub close_fails : (graph : Graph) (state : State) (answer : Result (Unit {0}) yaml_error_t) → Promised typed_settings (graph_events graph) state

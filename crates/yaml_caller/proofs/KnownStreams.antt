@@ -1,9 +1,8 @@
 -- What the promises of an emitter come to for a whole stream that is known.
-use Rattle.yaml_caller.proofs.Common.{ℕ, OnOk, None, Result, Err, Ok, codes, true, List, [], ◌∷◌, refl, ◌≡◌, subst, sym, ◌∙◌, Text, any_style}
-use Rattle.yaml_caller.proofs.Common.{TagDirective, Event, stream_start, stream_end, scalar, output_of, held_back, Settings, letter_settings, letter_events}
+use Rattle.yaml_caller.proofs.Common.{ℕ, OnOk, None, Result, Err, Ok, true, List, [], ◌≡◌, subst, sym, ◌∙◌}
+use Rattle.yaml_caller.proofs.Common.{Event, output_of, held_back, Settings, cycle_settings}
 use Rattle.yaml_caller.proofs.Common.{Promised, State, result_of_error}
-use Rattle.std.specs.Char.{encode_utf8}
-use Rattle.yaml_base.specs.{Event.document_start, Event.document_end, declared.errors.yaml_error_t.yaml_error_t}
+use Rattle.yaml_base.specs.{declared.errors.yaml_error_t.yaml_error_t}
 use Rattle.yaml_emitter.specs.Promises.{HasRoom, ends_stream, IsWritten}
 use Rattle.yaml_pen.proofs.Writing.{none_from_result}
 
@@ -15,35 +14,13 @@ whole given events state ended ready promised none =
     let accepted = (promised.ends ended room).1 (none, (promised.held none).held ∙ ready) in
     promised.whole none accepted
 
-written : (events : List Event) (bytes : List ℕ) (state : State) → ends_stream events ≡ true → held_back events ≡ [] → output_of letter_settings events ≡ bytes
-    → Promised letter_settings events state → state.error ≡ None → state.page.output ≡ bytes
-written events bytes state ended ready row promised none = (whole letter_settings events state ended ready promised none).output ∙ row
+written : (events : List Event) (bytes : List ℕ) (state : State) → ends_stream events ≡ true → held_back events ≡ [] → output_of cycle_settings events ≡ bytes
+    → Promised cycle_settings events state → state.error ≡ None → state.page.output ≡ bytes
+written events bytes state ended ready row promised none = (whole cycle_settings events state ended ready promised none).output ∙ row
 
 -- a whole stream's bytes, where nothing failed
 pub stream_bytes : (events : List Event) (bytes : List ℕ) (answer : Result (Unit {0}) yaml_error_t) (state : State) → ends_stream events ≡ true
-    → held_back events ≡ [] → output_of letter_settings events ≡ bytes → Promised letter_settings events state → answer ≡ result_of_error state.error
+    → held_back events ≡ [] → output_of cycle_settings events ≡ bytes → Promised cycle_settings events state → answer ≡ result_of_error state.error
     → OnOk answer (state.page.output ≡ bytes)
 stream_bytes events bytes (Ok _) state ended ready row promised is = written events bytes state ended ready row promised (none_from_result state.error is)
 stream_bytes events bytes (Err error) state ended ready row promised is = tt
-
--- ---- the stream of one letter
-
--- the events by the directives and the root's value
-abbrev pub events_of : List TagDirective → Text → List Event
-events_of directives value =
-    stream_start None
-    ∷ document_start (record { version = None; directives = directives; implicit = true })
-    ∷ scalar (record { anchor = None; tag = None; value = value; plain_implicit = true; quoted_implicit = true; style = any_style })
-    ∷ document_end true
-    ∷ stream_end
-    ∷ []
-
--- by the definitions, without any emitter
-row : output_of letter_settings letter_events ≡ codes "---\n\"a\"\n"
-unfolding encode_utf8
-row = refl
-
-pub letter_bytes : (answer : Result (Unit {0}) yaml_error_t) (state : State) → Promised letter_settings letter_events state
-    → answer ≡ result_of_error state.error
-    → OnOk answer (state.page.output ≡ codes "---\n\"a\"\n")
-letter_bytes answer state promised is = stream_bytes letter_events (codes "---\n\"a\"\n") answer state refl refl row promised is

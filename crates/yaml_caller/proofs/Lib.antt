@@ -6,4 +6,4 @@ pub mod Dumped
 pub mod CycleFits
 pub mod GraphsCompared
 pub mod PairReads
-pub mod Listing
+pub mod ReadBack

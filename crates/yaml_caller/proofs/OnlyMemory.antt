@@ -1,14 +1,13 @@
 -- Why an emitter fails that has the first events of an accepted list: for want of memory, or because the list's bytes pass the
--- limit. Where they don't, memory alone can give out; so it is for the stream of one letter.
-use Rattle.yaml_caller.proofs.Common.{ℕ, ◌<◌, ◌≤◌, IsErrAnd, IfErr, IsErr, None, Some, Result, Err, Ok, codes, length, true, List, [], ◌++◌, ◌∷◌, ◌⊎◌}
-use Rattle.yaml_caller.proofs.Common.{refl, ◌≡◌, append_assoc, inl, inr, ap, subst, sym, ◌∙◌, arith, Text, any_style, TagDirective, Event, scalar_node}
-use Rattle.yaml_caller.proofs.Common.{no_documents, documents_and, Stream, most_open, open_count, IsAccepted, Settings, letter_settings, letter_events}
+-- limit. Where they don't, memory alone can give out.
+use Rattle.yaml_caller.proofs.Common.{ℕ, ◌<◌, ◌≤◌, IsErrAnd, IfErr, IsErr, Some, Result, Err, Ok, length, List, [], ◌++◌, ◌∷◌, ◌⊎◌}
+use Rattle.yaml_caller.proofs.Common.{refl, ◌≡◌, append_assoc, inl, inr, ap, subst, sym, ◌∙◌, arith, Event}
+use Rattle.yaml_caller.proofs.Common.{most_open, open_count, IsAccepted, Settings}
 use Rattle.yaml_caller.proofs.Common.{RefusedAt, Promised, State}
-use Rattle.yaml_base.proofs.Common.{◌+◌, ◌-◌, count_by, drop, take, cond, sum_by-append, settings_for, bytes_written, list_layout, begins_collection}
+use Rattle.yaml_base.proofs.Common.{◌+◌, ◌-◌, count_by, cond, sum_by-append, settings_for, bytes_written, list_layout, begins_collection}
 use Rattle.yaml_base.proofs.Common.{ends_collection}
-use Rattle.std.{proofs.Common.lit≤, proofs.Common.lt_of_not-le, proofs.lemmas.List.take-append-drop, specs.Char.encode_utf8}
+use Rattle.std.{proofs.Common.lt_of_not-le}
 use Rattle.yaml_base.specs.declared.errors.{yaml_error_t.yaml_error_t, yaml_error_t.TheVariants.Memory, yaml_error_t.TheVariants.WriteError}
-use Rattle.yaml_caller.proofs.KnownStreams.{events_of}
 use Rattle.yaml_emitter.specs.{Promises.FailsOnlyByMemory, Promises.FitsLimit, Uncut.IsUncut}
 
 -- an accepted list that fits begins with these events
@@ -62,33 +61,3 @@ shallow events few prefix rest is =
   where
     bounded : (starts ends others all most : ℕ) → starts + others ≡ all → all ≤ most → starts - ends ≤ most
     bounded starts ends others all most total few = omega (arith, total, few)
-
--- ---- the stream of one letter
-
-abbrev letter_stream : Stream
-letter_stream =
-    record {
-      encoding = None;
-      documents =
-          documents_and no_documents
-          (record {
-            start = record { version = None; directives = []; implicit = true };
-            root = scalar_node (record { anchor = None; tag = None; value = codes "a"; plain_implicit = true; quoted_implicit = true; style = any_style });
-            end_implicit = true;
-          });
-    }
-
-letter_accepted : IsAccepted true letter_events
-letter_accepted = record { stream = letter_stream; is_stream = refl; sound = refl; shallow = shallow letter_events (lit≤ tt) }
-
-letter_uncut : IsUncut letter_settings letter_events
-unfolding encode_utf8
-letter_uncut = lit≤ tt
-
--- so many of its events
-pub letter_fits : (count : ℕ) (directives : List TagDirective) (value : Text) → directives ≡ [] → value ≡ codes "a"
-    → FitsLimit letter_settings (take count (events_of directives value))
-letter_fits count directives value none letter =
-    prefix_fits letter_settings letter_events (take count (events_of directives value)) (drop count (events_of directives value))
-    letter_accepted letter_uncut
-    (take-append-drop count (events_of directives value) ∙ ap (λ given. events_of given value) none ∙ ap (events_of []) letter)

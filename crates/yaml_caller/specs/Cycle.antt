@@ -1,7 +1,12 @@
 -- A document that holds itself, and its canonical bytes.
-use Rattle.std.specs.Prelude.{ℕ, true, None, List, [], ◌∷◌, codes}
+use Rattle.std.specs.Prelude.{ℕ, true, None, Some, List, [], ◌∷◌, negsuc, codes}
+use Rattle.yaml_base.specs.Settings.{Settings, nothing_given}
 use Rattle.yaml_base.specs.Event.{any_style, block}
 use Rattle.yaml_base.specs.graphs.Meetings.{Graph, GraphNode, scalar_held, mapping_held, string_tag, mapping_tag}
+
+-- canonical, no width, 100 bytes
+abbrev pub cycle_settings : Settings
+cycle_settings = record nothing_given { limit = 100; canonical = true; width = Some (negsuc 0) }
 
 -- a mapping that is the value of its own key, node 2
 abbrev pub map_node : GraphNode

@@ -1,5 +1,3 @@
 pub mod Cycle
 pub mod GraphBytes
-pub mod Letter
-pub mod Listed
 pub mod Pair

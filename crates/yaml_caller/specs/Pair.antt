@@ -2,7 +2,7 @@
 use Rattle.std.specs.Prelude.{◌≡◌, ◌⊎◌, ◌<◌, ℕ, true, None, List, [], ◌∷◌, length}
 use Rattle.yaml_base.specs.Characters.{Text}
 use Rattle.yaml_base.specs.Settings.{Settings, nothing_given}
-use Rattle.yaml_base.specs.Event.{TagDirective, Event, any_style, block, stream_start, stream_end, document_start, document_end, scalar, mapping_start}
+use Rattle.yaml_base.specs.Event.{Event, any_style, block, stream_start, stream_end, document_start, document_end, scalar, mapping_start}
 use Rattle.yaml_base.specs.Event.{mapping_end}
 use Rattle.yaml_base.specs.Output.{settings_for, bytes_written}
 use Rattle.yaml_base.specs.Pieces.{list_layout}
@@ -18,22 +18,18 @@ abbrev pub text_scalar : Text → Event
 text_scalar value =
     scalar (record { anchor = None; tag = None; value = value; plain_implicit = true; quoted_implicit = true; style = any_style })
 
--- the events by the document's directives and the two scalars
-abbrev pub pair_with : List TagDirective → (key value : Event) → List Event
-pair_with directives key value =
+-- one document, a block mapping of a key to a value, all markers implicit
+abbrev pub pair_events : (key value : Text) → List Event
+pair_events key value =
     stream_start None
-    ∷ document_start (record { version = None; directives = directives; implicit = true })
+    ∷ document_start (record { version = None; directives = []; implicit = true })
     ∷ mapping_start (record { anchor = None; tag = None; implicit = true; style = block })
-    ∷ key
-    ∷ value
+    ∷ text_scalar key
+    ∷ text_scalar value
     ∷ mapping_end
     ∷ document_end true
     ∷ stream_end
     ∷ []
-
--- one document, a block mapping of a key to a value, all markers implicit
-abbrev pub pair_events : (key value : Text) → List Event
-pair_events key value = pair_with [] (text_scalar key) (text_scalar value)
 
 -- all bytes of its stream, before any limit
 abbrev pub pair_bytes : (key value : Text) → List ℕ

@@ -5,17 +5,18 @@ ghost use Rattle.yaml_base.specs.graphs.Dumped.{GraphsRead};
 ghost use Rattle.yaml_dump.specs.GraphTrees.{GraphsReadBack};
 ghost use Rattle.yaml_base.specs.graphs.SeenNodes.{all_numbers, numbers_of, seen_node};
 ghost use Rattle.yaml_emitter.specs.StandsAfter.{StandsAfter};
-ghost use Rattle.yaml_caller.specs.Letter.{letter_settings};
-ghost use Rattle.yaml_caller.specs.Cycle.{cycle_bytes, cycle_graph, key_node, map_node};
+ghost use Rattle.yaml_caller.specs.Cycle.{cycle_bytes, cycle_graph, cycle_settings, key_node, map_node};
 
-use super::canonical_emitter;
 use std::alloc::{AllocError, Allocator};
 use yaml_base::{
     YAML_ANY_SCALAR_STYLE, YAML_BLOCK_MAPPING_STYLE, yaml_document_t, yaml_error_t,
     yaml_node_data_t, yaml_node_pair_t, yaml_node_t,
 };
 use yaml_dump::{YAML_MAP_TAG, YAML_STR_TAG, yaml_emitter_close, yaml_emitter_dump};
-use yaml_emitter::{yaml_emitter_t, yaml_emitter_take_output};
+use yaml_emitter::{
+    yaml_emitter_initialize, yaml_emitter_set_canonical, yaml_emitter_set_output_string,
+    yaml_emitter_set_width, yaml_emitter_t, yaml_emitter_take_output,
+};
 
 /// The canonical bytes of a mapping whose one key is the string `k`, and whose value is the mapping itself.
 ///
@@ -34,12 +35,30 @@ pub fn cycle_written<A: Allocator + Copy>(alloc: A) -> Result<Vec<u8, A>, yaml_e
     Ok(yaml_emitter_take_output(&mut emitter))
 }
 
+/// An emitter that writes canonical form into at most 100 bytes.
+fn canonical_emitter<A: Allocator + Copy>(alloc: A) -> Result<yaml_emitter_t<A>, yaml_error_t>
+    ensures stands { IfOk result (λ emitter. StandsAfter cycle_settings [] emitter) }
+    ensures output { IfOk result (λ emitter. emitter.has_output ≡ true) }
+    ensures no_error { IfOk result (λ emitter. emitter.error ≡ None) }
+    ensures untaken { IfOk result (λ emitter. emitter.page.taken ≡ 0) }
+    ensures unopened { IfOk result (λ emitter. (emitter.opened ≡ false) × (emitter.closed ≡ false)) }
+    ensures memory { IfErr result (λ error. error ≡ yaml_error_t.Memory) }
+{
+    let Ok(mut emitter) = yaml_emitter_initialize(alloc) else {
+        return Err(yaml_error_t::Memory);
+    };
+    yaml_emitter_set_output_string(&mut emitter, 100);
+    yaml_emitter_set_canonical(&mut emitter, true);
+    yaml_emitter_set_width(&mut emitter, -1);
+    Ok(emitter)
+}
+
 /// Dumps the document as a whole stream.
 fn dump_cycle<A: Allocator + Copy>(
     alloc: A,
     emitter: &mut yaml_emitter_t<A>,
 ) -> Result<(), yaml_error_t>
-    requires stands { StandsAfter letter_settings [] emitter.old }
+    requires stands { StandsAfter cycle_settings [] emitter.old }
     requires output { emitter.old.has_output ≡ true }
     requires no_error { emitter.old.error ≡ None }
     requires unopened { emitter.old.opened ≡ false }

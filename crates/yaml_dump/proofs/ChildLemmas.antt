@@ -4,7 +4,8 @@ use Rattle.yaml_dump.proofs.Common.{true, ◌&&◌, List, [], map, ◌∷◌, re
 use Rattle.yaml_dump.proofs.Common.{seen_number, IsNamed}
 use Rattle.yaml_base.proofs.Common.{leb-true, numbers_held, numbers_in}
 use Rattle.std.proofs.lemmas.Option.{slice_get_within, slice_get_past}
-use Rattle.yaml_base.{proofs.UnfoldTrees.both_true, specs.declared.nodes.yaml_node_pair_t.yaml_node_pair_t, specs.graphs.SeenNodes.seen_pair}
+use Rattle.std.proofs.lemmas.Bool.{and_parts}
+use Rattle.yaml_base.specs.{declared.nodes.yaml_node_pair_t.yaml_node_pair_t, graphs.SeenNodes.seen_pair}
 use Rattle.yaml_dump.specs.WalkState.{pair_numbers}
 
 -- the numbers that are seen in pairs
@@ -72,8 +73,8 @@ pairs_countable pairs place (Some number) small is =
 -- what a test of all elements tells of the one at a place
 all_found : {X : Type 0} (test : X → Bool) (xs : List X) (place : ℕ) (x : X) → list_all test xs ≡ true → slice_get xs place ≡ Some x → test x ≡ true
 all_found test [] place x all is = cc
-all_found test (first ∷ xs) zero x all is = let same : first ≡ x = cc in ap test (sym same) ∙ (both_true (test first) (list_all test xs) all).0
-all_found test (first ∷ xs) (suc place) x all is = all_found test xs place x (both_true (test first) (list_all test xs) all).1 is
+all_found test (first ∷ xs) zero x all is = let same : first ≡ x = cc in ap test (sym same) ∙ (and_parts (test first) (list_all test xs) all).0
+all_found test (first ∷ xs) (suc place) x all is = all_found test xs place x (and_parts (test first) (list_all test xs) all).1 is
 
 -- a number that a node of a whole graph holds
 number_named : (graph : Graph) (before place child : ℕ) (found : Option GraphNode) → is_whole graph ≡ true → slice_get graph.nodes before ≡ found
@@ -83,7 +84,7 @@ number_named graph before place child None whole known is = cc
 number_named graph before place child (Some node) whole known is =
     let within = λ (number : ℕ). nat_le 1 number && nat_le number (length graph.nodes) in
     let held = all_found (λ (other : GraphNode). list_all within (numbers_held other.held)) graph.nodes before node whole known in
-    let both = both_true (nat_le 1 child) (nat_le child (length graph.nodes)) (all_found within (numbers_held node.held) place child held (sym is)) in
+    let both = and_parts (nat_le 1 child) (nat_le child (length graph.nodes)) (all_found within (numbers_held node.held) place child held (sym is)) in
     record { first = leb-true 1 child both.0; last = leb-true child (length graph.nodes) both.1 }
 
 -- children of a whole graph's nodes are nodes of it

@@ -16,5 +16,5 @@ pub use Rattle.yaml_base.{specs.graphs.SeenNodes.seen_number, specs.graphs.Unfol
 pub use Rattle.yaml_dump.specs.{Events.seen_events_of, GraphTrees.tree_shape, GraphTrees.TreesUnfold, Named.IsNamed, Named.number_in, Named.AreNamed}
 pub use Rattle.yaml_dump.specs.{WalkState.seen_walker, WalkSteps.seen_step}
 pub use Rattle.yaml_dump.specs.Anchors.{IsNumbered, is_numbered, anchor_of_place, HasPlaces, Places}
-pub use Rattle.yaml_dump.specs.Dumps.{EmitsAll, FailsAt, IsBegun, EmitsEach, opening, closing}
+pub use Rattle.yaml_dump.specs.Dumps.{EmitsAll, FailsAt, EmitsEach, opening, closing}
 pub use Rattle.yaml_pen.{proofs.Composing.grows_then, proofs.Writing.none_from_result, proofs.Writing.some_from_result, specs.Wrote.Grows}

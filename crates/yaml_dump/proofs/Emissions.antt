@@ -1,233 +1,292 @@
--- Events emitted one after another.
-use Rattle.yaml_base.proofs.Common.{◌≤◌, if◌then◌else◌, None, Some, length, Bool, false, true, ◌||◌, List, [], map, ◌++◌, ◌∷◌, refl, ◌≡◌}
-use Rattle.yaml_base.proofs.Common.{length-append, append-nil, append_assoc, inl, inr, ap, subst, sym, ◌∙◌, arith, or-true, false≢true, map-append, Event}
-use Rattle.yaml_base.proofs.Common.{Settings}
-use Rattle.yaml_emitter.proofs.Common.{Promised, StandsAfter, State, KeepsSet}
-use Rattle.std.specs.Prelude.{Err, Ok, Result, IsSome, OnOk, OnErr}
-use Rattle.yaml_base.specs.{Seen.seen_event, declared.errors.yaml_error_t.yaml_error_t, declared.events.yaml_event_t.yaml_event_t}
-use Rattle.yaml_dump.specs.Dumps.{EmitsAll, FailsAt, IsBegun, EmitsEach, has_some, FailsDump, EmitsDump, opening, closing}
-use Rattle.yaml_pen.{proofs.Writing.none_from_result, proofs.Writing.some_from_result, specs.Page.result_of_error, specs.Wrote.Grows}
-
--- what the caller set stays, but for whether the stream was begun
-abbrev pub KeepsButStart : State → State → Type 0
-KeepsButStart before after = KeepsSet (record before { started = after.started }) after
-
-pub keeps_same : (state : State) → KeepsButStart state state
-keeps_same state = record { given = refl; started = refl; has_output = refl; opened = refl; closed = refl; taken = refl }
+-- Events emitted one after another, and streams opened and closed.
+use Rattle.yaml_base.proofs.Common.{if◌then◌else◌, None, Some, length, Bool, false, true, ◌||◌, List, [], map, ◌++◌, ◌∷◌, refl, ◌≡◌, stream_start, stream_end}
+use Rattle.yaml_pen.proofs.Composing.{grows_itself}
+use Rattle.yaml_base.proofs.Common.{append_assoc, inl, inr, ap, subst, sym, ◌∙◌, or-true, false≢true, Event}
+use Rattle.yaml_emitter.proofs.Common.{State, StandsAfter, Promised}
+use Rattle.yaml_base.specs.Settings.{Settings}
+use Rattle.std.specs.Prelude.{is_ok}
+use Rattle.yaml_pen.proofs.Writing.{some_from_result}
+use Rattle.yaml_emitter.proofs.standing.Moving.{moved_promised, moves_flagged, moves_nothing, moves_then, moves_under}
+use Rattle.yaml_emitter.proofs.standing.StandingFlagged.{stands_flagged}
+use Rattle.yaml_emitter.specs.Moves.{Moves}
+use Rattle.std.{proofs.Math.Bool.or-false, specs.Prelude.Err, specs.Prelude.Ok, specs.Prelude.Result, specs.Prelude.IsSome, specs.Prelude.OnOk, specs.Prelude.OnErr}
+use Rattle.yaml_base.specs.{declared.errors.yaml_error_t.yaml_error_t, declared.events.yaml_event_t.yaml_event_t}
+use Rattle.yaml_dump.specs.Dumps.{EmitsAll, FailsAt, EmitsEach, OpensFrom, ClosesFrom, Closes, DumpsEvents, has_some, opening, closing, dump_events}
+use Rattle.yaml_dump.specs.DumpsTell.{IsBegun, KeepsRest}
 
 -- a call that answers Ok found no error
 pub error_kept : {P : Type 0} (before after : State) → (IsSome before.error → after ≡ record before { started = true }) → after.error ≡ None
     → IsSome before.error → P
 error_kept before after kept none some = absurd (false≢true (subst IsSome (sym (ap (λ (state : State). state.error) (kept some)) ∙ none) some))
 
--- one more call
-pub keeps_more : (before middle after : State) → KeepsButStart before middle → KeepsSet (record middle { started = true }) after → KeepsButStart before after
-keeps_more before middle after kept more =
-    record {
-      given = more.given ∙ kept.given;
-      started = refl;
-      has_output = more.has_output ∙ kept.has_output;
-      opened = more.opened ∙ kept.opened;
-      closed = more.closed ∙ kept.closed;
-      taken = more.taken ∙ kept.taken;
-    }
-
 -- one more event
-pub events_more : {A : Type 0} (all : List Event) (emitted : List (yaml_event_t A)) (next : yaml_event_t A)
-    → (all ++ map seen_event emitted) ++ seen_event next ∷ [] ≡ all ++ map seen_event (emitted ++ next ∷ [])
-events_more all emitted next =
-    append_assoc all (map seen_event emitted) (seen_event next ∷ [])
-    ∙ ap (λ events. all ++ events) (sym (map-append seen_event emitted (next ∷ [])))
-
 pub parts_more : {A : Type 0} (emitted : List (yaml_event_t A)) (next : yaml_event_t A) (rest left all : List (yaml_event_t A)) → emitted ++ left ≡ all
     → left ≡ next ∷ rest → (emitted ++ next ∷ []) ++ rest ≡ all
 parts_more emitted next rest left all parts is =
     append_assoc emitted (next ∷ []) rest ∙ ap (λ left. emitted ++ left) (sym is) ∙ parts
 
--- the call that was given an event failed
-pub failed_at : {A : Type 0} (given : Settings) (all : List Event) (emitted : List (yaml_event_t A)) (next : yaml_event_t A)
-    (rest left events : List (yaml_event_t A)) (error : yaml_error_t) (earlier state : State)
-    → emitted ++ left ≡ events → left ≡ next ∷ rest → earlier.error ≡ None → StandsAfter given (all ++ map seen_event emitted) earlier
-    → state.error ≡ Some error
-    → StandsAfter given ((all ++ map seen_event emitted) ++ seen_event next ∷ []) state
-    → Promised given ((all ++ map seen_event emitted) ++ seen_event next ∷ []) state
-    → Grows earlier.page state.page
-    → FailsAt given all (map seen_event events) error state
-failed_at given all emitted next rest left events error earlier state parts is none stood failed stands kept grew =
-    record {
-      before = map seen_event emitted;
-      event = seen_event next;
-      later = map seen_event rest;
-      parts = sym (map-append seen_event emitted (next ∷ rest)) ∙ ap (λ left. map seen_event (emitted ++ left)) (sym is) ∙ ap (map seen_event) parts;
-      earlier = earlier;
-      stood = stood;
-      no_error = none;
-      stands = stands;
-      promised = kept;
-      grew = grew;
-      failed = failed;
-    }
+pub some_more : {A B : Type 0} (f : A → B) (emitted : List A) (next : A) → map f (emitted ++ next ∷ []) ≡ [] → ⊥
+some_more f [] next none = cc
+some_more f (first ∷ emitted) next none = cc
 
--- no event
-pub emits_nothing : (given : Settings) (all : List Event) (state : State) → StandsAfter given all state → Promised given all state → state.error ≡ None
-    → EmitsAll given all [] state
-emits_nothing given all state stands kept none =
-    record {
-      stands = subst (λ events. StandsAfter given events state) (sym (append-nil all)) stands;
-      promised = subst (λ events. Promised given events state) (sym (append-nil all)) kept;
-      no_error = none;
-    }
+-- ---- streams that are opened and closed as a whole
 
--- one event
-pub emits_one : (given : Settings) (all : List Event) (event : Event) (before after : State) (answer : Result (Unit {0}) yaml_error_t)
-    → before.error ≡ None → StandsAfter given all before → StandsAfter given (all ++ event ∷ []) after → Promised given (all ++ event ∷ []) after
-    → Grows before.page after.page → answer ≡ result_of_error after.error → EmitsEach given all (event ∷ []) answer after
-emits_one given all event before after (Ok _) none stood stands kept grew is =
-    record { stands = stands; promised = kept; no_error = none_from_result after.error is }
-emits_one given all event before after (Err error) none stood stands kept grew is =
+pub closed_already : (before : State) → before.closed ≡ true → Closes before (Ok tt) before
+closed_already before closed = subst (λ (b : Bool). ClosesFrom b before (Ok tt) before) (sym closed) (refl, refl)
+
+-- the start, where the stream isn't opened
+pub emits_opening : (before middle : State) (done : Unit {0}) (opened : Bool) → before.opened ≡ opened → before.error ≡ None
+    → OpensFrom opened before (Ok done) middle → EmitsAll (record before { opened = true }) (opening opened) middle
+emits_opening before middle done true is none opens =
     record {
-      before = [];
-      event = event;
+      moves =
+          subst (λ (s : State). Moves (record before { opened = true }) [] (Ok tt) s) (sym opens.1)
+          (moves_flagged (moves_nothing before none) true before.closed is refl);
+      unchanged = λ nothing. opens.1 ∙ ap (λ (b : Bool). record before { opened = b }) is;
+    }
+emits_opening before middle done false is none opens = record { moves = opens; unchanged = λ nothing. cc }
+
+-- the end, where it isn't closed
+pub emits_closing : (before after : State) (answer : Result (Unit {0}) yaml_error_t) (closed : Bool) → before.error ≡ None
+    → ClosesFrom closed before answer after → EmitsEach (record before { closed = after.closed }) (closing closed) answer after
+emits_closing before after (Ok done) true none closes =
+    record {
+      moves =
+          subst (λ (s : State). Moves (record before { closed = s.closed }) [] (Ok tt) s) (sym closes.1)
+          (moves_flagged (moves_nothing before none) before.opened before.closed refl refl);
+      unchanged = λ nothing. subst (λ (s : State). s ≡ record before { closed = s.closed }) (sym closes.1) refl;
+    }
+emits_closing before after (Err error) true none closes = absurd (let wrong = closes.0 in cc)
+emits_closing before after (Ok done) false none closes =
+    record { moves = moves_flagged closes before.opened after.closed closes.set.opened refl; unchanged = λ nothing. cc }
+emits_closing before after (Err error) false none closes =
+    record {
+      earlier = [];
+      event = stream_end;
       later = [];
       parts = refl;
-      earlier = before;
-      stood = subst (λ events. StandsAfter given events before) (sym (append-nil all)) stood;
-      no_error = none;
-      stands = subst (λ events. StandsAfter given (events ++ event ∷ []) after) (sym (append-nil all)) stands;
-      promised = subst (λ events. Promised given (events ++ event ∷ []) after) (sym (append-nil all)) kept;
-      grew = grew;
-      failed = some_from_result after.error error is;
+      between = record before { closed = after.closed };
+      moved = moves_nothing (record before { closed = after.closed }) none;
+      failed = moves_flagged closes before.opened after.closed closes.set.opened refl;
     }
 
--- more events after some
-pub emits_then : (given : Settings) (all first second : List Event) (middle after : State) (answer : Result (Unit {0}) yaml_error_t)
-    → EmitsAll given all first middle
-    → EmitsEach given (all ++ first) second answer after → EmitsEach given all (first ++ second) answer after
-emits_then given all first second middle after (Ok _) begun more =
-    let joined = append_assoc all first second in
-    record {
-      stands = subst (λ events. StandsAfter given events after) joined more.stands;
-      promised = subst (λ events. Promised given events after) joined more.promised;
-      no_error = more.no_error;
-    }
-emits_then given all first second middle after (Err error) begun more =
-    let joined = append_assoc all first more.before in
-    record {
-      before = first ++ more.before;
-      event = more.event;
-      later = more.later;
-      parts = append_assoc first more.before (more.event ∷ more.later) ∙ ap (λ events. first ++ events) more.parts;
-      earlier = more.earlier;
-      stood = subst (λ events. StandsAfter given events more.earlier) joined more.stood;
-      no_error = more.no_error;
-      stands = subst (λ events. StandsAfter given (events ++ more.event ∷ []) after) joined more.stands;
-      promised = subst (λ events. Promised given (events ++ more.event ∷ []) after) joined more.promised;
-      grew = more.grew;
-      failed = more.failed;
-    }
+-- by its answer a stream is closed, or as it was
+pub closed_by : (before after : State) (answer : Result (Unit {0}) yaml_error_t) (closed : Bool) → before.closed ≡ closed
+    → ClosesFrom closed before answer after → OnOk answer (after.closed ≡ true) × OnErr answer (after.closed ≡ before.closed)
+closed_by before after (Ok done) true is closes = (ap (λ (s : State). s.closed) closes.1 ∙ is, tt)
+closed_by before after (Err error) true is closes = absurd (let wrong = closes.0 in cc)
+closed_by before after (Ok done) false is closes = (closes.set.closed, tt)
+closed_by before after (Err error) false is closes = (tt, closes.set.closed ∙ sym is)
 
--- a failure before others
-pub emits_failed : (given : Settings) (all first second : List Event) (error : yaml_error_t) (after : State) → FailsAt given all first error after
-    → FailsAt given all (first ++ second) error after
-emits_failed given all first second error after h =
-    record {
-      before = h.before;
-      event = h.event;
-      later = h.later ++ second;
-      parts = sym (append_assoc h.before (h.event ∷ h.later) second) ∙ ap (λ events. events ++ second) h.parts;
-      earlier = h.earlier;
-      stood = h.stood;
-      no_error = h.no_error;
-      stands = h.stands;
-      promised = h.promised;
-      grew = h.grew;
-      failed = h.failed;
-    }
+-- ---- dumps
 
--- whatever is answered
-pub on_ok : {P : Type 0} (answer : Result (Unit {0}) yaml_error_t) → P → OnOk answer P
-on_ok (Ok _) p = p
+on_ok : {P : Type 0} (answer : Result (Unit {0}) yaml_error_t) → P → OnOk answer P
+on_ok (Ok done) p = p
 on_ok (Err error) p = tt
 
--- a stream is closed that was, or that a document without nodes closes
-pub closed_by : (answer : Result (Unit {0}) yaml_error_t) (closed was empty : Bool) → empty ≡ true → OnOk answer (closed ≡ true)
-    → OnOk answer (closed ≡ (was || empty))
-closed_by (Ok _) closed was empty is h = h ∙ sym (ap (λ b. was || b) is ∙ or-true was)
-closed_by (Err error) closed was empty is h = tt
+no_parts : (first second : List Event) → first ++ second ≡ [] → (first ≡ []) × (second ≡ [])
+no_parts [] second none = (refl, none)
+no_parts (event ∷ first) second none = cc
 
--- ---- what is opened after an error
-
--- where the start is the first event, it is opened once an event was emitted
+-- where the start is the first event, the stream is opened once an event was emitted
 opened_some : (opened now : Bool) (more : List Event) → now ≡ true → now ≡ (opened || has_some (opening opened ++ more))
 opened_some true now more is = is
 opened_some false now more is = is
 
--- a dump's events behind the start
-dumps_then : (given : Settings) (all : List Event) (opened : Bool) (more : List Event) (middle after : State) (answer : Result (Unit {0}) yaml_error_t)
-    → after.opened ≡ true
-    → EmitsAll given all (opening opened) middle → EmitsEach given (all ++ opening opened) more answer after
-    → EmitsDump opened given all (opening opened ++ more) answer after
-unfolding emits_then
-dumps_then given all opened more middle after (Ok done) now begun emitted = emits_then given all (opening opened) more middle after (Ok done) begun emitted
-dumps_then given all opened more middle after (Err error) now begun emitted =
+-- events behind the start
+pub dumps_then : (nodeless : Bool) (document : List Event) (before middle after : State) (closed : Bool) (more : List Event) (answer : Result (Unit {0}) yaml_error_t)
+    → EmitsAll (record before { opened = true }) (opening before.opened) middle → EmitsEach (record middle { closed = closed }) more answer after
+    → opening before.opened ++ more ≡ dump_events before nodeless document
+    → OnOk answer (after.closed ≡ (before.closed || nodeless)) → OnErr answer (after.closed ≡ before.closed)
+    → DumpsEvents nodeless document before answer after
+dumps_then nodeless document before middle after closed more (Ok done) first then_more is by_ok by_error =
+    let whole : Bool = before.closed || nodeless in
+    let opened = then_more.moves.set.opened ∙ first.moves.set.opened in
     record {
-      fails = emits_then given all (opening opened) more middle after (Err error) begun emitted;
-      opened_before = opened_some opened after.opened emitted.before now;
+      moves =
+          subst (λ (events : List Event). Moves (record before { opened = true; closed = whole }) events (Ok tt) after) is
+          (moves_then (moves_under true whole first.moves) (moves_flagged then_more.moves true whole opened by_ok));
+      unchanged = λ nothing.
+          let none = no_parts (opening before.opened) more (is ∙ nothing) in
+          let same = then_more.unchanged none.1 in
+          same ∙ ap (λ (s : State). record s { closed = closed }) (first.unchanged none.0)
+          ∙ ap (λ (b : Bool). record before { opened = true; closed = b }) (sym (ap (λ (s : State). s.closed) same) ∙ by_ok);
     }
-
--- the start is the only event that opens a stream
-none_before : (before : List Event) (event : Event) (later only : List Event) → length only ≤ 1 → before ++ event ∷ later ≡ only → has_some before ≡ false
-none_before [] event later only one parts = refl
-none_before (first ∷ before) event later only one parts = absurd (omega (arith, ap length parts, length-append before (event ∷ later)))
-
-opening_one : (opened : Bool) → length (opening opened) ≤ 1
-opening_one true = omega arith
-opening_one false = omega arith
+dumps_then nodeless document before middle after closed more (Err error) first fails is by_ok by_error =
+    let opened = fails.failed.set.opened ∙ fails.moved.set.opened ∙ first.moves.set.opened in
+    inr
+    (record {
+      fails =
+          record {
+            earlier = opening before.opened ++ fails.earlier;
+            event = fails.event;
+            later = fails.later;
+            parts =
+                append_assoc (opening before.opened) fails.earlier (fails.event ∷ fails.later)
+                ∙ ap (λ events. opening before.opened ++ events) fails.parts ∙ is;
+            between = record fails.between { opened = after.opened; closed = before.closed };
+            moved = moves_then (moves_under after.opened before.closed first.moves) (moves_under after.opened before.closed fails.moved);
+            failed = moves_flagged fails.failed after.opened before.closed refl by_error;
+          };
+      opened_before = opened_some before.opened after.opened fails.earlier opened;
+    })
 
 -- the start failed
-pub dumps_failed : (given : Settings) (all : List Event) (opened : Bool) (more : List Event) (error : yaml_error_t) (after : State) → opened ≡ false
-    → after.opened ≡ false
-    → FailsAt given all (opening opened) error after → FailsDump opened given all (opening opened ++ more) error after
-unfolding emits_failed
-dumps_failed given all opened more error after was now h =
+pub dumps_unopened : (nodeless : Bool) (document : List Event) (before after : State) (opened : Bool) (error : yaml_error_t) → before.opened ≡ opened → before.error ≡ None
+    → OpensFrom opened before (Err error) after → DumpsEvents nodeless document before (Err error) after
+dumps_unopened nodeless document before after true error was none opens = absurd (let wrong = opens.0 in cc)
+dumps_unopened nodeless document before after false error was none opens =
+    let more : List Event = if nodeless then closing before.closed else document in
+    inr
+    (record {
+      fails =
+          record {
+            earlier = [];
+            event = stream_start None;
+            later = more;
+            parts = ap (λ (b : Bool). opening b ++ more) (sym was);
+            between = record before { opened = after.opened };
+            moved = moves_nothing (record before { opened = after.opened }) none;
+            failed = moves_flagged opens after.opened before.closed refl opens.set.closed;
+          };
+      opened_before = opens.set.opened ∙ sym (ap (λ (b : Bool). b || false) was);
+    })
+
+-- a document without nodes closes the stream
+pub dumps_closing : (nodeless : Bool) (document : List Event) (before middle after : State) (answer : Result (Unit {0}) yaml_error_t) → nodeless ≡ true
+    → middle.error ≡ None → EmitsAll (record before { opened = true }) (opening before.opened) middle → Closes middle answer after
+    → DumpsEvents nodeless document before answer after
+dumps_closing nodeless document before middle after answer empty none first closes =
+    let closed = first.moves.set.closed in
+    let by = closed_by middle after answer middle.closed refl closes in
+    dumps_then nodeless document before middle after after.closed (closing middle.closed) answer first (emits_closing middle after answer middle.closed none closes)
+    (ap (λ (c : Bool). opening before.opened ++ closing c) closed
+    ∙ ap (λ (b : Bool). opening before.opened ++ (if b then closing before.closed else document)) (sym empty))
+    (ok_then answer (λ is. is ∙ sym (ap (λ (b : Bool). before.closed || b) empty ∙ or-true before.closed)) by.0) (err_then answer (λ is. is ∙ closed) by.1)
+  where
+    ok_then : {P Q : Type 0} (answer : Result (Unit {0}) yaml_error_t) → (P → Q) → OnOk answer P → OnOk answer Q
+    ok_then (Ok done) f p = f p
+    ok_then (Err error) f p = tt
+
+    err_then : {P Q : Type 0} (answer : Result (Unit {0}) yaml_error_t) → (P → Q) → OnErr answer P → OnErr answer Q
+    err_then (Ok done) f p = tt
+    err_then (Err error) f p = f p
+
+-- one with nodes is emitted
+pub dumps_document : (nodeless : Bool) (document : List Event) (before middle after : State) (events : List Event) (answer : Result (Unit {0}) yaml_error_t)
+    → nodeless ≡ false → events ≡ document
+    → EmitsAll (record before { opened = true }) (opening before.opened) middle → EmitsEach middle events answer after
+    → DumpsEvents nodeless document before answer after
+dumps_document nodeless document before middle after events answer some same first each =
+    let closed = closed_as answer each ∙ first.moves.set.closed in
+    dumps_then nodeless document before middle after middle.closed events answer first each
+    (ap (λ (b : Bool). opening before.opened ++ (if b then closing before.closed else events)) (sym some)
+    ∙ ap (λ (l : List Event). opening before.opened ++ (if nodeless then closing before.closed else l)) same)
+    (on_ok answer (closed ∙ sym (ap (λ (b : Bool). before.closed || b) some ∙ or-false before.closed))) (on_err answer closed)
+  where
+    closed_as : (answer : Result (Unit {0}) yaml_error_t) → EmitsEach middle events answer after → after.closed ≡ middle.closed
+    closed_as (Ok done) all = all.moves.set.closed
+    closed_as (Err error) fails = fails.failed.set.closed ∙ fails.moved.set.closed
+
+    on_err : {P : Type 0} (answer : Result (Unit {0}) yaml_error_t) → P → OnErr answer P
+    on_err (Ok done) p = tt
+    on_err (Err error) p = p
+
+-- ---- what follows
+
+-- the promises of the events up to the one that failed, and its error
+pub fails_promised : {before after : State} {events : List Event} {error : yaml_error_t} → (fails : FailsAt before events error after)
+    → (given : Settings) (all : List Event) → StandsAfter given all before → Promised given (all ++ (fails.earlier ++ fails.event ∷ [])) after
+fails_promised fails = moved_promised (moves_then fails.moved fails.failed)
+
+pub fails_error : {before after : State} {events : List Event} {error : yaml_error_t} → FailsAt before events error after → after.error ≡ Some error
+fails_error {before} {after} {events} {error} fails = some_from_result after.error error fails.failed.answered
+
+-- what closing a stream that isn't closed is
+pub closing_move : (before after : State) (answer : Result (Unit {0}) yaml_error_t) → before.closed ≡ false → Closes before answer after
+    → Moves (record before { closed = is_ok answer }) (stream_end ∷ []) answer after
+closing_move before after answer unclosed closes = subst (λ (b : Bool). ClosesFrom b before answer after) unclosed closes
+
+pub closing_promised : (before after : State) (answer : Result (Unit {0}) yaml_error_t) → before.closed ≡ false → Closes before answer after
+    → (given : Settings) (all : List Event) → StandsAfter given all before → Promised given (all ++ stream_end ∷ []) after
+closing_promised before after answer unclosed closes given all stands =
+    moved_promised (closing_move before after answer unclosed closes) given all (stands_flagged given all before before.opened (is_ok answer) stands)
+
+-- all events that were given are a move
+pub each_moves : (before after : State) (events : List Event) (answer : Result (Unit {0}) yaml_error_t) → EmitsEach before events answer after
+    → (given : List Event) × Moves before given answer after
+each_moves before after events (Ok done) all = (events, all.moves)
+each_moves before after events (Err error) fails = (fails.earlier ++ fails.event ∷ [], moves_then fails.moved fails.failed)
+
+-- a move by some event begins the stream
+keeps_by : (before after : State) (opened closed : Bool) (events : List Event) (answer : Result (Unit {0}) yaml_error_t)
+    → Moves (record before { opened = opened; closed = closed }) events answer after → (events ≡ [] → after ≡ before) → KeepsRest before after
+keeps_by before after opened closed events answer moves unchanged =
     record {
-      fails = emits_failed given all (opening opened) more error after h;
-      opened_before = now ∙ sym (ap (λ b. b || has_some h.before) was ∙ none_before h.before h.event h.later (opening opened) (opening_one opened) h.parts);
+      grows = moves.grows;
+      set = record {
+        given = moves.set.given;
+        started = refl;
+        has_output = moves.set.has_output;
+        opened = refl;
+        closed = refl;
+        taken = moves.set.taken;
+      };
+      begun = begun events moves unchanged;
     }
+  where
+    begun : (events : List Event) → Moves (record before { opened = opened; closed = closed }) events answer after → (events ≡ [] → after ≡ before)
+        → IsBegun before after
+    begun [] moves unchanged = inl (unchanged refl)
+    begun (event ∷ events) moves unchanged = inr moves.set.started
 
--- a document without nodes, and one with nodes
-abbrev chosen : Bool → (empty events : List Event) → List Event
-chosen b empty events = if b then empty else events
+keeps_failing : (before after : State) (opened : Bool) (events : List Event) (error : yaml_error_t)
+    → FailsAt (record before { opened = opened }) events error after → KeepsRest before after
+keeps_failing before after opened events error fails =
+    keeps_by before after opened before.closed (fails.earlier ++ fails.event ∷ []) (Err error) (moves_then fails.moved fails.failed)
+    (λ none. let wrong = (no_parts fails.earlier (fails.event ∷ []) none).1 in cc)
 
-pub dumps_closing : (given : Settings) (all : List Event) (opened : Bool) (events : List Event) (closed empty : Bool) (middle after : State)
-    (answer : Result (Unit {0}) yaml_error_t) → middle.closed ≡ closed → empty ≡ true → after.opened ≡ true
-    → EmitsAll given all (opening opened) middle → EmitsEach given (all ++ opening opened) (closing middle.closed) answer after
-    → EmitsDump opened given all (opening opened ++ chosen empty (closing closed) events) answer after
-dumps_closing given all opened events closed empty middle after answer same is now begun more =
-    subst (λ (b : Bool). EmitsDump opened given all (opening opened ++ chosen b (closing closed) events) answer after) (sym is)
-    (subst (λ (b : Bool). EmitsDump opened given all (opening opened ++ closing b) answer after) same
-    (dumps_then given all opened (closing middle.closed) middle after answer now begun more))
+pub keeps_each : (before after : State) (events : List Event) (answer : Result (Unit {0}) yaml_error_t) → EmitsEach before events answer after
+    → KeepsRest before after
+keeps_each before after events (Ok done) all = keeps_by before after before.opened before.closed events (Ok tt) all.moves all.unchanged
+keeps_each before after events (Err error) fails = keeps_failing before after before.opened events error fails
 
-pub dumps_events : (given : Settings) (all : List Event) (opened : Bool) (ending events emitted : List Event) (empty : Bool) (middle after : State)
-    (answer : Result (Unit {0}) yaml_error_t) → emitted ≡ events → empty ≡ false → after.opened ≡ true
-    → EmitsAll given all (opening opened) middle → EmitsEach given (all ++ opening opened) emitted answer after
-    → EmitsDump opened given all (opening opened ++ chosen empty ending events) answer after
-dumps_events given all opened ending events emitted empty middle after answer same is now begun more =
-    subst (λ (b : Bool). EmitsDump opened given all (opening opened ++ chosen b ending events) answer after) (sym is)
-    (subst (λ (list : List Event). EmitsDump opened given all (opening opened ++ list) answer after) same
-    (dumps_then given all opened emitted middle after answer now begun more))
+-- a dump without events opens and closes nothing
+opened_none : (opened : Bool) (more : List Event) → opening opened ++ more ≡ [] → opened ≡ true
+opened_none true more none = refl
+opened_none false more none = cc
 
--- after an error the stream is closed only where it was
-pub on_err : {P : Type 0} (answer : Result (Unit {0}) yaml_error_t) → P → OnErr answer P
-on_err (Ok _) p = tt
-on_err (Err error) p = p
+closed_none : (opened closed empty : Bool) (events : List Event) → opening opened ++ (if empty then closing closed else events) ≡ []
+    → (closed || empty) ≡ closed
+closed_none opened closed false events none = or-false closed
+closed_none opened true true events none = refl
+closed_none opened false true events none = let wrong = (no_parts (opening opened) (stream_end ∷ []) none).1 in cc
 
-pub err_then : {P Q : Type 0} (answer : Result (Unit {0}) yaml_error_t) → (P → Q) → OnErr answer P → OnErr answer Q
-err_then (Ok _) f p = tt
-err_then (Err error) f p = f p
+pub keeps_dumping : (nodeless : Bool) (document : List Event) (before after : State) (answer : Result (Unit {0}) yaml_error_t) → DumpsEvents nodeless document before answer after
+    → KeepsRest before after
+keeps_dumping nodeless document before after (Ok done) all =
+    keeps_by before after true (before.closed || nodeless) (dump_events before nodeless document) (Ok tt) all.moves
+    (λ none.
+    all.unchanged none
+    ∙ ap (λ (b : Bool). record before { opened = b; closed = before.closed || nodeless }) (sym
+    (opened_none before.opened (if nodeless then closing before.closed else document) none))
+    ∙ ap (λ (b : Bool). record before { closed = b })
+    (closed_none before.opened before.closed nodeless (document) none))
+keeps_dumping nodeless document before after (Err error) (inl failed) =
+    subst (λ (s : State). KeepsRest before s) (sym failed.1)
+    (record {
+      grows = grows_itself before.page;
+      set = record { given = refl; started = refl; has_output = refl; opened = refl; closed = refl; taken = refl };
+      begun = inl refl;
+    })
+keeps_dumping nodeless document before after (Err error) (inr dump) = keeps_failing before after after.opened (dump_events before nodeless document) error dump.fails
 
--- one call after another
-pub begun_then : (before middle after : State) → IsBegun before middle → IsBegun middle after → IsBegun before after
-begun_then before middle after first (inr started) = inr started
-begun_then before middle after (inl same) (inl again) = inl (again ∙ same)
-begun_then before middle after (inr started) (inl again) = inr (ap (λ (s : State). s.started) again ∙ started)
+pub opened_by : (nodeless : Bool) (document : List Event) (before after : State) (answer : Result (Unit {0}) yaml_error_t) → DumpsEvents nodeless document before answer after
+    → OnOk answer (after.opened ≡ true)
+opened_by nodeless document before after (Ok done) all = all.moves.set.opened
+opened_by nodeless document before after (Err error) fails = tt
+
+pub unclosed_failing : (nodeless : Bool) (document : List Event) (before after : State) (error : yaml_error_t) → DumpsEvents nodeless document before (Err error) after
+    → after.closed ≡ before.closed
+unclosed_failing nodeless document before after error (inl failed) = ap (λ (s : State). s.closed) failed.1
+unclosed_failing nodeless document before after error (inr dump) = dump.fails.failed.set.closed ∙ dump.fails.moved.set.closed

@@ -1,19 +1,18 @@
 -- A document's events unfold its graph, and so does what is read back of them.
-use Rattle.yaml_dump.proofs.Common.{ℕ, ◌==◌, if◌then◌else◌, OnOk, Option, None, Some, Result, Err, Ok, Vec, drop}
+use Rattle.yaml_dump.proofs.Common.{ℕ, ◌==◌, if◌then◌else◌, Option, None, Some, Result, Err, Ok, Vec, drop}
 use Rattle.yaml_dump.proofs.Common.{length, Bool, false, true, List, [], map, ◌++◌}
 use Rattle.yaml_dump.proofs.Common.{◌∷◌, refl, ◌≡◌, ap, subst, sym, ◌∙◌, false≢true, dumped_stream, document_unfolds, Event, stream_end, seen_event}
 use Rattle.yaml_dump.proofs.Common.{length-map, is_numbered, seen_step, seen_events, Settings, AreDumped, Graph, steps, document_event_list}
-use Rattle.yaml_dump.proofs.Common.{DocumentTree, EmitsAll, EmitsEach, opening}
-use Rattle.yaml_dump.proofs.Common.{closing, Promised, StandsAfter, State}
+use Rattle.yaml_dump.proofs.Common.{DocumentTree, Promised, StandsAfter, State, append_assoc, none_from_result}
 use Rattle.yaml_base.proofs.Common.{written, IsDocument, agrees, stream_trees}
 use Rattle.std.{proofs.Math.Seq.drop-length, specs.Prelude.IfOk}
-use Rattle.yaml_base.{proofs.QueueLaws.stream_written, specs.declared.errors.yaml_error_t.yaml_error_t, specs.declared.events.yaml_event_t.yaml_event_t}
+use Rattle.yaml_base.{proofs.QueueLaws.stream_written, specs.declared.events.yaml_event_t.yaml_event_t}
 use Rattle.yaml_base.{specs.graphs.Dumped.GraphsRead, specs.graphs.Unfolding.EventsUnfold}
 use Rattle.yaml_dump.proofs.GraphTreeLemmas.{dumped_trees_unfold}
 use Rattle.yaml_base.specs.{declared.nodes.yaml_node_t.yaml_node_t, graphs.SeenNodes.seen_node}
 use Rattle.yaml_dump.specs.{Outlines.IsOutline, declared.outlines.Outline.Outline}
 use Rattle.yaml_dump.specs.{Dumps.ReadsGraphs, Events.HoldsTexts, Events.walk_events, GraphTrees.GraphsReadBack, GraphTrees.ReadsTrees}
-use Rattle.yaml_emitter.{proofs.EndedStreams.ends_last, specs.Promises.HasRoom, specs.Promises.IsWritten}
+use Rattle.yaml_emitter.{proofs.standing.Moving.moved_promised, specs.Moves.Moves, proofs.EndedStreams.ends_last, specs.Promises.HasRoom, specs.Promises.IsWritten}
 
 -- the events of a walk over nodes that hold what they need are the document's
 pub dumped_events : {A E : Type 0} (graph : Graph) (outline : Outline A) (nodes : List (yaml_node_t A)) (answer : Result (Vec (yaml_event_t A) A) E)
@@ -75,32 +74,16 @@ trees_read given before state promised none graphs portable dumped =
     read_back given graphs (before ++ stream_end ∷ []) state.page.output (stream_trees given.breaks12 state.page.output) dumped refl
     ((written_whole given before graphs state promised none dumped).reads_back portable)
 
--- a document without nodes closes a stream that isn't closed
-closing_whole : (old after : State) (closed : Bool) (done : Unit {0}) → closed ≡ old.closed
-    → ((given : Settings) (all : List Event) → StandsAfter given all old
-    → EmitsEach given (all ++ opening old.opened) (closing closed) (Ok done) after)
-    → old.closed ≡ false → (given : Settings) (all : List Event) → StandsAfter given all old
-    → EmitsAll given (all ++ opening old.opened) (stream_end ∷ []) after
-closing_whole old after closed done same emits unclosed given all stands =
-    subst (λ (b : Bool). EmitsAll given (all ++ opening old.opened) (closing b) after) (same ∙ unclosed) (emits given all stands)
-
--- so the graphs that were dumped before are read back
-pub closing_reads : (old after : State) (closed empty : Bool) (answer : Result (Unit {0}) yaml_error_t) → closed ≡ old.closed
-    → ((given : Settings) (all : List Event) → StandsAfter given all old → EmitsEach given (all ++ opening old.opened) (closing closed) answer after)
-    → OnOk answer (empty ≡ true → old.closed ≡ false → (given : Settings) (all : List Event) → StandsAfter given all old
-    → ReadsGraphs given ((all ++ opening old.opened) ++ stream_end ∷ []) after)
-closing_reads old after closed empty (Ok done) same emits = λ is unclosed given all stands graphs canonical dumped.
-    let whole = closing_whole old after closed done same emits unclosed given all stands in
-    graphs_read given (all ++ opening old.opened) graphs after whole.promised whole.no_error canonical dumped
-closing_reads old after closed empty (Err error) same emits = tt
-
--- and so in any mode
-pub closing_trees : (old after : State) (closed empty : Bool) (answer : Result (Unit {0}) yaml_error_t) → closed ≡ old.closed
-    → ((given : Settings) (all : List Event) → StandsAfter given all old
-    → EmitsEach given (all ++ opening old.opened) (closing closed) answer after)
-    → OnOk answer (empty ≡ true → old.closed ≡ false → (given : Settings) (all : List Event) → StandsAfter given all old
-    → ReadsTrees given ((all ++ opening old.opened) ++ stream_end ∷ []) after)
-closing_trees old after closed empty (Ok done) same emits = λ is unclosed given all stands.
-    let whole = closing_whole old after closed done same emits unclosed given all stands in
-    trees_read given (all ++ opening old.opened) after whole.promised whole.no_error
-closing_trees old after closed empty (Err error) same emits = tt
+-- both, of what ends by the stream's end
+pub moved_reads : (before after : State) (events : List Event) → Moves before (events ++ stream_end ∷ []) (Ok tt) after
+    → (given : Settings) (all : List Event) → StandsAfter given all before
+    → ReadsGraphs given (all ++ (events ++ stream_end ∷ [])) after × ReadsTrees given (all ++ (events ++ stream_end ∷ [])) after
+moved_reads before after events moves given all stands =
+    let same = append_assoc all events (stream_end ∷ []) in
+    let promised : Promised given ((all ++ events) ++ stream_end ∷ []) after =
+    subst (λ (l : List Event). Promised given l after) (sym same) (moved_promised moves given all stands) in
+    let none = none_from_result after.error moves.answered in
+    subst (λ (l : List Event). ReadsGraphs given l after × ReadsTrees given l after) same (
+      λ graphs canonical dumped. graphs_read given (all ++ events) graphs after promised none canonical dumped,
+      trees_read given (all ++ events) after promised none,
+    )

@@ -109,7 +109,7 @@ graph_keeps canonical graph = by (length graph.nodes == 0)
     by true = refl
     by false = keep_both canonical (flat_map (step_events graph (steps graph)) (steps graph)) (document_end graph.end_implicit ∷ []) inside_keeps refl
 
-dumped_keep : (canonical : Bool) (graphs : List Graph) (events : List Event) → AreDumped graphs events → all_keep canonical events
+pub dumped_keep : (canonical : Bool) (graphs : List Graph) (events : List Event) → AreDumped graphs events → all_keep canonical events
 dumped_keep canonical graphs events dumped =
     subst (all_keep canonical) dumped.parts
     (keep_both canonical (flat_map document_event_list graphs) (stream_end ∷ [])

@@ -6,6 +6,7 @@ pub mod EqualBytesLemmas
 pub mod EventLemmas
 pub mod GraphTreeLemmas
 pub mod GraphLemmas
+pub mod TypedDumpLemmas
 pub mod HoldLemmas
 pub mod NameLemmas
 pub mod WalkStateLemmas

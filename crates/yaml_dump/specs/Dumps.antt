@@ -1,60 +1,51 @@
--- What it means that events are emitted in order.
-use Rattle.std.specs.Prelude.{◌≡◌, ◌⊎◌, ◌==◌, ◌||◌, Bool, true, false, None, Some, Result, Ok, Err, List, [], ◌∷◌, ◌++◌, length, if◌then◌else◌}
+-- What it means that events are emitted in order, and that a stream is opened, dumped to and closed.
+use Rattle.std.specs.Prelude.{◌≡◌, ◌⊎◌, ◌==◌, ◌||◌, Bool, true, false, None, Result, Ok, Err, List, [], ◌∷◌, ◌++◌, length, if◌then◌else◌, is_ok}
 use Rattle.yaml_base.specs.Settings.{Settings}
 use Rattle.yaml_base.specs.Event.{Event, stream_start, stream_end}
 use Rattle.yaml_base.specs.graphs.Meetings.{Graph, document_event_list}
 use Rattle.yaml_base.specs.graphs.Dumped.{AreDumped, GraphsRead}
 use Rattle.yaml_base.specs.declared.errors.yaml_error_t.{yaml_error_t}
 use Rattle.yaml_base.specs.declared.errors.yaml_error_t.TheVariants.{Memory}
-use Rattle.yaml_pen.specs.Wrote.{Grows}
 use Rattle.yaml_emitter.specs.State.{State}
-use Rattle.yaml_emitter.specs.StandsAfter.{StandsAfter}
-use Rattle.yaml_emitter.specs.Promises.{Promised}
+use Rattle.yaml_emitter.specs.Moves.{Moves}
 
--- all of them, without an error
-pub record EmitsAll (given : Settings) (all events : List Event) (state : State) : Type 0 where
-  pub stands : StandsAfter given (all ++ events) state
-  pub promised : Promised given (all ++ events) state
-  pub no_error : state.error ≡ None
+-- all of them, without an error; where there are none, nothing changed
+pub record EmitsAll (before : State) (events : List Event) (after : State) : Type 0 where
+  pub moves : Moves before events (Ok tt) after
+  pub unchanged : events ≡ [] → after ≡ before
 
--- up to the first whose call answered an error, this one; none after it was given. What the events before it wrote is kept: its
--- text and its output are prefixes of those after the error
-pub record FailsAt (given : Settings) (all events : List Event) (error : yaml_error_t) (state : State) : Type 0 where
-  pub before : List Event
+-- up to the first whose call returned an error, this one; none after it was given, and what the events before it wrote is kept
+pub record FailsAt (before : State) (events : List Event) (error : yaml_error_t) (after : State) : Type 0 where
+  pub earlier : List Event
   pub event : Event
   pub later : List Event
-  pub parts : before ++ event ∷ later ≡ events
-  pub earlier : State
-  pub stood : StandsAfter given (all ++ before) earlier
-  pub no_error : earlier.error ≡ None
-  pub stands : StandsAfter given (all ++ before ++ event ∷ []) state
-  pub promised : Promised given (all ++ before ++ event ∷ []) state
-  pub grew : Grows earlier.page state.page
-  pub failed : state.error ≡ Some error
+  pub parts : earlier ++ event ∷ later ≡ events
+  pub between : State
+  pub moved : Moves before earlier (Ok tt) between
+  pub failed : Moves between (event ∷ []) (Err error) after
 
--- nothing was done, or the stream was begun
-abbrev pub IsBegun : State → State → Type 0
-IsBegun before after = (after ≡ before) ⊎ (after.started ≡ true)
+-- events are emitted in order, up to the first error
+abbrev pub EmitsEach : State → List Event → Result (Unit {0}) yaml_error_t → State → Type 0
+EmitsEach before events (Ok _) after = EmitsAll before events after
+EmitsEach before events (Err error) after = FailsAt before events error after
 
--- events are emitted in order, after those that were given before, up to the first error
-abbrev pub EmitsEach : Settings → (all events : List Event) → Result (Unit {0}) yaml_error_t → State → Type 0
-EmitsEach given all events (Ok _) state = EmitsAll given all events state
-EmitsEach given all events (Err error) state = FailsAt given all events error state
+-- a stream is opened by its start, where it isn't opened
+abbrev pub OpensFrom : (opened : Bool) → State → Result (Unit {0}) yaml_error_t → State → Type 0
+OpensFrom true before answer after = (answer ≡ Ok tt) × (after ≡ before)
+OpensFrom false before answer after = Moves (record before { opened = is_ok answer }) (stream_start None ∷ []) answer after
+
+-- a stream is closed by its end, where it isn't closed
+abbrev pub ClosesFrom : (closed : Bool) → State → Result (Unit {0}) yaml_error_t → State → Type 0
+ClosesFrom true before answer after = (answer ≡ Ok tt) × (after ≡ before)
+ClosesFrom false before answer after = Moves (record before { closed = is_ok answer }) (stream_end ∷ []) answer after
+
+abbrev pub Closes : State → Result (Unit {0}) yaml_error_t → State → Type 0
+Closes before answer after = ClosesFrom before.closed before answer after
 
 -- there are events
 abbrev pub has_some : List Event → Bool
 has_some [] = false
 has_some (event ∷ rest) = true
-
--- a dump that fails leaves the stream opened where it was, or where an event before the failing one opened it
-pub record FailsDump (opened : Bool) (given : Settings) (all events : List Event) (error : yaml_error_t) (state : State) : Type 0 where
-  pub fails : FailsAt given all events error state
-  pub opened_before : state.opened ≡ (opened || has_some fails.before)
-
--- events are emitted in order, the first of which opens the stream where it isn't opened
-abbrev pub EmitsDump : Bool → Settings → (all events : List Event) → Result (Unit {0}) yaml_error_t → State → Type 0
-EmitsDump opened given all events (Ok _) state = EmitsAll given all events state
-EmitsDump opened given all events (Err error) state = FailsDump opened given all events error state
 
 -- what opens a stream that isn't opened
 abbrev pub opening : Bool → List Event
@@ -66,15 +57,27 @@ closing closed = if closed then [] else stream_end ∷ []
 
 -- what a dump emits: the document's events, after the stream's start where it isn't opened; a document without nodes
 -- closes the stream
-abbrev pub dumped_events : State → Graph → List Event
-dumped_events state graph =
-    opening state.opened ++ (if length graph.nodes == 0 then closing state.closed else document_event_list graph)
+abbrev pub dump_events : State → (nodeless : Bool) → List Event → List Event
+dump_events state nodeless document = opening state.opened ++ (if nodeless then closing state.closed else document)
 
--- a dump on an emitter without an error: its list of events found no room, and nothing was done; or they were emitted
+abbrev pub dumped_events : State → Graph → List Event
+dumped_events state graph = dump_events state (length graph.nodes == 0) (document_event_list graph)
+
+-- a dump that fails at an event leaves the stream opened where it was, or where an event before the failing one opened it
+pub record FailsDump (nodeless : Bool) (document : List Event) (before : State) (error : yaml_error_t) (after : State) : Type 0 where
+  pub fails : FailsAt (record before { opened = after.opened }) (dump_events before nodeless document) error after
+  pub opened_before : after.opened ≡ (before.opened || has_some fails.earlier)
+
+-- a dump on an emitter without an error: the document's events are emitted, the stream is opened then, and closed where it was, or
+-- where the document has no nodes; or its list of events found no room, and nothing was done; or it fails at an event
+abbrev pub DumpsEvents : (nodeless : Bool) → List Event → State → Result (Unit {0}) yaml_error_t → State → Type 0
+DumpsEvents nodeless document before (Ok _) after =
+    EmitsAll (record before { opened = true; closed = before.closed || nodeless }) (dump_events before nodeless document) after
+DumpsEvents nodeless document before (Err error) after = ((error ≡ Memory) × (after ≡ before)) ⊎ FailsDump nodeless document before error after
+
+-- so with the events of a graph
 abbrev pub Dumps : Graph → State → Result (Unit {0}) yaml_error_t → State → Type 0
-Dumps graph before answer after =
-    ((answer ≡ Err Memory) × (after ≡ before))
-    ⊎ ((given : Settings) (all : List Event) → StandsAfter given all before → EmitsDump before.opened given all (dumped_events before graph) answer after)
+Dumps graph before answer after = DumpsEvents (length graph.nodes == 0) (document_event_list graph) before answer after
 
 -- what the canonical reader finds in the output of these events unfolds the graphs of which they are dumps
 abbrev pub ReadsGraphs : Settings → List Event → State → Type 0

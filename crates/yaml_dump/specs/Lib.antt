@@ -7,3 +7,5 @@ pub mod Named
 pub mod Outlines
 pub mod WalkState
 pub mod WalkSteps
+pub mod DumpsTell
+pub mod TypedDumps

@@ -1,17 +1,12 @@
 //! Documents dumped: their events, emitted.
 
-ghost use Rattle.std.specs.Prelude.{◌≡◌, ◌⊎◌, ◌||◌, ◌==◌, ◌++◌, ◌∷◌, [], true, false, None, Some, Ok, Err, List, length, map, IfOk, IfErr, OnOk, OnErr, IsSome};
+ghost use Rattle.std.specs.Prelude.{◌≡◌, ◌==◌, true, false, None, length, map, IfOk, IfErr, OnOk, IsSome};
 ghost use Rattle.yaml_base.specs.graphs.Documents.{graph_of};
-ghost use Rattle.yaml_base.specs.Event.{Event, stream_end};
 ghost use Rattle.yaml_base.specs.graphs.Meetings.{document_event_list};
 ghost use Rattle.yaml_base.specs.Seen.{seen_event};
-ghost use Rattle.yaml_base.specs.Settings.{Settings};
 ghost use Rattle.yaml_base.specs.graphs.Unfolding.{EventsUnfold};
 ghost use Rattle.yaml_pen.specs.Page.{result_of_error};
-ghost use Rattle.yaml_pen.specs.Wrote.{Grows};
-ghost use Rattle.yaml_dump.specs.Dumps.{Dumps, EmitsEach, IsBegun, ReadsGraphs, closing, opening};
-ghost use Rattle.yaml_dump.specs.GraphTrees.{ReadsTrees};
-ghost use Rattle.yaml_emitter.specs.StandsAfter.{StandsAfter};
+ghost use Rattle.yaml_dump.specs.Dumps.{Dumps, OpensFrom};
 
 use crate::copies::copied_nodes;
 use crate::emitting::emit_each;
@@ -20,7 +15,7 @@ use crate::outlines::outline_of;
 use crate::streams::{yaml_emitter_close, yaml_emitter_open};
 use std::alloc::{AllocError, Allocator};
 use yaml_base::{yaml_document_t, yaml_error_t, yaml_event_t};
-use yaml_emitter::{standing_is_promised, yaml_emitter_t};
+use yaml_emitter::yaml_emitter_t;
 
 /// The events of a document, from its start to its end; none where it has no nodes.
 ///
@@ -69,7 +64,7 @@ fn events_of_copies<A: Allocator + Copy>(
 }
 
 /// The events of a document, into which its texts are moved; none where it has no nodes.
-fn moved_events<A: Allocator + Copy>(
+pub(crate) fn moved_events<A: Allocator + Copy>(
     alloc: A,
     document: yaml_document_t<A>,
 ) -> Result<Vec<yaml_event_t<A>, A>, AllocError>
@@ -86,49 +81,16 @@ fn moved_events<A: Allocator + Copy>(
 }
 
 /// Opens the stream where it isn't opened.
-fn open_if_needed<A: Allocator + Copy>(emitter: &mut yaml_emitter_t<A>) -> Result<(), yaml_error_t>
-    requires output { emitter.old.has_output ≡ true }
-    requires no_error { emitter.old.error ≡ None }
-    ensures emits { (given : Settings) (all : List Event) → StandsAfter given all emitter.old
-        → EmitsEach given all (opening emitter.old.opened) result emitter.new }
-    ensures opened { OnOk result (emitter.new.opened ≡ true) }
-    ensures unopened { OnErr result ((emitter.old.opened ≡ false) × (emitter.new.opened ≡ false)) }
-    ensures closed { emitter.new.closed ≡ emitter.old.closed }
-    ensures begun { IsBegun emitter.old emitter.new }
-    ensures grows { Grows emitter.old.page emitter.new.page }
-    ensures given { emitter.new.given ≡ emitter.old.given }
-    ensures taken { emitter.new.page.taken ≡ emitter.old.page.taken }
-    ensures output { emitter.new.has_output ≡ true }
-    ensures answered { result ≡ result_of_error emitter.new.error }
+pub(crate) fn open_if_needed<A: Allocator + Copy>(
+    emitter: &mut yaml_emitter_t<A>,
+) -> Result<(), yaml_error_t>
+    requires { emitter.old.has_output ≡ true }
+    ensures { OpensFrom emitter.old.opened emitter.old result emitter.new }
 {
     if emitter.is_opened() {
-        standing_is_promised();
         return Ok(());
     }
     yaml_emitter_open(emitter)
-}
-
-/// Closes an opened stream where it isn't closed.
-fn close_if_needed<A: Allocator + Copy>(emitter: &mut yaml_emitter_t<A>) -> Result<(), yaml_error_t>
-    requires opened { emitter.old.opened ≡ true }
-    requires output { emitter.old.has_output ≡ true }
-    requires no_error { emitter.old.error ≡ None }
-    ensures emits { (given : Settings) (all : List Event) → StandsAfter given all emitter.old
-        → EmitsEach given all (closing emitter.old.closed) result emitter.new }
-    ensures opened { emitter.new.opened ≡ true }
-    ensures closed { OnOk result (emitter.new.closed ≡ true) }
-    ensures unclosed { OnErr result (emitter.new.closed ≡ emitter.old.closed) }
-    ensures begun { IsBegun emitter.old emitter.new }
-    ensures grows { Grows emitter.old.page emitter.new.page }
-    ensures given { emitter.new.given ≡ emitter.old.given }
-    ensures taken { emitter.new.page.taken ≡ emitter.old.page.taken }
-    ensures output { emitter.new.has_output ≡ true }
-{
-    if emitter.is_closed() {
-        standing_is_promised();
-        return Ok(());
-    }
-    yaml_emitter_close(emitter)
 }
 
 /// Emits a document's events, after opening the stream where it isn't opened; a document without nodes closes the
@@ -146,26 +108,12 @@ pub fn yaml_emitter_dump<A: Allocator + Copy>(
     requires { emitter.old.has_output ≡ true }
     ensures failed { IsSome emitter.old.error → (emitter.new ≡ emitter.old) × (result ≡ result_of_error emitter.old.error) }
     ensures dumps { emitter.old.error ≡ None → Dumps (graph_of document) emitter.old result emitter.new }
-    ensures unfolds { OnOk result ((length (graph_of document).nodes == 0) ≡ false
-        → EventsUnfold (graph_of document) (document_event_list (graph_of document))) }
-    ensures graphs { OnOk result ((length (graph_of document).nodes == 0) ≡ true → emitter.old.closed ≡ false → (given : Settings) (all : List Event)
-        → StandsAfter given all emitter.old → ReadsGraphs given ((all ++ opening emitter.old.opened) ++ stream_end ∷ []) emitter.new) }
-    ensures trees { OnOk result ((length (graph_of document).nodes == 0) ≡ true → emitter.old.closed ≡ false → (given : Settings) (all : List Event)
-        → StandsAfter given all emitter.old → ReadsTrees given ((all ++ opening emitter.old.opened) ++ stream_end ∷ []) emitter.new) }
     ensures opened { OnOk result (emitter.new.opened ≡ true) }
-    ensures unclosed { OnErr result (emitter.new.closed ≡ emitter.old.closed) }
-    ensures closed { OnOk result (emitter.new.closed ≡ (emitter.old.closed || length (graph_of document).nodes == 0)) }
-    ensures begun { IsBegun emitter.old emitter.new }
-    ensures grows { Grows emitter.old.page emitter.new.page }
-    ensures given { emitter.new.given ≡ emitter.old.given }
-    ensures taken { emitter.new.page.taken ≡ emitter.old.page.taken }
     ensures output { emitter.new.has_output ≡ true }
 {
     if let Some(error) = emitter.error() {
         return Err(error);
     }
-    // A law: what the nodes hold are numbers of nodes.
-    document.numbers_name_nodes();
     let is_empty = document.is_empty();
     let Ok(events) = moved_events(alloc, document) else {
         return Err(yaml_error_t::Memory);
@@ -174,7 +122,7 @@ pub fn yaml_emitter_dump<A: Allocator + Copy>(
         return Err(error);
     }
     if is_empty {
-        return close_if_needed(emitter);
+        return yaml_emitter_close(emitter);
     }
     emit_each(emitter, events)
 }

@@ -1,7 +1,16 @@
 //! Laws of dumped graphs, each the contract of a function that does nothing.
 
+ghost use Rattle.yaml_dump.specs.DumpsTell.{DumpsTell};
 ghost use Rattle.yaml_dump.specs.EqualBytes as equal;
 ghost use Rattle.yaml_dump.specs.GraphTrees.{DumpedTreesUnfold};
+ghost use Rattle.yaml_dump.specs.TypedDumps.{TypedDumpsReadBack};
+
+use yaml_emitter::standing_is_promised;
+
+/// What follows of a dump, and of events that are emitted in order.
+pub fn dumps_tell()
+    ensures { DumpsTell }
+{}
 
 /// Documents that agree with the events of dumped graphs unfold these graphs, each its own, but for styles: the same nodes
 /// are shared, in each place the tag is the node's (where none was read, that of its kind), and version and directives are
@@ -27,3 +36,12 @@ pub fn equal_bytes_tell_graphs()
 pub fn equal_graphs_give_bytes()
     ensures { equal.EqualGraphsGiveBytes }
 {}
+
+/// What is read of documents that were dumped with their types unfolds their graphs with all their tags, whichever schema resolves it: the
+/// type repository of YAML 1.1 or the core schema of YAML 1.2. So it is of an emitter that was given the typed events of a whole stream of
+/// documents and has no error; with portable mode off two kinds of streams are excepted (see `streams_read_back` of `yaml_emitter`).
+pub fn typed_dumps_read_back()
+    ensures { TypedDumpsReadBack }
+{
+    standing_is_promised();
+}

@@ -14,9 +14,10 @@ pub mod LastFlushes
 pub mod Emitting
 pub mod StandingSet
 pub mod Promising
+pub mod StandingFlagged
+pub mod Moving
 pub mod KeepsSet
 pub mod Growing
-pub mod StandingFlagged
 pub mod Taking
 pub mod TakenFrom
 pub mod KeptDocuments

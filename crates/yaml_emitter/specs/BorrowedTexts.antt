@@ -1,10 +1,12 @@
 -- Borrowed texts, as the definitions see them.
-use Rattle.std.specs.Prelude.{ℕ, Option, List, option_map, option_copied, chars}
+use Rattle.std.specs.Prelude.{◌≡◌, ℕ, Option, List, Result, Ok, Err, String, option_map, option_copied, chars}
 use Rattle.std.specs.Borrow.{Bor}
 use Rattle.yaml_base.specs.Characters.{Text}
 use Rattle.yaml_base.specs.Tags.{Spelling, shorthand, verbatim}
 use Rattle.yaml_base.specs.Event.{Scalar, Collection, CollectionStyle}
-use Rattle.yaml_base.specs.Seen.{seen_scalar_style}
+use Rattle.yaml_base.specs.Seen.{seen_scalar_style, seen_text}
+use Rattle.yaml_base.specs.declared.errors.yaml_error_t.{yaml_error_t}
+use Rattle.yaml_base.specs.declared.errors.yaml_error_t.TheVariants.{Memory}
 use Rattle.yaml_emitter.specs.declared.writing.contents.ScalarContent.{ScalarContent}
 use Rattle.yaml_emitter.specs.declared.writing.contents.CollectionContent.{CollectionContent}
 use Rattle.yaml_emitter.specs.declared.writing.spelling.SpelledTag.{SpelledTag}
@@ -13,6 +15,11 @@ use Rattle.yaml_emitter.specs.declared.writing.spelling.SpelledTag.TheVariants.{
 -- a borrowed text, where there is one
 abbrev pub seen_name : Option (Bor (List ℕ)) → Option Text
 seen_name name = option_map chars (option_copied name)
+
+-- a copy of a text, or no memory for one
+abbrev pub CopiesText : {A : Type 0} → Text → Result (String A) yaml_error_t → Type 0
+CopiesText text (Ok copy) = seen_text copy ≡ text
+CopiesText text (Err error) = error ≡ Memory
 
 -- a spelling by its characters
 abbrev pub seen_spelling : SpelledTag → Spelling

@@ -1,5 +1,5 @@
 -- What a call that gives an event does, whether it owns the event or borrows it.
-use Rattle.std.specs.Prelude.{◌≡◌, true, false, None, IsSome, Result, Ok, Err, IfErr, IsOk, List, [], ◌∷◌, ◌++◌}
+use Rattle.std.specs.Prelude.{◌≡◌, ◌≤◌, ℕ, true, false, None, Some, IsSome, Result, Ok, Err, IsOk, List, [], ◌∷◌, ◌++◌, drop, length}
 use Rattle.yaml_base.specs.Settings.{Settings}
 use Rattle.yaml_base.specs.Event.{Event}
 use Rattle.yaml_base.specs.Ready.{written}
@@ -7,46 +7,82 @@ use Rattle.yaml_base.specs.declared.errors.yaml_error_t.{yaml_error_t}
 use Rattle.yaml_base.specs.declared.errors.yaml_error_t.TheVariants.{Memory}
 use Rattle.yaml_pen.specs.Page.{result_of_error}
 use Rattle.yaml_pen.specs.Wrote.{Grows}
-use Rattle.yaml_emitter.specs.State.{MachineState, State, KeepsGiven, KeepsSet}
-use Rattle.yaml_emitter.specs.StandsAfter.{MachineStands, Reached, StandsAfter, failed_by}
-use Rattle.yaml_emitter.specs.Promises.{FitsLimit, Promised}
-use Rattle.yaml_emitter.specs.Queue.{are_ready_by_one_more}
+use Rattle.yaml_emitter.specs.State.{MachineState, State, KeepsGiven, KeepsSet, machine_of}
+use Rattle.yaml_emitter.specs.StandsAfter.{MachineStands, Reached, ReachedOn, StandsAfter, failed_by}
+use Rattle.yaml_emitter.specs.Promises.{Promised}
+use Rattle.yaml_emitter.specs.Moves.{Moves}
+use Rattle.yaml_emitter.specs.Queue.{are_ready_by_one_more, is_head_ready}
+use Rattle.yaml_emitter.specs.declared.borrowed.ScalarAnswer.{ScalarAnswer}
+use Rattle.yaml_emitter.specs.declared.borrowed.ScalarAnswer.TheVariants.{Taken, NotTaken}
 
 -- a call's error, where it has one, is kept
 abbrev pub kept_error : Result (Unit {0}) yaml_error_t → MachineState → MachineState
 kept_error (Ok _) machine = machine
 kept_error (Err error) machine = failed_by error machine
 
--- a machine was given an event with which all that wait are ready, itself included
-pub record WroteBehind (waiting : List Event) (before : MachineState) (event : Event) (answer : Result (Unit {0}) yaml_error_t) (after : MachineState) : Type 0
-  where
-    pub stands : (given : Settings) (all prefix : List Event) → Reached given all prefix (waiting ++ event ∷ []) before
-        → MachineStands given all after.error [] after
-    pub grows : Grows before.page after.page
-    pub set : KeepsGiven before after
-    pub answered : answer ≡ result_of_error after.error
+-- no event waits, or the first isn't ready though this one stands behind them
+abbrev pub StillWait : List Event → (last : Event) → Type 0
+StillWait [] last = Unit {0}
+StillWait (event ∷ rest) last = is_head_ready (event ∷ rest ++ last ∷ []) ≡ false
 
--- none waited
-abbrev pub WroteAlone : MachineState → Event → Result (Unit {0}) yaml_error_t → MachineState → Type 0
-WroteAlone before event answer after = WroteBehind [] before event answer after
+-- of the events that waited, the first `count` are written, and no other is ready though this one stands behind them
+pub record WroteWaiting (waiting : List Event) (last : Event) (count : ℕ) (before after : MachineState) : Type 0 where
+  pub within : count ≤ length waiting
+  pub reached : ReachedOn (waiting ++ last ∷ []) before (drop count waiting ++ last ∷ []) after
+  pub waits : StillWait (drop count waiting) last
+
+-- an emitter wrote those
+pub record Settled (before : State) (last : Event) (after : State) : Type 0 where
+  pub count : ℕ
+  pub held : after.held ≡ drop count before.held
+  pub wrote : WroteWaiting before.held last count (machine_of before) (machine_of after)
+  pub unready : is_head_ready (before.held ++ last ∷ []) ≡ false → count ≡ 0
+  pub grows : Grows before.page after.page
+  pub set : KeepsSet before after
+  pub no_error : after.error ≡ None
+
+-- one of them failed
+pub record SettlingFailed (before : State) (last : Event) (error : yaml_error_t) (after : State) : Type 0 where
+  pub ready : is_head_ready (before.held ++ last ∷ []) ≡ true
+  pub stands : (given : Settings) (all prefix : List Event) → Reached given all prefix (before.held ++ last ∷ []) (machine_of before)
+      → MachineStands given all (Some error) after.held (machine_of after)
+  pub grows : Grows before.page after.page
+  pub set : KeepsSet before after
+  pub is_error : after.error ≡ Some error
+
+-- an emitter wrote the events that were ready once this one stood behind those that wait
+abbrev pub Settles : State → (last : Event) → Result (Unit {0}) yaml_error_t → State → Type 0
+Settles before last (Ok _) after = Settled before last after
+Settles before last (Err error) after = SettlingFailed before last error after
+
+-- a machine was given an event that is ready, where none waits
+pub record WroteAlone (before : MachineState) (event : Event) (answer : Result (Unit {0}) yaml_error_t) (after : MachineState) : Type 0 where
+  pub stands : (given : Settings) (all prefix : List Event) → Reached given all prefix (event ∷ []) before
+      → MachineStands given all after.error [] after
+  pub grows : Grows before.page after.page
+  pub set : KeepsGiven before after
+  pub answered : answer ≡ result_of_error after.error
 
 -- an emitter was given an event: what `yaml_emitter_emit` says of its event, clause by clause
 pub record EmitsEvent (before : State) (event : Event) (answer : Result (Unit {0}) yaml_error_t) (after : State) : Type 0 where
-  pub stands : (given : Settings) (all : List Event) → StandsAfter given all before → StandsAfter given (all ++ event ∷ []) after
+  pub moves : Moves before (event ∷ []) answer after
   pub promised : (given : Settings) (all : List Event) → StandsAfter given all before → Promised given (all ++ event ∷ []) after
-  pub fits : (given : Settings) (all : List Event) → StandsAfter given all before → FitsLimit given (all ++ event ∷ [])
-      → IfErr answer (λ error. error ≡ Memory)
-  pub grows : Grows before.page after.page
   pub waits : (given : Settings) (all : List Event) → StandsAfter given all before → before.error ≡ None
       → written (all ++ event ∷ []) ≡ written all → IsOk answer
   pub kept : IsSome before.error → after ≡ record before { started = true }
-  pub set : KeepsSet (record before { started = true }) after
-  pub answered : answer ≡ result_of_error after.error
-  pub output : after.has_output ≡ true
 
 -- there was no memory to copy a scalar that has to wait, since not all before it are ready with it: nothing changed, and the emitter has no error
-pub record CopyFailed (before : State) (answer : Result (Unit {0}) yaml_error_t) (after : State) : Type 0 where
-  pub memory : answer ≡ Err Memory
+pub record CopyFailed (before after : State) : Type 0 where
   pub unchanged : after ≡ before
   pub no_error : before.error ≡ None
   pub waits : are_ready_by_one_more before.held ≡ false
+
+-- an emitter took a scalar, or there was no memory to copy it
+abbrev pub EmitsScalar : State → Event → ScalarAnswer → State → Type 0
+EmitsScalar before event (Taken answer) after = EmitsEvent before event answer after
+EmitsScalar before event NotTaken after = CopyFailed before after
+
+-- what is returned where nothing more is asked: want of memory for a scalar that wasn't taken
+abbrev pub result_of_answer : ScalarAnswer → Result (Unit {0}) yaml_error_t
+result_of_answer (Taken answer) = answer
+result_of_answer NotTaken = Err Memory

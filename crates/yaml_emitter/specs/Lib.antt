@@ -11,6 +11,7 @@ pub mod InForce
 pub mod Nesting
 pub mod WrittenPieces
 pub mod WrittenAtoms
+pub mod WrittenScalars
 pub mod State
 pub mod MachineInside
 pub mod Inside
@@ -20,5 +21,7 @@ pub mod StandsAfter
 pub mod Uncut
 pub mod EncodedAlike
 pub mod Promises
+pub mod KeptDocuments
+pub mod Moves
 pub mod EmitsEvent
 pub mod NodeEvents

@@ -1,7 +1,8 @@
 -- Events within a document, and the stage that they stand at.
-use Rattle.std.specs.Prelude.{Bool, true, false, not, is_some, ◌&&◌, ◌||◌}
+use Rattle.std.specs.Prelude.{Bool, true, false, None, not, ◌&&◌}
+use Rattle.yaml_base.specs.Characters.{Text}
 use Rattle.yaml_base.specs.Settings.{Effective}
-use Rattle.yaml_base.specs.Event.{Collection, Event, alias, scalar, sequence_start, sequence_end, mapping_start, mapping_end}
+use Rattle.yaml_base.specs.Event.{Collection, Event, Scalar, ScalarStyle, scalar, sequence_start, sequence_end, mapping_start, mapping_end}
 use Rattle.yaml_base.specs.Layout.{Brackets, square, curly, Role, as_item, as_key, is_undented}
 use Rattle.yaml_base.specs.Steps.{Stage, at_node}
 
@@ -10,24 +11,15 @@ abbrev pub is_at_node : Stage → Bool
 is_at_node (at_node directives frames) = true
 is_at_node _ = false
 
+-- a scalar
+abbrev pub is_scalar : Event → Bool
+is_scalar (scalar content) = true
+is_scalar _ = false
+
 -- a scalar without anchor and tag, which needs no tag in any style
-abbrev pub needs_no_properties : Event → Bool
-needs_no_properties (scalar content) = not (is_some content.anchor || is_some content.tag) && content.plain_implicit && content.quoted_implicit
-needs_no_properties _ = false
-
--- an alias or a scalar
-abbrev pub is_leaf : Event → Bool
-is_leaf (alias name) = true
-is_leaf (scalar content) = true
-is_leaf _ = false
-
--- the start of a collection without anchor and tag, or the end of one
-abbrev pub is_bare_collection : Event → Bool
-is_bare_collection (sequence_start start) = not (is_some start.anchor || is_some start.tag)
-is_bare_collection (mapping_start start) = not (is_some start.anchor || is_some start.tag)
-is_bare_collection sequence_end = true
-is_bare_collection mapping_end = true
-is_bare_collection _ = false
+abbrev pub bare_scalar : Text → ScalarStyle → Scalar
+bare_scalar value style =
+    record { anchor = None; tag = None; value = value; plain_implicit = true; quoted_implicit = true; style = style }
 
 -- the start of a mapping, or of a sequence
 abbrev pub start_event : (mapping : Bool) → Collection → Event

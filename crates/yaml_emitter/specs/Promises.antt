@@ -49,19 +49,6 @@ pub record QueuesUnready (all : List Event) (state : State) : Type 0 where
   pub few : length state.held ≤ most_held state.held
   pub starts : begins_with_start state.held ≡ true
 
--- an event that became ready was refused: those before it begin an accepted list, with it they begin none; the text is
--- that before it
-pub record RefusedAt (given : Settings) (all : List Event) (error : yaml_error_t) (state : State) : Type 0 where
-  pub prefix : List Event
-  pub event : Event
-  pub later : List Event
-  pub parts : prefix ++ event ∷ later ≡ all
-  pub became_ready : length prefix < written all
-  pub refusal : refusal given.canonical prefix event ≡ Some error
-  pub begins : BeginsAccepted given.canonical prefix
-  pub ends : BeginsAccepted given.canonical (prefix ++ event ∷ []) → ⊥
-  pub text : HasText given all (length prefix) state
-
 -- an accepted list begins with these events: the text of the first so many pieces of its layout is a prefix of the text so
 -- far, which is a prefix of that of these events' pieces; the output is a prefix of its bytes, and begins with all bytes of the
 -- documents among the first so many events
@@ -81,15 +68,29 @@ pub record BeginsOutput (given : Settings) (all prefix : List Event) (count : �
       state.page.output ≡ cut (length state.page.output) (bytes_written s (list_layout s (prefix ++ more)))
   pub flushed : StaysFlushed given all count state.page.output
 
--- after an error: the events before the one in work are written whole; of its own piece nothing is, or a prefix
-pub data StopsWriting (given : Settings) (all : List Event) (state : State) : Type 0 where
-  stops_before : (prefix : List Event) → BeginsOutput given all prefix (length prefix) state → StopsWriting given all state
-  stops_within : (prefix : List Event) (event : Event) → BeginsOutput given all (prefix ++ event ∷ []) (length prefix) state → StopsWriting given all state
+-- an event that became ready was refused: those before it begin an accepted list, with it they begin none; text and output are
+-- those of the events before it
+pub record RefusedAt (given : Settings) (all : List Event) (error : yaml_error_t) (state : State) : Type 0 where
+  pub prefix : List Event
+  pub event : Event
+  pub later : List Event
+  pub parts : prefix ++ event ∷ later ≡ all
+  pub became_ready : length prefix < written all
+  pub refusal : refusal given.canonical prefix event ≡ Some error
+  pub begins : BeginsAccepted given.canonical prefix
+  pub ends : BeginsAccepted given.canonical (prefix ++ event ∷ []) → ⊥
+  pub text : HasText given all (length prefix) state
+  pub output : BeginsOutput given all prefix (length prefix) state
+
+-- after an error these events, which come before the one in work, are written whole; of its own piece nothing is, or a prefix
+pub data StopsWriting (given : Settings) (all prefix : List Event) (state : State) : Type 0 where
+  stops_before : BeginsOutput given all prefix (length prefix) state → StopsWriting given all prefix state
+  stops_within : (event : Event) → BeginsOutput given all (prefix ++ event ∷ []) (length prefix) state → StopsWriting given all prefix state
 
 -- without an error the events that are written are all that are ready
 abbrev pub OutputBegins : Settings → List Event → Option yaml_error_t → State → Type 0
 OutputBegins given all None state = BeginsOutput given all (take (written all) all) (written all) state
-OutputBegins given all (Some error) state = StopsWriting given all state
+OutputBegins given all (Some error) state = (prefix : List Event) × StopsWriting given all prefix state
 
 -- an accepted list begins with these events whose bytes are within the limit
 pub record FitsLimit (given : Settings) (all : List Event) : Type 0 where

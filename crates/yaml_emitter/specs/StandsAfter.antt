@@ -1,6 +1,6 @@
 -- An emitter stands after the events that it was given: what its state must be, for the proofs. What its caller may rely on
 -- is in `Promises`; of the words here contracts name `StandsAfter` alone.
-use Rattle.std.specs.Prelude.{◌≡◌, ◌+◌, ◌<◌, ◌≤◌, ℕ, Bool, true, false, Option, None, Some, Result, List, [], ◌∷◌, ◌++◌, length, take, drop}
+use Rattle.std.specs.Prelude.{◌≡◌, ◌+◌, ◌<◌, Bool, true, false, Option, None, Some, Result, List, [], ◌∷◌, ◌++◌, length, take}
 use Rattle.std.specs.List.{list_all}
 use Rattle.yaml_base.specs.Settings.{Settings, Effective}
 use Rattle.yaml_base.specs.Event.{Event}
@@ -17,7 +17,6 @@ use Rattle.yaml_pen.specs.Page.{Page, new_page, encoded, IsFlushedOutput}
 use Rattle.yaml_emitter.specs.StaysFlushed.{StaysFlushed}
 use Rattle.yaml_emitter.specs.State.{MachineState, State, machine_of, standing_of}
 use Rattle.yaml_emitter.specs.Processing.{Processed, closes_at_once}
-use Rattle.yaml_emitter.specs.Queue.{is_head_ready}
 
 -- a page of a stream that was begun, with its settings, and this text
 pub record IsPage (s : Effective) (page : Page) : Type 0 where
@@ -160,13 +159,7 @@ ReachedOn waiting before left after =
     (given : Settings) (all prefix : List Event) → Reached given all prefix waiting before
     → (next : List Event) × Reached given all next left after
 
--- the first `count` events that waited are written, and the next isn't ready
-pub record WroteReady (waiting : List Event) (count : ℕ) (before after : MachineState) : Type 0 where
-  pub within : count ≤ length waiting
-  pub reached : ReachedOn waiting before (drop count waiting) after
-  pub ended : is_head_ready (drop count waiting) ≡ false
-
--- one of them failed, wherever the machine had come
+-- one of these failed, wherever the machine had come
 abbrev pub FailedReady : (waiting : List Event) → (error : yaml_error_t) → (before after : MachineState) → Type 0
 FailedReady waiting error before after =
     (given : Settings) (all prefix : List Event) → Reached given all prefix waiting before → StandsFailed given all error (failed_by error after)

@@ -1,61 +1,19 @@
 //! What is refused in an event's own content: names, tags, flags, directives.
 
-ghost use Rattle.std.specs.Prelude.{◌≡◌, None, chars, option_and_then, if◌then◌else◌};
+ghost use Rattle.std.specs.Prelude.{◌≡◌, Bool, None, chars, option_and_then, if◌then◌else◌};
 ghost use Rattle.yaml_base.specs.Errors.{refused};
-ghost use Rattle.yaml_base.specs.Event.{scalar};
+ghost use Rattle.yaml_base.specs.Event.{CollectionStyle, scalar};
 ghost use Rattle.yaml_base.specs.Refusal.{name_or_tag_fault, properties_fault};
-ghost use Rattle.yaml_base.specs.Seen.{seen_event};
 ghost use Rattle.yaml_base.specs.Tags.{alias_fault, anchor_fault, tag_fault};
-ghost use Rattle.yaml_emitter.specs.BorrowedTexts.{seen_name, seen_scalar};
+ghost use Rattle.yaml_emitter.specs.BorrowedTexts.{seen_collection, seen_name, seen_scalar};
+ghost use Rattle.yaml_emitter.specs.NodeEvents.{start_event};
 
-use crate::writing::{ScalarContent, borrowed_text, writes_collection_tag, writes_scalar_tag};
-use std::alloc::Allocator;
-use yaml_base::{
-    YAML_ALIAS_EVENT, YAML_MAPPING_START_EVENT, YAML_SCALAR_EVENT, YAML_SEQUENCE_START_EVENT,
-    yaml_error_t, yaml_event_t,
-};
+use crate::writing::{CollectionContent, ScalarContent, writes_collection_tag, writes_scalar_tag};
+use yaml_base::yaml_error_t;
 use yaml_mark::analyze_anchor;
 
-/// Refuses a faulty anchor or alias, and an empty tag where the tag is written.
-#[inline(always)]
-pub(crate) fn check_names<A: Allocator>(
-    canonical: bool,
-    event: &yaml_event_t<A>,
-) -> Result<(), yaml_error_t>
-    ensures { refused result ≡ name_or_tag_fault canonical (seen_event event.now) }
-{
-    match event {
-        YAML_ALIAS_EVENT { anchor } => check_alias(anchor.as_str()),
-        YAML_SCALAR_EVENT {
-            anchor,
-            tag,
-            plain_implicit,
-            quoted_implicit,
-            ..
-        } => {
-            let written = writes_scalar_tag(canonical, *plain_implicit, *quoted_implicit);
-            check_properties(borrowed_text(anchor), borrowed_text(tag), written)
-        }
-        YAML_SEQUENCE_START_EVENT {
-            anchor,
-            tag,
-            implicit,
-            ..
-        }
-        | YAML_MAPPING_START_EVENT {
-            anchor,
-            tag,
-            implicit,
-            ..
-        } => {
-            let written = writes_collection_tag(canonical, *implicit);
-            check_properties(borrowed_text(anchor), borrowed_text(tag), written)
-        }
-        _ => Ok(()),
-    }
-}
-
 /// Refuses a scalar's faulty anchor, and an empty tag where the tag is written.
+#[inline(always)]
 pub(crate) fn check_scalar_names(
     canonical: bool,
     content: &ScalarContent,
@@ -63,6 +21,19 @@ pub(crate) fn check_scalar_names(
     ensures { refused result ≡ name_or_tag_fault canonical (scalar (seen_scalar content.now)) }
 {
     let written = writes_scalar_tag(canonical, content.plain_implicit, content.quoted_implicit);
+    check_properties(content.anchor, content.tag, written)
+}
+
+/// Refuses a collection's faulty anchor, and an empty tag where the tag is written.
+#[inline(always)]
+pub(crate) fn check_collection_names(
+    canonical: bool,
+    content: &CollectionContent,
+) -> Result<(), yaml_error_t>
+    ensures { (mapping : Bool) (style : CollectionStyle)
+        → refused result ≡ name_or_tag_fault canonical (start_event mapping (seen_collection content.now style)) }
+{
+    let written = writes_collection_tag(canonical, content.implicit);
     check_properties(content.anchor, content.tag, written)
 }
 
@@ -78,6 +49,7 @@ fn check_properties(
     if tag_written { check_tag(tag) } else { Ok(()) }
 }
 
+#[inline(always)]
 fn check_anchor(anchor: Option<&str>) -> Result<(), yaml_error_t>
     ensures { refused result ≡ option_and_then anchor_fault (seen_name anchor.entry) }
 {
@@ -94,13 +66,14 @@ fn check_anchor_name(name: &str) -> Result<(), yaml_error_t>
     analyze_anchor(name, alias)
 }
 
-fn check_alias(name: &str) -> Result<(), yaml_error_t>
+pub(crate) fn check_alias(name: &str) -> Result<(), yaml_error_t>
     ensures { refused result ≡ alias_fault (chars name.now) }
 {
     let alias = true;
     analyze_anchor(name, alias)
 }
 
+#[inline(always)]
 fn check_tag(tag: Option<&str>) -> Result<(), yaml_error_t>
     ensures { refused result ≡ option_and_then tag_fault (seen_name tag.entry) }
 {

@@ -1,28 +1,27 @@
 //! Events that wait are written where they are ready.
 
-ghost use Rattle.std.specs.Prelude.{◌≡◌, ◌<◌, None, List, [], ◌∷◌, ◌++◌, length, OnOk, IfOk, IfErr, IsOk, IsSome, Err, false, true};
+ghost use Rattle.std.specs.Prelude.{◌≡◌, None, Ok, List, [], ◌∷◌, ◌++◌, OnOk, IfOk, IfErr, IsOk, IsSome, Err, false, true};
 ghost use Rattle.yaml_base.specs.Event.{Event, Scalar, scalar};
 ghost use Rattle.yaml_base.specs.Seen.{seen_event, seen_events};
 ghost use Rattle.yaml_base.specs.Ready.{written};
 ghost use Rattle.yaml_base.specs.Settings.{Settings};
 ghost use Rattle.yaml_pen.specs.Page.{result_of_error, output_left};
 ghost use Rattle.yaml_pen.specs.Wrote.{Grows};
-ghost use Rattle.yaml_emitter.specs.Promises.{FitsLimit, HasAllBytes, Promised};
-ghost use Rattle.yaml_emitter.specs.Queue.{are_ready_by_one_more, is_head_ready};
+ghost use Rattle.yaml_emitter.specs.Moves.{Moves};
+ghost use Rattle.yaml_emitter.specs.Promises.{HasAllBytes, Promised};
+ghost use Rattle.yaml_emitter.specs.Queue.{StandsLast, is_head_ready, seen_next};
 ghost use Rattle.yaml_emitter.specs.State.{KeepsGiven, KeepsSet, with_all_taken};
-ghost use Rattle.yaml_emitter.specs.EmitsEvent.{WroteAlone, kept_error};
-ghost use Rattle.yaml_emitter.specs.StandsAfter.{FailedReady, StandsAfter, ProcessedFirst, ReachedOn, WroteReady};
+ghost use Rattle.yaml_emitter.specs.EmitsEvent.{Settles, WroteAlone, WroteWaiting, kept_error};
+ghost use Rattle.yaml_emitter.specs.StandsAfter.{FailedReady, StandsAfter};
 
 use crate::emitter::yaml_emitter_t;
 use crate::machine::Machine;
-use crate::queue::{
-    closes_at_once, drop_written, first_and_rest, is_next_ready, is_ready_alone, waits_alone,
-};
+use crate::queue::{closes_at_once, first_and_rest, is_ready, needs_no_waiting, nothing_waits};
 use std::alloc::Allocator;
 use yaml_base::{yaml_error_t, yaml_event_t};
 
-/// Takes an event, and writes what can be written now. An event that starts a document or a collection waits
-/// for the events that decide how it is written; at most three follow it.
+/// Takes an event, and writes what can be written now. The start of a document or of a collection is queued until the
+/// next one to three events decide its form.
 ///
 /// Returns the first error, of this call or an earlier one. The event is taken in each case. After an error nothing
 /// waits, and nothing more is written. If a well-formed stream begins with the events and fits the limit, the only
@@ -33,41 +32,25 @@ pub fn yaml_emitter_emit<A: Allocator + Copy>(
     event: yaml_event_t<A>,
 ) -> Result<(), yaml_error_t>
     requires { emitter.old.has_output ≡ true }
-    ensures stands { (given : Settings) (all : List Event) → StandsAfter given all emitter.old → StandsAfter given (all ++ seen_event event ∷ []) emitter.new }
+    ensures moves { Moves emitter.old (seen_event event ∷ []) result emitter.new }
     ensures promised { (given : Settings) (all : List Event) → StandsAfter given all emitter.old → Promised given (all ++ seen_event event ∷ []) emitter.new }
-    ensures fits { (given : Settings) (all : List Event) → StandsAfter given all emitter.old → FitsLimit given (all ++ seen_event event ∷ [])
-        → IfErr result (λ error. error ≡ yaml_error_t.Memory) }
-    ensures grows { Grows emitter.old.page emitter.new.page }
     ensures waits { (given : Settings) (all : List Event) → StandsAfter given all emitter.old → emitter.old.error ≡ None
         → written (all ++ seen_event event ∷ []) ≡ written all → IsOk result }
     ensures kept { IsSome emitter.old.error → emitter.new ≡ record emitter.old { started = true } }
-    ensures set { KeepsSet (record emitter.old { started = true }) emitter.new }
-    ensures answered { result ≡ result_of_error emitter.new.error }
     ensures output { emitter.new.has_output ≡ true }
 {
     emitter.started = true;
     if let Some(error) = emitter.machine.error() {
         return Err(error);
     }
-    if is_ready_alone(&emitter.queue, &event) {
-        return emitter.machine.write_alone(&event);
+    if let Err(error) = emitter.write_waiting(Some(&event)) {
+        return Err(error);
     }
-    if waits_alone(&emitter.queue, &event) {
-        emitter.queue.push_reserved(event);
-        return Ok(());
+    if needs_no_waiting(&emitter.queue, &event) {
+        return emitter.machine.give(&event);
     }
     emitter.queue.push_reserved(event);
-    match write_ready(&mut emitter.machine, emitter.queue.as_slice()) {
-        Ok(written) => {
-            drop_written(&mut emitter.queue, written);
-            Ok(())
-        }
-        Err(error) => {
-            emitter.queue.clear();
-            emitter.machine.fail(error);
-            Err(error)
-        }
-    }
+    Ok(())
 }
 
 /// Flushes all that is written. Events that wait go on waiting.
@@ -80,18 +63,12 @@ pub fn yaml_emitter_flush<A: Allocator + Copy>(
     emitter: &mut yaml_emitter_t<A>,
 ) -> Result<(), yaml_error_t>
     requires output { emitter.old.has_output ≡ true }
-    ensures stands { (given : Settings) (all : List Event) → StandsAfter given all emitter.old → StandsAfter given all emitter.new }
-    ensures promised { (given : Settings) (all : List Event) → StandsAfter given all emitter.old → Promised given all emitter.new }
-    ensures fits { (given : Settings) (all : List Event) → StandsAfter given all emitter.old → FitsLimit given all
-        → IfErr result (λ error. error ≡ yaml_error_t.Memory) }
-    ensures grows { Grows emitter.old.page emitter.new.page }
+    ensures moves { Moves emitter.old [] result emitter.new }
     ensures flushed { OnOk result ((given : Settings) (all : List Event) → StandsAfter given all emitter.old → HasAllBytes given all emitter.new) }
     ensures unflushed { result ≡ Err yaml_error_t.Memory → emitter.new.page.output ≡ emitter.old.page.output }
     ensures empty { (given : Settings) (all : List Event) → StandsAfter given all emitter.old → emitter.old.error ≡ None → HasAllBytes given all emitter.old
         → emitter.new ≡ emitter.old }
     ensures kept { IsSome emitter.old.error → emitter.new ≡ emitter.old }
-    ensures set { KeepsSet emitter.old emitter.new }
-    ensures answered { result ≡ result_of_error emitter.new.error }
     ensures output { emitter.new.has_output ≡ true }
 {
     if let Some(error) = emitter.machine.error() {
@@ -134,9 +111,59 @@ pub fn yaml_emitter_consume_output<A: Allocator + Copy>(emitter: &mut yaml_emitt
     emitter.machine.consume_output();
 }
 
+impl<A: Allocator + Copy> yaml_emitter_t<A> {
+    /// Writes the queued events that are ready with this one behind them; `None` stands for a scalar.
+    #[inline(always)]
+    pub(crate) fn write_waiting(
+        &mut self,
+        next: Option<&yaml_event_t<A>>,
+    ) -> Result<(), yaml_error_t>
+        requires no_error { self.old.error ≡ None }
+        requires output { self.old.has_output ≡ true }
+        ensures { (last : Event) → StandsLast (seen_next next.entry) last → Settles self.old last result self.new }
+    {
+        if nothing_waits(&self.queue) {
+            return Ok(());
+        }
+        self.write_queue(next)
+    }
+
+    /// Writes the queued events that are ready with a scalar behind them.
+    #[inline(always)]
+    pub(crate) fn write_before_scalar<'a>(&'a mut self) -> Result<(), yaml_error_t>
+        requires no_error { self.old.error ≡ None }
+        requires output { self.old.has_output ≡ true }
+        ensures { (content : Scalar) → Settles self.old (scalar content) result self.new }
+    {
+        let scalar: Option<&'a yaml_event_t<A>> = None;
+        self.write_waiting(scalar)
+    }
+
+    /// What `write_waiting` does where events wait. Out of line, so that `write_waiting` is inlined.
+    #[inline(never)]
+    fn write_queue(&mut self, next: Option<&yaml_event_t<A>>) -> Result<(), yaml_error_t>
+        requires no_error { self.old.error ≡ None }
+        requires output { self.old.has_output ≡ true }
+        ensures { (last : Event) → StandsLast (seen_next next.entry) last → Settles self.old last result self.new }
+    {
+        match self.machine.write_ready(self.queue.as_slice(), next) {
+            Ok(written) => {
+                self.spares.release(&mut self.queue, written);
+                Ok(())
+            }
+            Err(error) => {
+                self.queue.clear();
+                self.machine.fail(error);
+                Err(error)
+            }
+        }
+    }
+}
+
 impl<A: Allocator + Copy> Machine<A> {
-    /// Writes an event that needn't wait, where none waits.
-    fn write_alone(&mut self, event: &yaml_event_t<A>) -> Result<(), yaml_error_t>
+    /// Writes an event that needn't wait, where none waits. An error is kept for good.
+    #[inline(always)]
+    fn give(&mut self, event: &yaml_event_t<A>) -> Result<(), yaml_error_t>
         requires no_error { self.old.error ≡ None }
         requires ready { is_head_ready (seen_event event.now ∷ []) ≡ true }
         ensures { WroteAlone self.old (seen_event event.now) result self.new }
@@ -159,63 +186,36 @@ impl<A: Allocator + Copy> Machine<A> {
         }
         answer
     }
-}
 
-/// Writes the events of a queue that are ready, in order up to the first error, and returns how many they are.
-fn write_ready<A: Allocator + Copy>(
-    machine: &mut Machine<A>,
-    waiting: &[yaml_event_t<A>],
-) -> Result<usize, yaml_error_t>
-    requires { machine.old.error ≡ None }
-    ensures written { IfOk result (λ count. WroteReady (seen_events waiting.now) count machine.old machine.new) }
-    ensures failed { IfErr result (λ error. FailedReady (seen_events waiting.now) error machine.old machine.new) }
-    ensures waits { is_head_ready (seen_events waiting.now) ≡ false → IsOk result }
-    ensures error { machine.new.error ≡ None }
-    ensures grows { Grows machine.old.page machine.new.page }
-    ensures set { KeepsGiven machine.old machine.new }
-{
-    let mut count = 0usize;
-    'events: while is_next_ready(&waiting[count..]) {
-        match write_next(machine, &waiting[count..]) {
-            Ok(()) => count += 1,
-            Err(error) => return Err(error),
+    /// Writes the events that are ready with one behind them, in order up to the first error, and returns how many they are.
+    fn write_ready(
+        &mut self,
+        waiting: &[yaml_event_t<A>],
+        next: Option<&yaml_event_t<A>>,
+    ) -> Result<usize, yaml_error_t>
+        requires { self.old.error ≡ None }
+        ensures written { IfOk result (λ count. (last : Event) → StandsLast (seen_next next.entry) last
+            → WroteWaiting (seen_events waiting.now) last count self.old self.new) }
+        ensures failed { IfErr result (λ error. (last : Event) → StandsLast (seen_next next.entry) last
+            → FailedReady (seen_events waiting.now ++ last ∷ []) error self.old self.new) }
+        ensures waits { (last : Event) → StandsLast (seen_next next.entry) last → is_head_ready (seen_events waiting.now ++ last ∷ []) ≡ false
+            → result ≡ Ok 0 }
+        ensures error { self.new.error ≡ None }
+        ensures grows { Grows self.old.page self.new.page }
+        ensures set { KeepsGiven self.old self.new }
+    {
+        let mut count = 0usize;
+        'events: while count < waiting.len() {
+            let (event, rest) = first_and_rest(&waiting[count..]);
+            if !is_ready(event, rest, next) {
+                return Ok(count);
+            }
+            let empty = closes_at_once(event, rest, next);
+            if let Err(error) = self.process(event, empty) {
+                return Err(error);
+            }
+            count += 1;
         }
+        Ok(count)
     }
-    Ok(count)
-}
-
-/// Writes all events of a queue, in order up to the first error, where a scalar makes them ready that stands behind them.
-pub(crate) fn write_all<A: Allocator + Copy>(
-    machine: &mut Machine<A>,
-    waiting: &[yaml_event_t<A>],
-) -> Result<(), yaml_error_t>
-    requires ready { are_ready_by_one_more (seen_events waiting.now) ≡ true }
-    requires no_error { machine.old.error ≡ None }
-    ensures written { OnOk result ((next : Scalar) → ReachedOn (seen_events waiting.now ++ scalar next ∷ []) machine.old (scalar next ∷ []) machine.new) }
-    ensures failed { IfErr result (λ error. (next : Scalar) → FailedReady (seen_events waiting.now ++ scalar next ∷ []) error machine.old machine.new) }
-    ensures error { machine.new.error ≡ None }
-    ensures grows { Grows machine.old.page machine.new.page }
-    ensures set { KeepsGiven machine.old machine.new }
-{
-    let mut count = 0usize;
-    'events: while count < waiting.len() {
-        match write_next(machine, &waiting[count..]) {
-            Ok(()) => count += 1,
-            Err(error) => return Err(error),
-        }
-    }
-    Ok(())
-}
-
-/// Writes the first of the events that wait.
-fn write_next<A: Allocator + Copy>(
-    machine: &mut Machine<A>,
-    waiting: &[yaml_event_t<A>],
-) -> Result<(), yaml_error_t>
-    requires { 0 < length waiting.now }
-    ensures { ProcessedFirst (seen_events waiting.now) machine.old machine.new result }
-{
-    let (event, rest) = first_and_rest(waiting);
-    let empty = closes_at_once(event, rest);
-    machine.process(event, empty)
 }

@@ -1,4 +1,5 @@
 //! Laws of layouts, each the contract of a function that does nothing.
+ghost use Rattle.yaml_emitter.specs.Moves.{MovesTell};
 ghost use Rattle.std.specs.Prelude.{List};
 ghost use Rattle.yaml_base.specs.Event.{Event};
 ghost use Rattle.yaml_base.specs.Meaning.{CanonicalBytesRead, MeaningIsKept};
@@ -79,4 +80,9 @@ pub fn output_tells_content()
 /// What stands after the events that it was given keeps every promise of them.
 pub fn standing_is_promised()
     ensures { (given : Settings) (all : List Event) (state : State) → StandsAfter given all state → Promised given all state }
+{}
+
+/// What follows of a move.
+pub fn moves_tell()
+    ensures { MovesTell }
 {}

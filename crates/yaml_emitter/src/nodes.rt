@@ -3,27 +3,29 @@
 ghost use Rattle.std.specs.Prelude.{◌≡◌, ◌≤◌, ◌+◌, ℕ, Bool, None, true, false, not, chars, length, is_some, option_map};
 ghost use Rattle.yaml_base.specs.Event.{CollectionStyle, alias, scalar, any_layout};
 ghost use Rattle.yaml_base.specs.Layout as layout;
-ghost use Rattle.yaml_base.specs.Layout.{asks_flow, end_piece, entry_place, line_column};
+ghost use Rattle.yaml_base.specs.Layout.{asks_flow, entry_place, line_column};
 ghost use Rattle.yaml_base.specs.Refusal.{name_or_tag_fault};
 ghost use Rattle.yaml_base.specs.Event.{scalar_tag};
-ghost use Rattle.yaml_base.specs.Seen.{seen_event, seen_mapping_style, seen_scalar_style, seen_sequence_style, seen_text};
-ghost use Rattle.yaml_base.specs.Steps.{is_first};
+ghost use Rattle.yaml_base.specs.Seen.{seen_mapping_style, seen_scalar_style, seen_sequence_style, seen_text};
+ghost use Rattle.yaml_base.specs.Steps.{stage_allows};
 ghost use Rattle.yaml_base.specs.scalars.Style as style;
 ghost use Rattle.yaml_pen.specs.Page.{IsReady};
 ghost use Rattle.yaml_pen.specs.Wrote.{Wrote};
 ghost use Rattle.yaml_scalar.specs.SimpleAsciiTexts.{IsSimpleAscii};
 ghost use Rattle.yaml_emitter.specs.BorrowedTexts.{seen_collection, seen_scalar};
 ghost use Rattle.yaml_emitter.specs.Given.{seen_effective};
-ghost use Rattle.yaml_emitter.specs.NodeEvents.{brackets_of, end_event, first_entry, is_at_node, is_leaf, start_event, starts_undented};
+ghost use Rattle.yaml_emitter.specs.NodeEvents.{bare_scalar, end_event, first_entry, is_at_node, start_event, starts_undented};
 ghost use Rattle.yaml_emitter.specs.Places.{is_mapping, seen_frame, seen_place, seen_role};
 ghost use Rattle.yaml_emitter.specs.Processing.{Processed};
 ghost use Rattle.yaml_emitter.specs.Reach.{most_column};
 ghost use Rattle.yaml_emitter.specs.SimpleAsciiScalars.{StandsPlain};
 ghost use Rattle.yaml_emitter.specs.WrittenPieces.{piece_at};
 
+use crate::check::{check_alias, check_collection_names, check_scalar_names};
 use crate::machine::Machine;
 use crate::place::CollectionKind::{Mapping, Sequence};
 use crate::place::{CollectionKind, Frame, Place, Role};
+use crate::stage::Stage;
 use crate::writing::{
     CollectionContent, ScalarContent, Site, borrowed_text, entries_column, is_simple_alias_key,
     is_simple_ascii_key, is_simple_collection_key, is_simple_scalar_key, is_written_in_flow, spell,
@@ -32,113 +34,58 @@ use crate::writing::{
 };
 use std::alloc::Allocator;
 use yaml_base::{
-    YAML_ALIAS_EVENT, YAML_FLOW_MAPPING_STYLE, YAML_FLOW_SEQUENCE_STYLE, YAML_MAPPING_END_EVENT,
-    YAML_MAPPING_START_EVENT, YAML_SCALAR_EVENT, YAML_SEQUENCE_END_EVENT,
-    YAML_SEQUENCE_START_EVENT, yaml_error_t, yaml_event_t, yaml_mapping_style_t,
+    YAML_FLOW_MAPPING_STYLE, YAML_FLOW_SEQUENCE_STYLE, yaml_error_t, yaml_mapping_style_t,
     yaml_scalar_style_t, yaml_sequence_style_t,
 };
 use yaml_pen::Pen;
 
 impl<A: Allocator + Copy> Machine<A> {
-    /// Where a node may stand, or the end of the innermost open collection.
+    /// A scalar. One that stands as it is has no anchor, and no tag is written: nothing of it can be refused.
     #[inline(always)]
-    pub(crate) fn expect_node(
-        &mut self,
-        event: &yaml_event_t<A>,
-        empty: bool,
-    ) -> Result<(), yaml_error_t>
-        requires stage { is_at_node self.old.stage ≡ true }
-        requires names { name_or_tag_fault self.old.given.canonical (seen_event event.now) ≡ None }
-        ensures { Processed (seen_event event.now) empty self.old self.new result }
-    {
-        match event {
-            YAML_ALIAS_EVENT { anchor } => self.put_alias(anchor.as_str()),
-            YAML_SCALAR_EVENT {
-                anchor,
-                tag,
-                value,
-                plain_implicit,
-                quoted_implicit,
-                style,
-            } => self.put_scalar(&scalar_content(
-                anchor,
-                tag,
-                value,
-                (*plain_implicit, *quoted_implicit),
-                *style,
-            )),
-            _ => self.expect_collection(event, empty),
-        }
-    }
-
-    /// Where the start of a collection may stand, or the end of the innermost one.
-    pub(crate) fn expect_collection(
-        &mut self,
-        event: &yaml_event_t<A>,
-        empty: bool,
-    ) -> Result<(), yaml_error_t>
-        requires stage { is_at_node self.old.stage ≡ true }
-        requires names { name_or_tag_fault self.old.given.canonical (seen_event event.now) ≡ None }
-        requires no_leaf { is_leaf (seen_event event.now) ≡ false }
-        ensures { Processed (seen_event event.now) empty self.old self.new result }
-    {
-        match event {
-            YAML_SEQUENCE_START_EVENT {
-                anchor,
-                tag,
-                implicit,
-                style,
-            } => {
-                let content = collection_content(anchor, tag, *implicit);
-                self.start_collection(&content, Sequence, is_flow_sequence(*style), empty)
-            }
-            YAML_MAPPING_START_EVENT {
-                anchor,
-                tag,
-                implicit,
-                style,
-            } => {
-                let content = collection_content(anchor, tag, *implicit);
-                self.start_collection(&content, Mapping, is_flow_mapping(*style), empty)
-            }
-            YAML_SEQUENCE_END_EVENT => self.end_collection(Sequence),
-            YAML_MAPPING_END_EVENT => self.end_collection(Mapping),
-            _ => Err(yaml_error_t::ExpectedNode),
-        }
-    }
-
-    fn put_alias(&mut self, name: &str) -> Result<(), yaml_error_t>
-        requires stage { is_at_node self.old.stage ≡ true }
-        requires names { name_or_tag_fault self.old.given.canonical (alias (chars name.now)) ≡ None }
-        ensures { (empty : Bool) → Processed (alias (chars name.now)) empty self.old self.new result }
-    {
-        let place = self.frames.next_place();
-        let simple = is_simple_alias_key(&self.settings, &place, name);
-        self.stage = self.frames.advance(simple);
-        let site = Site {
-            settings: &self.settings,
-            place,
-            simple,
-        };
-        write_alias(&mut self.pen, &site, name)
-    }
-
-    /// A scalar, where a node may stand.
-    #[inline(always)]
-    pub(crate) fn put_scalar(&mut self, content: &ScalarContent) -> Result<(), yaml_error_t>
-        requires stage { is_at_node self.old.stage ≡ true }
-        requires names { name_or_tag_fault self.old.given.canonical (scalar (seen_scalar content.now)) ≡ None }
+    pub(crate) fn scalar(&mut self, content: &ScalarContent) -> Result<(), yaml_error_t>
         ensures { (empty : Bool) → Processed (scalar (seen_scalar content.now)) empty self.old self.new result }
     {
-        if stands_plain(&self.settings, content) {
-            self.put_simple_ascii(content.value)
-        } else {
-            self.put_chosen(content)
+        match self.stage {
+            Stage::Node if stands_plain(&self.settings, content) => self.put_simple_ascii(
+                content.value,
+            ),
+            Stage::Node if is_bare(content) => self.put_bare(content.value, content.style),
+            _ => {
+                let apart = *content;
+                self.chosen_scalar(&apart)
+            }
         }
     }
 
-    /// A scalar that stands plain as it is, by its value: what it calls then has one copy, which can be inlined here.
-    pub(crate) fn put_simple_ascii(&mut self, value: &str) -> Result<(), yaml_error_t>
+    /// A scalar without anchor and tag that needs no tag in any style: the tests of names and flags fold away.
+    fn put_bare(&mut self, value: &str, style: yaml_scalar_style_t) -> Result<(), yaml_error_t>
+        requires { is_at_node self.old.stage ≡ true }
+        ensures { (empty : Bool) → Processed (scalar (bare_scalar (chars value.now) (seen_scalar_style style))) empty self.old self.new result }
+    {
+        self.put_chosen(&ScalarContent {
+            anchor: None,
+            tag: None,
+            value,
+            plain_implicit: true,
+            quoted_implicit: true,
+            style,
+        })
+    }
+
+    /// Any other scalar: its anchor and tag are looked at before its place.
+    #[inline(never)]
+    fn chosen_scalar(&mut self, content: &ScalarContent) -> Result<(), yaml_error_t>
+        ensures { (empty : Bool) → Processed (scalar (seen_scalar content.now)) empty self.old self.new result }
+    {
+        check_scalar_names(self.settings.canonical, content)?;
+        match self.stage {
+            Stage::Node => self.put_chosen(content),
+            stage => Err(stage.refusal()),
+        }
+    }
+
+    /// Writes a simple ASCII scalar that stands plain as it is. Takes only the value, so that all it calls is inlined.
+    fn put_simple_ascii(&mut self, value: &str) -> Result<(), yaml_error_t>
         requires stage { is_at_node self.old.stage ≡ true }
         requires simple_ascii { IsSimpleAscii value.now }
         ensures { (content : ScalarContent) → StandsPlain self.old.settings.canonical content → content.value.now ≡ value.now
@@ -180,19 +127,40 @@ impl<A: Allocator + Copy> Machine<A> {
         write_scalar(&mut self.pen, &mut self.open_ended, &site, content, tag)
     }
 
+    /// An alias.
+    pub(crate) fn alias(&mut self, name: &str) -> Result<(), yaml_error_t>
+        ensures { (empty : Bool) → Processed (alias (chars name.now)) empty self.old self.new result }
+    {
+        check_alias(name)?;
+        if !self.is_at_node() {
+            return Err(self.stage.refusal());
+        }
+        let place = self.frames.next_place();
+        let simple = is_simple_alias_key(&self.settings, &place, name);
+        self.stage = self.frames.advance(simple);
+        let site = Site {
+            settings: &self.settings,
+            place,
+            simple,
+        };
+        write_alias(&mut self.pen, &site, name)
+    }
+
     /// Memory for what is open is asked for first: where it is refused, nothing of the start is written.
-    fn start_collection(
+    pub(crate) fn start_collection(
         &mut self,
         content: &CollectionContent,
         kind: CollectionKind,
         flow_asked: bool,
         empty: bool,
     ) -> Result<(), yaml_error_t>
-        requires stage { is_at_node self.old.stage ≡ true }
-        requires names { name_or_tag_fault self.old.given.canonical (start_event (is_mapping kind) (seen_collection content.now any_layout)) ≡ None }
         ensures { (style : CollectionStyle) → asks_flow style ≡ flow_asked
             → Processed (start_event (is_mapping kind) (seen_collection content.now style)) empty self.old self.new result }
     {
+        check_collection_names(self.settings.canonical, content)?;
+        if !self.is_at_node() {
+            return Err(self.stage.refusal());
+        }
         self.frames.make_room()?;
         self.open_collection(content, kind, flow_asked, empty)
     }
@@ -227,12 +195,28 @@ impl<A: Allocator + Copy> Machine<A> {
         self.frames.push(frame)
     }
 
-    fn end_collection(&mut self, kind: CollectionKind) -> Result<(), yaml_error_t>
-        requires stage { is_at_node self.old.stage ≡ true }
+    fn is_at_node(&self) -> bool
+        ensures { result ≡ is_at_node self.now.stage }
+    {
+        matches!(self.stage, Stage::Node)
+    }
+
+    /// Whether the end of a collection of this kind may come next.
+    fn may_end(&self, kind: CollectionKind) -> bool
+        ensures { result ≡ stage_allows self.now.stage (end_event (is_mapping kind)) }
+    {
+        match self.stage {
+            Stage::Node => self.frames.may_end(kind),
+            _ => false,
+        }
+    }
+
+    /// The end of a collection.
+    pub(crate) fn end_collection(&mut self, kind: CollectionKind) -> Result<(), yaml_error_t>
         ensures { (empty : Bool) → Processed (end_event (is_mapping kind)) empty self.old self.new result }
     {
-        if !self.frames.may_end(kind) {
-            return Err(yaml_error_t::ExpectedNode);
+        if !self.may_end(kind) {
+            return Err(self.stage.refusal());
         }
         match self.frames.pop() {
             None => Err(yaml_error_t::ExpectedNode),
@@ -250,6 +234,16 @@ impl<A: Allocator + Copy> Machine<A> {
     }
 }
 
+/// Whether a scalar has no anchor and no tag, and needs no tag in any style.
+fn is_bare(content: &ScalarContent) -> bool
+    ensures { result ≡ true → seen_scalar content.now ≡ bare_scalar (chars content.now.value.now) (seen_scalar_style content.now.style) }
+{
+    content.anchor.is_none()
+        && content.tag.is_none()
+        && content.plain_implicit
+        && content.quoted_implicit
+}
+
 /// Whether a scalar whose tag isn't written has no flag, although it needs one.
 fn lacks_flag(content: &ScalarContent, canonical: bool) -> bool
     ensures { result ≡ style.lacks_tag_and_flags
@@ -260,7 +254,7 @@ fn lacks_flag(content: &ScalarContent, canonical: bool) -> bool
 }
 
 /// What a scalar's event holds; its tag may be left out in plain style, and in others.
-fn scalar_content<'a, A: Allocator>(
+pub(crate) fn scalar_content<'a, A: Allocator>(
     anchor: &'a Option<String<A>>,
     tag: &'a Option<String<A>>,
     value: &'a String<A>,
@@ -287,19 +281,19 @@ fn scalar_content<'a, A: Allocator>(
     }
 }
 
-fn is_flow_sequence(style: yaml_sequence_style_t) -> bool
+pub(crate) fn is_flow_sequence(style: yaml_sequence_style_t) -> bool
     ensures { result ≡ asks_flow (seen_sequence_style style) }
 {
     matches!(style, YAML_FLOW_SEQUENCE_STYLE)
 }
 
-fn is_flow_mapping(style: yaml_mapping_style_t) -> bool
+pub(crate) fn is_flow_mapping(style: yaml_mapping_style_t) -> bool
     ensures { result ≡ asks_flow (seen_mapping_style style) }
 {
     matches!(style, YAML_FLOW_MAPPING_STYLE)
 }
 
-fn collection_content<'a, A: Allocator>(
+pub(crate) fn collection_content<'a, A: Allocator>(
     anchor: &'a Option<String<A>>,
     tag: &'a Option<String<A>>,
     implicit: bool,

@@ -1,12 +1,12 @@
 //! Which events can be written: the head of the queue waits for those that decide how it is written.
 
-ghost use Rattle.std.specs.Prelude.{◌≡◌, ◌<◌, ◌≤◌, ◌==◌, ◌∷◌, ◌++◌, [], false, true, drop, length, vec_len, vec_capacity, if◌then◌else◌};
+ghost use Rattle.std.specs.Prelude.{◌≡◌, ◌<◌, ◌≤◌, ◌==◌, ◌&&◌, ◌+◌, ◌^◌, ◌∷◌, ◌++◌, [], true, drop, length, vec_len, vec_capacity};
 ghost use Rattle.std.specs.List.{list_any};
-ghost use Rattle.yaml_base.specs.Event.{Scalar, scalar};
-ghost use Rattle.yaml_base.specs.Ready.{is_start, is_end, awaited, is_balanced, nonempty_prefixes, is_ready};
+ghost use Rattle.yaml_base.specs.Event.{Event};
+ghost use Rattle.yaml_base.specs.Ready.{is_start, is_end, awaited, is_balanced, nonempty_prefixes};
 ghost use Rattle.yaml_base.specs.Seen.{seen_event, seen_events};
 ghost use Rattle.yaml_emitter.specs.Processing as processing;
-ghost use Rattle.yaml_emitter.specs.Queue.{are_ready_by_one_more, is_head_ready};
+ghost use Rattle.yaml_emitter.specs.Queue.{StandsLast, are_ready_by_one_more, is_head_ready, open_behind, seen_next};
 
 use crate::emitter::WaitingEvents;
 use std::alloc::Allocator;
@@ -53,40 +53,49 @@ fn followers<A: Allocator>(event: &yaml_event_t<A>) -> usize
     }
 }
 
-fn one_if(holds: bool) -> usize
-    ensures { result ≡ (if holds then 1 else 0) }
+/// How many collections, documents and streams are open within another one behind an event, where so many are before it.
+/// None where the event ends that one.
+fn open_behind<A: Allocator>(before: usize, event: &yaml_event_t<A>) -> Option<usize>
+    requires { before + 1 < 2 ^ 64 }
+    ensures { result ≡ open_behind before (seen_event event.now) }
 {
-    if holds { 1 } else { 0 }
+    if begins(event) {
+        Some(before + 1)
+    } else if ends(event) {
+        before.checked_sub(1)
+    } else {
+        Some(before)
+    }
 }
 
-/// Whether some prefix of the events has as many starts as ends.
-fn closes<A: Allocator>(events: &[yaml_event_t<A>]) -> bool
-    ensures { result ≡ list_any is_balanced (nonempty_prefixes (seen_events events.now)) }
+/// Whether what an event starts is ended by those behind it and by the last one; none at the end is a scalar.
+fn closes<A: Allocator>(rest: &[yaml_event_t<A>], next: Option<&yaml_event_t<A>>) -> bool
+    ensures { (first last : Event) → is_start first ≡ true → StandsLast (seen_next next.entry) last
+        → result ≡ list_any is_balanced (nonempty_prefixes (first ∷ (seen_events rest.now ++ last ∷ []))) }
 {
-    let mut starts = 0usize;
-    let mut ended = 0usize;
-    for event in events {
-        starts += one_if(begins(event));
-        ended += one_if(ends(event));
-        if starts == ended {
-            return true;
+    let mut depth = 0usize;
+    for event in rest {
+        match open_behind(depth, event) {
+            Some(more) => depth = more,
+            None => return true,
         }
     }
-    false
+    match next {
+        Some(event) => ends(event) && depth == 0,
+        None => false,
+    }
 }
 
-/// Whether the first event can be written now; there is none in an empty queue.
-pub(crate) fn is_next_ready<A: Allocator>(events: &[yaml_event_t<A>]) -> bool
-    ensures { result ≡ is_head_ready (seen_events events.now) }
+/// Whether an event that waits can be written with these and the last one behind it; none at the end is a scalar.
+pub(crate) fn is_ready<A: Allocator>(
+    event: &yaml_event_t<A>,
+    rest: &[yaml_event_t<A>],
+    next: Option<&yaml_event_t<A>>,
+) -> bool
+    ensures { (last : Event) → StandsLast (seen_next next.entry) last
+        → result ≡ is_head_ready (seen_event event.now ∷ (seen_events rest.now ++ last ∷ [])) }
 {
-    if events.len() == 0 {
-        return false;
-    }
-    let awaits = followers(&events[0]);
-    if awaits == 0 || awaits < events.len() {
-        return true;
-    }
-    events.len() > 1 && closes(events)
+    followers(event).saturating_sub(1) <= rest.len() || closes(rest, next)
 }
 
 /// Whether no event waits.
@@ -97,30 +106,16 @@ pub(crate) fn nothing_waits<A: Allocator>(queue: &WaitingEvents<A>) -> bool
 }
 
 /// Whether no event waits, and this one can be written whatever follows it.
-pub(crate) fn is_ready_alone<A: Allocator>(
+pub(crate) fn needs_no_waiting<A: Allocator>(
     queue: &WaitingEvents<A>,
     event: &yaml_event_t<A>,
 ) -> bool
-    ensures alone { result ≡ true → queue.now.items ≡ [] }
-    ensures ready { result ≡ true → is_head_ready (seen_event event.now ∷ []) ≡ true }
+    ensures { result ≡ (length queue.now.items == 0 && awaited (seen_event event.now) == 0) }
 {
-    nothing_waits(queue) && awaits_nothing(event)
+    nothing_waits(queue) && followers(event) == 0
 }
 
-/// Whether no event waits, and this one has to.
-pub(crate) fn waits_alone<A: Allocator>(queue: &WaitingEvents<A>, event: &yaml_event_t<A>) -> bool
-    ensures { result ≡ true → is_head_ready (seen_events queue.now.items ++ seen_event event.now ∷ []) ≡ false }
-{
-    nothing_waits(queue) && !awaits_nothing(event)
-}
-
-fn awaits_nothing<A: Allocator>(event: &yaml_event_t<A>) -> bool
-    ensures { result ≡ (awaited (seen_event event.now) == 0) }
-{
-    followers(event) == 0
-}
-
-/// Whether each of the events that wait can be written once one more stands behind them.
+/// Returns whether one more event makes every queued one ready.
 pub(crate) fn are_ready_by_one_more<A: Allocator>(waiting: &[yaml_event_t<A>]) -> bool
     ensures { result ≡ are_ready_by_one_more (seen_events waiting.now) }
 {
@@ -134,27 +129,21 @@ pub(crate) fn are_ready_by_one_more<A: Allocator>(waiting: &[yaml_event_t<A>]) -
     true
 }
 
-/// Whether the first of the events that wait goes on waiting when a scalar is put behind them.
-pub(crate) fn waits_past_scalar<A: Allocator>(waiting: &[yaml_event_t<A>]) -> bool
-    ensures { result ≡ true → is_head_ready (seen_events waiting.now) ≡ false → (next : Scalar)
-        → is_head_ready (seen_events waiting.now ++ scalar next ∷ []) ≡ false }
-{
-    if waiting.len() == 0 {
-        return false;
-    }
-    followers(&waiting[0]) > waiting.len()
-}
-
-/// Whether an event starts a collection that the next event ends.
+/// Whether an event starts a collection that the next of these and the last one ends; none at the end is a scalar.
 pub(crate) fn closes_at_once<A: Allocator>(
     event: &yaml_event_t<A>,
     rest: &[yaml_event_t<A>],
+    next: Option<&yaml_event_t<A>>,
 ) -> bool
-    ensures { result ≡ processing.closes_at_once (seen_event event.now) (seen_events rest.now) }
+    ensures { (last : Event) → StandsLast (seen_next next.entry) last
+        → result ≡ processing.closes_at_once (seen_event event.now) (seen_events rest.now ++ last ∷ []) }
 {
     match rest.first() {
-        Some(next) => is_end_of(next, event),
-        None => false,
+        Some(second) => is_end_of(second, event),
+        None => match next {
+            Some(second) => is_end_of(second, event),
+            None => false,
+        },
     }
 }
 
@@ -180,19 +169,7 @@ pub(crate) fn first_and_rest<A: Allocator>(
 }
 
 /// Drops the first `count` events of a queue. Its capacity stays.
-pub(crate) fn drop_written<A: Allocator>(queue: &mut WaitingEvents<A>, count: usize)
-    requires { count ≤ vec_len queue.old }
-    ensures rest { seen_events queue.new.items ≡ drop count (seen_events queue.old.items) }
-    ensures room { vec_capacity queue.new ≡ vec_capacity queue.old }
-{
-    if count == queue.len() {
-        queue.clear();
-    } else {
-        drop_one_by_one(queue, count);
-    }
-}
-
-fn drop_one_by_one<A: Allocator>(queue: &mut WaitingEvents<A>, count: usize)
+pub(crate) fn drop_first<A: Allocator>(queue: &mut WaitingEvents<A>, count: usize)
     requires { count ≤ vec_len queue.old }
     ensures rest { seen_events queue.new.items ≡ drop count (seen_events queue.old.items) }
     ensures room { vec_capacity queue.new ≡ vec_capacity queue.old }

@@ -113,8 +113,8 @@ pub fn yaml_emitter_set_line_breaks_1_2<A: Allocator>(
 }
 
 /// Sets whether what readers of YAML read differently, or not at all, is written in the way that all read alike: every
-/// document begins with `---`, `,` `[` `]` after a tag's handle and U+2028 and U+2029 are escaped, and a `!` that begins a
-/// `%TAG` prefix isn't.
+/// document begins with `---`, `,` `[` `]` after a tag's handle and U+2028 and U+2029 are escaped, a `!` that begins a
+/// `%TAG` prefix isn't, and a root that begins with a space or a line break is no block scalar.
 pub fn yaml_emitter_set_portable<A: Allocator>(emitter: &mut yaml_emitter_t<A>, portable: bool)
     requires { emitter.old.started ≡ false }
     ensures set { emitter.new ≡ record emitter.old { given = record emitter.old.given { portable = portable } } }
@@ -148,6 +148,13 @@ impl<A: Allocator> yaml_emitter_t<A> {
         ensures { result ≡ self.now.has_output }
     {
         self.has_output
+    }
+
+    /// Whether canonical form was set.
+    pub fn is_canonical(&self) -> bool
+        ensures { result ≡ self.now.given.canonical }
+    {
+        self.machine.given.canonical
     }
 
     /// Whether the encoding was set, or the stream has begun.

@@ -1,16 +1,18 @@
 //! Texts of scalars that have been written. Their memory is used again by the scalars that wait next.
 
-ghost use Rattle.std.specs.Prelude.{◌≡◌, [], IfOk, IfErr, chars, vec_capacity};
-ghost use Rattle.yaml_base.specs.Seen.{seen_text};
+ghost use Rattle.std.specs.Prelude.{◌≡◌, ◌≤◌, [], chars, drop, vec_capacity, vec_len};
+ghost use Rattle.yaml_base.specs.Seen.{seen_events};
+ghost use Rattle.yaml_emitter.specs.BorrowedTexts.{CopiesText};
 
 use crate::emitter::WaitingEvents;
+use crate::queue::drop_first;
 use std::alloc::Allocator;
 use std::mem;
 use yaml_base::{YAML_SCALAR_EVENT, yaml_error_t, yaml_event_t};
 
-/// The least bytes of memory of a copy, so that most that follow fit it.
+/// Minimum capacity of a copy in bytes, so that most that follow fit it.
 const LEAST_BYTES: usize = 64;
-/// The most bytes of memory of a text that is kept.
+/// Maximum capacity of a text that is kept, in bytes.
 const MOST_BYTES: usize = 1024;
 
 /// Two texts, since seldom more than two scalars wait.
@@ -31,27 +33,30 @@ impl<A: Allocator> SpareTexts<A> {
 
     /// A copy of a text, in the memory of one that is kept where there is one.
     pub(crate) fn copied(&mut self, alloc: A, text: &str) -> Result<String<A>, yaml_error_t>
-        ensures text { IfOk result (λ copy. seen_text copy ≡ chars text.now) }
-        ensures memory { IfErr result (λ error. error ≡ yaml_error_t.Memory) }
+        ensures { CopiesText (chars text.now) result }
     {
-        match &mut self.first {
-            Some(spare) => {
-                spare.clear();
-                if let Err(_) = spare.push_str(text) {
-                    return Err(yaml_error_t::Memory);
-                }
-            }
-            None => return new_copy(alloc, text),
-        }
         let second = self.second.take();
         match mem::replace(&mut self.first, second) {
-            Some(copy) => Ok(copy),
+            Some(spare) => filled(spare, text),
             None => new_copy(alloc, text),
         }
     }
 
+    /// Drops the first `count` events of a queue. Where these are all, texts of its scalars are kept.
+    pub(crate) fn release(&mut self, queue: &mut WaitingEvents<A>, count: usize)
+        requires { count ≤ vec_len queue.old }
+        ensures rest { seen_events queue.new.items ≡ drop count (seen_events queue.old.items) }
+        ensures room { vec_capacity queue.new ≡ vec_capacity queue.old }
+    {
+        if count == queue.len() {
+            self.keep_texts(queue);
+        } else {
+            drop_first(queue, count);
+        }
+    }
+
     /// Empties a queue, and keeps texts of its scalars.
-    pub(crate) fn keep_texts(&mut self, queue: &mut WaitingEvents<A>)
+    fn keep_texts(&mut self, queue: &mut WaitingEvents<A>)
         ensures items { queue.new.items ≡ [] }
         ensures capacity { vec_capacity queue.new ≡ vec_capacity queue.old }
     {
@@ -79,8 +84,7 @@ impl<A: Allocator> SpareTexts<A> {
 
 /// A copy of a text, in memory of its own.
 fn new_copy<A: Allocator>(alloc: A, text: &str) -> Result<String<A>, yaml_error_t>
-    ensures text { IfOk result (λ copy. seen_text copy ≡ chars text.now) }
-    ensures memory { IfErr result (λ error. error ≡ yaml_error_t.Memory) }
+    ensures { CopiesText (chars text.now) result }
 {
     match String::with_capacity(alloc, text.len().max(LEAST_BYTES)) {
         Ok(room) => filled(room, text),
@@ -90,8 +94,7 @@ fn new_copy<A: Allocator>(alloc: A, text: &str) -> Result<String<A>, yaml_error_
 
 /// A text put into the memory of another one.
 fn filled<A: Allocator>(room: String<A>, text: &str) -> Result<String<A>, yaml_error_t>
-    ensures text { IfOk result (λ copy. seen_text copy ≡ chars text.now) }
-    ensures memory { IfErr result (λ error. error ≡ yaml_error_t.Memory) }
+    ensures { CopiesText (chars text.now) result }
 {
     let mut copy = room;
     copy.clear();

@@ -15,10 +15,10 @@ mod site;
 mod spelling;
 mod styles;
 
-pub use contents::ScalarContent;
+pub use contents::{ScalarContent, borrowed_text};
 pub(crate) use contents::{
-    CollectionContent, borrowed_text, writes_collection_tag, writes_scalar_tag,
-    written_collection_tag, written_scalar_tag,
+    CollectionContent, writes_collection_tag, writes_scalar_tag, written_collection_tag,
+    written_scalar_tag,
 };
 pub(crate) use directives::{StartContent, write_document_start};
 pub(crate) use documents::{write_document_end, write_stream_end};

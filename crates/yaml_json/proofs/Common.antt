@@ -24,12 +24,12 @@ pub use Rattle.yaml_emitter.{proofs.Common.some_from_result, specs.Promises.Refu
 pub use Rattle.yaml_json.specs.{Begins.BeginsValue, Begins.NoneGoesOn, Cuts.HasScanned, Cuts.CutsAt, HeldNames.HaveNames, HeldNames.HoldsNames}
 pub use Rattle.yaml_json.specs.{HeldNames.AddsName, Means.Schema, Texts.after_byte, Texts.texts_in, Texts.CutsFirstText, TokenEvents.token_events}
 pub use Rattle.yaml_json.specs.{TokenEvents.tokens_events}
-pub use Rattle.yaml_json.specs.Failing.{failure_of, emitter_error_of, FailedWith, FailedAt, FailedInText, between, events_with_separators, FailedInTexts}
+pub use Rattle.yaml_json.specs.Failing.{failure_of, emitter_error_of, FailedWith, FailedAt, FailedInText, between, events_with_separators}
 pub use Rattle.yaml_json.specs.JsonEvents.{word_content, null_content, bool_content, number_content, text_content, collection_in, json_events, items_events}
 pub use Rattle.yaml_json.specs.JsonEvents.{members_events}
 pub use Rattle.yaml_json.specs.Names.{IsNewName, inner_names, names_after, NamesOnce, all_names_after}
 pub use Rattle.yaml_json.specs.Refused.{RefusesText, BreaksOff, OpensTooDeep, NamesTwice, ExplainsError, HaveNamesOnce}
-pub use Rattle.yaml_json.specs.Sent.{Advances, ExplainsPart, StopsWithin, IsScanned}
+pub use Rattle.yaml_json.specs.Sent.{Advances, StopsWithin, IsScanned}
 pub use Rattle.yaml_json.specs.Walk.{unwind, Stands, IsScalar, opener, closer, KeepsNames, FitsNames, Keeps, HasUniqueNames, BeganValue, BeginFailed}
 pub use Rattle.yaml_json.specs.Walk.{RefusesToken, BeganFirstValue, FirstFailed, RefusesFirst, WhyStopped, Refuses, WalkProgress}
 pub use Rattle.yaml_json.specs.Wrote.{IsBare, Wrote, WroteEvent, start_event, StartsCollection, Ends, WroteText, AreJson, parts_events, ReadsTexts}

@@ -3,20 +3,25 @@ use Rattle.yaml_json.proofs.Common.{ℕ, OnOk, Option, None, Some, Result, Err, 
 use Rattle.yaml_json.proofs.Common.{◌++◌, ◌∷◌, refl, ◌≡◌, append-nil, append_assoc, ap, subst, sym, ◌∙◌}
 use Rattle.yaml_json.proofs.Common.{flat_map-append, Appends, Json, Event, between, events_with_separators}
 use Rattle.yaml_json.proofs.Common.{json_events, IsBare, Wrote}
-use Rattle.yaml_json.proofs.Common.{WriterState, StandsTaken, PassedEvents}
+use Rattle.yaml_json.proofs.Common.{WriterState, StandsTaken, PassedEvents, AddsEvents, FailedWith, inr, some_from_result}
+use Rattle.yaml_pen.proofs.Writing.{none_from_result}
 use Rattle.yaml_emitter.{proofs.Common.with_all_taken, proofs.standing.Taking.stands_taken, specs.State.State}
 use Rattle.yaml_pen.specs.{Page.output_left, Sinks.AppendsFirst}
 use Rattle.yaml_writer.{proofs.Common.TakesBytes, proofs.Taken.left_taken}
 use Rattle.yaml_base.specs.declared.errors.yaml_error_t.{yaml_error_t}
-use Rattle.yaml_json.specs.Sent.{AddsTaking, WroteTaking, BeginsNext, BeginsUnsent, GivesSink}
+use Rattle.std.specs.Prelude.{IsUtf8}
+use Rattle.yaml_json.proofs.Common.{Token, inl}
+use Rattle.yaml_json.specs.{Stopped.StopsInText, declared.error.JsonError.JsonError}
+use Rattle.yaml_json.specs.Places.{HasPlaceWithin}
+use Rattle.yaml_json.specs.Sent.{AddsTaking, WroteTaking, BeginsNext, BeginsUnsent, GivesSink, StopsInPart, StopsPartAt}
 use Rattle.yaml_json.specs.declared.error.StreamError.{StreamError}
 use Rattle.yaml_json.specs.declared.error.StreamError.TheVariants as faults
 
 -- ---- what follows where a call succeeds, or fails
 
-pub on_both : {A E P Q R : Type 0} (answer : Result A E) → (P → Q → R) → OnOk answer P → OnOk answer Q → OnOk answer R
-on_both (Ok value) follows held also = follows held also
-on_both (Err error) follows held also = tt
+pub on_all : {A E P Q R S : Type 0} (answer : Result A E) → (P → Q → R → S) → OnOk answer P → OnOk answer Q → OnOk answer R → OnOk answer S
+on_all (Ok value) follows held also more = follows held also more
+on_all (Err error) follows held also more = tt
 
 -- ---- known bytes that grow
 
@@ -32,21 +37,17 @@ appends_then (Some bytes) (Some more) None first second one other = absurd other
 appends_then (Some bytes) (Some more) (Some all) first second one other =
     other ∙ ap (λ (b : List ℕ). b ++ second) one ∙ append_assoc bytes first second
 
--- a beginning may follow
-pub appends_first : (before middle after : Option (List ℕ)) (first second : List ℕ) → Appends before middle first → AppendsFirst middle after second
-    → AppendsFirst before after (first ++ second)
-appends_first before middle after first second one (part, begins, other) = (
-  first ++ part,
-  record { rest = begins.rest; parts = append_assoc first part begins.rest ∙ ap (λ (b : List ℕ). first ++ b) begins.parts },
-  appends_then before middle after first part one other,
-)
-
 -- whichever error there is, where all bytes were given
-pub gives_all : (error : StreamError) (before after : Option (List ℕ)) (bytes : List ℕ) → Appends before after bytes → GivesSink error before after bytes
-gives_all (faults.Refused error) before after bytes appends = appends
-gives_all (faults.NotText line column) before after bytes appends = appends
-gives_all (faults.ReadFailed error) before after bytes appends = appends
-gives_all (faults.WriteFailed error) before after bytes appends = (bytes, record { rest = []; parts = append-nil bytes }, appends)
+pub gives_all : (error : StreamError) (before after : Option (List ℕ)) (bytes : List ℕ) → Appends before after bytes
+    → GivesSink error before after bytes []
+gives_all (faults.Refused error) before after bytes appends = (refl, appends)
+gives_all (faults.NotText line column) before after bytes appends = (refl, appends)
+gives_all (faults.ReadFailed error) before after bytes appends = (refl, appends)
+gives_all (faults.WriteFailed error) before after bytes appends = (
+  [],
+  record { rest = []; parts = refl },
+  subst (λ (b : List ℕ). Appends before after b) (sym (append-nil bytes)) appends,
+)
 
 -- ---- what was given and taken
 
@@ -60,6 +61,11 @@ took_nothing writer bare =
       levels = refl;
       bare = bare;
     }
+
+-- without a call that takes
+pub adds_none_taken : (before after : State) (events : List Event) → AddsEvents before events after → AddsTaking before events [] after
+adds_none_taken before after events adds = λ given all sent stands.
+    subst (λ (s : List ℕ). StandsTaken given (all ++ events) s after) (sym (append-nil sent)) (adds given all sent stands)
 
 pub adds_taking_then : (before middle after : State) (first second : List Event) (one_bytes other_bytes : List ℕ)
     → AddsTaking before first one_bytes middle → AddsTaking middle second other_bytes after
@@ -80,7 +86,13 @@ taking_then before middle after first second one_bytes other_bytes one other =
       bare = other.bare;
     }
 
--- without a call that takes
+-- and then one that doesn't take
+pub adds_taking_more : (before middle after : State) (first second : List Event) (bytes : List ℕ) → AddsTaking before first bytes middle
+    → AddsEvents middle second after → AddsTaking before (first ++ second) bytes after
+adds_taking_more before middle after first second bytes one other =
+    subst (λ (b : List ℕ). AddsTaking before (first ++ second) b after) (append-nil bytes)
+    (adds_taking_then before middle after first second bytes [] one (adds_none_taken middle after second other))
+
 pub took_none : (before after : WriterState) (events : List Event) → Wrote before events after → WroteTaking before events [] after
 took_none before after events wrote =
     record {
@@ -97,10 +109,10 @@ taking_same before after events same bytes alike is are wrote =
     subst (λ (e : List Event). WroteTaking before e alike after) is (subst (λ (b : List ℕ). WroteTaking before events b after) are wrote)
 
 -- the next document is begun, and all output is taken
-pub begun_taken : (before middle after : WriterState) (answer : Result (Unit {0}) yaml_error_t) (bytes : List ℕ) (held holds : Option (List ℕ))
-    → IsBare before → PassedEvents before between answer middle → TakesBytes middle.emitter bytes after.emitter
+pub begun_taken : (before middle after : WriterState) (bytes : List ℕ) (held holds : Option (List ℕ))
+    → IsBare before → PassedEvents before between (Ok tt) middle → TakesBytes middle.emitter bytes after.emitter
     → after ≡ record middle { emitter = with_all_taken middle.emitter } → Appends held holds bytes → BeginsNext before held after holds
-begun_taken before middle after answer bytes held holds bare passed takes kept sends =
+begun_taken before middle after bytes held holds bare passed takes kept sends =
     record {
       bytes = bytes;
       sends = sends;
@@ -113,23 +125,31 @@ begun_taken before middle after answer bytes held holds bare passed takes kept s
           ap (λ (w : WriterState). w.tag) kept ∙ ap (λ (w : WriterState). w.tag) passed.rest ∙ bare.1,
         );
       };
-      whole = ap (λ (w : WriterState). w.emitter.page.taken) kept ∙ ap (λ (w : WriterState). length w.emitter.page.output) (sym kept);
+      whole = (
+        ap (λ (w : WriterState). w.emitter.error) kept ∙ none_from_result middle.emitter.error passed.answered,
+        ap (λ (w : WriterState). w.emitter.page.taken) kept ∙ ap (λ (w : WriterState). length w.emitter.page.output) (sym kept),
+      );
     }
 
 -- or the sink failed, which was given all that was left
-pub begun_unsent : (before middle : WriterState) (answer : Result (Unit {0}) yaml_error_t) (held holds : Option (List ℕ))
-    → PassedEvents before between answer middle → AppendsFirst held holds (output_left middle.emitter.page) → BeginsUnsent before held holds
-begun_unsent before middle answer held holds passed sends =
+pub begun_unsent : (before middle : WriterState) (held holds : Option (List ℕ)) → PassedEvents before between (Ok tt) middle
+    → AppendsFirst held holds (output_left middle.emitter.page) → BeginsUnsent before held middle holds
+begun_unsent before middle held holds passed sends =
     record {
-      bytes = output_left middle.emitter.page;
+      offered = output_left middle.emitter.page;
       sends = sends;
+      adds = passed.adds;
       then = with_all_taken middle.emitter;
-      adds = λ given all sent stands.
+      wrote = λ given all sent stands.
           let stood = passed.adds given all sent stands in
           left_taken given (all ++ between) sent (output_left middle.emitter.page) middle.emitter (with_all_taken middle.emitter) stood refl refl
           (stands_taken given (all ++ between) middle.emitter stood.stands);
-      whole = refl;
+      whole = (none_from_result middle.emitter.error passed.answered, refl);
     }
+
+-- the writer fails
+pub begun_not : (before after : WriterState) (error : yaml_error_t) → PassedEvents before between (Err error) after → FailedWith before between error after
+begun_not before after error passed = record { adds = passed.adds; is_error = inr (some_from_result after.emitter.error error passed.answered) }
 
 -- the events of some texts, after each of which a document begins, and one more
 pub separated : (canonical in_flow : Bool) (parts : List (List ℕ × Json)) (last : List ℕ × Json)
@@ -138,3 +158,25 @@ pub separated : (canonical in_flow : Bool) (parts : List (List ℕ × Json)) (la
 separated canonical in_flow parts last =
     ap (λ (events : List Event). events_with_separators canonical in_flow parts ++ events) (sym (append-nil (json_events canonical in_flow last.1 ++ between)))
     ∙ sym (flat_map-append (λ (part : List ℕ × Json). json_events canonical in_flow part.1 ++ between) parts (last ∷ []))
+
+-- an error of a text is one of a part
+pub part_stopped : (depth : ℕ) (unique in_flow : Bool) (text : List ℕ) (was : WriterState) (error : JsonError) (now : WriterState) → IsUtf8 text
+    → StopsInText depth unique in_flow text was error now → HasPlaceWithin depth [] text (faults.Refused error)
+    → StopsInPart depth unique in_flow [] text was (faults.Refused error) now
+part_stopped depth unique in_flow text was error now readable stops place =
+    record { taken = stops.taken; left = stops.left; split = stops.split; why = (stops.why, inl readable); place = place; adds = stops.adds }
+
+-- and so of its place among others
+pub part_placed : (depth : ℕ) (unique in_flow : Bool) (front text : List ℕ) (was : WriterState) (error placed : StreamError) (now : WriterState)
+    → ((d : ℕ) (u : Bool) (all : List ℕ) (taken left : List Token) → StopsPartAt d u all taken left error → StopsPartAt d u all taken left placed)
+    → (HasPlaceWithin depth [] text error → HasPlaceWithin depth front text placed)
+    → StopsInPart depth unique in_flow [] text was error now → StopsInPart depth unique in_flow front text was placed now
+part_placed depth unique in_flow front text was error placed now says moves stops =
+    record {
+      taken = stops.taken;
+      left = stops.left;
+      split = stops.split;
+      why = says depth unique text stops.taken stops.left stops.why;
+      place = moves stops.place;
+      adds = stops.adds;
+    }

@@ -2,8 +2,8 @@
 use Rattle.yaml_json.proofs.Common.{ℕ, None, Some, Bool, true, List, [], map, ◌++◌, ◌∷◌, ◌≡◌, take_all, append-nil, append_assoc, ap, sym, ◌∙◌, list_all}
 use Rattle.yaml_json.proofs.Common.{Json, HasNumbers, node_tree, Event, Documents, no_documents, documents_and, has_scalar_texts, IsAccepted, Settings}
 use Rattle.yaml_json.proofs.Common.{Effective, directives_in_force, Tree, resolved_by_core, resolved_by_11, Schema}
-use Rattle.yaml_base.proofs.Common.{stream_trees, root_place, settings_for, bytes_written, list_layout, DocumentTree}
-use Rattle.yaml_base.proofs.{stream_documents.StreamWholeReads.document_trees, stream_nodes.StreamAgrees.document_tree}
+use Rattle.yaml_base.proofs.Common.{stream_trees, root_place, settings_for, bytes_written, list_layout, encoding_asked, Piece, DocumentTree}
+use Rattle.yaml_base.proofs.{CallerLaws.breaks_agree, stream_documents.StreamWholeReads.document_trees, stream_nodes.StreamAgrees.document_tree}
 use Rattle.yaml_emitter.proofs.layouts.StreamsReadBack.{stream_found}
 use Rattle.yaml_json.proofs.Meanings.{ReadsScalars, reads_by_11, reads_by_core, node_means}
 use Rattle.yaml_json.proofs.Portable.{portable_events}
@@ -39,10 +39,28 @@ module _ (s : Effective) (in_flow : Bool) where
   roots_mean schema reads (json ∷ values) numbers =
       (node_means schema reads s (directives_in_force []) in_flow json numbers.0 root_place, roots_mean schema reads values numbers.1)
 
+-- bytes are all that the layout says of some events
+abbrev pub IsWhole : Settings → List Event → List ℕ → Type 0
+IsWhole given all bytes = bytes ≡ bytes_written (settings_for given all) (list_layout (settings_for given all) all)
+
+-- so are those of a stream
+pub stream_whole : (given : Settings) (all : List Event) (bytes : List ℕ) → IsStream given all bytes → IsWhole given all bytes
+stream_whole given all bytes is =
+    let s = settings_for given all in
+    is.output ∙ is.written.output ∙ take_all given.limit (bytes_written s (list_layout s all)) is.written.uncut
+
+-- in portable mode with either kind of line breaks
+pub whole_by_either : (given : Settings) (breaks12 : Bool) (all : List Event) (bytes : List ℕ) → given.portable ≡ true → IsWhole given all bytes
+    → IsWhole (record given { breaks12 = breaks12 }) all bytes
+whole_by_either given breaks12 all bytes portable is =
+    is
+    ∙ ap (λ (pieces : List Piece). bytes_written (settings_for given all) pieces) (sym (breaks_agree given breaks12 (encoding_asked all) all portable))
+
 module _ (given : Settings) (in_flow : Bool) (part : List ℕ × Json) (rest : List (List ℕ × Json)) (bytes : List ℕ)
     (numbers : HaveNumbers (values_of (part ∷ rest)))
     (texts : list_all has_scalar_texts (all_events (part ∷ rest) given.canonical in_flow) ≡ true)
-    (written : IsStream given (all_events (part ∷ rest) given.canonical in_flow) bytes) where
+    (taken : IsAccepted given.canonical (all_events (part ∷ rest) given.canonical in_flow))
+    (whole : IsWhole given (all_events (part ∷ rest) given.canonical in_flow) bytes) where
   abbrev all : List Event
   all = all_events (part ∷ rest) given.canonical in_flow
 
@@ -58,13 +76,9 @@ module _ (given : Settings) (in_flow : Bool) (part : List ℕ × Json) (rest : L
       record {
         stream = json_stream values given.canonical in_flow;
         is_stream = stream_flat part rest given.canonical in_flow;
-        sound = written.accepted.sound;
-        shallow = written.accepted.shallow;
+        sound = taken.sound;
+        shallow = taken.shallow;
       }
-
-  -- the bytes are all that the layout says
-  whole : bytes ≡ bytes_written s (list_layout s all)
-  whole = written.output ∙ written.written.output ∙ take_all given.limit (bytes_written s (list_layout s all)) written.written.uncut
 
   found : stream_trees given.breaks12 bytes ≡ Some (map plain_document (roots_of s in_flow values))
   found =
@@ -84,13 +98,14 @@ module _ (given : Settings) (in_flow : Bool) (part : List ℕ × Json) (rest : L
 -- one value alone
 pub reads_as_json : (given : Settings) (in_flow : Bool) (text : List ℕ) (json : Json) (bytes : List ℕ) → HasNumbers json
     → list_all has_scalar_texts (all_events ((text, json) ∷ []) given.canonical in_flow) ≡ true
-    → IsStream given (all_events ((text, json) ∷ []) given.canonical in_flow) bytes
+    → IsAccepted given.canonical (all_events ((text, json) ∷ []) given.canonical in_flow)
+    → IsWhole given (all_events ((text, json) ∷ []) given.canonical in_flow) bytes
     → ReadsAsJson given.breaks12 bytes json
-reads_as_json given in_flow text json bytes numbers texts written =
+reads_as_json given in_flow text json bytes numbers texts taken whole =
     let s = settings_for given (all_events ((text, json) ∷ []) given.canonical in_flow) in
     record {
       root = root_of s in_flow json;
-      read = found given in_flow (text, json) [] bytes (numbers, tt) texts written;
+      read = found given in_flow (text, json) [] bytes (numbers, tt) texts taken whole;
       by_11 = (roots_mean s in_flow resolved_by_11 reads_by_11 (json ∷ []) (numbers, tt)).0;
       by_core = (roots_mean s in_flow resolved_by_core reads_by_core (json ∷ []) (numbers, tt)).0;
     }

@@ -9,6 +9,8 @@ pub mod Refusing
 pub mod SingleFault
 pub mod KeepingNames
 pub mod Stops
+pub mod TextStops
+pub mod Growing
 pub mod Taking
 pub mod NumberBridge
 pub mod Trees
@@ -24,6 +26,7 @@ pub mod OnlyDepth
 pub mod Unfailed
 pub mod WhyFailed
 pub mod Cutting
+pub mod Around
 pub mod PassingSpecials
 pub mod SpecialLanes
 pub mod LowestBit
@@ -35,3 +38,13 @@ pub mod PunctuateSteps
 pub mod Lanes
 pub mod DigitLanes
 pub mod Stepping
+pub mod Reaching
+pub mod FirstLexemes
+pub mod Spelling
+pub mod PassingLexemes
+pub mod Faults
+pub mod Placing
+pub mod RowsPlaces
+pub mod PlacesAfter
+pub mod ModeSteps
+pub mod WordModes

@@ -6,12 +6,14 @@ use Rattle.yaml_json.proofs.Common.{ScalarStyle, plain, Scalar, scalar_tag, coll
 use Rattle.yaml_json.proofs.Common.{pairs_and, Effective, is_empty, is_plain, Tree, JsonNumber, is_json_number, fraction_or_default, is_json_integer}
 use Rattle.yaml_json.proofs.Common.{yaml_number, resolved_by_core, resolved_by_11, null_tag, bool_tag, int_tag, bool_text, word_content, null_content}
 use Rattle.yaml_json.proofs.Common.{bool_content, number_content, text_content, collection_in, Schema, number_in, float_tag, number_tag, text_style}
-use Rattle.yaml_base.proofs.Common.{digits_value, any_style, single_quoted, double_quoted, literal, folded, TagDirective, as_item, as_key, as_value, Place}
-use Rattle.yaml_base.proofs.Common.{has_no_nodes, has_no_pairs, is_simple, is_simple_at, charset_of, choice_of, is_written_in_flow, entry_place, Allowances}
-use Rattle.yaml_base.proofs.Common.{allowances, Choice, chosen, Stood, stood_plain, stood_quoted, Tagging, with_tag, without_tag, sequence_tree, mapping_tree}
+use Rattle.yaml_base.proofs.Common.{not, digits_value, any_style, single_quoted, double_quoted, literal, folded, TagDirective, as_item, as_key, as_value, Place}
+use Rattle.yaml_base.proofs.Common.{has_no_nodes, has_no_pairs, is_simple, is_simple_at, charset_of, style_asked_at, choice_of, is_written_in_flow, entry_place}
+use Rattle.yaml_base.proofs.Common.{Allowances, allowances, is_block, requested_style, fitting_style, fits_plain, Choice, chosen, Stood, stood_plain}
+use Rattle.yaml_base.proofs.Common.{stood_quoted, Tagging, with_tag, without_tag, sequence_tree, mapping_tree}
 use Rattle.yaml_base.proofs.Common.{json_value, number_meant, means_number, Resolved, meant_integer, meant_decimal, meant_text, signed}
 use Rattle.json.specs.Tree.{ItemsHaveNumbers, MembersHaveNumbers}
 use Rattle.yaml_base.{proofs.JsonSpelling.spelling_keeps_value, proofs.NumbersRead.spelling_read, specs.Settings.escapes_separators}
+use Rattle.yaml_base.{specs.Places.is_root, specs.scalars.BlockHeader.begins_blank}
 use Rattle.yaml_base.{specs.values.JsonNumbers.value_with, specs.values.Resolved.meant_null, specs.values.Resolved.meant_boolean}
 use Rattle.yaml_base.{specs.values.Resolved.meant_by_nobody}
 use Rattle.yaml_base.proofs.stream_nodes.StreamAgrees.{standing_in, tagging_in, nodes_tree, pairs_tree}
@@ -103,7 +105,7 @@ module _ (schema : Schema) (s : Effective) (place : Place) (simple : Bool) where
   -- the style of a scalar, and how it is tagged, by whether the form is canonical
   abbrev style_by : Scalar → Bool → Choice
   style_by content canonical =
-      chosen (allowances (charset_of s) content.value) content.style (is_empty content.value)
+      chosen (allowances (charset_of s) content.value) (style_asked_at s place content) (is_empty content.value)
       (is_some (scalar_tag canonical content)) content.plain_implicit content.quoted_implicit place.in_flow simple canonical
 
   abbrev tagging_by : Scalar → Bool → Tagging
@@ -147,11 +149,33 @@ module _ (schema : Schema) (s : Effective) (place : Place) (simple : Bool) where
       by true h = reads (plain_style style h)
       by false h = refl
 
+  -- double quotes may be asked for in its place
+  text_asked : (text : Text) → TextsOf schema → (instead : Bool) (allowed : Allowances)
+      (empty tag_written plain_implicit quoted_implicit flow simple_key canonical : Bool)
+      → (chosen allowed (if instead then double_quoted else text_style text) empty tag_written plain_implicit quoted_implicit flow simple_key canonical).style
+      ≡ plain
+      → schema text ≡ meant_text
+  text_asked text texts true allowed empty tag_written plain_implicit quoted_implicit flow simple_key true is =
+      absurd (false≢true (ap is_plain is))
+  text_asked text texts true allowed empty tag_written plain_implicit quoted_implicit flow simple_key false is =
+      by (simple_key && allowed.multiline) is
+    where
+      by : (x : Bool) → fitting_style allowed (fits_plain allowed empty tag_written plain_implicit flow simple_key)
+          (allowed.block && not flow && not simple_key) (requested_style x double_quoted) ≡ plain → schema text ≡ meant_text
+      by true is = absurd (false≢true (ap is_plain is))
+      by false is = absurd (false≢true (ap is_plain is))
+  text_asked text texts false allowed empty tag_written plain_implicit quoted_implicit flow simple_key canonical is =
+      texts text allowed empty tag_written plain_implicit quoted_implicit flow simple_key canonical is
+
+  -- whether they are
+  abbrev instead : Text → Bool
+  instead text = is_block (text_style text) && is_root place && s.portable && begins_blank text
+
   text_by : (text : Text) → TextsOf schema → (canonical : Bool) → scalar_meant schema (tagging_by (text_content text) canonical) text ≡ meant_text
   text_by text texts true = as_it_stands text (style_by (text_content text) true).style
-      (texts text (allowances (charset_of s) text) (is_empty text) false true true place.in_flow simple true)
+      (text_asked text texts (instead text) (allowances (charset_of s) text) (is_empty text) false true true place.in_flow simple true)
   text_by text texts false = as_it_stands text (style_by (text_content text) false).style
-      (texts text (allowances (charset_of s) text) (is_empty text) false true true place.in_flow simple false)
+      (text_asked text texts (instead text) (allowances (charset_of s) text) (is_empty text) false true true place.in_flow simple false)
 
   pub text_means : (text : Text) → TextsOf schema
       → scalar_meant schema (tagging_in (scalar_tag s.canonical (text_content text)) (choice_of s place simple (text_content text))) text ≡ meant_text

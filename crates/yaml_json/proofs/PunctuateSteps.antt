@@ -108,7 +108,7 @@ put-text false after_value s k e f = absurd (true≢false (sym e))
 put-text false after_comma s k e f = refl
 put-text false after_key s k e f = absurd (true≢false (sym e))
 
-as_placed : (p : Place) (t : Token) (ls : List Lexeme) → punctuate p (token t ∷ ls) ≡ place_token p t (begins_colon ls) (λ next. punctuate next ls)
+pub as_placed : (p : Place) (t : Token) (ls : List Lexeme) → punctuate p (token t ∷ ls) ≡ place_token p t (begins_colon ls) (λ next. punctuate next ls)
 unfolding punctuate
 as_placed fresh t ls = refl
 as_placed after_value t ls = refl

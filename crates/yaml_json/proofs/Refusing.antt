@@ -3,14 +3,20 @@ use Rattle.yaml_json.proofs.Common.{suc, ℕ, ◌-◌, ◌<◌, ◌≤◌, IfErr
 use Rattle.yaml_json.proofs.Common.{append-nil, append_assoc, inl, inr, ap, subst, sym, ◌∙◌, arith, le-max_left, le-max_right, append_cancel_right, left}
 use Rattle.yaml_json.proofs.Common.{value_is, members_no_key, value-depth, Json, read_key, value, skip_value, tokens, Token, json_tokens, depth as nesting}
 use Rattle.yaml_json.proofs.Common.{IsPrefix, NoneGoesOn, IsNewName, inner_names, NamesOnce, all_names_after, RefusesText, BreaksOff, OpensTooDeep}
-use Rattle.yaml_json.proofs.Common.{NamesTwice, ExplainsError, unwind, Stands, opener, HasUniqueNames, RefusesToken, RefusesFirst, WhyStopped}
+use Rattle.yaml_json.proofs.Common.{ExplainsError, unwind, Stands, opener, HasUniqueNames, RefusesToken, RefusesFirst, WhyStopped}
 use Rattle.std.specs.Prelude.{max}
 use Rattle.json.proofs.Printed.Trees.{value-json_tokens}
-use Rattle.yaml_json.{proofs.TokenLemmas.value_spelled, specs.Refused.DeniesJson, specs.Refused.IsNotJson, specs.Walk.BeginsNone, specs.Walk.MatchesStop}
+use Rattle.yaml_json.{proofs.TokenLemmas.value_spelled, specs.Refused.DeniesJson, specs.Refused.IsNotJson, specs.Walk.BeginsNone}
+use Rattle.yaml_json.specs.Refused.{BreaksAt, OpensTooDeepAt, NamesTwiceAt}
 use Rattle.yaml_json.{specs.declared.error.JsonError.JsonError, specs.declared.values.Stop.Stop}
 use Rattle.yaml_json.proofs.NameLemmas.{once_first, once_second, once_is_unique, unique_is_once}
 use Rattle.yaml_json.proofs.Walking.{unwind_none, unwind_inner, Awaits, opener_too_deep, next_stands_at, closes_value, closes_allowed, value_begins_at}
-use Rattle.yaml_json.proofs.Walking.{value_closes, Awaiting, awaiting_named}
+use Rattle.yaml_json.proofs.Walking.{value_closes, Awaiting, Closes, awaiting_named, next_stands}
+use Rattle.yaml_json.proofs.NameLemmas.{once_both}
+use Rattle.yaml_json.proofs.Common.{zero, ◌+◌, IsScalar}
+use Rattle.yaml_json.specs.Begins.{BeginsSome}
+use Rattle.yaml_json.specs.Walk.{CouldStandOther, GoesOn, IsSpot, NoStringNext, NoStringStands, WhereStopped, spot_of}
+use Rattle.yaml_json.specs.declared.values.Spot.{Spot}
 use Rattle.yaml_emitter.specs.declared.place.{CollectionKind.CollectionKind, CollectionKind.TheVariants.Mapping, CollectionKind.TheVariants.Sequence}
 use Rattle.yaml_json.specs.declared.error.JsonError.TheVariants as errors
 use Rattle.yaml_json.specs.declared.values.Stop.TheVariants as stops
@@ -60,12 +66,9 @@ begins_none d Token.null more isn't = absurd (isn't.0 tt)
 begins_none d Token.bad more isn't = ap left (value_is d (Token.bad ∷ more))
 
 nothing_left : (depth : ℕ) (unique : Bool) (taken : List Token) (levels : List CollectionKind) → Awaiting depth taken levels []
-    → (unique ≡ true → NamesOnce [] taken) → BreaksOff depth unique (taken ++ [])
+    → (unique ≡ true → NamesOnce [] taken) → BreaksAt depth unique taken []
 nothing_left depth unique taken levels place once =
     record {
-      taken = taken;
-      left = [];
-      parts = refl;
       begins = closes_allowed depth unique taken place.begins once;
       breaks = none_ends depth taken
           (λ deep so. nothing_begins deep taken levels [] (place.awaits deep so) (ap left (value_is (deep - length levels) [])));
@@ -73,12 +76,9 @@ nothing_left depth unique taken levels place once =
 
 token_breaks : (depth : ℕ) (unique : Bool) (taken : List Token) (levels : List CollectionKind) (token : Token) (after : List Token)
     → Awaiting depth taken levels (token ∷ after) → (unique ≡ true → NamesOnce [] taken) → BeginsNone token
-    → BreaksOff depth unique (taken ++ token ∷ after)
+    → BreaksAt depth unique taken (token ∷ after)
 token_breaks depth unique taken levels token after place once isn't =
     record {
-      taken = taken;
-      left = token ∷ after;
-      parts = refl;
       begins = closes_allowed depth unique taken place.begins once;
       breaks = none_goes_on depth taken token after
           (λ deep so more. nothing_begins deep taken levels (token ∷ more) (place.awaits deep so more)
@@ -90,17 +90,16 @@ less_or a b = grind arith
 
 opens_deep : (depth : ℕ) (unique : Bool) (taken : List Token) (levels : List CollectionKind) (kind : CollectionKind) (after : List Token)
     → Awaiting depth taken levels (opener kind ∷ after) → (unique ≡ true → NamesOnce [] taken) → length levels ≡ depth
-    → OpensTooDeep depth unique (taken ++ opener kind ∷ after)
+    → OpensTooDeepAt depth unique taken (opener kind ∷ after)
 opens_deep depth unique taken levels kind after place once full =
     let few = place.few in
     let one = value_begins_at (suc depth) (taken ++ opener kind ∷ []) (levels ++ kind ∷ [])
     (next_stands_at (suc depth) taken levels (opener kind) (levels ++ kind ∷ []) (omega (arith, few)) (place.awaits (suc depth) (omega arith))
     (inr (kind, refl, omega (arith, full), refl))) in
     record {
-      taken = taken;
       next = opener kind;
-      left = after;
-      parts = refl;
+      after = after;
+      first = refl;
       begins = closes_allowed depth unique taken place.begins once;
       some = (one.json, record { rest = one.rest; parts = one.parts });
       deeper = deeper;
@@ -116,11 +115,11 @@ opens_deep depth unique taken levels kind after place once full =
 
 token_refused : (depth : ℕ) (unique : Bool) (taken : List Token) (levels : List CollectionKind) (token : Token) (after : List Token) (stop : Stop)
     → Awaiting depth taken levels (token ∷ after) → (unique ≡ true → NamesOnce [] taken) → RefusesToken depth levels token stop
-    → WhyStopped depth unique (taken ++ token ∷ after) stop
-token_refused depth unique taken levels token after stops.NotJson place once isn't =
-    token_breaks depth unique taken levels token after place once isn't
+    → WhyStopped depth unique taken (token ∷ after) stop
+token_refused depth unique taken levels token after (stops.NotJson spot) place once isn't =
+    token_breaks depth unique taken levels token after place once isn't.0
 token_refused depth unique taken levels token after stops.TooDeep place once ((kind, is), full) =
-    subst (λ (t : Token). OpensTooDeep depth unique (taken ++ t ∷ after)) (sym is)
+    subst (λ (t : Token). OpensTooDeepAt depth unique taken (t ∷ after)) (sym is)
     (opens_deep depth unique taken levels kind after (subst (λ (t : Token). Awaiting depth taken levels (t ∷ after)) is place) once full)
 token_refused depth unique taken levels token after stops.NameAgain place once isn't = absurd isn't
 token_refused depth unique taken levels token after stops.Memory place once isn't = tt
@@ -129,8 +128,8 @@ token_refused depth unique taken levels token after stops.Failed place once isn'
 -- the first token is refused, or there is none
 pub first_refused : (depth : ℕ) (unique : Bool) (taken : List Token) (levels : List CollectionKind) (ahead : List Token) (stop : Stop)
     → Awaiting depth taken levels ahead → (unique ≡ true → NamesOnce [] taken) → RefusesFirst depth levels ahead stop
-    → WhyStopped depth unique (taken ++ ahead) stop
-first_refused depth unique taken levels [] stops.NotJson place once isn't = nothing_left depth unique taken levels place once
+    → WhyStopped depth unique taken ahead stop
+first_refused depth unique taken levels [] (stops.NotJson spot) place once isn't = nothing_left depth unique taken levels place once
 first_refused depth unique taken levels [] stops.TooDeep place once isn't = absurd isn't
 first_refused depth unique taken levels [] stops.NameAgain place once isn't = absurd isn't
 first_refused depth unique taken levels [] stops.Memory place once isn't = tt
@@ -164,22 +163,16 @@ unnamed Token.bad more isn't = refl
 
 module _ (depth : ℕ) (unique : Bool) (taken : List Token) (levels outer : List CollectionKind) (is : levels ≡ outer ++ Mapping ∷ [])
     (stands : Stands depth taken levels) (once : unique ≡ true → NamesOnce [] taken) where
-  pub no_member_left : BreaksOff depth unique (taken ++ [])
+  pub no_member_left : BreaksAt depth unique taken []
   no_member_left =
       record {
-        taken = taken;
-        left = [];
-        parts = refl;
         begins = closes_allowed depth unique taken (value_closes depth taken levels stands) once;
         breaks = none_ends depth taken (no_key depth taken levels outer [] is stands refl);
       }
 
-  pub key_refused : (token : Token) (after : List Token) → IsNoKey token → BreaksOff depth unique (taken ++ token ∷ after)
+  pub key_refused : (token : Token) (after : List Token) → IsNoKey token → BreaksAt depth unique taken (token ∷ after)
   key_refused token after isn't =
       record {
-        taken = taken;
-        left = token ∷ after;
-        parts = refl;
         begins = closes_allowed depth unique taken (value_closes depth taken levels stands) once;
         breaks = none_goes_on depth taken token after
             (λ deep so more. no_key depth taken levels outer (token ∷ more) is stands (unnamed token more isn't) deep so);
@@ -188,14 +181,13 @@ module _ (depth : ℕ) (unique : Bool) (taken : List Token) (levels outer : List
 -- a name comes again
 pub name_refused : (depth : ℕ) (unique : Bool) (taken : List Token) (levels outer : List CollectionKind) (name : List ℕ) (after : List Token)
     → levels ≡ outer ++ Mapping ∷ [] → Stands depth taken levels → unique ≡ true → NamesOnce [] taken
-    → (IsNewName (inner_names (all_names_after [] taken)) name → ⊥) → NamesTwice depth unique (taken ++ Token.key name ∷ after)
+    → (IsNewName (inner_names (all_names_after [] taken)) name → ⊥) → NamesTwiceAt depth unique taken (Token.key name ∷ after)
 name_refused depth unique taken levels outer name after is stands wanted once again =
     record {
       wanted = wanted;
-      taken = taken;
       name = name;
-      left = after;
-      parts = refl;
+      after = after;
+      first = refl;
       begins = closes_allowed depth unique taken (value_closes depth taken levels stands) (λ same. once);
       some = closes_value depth (taken ++ Token.key name ∷ []) (awaiting_named depth taken levels outer name is stands []).begins;
       twice = λ json begins unique. again
@@ -203,33 +195,142 @@ name_refused depth unique taken levels outer name after is stands wanted once ag
           (once_first [] (taken ++ Token.key name ∷ []) begins.rest (subst (NamesOnce []) (sym begins.parts) (unique_is_once json [] unique)))).0;
     }
 
+-- ---- what could stand there
+
+-- a scalar could
+scalar_stands : (depth : ℕ) (taken : List Token) (levels : List CollectionKind) (token : Token) → IsScalar token → Awaiting depth taken levels (token ∷ [])
+    → Closes depth (taken ++ token ∷ [])
+scalar_stands depth taken levels token is place =
+    value_closes depth (taken ++ token ∷ []) levels (next_stands depth taken levels levels token [] place (inl (is, refl)))
+
+some_stands : (depth : ℕ) (taken : List Token) → Closes depth taken → BeginsSome taken
+some_stands depth taken closes = (closes.json, record { rest = closes.rest; parts = closes.parts })
+
+value_goes_on : (depth : ℕ) (unique : Bool) (taken : List Token) (levels : List CollectionKind) → Awaiting depth taken levels (Token.null ∷ [])
+    → (unique ≡ true → NamesOnce [] taken) → GoesOn depth unique taken
+value_goes_on depth unique taken levels place once = record {
+  token = Token.null;
+  is_beginner = tt;
+  begins = closes_allowed depth unique (taken ++ Token.null ∷ []) (scalar_stands depth taken levels Token.null tt place)
+      (λ is. once_both [] taken (Token.null ∷ []) (once is) (tt, tt));
+}
+
+opener_next : (kind : CollectionKind) (token : Token) (after : List Token) → token ≡ opener kind → NoStringNext (token ∷ after)
+opener_next Sequence token after is = subst (λ (t : Token). NoStringNext (t ∷ after)) (sym is) tt
+opener_next Mapping token after is = subst (λ (t : Token). NoStringNext (t ∷ after)) (sym is) tt
+
+-- where a value is next
+module _ (depth : ℕ) (unique : Bool) (taken : List Token) (levels : List CollectionKind)
+    (awaits : (token : Token) → IsScalar token → Awaiting depth taken levels (token ∷ [])) (once : unique ≡ true → NamesOnce [] taken) where
+  goes_on_here : GoesOn depth unique taken
+  goes_on_here = value_goes_on depth unique taken levels (awaits Token.null tt) once
+
+  at_token : (token : Token) (after : List Token) → BeginsNone token → IsSpot depth unique (spot_of token) taken (token ∷ after)
+  at_token Token.begin_object after isn't = absurd (isn't.1 (Mapping, refl))
+  at_token Token.end_object after isn't = (goes_on_here, tt)
+  at_token Token.begin_array after isn't = absurd (isn't.1 (Sequence, refl))
+  at_token Token.end_array after isn't = (goes_on_here, tt)
+  at_token (Token.key text) after isn't = (
+    text,
+    (
+      after,
+      inl (
+        refl,
+        some_stands depth (taken ++ Token.string text ∷ [])
+            (scalar_stands depth taken levels (Token.string text) tt (awaits (Token.string text) tt)),
+      ),
+    ),
+  )
+  at_token (Token.string text) after isn't = absurd (isn't.0 tt)
+  at_token (Token.number text) after isn't = absurd (isn't.0 tt)
+  at_token (Token.boolean flag) after isn't = absurd (isn't.0 tt)
+  at_token Token.null after isn't = absurd (isn't.0 tt)
+  at_token Token.bad after isn't = (goes_on_here, tt)
+
+  pub first_placed : (ahead : List Token) (stop : Stop) → RefusesFirst depth levels ahead stop → WhereStopped depth unique taken ahead stop
+  first_placed [] (stops.NotJson spot) is = subst (λ (s : Spot). IsSpot depth unique s taken []) (sym is) (goes_on_here, tt)
+  first_placed [] stops.TooDeep is = absurd is
+  first_placed [] stops.NameAgain is = absurd is
+  first_placed [] stops.Memory is = tt
+  first_placed [] stops.Failed is = tt
+  first_placed (token ∷ after) (stops.NotJson spot) isn't =
+      subst (λ (s : Spot). IsSpot depth unique s taken (token ∷ after)) (sym isn't.1) (at_token token after isn't.0)
+  first_placed (token ∷ after) stops.TooDeep ((kind, is), full) = (goes_on_here, opener_next kind token after is)
+  first_placed (token ∷ after) stops.NameAgain isn't = absurd isn't
+  first_placed (token ∷ after) stops.Memory isn't = tt
+  first_placed (token ∷ after) stops.Failed isn't = tt
+
+-- a name that is none of some
+abbrev zeros : ℕ → List ℕ
+zeros zero = []
+zeros (suc n) = 0 ∷ zeros n
+
+zeros_length : (n : ℕ) → length (zeros n) ≡ n
+zeros_length zero = refl
+zeros_length (suc n) = ap suc (zeros_length n)
+
+abbrev all_lengths : List (List ℕ) → ℕ
+all_lengths [] = 0
+all_lengths (name ∷ names) = length name + all_lengths names
+
+longer_is_new : (names : List (List ℕ)) (name : List ℕ) → all_lengths names < length name → IsNewName names name
+longer_is_new [] name more = tt
+longer_is_new (other ∷ names) name more =
+    ((λ is. let same = ap length is in absurd (omega (arith, more, same))), longer_is_new names name (omega (arith, more)))
+
+abbrev new_name : List (List ℕ) → List ℕ
+new_name names = zeros (suc (all_lengths names))
+
+new_is_new : (names : List (List ℕ)) → IsNewName names (new_name names)
+new_is_new names = let size = zeros_length (suc (all_lengths names)) in longer_is_new names (new_name names) (omega (arith, size))
+
+-- where a key is next
+module _ (depth : ℕ) (unique : Bool) (taken : List Token) (levels outer : List CollectionKind) (is : levels ≡ outer ++ Mapping ∷ [])
+    (stands : Stands depth taken levels) (once : unique ≡ true → NamesOnce [] taken) where
+  pub member_goes_on : GoesOn depth unique taken
+  member_goes_on =
+      let name = new_name (inner_names (all_names_after [] taken)) in
+      record {
+        token = Token.key name;
+        is_beginner = tt;
+        begins = closes_allowed depth unique (taken ++ Token.key name ∷ []) (awaiting_named depth taken levels outer name is stands []).begins
+            (λ wanted. once_both [] taken (Token.key name ∷ []) (once wanted) (new_is_new (inner_names (all_names_after [] taken)), tt));
+      }
+
+  pub no_string_stands : (left : List Token) → NoStringStands taken left
+  no_string_stands left text after same = (key_refused depth unique taken levels outer is stands once (Token.string text) after
+      ((λ key e. cc), (λ e. cc))).breaks
+
+  pub key_could_stand : (text : List ℕ) (after : List Token) → CouldStandOther taken (Token.string text ∷ after)
+  key_could_stand text after =
+      (text, (after, inr (refl, some_stands depth (taken ++ Token.key text ∷ []) (awaiting_named depth taken levels outer text is stands []).begins)))
+
 -- ---- past a value
 
--- nothing follows a value
+-- no value goes on after a whole one
+pub nothing_past : (json : Json) (token : Token) → BeginsSome (json_tokens json ++ token ∷ []) → ⊥
+nothing_past json token some =
+    let other = some.0 in
+    let deep = max (nesting json) (nesting other) in
+    let whole : skip_value deep (json_tokens other) ≡ Some [] = ap left (read_again other deep (le-max_right (nesting json) (nesting other))) in
+    let part : skip_value deep (json_tokens json ++ token ∷ some.1.rest) ≡ Some (token ∷ some.1.rest) =
+    ap left (value-json_tokens json deep (token ∷ some.1.rest) (le-max_left (nesting json) (nesting other))) in
+    let same : Some [] ≡ Some (token ∷ some.1.rest) =
+    sym whole ∙ ap (skip_value deep) (sym some.1.parts ∙ append_assoc (json_tokens json) (token ∷ []) some.1.rest) ∙ part in
+    cc
+
 pub past_refused : (depth : ℕ) (unique : Bool) (all : List Token) (json : Json) (token : Token) (after : List Token)
-    → value depth all ≡ Some (json, token ∷ after) → (unique ≡ true → NamesOnce [] (json_tokens json)) → BreaksOff depth unique all
+    → value depth all ≡ Some (json, token ∷ after) → (unique ≡ true → NamesOnce [] (json_tokens json))
+    → BreaksAt depth unique (json_tokens json) (token ∷ after)
 past_refused depth unique all json token after read once =
     record {
-      taken = json_tokens json;
-      left = token ∷ after;
-      parts = sym (value_spelled depth all (token ∷ after) json read);
       begins = record {
         json = json;
         allowed = record { nested = value-depth depth all (token ∷ after) json read; names = λ is. once_is_unique json [] (once is) };
         begins = record { rest = []; parts = append-nil (json_tokens json) };
       };
-      breaks = no_longer;
-    } where
-      no_longer : NoneGoesOn (json_tokens json) (token ∷ after)
-      no_longer some =
-          let other = some.0 in
-          let deep = max (nesting json) (nesting other) in
-          let whole : skip_value deep (json_tokens other) ≡ Some [] = ap left (read_again other deep (le-max_right (nesting json) (nesting other))) in
-          let part : skip_value deep (json_tokens json ++ token ∷ some.1.rest) ≡ Some (token ∷ some.1.rest) =
-          ap left (value-json_tokens json deep (token ∷ some.1.rest) (le-max_left (nesting json) (nesting other))) in
-          let same : Some [] ≡ Some (token ∷ some.1.rest) =
-          sym whole ∙ ap (skip_value deep) (sym some.1.parts ∙ append_assoc (json_tokens json) (token ∷ []) some.1.rest) ∙ part in
-          cc
+      breaks = nothing_past json token;
+    }
 
 -- the names of a value that was read
 pub value_names : (depth : ℕ) (unique : Bool) (before after : List Token) (json : Json) → value depth before ≡ Some (json, after)
@@ -262,42 +363,14 @@ pub why_no_json : (depth : ℕ) (unique : Bool) (text : List ℕ) (error : JsonE
     → IsNotJson depth text
 why_no_json depth unique text (errors.NotJson line column) why is = broken_is_none depth unique (tokens text) why.0
 why_no_json depth unique text (errors.Marked line column) why is = broken_is_none depth unique (tokens text) why.0
-why_no_json depth unique text errors.TooDeep why is = deep_is_none depth unique (tokens text) why
+why_no_json depth unique text (errors.TooDeep line column) why is = deep_is_none depth unique (tokens text) why
 why_no_json depth unique text (errors.DuplicateName line column) why is = absurd is
 why_no_json depth unique text (errors.Emitter error) why is = absurd is
-
-pub why_returned : (depth : ℕ) (unique : Bool) (text : List ℕ) (stop : Stop) (error : JsonError) → MatchesStop text stop error
-    → WhyStopped depth unique (tokens text) stop → ExplainsError depth unique text error
-why_returned depth unique text stops.NotJson (errors.NotJson line column) same why = (why, same)
-why_returned depth unique text stops.NotJson (errors.Marked line column) same why = (why, same)
-why_returned depth unique text stops.NotJson errors.TooDeep same why = absurd same
-why_returned depth unique text stops.NotJson (errors.DuplicateName line column) same why = absurd same
-why_returned depth unique text stops.NotJson (errors.Emitter returned) same why = absurd same
-why_returned depth unique text stops.TooDeep (errors.NotJson line column) same why = absurd same
-why_returned depth unique text stops.TooDeep (errors.Marked line column) same why = absurd same
-why_returned depth unique text stops.TooDeep errors.TooDeep same why = why
-why_returned depth unique text stops.TooDeep (errors.DuplicateName line column) same why = absurd same
-why_returned depth unique text stops.TooDeep (errors.Emitter returned) same why = absurd same
-why_returned depth unique text stops.NameAgain (errors.NotJson line column) same why = absurd same
-why_returned depth unique text stops.NameAgain (errors.Marked line column) same why = absurd same
-why_returned depth unique text stops.NameAgain errors.TooDeep same why = absurd same
-why_returned depth unique text stops.NameAgain (errors.DuplicateName line column) same why = why
-why_returned depth unique text stops.NameAgain (errors.Emitter returned) same why = absurd same
-why_returned depth unique text stops.Memory (errors.NotJson line column) same why = absurd same
-why_returned depth unique text stops.Memory (errors.Marked line column) same why = absurd same
-why_returned depth unique text stops.Memory errors.TooDeep same why = absurd same
-why_returned depth unique text stops.Memory (errors.DuplicateName line column) same why = absurd same
-why_returned depth unique text stops.Memory (errors.Emitter returned) same why = tt
-why_returned depth unique text stops.Failed (errors.NotJson line column) same why = absurd same
-why_returned depth unique text stops.Failed (errors.Marked line column) same why = absurd same
-why_returned depth unique text stops.Failed errors.TooDeep same why = absurd same
-why_returned depth unique text stops.Failed (errors.DuplicateName line column) same why = absurd same
-why_returned depth unique text stops.Failed (errors.Emitter returned) same why = tt
 
 -- a call that doesn't refuse the text says nothing of it
 pub unrefused : (answer : Result (Unit {0}) Stop) → (RefusesText answer → ⊥) → (P : Stop → Type 0) → P stops.Memory → P stops.Failed → IfErr answer P
 unrefused (Ok done) never P memory failed = tt
-unrefused (Err stops.NotJson) never P memory failed = absurd (never tt)
+unrefused (Err (stops.NotJson spot)) never P memory failed = absurd (never tt)
 unrefused (Err stops.TooDeep) never P memory failed = absurd (never tt)
 unrefused (Err stops.NameAgain) never P memory failed = absurd (never tt)
 unrefused (Err stops.Memory) never P memory failed = memory

@@ -1,8 +1,9 @@
 -- A token and what it leaves, from what its parts are.
-use Rattle.std.proofs.Common.{◌≡◌, ℕ, ◌+◌, ◌-◌, ◌<◌, Bool, true, false, ◌⊎◌, inl, inr, List, [], ◌∷◌, take, drop, get_or, length, Some, None, refl, sym, subst}
+use Rattle.std.proofs.Common.{◌≡◌, ℕ, ◌+◌, ◌-◌, ◌<◌, Bool, true, false, ◌⊎◌, inl, inr, List, [], ◌∷◌, ◌++◌, take, drop, get_or, length, Some, None, refl, sym, subst}
 use Rattle.std.proofs.Common.{ap, ◌∙◌, arith}
-use Rattle.std.proofs.lemmas.Bool.{true≢false}
-use Rattle.json.specs.Lex.{Lexeme, Place, after_comma, after_value, between, class, fresh, in_string, in_word, lex, may_begin, may_close, other, punctuate}
+use Rattle.std.proofs.lemmas.Bool.{true≢false, false_from_ne_true}
+use Rattle.json.specs.Lex.{Lexeme, Place, after_comma, after_value, begins_colon, between, class, colon, fresh, in_string, in_word, lex, may_begin, may_close}
+use Rattle.json.specs.Lex.{other, punctuate}
 use Rattle.json.specs.Lex.{string_token, token}
 use Rattle.json.specs.Reads.{token_of}
 use Rattle.json.specs.Text.{content, plain}
@@ -13,7 +14,7 @@ use Rattle.json.specs.declared.reader.Place.TheVariants.{Fresh, AfterValue, Afte
 use Rattle.json.specs.declared.token.Token as variants
 use Rattle.json.specs.declared.token.Token.TheVariants as tokens
 use Rattle.json.proofs.Numbered.{ArePrintableOrBad-tokens_at}
-use Rattle.yaml_json.specs.Ahead.{Ends, IsTidy, IsTrimmed, Opens, StepsFrom, ahead, begins_here, closes_here}
+use Rattle.yaml_json.specs.Ahead.{Ends, FollowsAs, IsTidy, IsTrimmed, Opens, Passes, ReadsFirst, StepsFrom, ahead, begins_here, closes_here, place_of}
 use Rattle.yaml_json.specs.Lexemes.{ArePlain}
 use Rattle.yaml_json.specs.declared.tokens.Stage.{Stage}
 use Rattle.yaml_json.specs.declared.tokens.Stage.TheVariants.{Open, Behind, Owed, Over}
@@ -31,23 +32,61 @@ over_is step token_is over = λ i. token_is i ∷ ahead (over i) step.rest.now
 
 pub refused : (may : Place → Bool) (lexemes : List Lexeme) (step : Step) → ((p : Place) → may p ≡ true → punctuate p lexemes ≡ bad ∷ [])
     → token_of step.token ≡ bad → step.stage ≡ Over → IsTidy step.stage step.rest.now → StepsFrom may lexemes step
-refused may lexemes step none token_is over tidy = record { first = λ p e. none p e ∙ sym (over_is step token_is over); tidy = tidy }
+refused may lexemes step none token_is over tidy =
+    record { first = λ p e. none p e ∙ sym (over_is step token_is over); passes = λ p e. inl (over, token_is); tidy = tidy }
+
+-- ---- a token that opens, or ends a value, from its first lexeme
+
+open_apart : Open ≡ Over → ⊥
+open_apart e = cc
+
+pub passes_open : (place : Place) (lexemes : List Lexeme) (first : Token) (others : List Lexeme) (given : Token) (text : List ℕ) (step : Step)
+    → Opens given text step → lexemes ≡ token first ∷ (others ++ lex between text)
+    → ((more : List Lexeme) → punctuate place (token first ∷ (others ++ more)) ≡ given ∷ punctuate fresh more) → Passes place lexemes step
+passes_open place lexemes first others given text step opens is reads = record {
+  good = λ over. open_apart (sym opens.opens ∙ over);
+  first = first;
+  others = others;
+  parts = is ∙ ap (λ ls. token first ∷ (others ++ ls)) opens.parts;
+  reads = λ more f. reads more ∙ (λ i. sym opens.same i ∷ punctuate (place_of (sym opens.opens i)) more);
+}
+
+pub passes_end : (place : Place) (lexemes : List Lexeme) (first : Token) (given : Token) (text : List ℕ) (step : Step)
+    → Ends given text step → lexemes ≡ token first ∷ lex between text
+    → ((more : List Lexeme) → FollowsAs more text → punctuate place (token first ∷ more) ≡ given ∷ punctuate after_value more) → Passes place lexemes step
+passes_end place lexemes first given text step ends is reads = record {
+  good = ends.good;
+  first = first;
+  others = ends.passed;
+  parts = is ∙ ap (λ ls. token first ∷ ls) ends.parts;
+  reads = λ more f. reads (ends.passed ++ more) (ends.follows more f) ∙ (λ i. sym ends.same i ∷ ends.reads more i);
+}
 
 -- ---- strings
 
 pub key_step : (s after rest : List ℕ) (step : Step) → lex between rest ≡ lex between after → head rest ≡ 58 → Opens (key s) (drop 1 rest) step
     → StepsFrom may_begin (token (string s) ∷ lex between after) step
-key_step s after rest step same colon opens = record {
-  first = λ p e. ap (λ ls. punctuate p (token (string s) ∷ ls)) (sym same ∙ lex-colon rest colon) ∙ put-key p s (lex between (drop 1 rest)) e
+key_step s after rest step same colon_first opens = record {
+  first = λ p e. ap (λ ls. punctuate p (token (string s) ∷ ls)) (sym same ∙ lex-colon rest colon_first) ∙ put-key p s (lex between (drop 1 rest)) e
       ∙ (λ i. sym opens.same i ∷ sym opens.left i);
+  passes = λ p e. inr (passes_open p (token (string s) ∷ lex between after) (string s) (colon ∷ []) (key s) (drop 1 rest) step opens
+      (ap (λ ls. token (string s) ∷ ls) (sym same ∙ lex-colon rest colon_first)) (λ more. put-key p s more e));
   tidy = opens.tidy;
 }
+
+-- what follows no colon
+no_colon_more : (rest : List ℕ) (more : List Lexeme) → IsTrimmed rest → (head rest ≡ 58 → ⊥) → FollowsAs more rest → begins_colon more ≡ false
+no_colon_more rest more trimmed apart follows =
+    false_from_ne_true (begins_colon more) (λ e. true≢false (sym (follows e) ∙ no_colon rest trimmed apart))
 
 pub text_step : (s after rest : List ℕ) (step : Step) → lex between rest ≡ lex between after → IsTrimmed rest → (head rest ≡ 58 → ⊥) → Ends (string s) rest step
     → StepsFrom may_begin (token (string s) ∷ lex between after) step
 text_step s after rest step same trimmed apart ends = record {
   first = λ p e. ap (λ ls. punctuate p (token (string s) ∷ ls)) (sym same) ∙ put-string p s (lex between rest) e (no_colon rest trimmed apart)
       ∙ (λ i. sym ends.same i ∷ sym ends.left i);
+  passes = λ p e. inr (passes_end p (token (string s) ∷ lex between after) (string s) (string s) rest step ends
+      (ap (λ ls. token (string s) ∷ ls) (sym same))
+      (λ more f. put-string p s more e (no_colon_more rest more trimmed apart f)));
   tidy = ends.tidy;
 }
 
@@ -79,6 +118,9 @@ good_word text rest w step kind is good left ends = record {
   first = λ p e. ap (punctuate p) (lex-word text kind ∙ ap (λ t. token t ∷ lex in_word (drop 1 text)) (sym is))
       ∙ put-word p w (lex in_word (drop 1 text)) (subst IsWord (sym is) (IsWord-word text)) good e
       ∙ (λ i. sym ends.same i ∷ (ap (punctuate after_value) (sym left) ∙ sym ends.left) i);
+  passes = λ p e. inr (passes_end p (lex between text) w w rest step ends
+      (lex-word text kind ∙ (λ i. token (sym is i) ∷ sym left i))
+      (λ more f. put-word p w more (subst IsWord (sym is) (IsWord-word text)) good e));
   tidy = ends.tidy;
 }
 
@@ -93,12 +135,16 @@ bad_word text step kind none =
 pub opens_object : (text : List ℕ) (step : Step) → head text ≡ 123 → Opens begin_object (drop 1 text) step → StepsFrom may_begin (lex between text) step
 opens_object text step e opens = record {
   first = λ p may. ap (punctuate p) (lex-begin_object text e) ∙ put-begin_object p (lex between (drop 1 text)) may ∙ (λ i. sym opens.same i ∷ sym opens.left i);
+  passes = λ p may. inr (passes_open p (lex between text) begin_object [] begin_object (drop 1 text) step opens (lex-begin_object text e)
+      (λ more. put-begin_object p more may));
   tidy = opens.tidy;
 }
 
 pub opens_array : (text : List ℕ) (step : Step) → head text ≡ 91 → Opens begin_array (drop 1 text) step → StepsFrom may_begin (lex between text) step
 opens_array text step e opens = record {
   first = λ p may. ap (punctuate p) (lex-begin_array text e) ∙ put-begin_array p (lex between (drop 1 text)) may ∙ (λ i. sym opens.same i ∷ sym opens.left i);
+  passes = λ p may. inr (passes_open p (lex between text) begin_array [] begin_array (drop 1 text) step opens (lex-begin_array text e)
+      (λ more. put-begin_array p more may));
   tidy = opens.tidy;
 }
 
@@ -107,6 +153,9 @@ pub closes_object : (text rest : List ℕ) (step : Step) → head text ≡ 125 �
 closes_object text rest step e left ends = record {
   first = λ p may. ap (punctuate p) (lex-end_object text e) ∙ put-end_object p (lex between (drop 1 text)) may
       ∙ (λ i. sym ends.same i ∷ (ap (punctuate after_value) (sym left) ∙ sym ends.left) i);
+  passes = λ p may. inr (passes_end p (lex between text) end_object end_object rest step ends
+      (lex-end_object text e ∙ ap (λ ls. token end_object ∷ ls) (sym left))
+      (λ more f. put-end_object p more may));
   tidy = ends.tidy;
 }
 
@@ -115,6 +164,9 @@ pub closes_array : (text rest : List ℕ) (step : Step) → head text ≡ 93 →
 closes_array text rest step e left ends = record {
   first = λ p may. ap (punctuate p) (lex-end_array text e) ∙ put-end_array p (lex between (drop 1 text)) may
       ∙ (λ i. sym ends.same i ∷ (ap (punctuate after_value) (sym left) ∙ sym ends.left) i);
+  passes = λ p may. inr (passes_end p (lex between text) end_array end_array rest step ends
+      (lex-end_array text e ∙ ap (λ ls. token end_array ∷ ls) (sym left))
+      (λ more f. put-end_array p more may));
   tidy = ends.tidy;
 }
 
@@ -156,19 +208,25 @@ unclosed_array : (t : List ℕ) → head t ≡ 93 → punctuate after_comma (lex
 unfolding punctuate
 unclosed_array t e = ap (punctuate after_comma) (lex-end_array t e)
 
+-- a bad token from the place where the text stands
+pub bad_here : (stage : Stage) (text : List ℕ) (step : Step) → ahead stage text ≡ bad ∷ [] → token_of step.token ≡ bad → step.stage ≡ Over
+    → IsTidy step.stage step.rest.now → ReadsFirst stage text step
+bad_here stage text step is token_is over tidy =
+    record { first = is ∙ sym (over_is step token_is over); passes = inl (over, token_is); tidy = tidy }
+
 -- a step from the place where the text stands
 pub closed_here : (stage : Stage) (text : List ℕ) (step : Step) → closes_here stage ≡ true → StepsFrom may_close (lex between text) step
-    → (ahead stage text ≡ token_of step.token ∷ ahead step.stage step.rest.now) × IsTidy step.stage step.rest.now
-closed_here Open text step e steps = (steps.first fresh refl, steps.tidy)
-closed_here Behind text step e steps = (steps.first after_value refl, steps.tidy)
+    → ReadsFirst stage text step
+closed_here Open text step e steps = record { first = steps.first fresh refl; passes = steps.passes fresh refl; tidy = steps.tidy }
+closed_here Behind text step e steps = record { first = steps.first after_value refl; passes = steps.passes after_value refl; tidy = steps.tidy }
 closed_here Owed text step e steps = absurd (true≢false (sym e))
 closed_here Over text step e steps = absurd (true≢false (sym e))
 
 pub begun_here : (stage : Stage) (text : List ℕ) (step : Step) → begins_here stage ≡ true → StepsFrom may_begin (lex between text) step
-    → (ahead stage text ≡ token_of step.token ∷ ahead step.stage step.rest.now) × IsTidy step.stage step.rest.now
-begun_here Open text step e steps = (steps.first fresh refl, steps.tidy)
+    → ReadsFirst stage text step
+begun_here Open text step e steps = record { first = steps.first fresh refl; passes = steps.passes fresh refl; tidy = steps.tidy }
 begun_here Behind text step e steps = absurd (true≢false (sym e))
-begun_here Owed text step e steps = (steps.first after_comma refl, steps.tidy)
+begun_here Owed text step e steps = record { first = steps.first after_comma refl; passes = steps.passes after_comma refl; tidy = steps.tidy }
 begun_here Over text step e steps = absurd (true≢false (sym e))
 
 pub may_not_close : (stage : Stage) (text : List ℕ) → (stage ≡ Over → ⊥) → closes_here stage ≡ false → (head text ≡ 125) ⊎ (head text ≡ 93)

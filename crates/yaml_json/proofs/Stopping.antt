@@ -1,10 +1,13 @@
 -- What a writer was given when it failed.
 use Rattle.yaml_json.proofs.Common.{IfSome, IfErr, OnOk, Option, None, Some, Result, Ok, Err, List, [], ◌++◌, ◌∷◌, ◌⊎◌, ◌≡◌, inl, inr, subst, sym, ◌∙◌}
 use Rattle.yaml_json.proofs.Common.{unwrap_or, Event, some_from_result, failure_of, emitter_error_of, RefusesText, Ends}
-use Rattle.yaml_json.specs.{Failing.FailedAtEnd, Failing.IsAnswer, Failing.TellsOf, Refused.IsByText, declared.values.Stop.Stop}
+use Rattle.yaml_json.specs.{Failing.FailedAtEnd, Failing.IsAnswer, Failing.Kept, Failing.SoundAfter, Failing.TellsOf, Refused.IsByText}
+use Rattle.yaml_json.specs.{Walk.ReadsNone, declared.values.Stop.Stop}
+use Rattle.yaml_json.proofs.Common.{Token, refl, ap, State}
+use Rattle.yaml_pen.{proofs.Composing.grows_itself, proofs.Composing.grows_then, proofs.Writing.none_from_result, specs.Wrote.Grows}
 use Rattle.yaml_json.specs.declared.values.Stop.TheVariants as stops
 use Rattle.yaml_json.proofs.Common.{FailedWith, FailedAt, WriterState, end_event, with_collection, StandsTaken, AddsEvents, GaveEvent, EndsInnermost}
-use Rattle.yaml_base.specs.declared.errors.{yaml_error_t.yaml_error_t, yaml_error_t.TheVariants.Memory}
+use Rattle.yaml_base.specs.declared.errors.{yaml_error_t.yaml_error_t, yaml_error_t.TheVariants.Memory, yaml_error_t.TheVariants.ExpectedDocumentEnd}
 use Rattle.yaml_json.proofs.WroteLemmas.{adds_then, none_more, on_err, same_last}
 use Rattle.yaml_emitter.specs.declared.place.CollectionKind.{CollectionKind}
 use Rattle.yaml_writer.specs.Writing.{Failed}
@@ -19,12 +22,23 @@ whatever : {A : Type 0} {P : A → Type 0} (found : Option A) → ((value : A) �
 whatever None held = tt
 whatever (Some value) held = held value
 
+-- what follows where the text is refused
+pub if_err : {P : Stop → Type 0} (answer : Result (Unit {0}) Stop) → ((stop : Stop) → ⊥ → P stop) → (RefusesText answer → ⊥)
+    → IfErr answer (λ stop. IsByText stop → P stop)
+if_err (Ok done) follows never = tt
+if_err (Err stop) follows never = λ by_text. follows stop (never by_text)
+
+pub err_by_text : {P Q : Stop → Type 0} {S : Type 0} (answer : Result (Unit {0}) Stop) → ((stop : Stop) → S → P stop → Q stop)
+    → (RefusesText answer → S) → IfErr answer P → IfErr answer (λ stop. IsByText stop → Q stop)
+err_by_text (Ok done) follows same refused = tt
+err_by_text (Err stop) follows same refused = λ by_text. follows stop (same by_text) refused
+
 -- ---- answers
 
 -- the stop tells of the error of a call
 told : (P : yaml_error_t → Type 0) (now : WriterState) (error : yaml_error_t) (stop : Stop) → TellsOf error stop
     → (error ≡ Memory) ⊎ (now.emitter.error ≡ Some error) → P error → IfSome (failure_of now stop) P
-told P now error stops.NotJson tells found held = absurd tells
+told P now error (stops.NotJson spot) tells found held = absurd tells
 told P now error stops.TooDeep tells found held = absurd tells
 told P now error stops.NameAgain tells found held = absurd tells
 told P now error stops.Memory is found held = subst P is held
@@ -32,7 +46,7 @@ told P now error stops.Failed isn't (inl is) held = absurd (isn't is)
 told P now error stops.Failed isn't (inr has) held = subst (λ (found : Option yaml_error_t). P (unwrap_or found Memory)) (sym has) held
 
 never_by_text : (error : yaml_error_t) (stop : Stop) → TellsOf error stop → IsByText stop → ⊥
-never_by_text error stops.NotJson tells by_text = tells
+never_by_text error (stops.NotJson spot) tells by_text = tells
 never_by_text error stops.TooDeep tells by_text = tells
 never_by_text error stops.NameAgain tells by_text = tells
 never_by_text error stops.Memory tells by_text = by_text
@@ -51,8 +65,8 @@ answered P Q now (Err error) (Ok same) is held failed = absurd is
 answered P Q now (Err error) (Err stop) is held failed = (tt, never_by_text error stop is, told Q now error stop is failed.0 failed.1)
 
 code_at : (before after : WriterState) (event : Event) (error : yaml_error_t) → FailedAt before event error after → CodeOf after error
-code_at before after event error (inl memory) = inl memory
-code_at before after event error (inr failed) = inr failed.is_error
+code_at before after event error (inl memory) = inl memory.0
+code_at before after event error (inr failed) = failed.is_error
 
 pub answered_at : (P : Type 0) (before after : WriterState) (event : Event) (answer : Result (Unit {0}) yaml_error_t) (result : Result (Unit {0}) Stop)
     → IsAnswer answer result → OnOk answer P → IfErr answer (λ error. FailedAt before event error after)
@@ -94,9 +108,9 @@ pub event_failed : (before after : WriterState) (event same : Event) (error : ya
     → FailedAt before same error after
 event_failed before after event same error is (inl gave) = inr (record {
   adds = λ given all sent stands. subst (λ (e : Event). StandsTaken given (all ++ e ∷ []) sent after.emitter) is (gave.adds given all sent stands);
-  is_error = gave.error_is;
+  is_error = inr gave.error_is;
 })
-event_failed before after event same error is (inr memory) = inl memory.0
+event_failed before after event same error is (inr memory) = inl memory
 
 -- an end that failed
 pub end_failed : (outer : List CollectionKind) (kind : CollectionKind) (before after : WriterState) (error : yaml_error_t) → before.levels ≡ outer ++ kind ∷ []
@@ -107,7 +121,7 @@ end_failed outer kind before after error levels (inr end) =
     record {
       adds = λ given all sent stands.
           subst (λ (k : CollectionKind). StandsTaken given (all ++ end_event k ∷ []) sent after.emitter) same.1 (end.adds given all sent stands);
-      is_error = some_from_result after.emitter.error error end.answered;
+      is_error = inr (some_from_result after.emitter.error error end.answered);
     }
 
 -- the start of a collection that failed
@@ -115,6 +129,92 @@ pub start_failed : (kind : CollectionKind) (before after : WriterState) (event s
     → GaveEvent (with_collection before kind) event (Some error) after ⊎ ((error ≡ Memory) × (after ≡ before)) → FailedAt before same error after
 start_failed kind before after event same error is (inl gave) = inr (record {
   adds = λ given all sent stands. subst (λ (e : Event). StandsTaken given (all ++ e ∷ []) sent after.emitter) is (gave.adds given all sent stands);
-  is_error = gave.error_is;
+  is_error = inr gave.error_is;
 })
-start_failed kind before after event same error is (inr memory) = inl memory.0
+start_failed kind before after event same error is (inr memory) = inl memory
+
+-- ---- what was written before
+
+not_both : (answer : Result (Unit {0}) yaml_error_t) (done : Unit {0}) (error : yaml_error_t) → answer ≡ Ok done → answer ≡ Err error → ⊥
+not_both answer done error ok failed = cc
+
+-- nothing changed
+pub kept_same : (before after : WriterState) (stop : Stop) → after ≡ before → IsByText stop → Kept before (Err stop) after
+kept_same before after stop same by_text =
+    subst (Kept before (Err stop)) (sym same) (record { grows = grows_itself before.emitter.page; sound = sound_so stop by_text }) where
+      sound_so : (stop : Stop) → IsByText stop → SoundAfter before (Err stop) before
+      sound_so (stops.NotJson spot) by_text = λ none. none
+      sound_so stops.TooDeep by_text = λ none. none
+      sound_so stops.NameAgain by_text = λ none. none
+      sound_so stops.Memory by_text = absurd by_text
+      sound_so stops.Failed by_text = absurd by_text
+
+pub kept_memory : (before : WriterState) → Kept before (Err stops.Memory) before
+kept_memory before = record { grows = grows_itself before.emitter.page; sound = inl (λ none. none) }
+
+-- no token was read
+pub kept_unread : (before : WriterState) (ahead : List Token) (stop : Stop) → ReadsNone ahead stop → Kept before (Err stop) before
+kept_unread before ahead (stops.NotJson spot) none = kept_same before before (stops.NotJson spot) refl tt
+kept_unread before ahead stops.TooDeep none = absurd none
+kept_unread before ahead stops.NameAgain none = absurd none
+kept_unread before ahead stops.Memory none = kept_memory before
+kept_unread before ahead stops.Failed none = absurd none
+
+-- a call that succeeded, and then another
+pub kept_then : (before between after : WriterState) (result : Result (Unit {0}) Stop) → Kept before (Ok tt) between → Kept between result after
+    → Kept before result after
+kept_then before between after result one other =
+    record {
+      grows = grows_then {between = between.emitter.page} one.grows other.grows;
+      sound = sound_then result other.sound;
+    } where
+      sound_then : (result : Result (Unit {0}) Stop) → SoundAfter between result after → SoundAfter before result after
+      sound_then (Ok done) none = none
+      sound_then (Err (stops.NotJson spot)) stays = λ none. stays one.sound
+      sound_then (Err stops.TooDeep) stays = λ none. stays one.sound
+      sound_then (Err stops.NameAgain) stays = λ none. stays one.sound
+      sound_then (Err stops.Memory) (inl stays) = inl (λ none. stays one.sound)
+      sound_then (Err stops.Memory) (inr memory) = inr memory
+      sound_then (Err stops.Failed) failed = tt
+
+-- a call of a writer, by its answer
+module _ (before after : WriterState) where
+  kept_gave : (error : yaml_error_t) (stop : Stop) → TellsOf error stop → Grows before.emitter.page after.emitter.page
+      → after.emitter.error ≡ Some error → Kept before (Err stop) after
+  kept_gave error (stops.NotJson spot) tells grows has = absurd tells
+  kept_gave error stops.TooDeep tells grows has = absurd tells
+  kept_gave error stops.NameAgain tells grows has = absurd tells
+  kept_gave error stops.Memory is grows has = record { grows = grows; sound = inr (has ∙ ap (λ (e : yaml_error_t). Some e) is) }
+  kept_gave error stops.Failed isn't grows has = record { grows = grows; sound = tt }
+
+  kept_still : (error : yaml_error_t) (stop : Stop) → TellsOf error stop → after ≡ before → Kept before (Err stop) after
+  kept_still error (stops.NotJson spot) tells same = absurd tells
+  kept_still error stops.TooDeep tells same = absurd tells
+  kept_still error stops.NameAgain tells same = absurd tells
+  kept_still error stops.Memory tells same = subst (Kept before (Err stops.Memory)) (sym same) (kept_memory before)
+  kept_still error stops.Failed tells same =
+      subst (Kept before (Err stops.Failed)) (sym same) (record { grows = grows_itself before.emitter.page; sound = tt })
+
+  -- that gives an event
+  pub kept_event : (first : WriterState) → first.emitter ≡ before.emitter → (event : Event) (answer : Result (Unit {0}) yaml_error_t)
+      (result : Result (Unit {0}) Stop) → IsAnswer answer result
+      → OnOk answer (GaveEvent first event None after)
+      → IfErr answer (λ error. GaveEvent first event (Some error) after ⊎ ((error ≡ Memory) × (after ≡ before))) → Kept before result after
+  kept_event first is event (Ok done) (Ok same) answers gave failed =
+      record { grows = subst (λ (s : State). Grows s.page after.emitter.page) is gave.grows; sound = gave.error_is }
+  kept_event first is event (Ok done) (Err stop) answers gave failed = absurd answers
+  kept_event first is event (Err error) (Ok same) answers gave failed = absurd answers
+  kept_event first is event (Err error) (Err stop) answers gave (inl given) =
+      kept_gave error stop answers (subst (λ (s : State). Grows s.page after.emitter.page) is given.grows) given.error_is
+  kept_event first is event (Err error) (Err stop) answers gave (inr memory) = kept_still error stop answers memory.1
+
+  -- that ends a collection
+  pub kept_end : (answer : Result (Unit {0}) yaml_error_t) (result : Result (Unit {0}) Stop) → IsAnswer answer result → EndsInnermost before answer after
+      → Kept before result after
+  kept_end (Ok done) (Ok same) answers (inl none) = absurd (not_both (Ok done) done ExpectedDocumentEnd refl none.1)
+  kept_end (Ok done) (Ok same) answers (inr end) = record { grows = end.grows; sound = none_from_result after.emitter.error end.answered }
+  kept_end (Ok done) (Err stop) answers ends = absurd answers
+  kept_end (Err error) (Ok same) answers ends = absurd answers
+  kept_end (Err error) (Err stop) answers (inl none) = kept_still error stop answers none.2
+  kept_end (Err error) (Err stop) answers (inr end) =
+      kept_gave error stop answers end.grows (some_from_result after.emitter.error error end.answered)

@@ -1,9 +1,16 @@
 -- The stops of the walk, turn by turn.
-use Rattle.yaml_json.proofs.Common.{ℕ, Bool, false, true, List, [], ◌++◌, ◌∷◌, ◌≡◌, append_assoc, ap, subst, sym, ◌∙◌, Token, HoldsNames, AddsName, FitsNames}
-use Rattle.yaml_json.proofs.Common.{IfSome, failure_of, refl, WriterState, RefusesToken, RefusesFirst, WhyStopped, Refuses}
+use Rattle.yaml_json.proofs.Common.{ℕ, Bool, false, true, List, [], ◌++◌, ◌∷◌, ◌≡◌, ap, append-nil, subst, sym, ◌∙◌, Token, HoldsNames, AddsName, FitsNames}
+use Rattle.yaml_json.proofs.Common.{IfSome, failure_of, refl, WriterState, RefusesToken, RefusesFirst, WhyStopped, Refuses, tokens_events, AddsEvents}
+use Rattle.yaml_json.proofs.Common.{Stands, KeepsNames}
+use Rattle.yaml_json.specs.{Refused.IsByText, Walk.Gives, Walk.Stood}
 use Rattle.yaml_json.proofs.KeepingNames.{keeps_name, name_again, names_once}
-use Rattle.yaml_json.proofs.Refusing.{first_refused, IsNoKey, no_member_left, key_refused, name_refused}
-use Rattle.yaml_json.proofs.Walking.{awaiting_item, awaiting_no_item, awaiting_named}
+use Rattle.yaml_json.proofs.Refusing.{IsNoKey, first_placed, first_refused, key_could_stand, key_refused, member_goes_on, name_refused, no_member_left}
+use Rattle.yaml_json.proofs.Refusing.{no_string_stands}
+use Rattle.yaml_json.proofs.Walking.{Awaiting, awaiting_item, awaiting_named, awaiting_no_item, awaiting_whole}
+use Rattle.yaml_json.proofs.Common.{IsScalar}
+use Rattle.yaml_json.specs.Walk.{IsInside, NoStringNext, StopsWriting, WereLeft, WhereStopped, spot_of}
+use Rattle.yaml_json.specs.declared.values.Spot.{Spot}
+use Rattle.yaml_json.specs.declared.values.Spot.TheVariants.{At, PastString, PastValue}
 use Rattle.yaml_base.specs.declared.errors.yaml_error_t.TheVariants.{Memory}
 use Rattle.yaml_json.specs.{Walk.ReadsNone, declared.names.Names.Names, declared.values.Stop.Stop}
 use Rattle.yaml_emitter.specs.declared.place.{CollectionKind.CollectionKind, CollectionKind.TheVariants.Mapping, CollectionKind.TheVariants.Sequence}
@@ -11,17 +18,60 @@ use Rattle.yaml_json.specs.declared.values.Stop.TheVariants as stops
 
 -- no token is read
 pub unread_memory : (ahead : List Token) (now : WriterState) (stop : Stop) → ReadsNone ahead stop → IfSome (failure_of now stop) (λ error. error ≡ Memory)
-unread_memory ahead now stops.NotJson none = tt
+unread_memory ahead now (stops.NotJson spot) none = tt
 unread_memory ahead now stops.TooDeep none = tt
 unread_memory ahead now stops.NameAgain none = tt
 unread_memory ahead now stops.Memory none = refl
 unread_memory ahead now stops.Failed none = absurd none
 
+-- what is refused within a value
+spot_inside : (token : Token) → IsInside (stops.NotJson (spot_of token))
+spot_inside Token.begin_object = tt
+spot_inside Token.end_object = tt
+spot_inside Token.begin_array = tt
+spot_inside Token.end_array = tt
+spot_inside (Token.key text) = tt
+spot_inside (Token.string text) = tt
+spot_inside (Token.number text) = tt
+spot_inside (Token.boolean flag) = tt
+spot_inside Token.null = tt
+spot_inside Token.bad = tt
+
+inside_token : (depth : ℕ) (levels : List CollectionKind) (token : Token) (stop : Stop) → RefusesToken depth levels token stop → IsInside stop
+inside_token depth levels token (stops.NotJson spot) refuses = subst (λ (s : Spot). IsInside (stops.NotJson s)) (sym refuses.1) (spot_inside token)
+inside_token depth levels token stops.TooDeep refuses = tt
+inside_token depth levels token stops.NameAgain refuses = tt
+inside_token depth levels token stops.Memory refuses = tt
+inside_token depth levels token stops.Failed refuses = tt
+
+pub inside_first : (depth : ℕ) (levels : List CollectionKind) (ahead : List Token) (stop : Stop) → RefusesFirst depth levels ahead stop → IsInside stop
+inside_first depth levels [] (stops.NotJson spot) refuses = subst (λ (s : Spot). IsInside (stops.NotJson s)) (sym refuses) tt
+inside_first depth levels [] stops.TooDeep refuses = tt
+inside_first depth levels [] stops.NameAgain refuses = tt
+inside_first depth levels [] stops.Memory refuses = tt
+inside_first depth levels [] stops.Failed refuses = tt
+inside_first depth levels (token ∷ after) stop refuses = inside_token depth levels token stop refuses
+
+-- where it isn't whole, all is left
+pub all_left : (stop : Stop) (taken left : List Token) → IsInside stop → WereLeft stop taken left left
+all_left (stops.NotJson At) taken left inside = refl
+all_left (stops.NotJson PastString) taken left inside = refl
+all_left (stops.NotJson PastValue) taken left inside = absurd inside
+all_left stops.TooDeep taken left inside = refl
+all_left stops.NameAgain taken left inside = refl
+all_left stops.Memory taken left inside = refl
+all_left stops.Failed taken left inside = refl
+
+-- no scalar closes an array
+no_scalar_closes : (token : Token) → IsScalar token → token ≡ Token.end_array → ⊥
+no_scalar_closes token scalar is = absurd (subst IsScalar is scalar)
+
 -- ---- the first token of a value
 
 pub first_unread : (depth : ℕ) (levels : List CollectionKind) (ahead : List Token) (stop : Stop) → ReadsNone ahead stop
     → RefusesFirst depth levels ahead stop
-first_unread depth levels ahead stops.NotJson none = subst (λ (all : List Token). RefusesFirst depth levels all stops.NotJson) (sym none) tt
+first_unread depth levels ahead (stops.NotJson spot) none =
+    subst (λ (all : List Token). RefusesFirst depth levels all (stops.NotJson spot)) (sym none.0) none.1
 first_unread depth levels ahead stops.TooDeep none = absurd none
 first_unread depth levels ahead stops.NameAgain none = absurd none
 first_unread depth levels [] stops.Memory none = tt
@@ -32,67 +82,158 @@ pub first_stopped : (depth : ℕ) (levels : List CollectionKind) (ahead : List T
     → (stop : Stop) → RefusesToken depth levels token stop → RefusesFirst depth levels ahead stop
 first_stopped depth levels ahead token after first stop refuses = subst (λ (all : List Token). RefusesFirst depth levels all stop) (sym first) refuses
 
-module _ {A : Type 0} (depth : ℕ) (unique : Bool) (levels outer : List CollectionKind) (held : Names A) (fits : FitsNames unique levels held)
-    (ahead : List Token) where
-  abbrev Stopped : List Token → Stop → Type 0
-  Stopped all stop = WhyStopped depth unique all stop
+-- nothing more was given
+pub adds_none : (in_flow : Bool) (levels : List CollectionKind) (before now : WriterState) → now ≡ before → (was : WriterState) (so : List Token)
+    → Stood in_flow was so levels before → AddsEvents was.emitter (tokens_events was.canonical in_flow (so ++ [])) now.emitter
+adds_none in_flow levels before now same was so stood =
+    subst (λ (writer : WriterState). AddsEvents was.emitter (tokens_events was.canonical in_flow (so ++ [])) writer.emitter) (sym same)
+    (subst (λ (all : List Token). AddsEvents was.emitter (tokens_events was.canonical in_flow all) before.emitter) (sym (append-nil so)) stood.adds)
 
-  -- ---- within an array
+module _ {A : Type 0} (depth : ℕ) (unique in_flow : Bool) (levels outer : List CollectionKind) (held : Names A) (fits : FitsNames unique levels held)
+    (ahead : List Token) (before now : WriterState) where
+  -- where nothing was given
+  module _ (same : now ≡ before) (last : List Token) (were : last ≡ ahead) where
+    at_once : (left : List Token) → ahead ≡ left → (stop : Stop) → IsInside stop
+        → ((so : List Token) → Stands depth so levels → KeepsNames so held
+        → WhyStopped depth unique so left stop × WhereStopped depth unique so left stop)
+        → Refuses depth unique in_flow levels held ahead last before stop now
+    at_once left is stop inside why =
+        record {
+          taken = [];
+          parts = were;
+          inside = inside;
+          adds = adds_none in_flow levels before now same;
+          why = λ so stands kept. subst (λ (all : List Token). WhyStopped depth unique all last stop) (sym (append-nil so))
+              (subst (λ (l : List Token). WhyStopped depth unique so l stop) (sym (were ∙ is)) (why so stands kept).0);
+          place = λ so stands kept. subst (λ (all : List Token). WhereStopped depth unique all last stop) (sym (append-nil so))
+              (subst (λ (l : List Token). WhereStopped depth unique so l stop) (sym (were ∙ is)) (why so stands kept).1);
+        }
 
-  module _ (is : levels ≡ outer ++ Sequence ∷ []) where
-    item_none : ahead ≡ [] → Refuses depth unique levels held ahead stops.NotJson
-    item_none none so stands kept =
-        subst (λ (all : List Token). Stopped (so ++ all) stops.NotJson) (sym none)
-        (first_refused depth unique so levels [] stops.NotJson (awaiting_no_item depth so levels outer is stands)
-        (names_once unique levels held so fits kept) tt)
+    -- ---- within an array
 
-    pub item_stopped : (token : Token) (after : List Token) → ahead ≡ token ∷ after → (token ≡ Token.end_array → ⊥) → (stop : Stop)
-        → RefusesToken depth levels token stop → Refuses depth unique levels held ahead stop
-    item_stopped token after first isn't stop refuses so stands kept =
-        subst (λ (all : List Token). Stopped (so ++ all) stop) (sym first)
-        (first_refused depth unique so levels (token ∷ after) stop (awaiting_item depth so levels outer token after is stands isn't)
-        (names_once unique levels held so fits kept) refuses)
+    module _ (is : levels ≡ outer ++ Sequence ∷ []) where
+      item_awaits : (so : List Token) → Stands depth so levels → (token : Token) → IsScalar token → Awaiting depth so levels (token ∷ [])
+      item_awaits so stands token scalar = awaiting_item depth so levels outer token [] is stands (no_scalar_closes token scalar)
 
-  -- ---- within an object
+      item_none : ahead ≡ [] → Refuses depth unique in_flow levels held ahead last before (stops.NotJson At) now
+      item_none none =
+          at_once [] none (stops.NotJson At) tt
+          (λ so stands kept. (
+            first_refused depth unique so levels [] (stops.NotJson At) (awaiting_no_item depth so levels outer is stands)
+                (names_once unique levels held so fits kept) refl,
+            first_placed depth unique so levels (item_awaits so stands) (names_once unique levels held so fits kept) [] (stops.NotJson At) refl,
+          ))
 
-  module _ (is : levels ≡ outer ++ Mapping ∷ []) where
-    member_none : ahead ≡ [] → Refuses depth unique levels held ahead stops.NotJson
-    member_none none so stands kept =
-        subst (λ (all : List Token). Stopped (so ++ all) stops.NotJson) (sym none)
-        (no_member_left depth unique so levels outer is stands (names_once unique levels held so fits kept))
+      pub item_stopped : (token : Token) (after : List Token) → ahead ≡ token ∷ after → (token ≡ Token.end_array → ⊥) → (stop : Stop)
+          → RefusesToken depth levels token stop → Refuses depth unique in_flow levels held ahead last before stop now
+      item_stopped token after first isn't stop refuses =
+          at_once (token ∷ after) first stop (inside_token depth levels token stop refuses)
+          (λ so stands kept. (
+            first_refused depth unique so levels (token ∷ after) stop (awaiting_item depth so levels outer token after is stands isn't)
+                (names_once unique levels held so fits kept) refuses,
+            first_placed depth unique so levels (item_awaits so stands) (names_once unique levels held so fits kept) (token ∷ after) stop refuses,
+          ))
 
-    pub member_stopped : (token : Token) (after : List Token) → ahead ≡ token ∷ after → IsNoKey token
-        → Refuses depth unique levels held ahead stops.NotJson
-    member_stopped token after first isn't so stands kept =
-        subst (λ (all : List Token). Stopped (so ++ all) stops.NotJson) (sym first)
-        (key_refused depth unique so levels outer is stands (names_once unique levels held so fits kept) token after isn't)
+    -- ---- within an object
 
-    module _ (name : List ℕ) (inner : List Token) (first : ahead ≡ Token.key name ∷ inner) (later : Names A)
-        (same : later.are_kept ≡ held.are_kept) (new : Bool)
-        (adds : (names : List (List ℕ)) → (more : List (List (List ℕ))) → HoldsNames (names ∷ more) held → AddsName names more name new later) where
+    module _ (is : levels ≡ outer ++ Mapping ∷ []) where
+      member_none : ahead ≡ [] → Refuses depth unique in_flow levels held ahead last before (stops.NotJson At) now
+      member_none none =
+          at_once [] none (stops.NotJson At) tt
+          (λ so stands kept. (
+            no_member_left depth unique so levels outer is stands (names_once unique levels held so fits kept),
+            (member_goes_on depth unique so levels outer is stands (names_once unique levels held so fits kept), tt),
+          ))
+
+      pub member_stopped : (token : Token) (after : List Token) → ahead ≡ token ∷ after → IsNoKey token → NoStringNext (token ∷ after)
+          → Refuses depth unique in_flow levels held ahead last before (stops.NotJson At) now
+      member_stopped token after first isn't other =
+          at_once (token ∷ after) first (stops.NotJson At) tt
+          (λ so stands kept. (
+            key_refused depth unique so levels outer is stands (names_once unique levels held so fits kept) token after isn't,
+            (member_goes_on depth unique so levels outer is stands (names_once unique levels held so fits kept), other),
+          ))
+
+      -- a string stands where a name is next
+      pub string_stopped : (text : List ℕ) (after : List Token) → ahead ≡ Token.string text ∷ after
+          → Refuses depth unique in_flow levels held ahead last before (stops.NotJson PastString) now
+      string_stopped text after first =
+          at_once (Token.string text ∷ after) first (stops.NotJson PastString) tt
+          (λ so stands kept. (
+            key_refused depth unique so levels outer is stands (names_once unique levels held so fits kept) (Token.string text) after
+                ((λ key is. cc), (λ is. cc)),
+            key_could_stand depth unique so levels outer is stands (names_once unique levels held so fits kept) text after,
+          ))
+
       -- the name comes again
-      pub again_stopped : new ≡ false → Refuses depth unique levels held ahead stops.NameAgain
-      again_stopped old so stands kept =
-          let found = name_again levels outer Mapping is unique name held later fits same new adds old so kept in
-          subst (λ (all : List Token). Stopped (so ++ all) stops.NameAgain) (sym first)
-          (name_refused depth unique so levels outer name inner is stands found.0 found.1 found.2)
+      pub again_stopped : (name : List ℕ) (inner : List Token) → ahead ≡ Token.key name ∷ inner → (later : Names A) → later.are_kept ≡ held.are_kept
+          → (new : Bool)
+          → ((names : List (List ℕ)) → (more : List (List (List ℕ))) → HoldsNames (names ∷ more) held → AddsName names more name new later)
+          → new ≡ false → Refuses depth unique in_flow levels held ahead last before stops.NameAgain now
+      again_stopped name inner first later kept_same new adds old =
+          at_once (Token.key name ∷ inner) first stops.NameAgain tt
+          (λ so stands kept. let found = name_again levels outer Mapping is unique name held later fits kept_same new adds old so kept in (
+            name_refused depth unique so levels outer name inner is stands found.0 found.1 found.2,
+            (
+              member_goes_on depth unique so levels outer is stands (names_once unique levels held so fits kept),
+              no_string_stands depth unique so levels outer is stands (names_once unique levels held so fits kept) (Token.key name ∷ inner),
+            ),
+          ))
 
-      -- or what follows it is refused
-      pub named_stopped : new ≡ true → (stop : Stop) → RefusesFirst depth levels inner stop → Refuses depth unique levels held ahead stop
-      named_stopped fresh stop refuses so stands kept =
-          let once = λ (wanted : unique ≡ true). (keeps_name levels outer Mapping is unique name held later fits same new adds fresh so kept
-          (same ∙ fits.0 ∙ wanted)).0 in
-          subst (λ (all : List Token). Stopped all stop)
-          (append_assoc so (Token.key name ∷ []) inner ∙ ap (λ (all : List Token). so ++ all) (sym first))
-          (first_refused depth unique (so ++ Token.key name ∷ []) levels inner stop (awaiting_named depth so levels outer name is stands inner)
-          once refuses)
+    -- no token is read
 
-  -- no token is read
+    unread_so : (kind : CollectionKind) → levels ≡ outer ++ kind ∷ [] → ahead ≡ []
+        → Refuses depth unique in_flow levels held ahead last before (stops.NotJson At) now
+    unread_so Sequence is none = item_none is none
+    unread_so Mapping is none = member_none is none
 
-  pub unread : (kind : CollectionKind) → levels ≡ outer ++ kind ∷ [] → (stop : Stop) → ReadsNone ahead stop → Refuses depth unique levels held ahead stop
-  unread Sequence is stops.NotJson none = item_none is none
-  unread Mapping is stops.NotJson none = member_none is none
-  unread kind is stops.TooDeep none = absurd none
-  unread kind is stops.NameAgain none = absurd none
-  unread kind is stops.Memory none = λ so stands kept. tt
-  unread kind is stops.Failed none = absurd none
+    pub unread : (kind : CollectionKind) → levels ≡ outer ++ kind ∷ [] → (stop : Stop) → ReadsNone ahead stop → IsByText stop
+        → Refuses depth unique in_flow levels held ahead last before stop now
+    unread kind is (stops.NotJson spot) none by_text =
+        subst (λ (s : Spot). Refuses depth unique in_flow levels held ahead last before (stops.NotJson s) now) (sym none.1) (unread_so kind is none.0)
+    unread kind is stops.TooDeep none by_text = absurd none
+    unread kind is stops.NameAgain none by_text = absurd none
+    unread kind is stops.Memory none by_text = absurd by_text
+    unread kind is stops.Failed none by_text = absurd none
+
+  -- what follows a name is refused
+  module _ (is : levels ≡ outer ++ Mapping ∷ []) (name : List ℕ) (inner : List Token) (first : ahead ≡ Token.key name ∷ inner) (later : Names A)
+      (kept_same : later.are_kept ≡ held.are_kept) (new : Bool)
+      (adds : (names : List (List ℕ)) → (more : List (List (List ℕ))) → HoldsNames (names ∷ more) held → AddsName names more name new later)
+      (named : WriterState) (gave : Gives in_flow levels before (Token.key name ∷ []) levels named) where
+    pub named_stopped : (last : List Token) → last ≡ inner → new ≡ true → now ≡ named → (stop : Stop) → RefusesFirst depth levels inner stop
+        → Refuses depth unique in_flow levels held ahead last before stop now
+    named_stopped last were fresh same stop refuses =
+        let once = λ (so : List Token) (kept : KeepsNames so held) (wanted : unique ≡ true).
+        (keeps_name levels outer Mapping is unique name held later fits kept_same new adds fresh so kept (kept_same ∙ fits.0 ∙ wanted)).0 in
+        record {
+          taken = Token.key name ∷ [];
+          inside = inside_first depth levels inner stop refuses;
+          parts = ap (λ (l : List Token). Token.key name ∷ l) were ∙ sym first;
+          adds = λ was so stood.
+              subst (λ (writer : WriterState). AddsEvents was.emitter (tokens_events was.canonical in_flow (so ++ Token.key name ∷ [])) writer.emitter)
+              (sym same) (gave was so stood).adds;
+          why = λ so stands kept. subst (λ (l : List Token). WhyStopped depth unique (so ++ Token.key name ∷ []) l stop) (sym were)
+              (first_refused depth unique (so ++ Token.key name ∷ []) levels inner stop
+              (awaiting_named depth so levels outer name is stands inner) (once so kept) refuses);
+          place = λ so stands kept. subst (λ (l : List Token). WhereStopped depth unique (so ++ Token.key name ∷ []) l stop) (sym were)
+              (first_placed depth unique (so ++ Token.key name ∷ []) levels
+              (λ token scalar. awaiting_named depth so levels outer name is stands (token ∷ [])) (once so kept) inner stop refuses);
+        }
+
+-- the first token of all
+pub first_stopped_writing : (depth : ℕ) (unique in_flow : Bool) (ahead last : List Token) → last ≡ ahead → (was now : WriterState) (stop : Stop)
+    → RefusesFirst depth [] ahead stop → AddsEvents was.emitter (tokens_events was.canonical in_flow []) now.emitter
+    → StopsWriting depth unique in_flow ahead last was stop now
+first_stopped_writing depth unique in_flow ahead last were was now stop refuses adds =
+    record {
+      taken = [];
+      left = last;
+      parts = were;
+      why = subst (λ (l : List Token). WhyStopped depth unique [] l stop) (sym were)
+          (first_refused depth unique [] [] ahead stop (awaiting_whole depth ahead) (λ wanted. tt) refuses);
+      place = subst (λ (l : List Token). WhereStopped depth unique [] l stop) (sym were)
+          (first_placed depth unique [] [] (λ token scalar. awaiting_whole depth (token ∷ [])) (λ wanted. tt) ahead stop refuses);
+      were = all_left stop [] last (inside_first depth [] ahead stop refuses);
+      adds = adds;
+    }

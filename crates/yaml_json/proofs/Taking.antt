@@ -1,16 +1,17 @@
 -- What the writer was given while the tokens of a value are walked over.
-use Rattle.yaml_json.proofs.Common.{ℕ, ◌-◌, ◌<◌, length, take, Bool, List, [], ◌++◌, ◌∷◌, ◌⊎◌, refl, ◌≡◌, append-nil, append_assoc, inl, inr, ap, subst}
+use Rattle.yaml_json.proofs.Common.{ℕ, ◌-◌, ◌<◌, length, take, Bool, List, [], ◌++◌, ◌∷◌, refl, ◌≡◌, append-nil, append_assoc, inl, inr, ap, subst}
 use Rattle.yaml_json.proofs.Common.{sym, ◌∙◌, arith, append_cancel_right, left_some, value, skip_value, Token, json_tokens, Event, BeginsValue, FailedWith}
 use Rattle.yaml_json.proofs.Common.{FailedAt, token_events, tokens_events, Stands, IsScalar, opener, closer, KeepsNames, BeganValue, BeginFailed}
-use Rattle.yaml_json.proofs.Common.{BeganFirstValue, FirstFailed, WhyStopped, Refuses, WalkProgress, IsBare, WroteEvent, start_event, StartsCollection, Ends}
+use Rattle.yaml_json.proofs.Common.{BeganFirstValue, FirstFailed, Refuses, WalkProgress, IsBare, WroteEvent, start_event, StartsCollection, Ends}
 use Rattle.yaml_json.proofs.Common.{IfSome, failure_of, WriterState, end_event, StandsTaken, AddsEvents}
 use Rattle.std.proofs.Math.Seq.{take-append_seam}
 use Rattle.yaml_base.specs.declared.errors.{yaml_error_t.yaml_error_t, yaml_error_t.TheVariants.Memory}
-use Rattle.yaml_json.{proofs.KeepingNames.NamesSoFar, proofs.Stopping.end_failed, proofs.Stopping.if_some, proofs.Stops.unread_memory}
+use Rattle.yaml_json.{proofs.KeepingNames.NamesSoFar, proofs.Stopping.end_failed, proofs.Stopping.if_some, proofs.Stops.unread_memory, proofs.Stops.adds_none}
 use Rattle.yaml_json.proofs.{TokenLemmas.value_spelled, TokenLemmas.some_then, TokenLemmas.value_given, WroteLemmas.adds_then, WroteLemmas.ended}
 use Rattle.yaml_json.specs.{Failing.FailedAtEnd, Failing.FailedInValue, Wrote.WroteValue, declared.names.Names.Names, declared.values.Stop.Stop}
 use Rattle.yaml_json.proofs.Walking.{longer, closed_stands, closes_value, value_begins, awaiting_whole, awaiting_item, awaiting_named, next_stands}
-use Rattle.yaml_json.specs.Walk.{ReadsNone, Stood, Gives, FailsGiving, Stepped, StepFailed}
+use Rattle.yaml_json.proofs.Stops.{all_left}
+use Rattle.yaml_json.specs.Walk.{ReadsNone, Stood, StopsWriting, Gives, FailsGiving, Stepped, StepFailed}
 use Rattle.yaml_emitter.specs.declared.place.{CollectionKind.CollectionKind, CollectionKind.TheVariants.Mapping, CollectionKind.TheVariants.Sequence}
 
 -- ---- the writer
@@ -106,10 +107,10 @@ fails_start in_flow levels before after kind error (inr gave) =
     (opener_events kind was.canonical in_flow) gave)
 
 pub fails_end : (in_flow : Bool) (outer : List CollectionKind) (before after : WriterState) (kind : CollectionKind) (error : yaml_error_t)
-    → FailedAtEnd before error after → FailsGiving in_flow (outer ++ kind ∷ []) before (closer kind ∷ []) error after
-fails_end in_flow outer before after kind error ends =
-    inr
-    (λ was so stood. failed_on in_flow was before after so (closer kind) (end_event kind) error stood.adds (closer_events kind was.canonical in_flow)
+    → FailedAtEnd before error after → (was : WriterState) (so : List Token) → Stood in_flow was so (outer ++ kind ∷ []) before
+    → FailedWith was (tokens_events was.canonical in_flow (so ++ closer kind ∷ [])) error after
+fails_end in_flow outer before after kind error ends was so stood =
+    (failed_on in_flow was before after so (closer kind) (end_event kind) error stood.adds (closer_events kind was.canonical in_flow)
     (end_failed (was.levels ++ outer) kind before after error (stood.levels_are ∙ sym (append_assoc was.levels outer (kind ∷ []))) ends))
 
 -- ---- one token
@@ -149,9 +150,10 @@ module _ (depth : ℕ) (in_flow : Bool) (levels : List CollectionKind) (before a
         fails = fails_start in_flow levels before after kind error failed;
       }
 
-  pub opener_without_memory : (kind : CollectionKind) → length levels < depth → BeginFailed depth in_flow (opener kind) levels before Memory after
-  opener_without_memory kind fits =
-      record { opened = levels ++ kind ∷ []; begins = inr (kind, refl, fits, refl); fails = inl refl }
+  pub opener_without_memory : (kind : CollectionKind) → length levels < depth → after ≡ before
+      → BeginFailed depth in_flow (opener kind) levels before Memory after
+  opener_without_memory kind fits same =
+      record { opened = levels ++ kind ∷ []; begins = inr (kind, refl, fits, refl); fails = inl (refl, same) }
 
 -- ---- one turn
 
@@ -187,32 +189,42 @@ module _ (depth : ℕ) (in_flow : Bool) (ahead : List Token) (levels outer : Lis
         taken = closer kind ∷ [];
         left = after;
         parts = sym first;
-        fails = subst (λ (all : List CollectionKind). FailsGiving in_flow all before (closer kind ∷ []) error now) (sym is)
-            (fails_end in_flow outer before now kind error ends);
+        fails = λ was so stood. fails_end in_flow outer before now kind error ends was so
+            (subst (λ (all : List CollectionKind). Stood in_flow was so all before) is stood);
         begins = λ so stands. value_begins depth (so ++ closer kind ∷ []) outer
             (closed_stands depth so outer kind (subst (Stands depth so) is stands));
       }
 
 -- an allocation failed before anything was given
-pub step_without_memory : (depth : ℕ) (in_flow : Bool) (ahead : List Token) (levels : List CollectionKind) (before now : WriterState)
+pub step_without_memory : (depth : ℕ) (in_flow : Bool) (ahead : List Token) (levels : List CollectionKind) (before now : WriterState) → now ≡ before
     → StepFailed depth in_flow ahead levels before Memory now
-step_without_memory depth in_flow ahead levels before now =
+step_without_memory depth in_flow ahead levels before now same =
     record {
       taken = [];
       left = ahead;
       parts = refl;
-      fails = inl refl;
+      fails = λ was so stood. record { adds = adds_none in_flow levels before now same was so stood; is_error = inl refl };
       begins = λ so stands. subst (BeginsValue depth) (sym (append-nil so)) (value_begins depth so levels stands);
     }
 
+-- what failed at the first token, or before it
+step_at_first : (depth : ℕ) (in_flow : Bool) (ahead : List Token) (levels : List CollectionKind) (before : WriterState) (token : Token)
+    (after : List Token) (error : yaml_error_t) (now : WriterState) → ahead ≡ token ∷ after → FailsGiving in_flow levels before (token ∷ []) error now
+    → ((so : List Token) → Stands depth so levels → BeginsValue depth (so ++ token ∷ [])) → StepFailed depth in_flow ahead levels before error now
+step_at_first depth in_flow ahead levels before token after error now first (inl memory) begins =
+    subst (λ (code : yaml_error_t). StepFailed depth in_flow ahead levels before code now) (sym memory.0)
+    (step_without_memory depth in_flow ahead levels before now memory.1)
+step_at_first depth in_flow ahead levels before token after error now first (inr fails) begins =
+    record { taken = token ∷ []; left = after; parts = sym first; fails = fails; begins = begins }
+
 -- or no token is read
-pub step_unread : (depth : ℕ) (in_flow : Bool) (ahead : List Token) (levels : List CollectionKind) (before now : WriterState) (stop : Stop)
-    → ReadsNone ahead stop → IfSome (failure_of now stop) (λ error. StepFailed depth in_flow ahead levels before error now)
-step_unread depth in_flow ahead levels before now stop none =
-    if_some (failure_of now stop)
-    (λ error memory. subst (λ (code : yaml_error_t). StepFailed depth in_flow ahead levels before code now) (sym memory)
-    (step_without_memory depth in_flow ahead levels before now))
-    (unread_memory ahead now stop none)
+pub step_unread : (depth : ℕ) (in_flow : Bool) (ahead : List Token) (levels : List CollectionKind) (before : WriterState) (stop : Stop)
+    → ReadsNone ahead stop → IfSome (failure_of before stop) (λ error. StepFailed depth in_flow ahead levels before error before)
+step_unread depth in_flow ahead levels before stop none =
+    if_some (failure_of before stop)
+    (λ error memory. subst (λ (code : yaml_error_t). StepFailed depth in_flow ahead levels before code before) (sym memory)
+    (step_without_memory depth in_flow ahead levels before before refl))
+    (unread_memory ahead before stop none)
 
 -- an item begins
 module _ (depth : ℕ) (in_flow : Bool) (levels outer : List CollectionKind) (is : levels ≡ outer ++ Sequence ∷ []) (token : Token)
@@ -232,14 +244,9 @@ module _ (depth : ℕ) (in_flow : Bool) (levels outer : List CollectionKind) (is
   pub step_no_item : (error : yaml_error_t) (now : WriterState) → BeginFailed depth in_flow token levels before error now
       → StepFailed depth in_flow ahead levels before error now
   step_no_item error now failed =
-      record {
-        taken = token ∷ [];
-        left = after;
-        parts = sym first;
-        fails = failed.fails;
-        begins = λ so stands. value_begins depth (so ++ token ∷ []) failed.opened
-            (next_stands depth so levels failed.opened token after (awaiting_item depth so levels outer token after is stands isn't) failed.begins);
-      }
+      step_at_first depth in_flow ahead levels before token after error now first failed.fails
+      (λ so stands. value_begins depth (so ++ token ∷ []) failed.opened
+      (next_stands depth so levels failed.opened token after (awaiting_item depth so levels outer token after is stands isn't) failed.begins))
 
 -- two calls
 gives_both : (in_flow : Bool) (levels between opened : List CollectionKind) (before middle now : WriterState) (one other : List Token)
@@ -248,28 +255,15 @@ gives_both : (in_flow : Bool) (levels between opened : List CollectionKind) (bef
 gives_both in_flow levels between opened before middle now one other first second was so stood =
     subst (λ (all : List Token). Stood in_flow was all opened now) (append_assoc so one other) (second was (so ++ one) (first was so stood))
 
-fails_then : (in_flow : Bool) (levels between : List CollectionKind) (before middle now : WriterState) (one other : List Token)
-    (error : yaml_error_t) → Gives in_flow levels before one between middle → FailsGiving in_flow between middle other error now
-    → FailsGiving in_flow levels before (one ++ other) error now
-fails_then in_flow levels between before middle now one other error first (inl memory) = inl memory
-fails_then in_flow levels between before middle now one other error first (inr second) =
-    inr
-    (λ was so stood. subst (λ (all : List Token). FailedWith was (tokens_events was.canonical in_flow all) error now) (append_assoc so one other)
-    (second was (so ++ one) (first was so stood)))
-
 -- a key, and the value after it begins
 module _ (depth : ℕ) (in_flow : Bool) (levels outer : List CollectionKind) (is : levels ≡ outer ++ Mapping ∷ []) (key : List ℕ)
     (before : WriterState) (ahead inner : List Token) (first : ahead ≡ Token.key key ∷ inner) where
+  named_begins : (so : List Token) → Stands depth so levels → BeginsValue depth (so ++ Token.key key ∷ [])
+  named_begins so stands = closes_value depth (so ++ Token.key key ∷ []) (awaiting_named depth so levels outer key is stands inner).begins
+
   pub step_unnamed : (error : yaml_error_t) (now : WriterState) → FailsGiving in_flow levels before (Token.key key ∷ []) error now
       → StepFailed depth in_flow ahead levels before error now
-  step_unnamed error now fails =
-      record {
-        taken = Token.key key ∷ [];
-        left = inner;
-        parts = sym first;
-        fails = fails;
-        begins = λ so stands. closes_value depth (so ++ Token.key key ∷ []) (awaiting_named depth so levels outer key is stands inner).begins;
-      }
+  step_unnamed error now fails = step_at_first depth in_flow ahead levels before (Token.key key) inner error now first fails named_begins
 
   module _ (named : WriterState) (gave : Gives in_flow levels before (Token.key key ∷ []) levels named) where
     pub step_member : (after : List Token) (opened : List CollectionKind) (now : WriterState)
@@ -286,22 +280,45 @@ module _ (depth : ℕ) (in_flow : Bool) (levels outer : List CollectionKind) (is
               (awaiting_named depth so levels outer key is stands (began.token ∷ after)) began.began.begins);
         }
 
+    -- nothing follows the key
+    step_named_only : (error : yaml_error_t) (now : WriterState) → error ≡ Memory → now ≡ named → StepFailed depth in_flow ahead levels before error now
+    step_named_only error now memory same =
+        record {
+          taken = Token.key key ∷ [];
+          left = inner;
+          parts = sym first;
+          fails = λ was so stood. record {
+            adds = subst (λ (w : WriterState). AddsEvents was.emitter (tokens_events was.canonical in_flow (so ++ Token.key key ∷ [])) w.emitter) (sym same)
+                (gave was so stood).adds;
+            is_error = inl memory;
+          };
+          begins = named_begins;
+        }
+
+    step_valued : (error : yaml_error_t) (now : WriterState) (token : Token) (after : List Token) → inner ≡ token ∷ after
+        → FailsGiving in_flow levels named (token ∷ []) error now
+        → ((so : List Token) → Stands depth so levels → BeginsValue depth ((so ++ Token.key key ∷ []) ++ token ∷ []))
+        → StepFailed depth in_flow ahead levels before error now
+    step_valued error now token after next (inl memory) begins = step_named_only error now memory.0 memory.1
+    step_valued error now token after next (inr fails) begins =
+        record {
+          taken = Token.key key ∷ token ∷ [];
+          left = after;
+          parts = sym (first ∙ ap (λ (all : List Token). Token.key key ∷ all) next);
+          fails = λ was so stood.
+              subst (λ (all : List Token). FailedWith was (tokens_events was.canonical in_flow all) error now)
+              (append_assoc so (Token.key key ∷ []) (token ∷ [])) (fails was (so ++ Token.key key ∷ []) (gave was so stood));
+          begins = λ so stands. subst (BeginsValue depth) (append_assoc so (Token.key key ∷ []) (token ∷ [])) (begins so stands);
+        }
+
     pub step_no_member : (error : yaml_error_t) (now : WriterState) → FirstFailed depth in_flow inner levels named error now
         → StepFailed depth in_flow ahead levels before error now
-    step_no_member error now (inl memory) =
-        subst (λ (code : yaml_error_t). StepFailed depth in_flow ahead levels before code now) (sym memory)
-        (step_without_memory depth in_flow ahead levels before now)
+    step_no_member error now (inl memory) = step_named_only error now memory.0 memory.1
     step_no_member error now (inr failed) =
-        record {
-          taken = Token.key key ∷ failed.token ∷ [];
-          left = failed.after;
-          parts = sym (first ∙ ap (λ (all : List Token). Token.key key ∷ all) failed.first);
-          fails = fails_then in_flow levels levels before named now (Token.key key ∷ []) (failed.token ∷ []) error gave failed.failed.fails;
-          begins = λ so stands. subst (BeginsValue depth) (append_assoc so (Token.key key ∷ []) (failed.token ∷ []))
-              (value_begins depth ((so ++ Token.key key ∷ []) ++ failed.token ∷ []) failed.failed.opened
-              (next_stands depth (so ++ Token.key key ∷ []) levels failed.failed.opened failed.token failed.after
-              (awaiting_named depth so levels outer key is stands (failed.token ∷ failed.after)) failed.failed.begins));
-        }
+        step_valued error now failed.token failed.after failed.first failed.failed.fails
+        (λ so stands. value_begins depth ((so ++ Token.key key ∷ []) ++ failed.token ∷ []) failed.failed.opened
+        (next_stands depth (so ++ Token.key key ∷ []) levels failed.failed.opened failed.token failed.after
+        (awaiting_named depth so levels outer key is stands (failed.token ∷ failed.after)) failed.failed.begins))
 
 -- ---- the whole walk
 
@@ -318,25 +335,32 @@ module _ (depth : ℕ) (in_flow : Bool) (start : List Token) (was : WriterState)
       }
 
   -- or the writer failed
-  failed_so : (taken left : List Token) (error : yaml_error_t) (now : WriterState) → taken ++ left ≡ start → BeginsValue depth taken
-      → (error ≡ Memory) ⊎ FailedWith was (tokens_events was.canonical in_flow taken) error now → FailedInValue depth in_flow start was error now
-  failed_so taken left error now parts begins (inl memory) = inl memory
-  failed_so taken left error now parts begins (inr gave) = inr (taken, (record { left = left; parts = parts; gave = gave }, begins))
+  nothing_given : (error : yaml_error_t) (now : WriterState) → IsBare was → error ≡ Memory → now ≡ was → FailedInValue depth in_flow start was error now
+  nothing_given error now bare memory same = (
+    [],
+    (
+      record {
+        left = start;
+        parts = refl;
+        gave = record { adds = adds_none in_flow [] was now same was [] (stood_nothing in_flow was bare); is_error = inl memory };
+      },
+      closes_value depth [] (awaiting_whole depth start).begins,
+    ),
+  )
 
-  given_at : (so taken : List Token) (levels : List CollectionKind) (error : yaml_error_t) (before now : WriterState)
-      → Stood in_flow was so levels before → FailsGiving in_flow levels before taken error now
-      → (error ≡ Memory) ⊎ FailedWith was (tokens_events was.canonical in_flow (so ++ taken)) error now
-  given_at so taken levels error before now stood (inl memory) = inl memory
-  given_at so taken levels error before now stood (inr fails) = inr (fails was so stood)
+  first_given : (error : yaml_error_t) (now : WriterState) → IsBare was → (token : Token) (after : List Token) → start ≡ token ∷ after
+      → FailsGiving in_flow [] was (token ∷ []) error now → BeginsValue depth (token ∷ []) → FailedInValue depth in_flow start was error now
+  first_given error now bare token after first (inl memory) begins = nothing_given error now bare memory.0 memory.1
+  first_given error now bare token after first (inr fails) begins =
+      (token ∷ [], (record { left = after; parts = sym first; gave = fails was [] (stood_nothing in_flow was bare) }, begins))
 
   pub first_failed : (error : yaml_error_t) (now : WriterState) → IsBare was → FirstFailed depth in_flow start [] was error now
       → FailedInValue depth in_flow start was error now
-  first_failed error now bare (inl memory) = inl memory
+  first_failed error now bare (inl memory) = nothing_given error now bare memory.0 memory.1
   first_failed error now bare (inr failed) =
-      failed_so (failed.token ∷ []) failed.after error now (sym failed.first)
+      first_given error now bare failed.token failed.after failed.first failed.failed.fails
       (value_begins depth (failed.token ∷ []) failed.failed.opened
       (next_stands depth [] [] failed.failed.opened failed.token failed.after (awaiting_whole depth (failed.token ∷ failed.after)) failed.failed.begins))
-      (given_at [] (failed.token ∷ []) [] error was now (stood_nothing in_flow was bare) failed.failed.fails)
 
   module _ (ahead : List Token) (levels : List CollectionKind) (now : WriterState) (so_far : WalkProgress depth in_flow start was ahead levels now) where
     -- a step was made
@@ -352,18 +376,33 @@ module _ (depth : ℕ) (in_flow : Bool) (start : List Token) (was : WriterState)
 
     pub step_failed : (error : yaml_error_t) (later : WriterState) → StepFailed depth in_flow ahead levels now error later
         → FailedInValue depth in_flow start was error later
-    step_failed error later failed =
-        failed_so (so_far.taken ++ failed.taken) failed.left error later
-        (append_assoc so_far.taken failed.taken failed.left ∙ ap (λ (all : List Token). so_far.taken ++ all) failed.parts ∙ so_far.parts)
-        (failed.begins so_far.taken so_far.stands) (given_at so_far.taken failed.taken levels error now later so_far.stood failed.fails)
+    step_failed error later failed = (
+      so_far.taken ++ failed.taken,
+      (
+        record {
+          left = failed.left;
+          parts = append_assoc so_far.taken failed.taken failed.left ∙ ap (λ (all : List Token). so_far.taken ++ all) failed.parts ∙ so_far.parts;
+          gave = failed.fails was so_far.taken so_far.stood;
+        },
+        failed.begins so_far.taken so_far.stands,
+      ),
+    )
 
     -- or the text stops it
-    pub step_stopped : {A : Type 0} (unique : Bool) (held : Names A) → NamesSoFar start ahead held → (stop : Stop)
-        → Refuses depth unique levels held ahead stop → WhyStopped depth unique start stop
-    step_stopped unique held names stop refuses =
+    pub step_stopped : {A : Type 0} (unique : Bool) (held : Names A) → NamesSoFar start ahead held → (stop : Stop) (later : WriterState)
+        → (left : List Token) → Refuses depth unique in_flow levels held ahead left now stop later
+        → StopsWriting depth unique in_flow start left was stop later
+    step_stopped unique held names stop later left refuses =
         let same = append_cancel_right names.taken so_far.taken ahead (names.parts ∙ sym so_far.parts) in
-        subst (λ (all : List Token). WhyStopped depth unique all stop) so_far.parts
-        (refuses so_far.taken so_far.stands (subst (λ (all : List Token). KeepsNames all held) same names.kept))
+        record {
+          taken = so_far.taken ++ refuses.taken;
+          left = left;
+          parts = append_assoc so_far.taken refuses.taken left ∙ ap (λ (all : List Token). so_far.taken ++ all) refuses.parts ∙ so_far.parts;
+          why = refuses.why so_far.taken so_far.stands (subst (λ (all : List Token). KeepsNames all held) same names.kept);
+          place = refuses.place so_far.taken so_far.stands (subst (λ (all : List Token). KeepsNames all held) same names.kept);
+          were = all_left stop (so_far.taken ++ refuses.taken) left refuses.inside;
+          adds = refuses.adds was so_far.taken so_far.stood;
+        }
 
     -- nothing is open: the value was given
     pub all_written : levels ≡ [] → WroteValue depth in_flow start was ahead now

@@ -1,14 +1,17 @@
 -- JSON texts, one after another.
 use Rattle.yaml_json.proofs.Common.{ℕ, ◌<◌, ◌==◌, flat_map, Some, Result, Err, length, Bool, false, true, List, [], map, ◌++◌, ◌∷◌, refl, ◌≡◌, eqb-true}
 use Rattle.yaml_json.proofs.Common.{append-nil, append_assoc, inl, inr, ap, subst, sym, ◌∙◌, false≢true, flat_map-append, map-append, Json, value, tokens}
-use Rattle.yaml_json.proofs.Common.{json_tokens, Event, some_from_result, FailedWith, FailedInText, between, events_with_separators, FailedInTexts}
-use Rattle.yaml_json.proofs.Common.{json_events, NamesOnce, ExplainsError, HaveNamesOnce, texts_in, CutsFirstText, tokens_events, IsBare, Wrote, WroteText}
-use Rattle.yaml_json.proofs.Common.{AreJson, parts_events, ReadsTexts, WriterState, PassedEvents}
+use Rattle.yaml_json.proofs.Common.{Option, None, json_tokens, Event, between, events_with_separators}
+use Rattle.yaml_json.proofs.Common.{json_events, NamesOnce, HaveNamesOnce, texts_in, after_byte, CutsFirstText, tokens_events, IsBare, Wrote, WroteText}
+use Rattle.yaml_json.proofs.Common.{AreJson, BeginsValue, parts_events, ReadsTexts, WriterState, PassedEvents, AddsEvents}
 use Rattle.std.proofs.lemmas.List.{nil_from_length}
 use Rattle.yaml_base.specs.declared.errors.yaml_error_t.{yaml_error_t}
-use Rattle.yaml_json.{proofs.NameLemmas.once_is_unique, proofs.Stopping.failed_same, proofs.Stopping.failed_then, proofs.TokenLemmas.value_spelled}
-use Rattle.yaml_json.{proofs.WroteLemmas.wrote_nothing, proofs.WroteLemmas.wrote_then, proofs.WroteLemmas.wrote_same, proofs.YamlOf.last_reads}
-use Rattle.yaml_json.{specs.Refused.HasNamesOnce, specs.Refused.RefusedAmong, specs.Wrote.WroteTexts, specs.declared.error.JsonError.JsonError}
+use Rattle.yaml_json.{proofs.NameLemmas.once_is_unique, proofs.TokenLemmas.value_spelled, proofs.Walking.awaiting_whole, proofs.Walking.closes_value}
+use Rattle.yaml_json.specs.Texts.{texts_after, onto_first, cut_before, scan_first_byte}
+use Rattle.yaml_json.specs.declared.cuts.{Mode.TheVariants.Before, Scan.Scan}
+use Rattle.yaml_json.specs.declared.error.JsonError.TheVariants as errors
+use Rattle.yaml_json.{proofs.WroteLemmas.adds_then, proofs.WroteLemmas.wrote_nothing, proofs.WroteLemmas.wrote_then, proofs.WroteLemmas.wrote_same, proofs.YamlOf.last_reads}
+use Rattle.yaml_json.{specs.Refused.HasNamesOnce, specs.Stopped.StopsInText, specs.Stopped.StopsInTexts, specs.Places.HasPlaceAfter, specs.Wrote.WroteTexts, specs.declared.error.JsonError.JsonError}
 
 -- the events of some texts, after each of which a document begins, and then those of one more, the last
 pub ends_with : (canonical in_flow : Bool) (parts : List (List ℕ × Json)) (last : List ℕ × Json)
@@ -61,6 +64,27 @@ cut_more (joined, inr (isn't, less, cut)) some = cut
 cut_some : {rest first more : List ℕ} → CutsFirstText rest first more → (later : List (List ℕ)) × (texts_in rest ≡ first ∷ later)
 cut_some {more} (joined, inl (none, cut)) = ([], cut)
 cut_some {more} (joined, inr (isn't, less, cut)) = (texts_in more, cut)
+
+-- there is a first text
+first_onto : (byte : ℕ) (texts : List (List ℕ)) → (next : List ℕ) × (later : List (List ℕ)) × (onto_first byte texts ≡ next ∷ later)
+first_onto byte [] = (byte ∷ [], [], refl)
+first_onto byte (text ∷ texts) = (byte ∷ text, texts, refl)
+
+first_cut : (byte : ℕ) (found : Option Scan) (more : Scan → List (List ℕ))
+    → (next : List ℕ) × (later : List (List ℕ)) × (cut_before byte found more ≡ next ∷ later)
+first_cut byte None more = ([], onto_first byte (more (scan_first_byte byte)), refl)
+first_cut byte (Some scan) more = first_onto byte (more scan)
+
+first_after : (scan : Scan) (text : List ℕ) → (next : List ℕ) × (later : List (List ℕ)) × (texts_after scan text ≡ next ∷ later)
+first_after scan [] = ([], [], refl)
+first_after scan (byte ∷ bytes) = first_cut byte (after_byte scan byte) (λ next. texts_after next bytes)
+
+pub some_text : (text : List ℕ) → (next : List ℕ) × (later : List (List ℕ)) × (texts_in text ≡ next ∷ later)
+some_text text = first_after (record { mode = Before; levels = 0 }) text
+
+-- a value begins with no token
+pub begins_nothing : (depth : ℕ) → BeginsValue depth []
+begins_nothing depth = closes_value depth [] (awaiting_whole depth []).begins
 
 -- some texts were given, and a document was begun after each
 pub record TextsSoFar (depth : ℕ) (in_flow : Bool) (unique : Bool) (text : List ℕ) (was : WriterState) (rest : List ℕ) (now : WriterState) : Type 0 where
@@ -136,28 +160,30 @@ module _ (depth : ℕ) (in_flow unique : Bool) (text : List ℕ) (was : WriterSt
       }
 
   -- or the writer fails
-  pub next_failed : (after : WriterState) (error : yaml_error_t) → PassedEvents given between (Err error) after
-      → FailedInTexts depth in_flow text was error after
-  next_failed after error passed =
+  pub next_failed : (after : WriterState) (error : yaml_error_t) → (more ≡ [] → ⊥) → PassedEvents given between (Err error) after
+      → StopsInTexts depth unique in_flow text was (errors.Emitter error) after
+  next_failed after error some passed =
       let before = events_with_separators was.canonical in_flow so_far.parts in
       let all = events_with_separators was.canonical in_flow (so_far.parts ++ (first, one.json) ∷ []) in
       let events = json_events was.canonical in_flow one.json in
-      let last : FailedWith given between error after =
-      record { adds = passed.adds; is_error = some_from_result after.emitter.error error passed.answered } in
-      inr
-      (record {
+      let found = some_text more in
+      record {
         parts = so_far.parts ++ (first, one.json) ∷ [];
-        next = [];
-        more = more;
-        joined = joined_now more refl;
+        next = found.0;
+        later = found.1;
+        cut = ap (λ (texts : List (List ℕ)). map (λ part. part.0) (so_far.parts ++ (first, one.json) ∷ []) ++ texts) (sym found.2)
+            ∙ cut_now (texts_in more) (cut_more cuts some);
         each = each_done;
+        names = names_done;
         taken = [];
-        left = tokens [];
+        left = tokens found.0;
         split = refl;
-        gave = failed_same was after (before ++ (events ++ between)) (all ++ []) error (started_more ∙ sym (append-nil all))
-            (failed_then was now after before (events ++ between) error so_far.wrote.adds
-            (failed_then now given after events between error events_given.adds last));
-      })
+        why = begins_nothing depth;
+        place = (0, (tt, tt));
+        adds = subst (λ (events : List Event). AddsEvents was.emitter events after.emitter) (started_more ∙ sym (append-nil all))
+            (adds_then was.emitter now.emitter after.emitter before (events ++ between) so_far.wrote.adds
+            (adds_then now.emitter given.emitter after.emitter events between events_given.adds passed.adds));
+      }
 
   -- where nothing follows, all texts are given
   joined_done : more ≡ [] → flat_map (λ part. part.0) (so_far.parts ++ (first, one.json) ∷ []) ≡ text
@@ -205,11 +231,12 @@ pub some_more : (first more rest : List ℕ) (empty : Bool) → CutsFirstText re
 some_more first more rest empty (joined, inl (none, cut)) is h = absurd (is_more more empty is h none)
 some_more first more rest empty (joined, inr (some, less, cut)) is h = less
 
--- Where a text is refused
-pub text_refused : (depth : ℕ) (in_flow unique : Bool) (text : List ℕ) (was : WriterState) (rest first more : List ℕ) (now : WriterState)
-    → CutsFirstText rest first more → TextsSoFar depth in_flow unique text was rest now → (error : JsonError) → ExplainsError depth unique first error
-    → RefusedAmong depth unique text error
-text_refused depth in_flow unique text was rest first more now cuts so_far error why =
+-- Where the next text is refused, or the writer fails within it
+pub texts_stopped : (depth : ℕ) (in_flow unique : Bool) (text : List ℕ) (was : WriterState) (rest first more : List ℕ) (now later : WriterState)
+    → CutsFirstText rest first more → (so_far : TextsSoFar depth in_flow unique text was rest now) → (error : JsonError)
+    → StopsInText depth unique in_flow first now error later → HasPlaceAfter depth text (flat_map (λ part. part.0) so_far.parts) first error
+    → StopsInTexts depth unique in_flow text was error later
+texts_stopped depth in_flow unique text was rest first more now later cuts so_far error stops place =
     let found = cut_some cuts in
     record {
       parts = so_far.parts;
@@ -218,27 +245,13 @@ text_refused depth in_flow unique text was rest first more now cuts so_far error
       cut = ap (λ (texts : List (List ℕ)). map (λ part. part.0) so_far.parts ++ texts) (sym found.1) ∙ so_far.cut;
       each = so_far.each;
       names = so_far.names;
-      why = why;
+      taken = stops.taken;
+      left = stops.left;
+      split = stops.split;
+      why = stops.why;
+      place = place;
+      adds = adds_then was.emitter now.emitter later.emitter (events_with_separators was.canonical in_flow so_far.parts)
+          (tokens_events was.canonical in_flow stops.taken) so_far.wrote.adds
+          (subst (λ (canonical : Bool). AddsEvents now.emitter (tokens_events canonical in_flow stops.taken) later.emitter) so_far.wrote.canonical
+          stops.adds);
     }
-
--- Where the writer fails within a text
-pub texts_failed : (depth : ℕ) (in_flow unique : Bool) (text : List ℕ) (was : WriterState) (rest first more : List ℕ) (now later : WriterState)
-    → CutsFirstText rest first more → TextsSoFar depth in_flow unique text was rest now → (error : yaml_error_t)
-    → FailedInText depth in_flow first now error later
-    → FailedInTexts depth in_flow text was error later
-texts_failed depth in_flow unique text was rest first more now later cuts so_far error (inl memory) = inl memory
-texts_failed depth in_flow unique text was rest first more now later cuts so_far error (inr (taken, (failed, begins))) =
-    let gave = subst (λ (canonical : Bool). FailedWith now (tokens_events canonical in_flow taken) error later) so_far.wrote.canonical failed.gave in
-    inr
-    (record {
-      parts = so_far.parts;
-      next = first;
-      more = more;
-      joined = ap (λ (t : List ℕ). flat_map (λ part. part.0) so_far.parts ++ t) cuts.0 ∙ so_far.joined;
-      each = so_far.each;
-      taken = taken;
-      left = failed.left;
-      split = failed.parts;
-      gave = failed_then was now later (events_with_separators was.canonical in_flow so_far.parts)
-          (tokens_events was.canonical in_flow taken) error so_far.wrote.adds gave;
-    })

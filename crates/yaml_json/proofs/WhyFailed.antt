@@ -106,11 +106,15 @@ module _ (given : Settings) (in_flow : Bool) (depth : ℕ) (text : List ℕ) whe
   module _ (first now : WriterState) (error : yaml_error_t) (stands : StandsTaken given opening [] first.emitter)
       (canonical : first.canonical ≡ given.canonical) where
     pub text_failed : FailedInText depth in_flow text first error now → FailsBy given in_flow depth text error
-    text_failed (inl memory) = inl memory
-    text_failed (inr (taken, (failed, begins))) =
+    text_failed (taken, (failed, begins)) =
         let stood = subst (λ (c : Bool). StandsTaken given (opening ++ tokens_events c in_flow taken) [] now.emitter) canonical
         (failed.gave.adds given opening [] stands) in
-        failed_after taken failed.left failed.parts now.emitter stood.stands error failed.gave.is_error begins
+        by_error failed.gave.is_error
+        (λ is. failed_after taken failed.left failed.parts now.emitter stood.stands error is begins) where
+          by_error : (error ≡ Memory) ⊎ (now.emitter.error ≡ Some error) → (now.emitter.error ≡ Some error → FailsBy given in_flow depth text error)
+              → FailsBy given in_flow depth text error
+          by_error (inl memory) follows = inl memory
+          by_error (inr is) follows = follows is
 
     module _ (wrote : WroteText depth in_flow text first now) (unfinished : IsUnfinished now.emitter error) where
       stood : StandsAfter given (opening ++ json_events given.canonical in_flow wrote.json) now.emitter

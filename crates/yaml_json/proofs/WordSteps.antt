@@ -18,13 +18,13 @@ use Rattle.yaml_json.proofs.LexSteps.{lex-delimiter, lex-in_word, lex-none, valu
 abbrev pub Inner : ℕ → Type 0
 Inner x = (is_operator x || is_space x) ≡ false
 
-digit_inner : (x : ℕ) → is_ascii_digit x ≡ true → Inner x
+pub digit_inner : (x : ℕ) → is_ascii_digit x ≡ true → Inner x
 digit_inner x digit = grind (arith, nat_tests)
 
-sign_inner : (x : ℕ) → ((x == 45) || (x == 43)) ≡ true → Inner x
+pub sign_inner : (x : ℕ) → ((x == 45) || (x == 43)) ≡ true → Inner x
 sign_inner x sign = grind (arith, nat_tests)
 
-letter_inner : (x : ℕ) → ((x == 101) || (x == 69)) ≡ true → Inner x
+pub letter_inner : (x : ℕ) → ((x == 101) || (x == 69)) ≡ true → Inner x
 letter_inner x letter = grind (arith, nat_tests)
 
 other_by : (q b o s : Bool) → cond q quote (cond b backslash (cond o operator (cond s space other))) ≡ other → (o || s) ≡ false
@@ -73,13 +73,13 @@ over_if true t inner = one_over t (inner refl)
 over_if false t inner = refl
 
 -- either part leaves the rest
-pick : {G : Type 0} (b : Bool) (one two : Option (List ℕ)) (rest : List ℕ) → (b ≡ true → one ≡ Some rest → G) → (two ≡ Some rest → G)
+pub pick : {G : Type 0} (b : Bool) (one two : Option (List ℕ)) (rest : List ℕ) → (b ≡ true → one ≡ Some rest → G) → (two ≡ Some rest → G)
     → cond b one two ≡ Some rest → G
 pick true one two rest f g e = f refl e
 pick false one two rest f g e = g e
 
 -- one part follows another
-chained : {G : Type 0} (f : List ℕ → Option (List ℕ)) (found : Option (List ℕ)) (rest : List ℕ)
+pub chained : {G : Type 0} (f : List ℕ → Option (List ℕ)) (found : Option (List ℕ)) (rest : List ℕ)
     → ((middle : List ℕ) → found ≡ Some middle → f middle ≡ Some rest → G) → option_and_then f found ≡ Some rest → G
 chained f None rest go e = cc
 chained f (Some middle) rest go e = go middle refl e

@@ -4,6 +4,7 @@ use Rattle.yaml_json.proofs.Common.{list_all, Json, value, tokens, HasNumbers, E
 use Rattle.yaml_json.proofs.Common.{parts_events, ReadsTexts, WriterState, opening, closing, StandsTaken}
 use Rattle.json.proofs.Numbered.{ArePrintableOrBad-tokens, value-HasNumbers}
 use Rattle.yaml_json.{proofs.JsonReads.HaveNumbers, proofs.JsonReads.reads_as_values, proofs.JsonReads.reads_as_json, proofs.Trees.values_of}
+use Rattle.yaml_json.proofs.JsonReads.{stream_whole, whole_by_either}
 use Rattle.yaml_json.{specs.Sent.AddsTaking, specs.Wrote.IsYamlOfTexts, specs.Wrote.IsYamlOf}
 use Rattle.yaml_writer.specs.Writing.{Finishes}
 
@@ -26,12 +27,16 @@ yaml_of given in_flow depth text bytes first filled stands canonical wrote finis
     let stood = subst (λ (c : Bool). StandsTaken given (opening ++ json_events c in_flow wrote.json) [] filled.emitter) canonical
     (wrote.wrote.adds given opening [] stands) in
     let stream = finishes given events [] stood in
+    let numbers = text_has_numbers depth text wrote.json wrote.read in
+    let texts = texts_closed events stood.stands.texts in
+    let whole = stream_whole given (events ++ closing) bytes stream in
     record {
       json = wrote.json;
       read = wrote.read;
       stream = stream;
-      reads = reads_as_json given in_flow text wrote.json bytes (text_has_numbers depth text wrote.json wrote.read)
-          (texts_closed events stood.stands.texts) stream;
+      reads = reads_as_json given in_flow text wrote.json bytes numbers texts stream.accepted whole;
+      reads_by_either = λ portable breaks12. reads_as_json (record given { breaks12 = breaks12 }) in_flow text wrote.json bytes numbers texts stream.accepted
+          (whole_by_either given breaks12 (events ++ closing) bytes portable whole);
     }
 
 -- Several texts
@@ -51,13 +56,18 @@ texts_read depth in_flow text was now taken part rest joined each adds given sen
     let stood = subst (λ (c : Bool). StandsTaken given (opening ++ parts_events c in_flow (part ∷ rest)) (sent ++ taken) now.emitter) canonical
     (adds given opening sent stands) in
     let stream = finishes given events (sent ++ taken) stood in
+    let all = (sent ++ taken) ++ bytes in
+    let numbers = all_have_numbers depth (part ∷ rest) each in
+    let texts = texts_closed events stood.stands.texts in
+    let whole = stream_whole given (events ++ closing) all stream in
     record {
       parts = part ∷ rest;
       joined = joined;
       each = each;
       stream = stream;
-      reads = reads_as_values given in_flow part rest ((sent ++ taken) ++ bytes) (all_have_numbers depth (part ∷ rest) each)
-          (texts_closed events stood.stands.texts) stream;
+      reads = reads_as_values given in_flow part rest all numbers texts stream.accepted whole;
+      reads_by_either = λ portable breaks12. reads_as_values (record given { breaks12 = breaks12 }) in_flow part rest all numbers texts stream.accepted
+          (whole_by_either given breaks12 (events ++ closing) all portable whole);
     }
 
 -- the last of them is one

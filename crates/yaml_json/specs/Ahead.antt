@@ -1,10 +1,11 @@
 -- The tokens that are still to come.
-use Rattle.std.specs.Prelude.{◌≡◌, ◌≢◌, ℕ, Bool, true, false, List, [], ◌∷◌, Option, MatchOption}
+use Rattle.std.specs.Prelude.{◌≡◌, ◌≢◌, ◌⊎◌, ℕ, Bool, true, false, List, [], ◌∷◌, ◌++◌, Option, MatchOption}
 use Rattle.json.specs.Ascii as ascii
-use Rattle.json.specs.Lex.{Lexeme, Place, between, fresh, after_value, after_comma, lex, punctuate}
+use Rattle.json.specs.Lex.{Lexeme, Place, after_comma, after_value, begins_colon, between, fresh, lex, punctuate, token}
 use Rattle.json.specs.Reads.{token_of}
-use Rattle.json.specs.Token.{Token}
+use Rattle.json.specs.Token.{Token, bad}
 use Rattle.json.specs.Word.{head, is_space}
+use Rattle.yaml_json.specs.Lexing.{Leads}
 use Rattle.yaml_json.specs.declared.tokens.Stage.{Stage}
 use Rattle.yaml_json.specs.declared.tokens.Stage.TheVariants.{Open, Behind, Owed, Over}
 use Rattle.yaml_json.specs.declared.tokens.Step.{Step}
@@ -28,6 +29,17 @@ closes_here Behind = true
 closes_here Owed = false
 closes_here Over = false
 
+-- from where the tokens are read
+abbrev pub place_of : Stage → Place
+place_of Open = fresh
+place_of Behind = after_value
+place_of Owed = after_comma
+place_of Over = after_value
+
+-- these lexemes begin with a colon only if those of what is left do
+abbrev pub FollowsAs : (more : List Lexeme) → (rest : List ℕ) → Type 0
+FollowsAs more rest = begins_colon more ≡ true → begins_colon (lex between rest) ≡ true
+
 -- what is left begins with a token, if any is left
 abbrev pub IsTrimmed : (rest : List ℕ) → Type 0
 IsTrimmed rest = is_space (head rest) ≡ true → rest ≡ []
@@ -43,22 +55,49 @@ pub record IsTidy (stage : Stage) (rest : List ℕ) : Type 0 where
 -- the token ends a value, and what follows it was passed up to the next token
 pub record Ends (token : Token) (text : List ℕ) (step : Step) : Type 0 where
   pub same : token_of step.token ≡ token
+  pub good : step.stage ≢ Over
   pub left : ahead step.stage step.rest.now ≡ punctuate after_value (lex between text)
+  pub passed : List Lexeme
+  pub parts : lex between text ≡ passed ++ lex between step.rest.now
+  pub follows : (more : List Lexeme) → FollowsAs more step.rest.now → FollowsAs (passed ++ more) text
+  pub reads : (more : List Lexeme) → punctuate after_value (passed ++ more) ≡ punctuate (place_of step.stage) more
+  pub over : Leads text step.rest.now
   pub tidy : IsTidy step.stage step.rest.now
 
 -- the token stands before what may open next
 pub record Opens (token : Token) (text : List ℕ) (step : Step) : Type 0 where
   pub same : token_of step.token ≡ token
+  pub opens : step.stage ≡ Open
   pub left : ahead step.stage step.rest.now ≡ punctuate fresh (lex between text)
+  pub parts : lex between text ≡ lex between step.rest.now
+  pub over : Leads text step.rest.now
   pub tidy : IsTidy step.stage step.rest.now
+
+-- from this place the lexemes are those of the step's token and of what is left, and whatever lexemes follow, their tokens are read then
+pub record Passes (place : Place) (lexemes : List Lexeme) (step : Step) : Type 0 where
+  pub good : step.stage ≢ Over
+  pub first : Token
+  pub others : List Lexeme
+  pub parts : lexemes ≡ token first ∷ (others ++ lex between step.rest.now)
+  pub reads : (more : List Lexeme) → FollowsAs more step.rest.now
+      → punctuate place (token first ∷ (others ++ more)) ≡ token_of step.token ∷ punctuate (place_of step.stage) more
+
+-- or the token is bad, and ends them
+abbrev pub PassesOrEnds : Place → List Lexeme → Step → Type 0
+PassesOrEnds place lexemes step = ((step.stage ≡ Over) × (token_of step.token ≡ bad)) ⊎ Passes place lexemes step
 
 -- wherever such a token may stand, these lexemes begin with it, and the step leaves the others
 pub record StepsFrom (may_stand : Place → Bool) (lexemes : List Lexeme) (step : Step) : Type 0 where
   pub first : (place : Place) → may_stand place ≡ true → punctuate place lexemes ≡ token_of step.token ∷ ahead step.stage step.rest.now
+  pub passes : (place : Place) → may_stand place ≡ true → PassesOrEnds place lexemes step
   pub tidy : IsTidy step.stage step.rest.now
 
--- of the tokens of what is left, the step has the first, and leaves the others; where there is no step, no token is left
+-- of the tokens of what is left, the step has the first, and leaves the others
+pub record ReadsFirst (stage : Stage) (text : List ℕ) (step : Step) : Type 0 where
+  pub first : ahead stage text ≡ token_of step.token ∷ ahead step.stage step.rest.now
+  pub passes : PassesOrEnds (place_of stage) (lex between text) step
+  pub tidy : IsTidy step.stage step.rest.now
+
+-- where there is no step, no token is left
 abbrev pub Reads : Stage → (text : List ℕ) → Option Step → Type 0
-Reads stage text found =
-    MatchOption found (ahead stage text ≡ [])
-    (λ step. (ahead stage text ≡ token_of step.token ∷ ahead step.stage step.rest.now) × IsTidy step.stage step.rest.now)
+Reads stage text found = MatchOption found (ahead stage text ≡ []) (ReadsFirst stage text)

@@ -9,13 +9,13 @@ use Rattle.yaml_base.specs.Refusal.{most_open}
 use Rattle.yaml_base.specs.Settings.{Settings}
 use Rattle.yaml_base.specs.declared.errors.yaml_error_t.{yaml_error_t}
 use Rattle.yaml_base.specs.declared.errors.yaml_error_t.TheVariants.{TooDeep, WriteError, Memory}
+use Rattle.yaml_pen.specs.Wrote.{Grows}
 use Rattle.yaml_emitter.specs.Uncut.{IsUncut}
 use Rattle.yaml_writer.specs.Unfinished.{PassesLimit}
 use Rattle.yaml_writer.specs.Writing.{AddsEvents, EndedCollection, WriterState, closing, opening, plain_start}
 use Rattle.yaml_json.specs.Begins.{BeginsValue}
 use Rattle.yaml_json.specs.JsonEvents.{json_events}
 use Rattle.yaml_json.specs.TokenEvents.{tokens_events}
-use Rattle.yaml_json.specs.Wrote.{AreJson}
 use Rattle.yaml_json.specs.declared.error.JsonError.{JsonError}
 use Rattle.yaml_json.specs.declared.error.JsonError.TheVariants as errors
 use Rattle.yaml_json.specs.declared.values.Stop.{Stop}
@@ -24,7 +24,7 @@ use Rattle.yaml_json.specs.declared.values.Stop.TheVariants as stops
 -- ---- the error of the writer, where there is one
 
 abbrev pub failure_of : WriterState → Stop → Option yaml_error_t
-failure_of now stops.NotJson = None
+failure_of now (stops.NotJson spot) = None
 failure_of now stops.TooDeep = None
 failure_of now stops.NameAgain = None
 failure_of now stops.Memory = Some Memory
@@ -36,7 +36,7 @@ emitter_error_of now (Err stop) = failure_of now stop
 
 -- the stop tells of this error of the writer
 abbrev pub TellsOf : yaml_error_t → Stop → Type 0
-TellsOf error stops.NotJson = ⊥
+TellsOf error (stops.NotJson spot) = ⊥
 TellsOf error stops.TooDeep = ⊥
 TellsOf error stops.NameAgain = ⊥
 TellsOf error stops.Memory = error ≡ Memory
@@ -52,20 +52,20 @@ IsAnswer (Err error) (Err stop) = TellsOf error stop
 abbrev pub writers_error : JsonError → Option yaml_error_t
 writers_error (errors.NotJson line column) = None
 writers_error (errors.Marked line column) = None
-writers_error errors.TooDeep = None
+writers_error (errors.TooDeep line column) = None
 writers_error (errors.DuplicateName line column) = None
 writers_error (errors.Emitter error) = Some error
 
 -- ---- what was given
 
--- these events were given to the emitter, which has this error now
+-- these events were given to the emitter, which has this error now; or an allocation failed after them
 pub record FailedWith (was : WriterState) (events : List Event) (error : yaml_error_t) (now : WriterState) : Type 0 where
   pub adds : AddsEvents was.emitter events now.emitter
-  pub is_error : now.emitter.error ≡ Some error
+  pub is_error : (error ≡ Memory) ⊎ (now.emitter.error ≡ Some error)
 
--- an allocation failed, or this event was given to the emitter, which has this error now
+-- an allocation failed, and nothing changed; or this event was given to the emitter, which has this error now
 abbrev pub FailedAt : WriterState → Event → yaml_error_t → WriterState → Type 0
-FailedAt was event error now = (error ≡ Memory) ⊎ FailedWith was (event ∷ []) error now
+FailedAt was event error now = ((error ≡ Memory) × (now ≡ was)) ⊎ FailedWith was (event ∷ []) error now
 
 -- the innermost collection was ended, and the emitter has this error now; or none was open, and nothing changed
 abbrev pub FailedAtEnd : WriterState → yaml_error_t → WriterState → Type 0
@@ -77,13 +77,13 @@ pub record FailedAfter (in_flow : Bool) (taken ahead : List Token) (was : Writer
   pub parts : taken ++ left ≡ ahead
   pub gave : FailedWith was (tokens_events was.canonical in_flow taken) error now
 
--- an allocation failed; or the events of the first of these tokens were given to the emitter, which has this error now, and some
--- value nested at most `depth` deep begins with the tokens of these events
+-- the events of the first of these tokens were given to the emitter, and some value nested at most `depth` deep begins with the
+-- tokens of these events; then an allocation failed, or the emitter has this error now
 abbrev pub FailedInValue : (depth : ℕ) → (in_flow : Bool) → List Token → WriterState → yaml_error_t → WriterState → Type 0
 FailedInValue depth in_flow ahead was error now =
-    (error ≡ Memory) ⊎ ((taken : List Token) × (FailedAfter in_flow taken ahead was error now × BeginsValue depth taken))
+    (taken : List Token) × (FailedAfter in_flow taken ahead was error now × BeginsValue depth taken)
 
--- an allocation failed, or the emitter at an event of the text's first tokens, with which some value begins
+-- so of the tokens of a text
 abbrev pub FailedInText : (depth : ℕ) → (in_flow : Bool) → (text : List ℕ) → WriterState → yaml_error_t → WriterState → Type 0
 FailedInText depth in_flow text was error now = FailedInValue depth in_flow (tokens text) was error now
 
@@ -95,22 +95,39 @@ between = document_end true ∷ plain_start ∷ []
 abbrev pub events_with_separators : (canonical in_flow : Bool) → List (List ℕ × Json) → List Event
 events_with_separators canonical in_flow parts = flat_map (λ part. json_events canonical in_flow part.1 ++ between) parts
 
--- the first of the texts in a text are JSON nested at most `depth` deep, and their events were given to the emitter, with a document
--- begun after each, and then those of the first tokens of the next text; it has this error now
-pub record FailedAmong (depth : ℕ) (in_flow : Bool) (text : List ℕ) (was : WriterState) (error : yaml_error_t) (now : WriterState) : Type 0 where
-  pub parts : List (List ℕ × Json)
-  pub next : List ℕ
-  pub more : List ℕ
-  pub joined : flat_map (λ part. part.0) parts ++ (next ++ more) ≡ text
-  pub each : AreJson depth parts
-  pub taken : List Token
-  pub left : List Token
-  pub split : taken ++ left ≡ tokens next
-  pub gave : FailedWith was (events_with_separators was.canonical in_flow parts ++ tokens_events was.canonical in_flow taken) error now
+-- ---- what a call returned
 
--- an allocation failed, or that
-abbrev pub FailedInTexts : (depth : ℕ) → (in_flow : Bool) → (text : List ℕ) → WriterState → yaml_error_t → WriterState → Type 0
-FailedInTexts depth in_flow text was error now = (error ≡ Memory) ⊎ FailedAmong depth in_flow text was error now
+-- the emitter has no error that it hadn't before
+abbrev pub StaysSound : WriterState → WriterState → Type 0
+StaysSound was now = was.emitter.error ≡ None → now.emitter.error ≡ None
+
+-- the emitter has no error after a success, and none more after the text stopped the writing, or an allocation of the call's own
+abbrev pub SoundAfter : WriterState → Result (Unit {0}) Stop → WriterState → Type 0
+SoundAfter was (Ok done) now = now.emitter.error ≡ None
+SoundAfter was (Err stops.Memory) now = StaysSound was now ⊎ (now.emitter.error ≡ Some Memory)
+SoundAfter was (Err stops.Failed) now = Unit {0}
+SoundAfter was (Err stop) now = StaysSound was now
+
+-- and its text and its output only grow
+pub record Kept (was : WriterState) (result : Result (Unit {0}) Stop) (now : WriterState) : Type 0 where
+  pub grows : Grows was.emitter.page now.emitter.page
+  pub sound : SoundAfter was result now
+
+-- an error that is the emitter's is the one that it has now, or tells of an allocation of the call's own; where there is none, the
+-- emitter has none that it hadn't before
+abbrev pub HasErrorSaid : WriterState → Option yaml_error_t → WriterState → Type 0
+HasErrorSaid was None now = StaysSound was now
+HasErrorSaid was (Some code) now = ((code ≡ Memory) × StaysSound was now) ⊎ (now.emitter.error ≡ Some code)
+
+-- and its text and its output only grow
+pub record Grew (was : WriterState) (found : Option yaml_error_t) (now : WriterState) : Type 0 where
+  pub grows : Grows was.emitter.page now.emitter.page
+  pub sound : HasErrorSaid was found now
+
+-- the emitter has no error after a success, and after an error the one that is returned, if any
+abbrev pub IsSound : WriterState → Result (Unit {0}) JsonError → WriterState → Type 0
+IsSound was (Ok done) now = now.emitter.error ≡ None
+IsSound was (Err error) now = HasErrorSaid was (writers_error error) now
 
 -- ---- why no stream was written
 

@@ -1,41 +1,16 @@
 -- What a tree that was read means by a schema, and when that is a value of JSON. This names no writer and no event.
-use Rattle.std.specs.Prelude.{◌≡◌, ℕ, Bool, true, None, Some, List, [], ◌∷◌, ◌++◌, bytes_eq, codes, map, if◌then◌else◌}
+pub use Rattle.yaml_base.specs.values.CanonicalTags.{Schema, canonical_tag, scalar_meant}
+use Rattle.std.specs.Prelude.{◌≡◌, ℕ, Bool, true, None, Some, List, [], ◌∷◌, ◌++◌, map}
 use Rattle.std.specs.Str.{chars}
 use Rattle.json.specs.Json.{Json, null, boolean, number, string, array, object, Items, no_items, item, Members, no_members, member}
-use Rattle.yaml_base.specs.Characters.{Text}
 use Rattle.yaml_base.specs.values.JsonNumbers.{JsonNumber, json_value, means_number}
-use Rattle.yaml_base.specs.values.Resolved.{Resolved, meant_null, meant_boolean, meant_integer, meant_decimal, meant_infinity, meant_nan, meant_timestamp}
-use Rattle.yaml_base.specs.values.Resolved.{meant_merge, meant_value, meant_text, meant_by_nobody}
+use Rattle.yaml_base.specs.values.Resolved.{Resolved, meant_null, meant_boolean, meant_text}
 use Rattle.yaml_base.specs.values.SchemaCore.{resolved_by_core}
 use Rattle.yaml_base.specs.values.SchemaOf11.{resolved_by_11}
-use Rattle.yaml_base.specs.streams.StreamContent.{DocumentTree, stood_plain, Tagging, with_tag, without_tag, Tree, scalar_tree, sequence_tree, mapping_tree}
+use Rattle.yaml_base.specs.streams.StreamContent.{DocumentTree, Tree, scalar_tree, sequence_tree, mapping_tree}
 use Rattle.yaml_base.specs.streams.StreamContent.{Trees, no_trees, trees_and, TreePairs, no_tree_pairs, tree_pairs_and}
 use Rattle.yaml_base.specs.streams.StreamReader.{stream_trees}
 use Rattle.yaml_writer.specs.NumberParts.{IsNumber}
-
--- what a schema takes plain scalars without a tag for
-abbrev pub Schema : Type 0
-Schema = Text → Resolved
-
--- the tag of a reading
-abbrev pub canonical_tag : Resolved → Text
-canonical_tag meant_null = codes "tag:yaml.org,2002:null"
-canonical_tag (meant_boolean flag) = codes "tag:yaml.org,2002:bool"
-canonical_tag (meant_integer integer) = codes "tag:yaml.org,2002:int"
-canonical_tag (meant_decimal decimal) = codes "tag:yaml.org,2002:float"
-canonical_tag (meant_infinity negative) = codes "tag:yaml.org,2002:float"
-canonical_tag meant_nan = codes "tag:yaml.org,2002:float"
-canonical_tag meant_timestamp = codes "tag:yaml.org,2002:timestamp"
-canonical_tag meant_merge = codes "tag:yaml.org,2002:merge"
-canonical_tag meant_value = codes "tag:yaml.org,2002:value"
-canonical_tag meant_text = codes "tag:yaml.org,2002:str"
-canonical_tag meant_by_nobody = []
-
--- what a scalar means: plain, what the schema says; in quotes, a text; with a tag, what the schema says, where it has that tag
-abbrev pub scalar_meant : Schema → Tagging → Text → Resolved
-scalar_meant schema (without_tag stood_plain) value = schema value
-scalar_meant schema (without_tag _) value = meant_text
-scalar_meant schema (with_tag tag) value = if bytes_eq tag (canonical_tag (schema value)) then schema value else meant_by_nobody
 
 -- trees and pairs of trees, in order
 abbrev pub in_order : Trees → List Tree

@@ -1,5 +1,5 @@
 -- What an error says of the text.
-use Rattle.std.specs.Prelude.{◌≡◌, ℕ, ◌<◌, Bool, true, false, Some, Result, Ok, Err, List, [], ◌∷◌, ◌++◌, map, nat_eq}
+use Rattle.std.specs.Prelude.{◌≡◌, ℕ, ◌<◌, Bool, true, false, Some, Result, Ok, Err, List, [], ◌∷◌, ◌++◌, nat_eq}
 use Rattle.std.specs.List.{starts_with}
 use Rattle.json.specs.Strict.{HasUniqueKeys}
 use Rattle.json.specs.Token.{Token, key}
@@ -7,8 +7,6 @@ use Rattle.json.specs.Lex.{tokens}
 use Rattle.json.specs.Json.{Json, value}
 use Rattle.json.specs.Tree.{depth as nesting, json_tokens}
 use Rattle.yaml_base.specs.Prefix.{IsPrefix}
-use Rattle.yaml_json.specs.Texts.{texts_in}
-use Rattle.yaml_json.specs.Wrote.{AreJson}
 use Rattle.yaml_json.specs.Begins.{BeginsAllowed, BeginsSome, BeginsValue, NoneGoesOn}
 use Rattle.yaml_json.specs.declared.error.JsonError.{JsonError}
 use Rattle.yaml_json.specs.declared.error.JsonError.TheVariants as errors
@@ -17,7 +15,7 @@ use Rattle.yaml_json.specs.declared.values.Stop.TheVariants as stops
 
 -- the text stops the writing, and not the writer
 abbrev pub IsByText : Stop → Type 0
-IsByText stops.NotJson = Unit {0}
+IsByText (stops.NotJson spot) = Unit {0}
 IsByText stops.TooDeep = Unit {0}
 IsByText stops.NameAgain = Unit {0}
 IsByText stops.Memory = ⊥
@@ -32,7 +30,7 @@ RefusesText (Err stop) = IsByText stop
 abbrev pub IsOfText : JsonError → Type 0
 IsOfText (errors.NotJson line column) = Unit {0}
 IsOfText (errors.Marked line column) = Unit {0}
-IsOfText errors.TooDeep = Unit {0}
+IsOfText (errors.TooDeep line column) = Unit {0}
 IsOfText (errors.DuplicateName line column) = Unit {0}
 IsOfText (errors.Emitter error) = ⊥
 
@@ -40,7 +38,7 @@ IsOfText (errors.Emitter error) = ⊥
 abbrev pub DeniesJson : JsonError → Type 0
 DeniesJson (errors.NotJson line column) = Unit {0}
 DeniesJson (errors.Marked line column) = Unit {0}
-DeniesJson errors.TooDeep = Unit {0}
+DeniesJson (errors.TooDeep line column) = Unit {0}
 DeniesJson (errors.DuplicateName line column) = ⊥
 DeniesJson (errors.Emitter error) = ⊥
 
@@ -76,6 +74,32 @@ pub record NamesTwice (depth : ℕ) (unique : Bool) (all : List Token) : Type 0 
   pub some : BeginsValue depth (taken ++ key name ∷ [])
   pub twice : (json : Json) → IsPrefix (taken ++ key name ∷ []) (json_tokens json) → HasUniqueKeys json → ⊥
 
+-- ---- why, after these tokens, with those ahead
+
+-- the tokens before are those of an allowed value, and the next can't stand there, or they end too early
+pub record BreaksAt (depth : ℕ) (unique : Bool) (taken left : List Token) : Type 0 where
+  pub begins : BeginsAllowed depth unique taken
+  pub breaks : NoneGoesOn taken left
+
+-- they are those of an allowed value, and with the next every value nests deeper
+pub record OpensTooDeepAt (depth : ℕ) (unique : Bool) (taken left : List Token) : Type 0 where
+  pub next : Token
+  pub after : List Token
+  pub first : left ≡ next ∷ after
+  pub begins : BeginsAllowed depth unique taken
+  pub some : BeginsSome (taken ++ next ∷ [])
+  pub deeper : (json : Json) → IsPrefix (taken ++ next ∷ []) (json_tokens json) → depth < nesting json
+
+-- they are those of an allowed value, and the next is a name with which every value has one twice in an object
+pub record NamesTwiceAt (depth : ℕ) (unique : Bool) (taken left : List Token) : Type 0 where
+  pub wanted : unique ≡ true
+  pub name : List ℕ
+  pub after : List Token
+  pub first : left ≡ key name ∷ after
+  pub begins : BeginsAllowed depth unique taken
+  pub some : BeginsValue depth (taken ++ key name ∷ [])
+  pub twice : (json : Json) → IsPrefix (taken ++ key name ∷ []) (json_tokens json) → HasUniqueKeys json → ⊥
+
 -- no tokens have two of these faults
 abbrev pub FaultsDiffer : Type 0
 FaultsDiffer =
@@ -103,9 +127,18 @@ is_marked text = starts_with nat_eq text (239 ∷ 187 ∷ 191 ∷ [])
 abbrev pub ExplainsError : (depth : ℕ) → (unique : Bool) → (text : List ℕ) → JsonError → Type 0
 ExplainsError depth unique text (errors.NotJson line column) = BreaksOff depth unique (tokens text) × (is_marked text ≡ false)
 ExplainsError depth unique text (errors.Marked line column) = BreaksOff depth unique (tokens text) × (is_marked text ≡ true)
-ExplainsError depth unique text errors.TooDeep = OpensTooDeep depth unique (tokens text)
+ExplainsError depth unique text (errors.TooDeep line column) = OpensTooDeep depth unique (tokens text)
 ExplainsError depth unique text (errors.DuplicateName line column) = NamesTwice depth unique (tokens text)
 ExplainsError depth unique text (errors.Emitter error) = Unit {0}
+
+-- what it says of the tokens of the text that were taken, and of those ahead; where it is the writer's, some value nested at most
+-- `depth` deep begins with the tokens that were taken
+abbrev pub StopsAt : (depth : ℕ) → (unique : Bool) → (text : List ℕ) → (taken left : List Token) → JsonError → Type 0
+StopsAt depth unique text taken left (errors.NotJson line column) = BreaksAt depth unique taken left × (is_marked text ≡ false)
+StopsAt depth unique text taken left (errors.Marked line column) = BreaksAt depth unique taken left × (is_marked text ≡ true)
+StopsAt depth unique text taken left (errors.TooDeep line column) = OpensTooDeepAt depth unique taken left
+StopsAt depth unique text taken left (errors.DuplicateName line column) = NamesTwiceAt depth unique taken left
+StopsAt depth unique text taken left (errors.Emitter error) = BeginsValue depth taken
 
 -- where names are to come once, no object of the text has one twice
 abbrev pub HasNamesOnce : (unique : Bool) → (text : List ℕ) → Type 0
@@ -115,13 +148,3 @@ HasNamesOnce unique text = unique ≡ true → (depth : ℕ) → (json : Json) �
 abbrev pub HaveNamesOnce : (unique : Bool) → List (List ℕ) → Type 0
 HaveNamesOnce unique [] = Unit {0}
 HaveNamesOnce unique (text ∷ texts) = HasNamesOnce unique text × HaveNamesOnce unique texts
-
--- one of the texts in a text is refused, for this reason, and those before it are allowed
-pub record RefusedAmong (depth : ℕ) (unique : Bool) (text : List ℕ) (error : JsonError) : Type 0 where
-  pub parts : List (List ℕ × Json)
-  pub next : List ℕ
-  pub later : List (List ℕ)
-  pub cut : map (λ part. part.0) parts ++ next ∷ later ≡ texts_in text
-  pub each : AreJson depth parts
-  pub names : HaveNamesOnce unique (map (λ part. part.0) parts)
-  pub why : ExplainsError depth unique next error

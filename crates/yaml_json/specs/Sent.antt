@@ -1,22 +1,31 @@
 -- JSON texts that come part by part: what was given of them, and what was sent on.
-use Rattle.std.specs.Prelude.{◌≡◌, ◌⊎◌, ℕ, ◌-◌, ◌≤◌, Bool, Option, List, [], ◌∷◌, ◌++◌}
+use Rattle.std.specs.Prelude.{◌≡◌, ◌⊎◌, ℕ, ◌-◌, ◌≤◌, Bool, Option, None, Result, Ok, Err, List, [], ◌∷◌, ◌++◌}
 use Rattle.std.specs.Prelude.{IsUtf8, drop, flat_map, length, map}
 use Rattle.std.specs.Io.KnownBytes.{Appends, Consumes}
 use Rattle.json.specs.Json.{Json}
+use Rattle.json.specs.Lex.{tokens}
+use Rattle.json.specs.Token.{Token}
 use Rattle.yaml_base.specs.Event.{Event}
+use Rattle.yaml_base.specs.Prefix.{IsPrefix}
 use Rattle.yaml_base.specs.Settings.{Settings}
+use Rattle.yaml_base.specs.declared.errors.yaml_error_t.{yaml_error_t}
+use Rattle.yaml_base.specs.declared.errors.yaml_error_t.TheVariants.{Memory}
 use Rattle.yaml_emitter.specs.State.{State}
 use Rattle.yaml_pen.specs.Sinks.{AppendsFirst}
-use Rattle.yaml_writer.specs.Writing.{Finishes, StandsTaken, WriterState, opening}
+use Rattle.yaml_writer.specs.Writing.{AddsEvents, Finishes, StandsTaken, WriterState, opening}
 use Rattle.yaml_json.specs.Cuts.{HasScanned}
-use Rattle.yaml_json.specs.Failing.{between, events_with_separators}
-use Rattle.yaml_json.specs.Refused.{ExplainsError, HaveNamesOnce, IsOfText, RefusedAmong}
+use Rattle.yaml_json.specs.Failing.{FailedWith, HasErrorSaid, between, events_with_separators, writers_error}
+use Rattle.yaml_json.specs.Places.{HasPlaceWithin, IsPlaceAfter}
+use Rattle.yaml_json.specs.Refused.{HaveNamesOnce, IsOfText, StopsAt}
 use Rattle.yaml_json.specs.Texts.{texts_in}
+use Rattle.yaml_json.specs.TokenEvents.{tokens_events}
 use Rattle.yaml_json.specs.Wrote.{AreJson, IsBare, IsYamlOfTexts, parts_events}
 use Rattle.yaml_json.specs.declared.cuts.Cut.{Cut}
 use Rattle.yaml_json.specs.declared.stream.Incoming.{Incoming}
+use Rattle.yaml_json.specs.declared.error.JsonError.TheVariants as errors
 use Rattle.yaml_json.specs.declared.error.StreamError.{StreamError}
 use Rattle.yaml_json.specs.declared.error.StreamError.TheVariants as faults
+use Rattle.yaml_json.specs.declared.places.Place.{Place}
 
 -- wherever the emitter stood, it stands after these events more, and these bytes are taken more
 abbrev pub AddsTaking : State → List Event → List ℕ → State → Type 0
@@ -30,14 +39,21 @@ pub record WroteTaking (before : WriterState) (events : List Event) (bytes : Lis
   pub levels : after.levels ≡ before.levels
   pub bare : IsBare after
 
--- the text is one JSON text after another, where each ends; their events were given, a document each, and the sink was given the
--- bytes that were taken
-pub record SentTexts (depth : ℕ) (in_flow : Bool) (text : List ℕ) (was : WriterState) (before : Option (List ℕ)) (now : WriterState)
+-- each of some texts is UTF-8
+abbrev pub AreUtf8 : List (List ℕ × Json) → Type 0
+AreUtf8 [] = Unit {0}
+AreUtf8 (part ∷ parts) = IsUtf8 part.0 × AreUtf8 parts
+
+-- the text is UTF-8, one JSON text after another, where each ends; their events were given, a document each, and the sink was given
+-- the bytes that were taken; where names are to come once, they do
+pub record SentTexts (depth : ℕ) (unique in_flow : Bool) (text : List ℕ) (was : WriterState) (before : Option (List ℕ)) (now : WriterState)
     (after : Option (List ℕ)) : Type 0 where
   pub parts : List (List ℕ × Json)
   pub cut : map (λ part. part.0) parts ≡ texts_in text
   pub joined : flat_map (λ part. part.0) parts ≡ text
   pub each : AreJson depth parts
+  pub utf8 : IsUtf8 text
+  pub names : HaveNamesOnce unique (texts_in text)
   pub handed : List ℕ
   pub sends : Appends before after handed
   pub wrote : WroteTaking was (parts_events was.canonical in_flow parts) handed now
@@ -51,6 +67,10 @@ pub record ReadsSent (depth : ℕ) (in_flow : Bool) (text : List ℕ) (was : Wri
   pub reads : (given : Settings) (sent bytes : List ℕ) → StandsTaken given opening sent was.emitter → was.canonical ≡ given.canonical
       → Finishes now.emitter bytes → IsYamlOfTexts given in_flow depth text ((sent ++ handed) ++ bytes)
 
+-- an emitter without an error, whose output is all taken
+abbrev pub IsAllTaken : State → Type 0
+IsAllTaken emitter = (emitter.error ≡ None) × (emitter.page.taken ≡ length emitter.page.output)
+
 -- of these bytes, these are left: the texts before them were given, a document begun after each, and the sink was given what was
 -- written of the documents
 pub record SentSoFar (depth : ℕ) (in_flow unique : Bool) (text : List ℕ) (was : WriterState) (before : Option (List ℕ)) (rest : List ℕ) (now : WriterState)
@@ -59,11 +79,12 @@ pub record SentSoFar (depth : ℕ) (in_flow unique : Bool) (text : List ℕ) (wa
   pub joined : flat_map (λ part. part.0) parts ++ rest ≡ text
   pub cut : map (λ part. part.0) parts ++ texts_in rest ≡ texts_in text
   pub each : AreJson depth parts
+  pub utf8 : AreUtf8 parts
   pub names : HaveNamesOnce unique (map (λ part. part.0) parts)
   pub handed : List ℕ
   pub sends : Appends before after handed
   pub wrote : WroteTaking was (events_with_separators was.canonical in_flow parts) handed now
-  pub whole : ((parts ≡ []) × (handed ≡ [])) ⊎ (now.emitter.page.taken ≡ length now.emitter.page.output)
+  pub whole : ((parts ≡ []) × (handed ≡ [])) ⊎ IsAllTaken now.emitter
 
 -- wherever the sending was, with these bytes ahead, these are left
 abbrev pub Advances : (depth : ℕ) → (in_flow unique : Bool) → List ℕ → WriterState → Option (List ℕ) → List ℕ → WriterState → Option (List ℕ) → Type 0
@@ -76,73 +97,118 @@ pub record BeginsNext (before : WriterState) (held : Option (List ℕ)) (after :
   pub bytes : List ℕ
   pub sends : Appends held holds bytes
   pub wrote : WroteTaking before between bytes after
-  pub whole : after.emitter.page.taken ≡ length after.emitter.page.output
+  pub whole : IsAllTaken after.emitter
 
--- a writer was given the start of the next document, and the sink a beginning of all that was written before
-pub record BeginsUnsent (before : WriterState) (held holds : Option (List ℕ)) : Type 0 where
-  pub bytes : List ℕ
-  pub sends : AppendsFirst held holds bytes
+-- a writer was given the start of the next document, and the sink a beginning of all that was written before; nothing was taken
+pub record BeginsUnsent (before : WriterState) (held : Option (List ℕ)) (after : WriterState) (holds : Option (List ℕ)) : Type 0 where
+  pub offered : List ℕ
+  pub sends : AppendsFirst held holds offered
+  pub adds : AddsEvents before.emitter between after.emitter
   pub then : State
-  pub adds : AddsTaking before.emitter between bytes then
-  pub whole : then.page.taken ≡ length then.page.output
+  pub wrote : AddsTaking before.emitter between offered then
+  pub whole : IsAllTaken then
 
--- the next document wasn't begun, and nothing was given to the sink; or the sink failed
-abbrev pub FailsNext : WriterState → Option (List ℕ) → StreamError → Option (List ℕ) → Type 0
-FailsNext before held (faults.WriteFailed error) holds = BeginsUnsent before held holds
-FailsNext before held error holds = holds ≡ held
+-- the writer failed at the start of the next document, and nothing was given to the sink; or the sink failed
+abbrev pub FailsNext : WriterState → Option (List ℕ) → StreamError → WriterState → Option (List ℕ) → Type 0
+FailsNext before held (faults.WriteFailed error) after holds = BeginsUnsent before held after holds
+FailsNext before held (faults.Refused (errors.Emitter error)) after holds = FailedWith before between error after × (holds ≡ held)
+FailsNext before held _ after holds = ⊥
 
 -- ---- errors
 
--- one of the texts is refused, for this reason
-abbrev pub RefusesSent : (depth : ℕ) → (unique : Bool) → (text : List ℕ) → StreamError → Type 0
-RefusesSent depth unique text (faults.Refused error) = IsOfText error → RefusedAmong depth unique text error
-RefusesSent depth unique text _ = Unit {0}
+-- the error of the emitter, where there is one
+abbrev pub emitter_error : StreamError → Option yaml_error_t
+emitter_error (faults.Refused error) = writers_error error
+emitter_error _ = None
 
--- the error isn't that of a text that is no JSON, nests too deep, has a name twice or isn't UTF-8
+-- the emitter has no error after a success, and after an error the one that is returned, if any
+abbrev pub IsSoundSending : WriterState → Result (Unit {0}) StreamError → WriterState → Type 0
+IsSoundSending was (Ok done) now = now.emitter.error ≡ None
+IsSoundSending was (Err error) now = HasErrorSaid was (emitter_error error) now
+
+-- the error is the emitter's, or of reading, and not that of a text
 abbrev pub IsByNoText : StreamError → Type 0
 IsByNoText (faults.Refused error) = IsOfText error → ⊥
 IsByNoText (faults.NotText line column) = ⊥
 IsByNoText _ = Unit {0}
 
--- the sink was given these bytes; where it failed, a beginning of them
-abbrev pub GivesSink : StreamError → (old new : Option (List ℕ)) → List ℕ → Type 0
-GivesSink (faults.WriteFailed error) old new bytes = AppendsFirst old new bytes
-GivesSink _ old new bytes = Appends old new bytes
+-- nothing but an allocation of the reading failed, or the reader
+abbrev pub IsByReader : StreamError → Type 0
+IsByReader (faults.Refused error) = error ≡ errors.Emitter Memory
+IsByReader (faults.ReadFailed error) = Unit {0}
+IsByReader _ = ⊥
 
--- a part of a text is refused, for this reason
-abbrev pub ExplainsPart : (depth : ℕ) → (unique : Bool) → (text : List ℕ) → StreamError → Type 0
-ExplainsPart depth unique text (faults.Refused error) = ExplainsError depth unique text error
-ExplainsPart depth unique text (faults.NotText line column) = IsUtf8 text → ⊥
-ExplainsPart depth unique text _ = Unit {0}
+-- what an error says of a text of which these tokens were taken, with those ahead: of nothing but UTF-8 a token is taken
+abbrev pub StopsPartAt : (depth : ℕ) → (unique : Bool) → (text : List ℕ) → (taken left : List Token) → StreamError → Type 0
+StopsPartAt depth unique text taken left (faults.Refused error) =
+    StopsAt depth unique text taken left error × (IsUtf8 text ⊎ ((taken ≡ []) × (IsOfText error → ⊥)))
+StopsPartAt depth unique text taken left (faults.NotText line column) = (taken ≡ []) × (IsUtf8 text → ⊥)
+StopsPartAt depth unique text taken left _ = taken ≡ []
 
--- where the error is that of a text, the first of these texts is refused, for this reason
-abbrev pub RefusesFirst : (depth : ℕ) → (unique : Bool) → List (List ℕ) → StreamError → Type 0
-RefusesFirst depth unique [] error = IsByNoText error
-RefusesFirst depth unique (first ∷ later) error = IsByNoText error ⊎ ExplainsPart depth unique first error
+-- a writer was given the events of a text's first tokens, and no more, for this reason; the error has its place there, counted from the
+-- start of what came before the text
+pub record StopsInPart (depth : ℕ) (unique in_flow : Bool) (front text : List ℕ) (was : WriterState) (error : StreamError) (now : WriterState)
+    : Type 0 where
+  pub taken : List Token
+  pub left : List Token
+  pub split : taken ++ left ≡ tokens text
+  pub why : StopsPartAt depth unique text taken left error
+  pub place : HasPlaceWithin depth front text error
+  pub adds : AddsEvents was.emitter (tokens_events was.canonical in_flow taken) now.emitter
 
--- the sink was given whole documents: those of the first texts, as a writer has written them that was given no more than these
--- and the start of the next, and whose output is taken; nothing, where these are none. A sink that failed has a beginning of their
--- bytes. Where a text is refused, it is the next
-pub record SentDocuments (depth : ℕ) (in_flow unique : Bool) (text : List ℕ) (was : WriterState) (before : Option (List ℕ)) (error : StreamError)
-    (after : Option (List ℕ)) : Type 0 where
-  pub parts : List (List ℕ × Json)
-  pub later : List (List ℕ)
-  pub cut : map (λ part. part.0) parts ++ later ≡ texts_in text
-  pub each : AreJson depth parts
-  pub names : HaveNamesOnce unique (map (λ part. part.0) parts)
-  pub refused : RefusesFirst depth unique later error
-  pub handed : List ℕ
-  pub sends : GivesSink error before after handed
+-- the sink was given these bytes; where it failed, these and a beginning of what was offered to it then
+abbrev pub GivesSink : StreamError → (old new : Option (List ℕ)) → (handed offered : List ℕ) → Type 0
+GivesSink (faults.WriteFailed error) old new handed offered =
+    (first : List ℕ) × IsPrefix first offered × Appends old new (handed ++ first)
+GivesSink _ old new handed offered = (offered ≡ []) × Appends old new handed
+
+-- these documents weren't sent: none, or the last, where the writer failed
+abbrev pub MayBeUnsent : StreamError → List (List ℕ × Json) → Type 0
+MayBeUnsent (faults.Refused (errors.Emitter error)) unsent = length unsent ≤ 1
+MayBeUnsent _ unsent = unsent ≡ []
+
+-- of the documents of these texts, the sink was given whole ones, as a writer without an error has written them that was given no more
+-- than these and the start of the next, and whose output is taken; nothing, where these are none
+pub record SentDocuments (in_flow : Bool) (parts : List (List ℕ × Json)) (was : WriterState) (before : Option (List ℕ)) (error : StreamError)
+    (handed : List ℕ) (after : Option (List ℕ)) : Type 0 where
+  pub sent : List (List ℕ × Json)
+  pub unsent : List (List ℕ × Json)
+  pub are : sent ++ unsent ≡ parts
+  pub most : MayBeUnsent error unsent
+  pub offered : List ℕ
+  pub sends : GivesSink error before after handed offered
   pub then : State
-  pub wrote : AddsTaking was.emitter (events_with_separators was.canonical in_flow parts) handed then
-  pub whole : ((parts ≡ []) × (handed ≡ [])) ⊎ (then.page.taken ≡ length then.page.output)
+  pub wrote : AddsTaking was.emitter (events_with_separators was.canonical in_flow sent) (handed ++ offered) then
+  pub whole : ((sent ≡ []) × (handed ++ offered ≡ [])) ⊎ IsAllTaken then
 
--- wherever the sending was, with these bytes ahead, one of the texts is refused for this reason, or something failed; the sink
--- was given whole documents, or a beginning of them
-abbrev pub StopsWithin : (depth : ℕ) → (in_flow unique : Bool) → List ℕ → WriterState → Option (List ℕ) → StreamError → Option (List ℕ) → Type 0
-StopsWithin depth in_flow unique ahead before held error holds =
-    (text : List ℕ) (was : WriterState) (start : Option (List ℕ)) (more : List ℕ) → SentSoFar depth in_flow unique text was start (ahead ++ more) before held
-    → RefusesSent depth unique text error × SentDocuments depth in_flow unique text was start error holds
+-- the first of the texts in a text are UTF-8 and allowed; the writer was given their events, with a document begun after each, and then
+-- those of the first tokens of the next text, and no more, for this reason; the sink was given their documents, which are taken
+pub record StopsSending (depth : ℕ) (unique in_flow : Bool) (text : List ℕ) (was : WriterState) (before : Option (List ℕ)) (error : StreamError)
+    (now : WriterState) (after : Option (List ℕ)) : Type 0 where
+  pub parts : List (List ℕ × Json)
+  pub next : List ℕ
+  pub later : List (List ℕ)
+  pub cut : map (λ part. part.0) parts ++ next ∷ later ≡ texts_in text
+  pub each : AreJson depth parts
+  pub utf8 : AreUtf8 parts
+  pub names : HaveNamesOnce unique (map (λ part. part.0) parts)
+  pub taken : List Token
+  pub left : List Token
+  pub split : taken ++ left ≡ tokens next
+  pub why : StopsPartAt depth unique next taken left error
+  pub place : HasPlaceWithin depth (flat_map (λ part. part.0) parts) next error
+  pub handed : List ℕ
+  pub adds :
+      AddsTaking was.emitter (events_with_separators was.canonical in_flow parts ++ tokens_events was.canonical in_flow taken) handed now.emitter
+  pub documents : SentDocuments in_flow parts was before error handed after
+
+-- wherever the sending was, with these bytes ahead, which begin at this place, it stops
+abbrev pub StopsWithin : (depth : ℕ) → (in_flow unique : Bool) → List ℕ → Place → WriterState → Option (List ℕ) → StreamError → WriterState
+    → Option (List ℕ) → Type 0
+StopsWithin depth in_flow unique ahead place before held error now holds =
+    (text : List ℕ) (was : WriterState) (start : Option (List ℕ)) (more front : List ℕ) → IsPlaceAfter front place → front ++ (ahead ++ more) ≡ text
+    → SentSoFar depth in_flow unique text was start (ahead ++ more) before held
+    → StopsSending depth unique in_flow text was start error now holds
 
 -- ---- what came
 

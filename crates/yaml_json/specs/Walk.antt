@@ -1,16 +1,18 @@
 -- The walk over the tokens of a value: which arrays and objects are open after some of them, and what was given until there.
-use Rattle.std.specs.Prelude.{◌≡◌, ◌⊎◌, ℕ, ◌-◌, ◌<◌, ◌≤◌, Bool, true, false, Option, Some, option_and_then, List, [], ◌∷◌, ◌++◌, length}
+use Rattle.std.specs.Prelude.{◌≡◌, ◌≢◌, ◌⊎◌, ℕ, ◌-◌, ◌<◌, ◌≤◌, Bool, true, false, Option, Some, option_and_then, List, [], ◌∷◌, ◌++◌, length}
 use Rattle.json.specs.Token.{Token}
-use Rattle.json.specs.Json.{skip_value}
+use Rattle.json.specs.Json.{Json, skip_value}
 use Rattle.json.specs.Reads.{skip_items, skip_members}
+use Rattle.json.specs.Lex.{tokens}
+use Rattle.json.specs.Tree.{json_tokens}
 use Rattle.yaml_base.specs.declared.errors.yaml_error_t.{yaml_error_t}
 use Rattle.yaml_base.specs.declared.errors.yaml_error_t.TheVariants.{Memory}
 use Rattle.yaml_writer.specs.Writing.{AddsEvents, WriterState}
 use Rattle.yaml_emitter.specs.declared.place.CollectionKind.{CollectionKind}
 use Rattle.yaml_emitter.specs.declared.place.CollectionKind.TheVariants.{Mapping, Sequence}
-use Rattle.yaml_json.specs.Begins.{BeginsValue}
+use Rattle.yaml_json.specs.Begins.{BeginsAllowed, BeginsSome, BeginsValue}
 use Rattle.yaml_json.specs.Failing.{FailedWith}
-use Rattle.yaml_json.specs.Refused.{BreaksOff, NamesTwice, OpensTooDeep, is_marked}
+use Rattle.yaml_json.specs.Refused.{BreaksAt, NamesTwiceAt, OpensTooDeepAt, is_marked}
 use Rattle.yaml_json.specs.HeldNames.{HaveNames, HoldsNames}
 use Rattle.yaml_json.specs.Names.{NamesOnce, all_names_after, outer_names}
 use Rattle.yaml_json.specs.declared.names.Names.{Names}
@@ -18,6 +20,8 @@ use Rattle.yaml_json.specs.TokenEvents.{tokens_events}
 use Rattle.yaml_json.specs.Wrote.{IsBare}
 use Rattle.yaml_json.specs.declared.error.JsonError.{JsonError}
 use Rattle.yaml_json.specs.declared.error.JsonError.TheVariants as errors
+use Rattle.yaml_json.specs.declared.values.Spot.{Spot}
+use Rattle.yaml_json.specs.declared.values.Spot.TheVariants.{At, PastString, PastValue}
 use Rattle.yaml_json.specs.declared.values.Stop.{Stop}
 use Rattle.yaml_json.specs.declared.values.Stop.TheVariants as stops
 
@@ -91,10 +95,11 @@ abbrev pub Gives : (in_flow : Bool) → List CollectionKind → WriterState → 
 Gives in_flow levels before taken opened after =
     (was : WriterState) (so : List Token) → Stood in_flow was so levels before → Stood in_flow was (so ++ taken) opened after
 
--- an allocation failed; or, wherever the writer stood, the events of these tokens were given more, and its emitter has this error
+-- an allocation failed, and nothing changed; or, wherever the writer stood, the events of these tokens were given more, and its
+-- emitter has this error
 abbrev pub FailsGiving : (in_flow : Bool) → List CollectionKind → WriterState → List Token → yaml_error_t → WriterState → Type 0
 FailsGiving in_flow levels before taken error after =
-    (error ≡ Memory)
+    ((error ≡ Memory) × (after ≡ before))
     ⊎ ((was : WriterState) (so : List Token) → Stood in_flow was so levels before
     → FailedWith was (tokens_events was.canonical in_flow (so ++ taken)) error after)
 
@@ -143,9 +148,22 @@ pub record BeginFailed (depth : ℕ) (in_flow : Bool) (token : Token) (levels : 
   pub begins : Begins depth levels token opened
   pub fails : FailsGiving in_flow levels before (token ∷ []) error after
 
+-- where the text breaks off at a token with which no value begins: at what follows the string of a name, or at the token
+abbrev pub spot_of : Token → Spot
+spot_of Token.begin_object = At
+spot_of Token.end_object = At
+spot_of Token.begin_array = At
+spot_of Token.end_array = At
+spot_of (Token.key text) = PastString
+spot_of (Token.string text) = At
+spot_of (Token.number text) = At
+spot_of (Token.boolean flag) = At
+spot_of Token.null = At
+spot_of Token.bad = At
+
 -- no value begins with the token, or it opens one too many
 abbrev pub RefusesToken : (depth : ℕ) → List CollectionKind → Token → Stop → Type 0
-RefusesToken depth levels token stops.NotJson = BeginsNone token
+RefusesToken depth levels token (stops.NotJson spot) = BeginsNone token × (spot ≡ spot_of token)
 RefusesToken depth levels token stops.TooDeep = IsOpener token × (length levels ≡ depth)
 RefusesToken depth levels token stops.NameAgain = ⊥
 RefusesToken depth levels token stops.Memory = Unit {0}
@@ -153,7 +171,7 @@ RefusesToken depth levels token stops.Failed = Unit {0}
 
 -- no token is left, or an allocation failed
 abbrev pub ReadsNone : List Token → Stop → Type 0
-ReadsNone ahead stops.NotJson = ahead ≡ []
+ReadsNone ahead (stops.NotJson spot) = (ahead ≡ []) × (spot ≡ At)
 ReadsNone ahead stops.TooDeep = ⊥
 ReadsNone ahead stops.NameAgain = ⊥
 ReadsNone ahead stops.Memory = Unit {0}
@@ -176,21 +194,22 @@ pub record FailedAtFirst (depth : ℕ) (in_flow : Bool) (ahead : List Token) (le
   pub first : ahead ≡ token ∷ after
   pub failed : BeginFailed depth in_flow token levels before error now
 
--- an allocation failed, or that
+-- an allocation failed, and nothing changed; or that
 abbrev pub FirstFailed : (depth : ℕ) → (in_flow : Bool) → List Token → List CollectionKind → WriterState → yaml_error_t → WriterState → Type 0
-FirstFailed depth in_flow ahead levels before error now = (error ≡ Memory) ⊎ FailedAtFirst depth in_flow ahead levels before error now
+FirstFailed depth in_flow ahead levels before error now =
+    ((error ≡ Memory) × (now ≡ before)) ⊎ FailedAtFirst depth in_flow ahead levels before error now
 
--- the text isn't said to nest too deep
-abbrev pub IsNotDeep : Stop → Type 0
-IsNotDeep stops.NotJson = Unit {0}
-IsNotDeep stops.TooDeep = ⊥
-IsNotDeep stops.NameAgain = ⊥
-IsNotDeep stops.Memory = Unit {0}
-IsNotDeep stops.Failed = Unit {0}
+-- the text ends too early, or the writer failed
+abbrev pub EndsEarly : Stop → Type 0
+EndsEarly (stops.NotJson spot) = spot ≡ At
+EndsEarly stops.TooDeep = ⊥
+EndsEarly stops.NameAgain = ⊥
+EndsEarly stops.Memory = Unit {0}
+EndsEarly stops.Failed = Unit {0}
 
 -- no token is left, or the first is refused
 abbrev pub RefusesFirst : (depth : ℕ) → List CollectionKind → List Token → Stop → Type 0
-RefusesFirst depth levels [] stop = IsNotDeep stop
+RefusesFirst depth levels [] stop = EndsEarly stop
 RefusesFirst depth levels (token ∷ after) stop = RefusesToken depth levels token stop
 
 -- ---- one turn
@@ -209,27 +228,127 @@ pub record Stepped (depth : ℕ) (in_flow : Bool) (ahead : List Token) (levels :
   pub gives : Gives in_flow levels before taken opened now
   pub moves : (so : List Token) → Stands depth so levels → Stands depth (so ++ taken) opened
 
--- the writer failed after the first tokens, with which a value begins
+-- wherever the walk stood with these collections open, the events of the first tokens were given, with which a value begins; then an
+-- allocation failed, or the emitter
 pub record StepFailed (depth : ℕ) (in_flow : Bool) (ahead : List Token) (levels : List CollectionKind) (before : WriterState) (error : yaml_error_t)
     (now : WriterState) : Type 0 where
   pub taken : List Token
   pub left : List Token
   pub parts : taken ++ left ≡ ahead
-  pub fails : FailsGiving in_flow levels before taken error now
+  pub fails :
+      (was : WriterState) (so : List Token) → Stood in_flow was so levels before
+      → FailedWith was (tokens_events was.canonical in_flow (so ++ taken)) error now
   pub begins : (so : List Token) → Stands depth so levels → BeginsValue depth (so ++ taken)
 
--- why the text stops the writing
-abbrev pub WhyStopped : (depth : ℕ) → (unique : Bool) → List Token → Stop → Type 0
-WhyStopped depth unique all stops.NotJson = BreaksOff depth unique all
-WhyStopped depth unique all stops.TooDeep = OpensTooDeep depth unique all
-WhyStopped depth unique all stops.NameAgain = NamesTwice depth unique all
-WhyStopped depth unique all stops.Memory = Unit {0}
-WhyStopped depth unique all stops.Failed = Unit {0}
+-- why the text stops the writing after these tokens, with those ahead
+abbrev pub WhyStopped : (depth : ℕ) → (unique : Bool) → (taken left : List Token) → Stop → Type 0
+WhyStopped depth unique taken left (stops.NotJson spot) = BreaksAt depth unique taken left
+WhyStopped depth unique taken left stops.TooDeep = OpensTooDeepAt depth unique taken left
+WhyStopped depth unique taken left stops.NameAgain = NamesTwiceAt depth unique taken left
+WhyStopped depth unique taken left stops.Memory = Unit {0}
+WhyStopped depth unique taken left stops.Failed = Unit {0}
 
--- wherever the walk stood with these collections open, these names taken and these tokens ahead, the text stops it
-abbrev pub Refuses : {A : Type 0} → (depth : ℕ) → (unique : Bool) → List CollectionKind → Names A → List Token → Stop → Type 0
-Refuses depth unique levels held ahead stop =
-    (so : List Token) → Stands depth so levels → KeepsNames so held → WhyStopped depth unique (so ++ ahead) stop
+-- ---- at which lexeme
+
+-- a value begins with the token, or it is a name
+abbrev pub IsBeginner : Token → Type 0
+IsBeginner Token.begin_object = Unit {0}
+IsBeginner Token.end_object = ⊥
+IsBeginner Token.begin_array = Unit {0}
+IsBeginner Token.end_array = ⊥
+IsBeginner (Token.key text) = Unit {0}
+IsBeginner (Token.string text) = Unit {0}
+IsBeginner (Token.number text) = Unit {0}
+IsBeginner (Token.boolean flag) = Unit {0}
+IsBeginner Token.null = Unit {0}
+IsBeginner Token.bad = ⊥
+
+-- an allowed value goes on with a value or a name more, so also after a comma
+pub record GoesOn (depth : ℕ) (unique : Bool) (taken : List Token) : Type 0 where
+  pub token : Token
+  pub is_beginner : IsBeginner token
+  pub begins : BeginsAllowed depth unique (taken ++ token ∷ [])
+
+-- the next token, if any, is of its first lexeme, and not of the one after a string, too
+abbrev pub NoStringNext : List Token → Type 0
+NoStringNext [] = Unit {0}
+NoStringNext (Token.begin_object ∷ after) = Unit {0}
+NoStringNext (Token.end_object ∷ after) = Unit {0}
+NoStringNext (Token.begin_array ∷ after) = Unit {0}
+NoStringNext (Token.end_array ∷ after) = Unit {0}
+NoStringNext (Token.key text ∷ after) = ⊥
+NoStringNext (Token.string text ∷ after) = ⊥
+NoStringNext (Token.number text ∷ after) = Unit {0}
+NoStringNext (Token.boolean flag ∷ after) = Unit {0}
+NoStringNext (Token.null ∷ after) = Unit {0}
+NoStringNext (Token.bad ∷ after) = Unit {0}
+
+-- the next token is a name, and its string could stand there; or it is a string, and could as a name
+abbrev pub CouldStandOther : (taken left : List Token) → Type 0
+CouldStandOther taken left =
+    (text : List ℕ) × ((after : List Token)
+    × (((left ≡ Token.key text ∷ after) × BeginsSome (taken ++ Token.string text ∷ []))
+    ⊎ ((left ≡ Token.string text ∷ after) × BeginsSome (taken ++ Token.key text ∷ []))))
+
+-- the tokens are those of a whole value
+abbrev pub IsWhole : List Token → Type 0
+IsWhole taken = (json : Json) × (json_tokens json ≡ taken)
+
+abbrev pub IsSpot : (depth : ℕ) → (unique : Bool) → Spot → (taken left : List Token) → Type 0
+IsSpot depth unique At taken left = GoesOn depth unique taken × NoStringNext left
+IsSpot depth unique PastString taken left = CouldStandOther taken left
+IsSpot depth unique PastValue taken left = IsWhole taken × (left ≢ [])
+
+-- the next token is no name whose string could stand there
+abbrev pub NoStringStands : (taken left : List Token) → Type 0
+NoStringStands taken left = (text : List ℕ) (after : List Token) → left ≡ Token.key text ∷ after → BeginsSome (taken ++ Token.string text ∷ []) → ⊥
+
+-- where the text stops the writing after these tokens, with those ahead
+abbrev pub WhereStopped : (depth : ℕ) → (unique : Bool) → (taken left : List Token) → Stop → Type 0
+WhereStopped depth unique taken left (stops.NotJson spot) = IsSpot depth unique spot taken left
+WhereStopped depth unique taken left stops.TooDeep = GoesOn depth unique taken × NoStringNext left
+WhereStopped depth unique taken left stops.NameAgain = GoesOn depth unique taken × NoStringStands taken left
+WhereStopped depth unique taken left stops.Memory = Unit {0}
+WhereStopped depth unique taken left stops.Failed = Unit {0}
+
+-- these tokens were left when the last was read: those ahead, and where a value is whole, its last before them
+abbrev pub WereLeft : Stop → (taken left before : List Token) → Type 0
+WereLeft (stops.NotJson PastValue) taken left before =
+    (front : List Token) × ((last : Token) × ((taken ≡ front ++ last ∷ []) × (before ≡ last ∷ left)))
+WereLeft _ taken left before = before ≡ left
+
+-- the value isn't whole yet
+abbrev pub IsInside : Stop → Type 0
+IsInside (stops.NotJson PastValue) = ⊥
+IsInside _ = Unit {0}
+
+-- wherever the walk stood with these collections open and these names taken, the events of the first of the tokens ahead were given,
+-- and then the text stops it, with these left
+pub record Refuses {A : Type 0} (depth : ℕ) (unique in_flow : Bool) (levels : List CollectionKind) (held : Names A) (ahead left : List Token)
+    (before : WriterState) (stop : Stop) (now : WriterState) : Type 0 where
+  pub taken : List Token
+  pub parts : taken ++ left ≡ ahead
+  pub inside : IsInside stop
+  pub adds :
+      (was : WriterState) (so : List Token) → Stood in_flow was so levels before
+      → AddsEvents was.emitter (tokens_events was.canonical in_flow (so ++ taken)) now.emitter
+  pub why : (so : List Token) → Stands depth so levels → KeepsNames so held → WhyStopped depth unique (so ++ taken) left stop
+  pub place : (so : List Token) → Stands depth so levels → KeepsNames so held → WhereStopped depth unique (so ++ taken) left stop
+
+-- the text stops the writing after the first of these tokens, whose events were given; these were left when the last was read
+pub record StopsWriting (depth : ℕ) (unique in_flow : Bool) (all before : List Token) (was : WriterState) (stop : Stop) (now : WriterState)
+    : Type 0 where
+  pub taken : List Token
+  pub left : List Token
+  pub parts : taken ++ left ≡ all
+  pub why : WhyStopped depth unique taken left stop
+  pub place : WhereStopped depth unique taken left stop
+  pub were : WereLeft stop taken left before
+  pub adds : AddsEvents was.emitter (tokens_events was.canonical in_flow taken) now.emitter
+
+-- so of the tokens of a text
+abbrev pub StopsText : (depth : ℕ) → (unique in_flow : Bool) → (text : List ℕ) → WriterState → Stop → WriterState → Type 0
+StopsText depth unique in_flow text was stop now = (before : List Token) × StopsWriting depth unique in_flow (tokens text) before was stop now
 
 -- ---- the whole walk
 
@@ -245,9 +364,9 @@ pub record WalkProgress (depth : ℕ) (in_flow : Bool) (start : List Token) (was
 
 -- the error says what the stop does of the text
 abbrev pub MatchesStop : (text : List ℕ) → Stop → JsonError → Type 0
-MatchesStop text stops.NotJson (errors.NotJson line column) = is_marked text ≡ false
-MatchesStop text stops.NotJson (errors.Marked line column) = is_marked text ≡ true
-MatchesStop text stops.TooDeep errors.TooDeep = Unit {0}
+MatchesStop text (stops.NotJson spot) (errors.NotJson line column) = is_marked text ≡ false
+MatchesStop text (stops.NotJson spot) (errors.Marked line column) = is_marked text ≡ true
+MatchesStop text stops.TooDeep (errors.TooDeep line column) = Unit {0}
 MatchesStop text stops.NameAgain (errors.DuplicateName line column) = Unit {0}
 MatchesStop text stops.Memory (errors.Emitter returned) = Unit {0}
 MatchesStop text stops.Failed (errors.Emitter returned) = Unit {0}

@@ -78,13 +78,14 @@ pub record WroteTexts (depth : ℕ) (in_flow : Bool) (text : List ℕ) (was now 
   pub wrote : Wrote was (parts_events was.canonical in_flow parts) now
 
 -- the text is one JSON text after another, the bytes are the stream of their documents, and both schemas read them as their
--- values
+-- values, in portable mode with the line breaks of YAML 1.1 and with those of 1.2
 pub record IsYamlOfTexts (given : Settings) (in_flow : Bool) (depth : ℕ) (text bytes : List ℕ) : Type 0 where
   pub parts : List (List ℕ × Json)
   pub joined : flat_map (λ part. part.0) parts ≡ text
   pub each : AreJson depth parts
   pub stream : IsStream given (opening ++ parts_events given.canonical in_flow parts ++ closing) bytes
   pub reads : ReadsAsValues given.breaks12 bytes (map (λ part. part.1) parts)
+  pub reads_by_either : given.portable ≡ true → (breaks12 : Bool) → ReadsAsValues breaks12 bytes (map (λ part. part.1) parts)
 
 -- where the writer was at the start of its first document, the stream that it then finishes, with what was taken of it before,
 -- is read as the values of the text
@@ -93,9 +94,11 @@ ReadsTexts depth in_flow text was now =
     (given : Settings) (sent bytes : List ℕ) → StandsTaken given opening sent was.emitter → was.canonical ≡ given.canonical → Finishes now.emitter bytes
     → IsYamlOfTexts given in_flow depth text (sent ++ bytes)
 
--- the text is JSON nested at most `depth` deep, the bytes are the stream of its one document, and both schemas read them as its value
+-- the text is JSON nested at most `depth` deep, the bytes are the stream of its one document, and both schemas read them as its
+-- value, in portable mode with the line breaks of YAML 1.1 and with those of 1.2
 pub record IsYamlOf (given : Settings) (in_flow : Bool) (depth : ℕ) (text bytes : List ℕ) : Type 0 where
   pub json : Json
   pub read : value depth (tokens text) ≡ Some (json, [])
   pub stream : IsStream given (opening ++ json_events given.canonical in_flow json ++ closing) bytes
   pub reads : ReadsAsJson given.breaks12 bytes json
+  pub reads_by_either : given.portable ≡ true → (breaks12 : Bool) → ReadsAsJson breaks12 bytes json

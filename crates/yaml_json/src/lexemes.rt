@@ -4,6 +4,7 @@ ghost use Rattle.std.specs.Str.{IsCharBoundary};
 ghost use Rattle.std.specs.Simd.Lanes.{mask_l};
 ghost use Rattle.json.specs.Lex.{between, in_string, lex};
 ghost use Rattle.json.specs.Word.{head, is_space};
+ghost use Rattle.yaml_json.specs.Lexing.{Leads, LeadsFrom};
 ghost use Rattle.yaml_json.specs.Lexemes.{ArePlain, is_stop};
 
 use crate::words::is_blank;
@@ -14,6 +15,7 @@ use std::simd::prelude::*;
 pub(crate) fn skip_blanks(text: &str) -> &str
     ensures same { lex between result.now ≡ lex between text.now }
     ensures past { is_space (head result.now) ≡ true → result.now ≡ [] }
+    ensures over { Leads text.now result.now }
 {
     let bytes = text.as_bytes();
     let mut at: usize = 0;
@@ -60,7 +62,8 @@ pub(crate) fn plain_end(text: &[u8], from: usize) -> usize
 /// What follows the string whose content begins at a place; nothing where it isn't closed.
 pub(crate) fn after_string(text: &str, from: usize) -> &str
     requires { from ≤ length text.now }
-    ensures { lex between result.now ≡ lex in_string (drop from text.now) }
+    ensures same { lex between result.now ≡ lex in_string (drop from text.now) }
+    ensures over { LeadsFrom in_string (drop from text.now) result.now }
 {
     let bytes = text.as_bytes();
     let mut at = from;

@@ -1,4 +1,5 @@
-//! JSON texts (RFC 8259), written as YAML that both schemas of YAML read as the same values.
+//! JSON texts (RFC 8259), written as YAML that both schemas of YAML read as the same values: in portable mode with the line
+//! breaks of YAML 1.1 and with those of 1.2, else with those that the settings have.
 #![tactic(auto)]
 
 mod cuts;
@@ -17,6 +18,7 @@ mod tokens;
 mod values;
 mod words;
 
+pub use cuts::text_around;
 pub use error::{JsonError, StreamError};
 pub use laws::faults_differ;
 pub use places::place_of;

@@ -1,39 +1,72 @@
 //! Where in a text an offset is.
-ghost use Rattle.std.specs.Prelude.{◌≡◌, ◌≤◌, count_by, length, not};
+ghost use Rattle.std.specs.Prelude.{◌≡◌, ◌≢◌, ◌+◌, ◌++◌, ◌<◌, ◌≤◌, ℕ, List, [], count_by, drop, length, not};
 ghost use Rattle.std.specs.Fmt.{is_char_start};
 ghost use Rattle.std.specs.List.{after_last, suffix_len};
+ghost use Rattle.json.specs.Lex.{between, in_word, lex};
+ghost use Rattle.json.specs.Word.{head};
 ghost use Rattle.yaml_base.specs.values.LinesAndColumns.{column_of, is_line_feed, line_of};
+ghost use Rattle.yaml_json.specs.Ahead.{IsTrimmed};
+ghost use Rattle.yaml_json.specs.Lexing.{EndsWord};
+ghost use Rattle.yaml_json.specs.Offsets.{IsOffset, PassesLexeme};
+ghost use Rattle.yaml_json.specs.Places.{AreOf, IsPlaceAfter, many_bytes};
 
 use crate::lexemes::{after_string, skip_blanks};
-use crate::values::Spot;
-use crate::words::is_blank;
+use crate::values::{Spot, Stop};
+use crate::words::{is_delimiter, is_operator};
 
-/// The offset of what follows the string that begins at an offset, and the blanks after it.
-fn past_string(text: &str, from: usize) -> usize {
-    let content = from.saturating_add(1).min(text.len());
-    let rest = skip_blanks(after_string(text, content));
-    text.len().saturating_sub(rest.len())
+/// Returns what follows the word whose first byte is before a place.
+fn after_word(text: &str, from: usize) -> &str
+    requires { from ≤ length text.now }
+    ensures same { lex between result.now ≡ lex in_word (drop from text.now) }
+    ensures over { EndsWord (drop from text.now) result.now }
+{
+    let bytes = text.as_bytes();
+    let mut at = from;
+    'bytes: while at < bytes.len() {
+        if is_delimiter(bytes[at]) {
+            return &text[at..];
+        }
+        at += 1;
+    }
+    &text[bytes.len()..]
 }
 
-/// The comma before an offset, with nothing but blanks between; the offset where there is none.
-fn comma_before(bytes: &[u8], offset: usize) -> usize {
-    let mut at = offset.min(bytes.len());
-    'blanks: while at > 0 && is_blank(bytes[at - 1]) {
-        at -= 1;
-    }
-    if at > 0 && bytes[at - 1] == b',' {
-        at - 1
+/// Returns what follows the bracket, string or word that begins at a place, and the blanks after it.
+fn after_lexeme(text: &str, from: usize) -> &str
+    requires { from < length text.now }
+    ensures { head (drop from text.now) ≢ 92 → IsTrimmed (drop from text.now) → PassesLexeme (drop from text.now) result.now }
+{
+    let byte = text.as_bytes()[from];
+    if byte == b'"' {
+        skip_blanks(after_string(text, from + 1))
+    } else if is_operator(byte) {
+        skip_blanks(&text[from + 1..])
     } else {
-        offset
+        skip_blanks(after_word(text, from + 1))
     }
 }
 
-/// The offset of a spot in a text, by where the last token that was read begins.
-pub(crate) fn offset_of(text: &str, last: usize, spot: Spot) -> usize {
-    match spot {
-        Spot::At => last,
-        Spot::PastString => past_string(text, last),
-        Spot::PastValue => comma_before(text.as_bytes(), last),
+/// Returns the offset of what follows the lexeme that begins at an offset.
+fn past_lexeme(text: &str, from: usize) -> usize
+    ensures within { result ≤ length text.now }
+    ensures past { from < length text.now → head (drop from text.now) ≢ 92 → IsTrimmed (drop from text.now)
+        → PassesLexeme (drop from text.now) (drop result text.now) }
+{
+    if from < text.len() {
+        text.len().saturating_sub(after_lexeme(text, from).len())
+    } else {
+        text.len()
+    }
+}
+
+/// Returns where a text stops the writing, by where the last token that was read begins.
+pub(crate) fn offset_of(text: &str, last: usize, stop: Stop) -> usize
+    requires { last ≤ length text.now }
+    ensures { IsOffset text.now last stop result }
+{
+    match stop {
+        Stop::NotJson(Spot::PastString | Spot::PastValue) => past_lexeme(text, last),
+        _ => last,
     }
 }
 
@@ -108,12 +141,17 @@ pub(crate) struct Place {
 }
 
 impl Place {
-    pub(crate) fn first() -> Place {
+    pub(crate) fn first() -> Place
+        ensures { IsPlaceAfter [] result }
+    {
         Place { line: 1, column: 1 }
     }
 
-    /// A place in a text that begins at this one, by its place in that text.
-    pub(crate) fn and(self, line: usize, column: usize) -> (usize, usize) {
+    /// Returns a place in a text that begins at this one, by its place in that text.
+    pub(crate) fn and(self, line: usize, column: usize) -> (usize, usize)
+        ensures { (front part : List ℕ) (at : ℕ) → IsPlaceAfter front self → AreOf part at line column → at ≤ length part
+            → length front + at < many_bytes → AreOf (front ++ part) (length front + at) result.0 result.1 }
+    {
         if line <= 1 {
             (
                 self.line,
@@ -124,8 +162,10 @@ impl Place {
         }
     }
 
-    /// The place that follows these bytes, the first of which is at this one.
-    pub(crate) fn after(self, bytes: &[u8]) -> Place {
+    /// Returns the place that follows these bytes, the first of which is at this one.
+    pub(crate) fn after(self, bytes: &[u8]) -> Place
+        ensures { (front : List ℕ) → IsPlaceAfter front self → IsPlaceAfter (front ++ bytes.now) result }
+    {
         let (line, column) = place_of(bytes, bytes.len());
         let (line, column) = self.and(line, column);
         Place { line, column }

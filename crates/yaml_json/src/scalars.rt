@@ -3,7 +3,7 @@ ghost use Rattle.std.specs.Prelude.{◌≡◌, IfSome, OnOk, chars};
 ghost use Rattle.yaml_base.specs.Event.{scalar};
 ghost use Rattle.yaml_base.specs.Seen.{seen_mapping_style, seen_sequence_style};
 ghost use Rattle.yaml_writer.specs.NumberParts.{IsNumber, number_in};
-ghost use Rattle.yaml_json.specs.Failing.{FailedAt, FailedAtEnd, IsAnswer, emitter_error_of};
+ghost use Rattle.yaml_json.specs.Failing.{FailedAt, FailedAtEnd, IsAnswer, Kept, emitter_error_of};
 ghost use Rattle.yaml_json.specs.JsonEvents.{bool_content, null_content, number_content, style_of, text_content};
 ghost use Rattle.yaml_json.specs.Refused.{RefusesText};
 ghost use Rattle.yaml_json.specs.Wrote.{Ends, IsBare, StartsCollection, WroteEvent, start_event};
@@ -51,6 +51,7 @@ pub(crate) fn write_null<A: Allocator + Copy>(writer: &mut Writer<A>) -> Result<
     requires { IsBare writer.old }
     ensures written { OnOk result (WroteEvent writer.old (scalar (null_content writer.old.canonical)) writer.new) }
     ensures failed { RefusesText result → ⊥ }
+    ensures kept { Kept writer.old result writer.new }
     ensures stopped { IfSome (emitter_error_of writer.new result) (λ error. FailedAt writer.old (scalar (null_content writer.old.canonical)) error writer.new) }
 {
     answer_of(writer.null())
@@ -63,6 +64,7 @@ pub(crate) fn write_bool<A: Allocator + Copy>(
     requires { IsBare writer.old }
     ensures written { OnOk result (WroteEvent writer.old (scalar (bool_content writer.old.canonical flag)) writer.new) }
     ensures failed { RefusesText result → ⊥ }
+    ensures kept { Kept writer.old result writer.new }
     ensures stopped { IfSome (emitter_error_of writer.new result) (λ error. FailedAt writer.old (scalar (bool_content writer.old.canonical flag)) error
         writer.new) }
 {
@@ -76,6 +78,7 @@ pub(crate) fn write_text<A: Allocator + Copy>(
     requires { IsBare writer.old }
     ensures written { OnOk result (WroteEvent writer.old (scalar (text_content (chars text.now))) writer.new) }
     ensures failed { RefusesText result → ⊥ }
+    ensures kept { Kept writer.old result writer.new }
     ensures stopped { IfSome (emitter_error_of writer.new result) (λ error. FailedAt writer.old (scalar (text_content (chars text.now))) error writer.new) }
 {
     answer_of(writer.text(text))
@@ -90,6 +93,7 @@ pub(crate) fn write_number<A: Allocator + Copy>(
     requires number { IsNumber text.now (number_in text.now) }
     ensures written { OnOk result (WroteEvent writer.old (scalar (number_content writer.old.canonical (number_in text.now))) writer.new) }
     ensures failed { RefusesText result → ⊥ }
+    ensures kept { Kept writer.old result writer.new }
     ensures stopped { IfSome (emitter_error_of writer.new result) (λ error. FailedAt writer.old
         (scalar (number_content writer.old.canonical (number_in text.now))) error writer.new) }
 {
@@ -105,6 +109,7 @@ pub(crate) fn start<A: Allocator + Copy>(
     requires { IsBare writer.old }
     ensures started { OnOk result (StartsCollection in_flow kind writer.old writer.new) }
     ensures failed { RefusesText result → ⊥ }
+    ensures kept { Kept writer.old result writer.new }
     ensures stopped { IfSome (emitter_error_of writer.new result) (λ error. FailedAt writer.old (start_event in_flow kind) error writer.new) }
 {
     match kind {
@@ -118,6 +123,7 @@ pub(crate) fn end<A: Allocator + Copy>(writer: &mut Writer<A>) -> Result<(), Sto
     requires { IsBare writer.old }
     ensures ended { OnOk result (Ends writer.old writer.new) }
     ensures failed { RefusesText result → ⊥ }
+    ensures kept { Kept writer.old result writer.new }
     ensures stopped { IfSome (emitter_error_of writer.new result) (λ error. FailedAtEnd writer.old error writer.new) }
 {
     answer_of(writer.end())

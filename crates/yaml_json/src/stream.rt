@@ -1,14 +1,16 @@
 //! JSON texts that follow one another, read part by part and sent on as they are complete.
-ghost use Rattle.std.specs.Prelude.{◌≡◌, ◌<◌, ◌≤◌, ◌-◌, ℕ, Bool, List, [], IfErr, IfOk, IfSome, OnOk, drop, false, length, true};
+ghost use Rattle.std.specs.Prelude.{◌≡◌, ◌<◌, ◌≤◌, ◌-◌, ℕ, Bool, List, [], IfErr, IfOk, IfSome, IsUtf8, None, Ok, OnOk, drop, false, length, true};
 ghost use Rattle.std.specs.Io.KnownBytes.{IsAtEnd};
 ghost use Rattle.json.specs.Lex.{tokens};
+ghost use Rattle.json.specs.Token.{Token};
+ghost use Rattle.yaml_pen.specs.Wrote.{Grows};
+ghost use Rattle.yaml_json.specs.Failing.{Grew, Kept};
 ghost use Rattle.yaml_json.specs.Names.{NamesOnce};
 ghost use Rattle.yaml_json.specs.Nests.{AwaitsText};
-ghost use Rattle.yaml_json.specs.Refused.{HaveNamesOnce};
 ghost use Rattle.yaml_json.specs.Cuts.{HasScanned};
-ghost use Rattle.yaml_json.specs.Sent.{Advances, BeginsNext, ExplainsPart, FailsNext, HasCome, IsByNoText, IsIncoming, IsScanned, LeavesLast, ReadsSent};
-ghost use Rattle.yaml_json.specs.Sent.{RefusesSent, SentDocuments, SentTexts, StopsWithin};
-ghost use Rattle.yaml_json.specs.Texts.{texts_in};
+ghost use Rattle.yaml_json.specs.Places.{HasPlaceWithin, IsPlaceAfter, MovesPlace};
+ghost use Rattle.yaml_json.specs.Sent.{Advances, BeginsNext, FailsNext, HasCome, IsByReader, IsIncoming, IsScanned, IsSoundSending, LeavesLast};
+ghost use Rattle.yaml_json.specs.Sent.{ReadsSent, SentTexts, StopsInPart, StopsPartAt, StopsSending, StopsWithin, emitter_error};
 ghost use Rattle.yaml_json.specs.Wrote.{IsBare, WroteText};
 
 use crate::cuts::{Cut, find_end, new_cut};
@@ -48,6 +50,7 @@ impl<A: Allocator + Copy> Incoming<A> {
     fn new(alloc: A) -> Self
         ensures scanned { IsScanned result }
         ensures nothing { result.held.items ≡ [] }
+        ensures place { IsPlaceAfter [] result.reading.place }
     {
         Incoming {
             held: Vec::new(alloc),
@@ -71,7 +74,8 @@ fn read_part<A: Allocator + Copy, R: Read>(
     ensures come { OnOk result (HasCome incoming.old (R.remaining reader.old) incoming.new (R.remaining reader.new)) }
     ensures incoming { OnOk result (IsIncoming incoming.new) }
     ensures end { IfOk result (λ more. more ≡ false → IsAtEnd (R.remaining reader.new) × (incoming.new ≡ incoming.old)) }
-    ensures refused { IfErr result IsByNoText }
+    ensures place { OnOk result (incoming.new.reading.place ≡ incoming.old.reading.place) }
+    ensures refused { IfErr result IsByReader }
 {
     match reader.read(part) {
         Ok(0) => Ok(false),
@@ -97,7 +101,8 @@ fn read_more<A: Allocator + Copy, R: Read>(
     ensures come { OnOk result (HasCome incoming.old (R.remaining reader.old) incoming.new (R.remaining reader.new)) }
     ensures incoming { OnOk result (IsIncoming incoming.new) }
     ensures end { IfOk result (λ more. more ≡ false → IsAtEnd (R.remaining reader.new) × (incoming.new ≡ incoming.old)) }
-    ensures refused { IfErr result IsByNoText }
+    ensures place { OnOk result (incoming.new.reading.place ≡ incoming.old.reading.place) }
+    ensures refused { IfErr result IsByReader }
 {
     let mut part = Vec::new(alloc);
     match part.resize(PART_SIZE, 0) {
@@ -117,8 +122,12 @@ fn write_bytes<'a, A: Allocator + Copy>(
     requires ready { AwaitsText settings.now.unique_names room.old }
     ensures ready { OnOk result (AwaitsText settings.now.unique_names room.new) }
     ensures names { OnOk result (settings.now.unique_names ≡ true → NamesOnce [] (tokens bytes.now)) }
+    ensures utf8 { OnOk result (IsUtf8 bytes.now) }
     ensures written { OnOk result (WroteText settings.now.depth settings.now.flow bytes.now writer.old writer.new) }
-    ensures refused { IfErr result (ExplainsPart settings.now.depth settings.now.unique_names bytes.now) }
+    ensures kept { OnOk result (Kept writer.old (Ok tt) writer.new) }
+    ensures stopped { IfErr result (λ error. StopsInPart settings.now.depth settings.now.unique_names settings.now.flow [] bytes.now writer.old
+        error writer.new) }
+    ensures grew { IfErr result (λ error. Grew writer.old (emitter_error error) writer.new) }
 {
     let text = match str::from_utf8(bytes) {
         Ok(text) => text,
@@ -135,7 +144,11 @@ fn write_bytes<'a, A: Allocator + Copy>(
 
 /// The error of a text as one of all that came, where the text begins at this place.
 fn placed(error: StreamError, start: Place) -> StreamError
-    ensures refused { (depth : ℕ) (unique : Bool) (all : List ℕ) → ExplainsPart depth unique all error → ExplainsPart depth unique all result }
+    ensures says { (depth : ℕ) (unique : Bool) (all : List ℕ) (taken left : List Token) → StopsPartAt depth unique all taken left error
+        → StopsPartAt depth unique all taken left result }
+    ensures by_emitter { emitter_error result ≡ emitter_error error }
+    ensures place { (depth : ℕ) (front part : List ℕ) → IsPlaceAfter front start → HasPlaceWithin depth [] part error
+        → HasPlaceWithin depth front part result }
 {
     match error {
         StreamError::Refused(JsonError::NotJson { line, column }) => {
@@ -145,6 +158,10 @@ fn placed(error: StreamError, start: Place) -> StreamError
         StreamError::Refused(JsonError::Marked { line, column }) => {
             let (line, column) = start.and(line, column);
             StreamError::Refused(JsonError::Marked { line, column })
+        }
+        StreamError::Refused(JsonError::TooDeep { line, column }) => {
+            let (line, column) = start.and(line, column);
+            StreamError::Refused(JsonError::TooDeep { line, column })
         }
         StreamError::Refused(JsonError::DuplicateName { line, column }) => {
             let (line, column) = start.and(line, column);
@@ -165,8 +182,9 @@ fn begin_next<A: Allocator + Copy, W: Write>(
 ) -> Result<(), StreamError>
     requires { IsBare writer.old }
     ensures begun { OnOk result (BeginsNext writer.old (W.contents sink.old) writer.new (W.contents sink.new)) }
-    ensures failed { IfErr result IsByNoText }
-    ensures unsent { IfErr result (λ error. FailsNext writer.old (W.contents sink.old) error (W.contents sink.new)) }
+    ensures failed { IfErr result (λ error. FailsNext writer.old (W.contents sink.old) error writer.new (W.contents sink.new)) }
+    ensures grew { OnOk result (Grew writer.old None writer.new) }
+    ensures grew_to { IfErr result (λ error. Grew writer.old (emitter_error error) writer.new) }
 {
     if let Err(error) = writer.next_document() {
         return Err(StreamError::Refused(JsonError::Emitter(error)));
@@ -182,6 +200,7 @@ fn keep_last<A: Allocator + Copy>(incoming: &mut Incoming<A>, count: usize)
     requires { count ≤ length incoming.old.held.items }
     ensures kept { incoming.new.held.items ≡ drop (length incoming.old.held.items - count) incoming.old.held.items }
     ensures cut { incoming.new.reading.cut ≡ incoming.old.reading.cut }
+    ensures place { MovesPlace incoming.old.held.items incoming.new.held.items incoming.old.reading.place incoming.new.reading.place }
 {
     let start = incoming.held.len() - count;
     if start == 0 {
@@ -204,10 +223,13 @@ fn write_texts<A: Allocator + Copy, W: Write>(
     requires scanned { HasScanned held.now reading.old.cut }
     ensures bare { OnOk result (IsBare writer.new) }
     ensures left { IfOk result (λ count. LeavesLast count held.now reading.new.cut) }
+    ensures place { reading.new.place ≡ reading.old.place }
     ensures gives { IfOk result (λ count. Advances settings.now.depth settings.now.flow settings.now.unique_names held.now writer.old
         (W.contents sink.old) (drop (length held.now - count) held.now) writer.new (W.contents sink.new)) }
-    ensures stops { IfErr result (λ error. StopsWithin settings.now.depth settings.now.flow settings.now.unique_names held.now writer.old
-        (W.contents sink.old) error (W.contents sink.new)) }
+    ensures grew { OnOk result (Grew writer.old None writer.new) }
+    ensures stops { IfErr result (λ error. StopsWithin settings.now.depth settings.now.flow settings.now.unique_names held.now
+        reading.old.place writer.old (W.contents sink.old) error writer.new (W.contents sink.new)) }
+    ensures grew_to { IfErr result (λ error. Grew writer.old (emitter_error error) writer.new) }
 {
     let arena = Bump::new(reading.alloc);
     let mut room = Room::new(reading.alloc, &arena, settings.unique_names);
@@ -238,10 +260,13 @@ fn write_complete<A: Allocator + Copy, W: Write>(
     requires incoming { IsIncoming incoming.old }
     ensures bare { OnOk result (IsBare writer.new) }
     ensures scanned { OnOk result (IsScanned incoming.new) }
+    ensures place { OnOk result (MovesPlace incoming.old.held.items incoming.new.held.items incoming.old.reading.place incoming.new.reading.place) }
     ensures gives { OnOk result (Advances settings.now.depth settings.now.flow settings.now.unique_names incoming.old.held.items writer.old
         (W.contents sink.old) incoming.new.held.items writer.new (W.contents sink.new)) }
-    ensures stops { IfErr result (λ error. StopsWithin settings.now.depth settings.now.flow settings.now.unique_names incoming.old.held.items writer.old
-        (W.contents sink.old) error (W.contents sink.new)) }
+    ensures grew { OnOk result (Grew writer.old None writer.new) }
+    ensures stops { IfErr result (λ error. StopsWithin settings.now.depth settings.now.flow settings.now.unique_names incoming.old.held.items
+        incoming.old.reading.place writer.old (W.contents sink.old) error writer.new (W.contents sink.new)) }
+    ensures grew_to { IfErr result (λ error. Grew writer.old (emitter_error error) writer.new) }
 {
     let held = incoming.held.as_slice();
     match write_texts(writer, sink, held, &mut incoming.reading, settings) {
@@ -262,8 +287,12 @@ fn write_last<A: Allocator + Copy>(
     requires { IsBare writer.old }
     ensures bare { OnOk result (IsBare writer.new) }
     ensures names { OnOk result (settings.now.unique_names ≡ true → NamesOnce [] (tokens incoming.old.held.items)) }
+    ensures utf8 { OnOk result (IsUtf8 incoming.old.held.items) }
     ensures written { OnOk result (WroteText settings.now.depth settings.now.flow incoming.old.held.items writer.old writer.new) }
-    ensures refused { IfErr result (ExplainsPart settings.now.depth settings.now.unique_names incoming.old.held.items) }
+    ensures kept { OnOk result (Kept writer.old (Ok tt) writer.new) }
+    ensures stopped { IfErr result (λ error. (front : List ℕ) → IsPlaceAfter front incoming.old.reading.place
+        → StopsInPart settings.now.depth settings.now.unique_names settings.now.flow front incoming.old.held.items writer.old error writer.new) }
+    ensures grew { IfErr result (λ error. Grew writer.old (emitter_error error) writer.new) }
 {
     let text = incoming.held.as_slice();
     let reading = &mut incoming.reading;
@@ -288,7 +317,8 @@ fn write_last<A: Allocator + Copy>(
 /// # Errors
 ///
 /// `Refused` as by `write_json_texts`; `NotText` where a text isn't UTF-8; `ReadFailed` and `WriteFailed`. Until then the sink was
-/// given whole documents, those of the texts before the one that is refused. A sink that failed has a beginning of their bytes.
+/// given whole documents, those of the texts before the one that is refused. A sink that failed has a beginning of their bytes, and
+/// the writer still has what was offered to it last.
 pub fn send_json_texts<A: Allocator + Copy, R: Read, W: Write>(
     alloc: A,
     writer: &mut Writer<A>,
@@ -297,16 +327,14 @@ pub fn send_json_texts<A: Allocator + Copy, R: Read, W: Write>(
     settings: JsonSettings,
 ) -> Result<(), StreamError>
     requires { IsBare writer.old }
-    ensures bare { OnOk result (IsBare writer.new) }
-    ensures end { OnOk result (IsAtEnd (R.remaining reader.new)) }
+    ensures grows { Grows writer.old.emitter.page writer.new.emitter.page }
+    ensures sound { IsSoundSending writer.old result writer.new }
+    ensures ended { OnOk result (IsAtEnd (R.remaining reader.new) × IsBare writer.new) }
     ensures written { OnOk result (IfSome (R.remaining reader.old) (λ text.
-        SentTexts settings.depth settings.flow text writer.old (W.contents sink.old) writer.new (W.contents sink.new))) }
-    ensures reads { OnOk result (IfSome (R.remaining reader.old) (λ text.
-        ReadsSent settings.depth settings.flow text writer.old (W.contents sink.old) writer.new (W.contents sink.new))) }
-    ensures names { OnOk result (IfSome (R.remaining reader.old) (λ text. HaveNamesOnce settings.unique_names (texts_in text))) }
-    ensures refused { IfErr result (λ error. IfSome (R.remaining reader.old) (λ text. RefusesSent settings.depth settings.unique_names text error)) }
-    ensures sent { IfErr result (λ error. IfSome (R.remaining reader.old) (λ text.
-        SentDocuments settings.depth settings.flow settings.unique_names text writer.old (W.contents sink.old) error (W.contents sink.new))) }
+        SentTexts settings.depth settings.unique_names settings.flow text writer.old (W.contents sink.old) writer.new (W.contents sink.new)
+        × ReadsSent settings.depth settings.flow text writer.old (W.contents sink.old) writer.new (W.contents sink.new))) }
+    ensures stopped { IfErr result (λ error. IfSome (R.remaining reader.old) (λ text. StopsSending settings.depth settings.unique_names settings.flow text
+        writer.old (W.contents sink.old) error writer.new (W.contents sink.new))) }
 {
     let mut incoming = Incoming::new(alloc);
     // No reader promises to end, so the reads are counted.

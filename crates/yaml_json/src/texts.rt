@@ -1,12 +1,16 @@
 //! JSON texts as YAML.
-ghost use Rattle.std.specs.Prelude.{◌≡◌, [], true, OnOk, IfOk, IfErr, IfSome};
+ghost use Rattle.std.specs.Prelude.{◌≡◌, ◌≤◌, [], length, true, Ok, Err, OnOk, IfOk, IfErr, IfSome};
 ghost use Rattle.yaml_emitter.specs.Given.{seen_settings};
-ghost use Rattle.yaml_json.specs.Failing.{FailedInText, FailsBy, failure_of, writers_error};
+ghost use Rattle.yaml_json.specs.Failing.{FailedInText, FailsBy, IsSound, Kept, failure_of, writers_error};
 ghost use Rattle.json.specs.Lex.{tokens};
+ghost use Rattle.yaml_pen.specs.Wrote.{Grows};
 ghost use Rattle.yaml_json.specs.Names.{NamesOnce};
 ghost use Rattle.yaml_json.specs.Nests.{AwaitsText};
-ghost use Rattle.yaml_json.specs.Refused.{DeniesJson, HasNamesOnce, IsNotJson, ExplainsError, is_marked};
-ghost use Rattle.yaml_json.specs.Walk.{MatchesStop, WhyStopped};
+ghost use Rattle.yaml_json.specs.Offsets.{StopsAtLexeme};
+ghost use Rattle.yaml_json.specs.Places.{HasPlace, IsAt};
+ghost use Rattle.yaml_json.specs.Refused.{DeniesJson, HasNamesOnce, IsByText, IsNotJson, ExplainsError, is_marked};
+ghost use Rattle.yaml_json.specs.Stopped.{StopsInText};
+ghost use Rattle.yaml_json.specs.Walk.{MatchesStop, StopsText};
 ghost use Rattle.yaml_json.specs.Wrote.{IsBare, IsYamlOf, WroteText};
 
 use crate::error::JsonError;
@@ -38,9 +42,10 @@ pub(crate) fn error_of<A: Allocator + Copy>(
 ) -> JsonError
     ensures says { MatchesStop part.now stop result }
     ensures by_writer { writers_error result ≡ failure_of writer.now stop }
+    ensures place { IsAt text.now at result }
 {
     match stop {
-        Stop::NotJson => {
+        Stop::NotJson(_) => {
             let (line, column) = place_of(text.as_bytes(), at);
             if is_marked(part) {
                 JsonError::Marked { line, column }
@@ -48,7 +53,10 @@ pub(crate) fn error_of<A: Allocator + Copy>(
                 JsonError::NotJson { line, column }
             }
         }
-        Stop::TooDeep => JsonError::TooDeep,
+        Stop::TooDeep => {
+            let (line, column) = place_of(text.as_bytes(), at);
+            JsonError::TooDeep { line, column }
+        }
         Stop::NameAgain => {
             let (line, column) = place_of(text.as_bytes(), at);
             JsonError::DuplicateName { line, column }
@@ -92,14 +100,21 @@ pub(crate) fn write_text_in<'a, A: Allocator + Copy>(
     ensures ready { OnOk result (AwaitsText settings.now.unique_names room.new) }
     ensures names { OnOk result (settings.now.unique_names ≡ true → NamesOnce [] (tokens text.now)) }
     ensures written { OnOk result (WroteText settings.now.depth settings.now.flow text.now writer.old writer.new) }
-    ensures refused { IfErr result (λ failed. WhyStopped settings.now.depth settings.now.unique_names (tokens text.now) failed.0) }
+    ensures kept { OnOk result (Kept writer.old (Ok tt) writer.new) }
+    ensures refused { IfErr result (λ failed. IsByText failed.0 → StopsText settings.now.depth settings.now.unique_names settings.now.flow
+        text.now writer.old failed.0 writer.new) }
+    ensures kept_after { IfErr result (λ failed. Kept writer.old (Err failed.0) writer.new) }
     ensures stopped { IfErr result (λ failed. IfSome (failure_of writer.new failed.0)
         (λ error. FailedInText settings.now.depth settings.now.flow text.now writer.old error writer.new)) }
+    ensures place { IfErr result (λ failed. IsByText failed.0 → StopsAtLexeme settings.now.depth text.now failed.1 failed.0) }
 {
     let mut tokens = Tokens::new(room.alloc, room.arena, text);
     match write_only_value(&mut room.nest, writer, &mut tokens, settings) {
         Ok(()) => Ok(()),
-        Err(stop) => Err((stop, offset_of(text, tokens.last_offset(), room.nest.spot))),
+        Err(stop) => {
+            let at = offset_of(text, tokens.last_offset(), stop);
+            Err((stop, at))
+        }
     }
 }
 
@@ -113,9 +128,13 @@ pub(crate) fn write_text_by<A: Allocator + Copy>(
     requires { IsBare writer.old }
     ensures names { OnOk result (settings.now.unique_names ≡ true → NamesOnce [] (tokens text.now)) }
     ensures written { OnOk result (WroteText settings.now.depth settings.now.flow text.now writer.old writer.new) }
-    ensures refused { IfErr result (λ failed. WhyStopped settings.now.depth settings.now.unique_names (tokens text.now) failed.0) }
+    ensures kept { OnOk result (Kept writer.old (Ok tt) writer.new) }
+    ensures refused { IfErr result (λ failed. IsByText failed.0 → StopsText settings.now.depth settings.now.unique_names settings.now.flow
+        text.now writer.old failed.0 writer.new) }
+    ensures kept_after { IfErr result (λ failed. Kept writer.old (Err failed.0) writer.new) }
     ensures stopped { IfErr result (λ failed. IfSome (failure_of writer.new failed.0)
         (λ error. FailedInText settings.now.depth settings.now.flow text.now writer.old error writer.new)) }
+    ensures place { IfErr result (λ failed. IsByText failed.0 → StopsAtLexeme settings.now.depth text.now failed.1 failed.0) }
 {
     let arena = Bump::new(alloc);
     let mut room = Room::new(alloc, &arena, settings.unique_names);
@@ -134,7 +153,8 @@ pub(crate) fn write_text_by<A: Allocator + Copy>(
 /// in its place where the text begins with a byte order mark.
 /// `TooDeep` where the text is JSON up to an array or an object that opens too deep, `DuplicateName` where it is JSON up to a key
 /// that its object has already and may have once. `Emitter` with the error of the writer's
-/// emitter, which has it now, or with `Memory` where an allocation fails. After an error some of the events may have been given.
+/// emitter, which has it now, or with `Memory` where an allocation fails. After an error the writer was given the events of the tokens
+/// before, and nothing that was written is lost.
 pub fn write_json<A: Allocator + Copy>(
     alloc: A,
     writer: &mut Writer<A>,
@@ -142,12 +162,13 @@ pub fn write_json<A: Allocator + Copy>(
     settings: JsonSettings,
 ) -> Result<(), JsonError>
     requires { IsBare writer.old }
+    ensures grows { Grows writer.old.emitter.page writer.new.emitter.page }
+    ensures sound { IsSound writer.old result writer.new }
     ensures written { OnOk result (WroteText settings.depth settings.flow text.now writer.old writer.new) }
-    ensures refused { IfErr result (λ error. DeniesJson error → IsNotJson settings.depth text.now) }
     ensures names { OnOk result (HasNamesOnce settings.unique_names text.now) }
-    ensures why { IfErr result (ExplainsError settings.depth settings.unique_names text.now) }
-    ensures failed { IfErr result (λ error. IfSome (writers_error error)
-        (λ code. FailedInText settings.depth settings.flow text.now writer.old code writer.new)) }
+    ensures refused { IfErr result (λ error. DeniesJson error → IsNotJson settings.depth text.now) }
+    ensures stopped { IfErr result (λ error. StopsInText settings.depth settings.unique_names settings.flow text.now writer.old error writer.new) }
+    ensures place { IfErr result (HasPlace settings.depth text.now) }
 {
     match write_text_by(alloc, writer, text, &settings) {
         Ok(()) => Ok(()),
@@ -173,6 +194,7 @@ pub fn yaml_from_json<A: Allocator + Copy>(
     ensures why { IfErr result (ExplainsError settings.depth settings.unique_names text.now) }
     ensures failed { IfErr result (λ error. IfSome (writers_error error)
         (FailsBy (seen_settings settings.writer) settings.flow settings.depth text.now)) }
+    ensures place { IfErr result (HasPlace settings.depth text.now) }
 {
     let Ok(mut writer) = Writer::new(alloc, settings.writer) else {
         return Err(JsonError::Emitter(yaml_error_t::Memory));

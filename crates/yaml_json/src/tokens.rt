@@ -5,7 +5,9 @@ ghost use Rattle.json.specs.Print.{IsPrintable};
 ghost use Rattle.json.specs.Reads.{token_of};
 ghost use Rattle.json.specs.Token as spec;
 ghost use Rattle.json.specs.Word.{head};
-ghost use Rattle.yaml_json.specs.Ahead.{Ends, IsTidy, IsTrimmed, Opens, Reads, StepsFrom, ahead, begins_here, closes_here};
+ghost use Rattle.yaml_json.specs.Lexing.{Leads};
+ghost use Rattle.yaml_json.specs.Ahead.{Ends, IsTidy, IsTrimmed, Opens, Reads, StepsFrom, begins_here, closes_here};
+ghost use Rattle.yaml_json.specs.Reached.{AreFrom};
 
 use crate::escapes::unescape;
 use crate::lexemes::{after_string, plain_end, skip_blanks};
@@ -20,7 +22,7 @@ use std::marker::Model;
 pub(crate) enum Stage {
     /// A value or a key, or what closes.
     Open,
-    /// What closes: a value stands before, and no comma follows it.
+    /// What closes: after a value, no comma read.
     Behind,
     /// A value or a key: a comma stands before.
     Owed,
@@ -50,33 +52,31 @@ pub(crate) struct Step<'a> {
     pub(crate) stage: Stage,
 }
 
-/// Tokens of a JSON text. A clause sees those that are still to come.
+/// Tokens of a JSON text. A clause sees the text, the tokens that are still to come, and those that were when the last was read.
 #[derive(Drop)]
 pub(crate) struct Tokens<'a, A: Allocator> {
     alloc: A,
     /// Where strings with escapes go.
     arena: &'a Bump<A>,
-    /// Length of the whole text in bytes.
-    size: usize,
+    text: &'a str,
     rest: &'a str,
     stage: Stage,
-    /// How many bytes were left when the last token was read.
+    /// What might come when the last token was read.
+    was: Stage,
+    /// How many bytes were left then.
     left: usize,
 }
 
 impl<'a, A: Allocator> Model for Tokens<'a, A> {
-    ghost use Rattle.std.specs.Prelude.{List};
-    ghost use Rattle.json.specs.Token.{Token as SpecToken, tokens_code};
+    ghost use Rattle.yaml_json.specs.Reached.{IsReader, Reader, reader_code, reader_of};
 
-    ghost Value = { List SpecToken };
+    ghost Value = { Reader };
 
-    ghost coded = { tokens_code };
+    ghost coded = { reader_code };
 
-    ghost use Rattle.yaml_json.specs.Ahead.{IsTidy, ahead};
+    ghost view = { λ a. reader_of a.text.now a.stage a.rest.now a.was a.left };
 
-    ghost view = { λ a. ahead a.stage a.rest.now };
-
-    ghost invariant = { λ a. IsTidy a.stage a.rest.now };
+    ghost invariant = { λ a. IsReader a.text.now a.stage a.rest.now a.was a.left };
 }
 
 /// No token, and none after it.
@@ -85,6 +85,7 @@ fn bad<'a>(text: &'a str) -> Step<'a>
     ensures token { token_of result.token ≡ spec.bad }
     ensures over { result.stage ≡ Stage.Over }
     ensures tidy { IsTidy result.stage result.rest.now }
+    ensures stays { Leads text.now result.rest.now }
 {
     Step {
         token: Token::Bad,
@@ -130,7 +131,8 @@ fn ending<'a>(token: Token<'a>, text: &'a str) -> Step<'a>
 /// A string with this content, and what follows it.
 #[inline(always)]
 fn string_step<'a>(content: &'a str, after: &'a str) -> Step<'a>
-    ensures { StepsFrom may_begin (token (spec.string content.now) ∷ lex between after.now) result }
+    ensures steps { StepsFrom may_begin (token (spec.string content.now) ∷ lex between after.now) result }
+    ensures over { Leads after.now result.rest.now }
 {
     let rest = skip_blanks(after);
     if byte_at(rest.as_bytes(), 0) == b':' {
@@ -148,7 +150,8 @@ fn escaped<'a, A: Allocator + Copy>(
 ) -> Result<Step<'a>, AllocError>
     requires quote { head text.now ≡ 34 }
     requires trimmed { IsTrimmed text.now }
-    ensures { IfOk result (StepsFrom may_begin (lex between text.now)) }
+    ensures steps { IfOk result (StepsFrom may_begin (lex between text.now)) }
+    ensures over { IfOk result (λ step. Leads text.now step.rest.now) }
 {
     match unescape(alloc, text, 1) {
         Err(_) => Err(AllocError),
@@ -169,7 +172,8 @@ fn string<'a, A: Allocator + Copy>(
 ) -> Result<Step<'a>, AllocError>
     requires quote { head text.now ≡ 34 }
     requires trimmed { IsTrimmed text.now }
-    ensures { IfOk result (StepsFrom may_begin (lex between text.now)) }
+    ensures steps { IfOk result (StepsFrom may_begin (lex between text.now)) }
+    ensures over { IfOk result (λ step. Leads text.now step.rest.now) }
 {
     let bytes = text.as_bytes();
     let end = plain_end(bytes, 1);
@@ -185,7 +189,8 @@ fn string<'a, A: Allocator + Copy>(
 fn word_step<'a>(text: &'a str) -> Step<'a>
     requires other { class (head text.now) ≡ other }
     requires trimmed { IsTrimmed text.now }
-    ensures { StepsFrom may_begin (lex between text.now) result }
+    ensures steps { StepsFrom may_begin (lex between text.now) result }
+    ensures over { Leads text.now result.rest.now }
 {
     match word(text) {
         None => bad(text),
@@ -197,7 +202,8 @@ fn word_step<'a>(text: &'a str) -> Step<'a>
 #[inline(always)]
 fn closing<'a>(text: &'a str, byte: u8) -> Step<'a>
     requires { (head text.now ≡ byte) × ((byte ≡ 125) ⊎ (byte ≡ 93)) }
-    ensures { StepsFrom may_close (lex between text.now) result }
+    ensures steps { StepsFrom may_close (lex between text.now) result }
+    ensures over { Leads text.now result.rest.now }
 {
     let rest = skip_blanks(&text[1..]);
     if byte == b'}' {
@@ -217,7 +223,8 @@ fn beginning<'a, A: Allocator + Copy>(
     requires some { text.now ≢ [] }
     requires trimmed { IsTrimmed text.now }
     requires opens { (head text.now ≢ 125) × (head text.now ≢ 93) }
-    ensures { IfOk result (StepsFrom may_begin (lex between text.now)) }
+    ensures steps { IfOk result (StepsFrom may_begin (lex between text.now)) }
+    ensures over { IfOk result (λ step. Leads text.now step.rest.now) }
 {
     match byte_at(text.as_bytes(), 0) {
         b'"' => string(alloc, arena, text),
@@ -232,7 +239,8 @@ fn beginning<'a, A: Allocator + Copy>(
 fn at_end<'a>(text: &'a str, stage: Stage) -> Option<Step<'a>>
     requires over { stage ≢ Stage.Over }
     requires none { text.now ≡ [] }
-    ensures { Reads stage text.now result }
+    ensures reads { Reads stage text.now result }
+    ensures over { IfSome result (λ step. Leads text.now step.rest.now) }
 {
     if stage.may_close() {
         None
@@ -251,7 +259,8 @@ fn read<'a, A: Allocator + Copy>(
 ) -> Result<Option<Step<'a>>, AllocError>
     requires over { stage ≢ Stage.Over }
     requires tidy { IsTidy stage text.now }
-    ensures { IfOk result (Reads stage text.now) }
+    ensures reads { IfOk result (Reads stage text.now) }
+    ensures over { IfOk result (λ found. IfSome found (λ step. Leads text.now step.rest.now)) }
 {
     if text.is_empty() {
         return Ok(at_end(text, stage));
@@ -275,21 +284,38 @@ fn read<'a, A: Allocator + Copy>(
 impl<'a, A: Allocator + Copy> Tokens<'a, A> {
     /// Strings with escapes go to the arena; all others are borrowed from the text.
     pub(crate) fn new(alloc: A, arena: &'a Bump<A>, text: &'a str) -> Self
-        ensures { result ≡ tokens text.now }
+        ensures text { result.text ≡ text.now }
+        ensures ahead { result.ahead ≡ tokens text.now }
     {
+        let rest = skip_blanks(text);
         Tokens {
             alloc,
             arena,
-            size: text.len(),
-            rest: skip_blanks(text),
+            text,
+            rest,
             stage: Stage::Open,
-            left: text.len(),
+            was: Stage::Open,
+            left: rest.len(),
         }
     }
 
     /// Where the last token begins, by an offset in bytes; the text's end where there was none.
-    pub(crate) fn last_offset(&self) -> usize {
-        self.size.saturating_sub(self.left)
+    pub(crate) fn last_offset(&self) -> usize
+        ensures { AreFrom self.now.text self.now.before result }
+    {
+        self.text.len().saturating_sub(self.left)
+    }
+
+    /// Whether no token is left.
+    pub(crate) fn is_at_end(&self) -> bool
+        ensures end { result ≡ true → self.now.ahead ≡ [] }
+        ensures more { result ≡ false → self.now.ahead ≢ [] }
+    {
+        match self.stage {
+            Stage::Open | Stage::Behind => self.rest.is_empty(),
+            Stage::Owed => false,
+            Stage::Over => true,
+        }
     }
 
     /// The next token; `None` where there is none.
@@ -299,10 +325,14 @@ impl<'a, A: Allocator + Copy> Tokens<'a, A> {
     /// Where an allocation fails.
     #[inline(always)]
     pub(crate) fn next(&mut self) -> Result<Option<Token<'a>>, AllocError>
-        ensures value { IfOk result (λ found. MatchOption found ((self.old ≡ []) × (self.new ≡ [])) (λ t. self.old ≡ token_of t ∷ self.new)) }
+        ensures value { IfOk result (λ found. MatchOption found ((self.old.ahead ≡ []) × (self.new.ahead ≡ []))
+            (λ t. self.old.ahead ≡ token_of t ∷ self.new.ahead)) }
         ensures printable { IfOk result (λ found. IfSome found (λ t. t ≢ Token.Bad → IsPrintable (token_of t))) }
+        ensures before { self.new.before ≡ self.old.ahead }
+        ensures text { self.new.text ≡ self.old.text }
     {
         self.left = self.rest.len();
+        self.was = self.stage;
         if let Stage::Over = self.stage {
             return Ok(None);
         }

@@ -2,13 +2,14 @@
 ghost use Rattle.std.specs.Prelude.{◌≡◌, ◌≢◌, [], ◌∷◌, ◌-◌, length, take, IfErr, IfOk, IfSome, MatchOption, OnOk, true};
 ghost use Rattle.json.specs.Print.{IsPrintable};
 ghost use Rattle.json.specs.Reads.{token_of};
-ghost use Rattle.yaml_json.specs.Failing.{FailedAtEnd, FailedInValue, emitter_error_of};
-ghost use Rattle.yaml_json.specs.Refused.{RefusesText};
+ghost use Rattle.yaml_json.specs.Failing.{FailedAtEnd, FailedInValue, Kept, emitter_error_of};
+ghost use Rattle.yaml_json.specs.Refused.{IsByText, RefusesText};
 ghost use Rattle.yaml_json.specs.Walk.{BeganFirstValue, BeginFailed, BeganValue, FirstFailed, IsInnermost, Refuses, RefusesFirst, RefusesToken};
 ghost use Rattle.yaml_json.specs.Walk.{StepFailed, Stepped};
+ghost use Rattle.yaml_json.specs.Reached.{LastRead};
 ghost use Rattle.yaml_json.specs.Names.{NamesOnce};
 ghost use Rattle.yaml_json.specs.Nests.{HasNoneOpen, IsNesting};
-ghost use Rattle.yaml_json.specs.Walk.{HasUniqueNames, Keeps, KeepsTo, LeavesNames, ReadsNone, WhyStopped, opener};
+ghost use Rattle.yaml_json.specs.Walk.{HasUniqueNames, Keeps, KeepsTo, LeavesNames, ReadsNone, StopsWriting, opener};
 ghost use Rattle.yaml_json.specs.Wrote.{Ends, IsBare, WroteDocument, WroteValue};
 
 use crate::names::Names;
@@ -26,15 +27,15 @@ pub(crate) enum Spot {
     At,
     /// It follows the last token, a string.
     PastString,
-    /// It follows a value: it is the last token, or the comma before that.
+    /// It follows the last token, with which a value is whole.
     PastValue,
 }
 
 /// Why a value isn't written.
 #[derive(Clone, Copy)]
 pub(crate) enum Stop {
-    /// A token can't stand where it stands, or the text ends too early.
-    NotJson,
+    /// A token can't stand where it stands, or the text ends too early, here.
+    NotJson(Spot),
     /// An array or an object lies too deep.
     TooDeep,
     /// The last token that was read is a name that its object has.
@@ -51,8 +52,6 @@ pub(crate) struct Nesting<'a, A: Allocator> {
     /// The innermost last.
     kinds: Vec<CollectionKind, A>,
     names: Names<'a, A>,
-    /// Where the token is that can't stand there, once there is one.
-    pub(crate) spot: Spot,
 }
 
 impl<'a, A: Allocator + Copy> Nesting<'a, A> {
@@ -63,7 +62,6 @@ impl<'a, A: Allocator + Copy> Nesting<'a, A> {
         Nesting {
             kinds: Vec::new(alloc),
             names: Names::new(alloc, unique_names),
-            spot: Spot::At,
         }
     }
 }
@@ -82,6 +80,8 @@ fn begin<'a, A: Allocator + Copy>(
     ensures fits { OnOk result (IsNesting settings.now.depth settings.now.unique_names nest.new) }
     ensures names { OnOk result (Keeps nest.old.names (opener kind ∷ []) nest.new.names) }
     ensures refused { IfErr result (RefusesToken settings.now.depth nest.old.kinds.items (opener kind)) }
+    ensures same { RefusesText result → writer.new ≡ writer.old }
+    ensures kept { Kept writer.old result writer.new }
     ensures stopped { IfSome (emitter_error_of writer.new result) (λ error. BeginFailed settings.now.depth settings.now.flow (opener kind) nest.old.kinds.items
         writer.old error writer.new) }
 {
@@ -113,6 +113,8 @@ fn write_token<'a, A: Allocator + Copy>(
     ensures fits { OnOk result (IsNesting settings.now.depth settings.now.unique_names nest.new) }
     ensures names { OnOk result (Keeps nest.old.names (token_of token.entry ∷ []) nest.new.names) }
     ensures refused { IfErr result (RefusesToken settings.now.depth nest.old.kinds.items (token_of token.entry)) }
+    ensures same { RefusesText result → writer.new ≡ writer.old }
+    ensures kept { Kept writer.old result writer.new }
     ensures stopped { IfSome (emitter_error_of writer.new result) (λ error. BeginFailed settings.now.depth settings.now.flow (token_of token.entry)
         nest.old.kinds.items writer.old error writer.new) }
 {
@@ -123,24 +125,23 @@ fn write_token<'a, A: Allocator + Copy>(
         Token::String(text) => write_text(writer, text),
         Token::BeginArray => begin(writer, nest, CollectionKind::Sequence, settings),
         Token::BeginObject => begin(writer, nest, CollectionKind::Mapping, settings),
-        Token::Key(_) => {
-            nest.spot = Spot::PastString;
-            Err(Stop::NotJson)
-        }
-        Token::EndObject | Token::EndArray | Token::Bad => Err(Stop::NotJson),
+        Token::Key(_) => Err(Stop::NotJson(Spot::PastString)),
+        Token::EndObject | Token::EndArray | Token::Bad => Err(Stop::NotJson(Spot::At)),
     }
 }
 
 /// The next token.
 #[inline(always)]
 fn next_token<'a, A: Allocator + Copy>(reader: &mut Tokens<'a, A>) -> Result<Token<'a>, Stop>
-    ensures first { IfOk result (λ token. reader.old ≡ token_of token ∷ reader.new) }
+    ensures first { IfOk result (λ token. reader.old.ahead ≡ token_of token ∷ reader.new.ahead) }
     ensures printable { IfOk result (λ token. token ≢ Token.Bad → IsPrintable (token_of token)) }
-    ensures refused { IfErr result (ReadsNone reader.old) }
+    ensures refused { IfErr result (ReadsNone reader.old.ahead) }
+    ensures before { reader.new.before ≡ reader.old.ahead }
+    ensures text { reader.new.text ≡ reader.old.text }
 {
     match reader.next() {
         Ok(Some(token)) => Ok(token),
-        Ok(None) => Err(Stop::NotJson),
+        Ok(None) => Err(Stop::NotJson(Spot::At)),
         Err(_) => Err(Stop::Memory),
     }
 }
@@ -155,12 +156,16 @@ fn write_first<'a, A: Allocator + Copy>(
 ) -> Result<(), Stop>
     requires bare { IsBare writer.old }
     requires fits { IsNesting settings.now.depth settings.now.unique_names nest.old }
-    ensures began { OnOk result (BeganFirstValue settings.now.depth settings.now.flow reader.old nest.old.kinds.items writer.old reader.new nest.new.kinds.items
+    ensures began { OnOk result (BeganFirstValue settings.now.depth settings.now.flow reader.old.ahead nest.old.kinds.items writer.old reader.new.ahead nest.new.kinds.items
         writer.new) }
     ensures fits { OnOk result (IsNesting settings.now.depth settings.now.unique_names nest.new) }
-    ensures names { OnOk result (KeepsTo nest.old.names reader.old reader.new nest.new.names) }
-    ensures refused { IfErr result (RefusesFirst settings.now.depth nest.old.kinds.items reader.old) }
-    ensures stopped { IfSome (emitter_error_of writer.new result) (λ error. FirstFailed settings.now.depth settings.now.flow reader.old
+    ensures names { OnOk result (KeepsTo nest.old.names reader.old.ahead reader.new.ahead nest.new.names) }
+    ensures refused { IfErr result (RefusesFirst settings.now.depth nest.old.kinds.items reader.old.ahead) }
+    ensures before { reader.new.before ≡ reader.old.ahead }
+    ensures text { reader.new.text ≡ reader.old.text }
+    ensures same { RefusesText result → writer.new ≡ writer.old }
+    ensures kept { Kept writer.old result writer.new }
+    ensures stopped { IfSome (emitter_error_of writer.new result) (λ error. FirstFailed settings.now.depth settings.now.flow reader.old.ahead
         nest.old.kinds.items writer.old error writer.new) }
 {
     let token = match next_token(reader) {
@@ -180,6 +185,7 @@ fn leave<'a, A: Allocator + Copy>(
     ensures names { LeavesNames nest.old.names nest.new.names }
     ensures ended { OnOk result (Ends writer.old writer.new) }
     ensures failed { RefusesText result → ⊥ }
+    ensures kept { Kept writer.old result writer.new }
     ensures stopped { IfSome (emitter_error_of writer.new result) (λ error. FailedAtEnd writer.old error writer.new) }
 {
     nest.names.leave();
@@ -187,7 +193,7 @@ fn leave<'a, A: Allocator + Copy>(
     end(writer)
 }
 
-/// The next tokens within the innermost collection, which is of this kind.
+/// Writes the next item or member of the innermost collection, which is of this kind, or ends it.
 fn write_next<'a, A: Allocator + Copy>(
     writer: &mut Writer<A>,
     reader: &mut Tokens<'a, A>,
@@ -198,12 +204,16 @@ fn write_next<'a, A: Allocator + Copy>(
     requires bare { IsBare writer.old }
     requires fits { IsNesting settings.now.depth settings.now.unique_names nest.old }
     requires innermost { IsInnermost kind nest.old.kinds.items }
-    ensures stepped { OnOk result (Stepped settings.now.depth settings.now.flow reader.old nest.old.kinds.items writer.old reader.new nest.new.kinds.items
+    ensures stepped { OnOk result (Stepped settings.now.depth settings.now.flow reader.old.ahead nest.old.kinds.items writer.old reader.new.ahead nest.new.kinds.items
         writer.new) }
     ensures fits { OnOk result (IsNesting settings.now.depth settings.now.unique_names nest.new) }
-    ensures names { OnOk result (KeepsTo nest.old.names reader.old reader.new nest.new.names) }
-    ensures refused { IfErr result (Refuses settings.now.depth settings.now.unique_names nest.old.kinds.items nest.old.names reader.old) }
-    ensures stopped { IfSome (emitter_error_of writer.new result) (λ error. StepFailed settings.now.depth settings.now.flow reader.old
+    ensures names { OnOk result (KeepsTo nest.old.names reader.old.ahead reader.new.ahead nest.new.names) }
+    ensures refused { IfErr result (λ stop. IsByText stop → Refuses settings.now.depth settings.now.unique_names settings.now.flow nest.old.kinds.items
+        nest.old.names reader.old.ahead reader.new.before writer.old stop writer.new) }
+    ensures text { reader.new.text ≡ reader.old.text }
+    ensures last { OnOk result (LastRead reader.old reader.new) }
+    ensures kept { Kept writer.old result writer.new }
+    ensures stopped { IfSome (emitter_error_of writer.new result) (λ error. StepFailed settings.now.depth settings.now.flow reader.old.ahead
         nest.old.kinds.items writer.old error writer.new) }
 {
     let token = match next_token(reader) {
@@ -229,11 +239,8 @@ fn write_next<'a, A: Allocator + Copy>(
                     write_first(writer, reader, nest, settings)
                 }
             },
-            Token::String(_) => {
-                nest.spot = Spot::PastString;
-                Err(Stop::NotJson)
-            }
-            _ => Err(Stop::NotJson),
+            Token::String(_) => Err(Stop::NotJson(Spot::PastString)),
+            _ => Err(Stop::NotJson(Spot::At)),
         },
     }
 }
@@ -255,10 +262,14 @@ fn write_value<'a, A: Allocator + Copy>(
     requires bare { IsBare writer.old }
     requires none { HasNoneOpen settings.now.unique_names nest.old }
     ensures none { OnOk result (HasNoneOpen settings.now.unique_names nest.new) }
-    ensures written { OnOk result (WroteValue settings.now.depth settings.now.flow reader.old writer.old reader.new writer.new) }
-    ensures names { OnOk result (HasUniqueNames settings.now.unique_names reader.old reader.new) }
-    ensures refused { IfErr result (WhyStopped settings.now.depth settings.now.unique_names reader.old) }
-    ensures stopped { IfSome (emitter_error_of writer.new result) (λ error. FailedInValue settings.now.depth settings.now.flow reader.old writer.old error
+    ensures written { OnOk result (WroteValue settings.now.depth settings.now.flow reader.old.ahead writer.old reader.new.ahead writer.new) }
+    ensures names { OnOk result (HasUniqueNames settings.now.unique_names reader.old.ahead reader.new.ahead) }
+    ensures refused { IfErr result (λ stop. IsByText stop → StopsWriting settings.now.depth settings.now.unique_names settings.now.flow reader.old.ahead
+        reader.new.before writer.old stop writer.new) }
+    ensures text { reader.new.text ≡ reader.old.text }
+    ensures last { OnOk result (LastRead reader.old reader.new) }
+    ensures kept { Kept writer.old result writer.new }
+    ensures stopped { IfSome (emitter_error_of writer.new result) (λ error. FailedInValue settings.now.depth settings.now.flow reader.old.ahead writer.old error
         writer.new) }
 {
     if let Err(stop) = write_first(writer, reader, nest, settings) {
@@ -282,21 +293,21 @@ pub(crate) fn write_only_value<'a, A: Allocator + Copy>(
     requires bare { IsBare writer.old }
     requires none { HasNoneOpen settings.now.unique_names nest.old }
     ensures none { OnOk result (HasNoneOpen settings.now.unique_names nest.new) }
-    ensures written { OnOk result (WroteDocument settings.now.depth settings.now.flow reader.old writer.old writer.new) }
-    ensures names { OnOk result (settings.now.unique_names ≡ true → NamesOnce [] reader.old) }
-    ensures refused { IfErr result (WhyStopped settings.now.depth settings.now.unique_names reader.old) }
-    ensures stopped { IfSome (emitter_error_of writer.new result) (λ error. FailedInValue settings.now.depth settings.now.flow reader.old writer.old error
+    ensures written { OnOk result (WroteDocument settings.now.depth settings.now.flow reader.old.ahead writer.old writer.new) }
+    ensures names { OnOk result (settings.now.unique_names ≡ true → NamesOnce [] reader.old.ahead) }
+    ensures refused { IfErr result (λ stop. IsByText stop → StopsWriting settings.now.depth settings.now.unique_names settings.now.flow reader.old.ahead
+        reader.new.before writer.old stop writer.new) }
+    ensures text { reader.new.text ≡ reader.old.text }
+    ensures kept { Kept writer.old result writer.new }
+    ensures stopped { IfSome (emitter_error_of writer.new result) (λ error. FailedInValue settings.now.depth settings.now.flow reader.old.ahead writer.old error
         writer.new) }
 {
     if let Err(stop) = write_value(nest, writer, reader, settings) {
         return Err(stop);
     }
-    match reader.next() {
-        Ok(None) => Ok(()),
-        Ok(Some(_token)) => {
-            nest.spot = Spot::PastValue;
-            Err(Stop::NotJson)
-        }
-        Err(_) => Err(Stop::Memory),
+    if reader.is_at_end() {
+        Ok(())
+    } else {
+        Err(Stop::NotJson(Spot::PastValue))
     }
 }

@@ -1,6 +1,6 @@
 //! Words of a JSON text: numbers, and the names of three values. Each part of a number is taken by a text and a place in it, and
 //! returns where what follows begins.
-ghost use Rattle.std.specs.Prelude.{◌≡◌, ◌≢◌, ℕ, ◌+◌, ◌<◌, ◌≤◌, ◌||◌, Bool, drop, length, map};
+ghost use Rattle.std.specs.Prelude.{◌≡◌, ◌≢◌, ℕ, ◌+◌, ◌<◌, ◌≤◌, ◌||◌, Bool, IfSome, drop, length, map};
 ghost use Rattle.std.specs.Char.{is_ascii_digit};
 ghost use Rattle.std.specs.List.{prefix_len};
 ghost use Rattle.std.specs.Simd.Lanes.{mask_l};
@@ -8,6 +8,7 @@ ghost use Rattle.json.specs.Reads.{token_of};
 ghost use Rattle.json.specs.Word.{after_digits, after_exponent, after_fraction, after_minus, after_number, after_sign, after_whole, ends_word, head};
 ghost use Rattle.json.specs.Word.{is_operator, is_space, literal, number_before, word};
 ghost use Rattle.json.specs.Token.{bad};
+ghost use Rattle.yaml_json.specs.Lexing.{EndsWord};
 ghost use Rattle.yaml_json.specs.Lexemes.{IsInWord, LeavesAt, ReadsWord, is_no_digit};
 
 use json::Token;
@@ -147,7 +148,8 @@ fn number_end(text: &[u8]) -> Option<usize>
 /// The number that a text begins with, and what follows it.
 #[inline(always)]
 fn number<'a>(text: &'a str) -> Option<(Token<'a>, &'a str)>
-    ensures { ReadsWord text.now (number_before text.now (after_number text.now)) result }
+    ensures reads { ReadsWord text.now (number_before text.now (after_number text.now)) result }
+    ensures over { IfSome result (λ part. EndsWord text.now part.1.now) }
 {
     let bytes = text.as_bytes();
     match number_end(bytes) {
@@ -167,7 +169,8 @@ fn number<'a>(text: &'a str) -> Option<(Token<'a>, &'a str)>
 fn literal<'a>(text: &'a str, name: &[u8], token: Token<'a>) -> Option<(Token<'a>, &'a str)>
     requires name { IsInWord name.now }
     requires good { token_of token ≢ bad }
-    ensures { ReadsWord text.now (literal name.now (token_of token.entry) text.now) result }
+    ensures reads { ReadsWord text.now (literal name.now (token_of token.entry) text.now) result }
+    ensures over { IfSome result (λ part. EndsWord text.now part.1.now) }
 {
     let bytes = text.as_bytes();
     if bytes.starts_with(name) && is_delimiter(byte_at(bytes, name.len())) {
@@ -180,7 +183,8 @@ fn literal<'a>(text: &'a str, name: &[u8], token: Token<'a>) -> Option<(Token<'a
 /// The token of the word that a text begins with, and what follows the word; `None` where the word is no token.
 #[inline(always)]
 pub(crate) fn word<'a>(text: &'a str) -> Option<(Token<'a>, &'a str)>
-    ensures { ReadsWord text.now (word text.now) result }
+    ensures reads { ReadsWord text.now (word text.now) result }
+    ensures over { IfSome result (λ part. EndsWord text.now part.1.now) }
 {
     match byte_at(text.as_bytes(), 0) {
         b't' => literal(text, b"true", Token::Bool(true)),

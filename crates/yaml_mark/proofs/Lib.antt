@@ -2,4 +2,5 @@ pub mod Common
 pub mod HandleLemmas
 pub mod DirectiveLemmas
 pub mod TagLemmas
+pub mod IndexLemmas
 pub mod EscapingLemmas

@@ -102,7 +102,7 @@ fits_by_bytes prefix tag u v = same_from_decides _ _ (by_bytes prefix tag) (by_c
 
 -- The first directive that fits.
 
-abbrev first_place : {X : Type 0} → (X → Bool) → List X → Option ℕ
+abbrev pub first_place : {X : Type 0} → (X → Bool) → List X → Option ℕ
 first_place p [] = None
 first_place p (x ∷ xs) = cond (p x) (Some 0) (option_map suc (first_place p xs))
 
@@ -116,7 +116,7 @@ at_first false n l =
     (λ h. rw (le-ltb (1 + n) (suc l) (omega arith), le-ltb n l h) refl)
     (cases_lt n l)
 
-position-first : {X : Type 0} (p : X → Bool) (xs : List X) → position p xs ≡ first_place p xs
+pub position-first : {X : Type 0} (p : X → Bool) (xs : List X) → position p xs ≡ first_place p xs
 position-first p [] = refl
 position-first p (x ∷ xs) =
     at_first (p x) (position_or_len p xs) (length xs) ∙ ap (λ o. cond (p x) (Some 0) (option_map suc o)) (position-first p xs)

@@ -2,6 +2,7 @@
 #![tactic(auto)]
 
 mod directives;
+mod index;
 mod laws;
 mod names;
 mod tags;

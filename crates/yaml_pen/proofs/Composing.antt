@@ -159,8 +159,7 @@ flushed_wrote {before} {after} {answer} ready flushed =
       grew = record { prefix = []; rest = []; parts = refl; grown = text ∙ sym (append-nil before.text) };
       output = flushed.output;
       all = λ none. record { no_error = (flushed.all none).0; text = text ∙ sym (append-nil before.text); cursor = ap (λ (p : Page). p.cursor) flushed.kept };
-      stopped = λ some. flushed.stopped some
-          ∙ ap (λ (c : Cursor). let p : Page = record before { cursor = c } in p) (sym (ap (λ (p : Page). p.cursor) flushed.kept));
+      stopped = flushed.stopped;
     }
 
 -- nothing that was written is lost by a call that writes, or by a flush

@@ -37,7 +37,7 @@ Wrote-refused-page encoding line_break bytes before after whitespace indention d
       };
       output = appended.output;
       all = λ none. absurd (some_is_not_none after.error error failed none);
-      stopped = λ some. subst (λ (b : Bytes). page b ≡ record (page before) { cursor = (page b).cursor }) (sym (appended.stopped some)) refl;
+      stopped = λ some. ap page (appended.stopped some);
     }
 
 pub Wrote-refused : (encoding : yaml_encoding_t) (line_break : yaml_break_t) (bytes : List ℕ) (before after : Bytes) (whitespace indention due : Bool)
@@ -50,11 +50,3 @@ pub Wrote-refused : (encoding : yaml_encoding_t) (line_break : yaml_break_t) (by
 Wrote-refused encoding line_break bytes before after whitespace indention due column page render error pen appended viewed =
     let P : Page → Type 0 = λ p. IsReady p → Wrote render p (page_of encoding due line_break after whitespace indention) (Err error) in
     subst P viewed (Wrote-refused-page encoding line_break bytes before after whitespace indention due column render error pen appended)
-
--- a pen that failed before stays as it is
-pub refused_stays : (encoding : yaml_encoding_t) (line_break : yaml_break_t) (whitespace indention due : Bool) {before after : Bytes} {page : Page}
-    → page_of encoding due line_break before whitespace indention ≡ page → (IsSome before.error → after ≡ before)
-    → IsSome page.error → page_of encoding due line_break after whitespace indention ≡ page
-refused_stays encoding line_break whitespace indention due {before} {after} {page} viewed stopped some =
-    ap (λ (b : Bytes). page_of encoding due line_break b whitespace indention)
-    (stopped (subst (λ (p : Page). IsSome p.error) (sym viewed) some)) ∙ viewed

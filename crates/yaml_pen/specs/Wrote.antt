@@ -39,7 +39,7 @@ pub record WroteAll (render : Cursor → Rendered) (before after : Page) : Type 
 
 -- a call that writes what a layout puts at the cursor, or fails on the way: the answer tells the pen's
 -- error; settings stay; the text grows by a prefix of the named text, by all of it where there is no error;
--- the output grows too; a pen that failed before keeps all but its cursor; the output is a prefix of the bytes
+-- the output grows too; a pen that failed before stays as it is; the output is a prefix of the bytes
 pub record Wrote (render : Cursor → Rendered) (before after : Page) (answer : Result (Unit {0}) yaml_error_t) : Type 0 where
   pub answered : answer ≡ result_of_error after.error
   pub ready : IsReady after
@@ -48,7 +48,7 @@ pub record Wrote (render : Cursor → Rendered) (before after : Page) (answer : 
   pub grew : AppendsPrefixOf before.text (named_text render before) after.text
   pub output : IsPrefix before.output after.output
   pub all : after.error ≡ None → WroteAll render before after
-  pub stopped : IsSome before.error → after ≡ record before { cursor = after.cursor }
+  pub stopped : IsSome before.error → after ≡ before
 
 -- a flush: only output and error change, and the output only grows; after Ok it is all bytes of the text so far;
 -- after the limit's error their first bytes up to the limit; where memory is refused, the output is as it was;

@@ -7,7 +7,7 @@ ghost use Rattle.yaml_pen.specs.Page.{buffer_size};
 
 use yaml_base::is_break;
 
-/// The column after a character.
+/// Returns the column after a character.
 pub(crate) fn next_column(character: char, column: u32) -> u32
     ensures { (unbounded : ℕ) → column ≡ min unbounded 4294967295 → result ≡ min (next_column character unbounded) 4294967295 }
 {
@@ -18,14 +18,14 @@ pub(crate) fn next_column(character: char, column: u32) -> u32
     }
 }
 
-/// Whether a byte is the first of a character.
+/// Returns whether a byte is the first of a character.
 fn begins_character(byte: u8) -> bool
     ensures { result ≡ is_char_start byte }
 {
     byte < 0x80 || byte >= 0xC0
 }
 
-/// How many characters a text has that fits the buffer: as many as bytes that begin one.
+/// Returns how many characters a text has that fits the buffer: as many as bytes that begin one.
 pub(crate) fn character_count(text: &str) -> u32
     requires { length text.now ≤ buffer_size }
     ensures { result ≡ length (chars text.now) }

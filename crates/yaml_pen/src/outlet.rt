@@ -108,7 +108,7 @@ impl<A: Allocator> Outlet<A> {
         }
     }
 
-    /// What the caller hasn't taken of the output.
+    /// Returns what the caller hasn't taken of the output.
     #[tactic(auto, unfolding(crate::specs::Outlet::whole_output))]
     pub(crate) fn output(&self) -> &[u8]
         ensures { result.now ≡ drop self.now.taken self.now.output }

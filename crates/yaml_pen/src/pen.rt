@@ -43,8 +43,7 @@ impl<A: Allocator> Model for Pen<A> {
 }
 
 impl<A: Allocator> Pen<A> {
-    /// A pen at the start of a text, with no limit below `usize::MAX`. Returns `Memory` if its buffer
-    /// can't be allocated.
+    /// Makes a pen at the start of a text, with no limit below `usize::MAX`. Returns `Memory` if its buffer can't be allocated.
     #[tactic(auto, unfolding(yaml_base::specs::Decode::decode))]
     pub fn new(alloc: A) -> Result<Pen<A>, yaml_error_t>
     where
@@ -90,7 +89,7 @@ impl<A: Allocator> Pen<A> {
         self.line_break = line_break;
     }
 
-    /// Whether the byte order mark still has to be written.
+    /// Returns whether the byte order mark still has to be written.
     pub fn is_bom_due(&self) -> bool
         ensures { result ≡ self.now.bom_due }
     {
@@ -120,7 +119,7 @@ impl<A: Allocator> Pen<A> {
         self.outlet.flush()
     }
 
-    /// The flushed bytes not yet taken.
+    /// Returns the flushed bytes not yet taken.
     pub fn output(&self) -> &[u8]
         ensures value { result.now ≡ output_left self.now }
         ensures untaken { self.now.taken ≡ 0 → result.now ≡ self.now.output }
@@ -152,7 +151,7 @@ impl<A: Allocator> Pen<A> {
         self.outlet.consume_output();
     }
 
-    /// The first error.
+    /// Returns the first error.
     pub fn error(&self) -> Option<yaml_error_t>
         ensures value { result ≡ self.now.error }
         ensures sound_output { IsFlushedOutput (encoded self.now) self.now.output self.now.limit self.now.error }
@@ -174,21 +173,21 @@ impl<A: Allocator> Pen<A> {
         self.indention = indention;
     }
 
-    /// Whether white space stands before the cursor.
+    /// Returns whether white space stands before the cursor.
     pub fn whitespace(&self) -> bool
         ensures { result ≡ self.now.cursor.whitespace }
     {
         self.whitespace
     }
 
-    /// Whether nothing but indentation, and indicators that may stand in it, stands before the cursor.
+    /// Returns whether nothing but indentation, and indicators that may stand in it, stands before the cursor.
     pub fn indention(&self) -> bool
         ensures { result ≡ self.now.cursor.indention }
     {
         self.indention
     }
 
-    /// The column of the next character, counted in characters; `i32::MAX` stands for that and all above.
+    /// Returns the column of the next character, counted in characters; `i32::MAX` stands for that and all above.
     pub fn column(&self) -> i32
         ensures { result ≡ pos (min self.now.cursor.column largest_i32) }
     {

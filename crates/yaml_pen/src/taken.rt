@@ -15,14 +15,14 @@ impl Model for TakenBytes {
 }
 
 impl TakenBytes {
-    /// Nothing is taken yet.
+    /// Makes the list of no bytes: nothing is taken yet.
     pub(crate) fn new() -> TakenBytes
         ensures { result.bytes ≡ [] }
     {
         TakenBytes {}
     }
 
-    /// More bytes are taken.
+    /// Adds more bytes that are taken.
     pub(crate) fn with(&self, _more: &[u8]) -> TakenBytes
         ensures { result.bytes ≡ self.now.bytes ++ _more.now }
     {

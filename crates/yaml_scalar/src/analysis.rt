@@ -36,7 +36,7 @@ struct CharacterSet {
     breaks12: bool,
 }
 
-/// Whether some character that was read is a break, or one that no text of a kind holds.
+/// The styles ruled out so far, and whether a line break was read.
 #[derive(Clone, Copy)]
 struct BarredStyles {
     multiline: bool,
@@ -72,8 +72,8 @@ pub fn analyze_scalar(value: &str, unicode: bool, breaks12: bool) -> scalar_data
     data_of(value, with_break(barred, rest))
 }
 
-/// Analyses a scalar's value as far as the choice of its style goes by it: `select_scalar_style` chooses by the
-/// result as by that of `analyze_scalar`. A value that only double quotes can write isn't searched for breaks.
+/// Analyses a scalar's value as `analyze_scalar`, but `multiline` may be wrong if only double quotes fit:
+/// `select_scalar_style` chooses by either result alike.
 pub fn analyze_for_style(value: &str, unicode: bool, breaks12: bool) -> scalar_data_t
     ensures { ChooseAlike (seen_data result) (spec.allowances (record { unicode = unicode; breaks12 = breaks12 }) (chars value.now)) }
 {
@@ -81,7 +81,7 @@ pub fn analyze_for_style(value: &str, unicode: bool, breaks12: bool) -> scalar_d
     data_of(value, barred)
 }
 
-/// What a value allows, by what its characters bar.
+/// Returns what a value allows, by what its characters bar.
 fn data_of(value: &str, barred: BarredStyles) -> scalar_data_t
     ensures { seen_data result ≡ allowed_by (seen_barred barred) (chars value.now) }
 {
@@ -96,14 +96,14 @@ fn data_of(value: &str, barred: BarredStyles) -> scalar_data_t
     }
 }
 
-/// Whether a gap or the end comes next.
+/// Returns whether a gap or the end comes next.
 fn ends_word(rest: &str) -> bool
     ensures { result ≡ spec.ends_word (chars rest.now) }
 {
     rest.chars().next().is_none_or(is_gap)
 }
 
-/// Whether a break comes next.
+/// Returns whether a break comes next.
 fn begins_with_break(rest: &str) -> bool
     ensures { result ≡ spec.begins_with class.is_break (chars rest.now) }
 {
@@ -113,7 +113,7 @@ fn begins_with_break(rest: &str) -> bool
     }
 }
 
-/// Whether a character can't stand as itself, so that only double quotes can write it.
+/// Returns whether a character can't stand as itself, so that only double quotes can write it.
 fn is_special(c: char, charset: CharacterSet) -> bool
     ensures { result ≡ spec.is_special (seen_charset charset) c }
 {
@@ -122,14 +122,14 @@ fn is_special(c: char, charset: CharacterSet) -> bool
         || (charset.breaks12 && matches!(c, '\u{2028}' | '\u{2029}'))
 }
 
-/// Whether no character is left.
+/// Returns whether no character is left.
 pub(crate) fn is_at_end(rest: &str) -> bool
     ensures { result ≡ spec.is_empty (chars rest.now) }
 {
     rest.chars().next().is_none()
 }
 
-/// Whether a text begins with `---` or `...`.
+/// Returns whether a text begins with `---` or `...`.
 fn begins_like_marker(value: &str) -> bool
     ensures { result ≡ spec.begins_like_marker (chars value.now) }
 {
@@ -140,7 +140,7 @@ fn begins_like_marker(value: &str) -> bool
     }
 }
 
-/// Whether a value, which begins with `c` before `rest`, begins as no plain text may.
+/// Returns whether a value, which begins with `c` before `rest`, begins as no plain text may.
 fn first_bars_plain(value: &str, c: char, rest: &str) -> bool
     ensures { result ≡ (class.is_space c || spec.begins_like_marker (chars value.now) || spec.is_indicator c
         || (class.is_among (codes "?:-") c && spec.ends_word (chars rest.now))) }
@@ -151,7 +151,7 @@ fn first_bars_plain(value: &str, c: char, rest: &str) -> bool
         || (matches!(c, '?' | ':' | '-') && ends_word(rest))
 }
 
-/// Whether a value begins as no plain text may.
+/// Returns whether a value begins as no plain text may.
 fn begins_unlike_plain(value: &str) -> bool
     ensures { result ≡ spec.begins_unlike_plain (chars value.now) }
 {
@@ -163,21 +163,21 @@ fn begins_unlike_plain(value: &str) -> bool
     }
 }
 
-/// Whether `:` stands before a gap or the end.
+/// Returns whether `:` stands before a gap or the end.
 fn is_key(c: char, rest: &str) -> bool
     ensures { result ≡ c == 58 && spec.ends_word (chars rest.now) }
 {
     c == ':' && ends_word(rest)
 }
 
-/// Whether `:` stands before a gap or the end, or a gap before `#`.
+/// Returns whether `:` stands before a gap or the end, or a gap before `#`.
 fn is_key_or_comment(c: char, rest: &str) -> bool
     ensures { result ≡ spec.is_key_or_comment c (chars rest.now) }
 {
     is_key(c, rest) || (is_gap(c) && begins_with_hash(rest))
 }
 
-/// Whether `#` comes next.
+/// Returns whether `#` comes next.
 fn begins_with_hash(rest: &str) -> bool
     ensures { result ≡ spec.begins_with (λ d. d == 35) (chars rest.now) }
 {
@@ -187,7 +187,7 @@ fn begins_with_hash(rest: &str) -> bool
     }
 }
 
-/// Whether a space comes next.
+/// Returns whether a space comes next.
 pub(crate) fn begins_with_space(rest: &str) -> bool
     ensures { result ≡ spec.begins_with class.is_space (chars rest.now) }
 {
@@ -197,7 +197,7 @@ pub(crate) fn begins_with_space(rest: &str) -> bool
     }
 }
 
-/// Whether no plain text holds this character before what follows it.
+/// Returns whether no plain text holds this character before what follows it.
 fn bars_plain(c: char, rest: &str, charset: CharacterSet, context: Context) -> bool
     ensures { result ≡ spec.bars_plain (seen_charset charset) (is_flow context) c (chars rest.now) }
 {
@@ -208,28 +208,28 @@ fn bars_plain(c: char, rest: &str, charset: CharacterSet, context: Context) -> b
         || (matches!(context, Context::Flow) && is_flow_indicator(c))
 }
 
-/// Whether a space stands before a break.
+/// Returns whether a space stands before a break.
 fn is_trailing_space(c: char, rest: &str) -> bool
     ensures { result ≡ spec.is_trailing_space c (chars rest.now) }
 {
     is_space(c) && begins_with_break(rest)
 }
 
-/// Whether no single-quoted text holds this character before what follows it.
+/// Returns whether no single-quoted text holds this character before what follows it.
 fn bars_single_quoted(c: char, rest: &str, charset: CharacterSet) -> bool
     ensures { result ≡ spec.bars_single_quoted (seen_charset charset) c (chars rest.now) }
 {
     is_special(c, charset) || is_trailing_space(c, rest) || (is_break(c) && begins_with_space(rest))
 }
 
-/// Whether no block text holds this character before what follows it.
+/// Returns whether no block text holds this character before what follows it.
 fn bars_block(c: char, rest: &str, charset: CharacterSet) -> bool
     ensures { result ≡ spec.bars_block (seen_charset charset) c (chars rest.now) }
 {
     is_special(c, charset) || is_trailing_space(c, rest) || (is_space(c) && is_at_end(rest))
 }
 
-/// What was read, and an indicator of flow collections, which only plain text may not hold.
+/// Returns what was read, and an indicator of flow collections, which only plain text may not hold.
 fn with_flow_indicator(barred: BarredStyles, c: char, rest: &str) -> BarredStyles
     ensures { seen_barred result ≡ with_indicator (seen_barred barred) c (chars rest.now) }
 {
@@ -240,7 +240,7 @@ fn with_flow_indicator(barred: BarredStyles, c: char, rest: &str) -> BarredStyle
     }
 }
 
-/// What was read, and the next character, seen with what follows it.
+/// Returns what was read, and the next character, seen with what follows it.
 #[inline(always)]
 fn with_next(barred: BarredStyles, c: char, rest: &str, charset: CharacterSet) -> BarredStyles
     ensures { seen_barred result ≡ either (seen_barred barred) (barred_by (seen_charset charset) c (chars rest.now)) }
@@ -260,7 +260,7 @@ fn with_next(barred: BarredStyles, c: char, rest: &str, charset: CharacterSet) -
     }
 }
 
-/// The classes of bytes at which a value is looked at closely.
+/// Returns the classes of bytes at which a value is looked at closely.
 fn significant_classes(charset: CharacterSet) -> u8
     ensures { ImpliesTest result (is_quiet (seen_charset charset)) }
 {
@@ -271,7 +271,7 @@ fn significant_classes(charset: CharacterSet) -> u8
     }
 }
 
-/// What was read, and a space, if this is one, before the rest.
+/// Returns what was read, and a space, if this is one, before the rest.
 #[inline(always)]
 fn with_space(barred: BarredStyles, last: char, rest: &str, charset: CharacterSet) -> BarredStyles
     ensures { seen_barred result ≡ either (seen_barred barred) (barred_by_space (seen_charset charset) last (chars rest.now)) }
@@ -283,8 +283,7 @@ fn with_space(barred: BarredStyles, last: char, rest: &str, charset: CharacterSe
     }
 }
 
-/// What was read, and the next characters that bar nothing, unless the last of them is a space; and what
-/// follows them.
+/// Skips ordinary characters; returns the result, in which a space at their end counts, and the rest.
 #[inline(always)]
 fn skip_quiet(barred: BarredStyles, text: &str, charset: CharacterSet) -> (BarredStyles, &str)
     ensures same { either (seen_barred barred) (barred_in (seen_charset charset) (chars text.now))
@@ -299,14 +298,14 @@ fn skip_quiet(barred: BarredStyles, text: &str, charset: CharacterSet) -> (Barre
     )
 }
 
-/// Whether only double quotes can write what was read.
+/// Returns whether only double quotes can write what was read.
 fn bars_all(barred: BarredStyles) -> bool
     ensures { result ≡ all_styles (seen_barred barred) }
 {
     barred.flow_plain && barred.block_plain && barred.single_quoted && barred.block
 }
 
-/// The text after the next characters none of which is a break.
+/// Returns the text after the next characters none of which is a break.
 fn skip_unbroken(text: &str) -> &str
     ensures same { list_any class.is_break (chars text.now) ≡ list_any class.is_break (chars result.now) }
     ensures shorter { length result.now ≤ length text.now }
@@ -315,7 +314,7 @@ fn skip_unbroken(text: &str) -> &str
     rest
 }
 
-/// Whether some character of a text is a break.
+/// Returns whether some character of a text is a break.
 pub fn holds_break(text: &str) -> bool
     ensures { result ≡ list_any class.is_break (chars text.now) }
 {
@@ -332,7 +331,7 @@ pub fn holds_break(text: &str) -> bool
     false
 }
 
-/// What was read, which bars all, and whether a break follows.
+/// Returns what was read, which bars all, and whether a break follows.
 fn with_break(barred: BarredStyles, rest: &str) -> BarredStyles
     ensures { seen_barred result ≡ record (seen_barred barred) { multiline = barred.multiline || list_any class.is_break (chars rest.now) } }
 {
@@ -342,7 +341,7 @@ fn with_break(barred: BarredStyles, rest: &str) -> BarredStyles
     }
 }
 
-/// What the characters of a value bar, as far as it was read, and the rest: none unless all is barred.
+/// Returns what the characters of a value bar, as far as it was read, and the rest: none unless all is barred.
 fn barred_before(value: &str, charset: CharacterSet) -> (BarredStyles, &str)
     ensures same { record (seen_barred result.0) { multiline = result.0.multiline || list_any class.is_break (chars result.1.now) }
         ≡ barred_in (seen_charset charset) (chars value.now) }

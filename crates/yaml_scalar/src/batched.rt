@@ -16,7 +16,7 @@ const LONGEST_ESCAPE: usize = 10;
 /// The texts of characters, one after another.
 pub(crate) type BatchBytes = ArrayVec<u8, MOST_BYTES>;
 
-/// Whether a character is no space, and its text is ASCII.
+/// Returns whether a character is no space, and its text is ASCII.
 #[inline(always)]
 fn is_batched(c: char, unicode: bool) -> bool
     ensures { result ≡ is_batched unicode c }
@@ -60,7 +60,7 @@ fn append_character(bytes: &mut BatchBytes, c: char, unicode: bool)
     }
 }
 
-/// The next character, if it belongs to the batch and there is room for it, and what follows it.
+/// Returns the next character, if it belongs to the batch and there is room for it, and what follows it.
 #[inline(always)]
 fn next_batched(text: &str, room: usize, unicode: bool) -> Option<(char, &str)>
     ensures fits { IfSome result (λ next. longest_escape ≤ room) }

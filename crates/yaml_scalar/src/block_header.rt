@@ -68,7 +68,7 @@ pub(crate) fn write_header<A: Allocator>(
     end_header(pen)
 }
 
-/// The open-ended state that a value's header leaves.
+/// Returns the open-ended state that a value's header leaves.
 pub(crate) fn open_ended(value: &str) -> i32
     ensures { result ≡ pos (layout.header_open_ended (chars value.now)) }
 {
@@ -151,8 +151,9 @@ fn write_hint<A: Allocator>(pen: &mut Pen<A>, hint: u8) -> Result<(), yaml_error
     Ok(())
 }
 
-/// Whether the first line would not show the indentation.
-fn begins_blank(value: &str) -> bool
+/// Returns whether a value begins with a space or a break, so that a block scalar's first line doesn't show the indentation and
+/// its header has a digit.
+pub fn begins_blank(value: &str) -> bool
     ensures { result ≡ layout.begins_blank (chars value.now) }
 {
     match value.chars().next() {
@@ -161,7 +162,7 @@ fn begins_blank(value: &str) -> bool
     }
 }
 
-/// Not in a break, in exactly one break after another character, or otherwise.
+/// Returns how a value ends: not in a break, in exactly one break after another character, or otherwise.
 fn value_ending(value: &str) -> Ending
     ensures { seen_ending result ≡ layout.ending (chars value.now) }
 {

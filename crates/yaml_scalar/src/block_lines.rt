@@ -82,7 +82,7 @@ fn write_step<A: Allocator>(
     }
 }
 
-/// A character of a line.
+/// Writes a character of a line.
 fn write_inner<A: Allocator>(
     pen: &mut Pen<A>,
     lines: BlockLines,
@@ -108,7 +108,7 @@ fn write_inner<A: Allocator>(
     }
 }
 
-/// The first character of a line.
+/// Writes the first character of a line.
 fn write_first<A: Allocator>(
     pen: &mut Pen<A>,
     character: char,
@@ -133,7 +133,7 @@ fn write_fold<A: Allocator>(pen: &mut Pen<A>, indent: i32) -> Result<(), yaml_er
     Ok(())
 }
 
-/// Where the next character stands.
+/// Returns where the next character stands.
 fn place_after(style: BlockStyle, place: Place, character: char) -> Place
     ensures { result ≡ step.place_after (is_folded style) place character }
 {
@@ -147,7 +147,7 @@ fn place_after(style: BlockStyle, place: Place, character: char) -> Place
     }
 }
 
-/// A line that begins with a space is never folded.
+/// Returns the place in a line that begins with this character. A line that begins with a space is never folded.
 fn place_in_line(style: BlockStyle, first: char) -> Place
     ensures { result ≡ step.place_in_line (is_folded style) first }
 {
@@ -157,8 +157,8 @@ fn place_in_line(style: BlockStyle, first: char) -> Place
     }
 }
 
-/// The run that follows a character, seen from where it stands: none where a line begins; a space ends it
-/// where it may become a fold.
+/// Returns the run that follows a character, seen from where it stands: none where a line begins; a space ends it where it may
+/// become a fold.
 fn run_after(character: char, rest: &str, place: Place, lines: BlockLines) -> Run
     ensures { IsRun (step.stays_at (limit_of lines.width) place) character rest.now result.length result.last }
 {
@@ -184,14 +184,14 @@ fn run_after(character: char, rest: &str, place: Place, lines: BlockLines) -> Ru
     }
 }
 
-/// Whether a character is the last space of a run, past the width.
+/// Returns whether a character is the last space of a run, past the width.
 fn folds<A: Allocator>(pen: &Pen<A>, width: i32, character: char, rest: &str) -> bool
     ensures { result ≡ layout.folds (limit_of width) pen.now.cursor.column character (chars rest.now) }
 {
     is_space(character) && !begins_with_space(rest) && is_past_width(pen, width)
 }
 
-/// Whether the next line, past the breaks that come first, begins without a space.
+/// Returns whether the next line, past the breaks that come first, begins without a space.
 fn next_line_unindented(rest: &str) -> bool
     ensures { result ≡ layout.next_line_unindented (parts (chars rest.now)) }
 {
@@ -204,7 +204,7 @@ fn next_line_unindented(rest: &str) -> bool
     false
 }
 
-/// Whether a LF would be folded, so that it is written twice.
+/// Returns whether a LF would be folded, so that it is written twice.
 fn is_doubled(place: Place, character: char, rest: &str) -> bool
     ensures { result ≡ step.is_doubled place character (chars rest.now) }
 {
@@ -214,7 +214,7 @@ fn is_doubled(place: Place, character: char, rest: &str) -> bool
     }
 }
 
-/// A character that stays on its line.
+/// Writes a character that stays on its line.
 fn write_content<A: Allocator>(pen: &mut Pen<A>, character: char) -> Result<(), yaml_error_t>
     requires ready { IsReady pen.old }
     requires no_break { class.is_break character ≡ false }
@@ -235,7 +235,7 @@ fn write_broken<A: Allocator>(pen: &mut Pen<A>, character: char) -> Result<(), y
     Ok(())
 }
 
-/// A break, once or twice.
+/// Writes a break, once or twice.
 fn write_end<A: Allocator>(
     pen: &mut Pen<A>,
     twice: bool,

@@ -6,14 +6,14 @@ ghost use Rattle.yaml_scalar.specs.Barred.{is_ordinary};
 
 use yaml_base::{is_blank, is_break};
 
-/// Whether a character is a blank, a break or NUL.
+/// Returns whether a character is a blank, a break or NUL.
 pub(crate) fn is_gap(c: char) -> bool
     ensures { result ≡ spec.is_gap c }
 {
     is_blank(c) || is_break(c) || c == '\0'
 }
 
-/// Whether a first character means something else than plain text.
+/// Returns whether a first character means something else than plain text.
 pub(crate) fn is_indicator(c: char) -> bool
     ensures { result ≡ spec.is_indicator c }
 {
@@ -37,21 +37,21 @@ pub(crate) fn is_indicator(c: char) -> bool
     )
 }
 
-/// Whether three characters are `---` or `...`.
+/// Returns whether three characters are `---` or `...`.
 pub(crate) fn is_open_ended(a: char, b: char, c: char) -> bool
     ensures { result ≡ (a == 45 || a == 46) && b == a && c == a }
 {
     (a == '-' || a == '.') && b == a && c == a
 }
 
-/// Whether a character is one of those that no plain text in flow holds.
+/// Returns whether a character is one of those that no plain text in flow holds.
 pub(crate) fn is_flow_indicator(c: char) -> bool
     ensures { result ≡ class.is_among (codes ",?:[]{}") c }
 {
     matches!(c, ',' | '?' | ':' | '[' | ']' | '{' | '}')
 }
 
-/// Whether a character is a letter or a digit, which every text may hold.
+/// Returns whether a character is a letter or a digit, which every text may hold.
 pub(crate) fn is_ordinary(c: char) -> bool
     ensures { result ≡ is_ordinary c }
 {

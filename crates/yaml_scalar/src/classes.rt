@@ -41,14 +41,14 @@ static CLASSES: [u8; 256] = [
     16, 16, 16, 16, 16, 16, 16, 16, 16, 16, 16, 16, 16, 16, 16, 16,
 ];
 
-/// Whether a byte is of none of these classes.
+/// Returns whether a byte is of none of these classes.
 pub(crate) fn is_free(byte: u8, classes: u8) -> bool
     ensures { result ≡ is_free classes byte }
 {
     CLASSES[byte as usize] & classes == 0
 }
 
-/// Whether the four bytes from a place on are of none of these classes. One branch tells it of all four.
+/// Returns whether the four bytes from a place on are of none of these classes. One branch tells it of all four.
 #[inline(always)]
 fn are_free(bytes: &[u8], place: usize, classes: u8) -> bool
     requires { place + 4 ≤ length bytes.now }
@@ -60,7 +60,7 @@ fn are_free(bytes: &[u8], place: usize, classes: u8) -> bool
         & is_free(bytes[place + 3], classes)
 }
 
-/// Whether the four bytes from a place on are of none of these classes, where none before them is.
+/// Returns whether the four bytes from a place on are of none of these classes, where none before them is.
 #[inline(always)]
 fn are_free_too(bytes: &[u8], place: usize, classes: u8) -> bool
     requires { place + 4 ≤ length bytes.now }
@@ -69,7 +69,7 @@ fn are_free_too(bytes: &[u8], place: usize, classes: u8) -> bool
     are_free(bytes, place, classes)
 }
 
-/// The length of a prefix, four bytes after four, none of whose bytes is of these classes.
+/// Returns the length of a prefix, four bytes after four, none of whose bytes is of these classes.
 #[inline(always)]
 fn free_length_by_fours(bytes: &[u8], classes: u8) -> usize
     ensures within { result ≤ length bytes.now }
@@ -82,7 +82,7 @@ fn free_length_by_fours(bytes: &[u8], classes: u8) -> usize
     size
 }
 
-/// The length of the longest prefix of a text none of whose bytes is of these classes.
+/// Returns the length of the longest prefix of a text none of whose bytes is of these classes.
 #[inline(always)]
 pub(crate) fn free_length(text: &str, classes: u8) -> usize
     ensures { IsFreeRun classes text.now result }
@@ -95,7 +95,7 @@ pub(crate) fn free_length(text: &str, classes: u8) -> usize
     length
 }
 
-/// The last character of a text, or the one before it where it is empty.
+/// Returns the last character of a text, or the one before it where it is empty.
 pub(crate) fn last_of(before: char, text: &str) -> char
     ensures { result ≡ last_from before (chars text.now) }
 {

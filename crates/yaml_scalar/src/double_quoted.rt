@@ -71,7 +71,7 @@ pub fn write_double_quoted_scalar<A: Allocator>(
     )
 }
 
-/// A quote, the value's characters, and a quote.
+/// Writes a quote, the value's characters, and a quote.
 fn write_quoted<A: Allocator>(
     pen: &mut Pen<A>,
     value: &str,
@@ -87,7 +87,7 @@ fn write_quoted<A: Allocator>(
     pen.put_indicator(&Indicator::tight("\""))
 }
 
-/// A character as its escape.
+/// Writes a character as its escape.
 fn write_escape<A: Allocator>(pen: &mut Pen<A>, c: char) -> Result<(), yaml_error_t>
     requires { IsReady pen.old }
     ensures { Wrote (render_text (spec.escape_text c)) pen.old pen.new result }
@@ -100,7 +100,7 @@ fn write_escape<A: Allocator>(pen: &mut Pen<A>, c: char) -> Result<(), yaml_erro
     }
 }
 
-/// The bytes of a character's escape.
+/// Writes the bytes of a character's escape.
 #[inline(always)]
 fn write_bytes<A: Allocator>(pen: &mut Pen<A>, c: char, bytes: &[u8]) -> Result<(), yaml_error_t>
     requires ready { IsReady pen.old }
@@ -110,7 +110,7 @@ fn write_bytes<A: Allocator>(pen: &mut Pen<A>, c: char, bytes: &[u8]) -> Result<
     pen.write_ascii(bytes)
 }
 
-/// A character as an escape, or as itself.
+/// Writes a character as an escape, or as itself.
 fn write_character<A: Allocator>(
     pen: &mut Pen<A>,
     c: char,
@@ -126,15 +126,14 @@ fn write_character<A: Allocator>(
     }
 }
 
-/// A space may be a fold where it is the first of a run and neither the value's first character nor
-/// its last.
+/// Returns whether a space may be a fold: it is the first of a run and neither the value's first character nor its last.
 fn may_fold(before: Option<char>, rest: &str) -> bool
     ensures { result ≡ spec.may_fold before (chars rest.now) }
 {
     rest.chars().next().is_some() && is_other(before)
 }
 
-/// Whether a character is no space.
+/// Returns whether a character is no space.
 fn is_other(before: Option<char>) -> bool
     ensures { result ≡ spec.is_other before }
 {
@@ -144,7 +143,7 @@ fn is_other(before: Option<char>) -> bool
     }
 }
 
-/// Whether a character becomes a fold.
+/// Returns whether a character becomes a fold.
 fn folds<A: Allocator>(
     pen: &Pen<A>,
     before: Option<char>,
@@ -157,7 +156,7 @@ fn folds<A: Allocator>(
     is_space(c) && may_fold(before, rest) && may_fold_here(pen, quoting.allow_breaks, quoting.width)
 }
 
-/// Where a space follows a fold, a backslash keeps it.
+/// Writes a backslash where a space follows a fold, which would be lost otherwise.
 fn write_backslash_before_space<A: Allocator>(
     pen: &mut Pen<A>,
     rest: &str,
@@ -171,7 +170,7 @@ fn write_backslash_before_space<A: Allocator>(
     }
 }
 
-/// A new line in place of a space.
+/// Writes a new line in place of a space.
 fn write_fold<A: Allocator>(pen: &mut Pen<A>, rest: &str, indent: i32) -> Result<(), yaml_error_t>
     requires ready { IsReady pen.old }
     requires not_negative { pos 0 ≤ℤ indent }
@@ -181,7 +180,7 @@ fn write_fold<A: Allocator>(pen: &mut Pen<A>, rest: &str, indent: i32) -> Result
     write_backslash_before_space(pen, rest)
 }
 
-/// One character of the value, after another or at its start, before the rest.
+/// Writes one character of the value, after another or at its start, before the rest.
 fn write_next<A: Allocator>(
     pen: &mut Pen<A>,
     before: Option<char>,
@@ -201,7 +200,7 @@ fn write_next<A: Allocator>(
     }
 }
 
-/// The classes of bytes that end a run: those of what is escaped, and the space where it may become a fold.
+/// Returns the classes of bytes that end a run: those of what is escaped, and the space where it may become a fold.
 fn ending_classes(unicode: bool, folds: bool) -> u8
     ensures { ImpliesTest result (stays_where unicode folds) }
 {
@@ -212,7 +211,7 @@ fn ending_classes(unicode: bool, folds: bool) -> u8
     }
 }
 
-/// The classes of bytes that end a run where printable characters past ASCII stand as themselves.
+/// Returns the classes of bytes that end a run where printable characters past ASCII stand as themselves.
 fn unicode_ending_classes(folds: bool) -> u8
     ensures { ImpliesTest result (stays_where true folds) }
 {
@@ -223,7 +222,7 @@ fn unicode_ending_classes(folds: bool) -> u8
     }
 }
 
-/// The classes of bytes that end a run where all characters past ASCII are escaped.
+/// Returns the classes of bytes that end a run where all characters past ASCII are escaped.
 fn ascii_ending_classes(folds: bool) -> u8
     ensures { ImpliesTest result (stays_where false folds) }
 {
@@ -234,21 +233,21 @@ fn ascii_ending_classes(folds: bool) -> u8
     }
 }
 
-/// The run of a text up to the first character that isn't written as itself or may become a fold.
+/// Returns the run of a text up to the first character that isn't written as itself or may become a fold.
 fn run_where(before: char, text: &str, unicode: bool, folds: bool) -> Run
     ensures { IsRun (stays_where unicode folds) before text.now result.length result.last }
 {
     run_up_to(before, text, ending_classes(unicode, folds))
 }
 
-/// Whether a space may become a fold, since there is a width.
+/// Returns whether a space may become a fold, since there is a width.
 fn has_folds(quoting: Quoting) -> bool
     ensures { result ≡ has_limit (limit_where quoting.allow_breaks quoting.width) }
 {
     has_limit_where(quoting.allow_breaks, quoting.width)
 }
 
-/// The run of a text up to the first character that isn't written as itself. A space ends it where folds are allowed.
+/// Returns the run of a text up to the first character that isn't written as itself. A space ends it where folds are allowed.
 fn run_after(before: char, text: &str, quoting: Quoting) -> Run
     ensures { IsRun (stays quoting.unicode (limit_where quoting.allow_breaks quoting.width)) before text.now result.length result.last }
 {
@@ -256,7 +255,7 @@ fn run_after(before: char, text: &str, quoting: Quoting) -> Run
     run_where(before, text, quoting.unicode, folds)
 }
 
-/// The texts of characters that were batched.
+/// Writes the texts of characters that were batched.
 fn write_batch<A: Allocator>(pen: &mut Pen<A>, bytes: &BatchBytes) -> Result<(), yaml_error_t>
     requires ready { IsReady pen.old }
     requires plain { list_all is_plain bytes.now.items ≡ true }
@@ -265,7 +264,7 @@ fn write_batch<A: Allocator>(pen: &mut Pen<A>, bytes: &BatchBytes) -> Result<(),
     pen.write_ascii(bytes.as_slice())
 }
 
-/// Whether a value is short and stands as it is, wherever its line ends.
+/// Returns whether a value is short and stands as it is, wherever its line ends.
 #[inline(always)]
 fn is_short(value: &str, quoting: Quoting) -> bool
     ensures { result ≡ true → IsShortRun (stays quoting.unicode (limit_where quoting.allow_breaks quoting.width)) value.now }
@@ -274,7 +273,7 @@ fn is_short(value: &str, quoting: Quoting) -> bool
     is_short_run(value, ascii_ending_classes(folds))
 }
 
-/// What stands between the quotes.
+/// Writes what stands between the quotes.
 fn write_value<A: Allocator>(
     pen: &mut Pen<A>,
     value: &str,
@@ -292,7 +291,7 @@ fn write_value<A: Allocator>(
     }
 }
 
-/// Whether an escape comes next.
+/// Returns whether an escape comes next.
 fn begins_with_escape(text: &str, unicode: bool) -> bool
     ensures { result ≡ begins_with (spec.needs_escape unicode) (chars text.now) }
 {

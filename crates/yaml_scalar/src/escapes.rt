@@ -20,7 +20,7 @@ pub(crate) enum Escape {
     Eight([u8; 10]),
 }
 
-/// Whether a character is unprintable, past ASCII where that isn't kept, a break, the quote or the backslash.
+/// Returns whether a character is unprintable, past ASCII where that isn't kept, a break, the quote or the backslash.
 #[inline(always)]
 pub(crate) fn needs_escape(c: char, unicode: bool) -> bool
     ensures { result ≡ spec.needs_escape unicode c }
@@ -32,7 +32,7 @@ pub(crate) fn needs_escape(c: char, unicode: bool) -> bool
     }
 }
 
-/// Whether a byte of ASCII is unprintable, a break, the quote or the backslash.
+/// Returns whether a byte of ASCII is unprintable, a break, the quote or the backslash.
 #[inline(always)]
 fn is_escaped_byte(byte: u8) -> bool
     requires { byte < 128 }
@@ -41,7 +41,7 @@ fn is_escaped_byte(byte: u8) -> bool
     !is_free(byte, BREAK | UNPRINTABLE | ESCAPED)
 }
 
-/// A backslash, and a letter where there is one for the character, else its number.
+/// Returns a backslash, and a letter where there is one for the character, else its number.
 #[inline(always)]
 pub(crate) fn escape_of(c: char) -> Escape
     ensures { escape_bytes result ≡ spec.escape_text c }
@@ -52,7 +52,7 @@ pub(crate) fn escape_of(c: char) -> Escape
     }
 }
 
-/// The letter of a character that has an escape of one letter (YAML 1.1, section 5.6).
+/// Returns the letter of a character that has an escape of one letter (YAML 1.1, section 5.6).
 fn escape_letter(c: char) -> Option<u8>
     ensures { result ≡ spec.letter_among spec.short_escapes c }
 {
@@ -77,7 +77,7 @@ fn escape_letter(c: char) -> Option<u8>
     Some(letter)
 }
 
-/// An escape by number, with two, four or eight digits.
+/// Returns an escape by number, with two, four or eight digits.
 #[inline]
 fn number_escape(n: u32) -> Escape
     ensures { escape_bytes result ≡ spec.backslash ∷ spec.escape_after_backslash None n }
@@ -109,7 +109,7 @@ fn number_escape(n: u32) -> Escape
     }
 }
 
-/// The last hexadecimal digit of a number.
+/// Returns the last hexadecimal digit of a number.
 fn digit_at(n: u32) -> u8
     ensures { result ≡ class.hex_digit (n % 16) }
 {

@@ -23,7 +23,7 @@ mod style;
 mod width;
 
 pub use analysis::{analyze_for_style, analyze_scalar, holds_break, scalar_data_t};
-pub use block_header::write_block_scalar_hints;
+pub use block_header::{begins_blank, write_block_scalar_hints};
 pub use double_quoted::write_double_quoted_scalar;
 pub use folded::write_folded_scalar;
 pub use literal::write_literal_scalar;

@@ -17,8 +17,8 @@ use yaml_base::yaml_error_t;
 use yaml_pen::Pen;
 
 /// Writes a literal scalar (YAML 1.1, section 9.3.1), a space before it where one is needed: the header, then
-/// each nonempty line after `indent` spaces. `best_indent` is what the header's digit says. Returns the open
-/// mark: 2 where the header keeps all final breaks, else 0.
+/// each nonempty line after `indent` spaces. `best_indent` is what the header's digit says. Returns the
+/// open-ended state: 2 where the header keeps all final breaks, else 0.
 ///
 /// # Errors
 /// `WriteError` where the output passes its limit, `Memory` where a growth was refused, else the pen's first

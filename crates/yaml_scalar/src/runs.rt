@@ -21,7 +21,7 @@ pub(crate) struct RunEnds {
     pub(crate) quote: bool,
 }
 
-/// The classes of bytes that end a run.
+/// Returns the classes of bytes that end a run.
 fn ending_classes(ends: RunEnds) -> u8
     ensures { ImpliesTest result (stays_in_line ends.space ends.quote) }
 {
@@ -33,8 +33,8 @@ fn ending_classes(ends: RunEnds) -> u8
     }
 }
 
-/// The classes of bytes that a short line doesn't hold: those of breaks, of what is past ASCII, and of a `'`
-/// where it is doubled.
+/// Returns the classes of bytes that a short line doesn't hold: those of breaks, of what is past ASCII, and of a `'` where it is
+/// doubled.
 pub(crate) fn short_classes(quote: bool) -> u8
     ensures plain { ImpliesTest result is_plain }
     ensures line { ImpliesTest result (stays_in_line false quote) }
@@ -46,7 +46,7 @@ pub(crate) fn short_classes(quote: bool) -> u8
     }
 }
 
-/// The run up to the first byte of some classes, which may end it early.
+/// Returns the run up to the first byte of some classes, which may end it early.
 pub(crate) fn run_up_to(before: char, text: &str, classes: u8) -> Run
     ensures { (test : ℕ → Bool) → ImpliesTest classes test → IsRun test before text.now result.length result.last }
 {
@@ -58,14 +58,14 @@ pub(crate) fn run_up_to(before: char, text: &str, classes: u8) -> Run
     }
 }
 
-/// The run of a text up to what ends it.
+/// Returns the run of a text up to what ends it.
 pub(crate) fn line_run_after(before: char, text: &str, ends: RunEnds) -> Run
     ensures { IsRun (stays_in_line ends.space ends.quote) before text.now result.length result.last }
 {
     run_up_to(before, text, ending_classes(ends))
 }
 
-/// The run up to the first byte of some classes, at most `room` bytes long.
+/// Returns the run up to the first byte of some classes, at most `room` bytes long.
 fn run_within(before: char, text: &str, classes: u8, room: usize) -> Run
     ensures run { (test : ℕ → Bool) → ImpliesTest classes test → IsRun test before text.now result.length result.last }
     ensures within { result.length ≤ room }
@@ -74,7 +74,7 @@ fn run_within(before: char, text: &str, classes: u8, room: usize) -> Run
     run_up_to(before, near, classes)
 }
 
-/// The next run of a line: to the next space if `room` is 0, else at most `room` bytes.
+/// Returns the next run of a line: to the next space if `room` is 0, else at most `room` bytes.
 pub(crate) fn line_run_within(before: char, text: &str, quote: bool, room: usize) -> Run
     ensures { (limit : Option ℕ) (cursor : Cursor) → (0 < room → HasRoom limit cursor.column room)
         → IsLineRun limit quote cursor before text.now result.length result.last }

@@ -8,28 +8,28 @@ use crate::width;
 use std::alloc::Allocator;
 use yaml_pen::Pen;
 
-/// Whether the column is past the width, and folds are allowed.
+/// Returns whether the column is past the width, and folds are allowed.
 pub(crate) fn may_fold_here<A: Allocator>(pen: &Pen<A>, allow_breaks: bool, width: i32) -> bool
     ensures { result ≡ is_past_width (limit_where allow_breaks width) pen.now.cursor }
 {
     allow_breaks && width::is_past_width(pen, width)
 }
 
-/// Whether some column is past the width.
+/// Returns whether some column is past the width.
 pub(crate) fn has_limit(width: i32) -> bool
     ensures { result ≡ has_limit (limit_of width) }
 {
     width != i32::MAX
 }
 
-/// Whether some column is past the width, and folds are allowed.
+/// Returns whether some column is past the width, and folds are allowed.
 pub(crate) fn has_limit_where(allow_breaks: bool, width: i32) -> bool
     ensures { result ≡ has_limit (limit_where allow_breaks width) }
 {
     allow_breaks && has_limit(width)
 }
 
-/// How many columns follow before one that is past the width, if any.
+/// Returns how many columns follow before one that is past the width, if any.
 pub(crate) fn room_in_line<A: Allocator>(pen: &Pen<A>, allow_breaks: bool, width: i32) -> usize
     ensures { 0 < result → HasRoom (limit_where allow_breaks width) pen.now.cursor.column result }
 {

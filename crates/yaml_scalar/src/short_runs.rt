@@ -16,7 +16,7 @@ use yaml_pen::Pen;
 /// The most bytes of a short text.
 const MOST_BYTES: usize = 512;
 
-/// Whether a text is short and holds no byte of these classes, which are those of what isn't ASCII and more.
+/// Returns whether a text is short and holds no byte of these classes, which are those of what isn't ASCII and more.
 #[inline(always)]
 pub(crate) fn is_short_run(text: &str, classes: u8) -> bool
     ensures value { result ≡ (nat_le (length text.now) most_short && list_all (is_free classes) text.now) }

@@ -30,7 +30,7 @@ pub fn is_simple_ascii(text: &str) -> bool
     has_simple_ascii_ends(text.as_bytes()) && is_short_run(text, NOT_SIMPLE_ASCII)
 }
 
-/// Whether a text begins with a letter or a digit and ends with no space.
+/// Returns whether a text begins with a letter or a digit and ends with no space.
 fn has_simple_ascii_ends(bytes: &[u8]) -> bool
     ensures { result ≡ has_simple_ascii_ends bytes.now }
 {
@@ -40,7 +40,7 @@ fn has_simple_ascii_ends(bytes: &[u8]) -> bool
     }
 }
 
-/// Whether a byte is a letter or a digit.
+/// Returns whether a byte is a letter or a digit.
 fn is_ordinary_byte(byte: u8) -> bool
     ensures { result ≡ is_ordinary byte }
 {

@@ -64,8 +64,8 @@ fn lacks_tag_and_flags(tag_written: bool, plain_implicit: bool, quoted_implicit:
     !tag_written && !plain_implicit && !quoted_implicit
 }
 
-/// Plain fits where the value allows it in its context and isn't empty in flow or as a simple key, and where a
-/// tag or the flag distinguishes the scalar from a quoted one.
+/// Returns whether plain fits: the value allows it in its context and isn't empty in flow or as a simple key, and a tag or the
+/// flag distinguishes the scalar from a quoted one.
 fn fits_plain(
     allowed: &scalar_data_t,
     empty: bool,
@@ -83,7 +83,7 @@ fn fits_plain(
     fits && !(empty && (context.flow || context.simple_key)) && (tag_written || plain_implicit)
 }
 
-/// What is asked for.
+/// Returns what is asked for.
 fn requested_style(must_be_double: bool, style: yaml_scalar_style_t) -> yaml_scalar_style_t
     ensures { seen_scalar_style result ≡ spec.requested_style must_be_double (seen_scalar_style style) }
 {
@@ -96,7 +96,7 @@ fn requested_style(must_be_double: bool, style: yaml_scalar_style_t) -> yaml_sca
     }
 }
 
-/// Single quotes where the value allows them, else double quotes.
+/// Returns single quotes where the value allows them, else double quotes.
 fn quoted_style(allowed: &scalar_data_t) -> yaml_scalar_style_t
     ensures { seen_scalar_style result ≡ spec.quoted_style (seen_data allowed.now) }
 {
@@ -107,7 +107,7 @@ fn quoted_style(allowed: &scalar_data_t) -> yaml_scalar_style_t
     }
 }
 
-/// The style asked for where it fits.
+/// Returns the style asked for where it fits.
 fn fitting_style(
     allowed: &scalar_data_t,
     plain_fits: bool,
@@ -125,7 +125,7 @@ fn fitting_style(
     }
 }
 
-/// Whether a quoted scalar has no tag and no flag, so that it gets the bare tag `!`.
+/// Returns whether a quoted scalar has no tag and no flag, so that it gets the bare tag `!`.
 fn is_bare(tag_written: bool, quoted_implicit: bool, style: yaml_scalar_style_t) -> bool
     ensures { result ≡ (not tag_written && not quoted_implicit && not (spec.is_plain (seen_scalar_style style))) }
 {

@@ -1,18 +1,28 @@
 -- A document goes on with each call of its writer.
 use Rattle.yaml_serde.proofs.Common.{ℕ, ◌<◌, ◌≤◌, IfOk, OnOk, Option, None, Some, Result, Err, Ok, Vec, length, take, Bool, false, true, List, [], ◌++◌, ◌∷◌}
 use Rattle.yaml_serde.proofs.Common.{refl, ◌≡◌, append-nil, append_assoc, ap, subst, sym, ◌∙◌, arith, Appends, All, ∥∥₁_map, Text, Event, Settings, State}
-use Rattle.yaml_serde.proofs.Common.{grows_itself, Grows, IsWriterEvent, IsDocument, AppendsDocument, GivesEvents, is_kept, Handed, HandsOn, WriterState}
+use Rattle.yaml_serde.proofs.Common.{grows_itself, Grows, IsWriterEvent, IsDocument, AppendsDocument, GivesEvents, is_kept, HandsOn, WriterState}
 use Rattle.yaml_serde.proofs.Common.{opening, closing, with_collection, awaits_node, StandsTaken, TakesBytes, IsStream, Finishes}
+use mathlib.Core.Logic.{∥∥₁_elim}
 use Rattle.yaml_base.proofs.Common.{inl, inr, length-append, ◌⊎◌}
+use Rattle.yaml_base.proofs.Prefixes.{prefix_itself, prefix_then}
+use Rattle.yaml_base.specs.Prefix.{IsPrefix}
 use Rattle.yaml_writer.proofs.Common.{end_event, AddsEvent, GaveEvent}
-use Rattle.std.{proofs.Math.Seq.take-length, proofs.lemmas.List.length-take, proofs.lemmas.List.take-append-le, proofs.lemmas.List.Elements.All-nil}
-use Rattle.std.{proofs.lemmas.List.Elements.All-cons, proofs.lemmas.List.Elements.All-append, specs.Prelude.IfErr}
+use Rattle.std.{proofs.Math.Seq.drop-append_seam, proofs.Math.Seq.take-length, proofs.lemmas.List.length-take, proofs.lemmas.List.take-append-le}
+use Rattle.std.{proofs.Props.props, proofs.lemmas.List.Elements.All-nil, proofs.lemmas.List.Elements.All-cons, proofs.lemmas.List.Elements.All-append}
+use Rattle.std.specs.{Borrow.GName, Prelude.IfErr, Prelude.OnErr, Prelude.drop}
 use Rattle.yaml_base.specs.declared.errors.{yaml_error_t.yaml_error_t, yaml_error_t.TheVariants.Memory}
-use Rattle.yaml_pen.proofs.Composing.{grows_then}
-use Rattle.yaml_serde.{proofs.Handing.appends_then, proofs.Handing.kept_none, specs.Documents.end_call, specs.Documents.GaveEvents, specs.Outlets.HasGiven}
-use Rattle.yaml_serde.{specs.Outlets.Stands, specs.declared.outlet.Outlet.Outlet, specs.declared.outlet.Outlet.TheVariants.Sink}
-use Rattle.yaml_writer.specs.{Writing.NodeExpected, Writing.Failed, Writing.EndsInnermost}
-use Rattle.yaml_emitter.specs.declared.place.CollectionKind.{CollectionKind}
+use Rattle.yaml_emitter.{proofs.standing.Promising.promised, specs.declared.place.CollectionKind.CollectionKind}
+use Rattle.yaml_pen.{proofs.Composing.grows_then, specs.Page.output_left, specs.Sinks.AppendsFirst}
+use Rattle.std.proofs.KnownBytes.{Appends-nil, Appends-trans}
+use Rattle.yaml_serde.proofs.Handing.{appends_first, failed_is_sent, grows_taken, left_begins}
+use Rattle.yaml_serde.specs.Documents.{AppendsBeginning, GaveEvents, IsPartial, end_call}
+use Rattle.yaml_serde.specs.Outlets.{Gave, HandsAll, HandsFirst, HandsNone, HasGiven, Stands, has_failed}
+use Rattle.yaml_serde.specs.declared.error.Error.{Error}
+use Rattle.yaml_serde.specs.declared.outlet.Handing.{Handing}
+use Rattle.yaml_serde.specs.declared.outlet.Handing.TheVariants.{Kept, Open, Failed}
+use Rattle.yaml_serde.specs.declared.outlet.Outlet.{Outlet}
+use Rattle.yaml_writer.specs.{Writing.NodeExpected, Writing.Begins, Writing.Gives, Writing.EndsInnermost}
 
 -- ---- the emitter
 
@@ -67,12 +77,40 @@ pub finished_by : {A E : Type 0} (given : Settings) (start : State) (answer : Re
 finished_by given start (Ok bytes) stands whole = whole given stands
 finished_by given start (Err error) stands whole = tt
 
-pub sent_by : {W E : Type 0} (contents : W → Option (List ℕ)) (held : Option (List ℕ)) (given : Settings) (start : State) (answer : Result W E)
-    → StandsTaken given opening [] start
-    → IfOk answer (λ after. (any : Settings) → StandsTaken any opening [] start → AppendsDocument any held (contents after))
-    → IfOk answer (λ after. AppendsDocument given held (contents after))
-sent_by contents held given start (Ok after) stands whole = whole given stands
-sent_by contents held given start (Err error) stands whole = tt
+-- the document that was asked for, handed on
+pub sent_by : {E : Type 0} (held now : Option (List ℕ)) (given : Settings) (start : State) (answer : Result (Unit {0}) E)
+    → StandsTaken given opening [] start → OnOk answer ((any : Settings) → StandsTaken any opening [] start → AppendsDocument any held now)
+    → OnOk answer (AppendsDocument given held now)
+sent_by held now given start (Ok done) stands whole = whole given stands
+sent_by held now given start (Err error) stands whole = tt
+
+-- or a beginning of it
+pub begun_by : {E : Type 0} (held now : Option (List ℕ)) (given : Settings) (start : State) (answer : Result (Unit {0}) E)
+    → StandsTaken given opening [] start → OnErr answer ((any : Settings) → StandsTaken any opening [] start → AppendsBeginning any held now)
+    → OnErr answer (AppendsBeginning given held now)
+begun_by held now given start (Ok done) stands part = tt
+begun_by held now given start (Err error) stands part = part given stands
+
+-- nothing of it
+pub begins_nothing : (given : Settings) (held : Option (List ℕ)) → AppendsBeginning given held held
+begins_nothing given held = ∣ ([], ([], prefix_itself [], Appends-nil held), inl refl) ∣₁
+
+-- ---- truncated facts
+
+-- the rest after a prefix is what is left of the whole
+dropped : (xs ys : List ℕ) → IsPrefix xs ys → xs ++ drop (length xs) ys ≡ ys
+dropped xs ys is =
+    subst (λ (whole : List ℕ). xs ++ drop (length xs) whole ≡ whole) is.parts (ap (λ (rest : List ℕ). xs ++ rest) (drop-append_seam xs is.rest))
+
+prefix_had : (xs ys : List ℕ) → ∥ IsPrefix xs ys ∥₁ → IsPrefix xs ys
+prefix_had xs ys is = record {
+  rest = drop (length xs) ys;
+  parts = ∥∥₁_elim {P = xs ++ drop (length xs) ys ≡ ys} is (hlevel props) (dropped xs ys);
+}
+
+-- true is not false
+not_kept : false ≡ true → ⊥
+not_kept is = cc
 
 -- ---- the collections that are open
 
@@ -91,28 +129,37 @@ open_less outer now kind fewer is =
 
 -- ---- the document
 
-module _ {W : Type 0} (contents : W → Option (List ℕ)) (held : Option (List ℕ)) (keeps : Bool) (start : WriterState) where
+module _ {W : Type 0} (contents : W → Option (List ℕ)) (held : Option (List ℕ)) (name : GName) (keeps : Bool) (start : WriterState) where
   abbrev StandsIn : Outlet W → ℕ → WriterState → Type 0
-  StandsIn outlet base writer = Stands contents held keeps start outlet base writer
+  StandsIn outlet base writer = Stands contents held name keeps start outlet base writer
 
-  -- what was given with some bytes handed on
+  -- what was given, with some bytes handed on
   abbrev Given : Outlet W → State → Type 0
-  Given outlet emitter = (bytes : List ℕ) × Handed contents held outlet bytes × GaveEvents start.emitter bytes emitter
+  Given outlet emitter = Gave contents held start.emitter outlet emitter
 
   -- a document begins
-  pub stands_new : (outlet : Outlet W) (base : ℕ) (writer : WriterState) → writer ≡ start → Handed contents held outlet [] → is_kept outlet ≡ keeps
-      → base ≡ length writer.levels → StandsIn outlet base writer
-  stands_new outlet base writer is handed kept count =
+  pub stands_new : (outlet : Outlet W) (base : ℕ) (writer : WriterState) → writer ≡ start → Appends held (contents outlet.sink.now) []
+      → is_kept outlet.handing ≡ keeps → (keeps ≡ false → outlet.sink.ghost_name ≡ name) → base ≡ length writer.levels → StandsIn outlet base writer
+  stands_new outlet base writer is appends kept same count =
       record {
         given = ∣ begun ∣₁;
         kept = kept;
+        same = same;
         base_is = count ∙ ap (λ (w : WriterState). length w.levels) is;
         canonical = ap (λ (w : WriterState). w.canonical) is;
         above = ap (λ (w : WriterState). take (length start.levels) w.levels) is ∙ take-length start.levels;
       }
     where
       begun : Given outlet writer.emitter
-      begun = ([], handed, subst (λ (w : WriterState). GaveEvents start.emitter [] w.emitter) (sym is) (gave_none start.emitter))
+      begun = record {
+        taken = [];
+        more = [];
+        handed = record { sends = appends; none = λ unfailed. refl; kept = λ kept. refl };
+        gave = subst (λ (w : WriterState). GaveEvents start.emitter [] w.emitter) (sym is) (gave_none start.emitter);
+        begins = λ given all sent stands.
+            subst (λ (w : WriterState). IsPrefix ((sent ++ []) ++ []) w.emitter.page.output) (sym is)
+            (subst (λ (l : List ℕ). IsPrefix l start.emitter.page.output) (sym (append-nil (sent ++ []) ∙ append-nil sent)) stands.begins);
+      }
 
   -- nothing changes but properties of the next node
   stands_kept : (outlet : Outlet W) (base : ℕ) (before after : WriterState) → after.emitter ≡ before.emitter → after.canonical ≡ before.canonical
@@ -120,6 +167,7 @@ module _ {W : Type 0} (contents : W → Option (List ℕ)) (held : Option (List 
   stands_kept outlet base before after emitter canonical levels stands = record {
     given = subst (HasGiven contents held start.emitter outlet) (sym emitter) stands.given;
     kept = stands.kept;
+    same = stands.same;
     base_is = stands.base_is;
     canonical = canonical ∙ stands.canonical;
     above = ap (take (length start.levels)) levels ∙ stands.above;
@@ -138,13 +186,20 @@ module _ {W : Type 0} (contents : W → Option (List ℕ)) (held : Option (List 
       record {
         given = ∥∥₁_map stands.given more;
         kept = stands.kept;
+        same = stands.same;
         base_is = stands.base_is;
         canonical = canonical ∙ stands.canonical;
         above = above;
       }
     where
       more : Given outlet before.emitter → Given outlet after.emitter
-      more given = (given.0, given.1, gave_more start.emitter given.0 before.emitter after.emitter event call adds grows given.2)
+      more given = record {
+        taken = given.taken;
+        more = given.more;
+        handed = given.handed;
+        gave = gave_more start.emitter given.taken before.emitter after.emitter event call adds grows given.gave;
+        begins = λ any all sent stood. prefix_then (given.begins any all sent stood) grows.output;
+      }
 
   gave_one : (outlet : Outlet W) (base : ℕ) (before inside after : WriterState) (event : Event) (error : Option yaml_error_t) → IsWriterEvent event
       → inside.emitter ≡ before.emitter → inside.canonical ≡ before.canonical → take (length start.levels) inside.levels ≡ start.levels
@@ -156,26 +211,23 @@ module _ {W : Type 0} (contents : W → Option (List ℕ)) (held : Option (List 
 
   -- an event was given, or there was no memory for it
   pub stands_given : (answer : Result (Unit {0}) yaml_error_t) (outlet : Outlet W) (base : ℕ) (before after : WriterState) {event : Event}
-      → IsWriterEvent event → OnOk answer (GaveEvent before event None after) → IfErr answer (λ error. Failed before event error after)
-      → StandsIn outlet base before → StandsIn outlet base after
-  stands_given (Ok done) outlet base before after {event} call gave failed stands =
+      → IsWriterEvent event → Gives before event answer after → StandsIn outlet base before → StandsIn outlet base after
+  stands_given (Ok done) outlet base before after {event} call gave stands =
       gave_one outlet base before before after event None call refl refl stands.above gave stands
-  stands_given (Err error) outlet base before after {event} call gave (inl failed) stands =
+  stands_given (Err error) outlet base before after {event} call (inl failed) stands =
       gave_one outlet base before before after event (Some error) call refl refl stands.above failed stands
-  stands_given (Err error) outlet base before after {event} call gave (inr none) stands = stands_same outlet base before after none.1 stands
+  stands_given (Err error) outlet base before after {event} call (inr none) stands = stands_same outlet base before after none.1 stands
 
   -- the start of a collection was given, or there was no memory for it
   pub stands_begun : (answer : Result (Unit {0}) yaml_error_t) (outlet : Outlet W) (base : ℕ) (before after : WriterState) (kind : CollectionKind)
-      {event : Event} → IsWriterEvent event → OnOk answer (GaveEvent (with_collection before kind) event None after)
-      → IfErr answer (λ error. GaveEvent (with_collection before kind) event (Some error) after ⊎ ((error ≡ Memory) × (after ≡ before)))
-      → StandsIn outlet base before → StandsIn outlet base after
-  stands_begun (Ok done) outlet base before after kind {event} call gave failed stands =
+      {event : Event} → IsWriterEvent event → Begins kind before event answer after → StandsIn outlet base before → StandsIn outlet base after
+  stands_begun (Ok done) outlet base before after kind {event} call gave stands =
       gave_one outlet base before (with_collection before kind) after event None call refl refl (open_more start.levels before.levels kind stands.above)
       gave stands
-  stands_begun (Err error) outlet base before after kind {event} call gave (inl failed) stands =
+  stands_begun (Err error) outlet base before after kind {event} call (inl failed) stands =
       gave_one outlet base before (with_collection before kind) after event (Some error) call refl refl
       (open_more start.levels before.levels kind stands.above) failed stands
-  stands_begun (Err error) outlet base before after kind {event} call gave (inr none) stands = stands_same outlet base before after none.1 stands
+  stands_begun (Err error) outlet base before after kind {event} call (inr none) stands = stands_same outlet base before after none.1 stands
 
   -- a collection of the document was ended
   stands_end : (answer : Result (Unit {0}) yaml_error_t) (outlet : Outlet W) (base : ℕ) (before after : WriterState) → base < length before.levels
@@ -208,24 +260,98 @@ module _ {W : Type 0} (contents : W → Option (List ℕ)) (held : Option (List 
       (ap (λ (w : WriterState). w.levels) tagged)
   stands_tagged (Err error) outlet base before after tag tagged none = stands_same outlet base before after none.1
 
-  -- bytes were handed on
-  pub stands_handed : (old new : Outlet W) (base : ℕ) (before after : WriterState) → HandsOn contents old before new after → StandsIn old base before
+  -- nothing was handed on
+  stands_none : (old new : Outlet W) (base : ℕ) (before after : WriterState) → HandsNone old before new after → StandsIn old base before
       → StandsIn new base after
-  stands_handed old new base before after hands stands =
+  stands_none old new base before after none stands =
+      subst (λ (outlet : Outlet W). StandsIn outlet base after) (sym none.outlet) (stands_same old base before after none.writer stands)
+
+  -- all that is left was handed on
+  stands_sent : (old new : Outlet W) (base : ℕ) (before after : WriterState) → old.handing ≡ Open → HandsAll contents old before new after
+      → new.sink.ghost_name ≡ old.sink.ghost_name → StandsIn old base before → StandsIn new base after
+  stands_sent old new base before after is hands same stands =
       record {
         given = ∥∥₁_map stands.given handed;
-        kept = hands.kept ∙ stands.kept;
+        kept = ap is_kept hands.stays ∙ stands.kept;
+        same = λ sent. same ∙ stands.same sent;
         base_is = stands.base_is;
-        canonical = ap (λ (w : WriterState). w.canonical) hands.rest ∙ stands.canonical;
-        above = ap (λ (w : WriterState). take (length start.levels) w.levels) hands.rest ∙ stands.above;
+        canonical = ap (λ (w : WriterState). w.canonical) hands.writer ∙ stands.canonical;
+        above = ap (λ (w : WriterState). take (length start.levels) w.levels) hands.writer ∙ stands.above;
       }
     where
+      left : List ℕ
+      left = output_left before.emitter.page
+
+      is_open : new.handing ≡ Open
+      is_open = hands.stays ∙ is
+
       handed : Given old before.emitter → Given new after.emitter
-      handed given = (
-        given.0 ++ hands.more,
-        hands.handed held given.0 given.1,
-        gave_taken start.emitter given.0 hands.more before.emitter after.emitter hands.takes hands.grows given.2,
-      )
+      handed given =
+          let none : given.more ≡ [] = given.handed.none (ap has_failed is) in
+          let sends : Appends held (contents old.sink.now) given.taken =
+          subst (Appends held (contents old.sink.now)) (ap (λ (l : List ℕ). given.taken ++ l) none ∙ append-nil given.taken) given.handed.sends in
+          let gave : GaveEvents start.emitter (given.taken ++ left) after.emitter =
+          gave_taken start.emitter given.taken left before.emitter after.emitter hands.takes (grows_taken before after hands.writer) given.gave in
+          record {
+            taken = given.taken ++ left;
+            more = [];
+            handed = record {
+              sends = subst (Appends held (contents new.sink.now)) (sym (append-nil (given.taken ++ left)))
+                  (Appends-trans held (contents old.sink.now) (contents new.sink.now) given.taken left sends hands.sends);
+              none = λ unfailed. refl;
+              kept = λ kept. absurd (not_kept (sym (ap is_kept is_open) ∙ kept));
+            };
+            gave = gave;
+            begins = λ any all sent stood.
+                subst (λ (l : List ℕ). IsPrefix l after.emitter.page.output) (sym (append-nil (sent ++ (given.taken ++ left))))
+                (gave.stands any all sent stood).begins;
+          }
+
+  -- a beginning of what is left was handed on
+  stands_stopped : (old new : Outlet W) (base : ℕ) (before after : WriterState) → old.handing ≡ Open → HandsFirst contents old before new after
+      → new.sink.ghost_name ≡ old.sink.ghost_name → StandsIn old base before → StandsIn new base after
+  stands_stopped old new base before after is hands same stands =
+      stands_same new base before after hands.writer
+      (record {
+        given = ∥∥₁_map stands.given handed;
+        kept = failed_is_sent new.handing hands.fails ∙ sym (ap is_kept is) ∙ stands.kept;
+        same = λ sent. same ∙ stands.same sent;
+        base_is = stands.base_is;
+        canonical = stands.canonical;
+        above = stands.above;
+      })
+    where
+      handed : Given old before.emitter → Given new before.emitter
+      handed given =
+          let none : given.more ≡ [] = given.handed.none (ap has_failed is) in
+          let sends : Appends held (contents old.sink.now) given.taken =
+          subst (Appends held (contents old.sink.now)) (ap (λ (l : List ℕ). given.taken ++ l) none ∙ append-nil given.taken) given.handed.sends in
+          record {
+            taken = given.taken;
+            more = hands.sends.0;
+            handed = record {
+              sends = Appends-trans held (contents old.sink.now) (contents new.sink.now) given.taken hands.sends.0 sends hands.sends.2;
+              none = λ unfailed. absurd (not_kept (sym unfailed ∙ hands.fails));
+              kept = λ kept. absurd (not_kept (sym (failed_is_sent new.handing hands.fails) ∙ kept));
+            };
+            gave = given.gave;
+            begins = λ any all sent stood.
+                left_begins any (all ++ given.gave.events) (sent ++ given.taken) hands.sends.0 before.emitter (given.gave.stands any all sent stood)
+                hands.sends.1;
+          }
+
+  -- bytes were handed on
+  pub stands_handed : (old new : Outlet W) (base : ℕ) (before after : WriterState) (answer : Result (Unit {0}) Error)
+      → HandsOn contents old.handing old before answer new after → new.sink.ghost_name ≡ old.sink.ghost_name
+      → StandsIn old base before → StandsIn new base after
+  stands_handed old new base before after answer hands same = by old.handing refl answer hands
+    where
+      by : (handing : Handing) → old.handing ≡ handing → (answer : Result (Unit {0}) Error) → HandsOn contents handing old before answer new after
+          → StandsIn old base before → StandsIn new base after
+      by Kept is answer hands = stands_none old new base before after hands.1
+      by (Failed error) is answer hands = stands_none old new base before after hands.1
+      by Open is (Ok done) hands = stands_sent old new base before after is hands same
+      by Open is (Err error) hands = stands_stopped old new base before after is hands same
 
   -- ---- its end
 
@@ -236,30 +362,88 @@ module _ {W : Type 0} (contents : W → Option (List ℕ)) (held : Option (List 
     where
       gives : Given outlet writer.emitter → GaveEvents start.emitter [] writer.emitter
       gives given =
-          subst (λ (bytes : List ℕ). GaveEvents start.emitter bytes writer.emitter)
-          (kept_none contents held outlet given.0 (stands.kept ∙ kept) given.1) given.2
+          subst (λ (bytes : List ℕ). GaveEvents start.emitter bytes writer.emitter) (given.handed.kept (stands.kept ∙ kept)) given.gave
+
+  -- what was written before stays
+  pub given_grows : (outlet : Outlet W) (base : ℕ) (writer : WriterState) → StandsIn outlet base writer → Grows start.emitter.page writer.emitter.page
+  given_grows outlet base writer stands =
+      record {
+        text = prefix_had start.emitter.page.text writer.emitter.page.text (∥∥₁_map stands.given (λ given. given.gave.grows.text));
+        output = prefix_had start.emitter.page.output writer.emitter.page.output (∥∥₁_map stands.given (λ given. given.gave.grows.output));
+      }
 
   pub kept_document : (given : Settings) (outlet : Outlet W) (base : ℕ) (writer : WriterState) (rest : List ℕ) → keeps ≡ true
       → StandsTaken given opening [] start.emitter → StandsIn outlet base writer → Finishes writer.emitter rest → IsDocument given rest
   kept_document given outlet base writer rest kept began stands finishes =
       ∥∥₁_map (kept_gives outlet base writer kept stands) (λ gave. gave_document given start.emitter writer.emitter [] rest began gave finishes)
 
+  -- where the sink didn't fail it has what was taken
+  sends_taken : (outlet : Outlet W) (emitter : State) → has_failed outlet.handing ≡ false → (gave : Given outlet emitter)
+      → Appends held (contents outlet.sink.now) gave.taken
+  sends_taken outlet emitter unfailed gave =
+      subst (Appends held (contents outlet.sink.now))
+      (ap (λ (l : List ℕ). gave.taken ++ l) (gave.handed.none unfailed) ∙ append-nil gave.taken) gave.handed.sends
+
   -- what is left was handed on, too
-  pub sent_document : (given : Settings) (outlet : Outlet W) (sink now : W) (base : ℕ) (writer : WriterState) (rest : List ℕ) → outlet ≡ Sink sink
-      → StandsTaken given opening [] start.emitter → StandsIn outlet base writer → Finishes writer.emitter rest
-      → Appends (contents sink) (contents now) rest → AppendsDocument given held (contents now)
-  sent_document given outlet sink now base writer rest is began stands finishes appends = ∥∥₁_map stands.given whole
+  pub sent_document : (given : Settings) (outlet : Outlet W) (now : W) (base : ℕ) (writer : WriterState) (rest : List ℕ)
+      → has_failed outlet.handing ≡ false → StandsTaken given opening [] start.emitter → StandsIn outlet base writer → Finishes writer.emitter rest
+      → Appends (contents outlet.sink.now) (contents now) rest → AppendsDocument given held (contents now)
+  sent_document given outlet now base writer rest unfailed began stands finishes appends = ∥∥₁_map stands.given whole
     where
       whole : Given outlet writer.emitter → (bytes : List ℕ) × Appends held (contents now) bytes × IsDocument given bytes
       whole gave = (
-        gave.0 ++ rest,
-        appends_then held (contents sink) (contents now) gave.0 rest (subst (λ (o : Outlet W). Handed contents held o gave.0) is gave.1) appends,
-        ∣ gave_document given start.emitter writer.emitter gave.0 rest began gave.2 finishes ∣₁,
+        gave.taken ++ rest,
+        Appends-trans held (contents outlet.sink.now) (contents now) gave.taken rest (sends_taken outlet writer.emitter unfailed gave) appends,
+        ∣ gave_document given start.emitter writer.emitter gave.taken rest began gave.gave finishes ∣₁,
       )
 
-  pub sink_document : {E : Type 0} (answer : Result W E) (outlet : Outlet W) (sink : W) (base : ℕ) (writer : WriterState) (rest : List ℕ) → outlet ≡ Sink sink
-      → StandsIn outlet base writer → Finishes writer.emitter rest → IfOk answer (λ now. Appends (contents sink) (contents now) rest)
-      → IfOk answer (λ now. (given : Settings) → StandsTaken given opening [] start.emitter → AppendsDocument given held (contents now))
-  sink_document (Ok now) outlet sink base writer rest is stands finishes appends =
-      λ given began. sent_document given outlet sink now base writer rest is began stands finishes appends
-  sink_document (Err error) outlet sink base writer rest is stands finishes appends = tt
+  -- or a beginning of it was
+  pub sent_beginning : (given : Settings) (outlet : Outlet W) (now : W) (base : ℕ) (writer : WriterState) (rest : List ℕ)
+      → has_failed outlet.handing ≡ false → StandsTaken given opening [] start.emitter → StandsIn outlet base writer → Finishes writer.emitter rest
+      → AppendsFirst (contents outlet.sink.now) (contents now) rest → AppendsBeginning given held (contents now)
+  sent_beginning given outlet now base writer rest unfailed began stands finishes first = ∥∥₁_map stands.given part
+    where
+      part : Given outlet writer.emitter
+          → (bytes : List ℕ) × AppendsFirst held (contents now) bytes × ((bytes ≡ []) ⊎ (IsPartial given bytes ⊎ IsDocument given bytes))
+      part gave = (
+        gave.taken ++ rest,
+        appends_first held (contents outlet.sink.now) (contents now) gave.taken rest (sends_taken outlet writer.emitter unfailed gave) first,
+        inr (inr ∣ gave_document given start.emitter writer.emitter gave.taken rest began gave.gave finishes ∣₁),
+      )
+
+  pub answers_written : {E : Type 0} (answer : Result (Unit {0}) E) (outlet : Outlet W) (now : W) (base : ℕ) (writer : WriterState) (rest : List ℕ)
+      → has_failed outlet.handing ≡ false → StandsIn outlet base writer → Finishes writer.emitter rest
+      → OnOk answer (Appends (contents outlet.sink.now) (contents now) rest)
+      → OnOk answer ((given : Settings) → StandsTaken given opening [] start.emitter → AppendsDocument given held (contents now))
+  answers_written (Ok done) outlet now base writer rest unfailed stands finishes appends =
+      λ given began. sent_document given outlet now base writer rest unfailed began stands finishes appends
+  answers_written (Err error) outlet now base writer rest unfailed stands finishes appends = tt
+
+  pub answers_first : {E : Type 0} (answer : Result (Unit {0}) E) (outlet : Outlet W) (now : W) (base : ℕ) (writer : WriterState) (rest : List ℕ)
+      → has_failed outlet.handing ≡ false → StandsIn outlet base writer → Finishes writer.emitter rest
+      → OnErr answer (AppendsFirst (contents outlet.sink.now) (contents now) rest)
+      → OnErr answer ((given : Settings) → StandsTaken given opening [] start.emitter → AppendsBeginning given held (contents now))
+  answers_first (Ok done) outlet now base writer rest unfailed stands finishes first = tt
+  answers_first (Err error) outlet now base writer rest unfailed stands finishes first =
+      λ given began. sent_beginning given outlet now base writer rest unfailed began stands finishes first
+
+  -- nothing more was handed on
+  pub sent_part : (given : Settings) (outlet : Outlet W) (base : ℕ) (writer : WriterState) → StandsTaken given opening [] start.emitter
+      → StandsIn outlet base writer → AppendsBeginning given held (contents outlet.sink.now)
+  sent_part given outlet base writer began stands = ∥∥₁_map stands.given part
+    where
+      part : Given outlet writer.emitter
+          → (bytes : List ℕ) × AppendsFirst held (contents outlet.sink.now) bytes × ((bytes ≡ []) ⊎ (IsPartial given bytes ⊎ IsDocument given bytes))
+      part gave =
+          let stood : StandsTaken given (opening ++ gave.gave.events) gave.taken writer.emitter = gave.gave.stands given opening [] began in (
+            writer.emitter.page.output,
+            (gave.taken ++ gave.more, gave.begins given opening [] began, gave.handed.sends),
+            inr (inl (record {
+              events = gave.gave.events;
+              are = gave.gave.are;
+              state = writer.emitter;
+              stands = stood.stands;
+              promised = promised given (opening ++ gave.gave.events) writer.emitter stood.stands;
+              output_is = refl;
+            })),
+          )

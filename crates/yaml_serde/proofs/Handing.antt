@@ -1,68 +1,68 @@
 -- What is handed on of a document's bytes.
-use Rattle.yaml_serde.proofs.Common.{ℕ, Option, None, Some, true, List, [], ◌++◌, refl, ◌≡◌, append-nil, append_assoc, ap, subst, sym, ◌∙◌, Appends, State}
-use Rattle.yaml_serde.proofs.Common.{grows_itself, Grows, is_kept, Handed, HandsOn, WriterState, StandsTaken, TakesBytes}
+use Rattle.yaml_serde.proofs.Common.{ℕ, Option, None, Some, Bool, true, false, List, [], ◌++◌, refl, ◌≡◌, append-nil, append_assoc, ap, subst, sym, ◌∙◌}
+use Rattle.yaml_serde.proofs.Common.{Appends, Ok, Event, Settings, State, grows_itself, Grows, is_kept, WriterState, StandsTaken}
+use Rattle.yaml_base.specs.Prefix.{IsPrefix}
+use Rattle.yaml_base.proofs.Prefixes.{prefix_itself, prefix_same}
 use Rattle.yaml_emitter.proofs.Common.{with_all_taken}
-use Rattle.std.specs.declared.io.Error.{Error}
-use Rattle.yaml_base.proofs.Prefixes.{prefix_itself}
 use Rattle.yaml_pen.specs.Page.{output_left}
-use Rattle.yaml_serde.specs.declared.outlet.{Outlet.Outlet, Outlet.TheVariants.Failed, Outlet.TheVariants.Kept, Outlet.TheVariants.Sink}
+use Rattle.yaml_pen.specs.Sinks.{AppendsFirst}
+use Rattle.yaml_serde.specs.Outlets.{HandsOn, has_failed}
+use Rattle.yaml_serde.specs.declared.outlet.Outlet.{Outlet}
+use Rattle.std.specs.declared.io.Error as io
+use Rattle.yaml_serde.specs.declared.outlet.Handing.{Handing}
+use Rattle.yaml_serde.specs.declared.outlet.Handing.TheVariants.{Kept, Open, Failed}
+use Rattle.yaml_writer.proofs.Taken.{taken_and_left}
+use Rattle.std.proofs.KnownBytes.{Appends-trans}
 
--- known bytes grow twice
-pub appends_then : (a b c : Option (List ℕ)) (x y : List ℕ) → Appends a b x → Appends b c y → Appends a c (x ++ y)
-appends_then None b c x y first next = tt
-appends_then (Some xs) None c x y first next = absurd first
-appends_then (Some xs) (Some ys) None x y first next = absurd next
-appends_then (Some xs) (Some ys) (Some zs) x y first next = next ∙ ap (λ (l : List ℕ). l ++ y) first ∙ append_assoc xs x y
+-- ---- known bytes
 
-module _ {W : Type 0} (contents : W → Option (List ℕ)) where
-  -- nothing is handed on
-  hands_none : (old new : Outlet W) (writer : WriterState) → is_kept new ≡ is_kept old
-      → ((held : Option (List ℕ)) (bytes : List ℕ) → Handed contents held old bytes → Handed contents held new bytes)
-      → HandsOn contents old writer new writer
-  hands_none old new writer kept keeps = record {
-    more = [];
-    handed = λ held bytes handed. subst (Handed contents held new) (sym (append-nil bytes)) (keeps held bytes handed);
-    takes = λ given all sent stands. subst (λ (taken : List ℕ). StandsTaken given all taken writer.emitter) (sym (append-nil sent)) stands;
-    rest = refl;
-    grows = grows_itself writer.emitter.page;
-    kept = kept;
-  }
+-- a list before a prefix
+pub prefix_after : (xs ys zs : List ℕ) → IsPrefix ys zs → IsPrefix (xs ++ ys) (xs ++ zs)
+prefix_after xs ys zs is =
+    record {
+      rest = is.rest;
+      parts = append_assoc xs ys is.rest ∙ ap (λ (l : List ℕ). xs ++ l) is.parts;
+    }
 
-  -- a sink that failed stays so
-  pub fails_again : (old : Outlet W) (error : Error) (writer : WriterState) → old ≡ Failed error → HandsOn contents old writer (Failed error) writer
-  fails_again old error writer is =
-      subst (λ (outlet : Outlet W). HandsOn contents outlet writer (Failed error) writer) (sym is)
-      (hands_none (Failed error) (Failed error) writer refl (λ held bytes handed. tt))
+-- they grow by a list, and then by a beginning of another
+pub appends_first : (a b c : Option (List ℕ)) (x y : List ℕ) → Appends a b x → AppendsFirst b c y → AppendsFirst a c (x ++ y)
+appends_first a b c x y whole first =
+    (x ++ first.0, prefix_after x first.0 y first.1, Appends-trans a b c x first.0 whole first.2)
 
-  pub fails : (old : Outlet W) (sink : W) (error : Error) (before after : WriterState) → old ≡ Sink sink → after ≡ before
-      → HandsOn contents old before (Failed error) after
-  fails old sink error before after is same =
-      subst (λ (writer : WriterState). HandsOn contents old before (Failed error) writer) (sym same)
-      (subst (λ (outlet : Outlet W). HandsOn contents outlet before (Failed error) before) (sym is)
-      (hands_none (Sink sink) (Failed error) before refl (λ held bytes handed. tt)))
+-- ---- the output
 
-  -- what is flushed is handed on
-  pub hands_all : (old : Outlet W) (sink now : W) (before after : WriterState) → old ≡ Sink sink
-      → Appends (contents sink) (contents now) (output_left before.emitter.page)
-      → TakesBytes before.emitter (output_left before.emitter.page) after.emitter
-      → after ≡ record before { emitter = with_all_taken before.emitter } → HandsOn contents old before (Sink now) after
-  hands_all old sink now before after is appends takes rest =
-      subst (λ (outlet : Outlet W). HandsOn contents outlet before (Sink now) after) (sym is)
-      (record {
-        more = output_left before.emitter.page;
-        handed = λ held bytes handed.
-            appends_then held (contents sink) (contents now) bytes (output_left before.emitter.page) handed appends;
-        takes = takes;
-        rest = rest ∙ ap (λ (emitter : State). record before { emitter = emitter }) (sym (ap (λ (writer : WriterState). writer.emitter) rest));
-        grows = subst (λ (writer : WriterState). Grows before.emitter.page writer.emitter.page) (sym rest) same_text;
-        kept = refl;
-      })
-    where
-      same_text : Grows before.emitter.page (with_all_taken before.emitter).page
-      same_text = record { text = prefix_itself before.emitter.page.text; output = prefix_itself before.emitter.page.output }
+-- what was taken, and a beginning of what is left, begin the output
+pub left_begins : (given : Settings) (all : List Event) (sent first : List ℕ) (emitter : State) → StandsTaken given all sent emitter
+    → IsPrefix first (output_left emitter.page) → IsPrefix (sent ++ first) emitter.page.output
+left_begins given all sent first emitter stands is =
+    subst (IsPrefix (sent ++ first)) (taken_and_left given all sent emitter stands) (prefix_after sent first (output_left emitter.page) is)
 
-  -- of what stays with the writer nothing is handed on
-  pub kept_none : (held : Option (List ℕ)) (outlet : Outlet W) (bytes : List ℕ) → is_kept outlet ≡ true → Handed contents held outlet bytes → bytes ≡ []
-  kept_none held Kept bytes kept handed = handed
-  kept_none held (Sink sink) bytes kept handed = cc
-  kept_none held (Failed error) bytes kept handed = cc
+-- what is taken stays written
+pub grows_taken : (before after : WriterState) → after ≡ record before { emitter = with_all_taken before.emitter }
+    → Grows before.emitter.page after.emitter.page
+grows_taken before after rest =
+    subst (λ (writer : WriterState). Grows before.emitter.page writer.emitter.page) (sym rest)
+    (record { text = prefix_itself before.emitter.page.text; output = prefix_itself before.emitter.page.output })
+
+-- ---- whether a sink failed
+
+-- a sink that didn't
+pub not_failed : (handing : Handing) → ((error : io.Error) → handing ≡ Failed error → ⊥) → has_failed handing ≡ false
+not_failed Kept none = refl
+not_failed Open none = refl
+not_failed (Failed error) none = absurd (none error refl)
+
+-- a sink that failed is one
+pub failed_is_sent : (handing : Handing) → has_failed handing ≡ true → is_kept handing ≡ false
+failed_is_sent Kept failed = cc
+failed_is_sent Open failed = refl
+failed_is_sent (Failed error) failed = refl
+
+-- ---- handing on
+
+module _ {W : Type 0} (contents : W → Option (List ℕ)) (old : Outlet W) (before : WriterState) where
+  -- the bytes stay with the writer
+  pub hands_kept : old.handing ≡ Kept → HandsOn contents old.handing old before (Ok tt) old before
+  hands_kept is =
+      subst (λ (handing : Handing). HandsOn contents handing old before (Ok tt) old before) (sym is)
+      (refl, record { outlet = refl; writer = refl })

@@ -1,12 +1,15 @@
 -- Documents, as they are written and when they are finished.
 use Rattle.std.specs.Io.KnownBytes.{Appends}
-use Rattle.std.specs.Prelude.{◌≡◌, ℕ, ℤ, Bool, true, Option, List, [], ◌++◌}
+use Rattle.std.specs.Prelude.{◌≡◌, ◌⊎◌, ℕ, ℤ, Bool, true, Option, List, [], ◌++◌}
 use Rattle.std.specs.List.{All}
 use Rattle.yaml_base.specs.Characters.{Text}
 use Rattle.yaml_base.specs.Event.{Event, block}
 use Rattle.yaml_base.specs.values.JsonNumbers.{JsonNumber, is_json_number}
 use Rattle.yaml_base.specs.Settings.{Settings}
+use Rattle.yaml_pen.specs.Sinks.{AppendsFirst}
 use Rattle.yaml_pen.specs.Wrote.{Grows}
+use Rattle.yaml_emitter.specs.Promises.{Promised}
+use Rattle.yaml_emitter.specs.StandsAfter.{StandsAfter}
 use Rattle.yaml_emitter.specs.State.{State}
 use Rattle.yaml_writer.specs.Floats.{special_event}
 use Rattle.yaml_writer.specs.Writing.{WriterState, IsStream, StandsTaken, bool_event, closing, end_event, int_event, mapping_event, null_event, number_event}
@@ -35,6 +38,20 @@ IsDocument given bytes = ∥ ((events : List Event) × All IsWriterEvent events 
 -- the known bytes of a sink grow by those of a document
 abbrev pub AppendsDocument : Settings → Option (List ℕ) → Option (List ℕ) → Type 0
 AppendsDocument given before after = ∥ ((bytes : List ℕ) × Appends before after bytes × IsDocument given bytes) ∥₁
+
+-- the output of an emitter that was given the start of a stream of one document, and the events of some calls
+pub record IsPartial (given : Settings) (output : List ℕ) : Type 0 where
+  pub events : List Event
+  pub are : All IsWriterEvent events
+  pub state : State
+  pub stands : StandsAfter given (opening ++ events) state
+  pub promised : Promised given (opening ++ events) state
+  pub output_is : output ≡ state.page.output
+
+-- the known bytes of a sink grow by a beginning of a document, or of what is written of one before its end; or by nothing
+abbrev pub AppendsBeginning : Settings → Option (List ℕ) → Option (List ℕ) → Type 0
+AppendsBeginning given before after =
+    ∥ ((bytes : List ℕ) × AppendsFirst before after bytes × ((bytes ≡ []) ⊎ (IsPartial given bytes ⊎ IsDocument given bytes))) ∥₁
 
 -- an emitter was given the events of some calls more, and these bytes of its output were taken more; what was written before stays
 pub record GaveEvents (before : State) (bytes : List ℕ) (after : State) : Type 0 where

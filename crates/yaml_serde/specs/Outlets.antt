@@ -1,59 +1,94 @@
 -- Where the bytes of a document go, and what was written of it so far.
 use Rattle.std.specs.Io.KnownBytes.{Appends}
-use Rattle.std.specs.Prelude.{◌≡◌, ⊤, ℕ, Bool, true, false, Option, None, List, [], ◌++◌, length, take}
-use Rattle.yaml_pen.specs.Wrote.{Grows}
+use Rattle.std.specs.Prelude.{◌≡◌, ℕ, Bool, true, false, Option, None, Result, Ok, Err, List, [], ◌++◌, length, take}
+use Rattle.std.specs.Borrow.{GName}
+use Rattle.yaml_base.specs.Prefix.{IsPrefix}
+use Rattle.yaml_base.specs.Settings.{Settings}
+use Rattle.yaml_base.specs.Event.{Event}
 use Rattle.yaml_pen.specs.Page.{output_left}
+use Rattle.yaml_pen.specs.Sinks.{AppendsFirst}
 use Rattle.yaml_emitter.specs.State.{State, new_state, with_all_taken}
-use Rattle.yaml_writer.specs.Writing.{WriterState, TakesBytes}
+use Rattle.yaml_writer.specs.Writing.{StandsTaken, WriterState, TakesBytes}
 use Rattle.yaml_serde.specs.Documents.{GaveEvents}
+use Rattle.yaml_serde.specs.declared.error.Error.{Error}
+use Rattle.yaml_serde.specs.declared.error.Error.TheVariants as errors
+use Rattle.yaml_serde.specs.declared.outlet.Handing.{Handing}
+use Rattle.yaml_serde.specs.declared.outlet.Handing.TheVariants.{Kept, Open, Failed}
 use Rattle.yaml_serde.specs.declared.outlet.Outlet.{Outlet}
-use Rattle.yaml_serde.specs.declared.outlet.Outlet.TheVariants.{Kept, Sink, Failed}
 
 -- whether the bytes stay with the writer
-abbrev pub is_kept : {W : Type 0} → Outlet W → Bool
+abbrev pub is_kept : Handing → Bool
 is_kept Kept = true
-is_kept (Sink sink) = false
+is_kept Open = false
 is_kept (Failed error) = false
 
--- these bytes were handed on to a sink, which held others before; none, where they stay with the writer
-abbrev pub Handed : {W : Type 0} → (W → Option (List ℕ)) → Option (List ℕ) → Outlet W → List ℕ → Type 0
-Handed contents held Kept bytes = bytes ≡ []
-Handed contents held (Sink sink) bytes = Appends held (contents sink) bytes
-Handed contents held (Failed error) bytes = ⊤
-
--- some bytes of a writer's output were handed on, and nothing else of the writer changed
-pub record HandsOn {W : Type 0} (contents : W → Option (List ℕ)) (old : Outlet W) (before : WriterState) (new : Outlet W) (after : WriterState) : Type 0 where
-  pub more : List ℕ
-  pub handed : (held : Option (List ℕ)) (bytes : List ℕ) → Handed contents held old bytes → Handed contents held new (bytes ++ more)
-  pub takes : TakesBytes before.emitter more after.emitter
-  pub rest : after ≡ record before { emitter = after.emitter }
-  pub grows : Grows before.emitter.page after.emitter.page
-  pub kept : is_kept new ≡ is_kept old
-
--- all that was flushed was handed on to a sink, and is taken; nothing, where the bytes stay with the writer
-abbrev pub HandsAll : {W : Type 0} → (W → Option (List ℕ)) → Outlet W → WriterState → Outlet W → WriterState → Type 0
-HandsAll contents Kept before Kept after = after ≡ before
-HandsAll contents (Sink sink) before (Sink now) after =
-    Appends (contents sink) (contents now) (output_left before.emitter.page)
-    × (after ≡ record before { emitter = with_all_taken before.emitter })
-HandsAll contents old before new after = ⊥
-
 -- whether the sink failed
-abbrev pub has_failed : {W : Type 0} → Outlet W → Bool
+abbrev pub has_failed : Handing → Bool
 has_failed Kept = false
-has_failed (Sink sink) = false
+has_failed Open = false
 has_failed (Failed error) = true
 
--- what was written of a document: the writer was given the events of some calls, of its output these bytes were taken, and they were
--- handed on; what was written before stays
-abbrev pub HasGiven : {W : Type 0} → (W → Option (List ℕ)) → Option (List ℕ) → State → Outlet W → State → Type 0
-HasGiven contents held start outlet emitter = ∥ ((bytes : List ℕ) × Handed contents held outlet bytes × GaveEvents start bytes emitter) ∥₁
+-- ---- one step
 
--- a document within a writer: the collections that were open before stay so, and below the base of the document
-pub record Stands {W : Type 0} (contents : W → Option (List ℕ)) (held : Option (List ℕ)) (keeps : Bool) (start : WriterState) (outlet : Outlet W) (base : ℕ)
-    (writer : WriterState) : Type 0 where
+-- all that is left of the writer's output was handed on, and is taken
+pub record HandsAll {W : Type 0} (contents : W → Option (List ℕ)) (old : Outlet W) (before : WriterState) (new : Outlet W)
+    (after : WriterState) : Type 0 where
+  pub sends : Appends (contents old.sink.now) (contents new.sink.now) (output_left before.emitter.page)
+  pub takes : TakesBytes before.emitter (output_left before.emitter.page) after.emitter
+  pub writer : after ≡ record before { emitter = with_all_taken before.emitter }
+  pub stays : new.handing ≡ old.handing
+
+-- the sink failed, with a beginning of what is left of the writer's output
+pub record HandsFirst {W : Type 0} (contents : W → Option (List ℕ)) (old : Outlet W) (before : WriterState) (new : Outlet W)
+    (after : WriterState) : Type 0 where
+  pub sends : AppendsFirst (contents old.sink.now) (contents new.sink.now) (output_left before.emitter.page)
+  pub writer : after ≡ before
+  pub fails : has_failed new.handing ≡ true
+
+-- nothing changed
+pub record HandsNone {W : Type 0} (old : Outlet W) (before : WriterState) (new : Outlet W) (after : WriterState) : Type 0 where
+  pub outlet : new ≡ old
+  pub writer : after ≡ before
+
+-- what is left of the writer's output was handed on, all or where the sink failed a beginning; nothing, where the bytes stay with the
+-- writer, or the sink failed before
+abbrev pub HandsOn :
+    {W : Type 0} → (W → Option (List ℕ)) → Handing → Outlet W → WriterState → Result (Unit {0}) Error → Outlet W → WriterState → Type 0
+HandsOn contents Kept old before answer new after = (answer ≡ Ok tt) × HandsNone old before new after
+HandsOn contents (Failed error) old before answer new after = (answer ≡ Err (errors.Sink error)) × HandsNone old before new after
+HandsOn contents Open old before (Ok done) new after = HandsAll contents old before new after
+HandsOn contents Open old before (Err error) new after = HandsFirst contents old before new after
+
+-- ---- the whole document so far
+
+-- a sink, which held others before, was handed these bytes, which are taken of the writer's output, and where it failed, some more;
+-- none, where the bytes stay with the writer
+pub record Handed {W : Type 0} (contents : W → Option (List ℕ)) (held : Option (List ℕ)) (outlet : Outlet W) (taken more : List ℕ) : Type 0 where
+  pub sends : Appends held (contents outlet.sink.now) (taken ++ more)
+  pub none : has_failed outlet.handing ≡ false → more ≡ []
+  pub kept : is_kept outlet.handing ≡ true → taken ≡ []
+
+-- the writer was given the events of some calls, and what was handed on is a beginning of its output; what was written before stays
+pub record Gave {W : Type 0} (contents : W → Option (List ℕ)) (held : Option (List ℕ)) (start : State) (outlet : Outlet W) (emitter : State) : Type 0 where
+  pub taken : List ℕ
+  pub more : List ℕ
+  pub handed : Handed contents held outlet taken more
+  pub gave : GaveEvents start taken emitter
+  pub begins :
+      (given : Settings) (all : List Event) (sent : List ℕ)
+      → StandsTaken given all sent start → IsPrefix ((sent ++ taken) ++ more) emitter.page.output
+
+-- and so, whatever was given
+abbrev pub HasGiven : {W : Type 0} → (W → Option (List ℕ)) → Option (List ℕ) → State → Outlet W → State → Type 0
+HasGiven contents held start outlet emitter = ∥ Gave contents held start outlet emitter ∥₁
+
+-- a document within a writer, which is handed on by the reference of this name: the collections that were open before stay so, and below the
+-- base of the document
+pub record Stands {W : Type 0} (contents : W → Option (List ℕ)) (held : Option (List ℕ)) (name : GName) (keeps : Bool) (start : WriterState)
+    (outlet : Outlet W) (base : ℕ) (writer : WriterState) : Type 0 where
   pub given : HasGiven contents held start.emitter outlet writer.emitter
-  pub kept : is_kept outlet ≡ keeps
+  pub kept : is_kept outlet.handing ≡ keeps
+  pub same : keeps ≡ false → outlet.sink.ghost_name ≡ name
   pub base_is : base ≡ length start.levels
   pub canonical : writer.canonical ≡ start.canonical
   pub above : take (length start.levels) writer.levels ≡ start.levels

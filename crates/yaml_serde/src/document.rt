@@ -1,28 +1,34 @@
 //! A document that is being written.
+ghost use Rattle.std.specs.Borrow.{GName};
 ghost use Rattle.std.specs.Io.KnownBytes.{Appends};
 ghost use Rattle.std.specs.Prelude.{◌≡◌, ℕ, [], false, true, Bool, IfOk, List, None, Ok, OnErr, OnOk, Option, length, take};
 ghost use Rattle.yaml_base.specs.Settings as base;
+ghost use Rattle.yaml_pen.specs.Sinks.{AppendsFirst};
+ghost use Rattle.yaml_pen.specs.Wrote.{Grows};
 ghost use Rattle.yaml_writer.specs.Writing.{StandsTaken, WriterState, awaits_node, opening};
-ghost use Rattle.yaml_serde.specs.Documents.{AppendsDocument, GivesEvents, IsDocument};
+ghost use Rattle.yaml_serde.specs.Documents.{AppendsBeginning, AppendsDocument, GivesEvents, IsDocument};
 ghost use Rattle.yaml_serde.specs.Numbers.{HasNumber};
-ghost use Rattle.yaml_serde.specs.Outlets.{Handed, HandsAll, Stands, has_failed, is_kept, some_writer};
+ghost use Rattle.yaml_serde.specs.Outlets.{HandsOn, Stands, some_writer};
 
 use crate::error::Error;
 use crate::numbers::number_in;
-use crate::outlet::{Outlet, hand_on};
+use crate::outlet::{Handing, Outlet, hand_on};
 use std::alloc::Global;
 use std::io::Write;
 use std::marker::{Brand, PhantomData};
+use yaml_pen::write_to_sink;
 use yaml_writer::{
     SpecialFloat, Writer, YAML_BLOCK_MAPPING_STYLE, YAML_BLOCK_SEQUENCE_STYLE, yaml_error_t,
 };
 
-/// What stood before a document, which its type names: its writer, the bytes of its sink where they are known, and whether its bytes
-/// stay with the writer.
+/// What stood before a document, which its type names: its writer, the bytes of its sink where they are known, the name of the
+/// reference to it, and whether the document's bytes stay with the writer.
 pub(crate) trait Given {
     ghost start: { WriterState };
 
     ghost held: { Option (List ℕ) };
+
+    ghost name: { GName };
 
     ghost keeps: { Bool };
 }
@@ -33,30 +39,55 @@ impl Given for Brand {
 
     ghost held = { None };
 
+    ghost name = { 0 };
+
     ghost keeps = { true };
 }
 
 /// A document being written: its writer, and where the bytes go.
 #[derive(Drop)]
-pub(crate) struct Document<G: Given, W: Write + Drop> {
+pub(crate) struct Document<'a, G: Given, W: Write> {
     writer: Writer<Global>,
-    outlet: Outlet<W>,
+    outlet: Outlet<'a, W>,
     /// How many collections of the writer are no part of the document.
     base: usize,
     marker: PhantomData<G>,
-    ghost stands: { Stands W.contents G.held G.keeps G.start outlet base writer },
+    ghost stands: { Stands W.contents G.held G.name G.keeps G.start outlet base writer },
 }
 
-impl<G: Given, W: Write + Drop> Document<G, W> {
-    pub(crate) fn new(writer: Writer<Global>, outlet: Outlet<W>) -> Document<G, W>
+impl<'a, G: Given, W: Write> Document<'a, G, W> {
+    /// A document whose bytes stay with the writer; the sink gets none.
+    pub(crate) fn kept(writer: Writer<Global>, nowhere: &'a mut W) -> Document<'a, G, W>
         requires start { writer ≡ G.start }
-        requires held { Handed W.contents G.held outlet [] }
-        requires kept { is_kept outlet ≡ G.keeps }
+        requires held { G.held ≡ None }
+        requires keeps { G.keeps ≡ true }
     {
         let base = writer.depth();
         Document {
             writer,
-            outlet,
+            outlet: Outlet {
+                sink: nowhere,
+                handing: Handing::Kept,
+            },
+            base,
+            marker: PhantomData,
+        }
+    }
+
+    /// A document whose bytes are handed on to a sink.
+    pub(crate) fn sent(writer: Writer<Global>, sink: &'a mut W) -> Document<'a, G, W>
+        requires start { writer ≡ G.start }
+        requires held { G.held ≡ W.contents sink.now }
+        requires name { G.name ≡ sink.ghost_name }
+        requires keeps { G.keeps ≡ false }
+    {
+        let base = writer.depth();
+        Document {
+            writer,
+            outlet: Outlet {
+                sink,
+                handing: Handing::Open,
+            },
             base,
             marker: PhantomData,
         }
@@ -65,8 +96,7 @@ impl<G: Given, W: Write + Drop> Document<G, W> {
     /// Hands on what is flushed, once an event was given.
     fn settle(&mut self, given: Result<(), yaml_error_t>) -> Result<(), Error>
         ensures given { OnOk result (given ≡ Ok tt) }
-        ensures all { OnOk result (HandsAll W.contents self.old.outlet self.old.writer self.new.outlet self.new.writer) }
-        ensures failed { given ≡ Ok tt → OnErr result (has_failed self.new.outlet ≡ true) }
+        ensures hands { given ≡ Ok tt → HandsOn W.contents self.old.outlet.handing self.old.outlet self.old.writer result self.new.outlet self.new.writer }
     {
         given?;
         hand_on(&mut self.writer, &mut self.outlet)
@@ -142,19 +172,38 @@ impl<G: Given, W: Write + Drop> Document<G, W> {
         Ok(writer.finish()?)
     }
 
-    /// Hands on what is left of the whole stream, and gives the sink back.
-    pub(crate) fn finish_sent(self) -> Result<W, Error>
+    /// Hands on what is left of the whole stream, and gives the sink back, with the answer.
+    pub fn finish_sent(self) -> (&'a mut W, Result<(), Error>)
         requires { G.keeps ≡ false }
-        ensures { IfOk result (λ sink. (given : base.Settings) → StandsTaken given opening [] G.start.emitter
-            → AppendsDocument given G.held (W.contents sink)) }
+        ensures same { result.0.ghost_name ≡ G.name }
+        ensures written { OnOk result.1 ((given : base.Settings) → StandsTaken given opening [] G.start.emitter
+            → AppendsDocument given G.held (W.contents result.0.now)) }
+        ensures first { OnErr result.1 ((given : base.Settings) → StandsTaken given opening [] G.start.emitter
+            → AppendsBeginning given G.held (W.contents result.0.now)) }
     {
         let Document { writer, outlet, .. } = self;
-        let rest = writer.finish()?;
-        match outlet {
-            Outlet::Kept => unreachable!(),
-            Outlet::Failed(error) => Err(Error::Sink(error)),
-            Outlet::Sink(sink) => finish_sink(sink, rest.as_slice()),
+        let Outlet { sink, handing } = outlet;
+        if let Handing::Failed(error) = handing {
+            return (sink, Err(Error::Sink(error)));
         }
+        match writer.finish() {
+            Ok(rest) => {
+                let answer = finish_sink(sink, rest.as_slice());
+                (sink, answer)
+            }
+            Err(error) => (sink, Err(Error::from(error))),
+        }
+    }
+
+    /// The sink, as far as the document was handed on.
+    pub fn into_sink(self) -> &'a mut W
+        requires { G.keeps ≡ false }
+        ensures same { result.ghost_name ≡ G.name }
+        ensures first { (given : base.Settings) → StandsTaken given opening [] G.start.emitter → AppendsBeginning given G.held (W.contents result.now) }
+    {
+        let Document { outlet, .. } = self;
+        let Outlet { sink, .. } = outlet;
+        sink
     }
 
     /// The writer, and its error, if it has one; `ExpectedNode` where something that the document opened isn't ended, or an
@@ -162,6 +211,7 @@ impl<G: Given, W: Write + Drop> Document<G, W> {
     pub(crate) fn into_writer(self) -> (Writer<Global>, Result<(), Error>)
         requires { G.keeps ≡ true }
         ensures gives { GivesEvents G.start.emitter result.0.emitter }
+        ensures grows { Grows G.start.emitter.page result.0.emitter.page }
         ensures canonical { result.0.canonical ≡ G.start.canonical }
         ensures above { take (length G.start.levels) result.0.levels ≡ G.start.levels }
         ensures whole { OnOk result.1 ((result.0.levels ≡ G.start.levels) × (awaits_node result.0 ≡ false)) }
@@ -178,11 +228,12 @@ impl<G: Given, W: Write + Drop> Document<G, W> {
 }
 
 /// Writes the last bytes to a sink.
-fn finish_sink<W: Write + Drop>(mut sink: W, rest: &[u8]) -> Result<W, Error>
-    ensures { IfOk result (λ after. Appends (W.contents sink) (W.contents after) rest.now) }
+fn finish_sink<W: Write>(sink: &mut W, rest: &[u8]) -> Result<(), Error>
+    ensures written { OnOk result (Appends (W.contents sink.old) (W.contents sink.new) rest.now) }
+    ensures first { OnErr result (AppendsFirst (W.contents sink.old) (W.contents sink.new) rest.now) }
 {
-    match sink.write_all(rest) {
-        Ok(()) => Ok(sink),
+    match write_to_sink(sink, rest) {
+        Ok(()) => Ok(()),
         Err(error) => Err(Error::Sink(error)),
     }
 }

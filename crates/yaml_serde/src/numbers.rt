@@ -18,23 +18,23 @@ pub(crate) fn number_in(text: &str) -> Number<'_>
     }
 }
 
-pub(crate) fn give_signed<G: Given, W: Write + Drop>(
-    document: &mut Document<G, W>,
+pub(crate) fn give_signed<G: Given, W: Write>(
+    document: &mut Document<'_, G, W>,
     value: i128,
 ) -> Result<(), Error> {
     document.number(itoa::Buffer::new().format(value))
 }
 
-pub(crate) fn give_unsigned<G: Given, W: Write + Drop>(
-    document: &mut Document<G, W>,
+pub(crate) fn give_unsigned<G: Given, W: Write>(
+    document: &mut Document<'_, G, W>,
     value: u128,
 ) -> Result<(), Error> {
     document.number(itoa::Buffer::new().format(value))
 }
 
 /// Writes the shortest digits that read as this float, or `.inf`, `-.inf`, `.nan`.
-pub(crate) fn give_single<G: Given, W: Write + Drop>(
-    document: &mut Document<G, W>,
+pub(crate) fn give_single<G: Given, W: Write>(
+    document: &mut Document<'_, G, W>,
     value: f32,
 ) -> Result<(), Error> {
     if value.is_finite() {
@@ -44,8 +44,8 @@ pub(crate) fn give_single<G: Given, W: Write + Drop>(
 }
 
 /// Writes the shortest digits that read as this float, or `.inf`, `-.inf`, `.nan`.
-pub(crate) fn give_double<G: Given, W: Write + Drop>(
-    document: &mut Document<G, W>,
+pub(crate) fn give_double<G: Given, W: Write>(
+    document: &mut Document<'_, G, W>,
     value: f64,
 ) -> Result<(), Error> {
     if value.is_finite() {

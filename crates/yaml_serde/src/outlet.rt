@@ -1,6 +1,6 @@
 //! Where the bytes of a document go.
-ghost use Rattle.std.specs.Prelude.{◌≡◌, OnErr, OnOk, true};
-ghost use Rattle.yaml_serde.specs.Outlets.{HandsAll, HandsOn, has_failed};
+ghost use Rattle.std.specs.Prelude.{◌≡◌};
+ghost use Rattle.yaml_serde.specs.Outlets.{HandsOn};
 
 use crate::error::Error;
 use std::alloc::Global;
@@ -8,35 +8,41 @@ use std::io;
 use std::io::Write;
 use yaml_writer::Writer;
 
-/// Where the bytes of a document go.
+/// Whether the bytes of a document are handed on.
 #[derive(Drop)]
-pub(crate) enum Outlet<W> {
-    /// They stay with the writer.
+pub(crate) enum Handing {
+    /// They stay with the writer, and the sink gets none.
     Kept,
-    /// On to a sink, as they are flushed.
-    Sink(W),
+    /// They go to the sink as they are flushed.
+    Open,
     /// The sink failed.
     Failed(io::Error),
 }
 
+/// Where the bytes of a document go.
+#[derive(Drop)]
+pub(crate) struct Outlet<'a, W> {
+    pub(crate) sink: &'a mut W,
+    pub(crate) handing: Handing,
+}
+
 /// Hands on what is flushed. An error is that of the sink, which the outlet then holds.
-pub(crate) fn hand_on<W: Write + Drop>(
+pub(crate) fn hand_on<W: Write>(
     writer: &mut Writer<Global>,
-    outlet: &mut Outlet<W>,
+    outlet: &mut Outlet<'_, W>,
 ) -> Result<(), Error>
-    ensures hands { HandsOn W.contents outlet.old writer.old outlet.new writer.new }
-    ensures all { OnOk result (HandsAll W.contents outlet.old writer.old outlet.new writer.new) }
-    ensures failed { OnErr result (has_failed outlet.new ≡ true) }
+    ensures hands { HandsOn W.contents outlet.old.handing outlet.old writer.old result outlet.new writer.new }
+    ensures same { outlet.new.sink.ghost_name ≡ outlet.old.sink.ghost_name }
 {
-    let answer = match outlet {
-        Outlet::Kept => return Ok(()),
-        Outlet::Failed(error) => return Err(Error::Sink(*error)),
-        Outlet::Sink(sink) => writer.send(sink),
-    };
-    match answer {
+    match &outlet.handing {
+        Handing::Kept => return Ok(()),
+        Handing::Failed(error) => return Err(Error::Sink(*error)),
+        Handing::Open => {}
+    }
+    match writer.send(outlet.sink) {
         Ok(()) => Ok(()),
         Err(error) => {
-            *outlet = Outlet::Failed(error);
+            outlet.handing = Handing::Failed(error);
             Err(Error::Sink(error))
         }
     }

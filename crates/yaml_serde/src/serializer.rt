@@ -36,16 +36,16 @@ enum MapKind {
 
 /// Writes what a value sends.
 #[derive(Drop)]
-pub(crate) struct ValueSerializer<G: Given, W: Write + Drop> {
+pub(crate) struct ValueSerializer<'a, G: Given, W: Write> {
     alloc: Global,
-    document: Document<G, W>,
+    document: Document<'a, G, W>,
     next: Next,
     /// The maps that are open, the innermost last.
     maps: Vec<MapKind>,
 }
 
-impl<G: Given, W: Write + Drop> ValueSerializer<G, W> {
-    pub(crate) fn new(alloc: Global, document: Document<G, W>) -> ValueSerializer<G, W> {
+impl<'a, G: Given, W: Write> ValueSerializer<'a, G, W> {
+    pub(crate) fn new(alloc: Global, document: Document<'a, G, W>) -> ValueSerializer<'a, G, W> {
         ValueSerializer {
             alloc,
             document,
@@ -54,7 +54,7 @@ impl<G: Given, W: Write + Drop> ValueSerializer<G, W> {
         }
     }
 
-    pub(crate) fn into_document(self) -> Document<G, W> {
+    pub(crate) fn into_document(self) -> Document<'a, G, W> {
         let ValueSerializer { document, .. } = self;
         document
     }
@@ -112,7 +112,7 @@ impl<G: Given, W: Write + Drop> ValueSerializer<G, W> {
     }
 }
 
-impl<G: Given, W: Write + Drop> Serializer for ValueSerializer<G, W> {
+impl<G: Given, W: Write> Serializer for ValueSerializer<'_, G, W> {
     type Error = Error;
 
     fn bool(&mut self, v: bool) -> Result<(), Error> {

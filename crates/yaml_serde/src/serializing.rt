@@ -1,24 +1,24 @@
 //! A value as YAML.
-ghost use Rattle.std.specs.Prelude.{◌≡◌, [], IfOk, IsUtf8, None, OnOk, false, length, string_bytes, take, true};
+ghost use Rattle.std.specs.Prelude.{◌≡◌, [], IfOk, IsUtf8, None, OnErr, OnOk, false, length, string_bytes, take, true};
 ghost use Rattle.yaml_base.specs.Settings as base;
 ghost use Rattle.yaml_emitter.specs.Given.{seen_settings};
+ghost use Rattle.yaml_pen.specs.Wrote.{Grows};
 ghost use Rattle.yaml_writer.specs.Given.{given_for_values};
 ghost use Rattle.yaml_writer.specs.Writing.{StandsTaken, awaits_node, opening};
-ghost use Rattle.yaml_serde.specs.Documents.{AppendsDocument, GivesEvents, IsDocument};
+ghost use Rattle.yaml_serde.specs.Documents.{AppendsBeginning, AppendsDocument, GivesEvents, IsDocument};
 
 use crate::document::{Document, Given};
 use crate::error::Error;
-use crate::outlet::Outlet;
 use crate::serializer::ValueSerializer;
 use serde::Serialize;
 use std::alloc::Global;
 use std::io::Write;
 use std::marker::Brand;
-use std::mem;
+use std::{io, mem};
 use yaml_writer::{Settings, Writer, value_settings};
 
 /// The sink of a document whose bytes stay with the writer.
-type NoSink = Vec<u8>;
+type NoSink = io::Sink;
 
 /// A value as a stream of one document.
 ///
@@ -47,7 +47,7 @@ pub fn to_vec_with<T: Serialize>(
 }
 
 /// A value as a stream of one document, by the settings for values: in portable mode, so it begins with `---`; in UTF-8,
-/// with LF, an indent of 2, indented sequences, a width of 80, and characters past ASCII as themselves.
+/// with LF, an indent of 2, indented sequences, no line folded, and characters past ASCII as themselves.
 ///
 /// # Errors
 /// Those of `to_vec_with`.
@@ -70,35 +70,40 @@ pub fn to_string<T: Serialize>(alloc: Global, value: &T) -> Result<String, Error
 }
 
 /// Writes a value to a sink as a stream of one document, in the memory of 16,384 bytes, of the longest text and of what is open:
-/// its bytes are handed on as they are written, at most 16,384 later, or a scalar later where that is longer. The sink is given
-/// back; pass it as `&mut sink` to keep it after an error. It isn't flushed.
+/// its bytes are handed on as they are written, at most 16,384 later, or a scalar later where that is longer. The sink isn't flushed.
 ///
 /// # Errors
-/// Those of `to_vec_with`, and `Sink` where the sink fails. What was handed on before an error stands in the sink.
-pub fn to_writer_with<T: Serialize, W: Write + Drop>(
+/// Those of `to_vec_with`, and `Sink` where the sink fails. The sink then has a beginning of what was written of the document, which
+/// may be empty.
+pub fn to_writer_with<T: Serialize, W: Write>(
     alloc: Global,
     settings: Settings,
-    sink: W,
+    sink: &mut W,
     value: &T,
-) -> Result<W, Error>
-    ensures { IfOk result (λ after. AppendsDocument (seen_settings settings) (W.contents sink) (W.contents after)) }
+) -> Result<(), Error>
+    ensures written { OnOk result (AppendsDocument (seen_settings settings) (W.contents sink.old) (W.contents sink.new)) }
+    ensures first { OnErr result (AppendsBeginning (seen_settings settings) (W.contents sink.old) (W.contents sink.new)) }
 {
     let Ok(writer) = Writer::new(alloc, settings) else {
         return Err(Error::Memory);
     };
-    sent::<T, W, Brand>(alloc, writer, sink, value)
+    let (sink, answer) = sent::<T, W, Brand>(alloc, writer, sink, value);
+    // For the proof, which reads here what the sink has.
+    let _ = &*sink;
+    answer
 }
 
 /// Writes a value to a sink as `to_writer_with` does, by the settings for values.
 ///
 /// # Errors
 /// Those of `to_writer_with`.
-pub fn to_writer<T: Serialize, W: Write + Drop>(
+pub fn to_writer<T: Serialize, W: Write>(
     alloc: Global,
-    sink: W,
+    sink: &mut W,
     value: &T,
-) -> Result<W, Error>
-    ensures { IfOk result (λ after. AppendsDocument given_for_values (W.contents sink) (W.contents after)) }
+) -> Result<(), Error>
+    ensures written { OnOk result (AppendsDocument given_for_values (W.contents sink.old) (W.contents sink.new)) }
+    ensures first { OnErr result (AppendsBeginning given_for_values (W.contents sink.old) (W.contents sink.new)) }
 {
     to_writer_with(alloc, value_settings(), sink, value)
 }
@@ -115,6 +120,7 @@ pub fn write<T: Serialize>(
     value: &T,
 ) -> Result<(), Error>
     ensures gives { GivesEvents writer.old.emitter writer.new.emitter }
+    ensures grows { Grows writer.old.emitter.page writer.new.emitter.page }
     ensures canonical { writer.new.canonical ≡ writer.old.canonical }
     ensures above { take (length writer.old.levels) writer.new.levels ≡ writer.old.levels }
     ensures whole { OnOk result ((writer.new.levels ≡ writer.old.levels) × (awaits_node writer.new ≡ false)) }
@@ -130,11 +136,11 @@ pub fn write<T: Serialize>(
 }
 
 /// A document with a value more, and what the value's own `serialize` answered.
-fn with_value<T: Serialize, W: Write + Drop, G: Given>(
+fn with_value<'a, T: Serialize, W: Write, G: Given>(
     alloc: Global,
-    document: Document<G, W>,
+    document: Document<'a, G, W>,
     value: &T,
-) -> (Document<G, W>, Result<(), Error>) {
+) -> (Document<'a, G, W>, Result<(), Error>) {
     let mut serializer = ValueSerializer::new(alloc, document);
     let answer = value.serialize(&mut serializer);
     (serializer.into_document(), answer)
@@ -147,10 +153,12 @@ fn finished<T: Serialize, G: Given>(
     value: &T,
 ) -> Result<Vec<u8>, Error>
     requires start { writer ≡ G.start }
+    requires held { G.held ≡ None }
     requires keeps { G.keeps ≡ true }
     ensures { IfOk result (λ bytes. (given : base.Settings) → StandsTaken given opening [] G.start.emitter → IsDocument given bytes.items) }
 {
-    let document: Document<G, NoSink> = Document::new(writer, Outlet::Kept);
+    let mut nowhere = io::sink();
+    let document: Document<'_, G, NoSink> = Document::kept(writer, &mut nowhere);
     let (document, answer) = with_value(alloc, document, value);
     match answer {
         Ok(()) => document.finish(),
@@ -158,24 +166,28 @@ fn finished<T: Serialize, G: Given>(
     }
 }
 
-/// The document of a value, handed on to a sink.
-fn sent<T: Serialize, W: Write + Drop, G: Given>(
+/// The sink that the document of a value was handed on to, and the answer.
+fn sent<'a, T: Serialize, W: Write, G: Given>(
     alloc: Global,
     writer: Writer<Global>,
-    sink: W,
+    sink: &'a mut W,
     value: &T,
-) -> Result<W, Error>
+) -> (&'a mut W, Result<(), Error>)
     requires start { writer ≡ G.start }
-    requires held { W.contents sink ≡ G.held }
-    requires sends { G.keeps ≡ false }
-    ensures { IfOk result (λ after. (given : base.Settings) → StandsTaken given opening [] G.start.emitter
-        → AppendsDocument given G.held (W.contents after)) }
+    requires held { G.held ≡ W.contents sink.now }
+    requires name { G.name ≡ sink.ghost_name }
+    requires keeps { G.keeps ≡ false }
+    ensures same { result.0.ghost_name ≡ G.name }
+    ensures written { OnOk result.1 ((given : base.Settings) → StandsTaken given opening [] G.start.emitter
+        → AppendsDocument given G.held (W.contents result.0.now)) }
+    ensures first { OnErr result.1 ((given : base.Settings) → StandsTaken given opening [] G.start.emitter
+        → AppendsBeginning given G.held (W.contents result.0.now)) }
 {
-    let document: Document<G, W> = Document::new(writer, Outlet::Sink(sink));
+    let document: Document<'a, G, W> = Document::sent(writer, sink);
     let (document, answer) = with_value(alloc, document, value);
     match answer {
         Ok(()) => document.finish_sent(),
-        Err(error) => Err(error),
+        Err(error) => (document.into_sink(), Err(error)),
     }
 }
 
@@ -186,14 +198,17 @@ fn given<T: Serialize, G: Given>(
     value: &T,
 ) -> (Writer<Global>, Result<(), Error>)
     requires start { writer ≡ G.start }
+    requires held { G.held ≡ None }
     requires keeps { G.keeps ≡ true }
     ensures gives { GivesEvents G.start.emitter result.0.emitter }
+    ensures grows { Grows G.start.emitter.page result.0.emitter.page }
     ensures canonical { result.0.canonical ≡ G.start.canonical }
     ensures above { take (length G.start.levels) result.0.levels ≡ G.start.levels }
     ensures whole { OnOk result.1 ((result.0.levels ≡ G.start.levels) × (awaits_node result.0 ≡ false)) }
     ensures sound { OnOk result.1 (result.0.emitter.error ≡ None) }
 {
-    let document: Document<G, NoSink> = Document::new(writer, Outlet::Kept);
+    let mut nowhere = io::sink();
+    let document: Document<'_, G, NoSink> = Document::kept(writer, &mut nowhere);
     let (document, answer) = with_value(alloc, document, value);
     let (writer, whole) = document.into_writer();
     match answer {

@@ -7,7 +7,7 @@ use Rattle.yaml_emitter.proofs.Common.{Promised}
 use Rattle.std.specs.Io.KnownBytes.{Keeps}
 use Rattle.yaml_base.specs.scripts.Script.{bad_line}
 use Rattle.yaml_base.specs.declared.errors.yaml_error_t.{yaml_error_t}
-use Rattle.yaml_emitter.{proofs.standing.KeptDocuments.documents_kept, proofs.standing.KeptDocuments.documents_stay, specs.Promises.HasAllBytes}
+use Rattle.yaml_emitter.{proofs.standing.KeptDocuments.documents_without_error, proofs.standing.KeptDocuments.documents_stay, specs.Promises.HasAllBytes}
 use Rattle.yaml_pen.specs.{Wrote.Grows}
 use Rattle.yaml_tool.specs.Runs.{EmitsAll, Emits, AnswersEvents, AnswersScript, WritesNothing, EndsAt, FlushesLast}
 use Rattle.yaml_tool.specs.declared.{answers.run_answer_t.run_answer_t, scripts.NumberedEvent.NumberedEvent}
@@ -90,7 +90,7 @@ refused_at set given next rest left all error earlier state parts is none stood 
       grew = grew;
       documents =
           documents_stay set (events_in (map seen_numbered given)) earlier.page.output state.page.output
-          (documents_kept set (events_in (map seen_numbered given)) earlier promised none) grew.output;
+          (documents_without_error set (events_in (map seen_numbered given)) earlier promised none) grew.output;
       failed = failed;
     }
 
@@ -119,7 +119,7 @@ flushed_last set all line (Refused reported error) before after stood promised n
       promised = (h.4 set (events_in all) stood).1;
       grew = h.2;
       documents =
-          documents_stay set (events_in all) before.page.output after.page.output (documents_kept set (events_in all) before promised none) h.2.output;
+          documents_stay set (events_in all) before.page.output after.page.output (documents_without_error set (events_in all) before promised none) h.2.output;
       unflushed = h.3;
       failed = h.1;
     })

@@ -1,8 +1,10 @@
 -- The program's status, and its line on standard error.
-use Rattle.std.specs.Prelude.{ℕ, List, [], ◌∷◌, ◌++◌, codes}
+use Rattle.std.specs.Prelude.{ℕ, Option, None, Some, [], ◌∷◌, ◌++◌, codes}
 use Rattle.std.specs.Fmt.{decimal}
-use Rattle.yaml_base.specs.Characters.{line_feed}
+use Rattle.yaml_base.specs.Characters.{Text, line_feed}
 use Rattle.yaml_base.specs.Errors.{display_text}
+use Rattle.yaml_tool.specs.declared.answers.Fault.{Fault}
+use Rattle.yaml_tool.specs.declared.answers.Fault.TheVariants as faults
 use Rattle.yaml_tool.specs.declared.answers.run_answer_t.{run_answer_t}
 use Rattle.yaml_tool.specs.declared.answers.run_answer_t.TheVariants.{Done, Refused, BadLine, ReadFailed, WriteFailed, NoMemory}
 
@@ -15,11 +17,28 @@ status_of ReadFailed = 3
 status_of WriteFailed = 3
 status_of NoMemory = 3
 
--- the line, with its line break; nothing for a whole stream
-abbrev pub line_of : run_answer_t → List ℕ
-line_of Done = []
-line_of (Refused line error) = codes "yamlemit: line " ++ decimal line ++ codes ": " ++ display_text error ++ line_feed ∷ []
-line_of (BadLine line) = codes "yamlemit: line " ++ decimal line ++ codes ": cannot be read" ++ line_feed ∷ []
-line_of ReadFailed = codes "yamlemit: cannot read" ++ line_feed ∷ []
-line_of WriteFailed = codes "yamlemit: cannot write" ++ line_feed ∷ []
-line_of NoMemory = codes "yamlemit: out of memory" ++ line_feed ∷ []
+-- what went wrong; nothing for a whole stream
+abbrev pub fault_of : run_answer_t → Option Fault
+fault_of Done = None
+fault_of (Refused line error) = Some (faults.Refused line error)
+fault_of (BadLine line) = Some (faults.BadLine line)
+fault_of ReadFailed = Some faults.ReadFailed
+fault_of WriteFailed = Some faults.WriteFailed
+fault_of NoMemory = Some faults.NoMemory
+
+-- what went wrong, in words
+abbrev pub fault_text : Fault → Text
+fault_text (faults.Refused line error) = codes "yamlemit: line " ++ decimal line ++ codes ": " ++ display_text error
+fault_text (faults.BadLine line) = codes "yamlemit: line " ++ decimal line ++ codes ": cannot be read"
+fault_text faults.ReadFailed = codes "yamlemit: cannot read"
+fault_text faults.WriteFailed = codes "yamlemit: cannot write"
+fault_text faults.NoMemory = codes "yamlemit: out of memory"
+
+-- a line of its words; nothing where nothing went wrong
+abbrev pub fault_line : Option Fault → Text
+fault_line None = []
+fault_line (Some fault) = fault_text fault ++ line_feed ∷ []
+
+-- the program's line
+abbrev pub line_of : run_answer_t → Text
+line_of answer = fault_line (fault_of answer)

@@ -1,10 +1,12 @@
 //! How a run ends: its result, its exit status, and its line on standard error.
-ghost use Rattle.std.specs.Prelude.{◌≡◌, IsOk, OnOk};
+ghost use Rattle.std.specs.Prelude.{◌≡◌, IsOk, OnOk, Some};
 ghost use Rattle.std.specs.Io.KnownBytes.{Appends};
-ghost use Rattle.yaml_tool.specs.Answers.{status_of, line_of};
+ghost use Rattle.yaml_tool.specs.Answers.{fault_text, line_of, status_of};
+ghost use Rattle.yaml_tool.specs.Answers as answers;
 
-use std::io;
 use std::io::Write;
+use std::{fmt, io};
+use thiserror::Error;
 use yaml_base::yaml_error_t;
 
 /// How a run ended.
@@ -24,7 +26,7 @@ pub enum run_answer_t {
     NoMemory,
 }
 
-/// The exit status: 0 for `Done`, 1 for `Refused`, 2 for `BadLine`, else 3.
+/// Returns the exit status: 0 for `Done`, 1 for `Refused`, 2 for `BadLine`, else 3.
 pub fn status(answer: &run_answer_t) -> u8
     ensures { result ≡ status_of answer.now }
 {
@@ -33,6 +35,44 @@ pub fn status(answer: &run_answer_t) -> u8
         run_answer_t::Refused(_, _) => 1,
         run_answer_t::BadLine(_) => 2,
         run_answer_t::ReadFailed | run_answer_t::WriteFailed | run_answer_t::NoMemory => 3,
+    }
+}
+
+/// What went wrong in a run.
+#[derive(Debug, Drop, Error)]
+enum Fault {
+    Refused(u64, yaml_error_t),
+    BadLine(u64),
+    ReadFailed,
+    WriteFailed,
+    NoMemory,
+}
+
+/// The program's words. A message in `#[error(..)]` would state no `output`.
+impl fmt::Display for Fault {
+    ghost output = { λ fault. Some (fault_text fault) };
+
+    fn fmt<W: fmt::Write>(&self, f: &mut fmt::Formatter<W>) -> fmt::Result {
+        match self {
+            Fault::Refused(line, error) => write!(f, "yamlemit: line {line}: {error}"),
+            Fault::BadLine(line) => write!(f, "yamlemit: line {line}: cannot be read"),
+            Fault::ReadFailed => f.write_str("yamlemit: cannot read"),
+            Fault::WriteFailed => f.write_str("yamlemit: cannot write"),
+            Fault::NoMemory => f.write_str("yamlemit: out of memory"),
+        }
+    }
+}
+
+fn fault_of(answer: &run_answer_t) -> Option<Fault>
+    ensures { result ≡ answers.fault_of answer.now }
+{
+    match answer {
+        run_answer_t::Done => None,
+        run_answer_t::Refused(line, error) => Some(Fault::Refused(*line, *error)),
+        run_answer_t::BadLine(line) => Some(Fault::BadLine(*line)),
+        run_answer_t::ReadFailed => Some(Fault::ReadFailed),
+        run_answer_t::WriteFailed => Some(Fault::WriteFailed),
+        run_answer_t::NoMemory => Some(Fault::NoMemory),
     }
 }
 
@@ -45,12 +85,8 @@ pub fn write_line<W: Write>(answer: &run_answer_t, writer: &mut W) -> io::Result
     ensures done { answer.now ≡ run_answer_t.Done → IsOk result × (W.contents writer.new ≡ W.contents writer.old) }
     ensures line { OnOk result (Appends (W.contents writer.old) (W.contents writer.new) (line_of answer.now)) }
 {
-    match answer {
-        run_answer_t::Done => Ok(()),
-        run_answer_t::Refused(line, error) => writeln!(writer, "yamlemit: line {line}: {error}"),
-        run_answer_t::BadLine(line) => writeln!(writer, "yamlemit: line {line}: cannot be read"),
-        run_answer_t::ReadFailed => writeln!(writer, "yamlemit: cannot read"),
-        run_answer_t::WriteFailed => writeln!(writer, "yamlemit: cannot write"),
-        run_answer_t::NoMemory => writeln!(writer, "yamlemit: out of memory"),
+    match fault_of(answer) {
+        None => Ok(()),
+        Some(fault) => writeln!(writer, "{fault}"),
     }
 }

@@ -7,7 +7,7 @@ ghost use Rattle.yaml_tool.specs.Cuts.{IsFree, IsCut, EndsIn, SkipsTo, prefix_of
 
 use memchr::memchr2;
 
-/// The first character, and the text after it.
+/// Returns the first character, and the text after it.
 pub fn first_character(text: &str) -> Option<(char, &str)>
     ensures characters { MatchOption result (chars text.now ≡ []) (λ parts. chars text.now ≡ parts.0 ∷ chars parts.1.now) }
     ensures bytes { IfSome result (λ parts. text.now ≡ encode_utf8 parts.0 ++ parts.1.now) }
@@ -21,7 +21,7 @@ pub fn first_character(text: &str) -> Option<(char, &str)>
     }
 }
 
-/// The part of `text` before `end`, in which it ends.
+/// Returns the part of `text` before `end`, in which it ends.
 pub fn prefix_before<'a>(text: &'a str, end: &str) -> &'a str
     requires { EndsIn text.now end.now }
     ensures { result.now ≡ prefix_of text.now end.now }
@@ -29,7 +29,7 @@ pub fn prefix_before<'a>(text: &'a str, end: &str) -> &'a str
     &text[..text.len() - end.len()]
 }
 
-/// The text from the first of two ASCII characters on; empty if it contains neither.
+/// Returns the text from the first of two ASCII characters on; empty if it contains neither.
 pub fn from_delimiter(first: u8, second: u8, text: &str) -> &str
     requires first { first < 128 }
     requires second { second < 128 }
@@ -41,7 +41,7 @@ pub fn from_delimiter(first: u8, second: u8, text: &str) -> &str
     }
 }
 
-/// The place of the first of two bytes, looked for byte by byte.
+/// Returns the place of the first of two bytes, looked for byte by byte.
 fn first_place_by_bytes(first: u8, second: u8, bytes: &[u8]) -> Option<usize>
     ensures { IsFirstByte (is_byte2 first second) bytes.now result }
 {
@@ -53,7 +53,8 @@ fn first_place_by_bytes(first: u8, second: u8, bytes: &[u8]) -> Option<usize>
     None
 }
 
-/// The text from the first space or quotation mark on; empty if it contains neither. Words are too short for a wide search.
+/// Returns the text from the first space or quotation mark on; empty if it contains neither. Words are too short for a wide
+/// search.
 pub fn skip_word(text: &str) -> &str
     ensures { SkipsTo 0x20 0x22 text.now result.now }
 {
@@ -63,7 +64,7 @@ pub fn skip_word(text: &str) -> &str
     }
 }
 
-/// The texts before and after the first occurrence of a character.
+/// Returns the texts before and after the first occurrence of a character.
 pub fn cut_once(delimiter: char, text: &str) -> Option<(&str, &str)>
     ensures cut { MatchOption result (IsFree delimiter (chars text.now)) (λ parts. IsCut delimiter (chars text.now) (chars parts.0.now) (chars parts.1.now)) }
     ensures shorter { IfSome result (λ parts. length parts.1.now < length text.now) }

@@ -13,7 +13,7 @@ use crate::words::is_word;
 use std::alloc::{AllocError, Allocator};
 use yaml_base::{yaml_tag_directive_t, yaml_version_directive_t};
 
-/// The texts before and after the only point; `None` if the word has none or more than one.
+/// Returns the texts before and after the only point; `None` if the word has none or more than one.
 fn split_version(word: &str) -> Option<(&str, &str)>
     ensures { MatchOption result (notation.version_of (cut_at 0x2E (chars word.now)) ≡ None)
         (λ parts. cut_at 0x2E (chars word.now) ≡ chars parts.0.now ∷ chars parts.1.now ∷ []) }
@@ -27,7 +27,7 @@ fn split_version(word: &str) -> Option<(&str, &str)>
     }
 }
 
-/// `major.minor`.
+/// Parses `major.minor`.
 fn version_of(word: &str) -> Option<yaml_version_directive_t>
     ensures { option_map seen_version result ≡ notation.version_of (cut_at 0x2E (chars word.now)) }
 {
@@ -38,7 +38,7 @@ fn version_of(word: &str) -> Option<yaml_version_directive_t>
     })
 }
 
-/// A version, or `-` for none.
+/// Parses a version, or `-` for none.
 pub fn version_or_none(word: &str) -> Option<Option<yaml_version_directive_t>>
     ensures { option_map (λ version. option_map seen_version version) result ≡ notation.version_or_none (chars word.now) }
 {

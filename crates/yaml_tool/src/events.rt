@@ -19,7 +19,7 @@ use yaml_base::{
 };
 use yaml_emitter::CollectionKind;
 
-/// An event without any field.
+/// Returns an event without any field.
 #[inline(always)]
 fn alone<A: Allocator>(event: yaml_event_t<A>, rest: Option<&str>) -> Option<yaml_event_t<A>>
     ensures { option_map seen_event result ≡ option_and_then (notation.alone (seen_event event)) (later_fields rest.entry) }
@@ -27,7 +27,7 @@ fn alone<A: Allocator>(event: yaml_event_t<A>, rest: Option<&str>) -> Option<yam
     if is_end(rest) { Some(event) } else { None }
 }
 
-/// `+STR`: an encoding.
+/// Parses what follows `+STR`: an encoding.
 fn stream_start_of<A: Allocator>(rest: Option<&str>) -> Option<yaml_event_t<A>>
     ensures { option_map seen_event result ≡ option_and_then notation.stream_start_of (later_fields rest.entry) }
 {
@@ -35,7 +35,7 @@ fn stream_start_of<A: Allocator>(rest: Option<&str>) -> Option<yaml_event_t<A>>
     Some(yaml_event_t::YAML_STREAM_START_EVENT { encoding })
 }
 
-/// A document's start; `None` if one of its parts was not understood.
+/// Returns a document's start; `None` if one of its parts was not understood.
 fn document_start_with<A: Allocator>(
     implicit: Option<bool>,
     version_directive: Option<Option<yaml_version_directive_t>>,
@@ -57,7 +57,7 @@ fn document_start_with<A: Allocator>(
     })
 }
 
-/// `+DOC`: whether it is implicit, a version, directives.
+/// Parses what follows `+DOC`: whether it is implicit, a version, directives.
 #[inline(never)]
 fn document_start_of<A: Allocator + Copy>(
     alloc: A,
@@ -75,7 +75,7 @@ fn document_start_of<A: Allocator + Copy>(
     Ok(document_start_with(flag_named(implicit), version_or_none(version), directives))
 }
 
-/// `-DOC`: whether it is implicit.
+/// Parses what follows `-DOC`: whether it is implicit.
 fn document_end_of<A: Allocator>(rest: Option<&str>) -> Option<yaml_event_t<A>>
     ensures { option_map seen_event result ≡ option_and_then notation.document_end_of (later_fields rest.entry) }
 {
@@ -83,7 +83,7 @@ fn document_end_of<A: Allocator>(rest: Option<&str>) -> Option<yaml_event_t<A>>
     Some(yaml_event_t::YAML_DOCUMENT_END_EVENT { implicit })
 }
 
-/// `=ALI`: a name.
+/// Parses what follows `=ALI`: a name.
 #[inline(never)]
 fn alias_of<A: Allocator>(
     alloc: A,
@@ -143,7 +143,7 @@ fn scalar_with<A: Allocator>(fields: ScalarFields<A>) -> Option<yaml_event_t<A>>
     })
 }
 
-/// What follows a scalar's words: an anchor, a tag, a value.
+/// Parses what follows a scalar's words: an anchor, a tag, a value.
 #[inline(always)]
 fn scalar_from<A: Allocator + Copy>(
     alloc: A,
@@ -173,7 +173,7 @@ fn scalar_from<A: Allocator + Copy>(
     }))
 }
 
-/// `=VAL`: a style, the plain and the quoted flag, an anchor, a tag, a value.
+/// Parses what follows `=VAL`: a style, the plain and the quoted flag, an anchor, a tag, a value.
 #[inline(never)]
 fn scalar_of<A: Allocator + Copy>(
     alloc: A,
@@ -207,7 +207,7 @@ struct CollectionFields<A: Allocator> {
     tag: Option<String<A>>,
 }
 
-/// A sequence's style.
+/// Parses a sequence's style.
 fn sequence_style(style: CollectionStyle) -> yaml_sequence_style_t
     ensures { seen_sequence_style result ≡ seen_collection_style style }
 {
@@ -218,7 +218,7 @@ fn sequence_style(style: CollectionStyle) -> yaml_sequence_style_t
     }
 }
 
-/// A mapping's style.
+/// Parses a mapping's style.
 fn mapping_style(style: CollectionStyle) -> yaml_mapping_style_t
     ensures { seen_mapping_style result ≡ seen_collection_style style }
 {
@@ -229,7 +229,7 @@ fn mapping_style(style: CollectionStyle) -> yaml_mapping_style_t
     }
 }
 
-/// A collection's start; `None` if its style or its flag was not understood.
+/// Returns a collection's start; `None` if its style or its flag was not understood.
 fn collection_with<A: Allocator>(
     kind: CollectionKind,
     fields: CollectionFields<A>,
@@ -259,7 +259,7 @@ fn collection_with<A: Allocator>(
     })
 }
 
-/// `+SEQ` and `+MAP`: a style, whether it is implicit, an anchor, a tag.
+/// Parses what follows `+SEQ` and `+MAP`: a style, whether it is implicit, an anchor, a tag.
 fn collection_start_of<A: Allocator + Copy>(
     alloc: A,
     kind: CollectionKind,

@@ -25,7 +25,7 @@ enum FieldState {
 }
 
 impl FieldState {
-    /// Whether a character in this state separates two fields.
+    /// Returns whether a character in this state separates two fields.
     fn separates(self, character: char) -> bool
         ensures { result ≡ notation.separates (seen_field_state self) character }
     {
@@ -43,7 +43,7 @@ impl FieldState {
         }
     }
 
-    /// The state after a character.
+    /// Returns the state after a character.
     fn after(self, character: char) -> FieldState
         ensures { seen_field_state result ≡ notation.state_after (seen_field_state self) character }
     {
@@ -57,7 +57,7 @@ impl FieldState {
     }
 }
 
-/// Whether no field is left.
+/// Returns whether no field is left.
 pub fn is_end(rest: Option<&str>) -> bool
     ensures yes { result ≡ true → later_fields rest.entry ≡ Some [] }
     ensures no { result ≡ false → HasField (later_fields rest.entry) }

@@ -7,7 +7,7 @@ ghost use Rattle.yaml_tool.specs.Numbers.{number_after};
 
 use crate::characters::first_character;
 
-/// Value of `digits` in this radix, `None` above `most` or at another character; 0 if empty.
+/// Parses `digits` in this radix: `None` above `most` or at another character, 0 if empty.
 pub fn parse_number(radix: u32, most: u32, digits: &str) -> Option<u32>
     requires least { 2 ≤ radix }
     requires greatest { radix ≤ 36 }
@@ -28,7 +28,7 @@ pub fn parse_number(radix: u32, most: u32, digits: &str) -> Option<u32>
     u32::try_from(number).ok()
 }
 
-/// A decimal number of one or more digits, `None` above `most`.
+/// Parses a decimal number of one or more digits: `None` above `most`.
 pub fn number_up_to(most: u32, word: &str) -> Option<u32>
     ensures { result ≡ notation.number_up_to most (chars word.now) }
 {
@@ -41,7 +41,7 @@ pub fn number_up_to(most: u32, word: &str) -> Option<u32>
 /// The largest `i32`.
 const LARGEST_I32: u32 = 2_147_483_647;
 
-/// A decimal number from 0 to the largest `i32`.
+/// Parses a decimal number from 0 to the largest `i32`.
 pub fn natural_number(word: &str) -> Option<i32>
     ensures { result ≡ option_map pos (notation.number_up_to largest_i32 (chars word.now)) }
 {
@@ -55,7 +55,7 @@ fn negative(number: u32) -> i32
     (-i64::from(number)) as i32
 }
 
-/// A decimal `i32`: `-` stands before a negative one.
+/// Parses a decimal `i32`: `-` stands before a negative one.
 pub fn signed_number(word: &str) -> Option<i32>
     ensures { result ≡ notation.signed_number (chars word.now) }
 {

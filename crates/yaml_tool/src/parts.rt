@@ -28,7 +28,7 @@ struct ScriptPrefix<A: Allocator> {
 }
 
 impl<A: Allocator + Copy> ScriptPrefix<A> {
-    /// Before anything was read.
+    /// Makes the state before anything was read.
     fn new(alloc: A) -> ScriptPrefix<A>
         ensures { (bytes : List ℕ) → script_with result bytes ≡ notation.script_of bytes }
     {
@@ -84,7 +84,7 @@ impl<A: Allocator + Copy> ScriptPrefix<A> {
     }
 }
 
-/// The result of a run whose script was not understood.
+/// Returns the result of a run whose script was not understood.
 fn answer_of(error: ScriptError) -> run_answer_t
     ensures { (script : notation.Script) → IsFaultOf error script → IsFault result script }
 {

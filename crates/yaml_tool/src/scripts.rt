@@ -49,7 +49,7 @@ pub(crate) struct Progress<A: Allocator> {
 }
 
 impl<A: Allocator + Copy> Progress<A> {
-    /// None, before the first line.
+    /// Makes the state before the first line.
     pub(crate) fn new(alloc: A) -> Progress<A>
         ensures { seen_progress result ≡ nothing_parsed }
     {
@@ -61,7 +61,7 @@ impl<A: Allocator + Copy> Progress<A> {
 }
 
 impl<A: Allocator> Progress<A> {
-    /// Whether a setting is allowed there: no event and no setting of its name came before.
+    /// Returns whether a setting is allowed there: no event and no setting of its name came before.
     fn may_set(&self, setting: Setting) -> bool
         ensures { result ≡ notation.may_be_set (seen_setting setting) (seen_progress self.now) }
     {

@@ -37,7 +37,7 @@ pub enum Setting {
 }
 
 impl Setting {
-    /// The name of the setting.
+    /// Returns the name of the setting.
     pub fn name(self) -> &'static str
         ensures { result.now ≡ notation.setting_name (seen_setting self) }
     {
@@ -74,7 +74,7 @@ impl Setting {
     }
 }
 
-/// Whether one of these lines has the same name.
+/// Returns whether one of these lines has the same name.
 pub fn is_set(setting: Setting, lines: &[Setting]) -> bool
     ensures { result ≡ list_any (sets_same (seen_setting setting)) (map seen_setting lines.now) }
 {
@@ -115,7 +115,7 @@ pub fn setting_of(name: &str, value: &str) -> Option<Setting>
     }
 }
 
-/// The settings of a script that sets nothing.
+/// Returns the settings of a script that sets nothing.
 fn unset() -> Settings
     ensures { seen_settings result ≡ notation.unset }
 {
@@ -125,7 +125,7 @@ fn unset() -> Settings
     }
 }
 
-/// The settings of several lines.
+/// Returns the settings of several lines.
 pub fn settings_of(lines: &[Setting]) -> Settings
     ensures { seen_settings result ≡ notation.settings_of notation.unset (map seen_setting lines.now) }
 {

@@ -20,14 +20,14 @@ pub enum TextStep<'a> {
     Fails,
 }
 
-/// The number of characters of a text.
+/// Returns the number of characters of a text.
 fn count_of(text: &str) -> usize
     ensures { result ≡ length (chars text.now) }
 {
     text.chars().count()
 }
 
-/// The character of `\u{..}`: one to six hexadecimal digits of a Unicode scalar value.
+/// Returns the character of `\u{..}`: one to six hexadecimal digits of a Unicode scalar value.
 fn numbered_character(digits: &str) -> Option<char>
     ensures { step_of result ≡ notation.numbered_step (chars digits.now) }
 {
@@ -82,7 +82,7 @@ fn next_step(behind: &str) -> TextStep<'_>
     }
 }
 
-/// The longest prefix without quotation marks and backslashes, and the text after it.
+/// Returns the longest prefix without quotation marks and backslashes, and the text after it.
 fn unescaped_prefix(text: &str) -> (&str, &str)
     ensures reads { ReadsOn (chars text.now) (chars result.0.now) (chars result.1.now) }
     ensures shorter { length result.1.now ≤ length text.now }
@@ -107,7 +107,7 @@ fn push_prefix<'a, A: Allocator>(
     Ok(others)
 }
 
-/// The value of a text, given the characters after its opening `"`; `None` if they are no text.
+/// Returns the value of a text, given the characters after its opening `"`; `None` if they are no text.
 pub fn text_after_quote<A: Allocator>(
     alloc: A,
     behind: &str,

@@ -8,7 +8,7 @@ ghost use Rattle.yaml_tool.specs.Events.{event_word, seen_collection_style};
 
 use yaml_base::{yaml_break_t, yaml_encoding_t, yaml_scalar_style_t};
 
-/// Whether a word is this name, which is ASCII.
+/// Returns whether a word is this name, which is ASCII.
 pub fn is_word(word: &str, name: &'static str) -> bool
     requires { IsTrue (list_all (λ byte. nat_lt byte 128) name.now) }
     ensures { result ≡ notation.is_word (chars word.now) name.now }
@@ -16,7 +16,7 @@ pub fn is_word(word: &str, name: &'static str) -> bool
     is_same(word.as_bytes(), name.as_bytes())
 }
 
-/// Whether two texts are equal. Compares byte by byte, since the name is short and known when this is compiled.
+/// Returns whether two texts are equal. Compares byte by byte, since the name is short and known when this is compiled.
 fn is_same(word: &[u8], name: &[u8]) -> bool
     ensures { result ≡ bytes_eq word.now name.now }
 {
@@ -62,7 +62,7 @@ pub enum EventName {
     MappingEnd,
 }
 
-/// The name of an event. Those that most lines begin with come first.
+/// Parses the name of an event. Those that most lines begin with come first.
 pub fn event_named(word: &str) -> Option<EventName>
     ensures { MatchOption result ((fields : List notation.Field) → notation.event_of (chars word.now) fields ≡ None)
         (λ name. chars word.now ≡ event_word name) }
@@ -92,7 +92,7 @@ pub fn event_named(word: &str) -> Option<EventName>
     }
 }
 
-/// `0` or `1`.
+/// Parses `0` or `1`.
 pub fn flag_named(word: &str) -> Option<bool>
     ensures { result ≡ notation.named notation.flags (chars word.now) }
 {
@@ -105,7 +105,7 @@ pub fn flag_named(word: &str) -> Option<bool>
     }
 }
 
-/// `off` or `on`.
+/// Parses `off` or `on`.
 pub fn switch_named(word: &str) -> Option<bool>
     ensures { result ≡ notation.named notation.switches (chars word.now) }
 {
@@ -118,7 +118,7 @@ pub fn switch_named(word: &str) -> Option<bool>
     }
 }
 
-/// `undented` or `indented`.
+/// Parses `undented` or `indented`.
 pub fn indentation_named(word: &str) -> Option<bool>
     ensures { result ≡ notation.named notation.indentations (chars word.now) }
 {
@@ -131,7 +131,7 @@ pub fn indentation_named(word: &str) -> Option<bool>
     }
 }
 
-/// `any`, `utf8`, `utf16le` or `utf16be`.
+/// Parses `any`, `utf8`, `utf16le` or `utf16be`.
 pub fn encoding_named(word: &str) -> Option<yaml_encoding_t>
     ensures { option_map seen_encoding result ≡ notation.named notation.encodings (chars word.now) }
 {
@@ -148,7 +148,7 @@ pub fn encoding_named(word: &str) -> Option<yaml_encoding_t>
     }
 }
 
-/// `any`, `cr`, `ln` or `crln`.
+/// Parses `any`, `cr`, `ln` or `crln`.
 pub fn break_named(word: &str) -> Option<yaml_break_t>
     ensures { option_map seen_break result ≡ notation.named notation.line_breaks (chars word.now) }
 {
@@ -165,7 +165,7 @@ pub fn break_named(word: &str) -> Option<yaml_break_t>
     }
 }
 
-/// `any`, `plain`, `single`, `double`, `literal` or `folded`.
+/// Parses `any`, `plain`, `single`, `double`, `literal` or `folded`.
 pub fn scalar_style_named(word: &str) -> Option<yaml_scalar_style_t>
     ensures { option_map seen_scalar_style result ≡ notation.named notation.scalar_styles (chars word.now) }
 {
@@ -197,7 +197,7 @@ pub enum CollectionStyle {
     Flow,
 }
 
-/// `any`, `block` or `flow`.
+/// Parses `any`, `block` or `flow`.
 pub fn collection_style_named(word: &str) -> Option<CollectionStyle>
     ensures { option_map seen_collection_style result ≡ notation.named notation.collection_styles (chars word.now) }
 {

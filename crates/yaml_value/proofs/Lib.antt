@@ -5,3 +5,4 @@ pub mod CountLemmas
 pub mod EventLemmas
 pub mod WalkLemmas
 pub mod WritingLemmas
+pub mod TextLemmas

@@ -2,7 +2,10 @@
 use Rattle.yaml_value.proofs.Common.{ℕ, ◌<◌, ◌≤◌, IfErr, OnOk, Result, nat_le, length, false, true, List, [], ◌++◌, ◌∷◌, ◌⊎◌, refl, ◌≡◌, append_assoc, inr}
 use Rattle.yaml_value.proofs.Common.{ap, subst, sym, ◌∙◌, arith, nat_tests, Event, IsAccepted, largest_usize, TypedValue, nesting, most_nested, Has64Bits}
 use Rattle.yaml_value.proofs.Common.{value_events, typed_settings, WritesValue}
-use Rattle.yaml_emitter.proofs.Common.{RefusedAt, State}
+use Rattle.yaml_emitter.proofs.Common.{RefusedAt, StandsAfter, State}
+use Rattle.yaml_emitter.proofs.standing.Moving.{moved_promised}
+use Rattle.yaml_pen.proofs.Writing.{none_from_result}
+use Rattle.yaml_dump.proofs.Emissions.{fails_error, fails_promised}
 use Rattle.yaml_dump.proofs.Common.{EmitsAll, FailsAt, EmitsEach}
 use Rattle.std.specs.Prelude.{Err, Ok, Vec, ◌↔◌}
 use Rattle.yaml_base.specs.{declared.errors.yaml_error_t.yaml_error_t, declared.errors.yaml_error_t.TheVariants.Memory}
@@ -10,10 +13,11 @@ use Rattle.yaml_base.specs.{declared.errors.yaml_error_t.TheVariants.TooDeep, de
 use Rattle.yaml_value.proofs.{AcceptedLemmas.value_accepted, ContentLemmas.stream_tells_value, ContentLemmas.content_of-value_events}
 
 -- all events emitted: the bytes are the value's
-pub value_written : (value : TypedValue) (state : State) → nesting value ≤ most_nested → Has64Bits value
-    → EmitsAll typed_settings [] (value_events value) state → WritesValue value state.page.output
-value_written value state fits bits emits =
-    let written = emits.promised.whole emits.no_error (value_accepted value fits) in
+pub value_written : (value : TypedValue) (before state : State) → nesting value ≤ most_nested → Has64Bits value → StandsAfter typed_settings [] before
+    → EmitsAll before (value_events value) state → WritesValue value state.page.output
+value_written value before state fits bits stands emits =
+    let promised = moved_promised emits.moves typed_settings [] stands in
+    let written = promised.whole (none_from_result state.error emits.moves.answered) (value_accepted value fits) in
     let reads : ReadsAs state.page.output value = written.reads refl ∙ content_of-value_events value in
     record {
       bits = bits;
@@ -32,24 +36,29 @@ never_refused events before rest error state accepted begins refused =
     refused.ends (record { rest = refused.later ++ rest; accepted = subst (IsAccepted true) (sym whole) accepted })
 
 -- where emitting a value's events fails, memory gave out
-pub only_memory : (value : TypedValue) (error : yaml_error_t) (state : State) → nesting value ≤ most_nested → length state.page.output < largest_usize
-    → FailsAt typed_settings [] (value_events value) error state → error ≡ Memory
-only_memory value WriteError state fits few fails = let full = (fails.promised.full fails.failed).full in absurd (omega (arith, full, few))
-only_memory value Memory state fits few fails = refl
-only_memory value error state fits few fails =
+pub only_memory : (value : TypedValue) (error : yaml_error_t) (before state : State) → nesting value ≤ most_nested
+    → length state.page.output < largest_usize → StandsAfter typed_settings [] before → FailsAt before (value_events value) error state → error ≡ Memory
+only_memory value WriteError before state fits few stands fails =
+    let full = ((fails_promised fails typed_settings [] stands).full (fails_error fails)).full in
+    absurd (omega (arith, full, few))
+only_memory value Memory before state fits few stands fails = refl
+only_memory value error before state fits few stands fails =
     absurd
-    (never_refused (value_events value) (fails.before ++ fails.event ∷ []) fails.later error state (value_accepted value fits)
-    (append_assoc fails.before (fails.event ∷ []) fails.later ∙ fails.parts) (fails.promised.refused error fails.failed tt))
+    (never_refused (value_events value) (fails.earlier ++ fails.event ∷ []) fails.later error state (value_accepted value fits)
+    (append_assoc fails.earlier (fails.event ∷ []) fails.later ∙ fails.parts)
+    ((fails_promised fails typed_settings [] stands).refused error (fails_error fails) tt))
 
 -- what emitting a value's events comes to, by its answer
-pub events_written : (value : TypedValue) (events : List Event) (answer : Result (Unit {0}) yaml_error_t) (state : State) → events ≡ value_events value
+pub events_written : (value : TypedValue) (events : List Event) (answer : Result (Unit {0}) yaml_error_t) (before state : State)
+    → events ≡ value_events value
     → nesting value ≤ most_nested → Has64Bits value
-    → length state.page.output < largest_usize → EmitsEach typed_settings [] events answer state → OnOk answer (WritesValue value state.page.output)
+    → length state.page.output < largest_usize → StandsAfter typed_settings [] before → EmitsEach before events answer state → OnOk answer
+    (WritesValue value state.page.output)
     × IfErr answer (λ error. error ≡ Memory)
-events_written value events (Ok _) state is fits bits few
-    emits = (value_written value state fits bits (subst (λ events. EmitsAll typed_settings [] events state) is emits), tt)
-events_written value events (Err error) state is fits bits few emits =
-    (tt, only_memory value error state fits few (subst (λ events. FailsAt typed_settings [] events error state) is emits))
+events_written value events (Ok _) before state is fits bits few stands
+    emits = (value_written value before state fits bits stands (subst (λ events. EmitsAll before events state) is emits), tt)
+events_written value events (Err error) before state is fits bits few stands emits =
+    (tt, only_memory value error before state fits few stands (subst (λ events. FailsAt before events error state) is emits))
 
 -- an answer that tells of no depth
 pub too_deep_apart : {T : Type 0} (answer : Result T yaml_error_t) (value : TypedValue) → nesting value ≤ most_nested → IfErr answer (λ error. error ≡ Memory)

@@ -1,5 +1,8 @@
 //! Values written.
-ghost use Rattle.std.specs.Prelude.{◌≡◌, ◌↔◌, ◌⊎◌, ◌<◌, ◌≤◌, Err, IfOk, IfErr};
+ghost use Rattle.std.specs.Prelude.{◌≡◌, ◌↔◌, ◌⊎◌, ◌<◌, ◌≤◌, Err, IfOk, IfErr, Some};
+ghost use Rattle.yaml_base.specs.Encoding.{encode};
+ghost use Rattle.yaml_base.specs.Settings.{utf8};
+ghost use Rattle.yaml_base.specs.values.ValueText.{document_text};
 ghost use Rattle.yaml_base.specs.values.TypedValues.{WritesValue, most_nested, nesting, typed_settings};
 ghost use Rattle.yaml_emitter.specs.Given.{seen_settings};
 ghost use Rattle.yaml_value.specs.SeenValues.{seen_value};
@@ -23,6 +26,7 @@ pub fn write_canonical<A: Allocator + Copy>(
     value: &Value<A>,
 ) -> Result<Vec<u8, A>, yaml_error_t>
     ensures written { IfOk result (λ bytes. WritesValue (seen_value value.now) bytes.items) }
+    ensures layout { IfOk result (λ bytes. bytes.items ≡ encode (Some utf8) (document_text (seen_value value.now))) }
     ensures too_deep { (result ≡ Err yaml_error_t.TooDeep) ↔ (most_nested < nesting (seen_value value.now)) }
     ensures failed { IfErr result (λ error. (error ≡ yaml_error_t.TooDeep) ⊎ (error ≡ yaml_error_t.Memory)) }
 {

@@ -14,8 +14,11 @@ pub mod Finishing
 pub mod WaitingStarts
 pub mod PlainLemmas
 pub mod PlainNumbers
+pub mod PlainTagLemmas
+pub mod TypedTrees
 pub mod Pushed
 pub mod DateLemmas
 pub mod TimeLemmas
 pub mod TimesPlain
+pub mod HeadingLemmas
 pub mod rows

@@ -47,19 +47,21 @@ passed_by given all prefix count state is passes whole begun =
       whole = whole;
     }
 
-stopped_by : (given : Settings) (all : List Event) (state : State) → state.page.encoding ≡ Some (settings_for given all).encoding
-    → given.limit < length (encoded state.page) → (IsAccepted given.canonical all → IsUncut given all → ⊥) → StopsWriting given all state
+stopped_by : (given : Settings) (all prefix : List Event) (state : State) → state.page.encoding ≡ Some (settings_for given all).encoding
+    → given.limit < length (encoded state.page) → (IsAccepted given.canonical all → IsUncut given all → ⊥) → StopsWriting given all prefix state
     → PassesLimit given all
-stopped_by given all state is passes whole (stops_before prefix begun) = passed_by given all prefix (length prefix) state is passes whole begun
-stopped_by given all state is passes whole (stops_within prefix event begun) =
+stopped_by given all prefix state is passes whole (stops_before begun) = passed_by given all prefix (length prefix) state is passes whole begun
+stopped_by given all prefix state is passes whole (stops_within event begun) =
     passed_by given all (prefix ++ event ∷ []) (length prefix) state is passes whole begun
 
 -- an emitter that answers the write error was given events whose bytes pass the limit
 pub overflowed : (given : Settings) (all : List Event) (state : State) → StateStands given all state → state.error ≡ Some WriteError → PassesLimit given all
 overflowed given all state stands is =
-    stopped_by given all state encoding fills.passed whole
-    (subst (λ (error : Option yaml_error_t). OutputBegins given all error state) is (promises_output given all state stands))
+    stopped_by given all stops.0 state encoding fills.passed whole stops.1
   where
+    stops : (prefix : List Event) × StopsWriting given all prefix state
+    stops = subst (λ (error : Option yaml_error_t). OutputBegins given all error state) is (promises_output given all state stands)
+
     fills : FillsLimit given all state
     fills = promises_full given all state stands is
 

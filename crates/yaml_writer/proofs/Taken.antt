@@ -1,15 +1,18 @@
 -- What the calls of a writer come to for what its caller has taken, and what is left.
-use Rattle.yaml_writer.proofs.Common.{ℕ, IfErr, OnOk, Option, None, Some, Result, Err, Ok, drop, length, Bool, false, true, ◌||◌, List, [], ◌++◌, ◌∷◌}
-use Rattle.yaml_writer.proofs.Common.{refl, ◌≡◌, ap, ap₂, subst, sym, inr, true≢false, is_some}
+use Rattle.yaml_writer.proofs.Common.{ℕ, IfErr, OnOk, Option, None, Some, Result, Err, Ok, drop, length, Bool, true, List, [], ◌++◌, ◌∷◌}
+use Rattle.yaml_writer.proofs.Common.{refl, ◌≡◌, ap, subst, sym, inr}
 use Rattle.yaml_writer.proofs.Common.{◌∙◌, prefix_then, Text, Event, Settings, some_from_result, StandsAfter, State, none_from_result, output_left}
 use Rattle.yaml_writer.proofs.Common.{result_of_error, Grows, WriterState, StandsTaken, AddsEvents, AddsEvent, PassedEvents, GaveEvent}
-use Rattle.std.specs.Prelude.{is_ok}
 use Rattle.yaml_base.proofs.Common.{inl, ◌⊎◌}
-use Rattle.yaml_emitter.{proofs.Common.with_all_taken, proofs.Common.KeepsSet, specs.EmitsEvent.EmitsEvent, specs.EmitsEvent.CopyFailed}
+use Rattle.yaml_emitter.{proofs.Common.with_all_taken, proofs.Common.KeepsSet, specs.EmitsEvent.EmitsEvent, specs.EmitsEvent.EmitsScalar}
+use Rattle.yaml_emitter.specs.EmitsEvent.{CopyFailed, result_of_answer}
+use Rattle.yaml_emitter.specs.declared.borrowed.ScalarAnswer.{ScalarAnswer}
+use Rattle.yaml_emitter.specs.declared.borrowed.ScalarAnswer.TheVariants.{Taken, NotTaken}
 use Rattle.yaml_base.{proofs.Prefixes.prefix_same, specs.declared.errors.yaml_error_t.yaml_error_t}
 use Rattle.yaml_writer.proofs.Common.{option_or}
-use Rattle.yaml_writer.specs.Writing.{Failed, tag_or_default}
-use Rattle.std.proofs.lemmas.Bool.{cases_Bool}
+use Rattle.yaml_writer.specs.Writing.{Begins, Failed, Gave, Gives, tag_or_default, with_collection}
+use Rattle.yaml_emitter.specs.declared.place.CollectionKind.{CollectionKind}
+use Rattle.yaml_base.specs.declared.errors.yaml_error_t.TheVariants.{Memory}
 
 -- a call of the emitter keeps what was taken
 pub still_taken : (given : Settings) (all more : List Event) (sent : List ℕ) (before after : State) → StandsTaken given all sent before
@@ -60,10 +63,10 @@ module _ (inside before : WriterState) (emitter : State) (anchor tag : Option Te
     (view : inside ≡ before) (is : given ≡ event) (adds : AddsEvent inside.emitter given emitter)
     (grows : Grows inside.emitter.page emitter.page) (answered : answer ≡ result_of_error emitter.error)
     (no_anchor : anchor ≡ None) (no_tag : tag ≡ None) where
-  abbrev after : WriterState
-  after = record inside { emitter = emitter; anchor = anchor; tag = tag }
+  abbrev now : WriterState
+  now = record inside { emitter = emitter; anchor = anchor; tag = tag }
 
-  gave : (error : Option yaml_error_t) → emitter.error ≡ error → GaveEvent before event error after
+  gave : (error : Option yaml_error_t) → emitter.error ≡ error → GaveEvent before event error now
   gave error error_is =
       record {
         adds = subst (λ (w : WriterState). AddsEvent w.emitter event emitter) view (subst (λ (e : Event). AddsEvent inside.emitter e emitter) is adds);
@@ -75,92 +78,79 @@ module _ (inside before : WriterState) (emitter : State) (anchor tag : Option Te
         no_tag = no_tag;
       }
 
-  by_ok : (returned : Result (Unit {0}) yaml_error_t) → returned ≡ result_of_error emitter.error → OnOk returned (GaveEvent before event None after)
-  by_ok (Ok done) so = gave None (none_from_result emitter.error so)
-  by_ok (Err error) so = tt
-
-  by_failed : (returned : Result (Unit {0}) yaml_error_t) → returned ≡ result_of_error emitter.error
-      → IfErr returned (λ error. GaveEvent before event (Some error) after)
-  by_failed (Ok done) so = tt
-  by_failed (Err error) so = gave (Some error) (some_from_result emitter.error error so)
+  by : (returned : Result (Unit {0}) yaml_error_t) → returned ≡ result_of_error emitter.error → Gave before event returned now
+  by (Ok done) so = gave None (none_from_result emitter.error so)
+  by (Err error) so = gave (Some error) (some_from_result emitter.error error so)
 
   -- where it was given, and where it failed
-  pub gave_either : OnOk answer (GaveEvent before event None after) × IfErr answer (λ error. GaveEvent before event (Some error) after)
-  gave_either = (by_ok answer answered, by_failed answer answered)
+  pub gave_returned : Gave before event answer now
+  gave_returned = by answer answered
+
+gives_gave : (before after : WriterState) (event : Event) (answer : Result (Unit {0}) yaml_error_t) → Gave before event answer after
+    → Gives before event answer after
+gives_gave before after event (Ok done) gave = gave
+gives_gave before after event (Err error) gave = inl gave
+
+pub begins_gave : (kind : CollectionKind) (before after : WriterState) (event : Event) (answer : Result (Unit {0}) yaml_error_t)
+    → Gave (with_collection before kind) event answer after → Begins kind before event answer after
+begins_gave kind before after event (Ok done) gave = gave
+begins_gave kind before after event (Err error) gave = inl gave
 
 -- Calls that give a scalar, whose texts are borrowed
 
-if_given : (before given : WriterState) (event : Event) (answer : Result (Unit {0}) yaml_error_t)
-    → IfErr answer (λ error. GaveEvent before event (Some error) given) → IfErr answer (λ error. Failed before event error given)
-if_given before given event (Ok done) gave = tt
-if_given before given event (Err error) gave = inl gave
-
--- it didn't where there was no memory to copy it, and then it has no error
-copy_untaken : {before after : State} {answer : Result (Unit {0}) yaml_error_t} → CopyFailed before answer after
-    → (is_ok answer || is_some after.error) ≡ false
-copy_untaken failed =
-    ap₂ (λ (a b : Bool). a || b) (ap is_ok failed.memory) (ap (λ (s : State). is_some s.error) failed.unchanged ∙ ap is_some failed.no_error)
-
-emits_taken : {before after : State} {event : Event} {answer : Result (Unit {0}) yaml_error_t} → EmitsEvent before event answer after
-    → (is_ok answer || is_some after.error) ≡ true
-emits_taken {before} {after} {event} {answer} emits =
-    ap (λ (r : Result (Unit {0}) yaml_error_t). is_ok r || is_some after.error) emits.answered ∙ either after.error
-  where
-    either : (error : Option yaml_error_t) → (is_ok (result_of_error error) || is_some error) ≡ true
-    either None = refl
-    either (Some error) = refl
-
 -- the emitter took it, and the properties are used up
 pub gave_taken : (inside before : WriterState) (emitter : State) (anchor tag : Option Text) (event : Event) (answer : Result (Unit {0}) yaml_error_t)
-    → inside ≡ before → EmitsEvent inside.emitter event answer emitter ⊎ CopyFailed inside.emitter answer emitter
-    → (is_ok answer || is_some emitter.error) ≡ true → anchor ≡ None → tag ≡ None
-    → OnOk answer (GaveEvent before event None (record inside { emitter = emitter; anchor = anchor; tag = tag }))
-    × IfErr answer (λ error. Failed before event error (record inside { emitter = emitter; anchor = anchor; tag = tag }))
-gave_taken inside before emitter anchor tag event answer view either taken no_anchor no_tag =
-    elim either [
-      | inl emits ↦
-          let both =
-          gave_either inside before emitter anchor tag event event answer view refl
-          (λ given all sent stands.
-          still_taken given all (all ++ event ∷ []) sent inside.emitter emitter stands emits.set emits.grows (emits.stands given all stands.stands))
-          emits.grows emits.answered no_anchor no_tag in
-          (both.0, if_given before (record inside { emitter = emitter; anchor = anchor; tag = tag }) event answer both.1)
-      | inr failed ↦ absurd (true≢false (sym taken ∙ copy_untaken failed))
-    ]
+    → inside ≡ before → EmitsEvent inside.emitter event answer emitter → anchor ≡ None → tag ≡ None
+    → Gives before event answer (record inside { emitter = emitter; anchor = anchor; tag = tag })
+gave_taken inside before emitter anchor tag event answer view emits no_anchor no_tag =
+    gives_gave before (record inside { emitter = emitter; anchor = anchor; tag = tag }) event answer
+    (gave_returned inside before emitter anchor tag event event answer view refl
+    (λ given all sent stands.
+    still_taken given all (all ++ event ∷ []) sent inside.emitter emitter stands emits.moves.set emits.moves.grows
+    (emits.moves.stands given all stands.stands))
+    emits.moves.grows emits.moves.answered no_anchor no_tag)
 
-pub gave_untaken : (inside before : WriterState) (emitter : State) (event : Event) (answer : Result (Unit {0}) yaml_error_t) → inside ≡ before
-    → EmitsEvent inside.emitter event answer emitter ⊎ CopyFailed inside.emitter answer emitter → (is_ok answer || is_some emitter.error) ≡ false
-    → OnOk answer (GaveEvent before event None (record inside { emitter = emitter }))
-    × IfErr answer (λ error. Failed before event error (record inside { emitter = emitter }))
-gave_untaken inside before emitter event answer view either untaken =
-    elim either [
-      | inl emits ↦ absurd (true≢false (sym (emits_taken emits) ∙ untaken))
-      | inr failed ↦
-          subst
-          (λ (r : Result (Unit {0}) yaml_error_t).
-          OnOk r (GaveEvent before event None (record inside { emitter = emitter }))
-          × IfErr r (λ error. Failed before event error (record inside { emitter = emitter })))
-          (sym failed.memory) (tt, inr (refl, ap (λ (e : State). record inside { emitter = e }) failed.unchanged ∙ view))
-    ]
+-- it didn't, since there was no memory to copy it
+pub gave_untaken : (inside before : WriterState) (emitter : State) (event : Event) → inside ≡ before → CopyFailed inside.emitter emitter
+    → Gives before event (Err Memory) (record inside { emitter = emitter })
+gave_untaken inside before emitter event view failed =
+    inr (refl, ap (λ (e : State). record inside { emitter = e }) failed.unchanged ∙ view)
 
 -- a scalar that the next node's properties say nothing of, where there are none: all of them stay none
-pub gave_bare : (inside before : WriterState) (emitter : State) (event : Event) (answer : Result (Unit {0}) yaml_error_t) → inside ≡ before
-    → EmitsEvent inside.emitter event answer emitter ⊎ CopyFailed inside.emitter answer emitter → inside.anchor ≡ None → inside.tag ≡ None
-    → OnOk answer (GaveEvent before event None (record inside { emitter = emitter }))
-    × IfErr answer (λ error. Failed before event error (record inside { emitter = emitter }))
-gave_bare inside before emitter event answer view either no_anchor no_tag = elim (cases_Bool (is_ok answer || is_some emitter.error)) [
-  | inl taken ↦ gave_taken inside before emitter inside.anchor inside.tag event answer view either taken no_anchor no_tag
-  | inr untaken ↦ gave_untaken inside before emitter event answer view either untaken
-]
+pub gave_bare : (inside before : WriterState) (emitter : State) (event : Event) (answer : ScalarAnswer) → inside ≡ before
+    → EmitsScalar inside.emitter event answer emitter → inside.anchor ≡ None → inside.tag ≡ None
+    → Gives before event (result_of_answer answer) (record inside { emitter = emitter })
+gave_bare inside before emitter event (Taken answer) view emits no_anchor no_tag =
+    gave_taken inside before emitter inside.anchor inside.tag event answer view emits no_anchor no_tag
+gave_bare inside before emitter event NotTaken view failed no_anchor no_tag = gave_untaken inside before emitter event view failed
 
 -- a call that gives the same event
 pub given_as : {given event : Event} (before after : WriterState) (answer : Result (Unit {0}) yaml_error_t) → given ≡ event
-    → OnOk answer (GaveEvent before given None after) → IfErr answer (λ error. Failed before given error after)
-    → OnOk answer (GaveEvent before event None after) × IfErr answer (λ error. Failed before event error after)
-given_as before after answer is given failed = (
-  subst (λ (e : Event). OnOk answer (GaveEvent before e None after)) is given,
-  subst (λ (e : Event). IfErr answer (λ error. Failed before e error after)) is failed,
-)
+    → Gives before given answer after → Gives before event answer after
+given_as before after answer is = subst (λ (e : Event). Gives before e answer after) is
+
+-- what a call gave, and why one failed
+pub gives_ok : (before after : WriterState) (event : Event) (answer : Result (Unit {0}) yaml_error_t) → Gives before event answer after
+    → OnOk answer (GaveEvent before event None after)
+gives_ok before after event (Ok done) gave = gave
+gives_ok before after event (Err error) gave = tt
+
+pub gives_err : (before after : WriterState) (event : Event) (answer : Result (Unit {0}) yaml_error_t) → Gives before event answer after
+    → IfErr answer (λ error. Failed before event error after)
+gives_err before after event (Ok done) gave = tt
+gives_err before after event (Err error) failed = failed
+
+-- and so where it begins a collection
+pub begins_ok : (kind : CollectionKind) (before after : WriterState) (event : Event) (answer : Result (Unit {0}) yaml_error_t)
+    → Begins kind before event answer after → OnOk answer (GaveEvent (with_collection before kind) event None after)
+begins_ok kind before after event (Ok done) gave = gave
+begins_ok kind before after event (Err error) gave = tt
+
+pub begins_err : (kind : CollectionKind) (before after : WriterState) (event : Event) (answer : Result (Unit {0}) yaml_error_t)
+    → Begins kind before event answer after
+    → IfErr answer (λ error. GaveEvent (with_collection before kind) event (Some error) after ⊎ ((error ≡ Memory) × (after ≡ before)))
+begins_err kind before after event (Ok done) gave = tt
+begins_err kind before after event (Err error) failed = failed
 
 -- a tag that was given, else this one
 pub or_own : (tag : Option Text) (is_written : Bool) (own : Text) → option_or tag (tag_or_default None is_written own) ≡ tag_or_default tag is_written own

@@ -1,3 +1,4 @@
 pub mod RowsKeptDocuments
 pub mod RowsDates
 pub mod RowsTimes
+pub mod RowsTypedEvents

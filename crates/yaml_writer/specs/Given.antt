@@ -1,7 +1,7 @@
 -- What values are written by, where nothing else is asked for.
-use Rattle.std.specs.Prelude.{true}
+use Rattle.std.specs.Prelude.{true, Some, negsuc}
 use Rattle.yaml_base.specs.Settings.{Settings, nothing_given}
 
--- portable, with sequences in mappings indented, and characters past ASCII as themselves
+-- portable, with sequences in mappings indented, no line folded, and characters past ASCII as themselves
 abbrev pub given_for_values : Settings
-given_for_values = record nothing_given { unicode = true; portable = true; indented_sequences = true }
+given_for_values = record nothing_given { unicode = true; portable = true; indented_sequences = true; width = Some (negsuc 0) }

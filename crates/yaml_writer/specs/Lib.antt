@@ -13,3 +13,6 @@ pub mod Dates
 pub mod SeenDates
 pub mod Times
 pub mod SeenTimes
+pub mod PlainTags
+pub mod TypedEvents
+pub mod Headings

@@ -1,5 +1,6 @@
 -- What the calls of a writer give to its emitter.
-use Rattle.std.specs.Prelude.{◌≡◌, ◌⊎◌, ℕ, ℤ, Bool, true, false, Option, None, Some, Result, Err, List, [], ◌∷◌, ◌++◌, ◌||◌, codes, is_none, is_some, length}
+use Rattle.std.specs.Prelude.{◌≡◌, ◌⊎◌, ℕ, ℤ, Bool, true, false, Option, None, Some, Result}
+use Rattle.std.specs.Prelude.{Ok, Err, List, [], ◌∷◌, ◌++◌, ◌||◌, codes, is_none, is_some, length}
 use Rattle.std.specs.Prelude.{if◌then◌else◌}
 use Rattle.std.specs.Fmt.{signed_decimal}
 use Rattle.std.specs.List.{list_any}
@@ -36,6 +37,10 @@ pub record WriterState : Type 0 where
   pub levels : List CollectionKind
   pub anchor : Option Text
   pub tag : Option Text
+
+-- a writer that goes on with an emitter
+abbrev pub writer_over : State → WriterState
+writer_over emitter = record { emitter = emitter; canonical = emitter.given.canonical; levels = []; anchor = None; tag = None }
 
 -- ---- the events
 
@@ -207,6 +212,22 @@ pub record GaveEvent (before : WriterState) (event : Event) (error : Option yaml
 -- the emitter failed, or there was no memory for the event, and nothing changed
 abbrev pub Failed : WriterState → Event → yaml_error_t → WriterState → Type 0
 Failed before event error after = GaveEvent before event (Some error) after ⊎ ((error ≡ Memory) × (after ≡ before))
+
+-- the event was given to the emitter, whose error is returned
+abbrev pub Gave : WriterState → Event → Result (Unit {0}) yaml_error_t → WriterState → Type 0
+Gave before event (Ok _) after = GaveEvent before event None after
+Gave before event (Err error) after = GaveEvent before event (Some error) after
+
+-- the event was given, or there was no memory for it, and nothing changed
+abbrev pub Gives : WriterState → Event → Result (Unit {0}) yaml_error_t → WriterState → Type 0
+Gives before event (Ok _) after = GaveEvent before event None after
+Gives before event (Err error) after = Failed before event error after
+
+-- so with the start of a collection of this kind, which is open then
+abbrev pub Begins : CollectionKind → WriterState → Event → Result (Unit {0}) yaml_error_t → WriterState → Type 0
+Begins kind before event (Ok _) after = GaveEvent (with_collection before kind) event None after
+Begins kind before event (Err error) after =
+    GaveEvent (with_collection before kind) event (Some error) after ⊎ ((error ≡ Memory) × (after ≡ before))
 
 -- the innermost collection was ended; the emitter's text and output only grow
 pub record EndedCollection (before : WriterState) (answer : Result (Unit {0}) yaml_error_t) (after : WriterState) : Type 0 where

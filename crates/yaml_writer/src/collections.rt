@@ -1,7 +1,7 @@
 //! Collections of a writer.
-ghost use Rattle.std.specs.Prelude.{◌≡◌, ◌⊎◌, IfErr, OnOk, None, Some, true, false, length};
+ghost use Rattle.std.specs.Prelude.{◌≡◌, IfErr, OnOk, true, false, length};
 ghost use Rattle.yaml_base.specs.Seen.{seen_mapping_style, seen_sequence_style};
-ghost use Rattle.yaml_writer.specs.Writing.{EndsInnermost, GaveEvent, NodeExpected, awaits_node, mapping_event, sequence_event};
+ghost use Rattle.yaml_writer.specs.Writing.{Begins, EndsInnermost, Gave, NodeExpected, awaits_node, mapping_event, sequence_event};
 ghost use Rattle.yaml_writer.specs.Writing.{collection_start_event, with_collection};
 ghost use Rattle.yaml_emitter.specs.declared.place.CollectionKind.TheVariants.{Mapping, Sequence};
 
@@ -24,13 +24,12 @@ impl<A: Allocator + Copy> Writer<A> {
     /// # Errors
     /// Those of the emitter, and `Memory`.
     pub fn begin_mapping(&mut self, style: yaml_mapping_style_t) -> Result<(), yaml_error_t>
-        ensures given { OnOk result (GaveEvent (with_collection self.old Mapping) (mapping_event self.old (seen_mapping_style style)) None self.new) }
-        ensures failed { IfErr result (λ error.
-            GaveEvent (with_collection self.old Mapping) (mapping_event self.old (seen_mapping_style style)) (Some error) self.new
-            ⊎ ((error ≡ yaml_error_t.Memory) × (self.new ≡ self.old))) }
+        ensures { Begins Mapping self.old (mapping_event self.old (seen_mapping_style style)) result self.new }
     {
-        self.enter(CollectionKind::Mapping)?;
-        self.start(CollectionStart::Mapping(style))
+        match self.enter(CollectionKind::Mapping) {
+            Ok(()) => self.start(CollectionStart::Mapping(style)),
+            Err(error) => Err(error),
+        }
     }
 
     /// Begins a sequence: items follow, and then `end`.
@@ -38,13 +37,12 @@ impl<A: Allocator + Copy> Writer<A> {
     /// # Errors
     /// Those of the emitter, and `Memory`.
     pub fn begin_sequence(&mut self, style: yaml_sequence_style_t) -> Result<(), yaml_error_t>
-        ensures given { OnOk result (GaveEvent (with_collection self.old Sequence) (sequence_event self.old (seen_sequence_style style)) None self.new) }
-        ensures failed { IfErr result (λ error.
-            GaveEvent (with_collection self.old Sequence) (sequence_event self.old (seen_sequence_style style)) (Some error) self.new
-            ⊎ ((error ≡ yaml_error_t.Memory) × (self.new ≡ self.old))) }
+        ensures { Begins Sequence self.old (sequence_event self.old (seen_sequence_style style)) result self.new }
     {
-        self.enter(CollectionKind::Sequence)?;
-        self.start(CollectionStart::Sequence(style))
+        match self.enter(CollectionKind::Sequence) {
+            Ok(()) => self.start(CollectionStart::Sequence(style)),
+            Err(error) => Err(error),
+        }
     }
 
     /// How many collections are open.
@@ -85,8 +83,7 @@ impl<A: Allocator + Copy> Writer<A> {
 
     /// Gives the start of a collection to the emitter, with the properties of the next node.
     fn start(&mut self, start: CollectionStart) -> Result<(), yaml_error_t>
-        ensures given { OnOk result (GaveEvent self.old (collection_start_event self.old start) None self.new) }
-        ensures failed { IfErr result (λ error. GaveEvent self.old (collection_start_event self.old start) (Some error) self.new) }
+        ensures { Gave self.old (collection_start_event self.old start) result self.new }
     {
         let anchor = self.anchor.take();
         let tag = self.tag.take();

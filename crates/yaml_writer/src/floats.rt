@@ -1,7 +1,7 @@
 //! Floats that are no numbers of JSON.
-ghost use Rattle.std.specs.Prelude.{◌≡◌, IfErr, None, OnOk, chars};
+ghost use Rattle.std.specs.Prelude.{◌≡◌, chars};
 ghost use Rattle.yaml_writer.specs.Floats.{special_event, special_text};
-ghost use Rattle.yaml_writer.specs.Writing.{Failed, GaveEvent};
+ghost use Rattle.yaml_writer.specs.Writing.{Gives};
 
 use crate::tags::YAML_FLOAT_TAG;
 use crate::writer::Writer;
@@ -33,8 +33,7 @@ impl<A: Allocator + Copy> Writer<A> {
     /// # Errors
     /// Those of the emitter, and `Memory`.
     pub fn special_float(&mut self, value: SpecialFloat) -> Result<(), yaml_error_t>
-        ensures given { OnOk result (GaveEvent self.old (special_event self.old value) None self.new) }
-        ensures failed { IfErr result (λ error. Failed self.old (special_event self.old value) error self.new) }
+        ensures { Gives self.old (special_event self.old value) result self.new }
     {
         self.word(YAML_FLOAT_TAG, special_word(value))
     }

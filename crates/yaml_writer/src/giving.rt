@@ -1,5 +1,5 @@
 //! Events given to an emitter.
-ghost use Rattle.std.specs.Prelude.{◌≡◌, ◌||◌, IfOk, IfErr, OnOk, [], ◌∷◌, true, None, chars, is_none, is_ok, is_some, option_map};
+ghost use Rattle.std.specs.Prelude.{◌≡◌, IfOk, IfErr, OnOk, [], ◌∷◌, true, None, chars, is_none, option_map};
 ghost use Rattle.std.specs.Option.{option_or};
 ghost use Rattle.yaml_base.specs.Event.{alias, document_end};
 ghost use Rattle.yaml_base.specs.Seen.{seen_event, seen_scalar_style, seen_text};
@@ -21,7 +21,8 @@ use yaml_base::{
     yaml_event_t, yaml_scalar_style_t,
 };
 use yaml_emitter::{
-    CollectionKind, ScalarContent, yaml_emitter_emit, yaml_emitter_t, yaml_emitter_take_output,
+    CollectionKind, ScalarContent, borrowed_text, yaml_emitter_emit, yaml_emitter_t,
+    yaml_emitter_take_output,
 };
 
 /// The start of a document without directives.
@@ -122,16 +123,6 @@ pub(crate) fn scalar_content<'a, A: Allocator>(
     }
 }
 
-/// A text, where there is one.
-fn borrowed_text<A: Allocator>(text: &Option<String<A>>) -> Option<&str>
-    ensures { seen_name result ≡ option_map seen_text text.now }
-{
-    match text {
-        Some(text) => Some(text.as_str()),
-        None => None,
-    }
-}
-
 /// A text, where there is one, else the other one.
 fn borrowed_or<'a, A: Allocator>(
     text: &'a Option<String<A>>,
@@ -149,14 +140,6 @@ fn lacks_tag(tag: Option<&str>) -> bool
     ensures { result ≡ is_none (seen_name tag.entry) }
 {
     tag.is_none()
-}
-
-/// Whether the emitter took the event. It did not if the call failed and the emitter has no error: then the copy could not be
-/// allocated.
-pub(crate) fn took_event(answer: &Result<(), yaml_error_t>, error: Option<yaml_error_t>) -> bool
-    ensures { result ≡ (is_ok answer.now || is_some error) }
-{
-    answer.is_ok() || error.is_some()
 }
 
 /// Uses up the anchor and the tag of a node that was given.

@@ -3,9 +3,12 @@ ghost use Rattle.yaml_base.specs.values.JsonNumbers.{NumbersAreRead};
 ghost use Rattle.yaml_base.specs.values.SurelyText.{SurelyTextIsText};
 ghost use Rattle.yaml_writer.specs.Dates.{DatesAreRead, WrittenDatesArePlain};
 ghost use Rattle.yaml_writer.specs.Floats.{SpecialFloatsAreRead};
+ghost use Rattle.yaml_writer.specs.Headings.{HeadingsArePassedOver};
+ghost use Rattle.yaml_writer.specs.PlainTags.{PlainTagsAreRead};
 ghost use Rattle.yaml_writer.specs.PlainTexts.{PlainTextsAreTexts};
 ghost use Rattle.yaml_writer.specs.ReadNumbers.{WrittenNumbersAreRead};
 ghost use Rattle.yaml_writer.specs.Times.{TimestampsAreRead, WrittenTimestampsArePlain};
+ghost use Rattle.yaml_writer.specs.TypedEvents.{TypedEventsAreRead};
 
 /// A text that is surely one means a text by the type repository of YAML 1.1 and by the core schema of YAML 1.2.
 pub fn surely_text_is_text()
@@ -52,4 +55,22 @@ pub fn timestamps_are_read()
 /// The text of every timestamp, asked for plain, is written so in block outside canonical form.
 pub fn written_timestamps_are_plain()
     ensures { WrittenTimestampsArePlain }
+{}
+
+/// A text that has a plain tag, asked for plain, is written so outside canonical form, in flow, too, and as a key; and both schemas
+/// give it this tag.
+pub fn plain_tags_are_read()
+    ensures { PlainTagsAreRead }
+{}
+
+/// What is read of a stream of typed events has the tags of these events, whichever schema gives tags to what is read without one. So
+/// it is of each stream whose scalars have tags, and whose collections' tags are left out only where they are those of their kinds.
+pub fn typed_events_are_read()
+    ensures { TypedEventsAreRead }
+{}
+
+/// A stream behind lines of comments is read as the stream alone by a reader that passes over the lines at its front that begin with `#`;
+/// what doesn't begin so is read as ever.
+pub fn headings_are_passed_over()
+    ensures { HeadingsArePassedOver }
 {}

@@ -7,8 +7,10 @@ mod digits;
 mod ends;
 mod floats;
 mod giving;
+mod headings;
 mod laws;
 mod numbers;
+mod plain_tags;
 mod properties;
 mod scalars;
 mod settings;
@@ -17,23 +19,28 @@ mod tags;
 mod texts;
 mod times;
 mod timestamps;
+mod typed;
 mod words;
 mod writer;
 
 pub use dates::Date;
 pub use ends::DocumentEnd;
 pub use floats::SpecialFloat;
+pub use headings::comment_lines;
 pub use laws::{
-    dates_are_read, numbers_are_read, plain_texts_are_texts, special_floats_are_read,
-    surely_text_is_text, timestamps_are_read, written_dates_are_plain, written_numbers_are_read,
+    dates_are_read, headings_are_passed_over, numbers_are_read, plain_tags_are_read,
+    plain_texts_are_texts, special_floats_are_read, surely_text_is_text, timestamps_are_read,
+    typed_events_are_read, written_dates_are_plain, written_numbers_are_read,
     written_timestamps_are_plain,
 };
 pub use numbers::{Number, Sign, number_of};
+pub use plain_tags::plain_tag;
 pub use settings::value_settings;
 pub use spelling::{Spelling, number_spelling};
 pub use texts::is_surely_text;
 pub use times::{Offset, Time};
 pub use timestamps::Timestamp;
+pub use typed::typed_event;
 pub use writer::Writer;
 pub use yaml_base::{
     YAML_ANY_BREAK, YAML_ANY_ENCODING, YAML_ANY_MAPPING_STYLE, YAML_ANY_SCALAR_STYLE,

@@ -5,10 +5,10 @@ ghost use Rattle.yaml_writer.specs.Writing.{NodeExpected, PassedEvents, awaits_n
 
 use crate::ends::DocumentEnd;
 use crate::giving::{give_alias, give_next};
-use crate::scalars::text_of;
 use crate::writer::Writer;
 use std::alloc::Allocator;
 use yaml_base::yaml_error_t;
+use yaml_emitter::copied_text;
 
 impl<A: Allocator + Copy> Writer<A> {
     /// Names the next node, so that aliases may stand for it.
@@ -19,7 +19,7 @@ impl<A: Allocator + Copy> Writer<A> {
         ensures named { OnOk result (self.new ≡ record self.old { anchor = Some (chars name.now) }) }
         ensures memory { IfErr result (λ error. (error ≡ yaml_error_t.Memory) × (self.new ≡ self.old)) }
     {
-        self.anchor = Some(text_of(self.alloc, name)?);
+        self.anchor = Some(copied_text(self.alloc, name)?);
         Ok(())
     }
 
@@ -31,7 +31,7 @@ impl<A: Allocator + Copy> Writer<A> {
         ensures tagged { OnOk result (self.new ≡ record self.old { tag = Some (chars tag.now) }) }
         ensures memory { IfErr result (λ error. (error ≡ yaml_error_t.Memory) × (self.new ≡ self.old)) }
     {
-        self.tag = Some(text_of(self.alloc, tag)?);
+        self.tag = Some(copied_text(self.alloc, tag)?);
         Ok(())
     }
 
@@ -48,7 +48,7 @@ impl<A: Allocator + Copy> Writer<A> {
         if self.awaits_node() {
             return Err(yaml_error_t::ExpectedNode);
         }
-        let name = text_of(self.alloc, name)?;
+        let name = copied_text(self.alloc, name)?;
         give_alias(&mut self.emitter, name)
     }
 

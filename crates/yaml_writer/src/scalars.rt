@@ -1,10 +1,9 @@
 //! Scalars of a writer.
-ghost use Rattle.std.specs.Prelude.{◌≡◌, IfOk, IfErr, OnOk, chars, None, Some, pos};
-ghost use Rattle.std.specs.Fmt.{signed_decimal};
-ghost use Rattle.yaml_base.specs.Seen.{seen_scalar_style, seen_text};
+ghost use Rattle.std.specs.Prelude.{◌≡◌, chars, None, pos};
+ghost use Rattle.yaml_base.specs.Seen.{seen_scalar_style};
 ghost use Rattle.yaml_base.specs.values.TypedValues.{bool_text};
 ghost use Rattle.yaml_emitter.specs.BorrowedTexts.{seen_name};
-ghost use Rattle.yaml_writer.specs.Writing.{Failed, GaveEvent, bool_event, int_event, null_event, number_event, number_tag, tag_or_default};
+ghost use Rattle.yaml_writer.specs.Writing.{Gives, bool_event, int_event, null_event, number_event, number_tag, tag_or_default};
 ghost use Rattle.yaml_writer.specs.Writing.{style_asked, styled_event, text_event, text_style};
 ghost use Rattle.yaml_writer.specs.Writing.{word_event};
 
@@ -12,23 +11,12 @@ use crate::numbers::Number;
 use crate::tags::{YAML_BOOL_TAG, YAML_FLOAT_TAG, YAML_INT_TAG, YAML_NULL_TAG};
 use crate::texts::is_surely_text;
 use crate::writer::Writer;
-use std::alloc::{AllocError, Allocator};
+use std::alloc::Allocator;
 use yaml_base::{
     YAML_ANY_SCALAR_STYLE, YAML_LITERAL_SCALAR_STYLE, YAML_PLAIN_SCALAR_STYLE,
     YAML_SINGLE_QUOTED_SCALAR_STYLE, yaml_error_t, yaml_scalar_style_t,
 };
 use yaml_emitter::holds_break;
-
-/// A text of its own.
-pub(crate) fn text_of<A: Allocator>(alloc: A, text: &str) -> Result<String<A>, yaml_error_t>
-    ensures text { IfOk result (λ copy. seen_text copy ≡ chars text.now) }
-    ensures memory { IfErr result (λ error. error ≡ yaml_error_t.Memory) }
-{
-    match String::from_str(alloc, text) {
-        Ok(copy) => Ok(copy),
-        Err(_) => Err(yaml_error_t::Memory),
-    }
-}
 
 /// The tag of a scalar's type, where one is written.
 pub(crate) fn own_tag(is_written: bool, tag: &str) -> Option<&str>
@@ -44,24 +32,8 @@ fn word_of(value: bool) -> &'static str
     if value { "true" } else { "false" }
 }
 
-/// The decimal digits of an integer, after its sign.
-fn digits_of<A: Allocator>(alloc: A, value: i64) -> Result<String<A>, AllocError>
-    ensures { IfOk result (λ digits. seen_text digits ≡ signed_decimal value) }
-{
-    let digits = format!(in alloc; "{value}")?;
-    Ok(digits)
-}
-
-/// The decimal digits of a number.
-fn digits_of_unsigned<A: Allocator>(alloc: A, value: u64) -> Result<String<A>, AllocError>
-    ensures { IfOk result (λ digits. seen_text digits ≡ signed_decimal (pos value)) }
-{
-    let digits = format!(in alloc; "{value}")?;
-    Ok(digits)
-}
-
 /// The tag of a number's type.
-fn tag_of_number(number: &Number<'_>) -> &'static str
+pub(crate) fn tag_of_number(number: &Number<'_>) -> &'static str
     ensures { chars result.now ≡ number_tag number.now }
 {
     if number.is_integer() {
@@ -103,8 +75,7 @@ impl<A: Allocator + Copy> Writer<A> {
     /// # Errors
     /// Those of the emitter, and `Memory`.
     pub fn null(&mut self) -> Result<(), yaml_error_t>
-        ensures given { OnOk result (GaveEvent self.old (null_event self.old) None self.new) }
-        ensures failed { IfErr result (λ error. Failed self.old (null_event self.old) error self.new) }
+        ensures { Gives self.old (null_event self.old) result self.new }
     {
         self.word(YAML_NULL_TAG, "null")
     }
@@ -114,8 +85,7 @@ impl<A: Allocator + Copy> Writer<A> {
     /// # Errors
     /// Those of the emitter, and `Memory`.
     pub fn bool(&mut self, value: bool) -> Result<(), yaml_error_t>
-        ensures given { OnOk result (GaveEvent self.old (bool_event self.old value) None self.new) }
-        ensures failed { IfErr result (λ error. Failed self.old (bool_event self.old value) error self.new) }
+        ensures { Gives self.old (bool_event self.old value) result self.new }
     {
         self.word(YAML_BOOL_TAG, word_of(value))
     }
@@ -125,13 +95,9 @@ impl<A: Allocator + Copy> Writer<A> {
     /// # Errors
     /// Those of the emitter, and `Memory`.
     pub fn int(&mut self, value: i64) -> Result<(), yaml_error_t>
-        ensures given { OnOk result (GaveEvent self.old (int_event self.old value) None self.new) }
-        ensures failed { IfErr result (λ error. Failed self.old (int_event self.old value) error self.new) }
+        ensures { Gives self.old (int_event self.old value) result self.new }
     {
-        match digits_of(self.alloc, value) {
-            Ok(digits) => self.word(YAML_INT_TAG, digits.as_str()),
-            Err(_) => Err(yaml_error_t::Memory),
-        }
+        self.word(YAML_INT_TAG, itoa::Buffer::new().format(value))
     }
 
     /// Writes a number that isn't negative in decimal digits.
@@ -139,13 +105,9 @@ impl<A: Allocator + Copy> Writer<A> {
     /// # Errors
     /// Those of the emitter, and `Memory`.
     pub fn unsigned(&mut self, value: u64) -> Result<(), yaml_error_t>
-        ensures given { OnOk result (GaveEvent self.old (int_event self.old (pos value)) None self.new) }
-        ensures failed { IfErr result (λ error. Failed self.old (int_event self.old (pos value)) error self.new) }
+        ensures { Gives self.old (int_event self.old (pos value)) result self.new }
     {
-        match digits_of_unsigned(self.alloc, value) {
-            Ok(digits) => self.word(YAML_INT_TAG, digits.as_str()),
-            Err(_) => Err(yaml_error_t::Memory),
-        }
+        self.word(YAML_INT_TAG, itoa::Buffer::new().format(value))
     }
 
     /// Writes a number of JSON, in the spelling that both schemas read as exactly that number: an integer as it stands, any
@@ -154,8 +116,7 @@ impl<A: Allocator + Copy> Writer<A> {
     /// # Errors
     /// Those of the emitter, and `Memory`.
     pub fn number(&mut self, number: &Number<'_>) -> Result<(), yaml_error_t>
-        ensures given { OnOk result (GaveEvent self.old (number_event self.old number.now) None self.new) }
-        ensures failed { IfErr result (λ error. Failed self.old (number_event self.old number.now) error self.new) }
+        ensures { Gives self.old (number_event self.old number.now) result self.new }
     {
         if number.is_spelled() {
             let own = self.number_tag(number);
@@ -167,8 +128,7 @@ impl<A: Allocator + Copy> Writer<A> {
     /// What `number` does where the spelling may be another text. Out of line, so that `number` is inlined.
     #[inline(never)]
     fn respelled_number(&mut self, number: &Number<'_>) -> Result<(), yaml_error_t>
-        ensures given { OnOk result (GaveEvent self.old (number_event self.old number.now) None self.new) }
-        ensures failed { IfErr result (λ error. Failed self.old (number_event self.old number.now) error self.new) }
+        ensures { Gives self.old (number_event self.old number.now) result self.new }
     {
         match number.spelling(self.alloc) {
             Ok(spelling) => self.word(tag_of_number(number), spelling.as_str()),
@@ -188,20 +148,20 @@ impl<A: Allocator + Copy> Writer<A> {
     }
 
     /// Writes a text, which no reader takes for another value: where it holds a line break, it stands literally, else plain
-    /// or in quotes.
+    /// or in quotes. In portable mode a root that begins with a space or a line break stands in quotes, too.
     ///
     /// # Errors
     /// Those of the emitter, and `Memory`.
     pub fn text(&mut self, value: &str) -> Result<(), yaml_error_t>
-        ensures given { OnOk result (GaveEvent self.old (text_event self.old (chars value.now)) None self.new) }
-        ensures failed { IfErr result (λ error. Failed self.old (text_event self.old (chars value.now)) error self.new) }
+        ensures { Gives self.old (text_event self.old (chars value.now)) result self.new }
     {
         self.text_styled(YAML_ANY_SCALAR_STYLE, value)
     }
 
     /// Writes a text in a style, which no reader takes for another value. A plain text that a reader could take for another
-    /// value, or that can't be plain, stands in quotes. A literal or folded one stands in double quotes as a key and in flow.
-    /// What single quotes can't hold stands in double quotes. ANY is the style of `text`.
+    /// value, or that can't be plain, stands in quotes. A literal or folded one stands in double quotes as a key, in flow,
+    /// and in portable mode as a root that begins with a space or a line break. What single quotes can't hold stands in double
+    /// quotes. ANY is the style of `text`.
     ///
     /// # Errors
     /// Those of the emitter, and `Memory`.
@@ -210,16 +170,14 @@ impl<A: Allocator + Copy> Writer<A> {
         style: yaml_scalar_style_t,
         value: &str,
     ) -> Result<(), yaml_error_t>
-        ensures given { OnOk result (GaveEvent self.old (styled_event self.old (seen_scalar_style style) (chars value.now)) None self.new) }
-        ensures failed { IfErr result (λ error. Failed self.old (styled_event self.old (seen_scalar_style style) (chars value.now)) error self.new) }
+        ensures { Gives self.old (styled_event self.old (seen_scalar_style style) (chars value.now)) result self.new }
     {
         self.scalar(None, value, style_for(style, value))
     }
 
     /// Writes a word of a type of YAML, plain.
     pub(crate) fn word(&mut self, tag: &str, word: &str) -> Result<(), yaml_error_t>
-        ensures given { OnOk result (GaveEvent self.old (word_event self.old (chars tag.now) (chars word.now)) None self.new) }
-        ensures failed { IfErr result (λ error. Failed self.old (word_event self.old (chars tag.now) (chars word.now)) error self.new) }
+        ensures { Gives self.old (word_event self.old (chars tag.now) (chars word.now)) result self.new }
     {
         let own = own_tag(self.canonical, tag);
         self.scalar(own, word, YAML_PLAIN_SCALAR_STYLE)

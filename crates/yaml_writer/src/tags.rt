@@ -1,4 +1,6 @@
-//! The tags of scalars that are no texts, as libyaml names them.
+//! The tags of scalars, as libyaml names them.
+
+pub(crate) const YAML_STR_TAG: &str = "tag:yaml.org,2002:str";
 
 pub(crate) const YAML_NULL_TAG: &str = "tag:yaml.org,2002:null";
 

@@ -1,10 +1,10 @@
 //! Timestamps of YAML 1.1, and their texts.
-ghost use Rattle.std.specs.Prelude.{◌≡◌, ◌||◌, ◌++◌, IfErr, IfOk, None, OnOk, Some, if◌then◌else◌, is_some, option_map, string_bytes};
+ghost use Rattle.std.specs.Prelude.{◌≡◌, ◌||◌, ◌++◌, IfOk, Some, if◌then◌else◌, is_some, option_map, string_bytes};
 ghost use Rattle.yaml_base.specs.Seen.{seen_text};
 ghost use Rattle.yaml_writer.specs.SeenNumbers.{is_minus};
 ghost use Rattle.yaml_writer.specs.SeenTimes.{seen_offset, seen_time, seen_timestamp};
 ghost use Rattle.yaml_writer.specs.Times as times;
-ghost use Rattle.yaml_writer.specs.Writing.{Failed, GaveEvent, timestamp_event};
+ghost use Rattle.yaml_writer.specs.Writing.{Gives, timestamp_event};
 
 use crate::dates::Date;
 use crate::digits::{push_three_digits, push_two_digits};
@@ -143,8 +143,7 @@ impl<A: Allocator + Copy> Writer<A> {
     /// # Errors
     /// Those of the emitter, and `Memory`.
     pub fn timestamp(&mut self, timestamp: &Timestamp) -> Result<(), yaml_error_t>
-        ensures given { OnOk result (GaveEvent self.old (timestamp_event self.old (seen_timestamp timestamp.now)) None self.new) }
-        ensures failed { IfErr result (λ error. Failed self.old (timestamp_event self.old (seen_timestamp timestamp.now)) error self.new) }
+        ensures { Gives self.old (timestamp_event self.old (seen_timestamp timestamp.now)) result self.new }
     {
         match timestamp.text(self.alloc) {
             Ok(text) => {

@@ -9,16 +9,16 @@ ghost use Rattle.yaml_emitter.specs.State.{with_all_taken};
 ghost use Rattle.yaml_pen.specs.Page.{output_left};
 ghost use Rattle.yaml_pen.specs.Sinks.{AppendsFirst};
 ghost use Rattle.yaml_writer.specs.Unfinished.{IsUnfinished, IsUnfinishedBy};
-ghost use Rattle.yaml_writer.specs.Writing.{Failed, Finishes, FinishesBy, GaveEvent, StandsTaken, TakesBytes, awaits_node, is_implicit, opening, scalar_event};
+ghost use Rattle.yaml_writer.specs.Writing.{Finishes, FinishesBy, Gives, StandsTaken, TakesBytes, awaits_node, is_implicit, opening, scalar_event, writer_over};
 
 use crate::ends::DocumentEnd;
-use crate::giving::{bare_scalar, begin, finished, scalar_content, took_event, use_up};
+use crate::giving::{bare_scalar, begin, finished, scalar_content, use_up};
 use std::alloc::Allocator;
 use std::io;
 use std::marker::Model;
 use yaml_base::{yaml_error_t, yaml_scalar_style_t};
 use yaml_emitter::{
-    CollectionKind, Settings, yaml_emitter_consume_output, yaml_emitter_emit_scalar,
+    CollectionKind, ScalarAnswer, Settings, yaml_emitter_consume_output, yaml_emitter_emit_scalar,
     yaml_emitter_t, yaml_emitter_take_output,
 };
 use yaml_pen::write_to_sink;
@@ -85,6 +85,39 @@ impl<A: Allocator + Copy> Writer<A> {
         })
     }
 
+    /// A writer that goes on with an emitter, whose next event is its next node. `into_emitter` returns the emitter. The documents of
+    /// the stream are left to the emitter, with what the writer opens within them.
+    pub fn over(alloc: A, emitter: yaml_emitter_t<A>) -> Self
+        requires { emitter.has_output ≡ true }
+        ensures { result ≡ writer_over emitter }
+    {
+        let canonical = emitter.is_canonical();
+        Writer {
+            alloc,
+            emitter,
+            canonical,
+            levels: Vec::new(alloc),
+            anchor: None,
+            tag: None,
+        }
+    }
+
+    /// The emitter, where it stands. An anchor and a tag whose node wasn't given are dropped.
+    pub fn into_emitter(self) -> yaml_emitter_t<A>
+        ensures value { result ≡ self.emitter }
+        ensures output { result.has_output ≡ true }
+    {
+        let Writer {
+            alloc: _,
+            emitter,
+            canonical: _,
+            levels: _,
+            anchor: _,
+            tag: _,
+        } = self;
+        emitter
+    }
+
     /// Gives a scalar to the emitter, with the properties of the next node, and this tag where none was given. Where it has to
     /// wait and there is no memory to copy it, nothing changes.
     pub(crate) fn scalar(
@@ -93,15 +126,13 @@ impl<A: Allocator + Copy> Writer<A> {
         value: &str,
         style: yaml_scalar_style_t,
     ) -> Result<(), yaml_error_t>
-        ensures given { OnOk result (GaveEvent self.old (scalar_event self.old (option_or self.old.tag (seen_name own.entry)) (chars value.now)
-            (seen_scalar_style style)) None self.new) }
-        ensures failed { IfErr result (λ error. Failed self.old (scalar_event self.old (option_or self.old.tag (seen_name own.entry)) (chars value.now)
-            (seen_scalar_style style)) error self.new) }
+        ensures { Gives self.old (scalar_event self.old (option_or self.old.tag (seen_name own.entry)) (chars value.now)
+            (seen_scalar_style style)) result self.new }
     {
         if self.awaits_node() {
             return self.scalar_with_properties(own, value, style);
         }
-        yaml_emitter_emit_scalar(&mut self.emitter, &bare_scalar(own, value, style))
+        yaml_emitter_emit_scalar(&mut self.emitter, &bare_scalar(own, value, style)).into_result()
     }
 
     /// What `scalar` does where an anchor or a tag awaits its node. Out of line, so that `scalar` is inlined.
@@ -112,17 +143,17 @@ impl<A: Allocator + Copy> Writer<A> {
         value: &str,
         style: yaml_scalar_style_t,
     ) -> Result<(), yaml_error_t>
-        ensures given { OnOk result (GaveEvent self.old (scalar_event self.old (option_or self.old.tag (seen_name own.entry)) (chars value.now)
-            (seen_scalar_style style)) None self.new) }
-        ensures failed { IfErr result (λ error. Failed self.old (scalar_event self.old (option_or self.old.tag (seen_name own.entry)) (chars value.now)
-            (seen_scalar_style style)) error self.new) }
+        ensures { Gives self.old (scalar_event self.old (option_or self.old.tag (seen_name own.entry)) (chars value.now)
+            (seen_scalar_style style)) result self.new }
     {
         let content = scalar_content(&self.anchor, &self.tag, own, value, style);
-        let answer = yaml_emitter_emit_scalar(&mut self.emitter, &content);
-        if took_event(&answer, self.emitter.error()) {
-            use_up(&mut self.anchor, &mut self.tag);
+        match yaml_emitter_emit_scalar(&mut self.emitter, &content) {
+            ScalarAnswer::Taken(answer) => {
+                use_up(&mut self.anchor, &mut self.tag);
+                answer
+            }
+            ScalarAnswer::NotTaken => Err(yaml_error_t::Memory),
         }
-        answer
     }
 
     /// Whether an anchor or a tag was given whose node wasn't yet.

@@ -1,9 +1,9 @@
 -- A text that begins with no digit and no point, past its sign, is no number and no timestamp.
-use Rattle.yaml_base.proofs.Common.{nat_tests, arith, ℕ, if◌then◌else◌, ◌==◌, Option, None, Some, pos, ℤ, length, Bool, false, not, true, ◌||◌, List, [], ◌++◌}
-use Rattle.yaml_base.proofs.Common.{◌∷◌, refl, ◌≡◌, eqb-true, true≢false, ap, ◌∙◌, and_left, and_right, or_parts, or_from, false≢true, slice_split-cons_no}
+use Rattle.yaml_base.proofs.Common.{nat_tests, arith, ℕ, ◌==◌, Option, None, ℤ, length, Bool, false, not, true, ◌||◌, List, [], ◌++◌}
+use Rattle.yaml_base.proofs.Common.{◌∷◌, refl, ◌≡◌, eqb-true, true≢false, and_left, and_right, or_parts, or_from, false≢true, slice_split-cons_no}
 use Rattle.yaml_base.proofs.Common.{take_while-cons, onto_first, slice_split, take_while, Text, is_between, Decimal, is_point, is_decimal, first_meets}
-use Rattle.yaml_base.proofs.Common.{past_sign, are_digits, counted_digits, decimal_of_digits, times_power_of_ten, scientific, core_mantissa, are_grouped}
-use Rattle.yaml_base.proofs.Common.{begins_grouped, is_leading, octal_11, decimal_11, are_sixtieths, is_colon, fine_sixties_11, mantissa_11, has_more_points}
+use Rattle.yaml_base.proofs.Common.{past_sign, are_digits, counted_digits, decimal_of_digits, scientific, core_mantissa}
+use Rattle.yaml_base.proofs.Common.{is_leading, octal_11, decimal_11, are_sixtieths, fine_sixties_11, mantissa_11, has_more_points}
 use Rattle.yaml_base.proofs.Common.{more_points_11, is_date, in_date, timestamp_11}
 use Rattle.yaml_base.proofs.no_numbers.NoNumbers.{NoNumber, off, filled}
 
@@ -103,27 +103,12 @@ point_begins (c ∷ rest) h = (or_parts (is_decimal c) (is_point c) h).1
 
 -- ---- all
 
+-- what begins with no digit is none of these
+pub ruleset begins_none = (timestamp_begins, octal_11_begins, decimal_11_begins, off, groups_begin, split_begins, leading_begins, fine_sixties_begin)
+
+-- nor, without a point, a float
+ruleset begins_no_float = (scientific_begins, mantissa_11_begins, more_points_11_begins, more_points_begin, core_mantissa_begins, digits_begin, point_begins)
+
 -- it is no number and no timestamp
 pub without_begin : (text : Text) → first_meets begins_digits (past_sign text) ≡ false → NoNumber text
-without_begin text h =
-    grind (
-      arith,
-      timestamp_begins,
-      whole_begins,
-      scientific_begins,
-      mantissa_11_begins,
-      octal_11_begins,
-      decimal_11_begins,
-      off,
-      groups_begin,
-      split_begins,
-      leading_begins,
-      fine_sixties_begin,
-      more_points_11_begins,
-      more_points_begin,
-      and_left,
-      point_begins,
-      digits_begin,
-      core_mantissa_begins,
-      digit_begins,
-    )
+without_begin text h = grind (arith, begins_none, begins_no_float, whole_begins, and_left, digit_begins)

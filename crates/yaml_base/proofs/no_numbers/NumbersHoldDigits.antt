@@ -1,11 +1,11 @@
 -- A text without a digit is no number and no timestamp, unless it is of points alone.
 use Rattle.yaml_base.proofs.Common.{nat_tests, arith, ℕ, if◌then◌else◌, None, Bool, false, true, ◌||◌, List, [], ◌++◌, ◌∷◌, refl, ◌≡◌, eqb-true, true≢false, ap}
-use Rattle.yaml_base.proofs.Common.{◌∙◌, and_parts, and_left, and_right, or_parts, or_from, list_any-append, concat, list_all, list_any, onto_first}
+use Rattle.yaml_base.proofs.Common.{◌∙◌, and_left, and_right, or_parts, or_from, list_any-append, concat, list_all, list_any, onto_first}
 use Rattle.yaml_base.proofs.Common.{slice_split, Text, is_point, is_decimal, first_meets, past_sign, decimal_of_digits, core_mantissa, begins_grouped}
 use Rattle.yaml_base.proofs.Common.{mantissa_11, has_more_points, is_number_letter}
 use Rattle.yaml_base.proofs.no_numbers.NoNumbers.{NoNumber, off, filled}
-use Rattle.yaml_base.proofs.no_numbers.NumbersBegin.{first_part, split_begins, digits_begin, scientific_begins, more_points_11_begins, groups_begin}
-use Rattle.yaml_base.proofs.no_numbers.NumbersBegin.{fine_sixties_begin, octal_11_begins, leading_begins, decimal_11_begins, timestamp_begins}
+use Rattle.yaml_base.proofs.no_numbers.NumbersBegin.{first_part, digits_begin, scientific_begins, more_points_11_begins, begins_none}
+use Rattle.yaml_base.proofs.AllPass.{none_pass}
 
 -- a text holds a digit
 abbrev holds_digit : Text → Bool
@@ -82,41 +82,16 @@ more_points_without ((c ∷ whole) ∷ a ∷ b ∷ rest) h = grind (arith, and_l
 -- ---- points alone
 
 points_lack_letters : (text : Text) → list_all is_point text ≡ true → list_any is_number_letter text ≡ false
-points_lack_letters [] h = refl
-points_lack_letters (c ∷ rest) h =
-    or_from (is_number_letter c) _ (ap is_number_letter (eqb-true c 0x2E both.0)) (points_lack_letters rest both.1)
-  where
-    both : (is_point c ≡ true) × (list_all is_point rest ≡ true)
-    both = and_parts (is_point c) (list_all is_point rest) h
+points_lack_letters text h = none_pass is_point is_number_letter (λ c e. ap is_number_letter (eqb-true c 0x2E e)) text h
 
 not_points : (text : Text) → list_any is_number_letter text ≡ true → list_all is_point (past_sign text) ≡ false
 not_points text h = grind (arith, or_from, eqb-true, true≢false, points_lack_letters)
 
 -- ---- all
 
+-- what holds no digit is no float
+ruleset holds_no_float = (scientific_begins, mantissa_11_without, more_points_11_begins, more_points_without, core_mantissa_without, digits_begin, not_points)
+
 -- with a letter it is no number and no timestamp
 pub without_digits : (text : Text) → list_any is_decimal text ≡ false → list_any is_number_letter text ≡ true → NoNumber text
-without_digits text h letter =
-    grind (
-      arith,
-      timestamp_begins,
-      first_without,
-      scientific_begins,
-      mantissa_11_without,
-      octal_11_begins,
-      decimal_11_begins,
-      off,
-      groups_begin,
-      split_begins,
-      leading_begins,
-      fine_sixties_begin,
-      more_points_11_begins,
-      more_points_without,
-      and_right,
-      not_points,
-      digits_begin,
-      core_mantissa_without,
-      past_sign_without,
-      parts_without,
-      first_part_without,
-    )
+without_digits text h letter = grind (arith, begins_none, holds_no_float, first_without, and_right, past_sign_without, parts_without, first_part_without)

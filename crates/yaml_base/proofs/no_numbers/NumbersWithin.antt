@@ -1,6 +1,6 @@
 -- A text that holds a character which stands in no number is no number and no timestamp.
-use Rattle.yaml_base.proofs.Common.{nat_tests}
-use Rattle.yaml_base.proofs.Common.{ℕ, ◌==◌, Option, None, Some, codes, pos, ℤ, length, Bool, false, not, true, ◌&&◌, ◌||◌, List, [], ◌++◌, ◌∷◌, ◌⊎◌, refl, ◌≡◌}
+use Rattle.yaml_base.proofs.Common.{nat_tests, and-true}
+use Rattle.yaml_base.proofs.Common.{ℕ, ◌==◌, Option, None, Some, codes, ℤ, length, Bool, false, not, true, ◌&&◌, ◌||◌, List, [], ◌++◌, ◌∷◌, ◌⊎◌, refl, ◌≡◌}
 use Rattle.yaml_base.proofs.Common.{eqb-true, lt-ltb, ltb-true, true≢false, inl, inr, ap, sym, ◌∙◌, arith, or_cases, and_cases, and_left, and_right, or_from}
 use Rattle.yaml_base.proofs.Common.{or_left, list_all-append, bytes_eq-Decides, digit_value, concat, list_all, onto_first, slice_split, Text, is_between}
 use Rattle.yaml_base.proofs.Common.{is_blank, is_word, Decimal, is_point, is_exponent_letter, is_plus_or_minus, is_decimal, first_meets, past_sign, is_negative}
@@ -23,14 +23,10 @@ stronger : {X : Type 0} (weak strong : X → Bool) → ((x : X) → strong x ≡
 stronger weak strong implied [] h = absurd (true≢false h)
 stronger weak strong implied (x ∷ xs) h = grind (arith, stronger weak strong implied xs)
 
-and_true : (x : Bool) → (x && true) ≡ x
-and_true true = refl
-and_true false = refl
-
 -- the last of two
 two_cases : (x y : Bool) → (x && (y && true)) ≡ false → (x ≡ false) ⊎ (y ≡ false)
 two_cases false y h = inl refl
-two_cases true y h = inr (sym (and_true y) ∙ h)
+two_cases true y h = inr (sym (and-true y) ∙ h)
 
 -- ---- characters
 
@@ -133,7 +129,7 @@ scaled_none (Some decimal) = refl
 scientific_outside : (mantissa : Text → Option Decimal) (exponent : Text → Option ℤ) → ((text : Text) → within text ≡ false → mantissa text ≡ None)
     → ((text : Text) → within text ≡ false → exponent text ≡ None) → (parts : List Text) → list_all within parts ≡ false
     → scientific mantissa exponent parts ≡ None
-scientific_outside mantissa exponent h k parts e = grind (arith, nat_tests, and_true, two_cases, scaled_none)
+scientific_outside mantissa exponent h k parts e = grind (arith, nat_tests, and-true, two_cases, scaled_none)
 
 exponent_outside : (text : Text) → within text ≡ false → exponent_read text ≡ None
 exponent_outside text h = off _ _ (digits_outside (past_sign text) (sign_outside text h))
@@ -145,13 +141,13 @@ pointed_outside : (negative : Bool) (whole fraction : Text) → (within whole &&
 pointed_outside negative whole fraction h = off _ _ (digits_outside (whole ++ fraction) (list_all-append in_number whole fraction ∙ h))
 
 core_mantissa_outside : (negative : Bool) (parts : List Text) → list_all within parts ≡ false → core_mantissa negative parts ≡ None
-core_mantissa_outside negative parts h = grind (arith, nat_tests, pointed_outside, and_true)
+core_mantissa_outside negative parts h = grind (arith, nat_tests, pointed_outside, and-true)
 
 mantissa_11_outside : (negative : Bool) (parts : List Text) → list_all within parts ≡ false → mantissa_11 negative parts ≡ None
 mantissa_11_outside negative [] h = refl
 mantissa_11_outside negative ([] ∷ []) h = refl
 mantissa_11_outside negative ((c ∷ whole) ∷ []) h = refl
-mantissa_11_outside negative ([] ∷ fraction ∷ []) h = pointed_outside negative [] fraction (sym (and_true (within fraction)) ∙ h)
+mantissa_11_outside negative ([] ∷ fraction ∷ []) h = pointed_outside negative [] fraction (sym (and-true (within fraction)) ∙ h)
 mantissa_11_outside negative ((c ∷ whole) ∷ fraction ∷ []) h =
     grind (arith, off, two_cases, and_left, begins_outside, and_right, grouped_outside, digit_stands)
 mantissa_11_outside negative ([] ∷ a ∷ b ∷ rest) h = refl
@@ -163,7 +159,7 @@ points_outside parts h =
 
 more_points_outside : (parts : List Text) → list_all within parts ≡ false → more_points_11 parts ≡ None
 more_points_outside parts h =
-    grind (arith, nat_tests, off, points_outside, parts_outside, point_stands, and_true, two_cases, and_left, and_right, digits_outside, sign_outside)
+    grind (arith, nat_tests, off, points_outside, parts_outside, point_stands, and-true, two_cases, and_left, and_right, digits_outside, sign_outside)
 
 -- ---- integers
 
@@ -198,7 +194,7 @@ rest_outside c rest false later stands fails h = refl
 rest_outside c rest true later stands fails h = fails (sym (ap (λ t. t && within rest) (stands refl)) ∙ h)
 
 offset_outside : (parts : List Text) → list_all within parts ≡ false → is_offset parts ≡ false
-offset_outside parts h = grind (arith, nat_tests, counted_outside, and_true, two_cases, and_left, and_right)
+offset_outside parts h = grind (arith, nat_tests, counted_outside, and-true, two_cases, and_left, and_right)
 
 zone_outside : (text : Text) → within text ≡ false → is_zone text ≡ false
 zone_outside [] h = refl
@@ -227,6 +223,10 @@ timestamp_outside text h = grind (arith, off, or_from, and_right, filled_outside
 -- it is no number and no timestamp
 pub with_others : (text : Text) → list_all in_number text ≡ false → NoNumber text
 with_others text h =
+    let number : Text = past_sign text in
+    let later : within number ≡ false = sign_outside text h in
+    let parts : List Text = slice_split is_exponent_letter number in
+    let at_mark : list_all within parts ≡ false = parts_outside is_exponent_letter mark_stands number later in
     record {
       timestamp = timestamp_outside text h;
       float = scientific_outside mantissa_read exponent_11 mantissa_outside exponent_11_outside parts at_mark;
@@ -242,18 +242,6 @@ with_others text h =
   where
     negative : Bool
     negative = is_negative text
-
-    number : Text
-    number = past_sign text
-
-    later : within number ≡ false
-    later = sign_outside text h
-
-    parts : List Text
-    parts = slice_split is_exponent_letter number
-
-    at_mark : list_all within parts ≡ false
-    at_mark = parts_outside is_exponent_letter mark_stands number later
 
     at_point : (m : Text) → within m ≡ false → list_all within (slice_split is_point m) ≡ false
     at_point m e = parts_outside is_point point_stands m e

@@ -1,9 +1,11 @@
 -- Worked rows of portable mode, computed, each beside what is written without it.
 use Rattle.yaml_base.proofs.Common.{suc, zero, ℕ, None, Some, codes, replicate, false, true, List, [], ◌++◌, ◌∷◌, refl, ◌≡◌, Text, any_layout, block, flow}
+use Rattle.yaml_base.proofs.Common.{ScalarStyle}
 use Rattle.yaml_base.proofs.Common.{Event, document_start, document_end, output_of, suffix_escaped, prefix_escaped, utf16_big, both_break, Settings, agrees}
-use Rattle.yaml_base.proofs.Common.{stream_trees}
+use Rattle.yaml_base.proofs.Common.{literal, folded, single_quoted, stream_trees}
 use Rattle.std.specs.{Char.encode_utf8, Str.chars, Str.is_utf8}
-use Rattle.yaml_base.proofs.rows.RowEvents.{plain_settings, canonical_settings, leaf, tagged, sequence, mapping, implicit_start, document_of, stream_of}
+use Rattle.yaml_base.proofs.rows.RowEvents.{plain_settings, canonical_settings, untagged, leaf, tagged, sequence, mapping, implicit_start, document_of}
+use Rattle.yaml_base.proofs.rows.RowEvents.{stream_of}
 use Rattle.yaml_base.proofs.rows.RowEvents.{alone, rendered_under, rendered}
 
 abbrev portable_settings : Settings
@@ -116,3 +118,31 @@ separated_key : rendered_under (record portable_settings { unicode = true })
     ≡ codes "---\n? \"a\\L\"\n: v\n"
 unfolding encode_utf8
 separated_key = refl
+
+-- a root in a block style, whose header would have a digit, stands in double quotes
+abbrev root_of : ScalarStyle → Text → List Event
+root_of style value = alone (untagged value style ∷ [])
+
+no_digit_at_the_root : (portably (root_of literal (codes "\na")) ≡ codes "--- \"\\na\"\n")
+    × (portably (root_of folded (codes " a")) ≡ codes "--- \" a\"\n")
+    × (portably (root_of literal (codes "\n")) ≡ codes "--- \"\\n\"\n")
+    × (rendered (root_of literal (codes "\na")) ≡ codes "|2-\n\n  a\n")
+    × (rendered (root_of folded (codes " a")) ≡ codes ">2-\n   a\n")
+    × (rendered (root_of literal (codes "\n")) ≡ codes "|2+\n\n...\n")
+no_digit_at_the_root = (refl, refl, refl, refl, refl, refl)
+
+-- another style, a value without a digit, and an entry stand as they did
+abbrev entries : List Event
+entries = untagged (codes "\na") literal ∷ untagged (codes " a") folded ∷ []
+
+digits_elsewhere : (portably (root_of single_quoted (codes "\na")) ≡ codes "--- '\n\n  a'\n")
+    × (portably (root_of literal (codes "a\n b")) ≡ codes "--- |-\n  a\n   b\n")
+    × (portably (root_of folded (codes "a b")) ≡ codes "--- >-\n  a b\n")
+    × (portably (alone (sequence block entries)) ≡ codes "---\n- |2-\n\n  a\n- >2-\n   a\n")
+    × (portably (alone (mapping block entries)) ≡ codes "---\n? |2-\n\n  a\n: >2-\n   a\n")
+unfolding encode_utf8
+digits_elsewhere = (refl, refl, refl, refl, refl)
+
+roots_read : reads (root_of literal (codes "\na")) (codes "--- \"\\na\"\n") × reads (root_of folded (codes " a")) (codes "--- \" a\"\n")
+unfolding chars is_utf8 encode_utf8
+roots_read = (refl, refl)

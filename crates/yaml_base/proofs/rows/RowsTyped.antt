@@ -3,6 +3,7 @@ use Rattle.yaml_base.proofs.Common.{Some, codes, negsuc, pos, false, true, [], �
 use Rattle.std.specs.{Char.encode_utf8, Fmt.digits, Str.chars, Str.is_utf8}
 use Rattle.yaml_base.specs.values.TypedValues.{TypedValue, null_value, bool_value, int_value, text_value, list_value, map_value, no_values, values_and}
 use Rattle.yaml_base.specs.values.TypedValues.{no_value_pairs, value_pairs_and, typed_content, value_count, nesting, typed_output}
+use Rattle.yaml_base.specs.values.ValueText.{document_text}
 use Rattle.yaml_base.proofs.rows.Cases.{Gives}
 
 bytes_of_values : Gives typed_output (
@@ -33,6 +34,18 @@ bytes_of_maps : Gives typed_output (
     ∷ [])
 unfolding encode_utf8
 bytes_of_maps = refl
+
+texts_of_values : Gives document_text (
+    (null_value, codes "---\n!!null \"null\"\n")  -- a null
+    ∷ (int_value (negsuc 6), codes "---\n!!int \"-7\"\n")  -- a negative integer
+    ∷ (text_value (codes "a\tb"), codes "---\n!!str \"a\\tb\"\n")  -- a text with a short escape
+    ∷ (text_value (0x7F ∷ 0xFEFF ∷ []), codes "---\n!!str \"\\x7F\\uFEFF\"\n")  -- characters by their numbers
+    ∷ (five_and_a, codes "---\n!!seq [\n  !!int \"5\",\n  !!str \"a\",\n]\n")  -- a list
+    ∷ (k_to_false, codes "---\n!!map {\n  ? !!str \"k\"\n  : !!bool \"false\",\n}\n")  -- a map
+    ∷ (list_value (values_and no_values (list_value no_values)), codes "---\n!!seq [\n  !!seq [],\n]\n")  -- a list without items in a list
+    ∷ [])
+unfolding digits
+texts_of_values = refl
 
 bytes_read : Gives (canonical_content false) (
     (codes "---\n!!seq [\n  !!int \"5\",\n  !!str \"a\",\n]\n", Some (typed_content five_and_a))  -- a list

@@ -1,5 +1,5 @@
 -- Each document of an accepted list stands: its names and tags by what is accepted, its scalars by their bodies.
-use Rattle.yaml_base.proofs.Common.{nat_tests, ◌≤◌, Option, None, Some, negsuc, pos, ℤ, true, List, [], ◌∷◌, refl, ◌≡◌, leb-true, subst, arith, list_all}
+use Rattle.yaml_base.proofs.Common.{nat_tests, ◌≤◌, Option, Some, ℤ, true, List, [], ◌∷◌, refl, ◌≡◌, leb-true, subst, arith, list_all}
 use Rattle.yaml_base.proofs.Common.{is_printable, Rendered, Event, Documents, no_documents, documents_and, root_place, has_no_documents, render_documents}
 use Rattle.yaml_base.proofs.Common.{first_standing, text_of, has_scalar_values, MeaningIsKept, has_scalar_texts, text_written, bytes_written, list_layout}
 use Rattle.yaml_base.proofs.Common.{IsAccepted, Encoding, Settings, Effective, effective_indent, effective, reads_alike, directives_in_force, BodiesAreTidy}

@@ -1,12 +1,13 @@
 -- One document more of a stream: its directives, its `---` and its root, or a root without `---` at the stream's start.
 use Rattle.yaml_base.proofs.Common.{ℕ, ◌==◌, is_some, Option, None, Some, codes, length, Bool, false, not, true, ◌&&◌, List, [], ◌++◌, ◌∷◌, refl, ◌≡◌, eqb-true}
 use Rattle.yaml_base.proofs.Common.{append-nil, append_assoc, ap, subst, sym, ◌∙◌, arith, or_parts, false≢true, Text, line_feed, Version, TagDirective}
-use Rattle.yaml_base.proofs.Common.{DocumentStart, has_directives, Effective, DocumentTree, start_marker, Section, Heading, no_heading, heading_of}
+use Rattle.yaml_base.proofs.Common.{DocumentStart, has_directives, Effective, DocumentTree, start_marker, Section, Heading, no_heading, heading_of, and-false}
 use Rattle.yaml_base.proofs.Common.{after_heading, with_heading, section_by_kind, lines_of}
-use Rattle.yaml_base.proofs.stream_lines.{StreamClosed.lines_broken, StreamClosed.closed_both, StreamLineLaws.is_closed, StreamLineLaws.OneLine}
+use Rattle.yaml_base.proofs.stream_lines.{StreamClosed.lines_broken, StreamClosed.closed_both, StreamLineLaws.is_closed}
 use Rattle.yaml_base.proofs.stream_documents.StreamRootsStand.{heading_text, HeadingStands}
 use Rattle.yaml_base.proofs.stream_documents.StreamSoFar.{WalkProgress, prefix_alone, one_more, Percents, percents_markerless, percents_shown, prefix_heading}
 use Rattle.yaml_base.specs.streams.StreamDocuments.{StreamPlace, after_root, document_read}
+use Rattle.yaml_base.proofs.stream_lines.StreamLineLaws.{unbroken_line}
 
 -- Ends
 
@@ -27,11 +28,6 @@ Awaits breaks12 depth text documents false = WalkProgress breaks12 depth text (r
 pub awaits_first : (breaks12 : Bool) (depth : ℕ) → Awaits breaks12 depth [] [] true
 awaits_first breaks12 depth = grind (arith, prefix_alone, percents_markerless, prefix_heading)
 
--- three indicators break no line
-dots_line : (breaks12 : Bool) → OneLine breaks12 (codes "...")
-dots_line true = refl
-dots_line false = refl
-
 -- and behind `...`
 pub awaits_ended : (breaks12 : Bool) (depth : ℕ) (text : Text) (documents : List DocumentTree)
     → WalkProgress breaks12 depth text (record { documents = documents; place = after_root })
@@ -41,7 +37,7 @@ awaits_ended breaks12 depth text documents so = λ lines parsed ends percents re
     (one_more breaks12 depth text (dots ++ lines) (record { documents = documents; place = after_root })
     (record { documents = documents; place = after_heading parsed })
     (record { text = codes "..."; ending = line_feed ∷ [] }) (lines_of breaks12 lines) so (closed_both breaks12 dots lines refl ends)
-    (lines_broken breaks12 (codes "...") lines (dots_line breaks12)) refl (percents_markerless (lines_of breaks12 lines) percents)
+    (lines_broken breaks12 (codes "...") lines (unbroken_line breaks12 (codes "...") refl)) refl (percents_markerless (lines_of breaks12 lines) percents)
     (ap (λ ls. with_heading documents (heading_of ls)) (percents_shown (lines_of breaks12 lines) percents) ∙ ap (with_heading documents) reads))
 
 -- Directives
@@ -93,16 +89,12 @@ pub headed : (s : Effective) (depth : ℕ) (text : Text) (documents : List Docum
     → Awaits s.breaks12 depth text documents ended → HeadingStands s start
     → Headed s.breaks12 depth (text ++ (dots_if (has_directives start && not ended) ++ heading_text s start)) documents (heading_parsed start)
 headed s depth text documents start true awaits stands =
-    subst (λ x. Headed s.breaks12 depth (text ++ (dots_if x ++ heading_text s start)) documents (heading_parsed start)) (sym (and_no (has_directives start)))
+    subst (λ x. Headed s.breaks12 depth (text ++ (dots_if x ++ heading_text s start)) documents (heading_parsed start)) (sym (and-false (has_directives start)))
     (record {
       place = after_heading (heading_parsed start);
       so_far = awaits (heading_text s start) (heading_parsed start) stands.ends stands.percents stands.reads;
       opens = λ section. refl;
     })
-  where
-    and_no : (x : Bool) → x && false ≡ false
-    and_no true = refl
-    and_no false = refl
 headed s depth text documents start false awaits stands = by (has_directives start) refl
   where
     by : (x : Bool) → has_directives start ≡ x

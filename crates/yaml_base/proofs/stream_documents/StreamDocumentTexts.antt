@@ -102,55 +102,42 @@ pub record RenderedDocument (s : Effective) (first : Bool) (document : Document)
 pub document_joined : (s : Effective) (first : Bool) (document : Document) (standing : Standing) → standing.cursor ≡ margin_cursor 0
     → Settled (render_root (is_explicit (s.canonical || s.portable) first document.start && not s.canonical) s document).cursor
     → RenderedDocument s first document standing
-document_joined s first document standing at settled = record {
-  text =
-      flat_map-append piece_text ((start ∷ []) ++ root.pieces) (ending.piece ∷ [])
-      ∙ ap (λ t. t ++ text_of (ending.piece ∷ [])) (flat_map-append piece_text (start ∷ []) root.pieces)
-      ∙ ap (λ t. (text_of (start ∷ []) ++ text_of root.pieces) ++ t) (end_text document.end_implicit root.standing (subst_settled cursors))
-      ∙ ap (λ t. (text_of (start ∷ []) ++ t) ++ (closing root.standing.cursor ++ dots_if (not document.end_implicit)))
-      (joined.0 ∙ ap (λ c. (own c).text) (ap (λ (l : Rendered). l.cursor) starts))
-      ∙ ap (λ c. (text_of (start ∷ []) ++ rendered.text) ++ (closing c ++ dots_if (not document.end_implicit))) cursors
-      ∙ ap (λ (l : Rendered). (((l.text ++ []) ++ []) ++ rendered.text) ++ (closing rendered.cursor ++ dots_if (not document.end_implicit))) starts
-      ∙ regrouped (before_root s (standing.open_ended == 0) document.start) (marker_text explicit s.canonical) rendered.text (closing rendered.cursor)
-      (dots_if (not document.end_implicit))
-      ∙ ap (λ t. before_root s (standing.open_ended == 0) document.start ++ (t ++ dots_if (not document.end_implicit))) (marked_root explicit s document);
-  cursor = end_cursor document.end_implicit root.standing;
-  ended = end_marker document.end_implicit root.standing;
-}
+document_joined s first document standing at settled =
+    let starts : render_document_start s first document.start standing ≡ record { text = before_root s (standing.open_ended == 0) document.start ++ marker_text explicit s.canonical; cursor = root_cursor (explicit && not s.canonical) } =
+    start_rendered s first document.start standing at in
+    let start : Piece = (document_start_piece s first document.start standing).piece in
+    let own : Cursor → Rendered = node_own document.root s (directives_in_force document.start.directives) root_place in
+    let ending : RenderedPiece = document_end_piece document.end_implicit root.standing in
+    let joined : (text_of root.pieces ≡ (own after.cursor).text) × (root.standing.cursor ≡ (own after.cursor).cursor) =
+    node_joined document.root s (directives_in_force document.start.directives) root_place after in
+    let cursors : root.standing.cursor ≡ rendered.cursor = joined.1 ∙ ap (λ (l : Rendered). (own l.cursor).cursor) starts in
+    record {
+      text =
+          flat_map-append piece_text ((start ∷ []) ++ root.pieces) (ending.piece ∷ [])
+          ∙ ap (λ t. t ++ text_of (ending.piece ∷ [])) (flat_map-append piece_text (start ∷ []) root.pieces)
+          ∙ ap (λ t. (text_of (start ∷ []) ++ text_of root.pieces) ++ t) (end_text document.end_implicit root.standing (subst_settled cursors))
+          ∙ ap (λ t. (text_of (start ∷ []) ++ t) ++ (closing root.standing.cursor ++ dots_if (not document.end_implicit)))
+          (joined.0 ∙ ap (λ c. (own c).text) (ap (λ (l : Rendered). l.cursor) starts))
+          ∙ ap (λ c. (text_of (start ∷ []) ++ rendered.text) ++ (closing c ++ dots_if (not document.end_implicit))) cursors
+          ∙ ap (λ (l : Rendered). (((l.text ++ []) ++ []) ++ rendered.text) ++ (closing rendered.cursor ++ dots_if (not document.end_implicit))) starts
+          ∙ regrouped (before_root s (standing.open_ended == 0) document.start) (marker_text explicit s.canonical) rendered.text (closing rendered.cursor)
+          (dots_if (not document.end_implicit))
+          ∙ ap (λ t. before_root s (standing.open_ended == 0) document.start ++ (t ++ dots_if (not document.end_implicit))) (marked_root explicit s document);
+      cursor = end_cursor document.end_implicit root.standing;
+      ended = end_marker document.end_implicit root.standing;
+    }
   where
     explicit : Bool
     explicit = is_explicit (s.canonical || s.portable) first document.start
 
-    starts : render_document_start s first document.start standing
-        ≡ record {
-          text = before_root s (standing.open_ended == 0) document.start ++ marker_text explicit s.canonical;
-          cursor = root_cursor (explicit && not s.canonical);
-        }
-    starts = start_rendered s first document.start standing at
-
-    start : Piece
-    start = (document_start_piece s first document.start standing).piece
-
     after : Standing
     after = (document_start_piece s first document.start standing).standing
-
-    own : Cursor → Rendered
-    own = node_own document.root s (directives_in_force document.start.directives) root_place
 
     rendered : Rendered
     rendered = render_root (explicit && not s.canonical) s document
 
     root : RenderedPieces
     root = render_node document.root s (directives_in_force document.start.directives) root_place after
-
-    ending : RenderedPiece
-    ending = document_end_piece document.end_implicit root.standing
-
-    joined : (text_of root.pieces ≡ (own after.cursor).text) × (root.standing.cursor ≡ (own after.cursor).cursor)
-    joined = node_joined document.root s (directives_in_force document.start.directives) root_place after
-
-    cursors : root.standing.cursor ≡ rendered.cursor
-    cursors = joined.1 ∙ ap (λ (l : Rendered). (own l.cursor).cursor) starts
 
     subst_settled : root.standing.cursor ≡ rendered.cursor → Settled root.standing.cursor
     subst_settled e = subst Settled (sym e) settled

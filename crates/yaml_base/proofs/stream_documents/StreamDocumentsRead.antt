@@ -1,6 +1,6 @@
 -- The documents of a stream, one after another: each that stands is one document more, and the stream may end after them.
-use Rattle.yaml_base.proofs.Common.{arith}
-use Rattle.yaml_base.proofs.Common.{ℕ, ◌≤◌, Bool, false, not, true, ◌&&◌, ◌||◌, List, [], ◌++◌, refl, ◌≡◌, true≢false, append-nil, append_assoc, ap}
+use Rattle.yaml_base.proofs.Common.{arith, not-false}
+use Rattle.yaml_base.proofs.Common.{ℕ, ◌≤◌, Bool, false, not, true, ◌&&◌, ◌||◌, List, [], ◌++◌, refl, ◌≡◌, append-nil, append_assoc, ap}
 use Rattle.yaml_base.proofs.Common.{subst, sym, ◌∙◌, or_parts, Text, DocumentStart, Node, alias_node, scalar_node, sequence_node, mapping_node}
 use Rattle.yaml_base.proofs.Common.{Document, has_directives, is_explicit, Effective, is_written_as_nothing, DocumentTree}
 use Rattle.yaml_base.{proofs.stream_lines.StreamClosed.closed, proofs.stream_nodes.StreamFits.size, specs.streams.StreamDocuments.after_root}
@@ -36,16 +36,12 @@ explicit_more : (s : Effective) (depth : ℕ) (text : Text) (documents : List Do
 explicit_more s depth text documents document ended deep stands heading small awaits =
     let before = before_root s ended document.start in
     let root = root_part true s document in
-    let stood = root_stood s document (not s.canonical) deep stands (λ e. something_canonical s.canonical document.root (by s.canonical e)) in
+    let stood = root_stood s document (not s.canonical) deep stands (λ e. something_canonical s.canonical document.root (not-false s.canonical e)) in
     subst (λ t. Awaits s.breaks12 depth t (with_document s documents document) (not document.end_implicit))
     (append_assoc (text ++ before) root (dots_if (not document.end_implicit)) ∙ append_assoc text before (root ++ dots_if (not document.end_implicit)))
     (ended_more s.breaks12 depth ((text ++ before) ++ root) (with_document s documents document) document.end_implicit
     (added_with_marker (not s.canonical) s depth (text ++ before) documents document (headed s depth text documents document.start ended awaits heading)
     (root_fits s document (not s.canonical) deep stands) small stood))
-  where
-    by : (x : Bool) → not x ≡ false → x ≡ true
-    by true h = refl
-    by false h = absurd (true≢false h)
 
 -- the first document, without a marker
 implicit_more : (s : Effective) (depth : ℕ) (document : Document) (ended : Bool) → 2 ≤ s.indent → RootStands s document false

@@ -1,17 +1,18 @@
 -- The lines of a document's directives: each begins with `%`, and they are read as its version and its directives.
-use Rattle.yaml_base.proofs.Common.{if◌then◌else◌, option_and_then, Option, None, Some, Bool, false, true, ◌||◌, List, [], ◌++◌, ◌∷◌, refl, ◌≡◌}
-use Rattle.yaml_base.proofs.Common.{int_eq, append-nil, append_assoc, ap, sym, ◌∙◌, arith, or_parts, or_from, nat_tests, list_all, list_any, Text, line_feed}
-use Rattle.yaml_base.proofs.Common.{is_blank, is_break, Rendered, first_cursor, render_then, Version, TagDirective, DocumentStart}
-use Rattle.yaml_base.proofs.Common.{render_version, render_tag_directives, is_read_break, directive_scalars, Effective}
+use Rattle.yaml_base.proofs.Common.{if◌then◌else◌, option_and_then, Option, None, Some, Bool, true, List, [], ◌++◌, ◌∷◌, refl, ◌≡◌}
+use Rattle.yaml_base.proofs.Common.{int_eq, append-nil, append_assoc, ap, sym, ◌∙◌, arith, list_all, Text, line_feed}
+use Rattle.yaml_base.proofs.Common.{Rendered, first_cursor, render_then, Version, TagDirective, DocumentStart}
+use Rattle.yaml_base.proofs.Common.{render_version, render_tag_directives, directive_scalars, Effective}
 use Rattle.yaml_base.proofs.Common.{version_fault, handle_fault, prefix_fault, directive_fault, gives_handle, next_directive_fault, directives_fault_after}
 use Rattle.yaml_base.proofs.Common.{directives_fault, heading_of, begins_with_percent, Line, lines_of, text_of_lines}
 use Rattle.yaml_base.{proofs.NoFaults.neither, proofs.PercentLaws.prefix_stands, proofs.TagForms.handle_form, proofs.TagWords.handle_ends_no_word}
-use Rattle.yaml_base.{proofs.stream_documents.StreamSoFar.Percents, proofs.stream_nodes.StreamProperties.holds_white}
+use Rattle.yaml_base.{proofs.stream_documents.StreamSoFar.Percents}
 use Rattle.yaml_base.{specs.declared.errors.yaml_error_t.TheVariants.DuplicateDirective}
 use Rattle.yaml_base.proofs.stream_documents.StreamRootsStand.{heading_text, HeadingStands}
 use Rattle.yaml_base.proofs.stream_lines.StreamClosed.{character_line, lines_broken, closed_behind}
 use Rattle.yaml_base.proofs.stream_lines.StreamLineLaws.{is_closed, OneLine, one_line_both}
 use Rattle.yaml_base.proofs.stream_documents.StreamHeadings.{prefix_no_white, directive_text, tag_lines, version_lines, heading_lines, heading_reads}
+use Rattle.yaml_base.proofs.stream_nodes.StreamBegun.{shown_line}
 
 -- Lines with their breaks
 
@@ -38,23 +39,11 @@ text_of_both (line ∷ rest) others = grind (arith, append_assoc, text_of_both r
 
 -- A heading's lines
 
--- a text without white space is on one line
-dark_line : (breaks12 : Bool) (text : Text) → holds_white text ≡ false → OneLine breaks12 text
-dark_line breaks12 [] h = refl
-dark_line breaks12 (c ∷ text) h =
-    let parts = or_parts (is_blank c || is_break c) (holds_white text) h in
-    or_from (is_read_break breaks12 c) (list_any (is_read_break breaks12) text)
-    (by breaks12 (or_parts (is_blank c) (is_break c) parts.0).1) (dark_line breaks12 text parts.1)
-  where
-    by : (x : Bool) → is_break c ≡ false → is_read_break x c ≡ false
-    by true h = grind (arith, nat_tests)
-    by false h = grind (arith, nat_tests)
-
 -- a directive's line
 directive_whole : (breaks12 portable : Bool) (directive : TagDirective) → handle_fault directive.handle ≡ None
     → OneLine breaks12 (directive_text portable directive)
 directive_whole breaks12 portable directive sound =
-    grind (arith, one_line_both, dark_line, handle_ends_no_word, handle_form, character_line, prefix_no_white, prefix_stands)
+    grind (arith, one_line_both, shown_line, handle_ends_no_word, handle_form, character_line, prefix_no_white, prefix_stands)
 
 tags_whole : (breaks12 portable : Bool) (before directives : List TagDirective) → directives_fault_after before directives ≡ None
     → WholeLines breaks12 (tag_lines portable directives)

@@ -1,11 +1,12 @@
 -- A document's directives, as they are written, are lines that are read as these directives.
 use Rattle.yaml_base.proofs.Common.{ℕ, if◌then◌else◌, ◌==◌, fold, option_and_then, Option, None, Some, codes, pos, Bool, false, not, true, ◌&&◌, ◌||◌, List, []}
 use Rattle.yaml_base.proofs.Common.{◌++◌, ◌∷◌, ◌⊎◌, refl, ◌≡◌, int_eq, eqb-true, append-nil, append_assoc, inl, inr, ap, sym, ◌∙◌, arith, and_parts, and_from}
-use Rattle.yaml_base.proofs.Common.{or_from, not-true, false≢true, nat_tests, list_all-append, slice_split-cons_yes, slice_split-cons_no, list_all, onto_first}
+use Rattle.yaml_base.proofs.Common.{not-true, false≢true, nat_tests, list_all-append, list_all}
 use Rattle.yaml_base.proofs.Common.{slice_split, all_scalars, Text, line_feed, space, is_alpha, is_space, is_blank, is_break, Version, TagDirective}
 use Rattle.yaml_base.proofs.Common.{DocumentStart, directive_scalars, is_tag_character, character_written, percent_escaped, prefix_escaped, version_fault}
 use Rattle.yaml_base.proofs.Common.{exclamation_mark, handle_fault, prefix_fault, directive_fault, gives_handle, next_directive_fault, directives_fault_after}
 use Rattle.yaml_base.proofs.Common.{directives_fault, is_uri_character, percent_read, Heading, heading_of, Line}
+use Rattle.std.proofs.lemmas.List.Splits.{slice_split_at, slice_split_none}
 use Rattle.std.proofs.lemmas.List.Sums.{fold-append}
 use Rattle.yaml_base.{proofs.NoFaults.neither, proofs.NoFaults.not_given, proofs.TagForms.IsHandle, proofs.TagForms.handle_form}
 use Rattle.yaml_base.{proofs.TagWords.handle_ends_no_word, specs.Layout.version_word, specs.declared.errors.yaml_error_t.TheVariants.DuplicateDirective}
@@ -14,22 +15,18 @@ use Rattle.yaml_base.proofs.stream_nodes.StreamProperties.{holds_white, has_no_s
 use Rattle.yaml_base.proofs.PercentLaws.{decoded_prefix, character_stands, escaped_stands, stands_in_prefix, prefix_stands, prefix_begins}
 use Rattle.yaml_base.specs.reading.ReadTags.{closes_handle, is_handle_text, prefix_parsed, is_handle_given}
 use Rattle.yaml_base.specs.streams.StreamDocuments.{version_parsed, with_directive, directive_by_words, directive_line}
+use Rattle.yaml_base.proofs.AllPass.{none_pass, uncut_by}
 
 -- Words
 
 -- a word before a space
 split_word : (word rest : Text) → has_no_space word ≡ true → slice_split is_space (word ++ (space ∷ rest)) ≡ word ∷ slice_split is_space rest
-split_word [] rest h = slice_split-cons_yes is_space space rest refl
-split_word (c ∷ word) rest h =
-    let parts = and_parts (not (c == space)) (has_no_space word) h in
-    slice_split-cons_no is_space c (word ++ (space ∷ rest)) (not-true (c == space) parts.0) ∙ ap (onto_first c) (split_word word rest parts.1)
+split_word word rest h =
+    slice_split_at is_space word space rest (uncut_by (λ c. not (c == space)) is_space (λ c e. not-true (c == space) e) word h) refl
 
 -- the last word
 split_last : (word : Text) → has_no_space word ≡ true → slice_split is_space word ≡ word ∷ []
-split_last [] h = refl
-split_last (c ∷ word) h =
-    let parts = and_parts (not (c == space)) (has_no_space word) h in
-    slice_split-cons_no is_space c word (not-true (c == space) parts.0) ∙ ap (onto_first c) (split_last word parts.1)
+split_last word h = slice_split_none is_space word (uncut_by (λ c. not (c == space)) is_space (λ c e. not-true (c == space) e) word h)
 
 -- Handles
 
@@ -56,10 +53,7 @@ prefix_shows : (c : ℕ) → stands_in_prefix c ≡ true → (is_blank c || is_b
 prefix_shows c h = grind (arith, nat_tests)
 
 pub prefix_no_white : (text : Text) → list_all stands_in_prefix text ≡ true → holds_white text ≡ false
-prefix_no_white [] h = refl
-prefix_no_white (c ∷ text) h =
-    let parts = and_parts (stands_in_prefix c) (list_all stands_in_prefix text) h in
-    or_from (is_blank c || is_break c) (holds_white text) (prefix_shows c parts.0) (prefix_no_white text parts.1)
+prefix_no_white text h = none_pass stands_in_prefix (λ c. is_blank c || is_break c) prefix_shows text h
 
 -- a `!` may begin a text of a URI
 abbrev may_be_prefix : Text → Bool
@@ -120,6 +114,7 @@ directive_reads : (portable : Bool) (version : Option Version) (before : List Ta
     → directive_line (Some (record { version = version; directives = before })) (record { text = directive_text portable directive; ending = ending })
     ≡ Some (record { version = version; directives = before ++ directive ∷ [] })
 directive_reads portable version before directive ending sound scalars =
+    let with_prefix : Option Heading = Some (record { version = version; directives = before ++ directive ∷ [] }) in
     let both = neither (directive_fault directive) (if gives_handle directive.handle before then Some DuplicateDirective else None) sound in
     let parts = neither (handle_fault directive.handle) (prefix_fault directive.prefix) both.0 in
     let fresh = not_given (gives_handle directive.handle before) DuplicateDirective both.1 in
@@ -129,9 +124,6 @@ directive_reads portable version before directive ending sound scalars =
     ∙ ap (λ x. if x && not (is_handle_given directive.handle before) then with_prefix else None)
     (handle_reads directive.handle (handle_form directive.handle parts.0))
     ∙ ap (λ x. if not x then with_prefix else None) fresh
-  where
-    with_prefix : Option Heading
-    with_prefix = Some (record { version = version; directives = before ++ directive ∷ [] })
 
 -- the lines of some directives
 abbrev pub tag_lines : (portable : Bool) → List TagDirective → List Line

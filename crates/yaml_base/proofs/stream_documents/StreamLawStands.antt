@@ -7,7 +7,7 @@ use Rattle.yaml_base.proofs.Common.{no_pairs, pairs_and, Document, Documents, no
 use Rattle.yaml_base.proofs.Common.{documents_events, stream_events, tree_of, layout, Piece, text_of, with_breaks_written, bytes_written, list_layout, is_sound}
 use Rattle.yaml_base.proofs.Common.{IsAccepted, Encoding, Settings, Effective, effective_indent, effective, loses_document, document_has_flow_indicator}
 use Rattle.yaml_base.proofs.Common.{all_read_alike, reads_alike, characters_read, lacks_tag_and_flags, DocumentTree, document_agrees, documents_in_order}
-use Rattle.yaml_base.proofs.Common.{agrees}
+use Rattle.yaml_base.proofs.Common.{agrees, not-true}
 use Rattle.yaml_base.proofs.Common.{documents_of, stream_trees}
 use Rattle.yaml_base.{proofs.Trees.tree_of-stream_events, proofs.stream_lines.StreamBytes.trees_of_bytes, specs.streams.StreamContent.documents_agree}
 use Rattle.yaml_base.proofs.stream_documents.StreamRootsStand.{DocumentsStand}
@@ -78,7 +78,7 @@ documents_parts P (document ∷ rest) others h = let parts = documents_parts P r
 -- Agreement
 
 -- one document more agrees
-agree_more : (canonical : Bool) (some : List Document) (trees : List DocumentTree) (document : Document) (tree : DocumentTree)
+pub agree_more : (canonical : Bool) (some : List Document) (trees : List DocumentTree) (document : Document) (tree : DocumentTree)
     → documents_agree canonical some trees ≡ true
     → document_agrees canonical document tree ≡ true → documents_agree canonical (some ++ document ∷ []) (trees ++ tree ∷ []) ≡ true
 agree_more canonical [] [] document tree h k = and_from (document_agrees canonical document tree) true k refl
@@ -130,14 +130,12 @@ pub stream_read_back : (given : Settings) (encoding : Option Encoding) (events :
     → stream_trees given.breaks12 (bytes_written (effective given encoding) (list_layout (effective given encoding) events))
     ≡ Some (document_trees (effective given encoding) accepted.stream.documents)
 stream_read_back given encoding events accepted portable stands =
+    let s : Effective = effective given encoding in
     trees_of_bytes given.breaks12 s.line_break (text_of (list_layout s events)) (bytes_written s (list_layout s events)) stands.printable stands.characters
     ∙ ap (λ (pieces : List Piece). documents_of given.breaks12 (text_of pieces)) (stream_layout s events accepted.stream accepted.is_stream)
     ∙ stream_reads s accepted.stream (indent_deep given.indent) stands.documents
     (first_written s (documents_in_order accepted.stream.documents) (kept given.portable portable))
   where
-    s : Effective
-    s = effective given encoding
-
     found : tree_of events ≡ Some accepted.stream
     found = ap tree_of (sym accepted.is_stream) ∙ tree_of-stream_events accepted.stream
 
@@ -145,16 +143,12 @@ stream_read_back given encoding events accepted portable stands =
         → loses_document given.canonical (documents_in_order accepted.stream.documents) ≡ false
     kept true h e = absurd (true≢false e)
     kept false h e =
-        not_true (loses_document given.canonical (documents_in_order accepted.stream.documents))
+        not-true (loses_document given.canonical (documents_in_order accepted.stream.documents))
         (and_parts (not (loses_document given.canonical (documents_in_order accepted.stream.documents)))
         (not (list_any (document_has_flow_indicator given.canonical) (documents_in_order accepted.stream.documents)))
         (sym (ap (λ found.
         unwrap_or (option_map (λ (stream : Stream). all_read_alike given.canonical (documents_in_order stream.documents)) found) false) found)
         ∙ h)).0
-      where
-        not_true : (x : Bool) → not x ≡ true → x ≡ false
-        not_true true h = absurd (false≢true h)
-        not_true false h = refl
 
 -- and these agree with its events
 pub stream_agrees : (given : Settings) (encoding : Option Encoding) (events : List Event) (accepted : IsAccepted given.canonical events)

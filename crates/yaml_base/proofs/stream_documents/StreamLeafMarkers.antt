@@ -1,22 +1,23 @@
 -- No line of a leaf at the root after its first is a document's marker.
 use Rattle.yaml_base.proofs.Common.{ℕ, ◌≤◌, if◌then◌else◌, ◌==◌, Option, None, Some, Bool, false, not, true, ◌&&◌, ◌||◌, List, [], ◌++◌, ◌∷◌, refl, ◌≡◌}
-use Rattle.yaml_base.proofs.Common.{eqb-true, append-nil, append_assoc, ap, ◌∙◌, arith, and_parts, and_from, false≢true, list_all, Text, line_feed}
-use Rattle.yaml_base.proofs.Common.{is_printable, Cursor, Rendered, ScalarStyle, any_style, plain, single_quoted, double_quoted, literal, folded, TagDirective}
-use Rattle.yaml_base.proofs.Common.{Scalar, Collection, scalar_tag, collection_tag, Node, alias_node, scalar_node, Nodes, sequence_node, Pairs, mapping_node}
-use Rattle.yaml_base.proofs.Common.{root_place, render_properties, render_alias, render_separation, render_body, choice_of, is_written_in_flow, Brackets}
-use Rattle.yaml_base.proofs.Common.{square, curly, empty_or_comma, render_end, deeper, entries_column, has_no_nodes, has_no_pairs, Effective, has_deep_lines}
-use Rattle.yaml_base.proofs.Common.{is_tidy_style, is_empty, marker_of, lines_of, name_read}
-use Rattle.yaml_base.proofs.{stream_documents.StreamRootsStand.is_leaf, stream_flow.StreamFlowTakes.and_false, stream_lines.StreamLineLaws.OneLine}
+use Rattle.yaml_base.proofs.Common.{eqb-true, append-nil, append_assoc, ap, ◌∙◌, arith, and_parts, and_from, false≢true, list_all, Text, line_feed, and-false}
+use Rattle.yaml_base.proofs.Common.{is_printable, Cursor, Rendered, ScalarStyle, plain, TagDirective}
+use Rattle.yaml_base.proofs.Common.{Scalar, scalar_tag, collection_tag, Node, alias_node, scalar_node, sequence_node, mapping_node}
+use Rattle.yaml_base.proofs.Common.{root_place, render_properties, render_alias, render_separation, render_body, choice_of, Brackets}
+use Rattle.yaml_base.proofs.Common.{square, curly, empty_or_comma, render_end, deeper, has_no_nodes, has_no_pairs, Effective, has_deep_lines}
+use Rattle.yaml_base.proofs.Common.{is_tidy_style, is_empty, marker_of, lines_of, name_read, is_break, list_any}
+use Rattle.yaml_base.proofs.{stream_documents.StreamRootsStand.is_leaf, stream_lines.StreamLineLaws.OneLine}
 use Rattle.yaml_base.proofs.{stream_lines.StreamLineLaws.one_line_both, stream_nodes.StreamOwnWords.deep_more, stream_nodes.StreamProperties.IsNamed}
 use Rattle.yaml_base.proofs.stream_lines.StreamSections.{is_markerless, AllMarkerless}
 use Rattle.yaml_base.proofs.stream_lines.StreamMarkerless.{inside_markerless, all_markerless}
-use Rattle.yaml_base.proofs.stream_flow.StreamFlowDeep.{properties_line, indicator_deep, indicators_line, brackets_line, alias_deep, items_deep, pairs_deep}
+use Rattle.yaml_base.proofs.stream_flow.StreamFlowDeep.{properties_line, indicator_deep, alias_deep, items_deep, pairs_deep}
 use Rattle.yaml_base.proofs.stream_lines.StreamClosed.{closing, closed, spaces_line, after_line}
 use Rattle.yaml_base.proofs.stream_lines.StreamDeepBreaks.{after_breaks, begins_deep, Deep, Keeps, after_both, after_weaker, after_line_of, deep_keeps}
 use Rattle.yaml_base.proofs.stream_lines.StreamDeepBreaks.{space_line, lines_pass, deep_first}
 use Rattle.yaml_base.proofs.stream_lines.StreamTidyLaws.{first_text, lines_after_first, first_extended, deep_lines_inside}
-use Rattle.yaml_base.proofs.stream_nodes.StreamStands.{TagStands, NamesStand, BodyStands, body_from, BodiesHold, ItemsHold, PairsHold}
-use Rattle.yaml_base.proofs.stream_nodes.StreamTexts.{collection_own, node_own, items_own, pairs_own}
+use Rattle.yaml_base.proofs.stream_nodes.StreamStands.{TagStands, NamesStand, BodyStands, body_from, BodiesHold}
+use Rattle.yaml_base.proofs.stream_nodes.StreamTexts.{node_own, items_own, pairs_own}
+use Rattle.yaml_base.proofs.stream_lines.StreamLineLaws.{unbroken_line}
 
 -- Collections in flow
 
@@ -58,16 +59,16 @@ markerless_text : (breaks12 : Bool) (a b : Text) → Markerless breaks12 a → M
 markerless_text breaks12 a b h k = after_both breaks12 (begins_markerless breaks12) (markerless_keeps breaks12) a b h k
 
 -- a closing bracket on a line of its own
-bracket_below : (breaks12 : Bool) (closing : Text) → OneLine breaks12 closing → begins_closing closing ≡ true → Markerless breaks12 (line_feed ∷ closing)
-bracket_below breaks12 closing one h = grind (arith, and_from, after_line_of)
+bracket_below : (breaks12 : Bool) (closing : Text) → list_any is_break closing ≡ false → begins_closing closing ≡ true → Markerless breaks12 (line_feed ∷ closing)
+bracket_below breaks12 closing one h = grind (arith, and_from, after_line_of, unbroken_line)
 
 -- the end of a collection at the root
 end_markerless : (s : Effective) (brackets : Brackets) (empty : Bool) (cursor : Cursor)
-    → OneLine s.breaks12 brackets.opening → OneLine s.breaks12 brackets.closing
+    → list_any is_break brackets.opening ≡ false → list_any is_break brackets.closing ≡ false
     → begins_closing brackets.closing ≡ true → Markerless s.breaks12 (render_end s brackets true empty None cursor).text
-end_markerless s brackets true cursor opening closing h = grind (arith, markerless_text, deep_markerless, indicator_deep, after_line_of)
+end_markerless s brackets true cursor opening closing h = grind (arith, markerless_text, deep_markerless, indicator_deep, after_line_of, unbroken_line)
 end_markerless s brackets false cursor opening closing h =
-    grind (arith, after_line_of, deep_markerless, indicator_deep, indicators_line, markerless_text, bracket_below, spaces_line)
+    grind (arith, after_line_of, deep_markerless, indicator_deep, unbroken_line, markerless_text, bracket_below, spaces_line)
 
 -- Lines after the first
 
@@ -84,7 +85,7 @@ fed_markerless breaks12 own ends h =
 
 -- a collection in flow at the root, where its entries are deep
 collection_markerless : (s : Effective) (own directives : List TagDirective) (brackets : Brackets) (anchor tag : Option Text) (empty : Bool) (cursor : Cursor)
-    (entries : Rendered) → OneLine s.breaks12 brackets.opening → OneLine s.breaks12 brackets.closing → begins_closing brackets.closing ≡ true
+    (entries : Rendered) → list_any is_break brackets.opening ≡ false → list_any is_break brackets.closing ≡ false → begins_closing brackets.closing ≡ true
     → IsNamed anchor → TagStands s.portable own directives tag → Deep s.breaks12 1 entries.text
     → (let ending : Rendered = render_end s brackets true empty None entries.cursor in
     AfterMarkerless s.breaks12
@@ -93,7 +94,7 @@ collection_markerless s own directives brackets anchor tag empty cursor entries 
     let begun = render_properties s.portable directives anchor tag false cursor in
     let ending = render_end s brackets true empty None entries.cursor in
     fed_markerless s.breaks12 (record { text = (begun.text ++ entries.text) ++ ending.text; cursor = ending.cursor })
-    (and_false (empty_or_comma s brackets.opening empty None entries.cursor).cursor.indention)
+    (and-false (empty_or_comma s brackets.opening empty None entries.cursor).cursor.indention)
     (markerless_text s.breaks12 (begun.text ++ entries.text) ending.text
     (markerless_text s.breaks12 begun.text entries.text
     (after_line_of s.breaks12 (begins_markerless s.breaks12) begun.text (properties_line s own directives anchor tag false cursor named stands))
@@ -115,11 +116,7 @@ closed_deep breaks12 count own h = grind (arith, append-nil, deep_more)
 separation_line : (breaks12 : Bool) (style : ScalarStyle) (in_flow : Bool) (value : Text) (cursor : Cursor)
     → OneLine breaks12 (render_separation style in_flow value cursor).text
 separation_line breaks12 plain in_flow value cursor = space_line breaks12 (in_flow || not (is_empty value)) cursor
-separation_line breaks12 any_style in_flow value cursor = space_line breaks12 true cursor
-separation_line breaks12 single_quoted in_flow value cursor = space_line breaks12 true cursor
-separation_line breaks12 double_quoted in_flow value cursor = space_line breaks12 true cursor
-separation_line breaks12 literal in_flow value cursor = space_line breaks12 true cursor
-separation_line breaks12 folded in_flow value cursor = space_line breaks12 true cursor
+separation_line breaks12 style in_flow value cursor = space_line breaks12 true cursor
 
 -- a scalar
 scalar_markerless : (s : Effective) (own directives : List TagDirective) (cursor : Cursor) (content : Scalar)
@@ -146,46 +143,6 @@ scalar_markerless s own directives cursor content names stands =
 
 -- Nodes
 
--- a sequence that is written in flow
-sequence_markerless : (s : Effective) (own directives : List TagDirective) (cursor : Cursor) (start : Collection) (items : Nodes) → 1 ≤ s.indent
-    → is_written_in_flow s root_place start (has_no_nodes items) ≡ true → NamesStand s.portable own s.canonical directives (sequence_node start items)
-    → BodiesHold (BodyStands s) (sequence_node start items) s directives root_place cursor
-    → AfterMarkerless s.breaks12 (node_own (sequence_node start items) s directives root_place cursor)
-sequence_markerless s own directives cursor start items deep in_flow names bodies =
-    by (is_written_in_flow s root_place start (has_no_nodes items)) in_flow bodies
-  where
-    begun : Rendered
-    begun = render_properties s.portable directives start.anchor (collection_tag s.canonical start) false cursor
-
-    by : (x : Bool) → x ≡ true → ItemsHold (BodyStands s) items s directives x (entries_column x false s.indent None begun.cursor) begun.cursor
-        → AfterMarkerless s.breaks12 (collection_own s square x false (has_no_nodes items) None begun (items_own items s directives x))
-    by false h hold = absurd (false≢true h)
-    by true h hold =
-        collection_markerless s own directives square start.anchor (collection_tag s.canonical start) (has_no_nodes items) cursor
-        (items_own items s directives true (deeper s.indent None) begun.cursor) (brackets_line s.breaks12).0.0 (brackets_line s.breaks12).0.1
-        refl names.0 names.1
-        (items_deep items s own directives 1 (deeper s.indent None) begun.cursor (omega arith) names.2 hold)
-
--- and a mapping
-mapping_markerless : (s : Effective) (own directives : List TagDirective) (cursor : Cursor) (start : Collection) (pairs : Pairs) → 1 ≤ s.indent
-    → is_written_in_flow s root_place start (has_no_pairs pairs) ≡ true → NamesStand s.portable own s.canonical directives (mapping_node start pairs)
-    → BodiesHold (BodyStands s) (mapping_node start pairs) s directives root_place cursor
-    → AfterMarkerless s.breaks12 (node_own (mapping_node start pairs) s directives root_place cursor)
-mapping_markerless s own directives cursor start pairs deep in_flow names bodies =
-    by (is_written_in_flow s root_place start (has_no_pairs pairs)) in_flow bodies
-  where
-    begun : Rendered
-    begun = render_properties s.portable directives start.anchor (collection_tag s.canonical start) false cursor
-
-    by : (x : Bool) → x ≡ true → PairsHold (BodyStands s) pairs s directives x (entries_column x false s.indent None begun.cursor) begun.cursor
-        → AfterMarkerless s.breaks12 (collection_own s curly x false (has_no_pairs pairs) None begun (pairs_own pairs s directives x))
-    by false h hold = absurd (false≢true h)
-    by true h hold =
-        collection_markerless s own directives curly start.anchor (collection_tag s.canonical start) (has_no_pairs pairs) cursor
-        (pairs_own pairs s directives true (deeper s.indent None) begun.cursor) (brackets_line s.breaks12).1.0 (brackets_line s.breaks12).1.1
-        refl names.0 names.1
-        (pairs_deep pairs s own directives 1 (deeper s.indent None) begun.cursor (omega arith) names.2 hold)
-
 -- no line of a leaf at the root after its first is a marker, where its names and bodies stand
 pub leaf_markerless : (n : Node) (s : Effective) (own directives : List TagDirective) (cursor : Cursor) → 1 ≤ s.indent → is_leaf s n ≡ true
     → NamesStand s.portable own s.canonical directives n → BodiesHold (BodyStands s) n s directives root_place cursor
@@ -193,6 +150,16 @@ pub leaf_markerless : (n : Node) (s : Effective) (own directives : List TagDirec
 leaf_markerless (alias_node name) s own directives cursor deep leaf names bodies = alias_markerless s name false cursor names
 leaf_markerless (scalar_node content) s own directives cursor deep leaf names bodies = scalar_markerless s own directives cursor content names bodies
 leaf_markerless (sequence_node start items) s own directives cursor deep leaf names bodies =
-    sequence_markerless s own directives cursor start items deep leaf names bodies
+    let begun = render_properties s.portable directives start.anchor (collection_tag s.canonical start) false cursor in
+    rw leaf
+    (collection_markerless s own directives square start.anchor (collection_tag s.canonical start) (has_no_nodes items) cursor
+    (items_own items s directives true (deeper s.indent None) begun.cursor)
+    refl refl refl names.0 names.1
+    (items_deep items s own directives 1 (deeper s.indent None) begun.cursor (omega arith) names.2 (rw leaf at bodies)))
 leaf_markerless (mapping_node start pairs) s own directives cursor deep leaf names bodies =
-    mapping_markerless s own directives cursor start pairs deep leaf names bodies
+    let begun = render_properties s.portable directives start.anchor (collection_tag s.canonical start) false cursor in
+    rw leaf
+    (collection_markerless s own directives curly start.anchor (collection_tag s.canonical start) (has_no_pairs pairs) cursor
+    (pairs_own pairs s directives true (deeper s.indent None) begun.cursor)
+    refl refl refl names.0 names.1
+    (pairs_deep pairs s own directives 1 (deeper s.indent None) begun.cursor (omega arith) names.2 (rw leaf at bodies)))

@@ -11,10 +11,11 @@ use Rattle.yaml_base.proofs.stream_documents.{StreamRootLines.begins_shown, Stre
 use Rattle.yaml_base.proofs.stream_documents.{StreamRoots.root_reads, StreamRoots.root_with_marker_reads, StreamRootsStand.rules_of}
 use Rattle.yaml_base.proofs.stream_documents.{StreamRootsStand.root_cursor}
 use Rattle.yaml_base.proofs.stream_documents.{StreamRootsStand.render_root, StreamSoFar.WalkProgress, StreamSoFar.prefix_alone, StreamSoFar.one_more}
-use Rattle.yaml_base.proofs.stream_lines.{StreamLineLaws.OneLine, StreamSections.is_markerless, StreamSections.AllMarkerless, StreamTidyLaws.lines_after_first}
+use Rattle.yaml_base.proofs.stream_lines.{StreamSections.is_markerless, StreamSections.AllMarkerless, StreamTidyLaws.lines_after_first}
 use Rattle.yaml_base.proofs.stream_lines.{StreamUnread.read_markerless, StreamUnread.read_no_percent}
 use Rattle.yaml_base.proofs.stream_lines.StreamClosed.{closed, lines_behind, lines_broken, closed_behind, closed_both}
 use Rattle.yaml_base.proofs.stream_nodes.StreamFits.{size, Opens, Fits, indicated_ends}
+use Rattle.yaml_base.proofs.stream_lines.StreamLineLaws.{unbroken_line}
 
 -- The first line
 
@@ -37,11 +38,6 @@ markerless_whole (line ∷ rest) depth rules here column tree reads after = grin
 
 -- Documents behind `---`
 
--- three indicators break no line
-dashes_line : (breaks12 : Bool) → OneLine breaks12 (codes "---")
-dashes_line true = refl
-dashes_line false = refl
-
 -- one document more
 abbrev pub with_document : Effective → List DocumentTree → Document → List DocumentTree
 with_document s documents document = documents ++ document_tree s document ∷ []
@@ -58,10 +54,13 @@ on_marker_added : (s : Effective) (depth : ℕ) (text : Text) (documents : List 
     → Stood true (lines_of s.breaks12 (closed (render_root true s document)))
     → WalkProgress s.breaks12 depth (text ++ text_with_marker true s document) (record { documents = with_document s documents document; place = after_root })
 on_marker_added s depth text documents document headed fit deep stood =
+    let line : Line = record { text = codes "---" ++ o.head; ending = o.ending } in
+    let markers : marker_of (codes "---" ++ o.head) ≡ start_marker =
+    ap (λ x. if x then start_marker else (if begins_with_marker 0x2E (codes "---" ++ o.head) then end_marker else no_exclamation)) o.symbol in
     one_more s.breaks12 depth text (text_with_marker true s document) (record { documents = documents; place = headed.place })
     (record { documents = with_document s documents document; place = after_root }) line o.rest headed.so_far
     (closed_behind s.breaks12 (codes "--") 0x2D own (indicated_ends s.breaks12 0 0x2D own o fit.ends))
-    (lines_behind s.breaks12 (codes "---") own o.head o.ending o.rest (dashes_line s.breaks12) o.is)
+    (lines_behind s.breaks12 (codes "---") own o.head o.ending o.rest (unbroken_line s.breaks12 (codes "---") refl) o.is)
     (ap is_markerless markers) (ap (λ ls. list_all (λ line. is_markerless (marker_of line.text)) (lines_after_first ls)) (sym o.is) ∙ stood.0)
     (ap (λ m. section_by_kind m depth s.breaks12 documents headed.place (record { marker = m; line = line; rest = o.rest })) markers
     ∙ headed.opens (record { marker = start_marker; line = line; rest = o.rest })
@@ -74,12 +73,6 @@ on_marker_added s depth text documents document headed fit deep stood =
     o : Opens s.breaks12 own
     o = fit.opens refl
 
-    line : Line
-    line = record { text = codes "---" ++ o.head; ending = o.ending }
-
-    markers : marker_of (codes "---" ++ o.head) ≡ start_marker
-    markers = ap (λ x. if x then start_marker else (if begins_with_marker 0x2E (codes "---" ++ o.head) then end_marker else no_exclamation)) o.symbol
-
     margin : is_spaces o.head ≡ true → stands_at_margin (without_blank_lines o.rest) ≡ true
     margin e = ap (λ x. not x || stands_at_margin (without_blank_lines o.rest)) (sym e) ∙ ap stands_below (sym o.is) ∙ stood.1
 
@@ -91,27 +84,19 @@ below_marker_added : (s : Effective) (depth : ℕ) (text : Text) (documents : Li
     → Stood false (lines_of s.breaks12 (closed (render_root false s document)))
     → WalkProgress s.breaks12 depth (text ++ text_with_marker false s document) (record { documents = with_document s documents document; place = after_root })
 below_marker_added s depth text documents document headed fit deep stood =
+    let own : Text = closed (render_root false s document) in
+    let rules : Rules = rules_of s document in
+    let lines : List Line = lines_of s.breaks12 own in
+    let line : Line = record { text = codes "---"; ending = line_feed ∷ [] } in
     one_more s.breaks12 depth text (text_with_marker false s document) (record { documents = documents; place = headed.place })
     (record { documents = with_document s documents document; place = after_root }) line lines headed.so_far
     (closed_both s.breaks12 (codes "---" ++ (line_feed ∷ [])) own refl fit.ends)
-    (lines_broken s.breaks12 (codes "---") own (dashes_line s.breaks12)) refl
+    (lines_broken s.breaks12 (codes "---") own (unbroken_line s.breaks12 (codes "---") refl)) refl
     (markerless_whole lines depth rules true None (root_tree s document) (fit.reads depth deep true 0 (λ h. (refl, refl))) stood.0)
     (headed.opens (record { marker = start_marker; line = line; rest = lines })
     ∙ ap (λ ls. with_read_document documents (heading_parsed document.start) (root_below depth rules ls)) (shown_whole lines stood.1)
     ∙ ap (with_read_document documents (heading_parsed document.start))
     (root_reads rules (size document.root) (render_root false s document) (root_tree s document) fit (shown_margin lines stood.1) depth deep))
-  where
-    own : Text
-    own = closed (render_root false s document)
-
-    rules : Rules
-    rules = rules_of s document
-
-    lines : List Line
-    lines = lines_of s.breaks12 own
-
-    line : Line
-    line = record { text = codes "---"; ending = line_feed ∷ [] }
 
 -- either
 pub added_with_marker : (on_marker : Bool) (s : Effective) (depth : ℕ) (text : Text) (documents : List DocumentTree) (document : Document)
@@ -141,6 +126,10 @@ pub markerless_added : (s : Effective) (depth : ℕ) (document : Document) → h
     → Stood false (lines_of s.breaks12 (closed (render_root false s document)))
     → WalkProgress s.breaks12 depth (closed (render_root false s document)) (record { documents = with_document s [] document; place = after_root })
 markerless_added s depth document none fit deep stood =
+    let own : Text = closed (render_root false s document) in
+    let rules : Rules = rules_of s document in
+    let lines : List Line = lines_of s.breaks12 own in
+    let reads : node_read depth rules true None lines ≡ Some (root_tree s document) = fit.reads depth deep true 0 (λ h. (refl, refl)) in
     prefix_alone s.breaks12 depth own (record { documents = with_document s [] document; place = after_root }) fit.ends
     (markerless_whole lines depth rules true None (root_tree s document) reads stood.0)
     (ap (λ k. lines_before_marker_read k depth s.breaks12 lines) (prefix_document lines depth rules true None (root_tree s document) reads stood.1)
@@ -148,15 +137,3 @@ markerless_added s depth document none fit deep stood =
     (nothing_parsed document.start none)
     ∙ ap (with_read_document [] (heading_parsed document.start))
     (root_reads rules (size document.root) (render_root false s document) (root_tree s document) fit (shown_margin lines stood.1) depth deep))
-  where
-    own : Text
-    own = closed (render_root false s document)
-
-    rules : Rules
-    rules = rules_of s document
-
-    lines : List Line
-    lines = lines_of s.breaks12 own
-
-    reads : node_read depth rules true None lines ≡ Some (root_tree s document)
-    reads = fit.reads depth deep true 0 (λ h. (refl, refl))

@@ -3,20 +3,17 @@ use Rattle.yaml_base.proofs.Common.{arith, ℕ, ◌==◌, Option, None, Some, Bo
 use Rattle.yaml_base.proofs.Common.{append_assoc, ap, ◌∙◌, and_parts, or_parts, false≢true, Text, space, Cursor, Rendered, space_if, ScalarStyle, any_style}
 use Rattle.yaml_base.proofs.Common.{plain, single_quoted, double_quoted, literal, folded, TagDirective, render_properties, render_alias, render_body}
 use Rattle.yaml_base.proofs.Common.{is_read_break, read_in_style, Effective, spelling, spelled, is_read_white, read_plain, ParsedTag, has_clean_edges}
-use Rattle.yaml_base.proofs.Common.{is_tidy_style, Allowances, is_empty, is_plain, fitting_style, Tree, Rules}
-use Rattle.yaml_base.proofs.{stream_documents.StreamRootsStand.Begins, stream_flow.StreamFlowFits.own_shows, stream_flow.StreamFlowReads.FlowContent}
+use Rattle.yaml_base.proofs.Common.{is_tidy_style, Allowances, is_empty, is_plain, fitting_style, Tree, Rules, nat_tests}
+use Rattle.yaml_base.proofs.{stream_documents.StreamRootsStand.Begins, stream_nodes.StreamOwnTexts.own_shows, stream_flow.StreamFlowReads.FlowContent}
 use Rattle.yaml_base.proofs.{stream_flow.StreamFlowScalars.rules_of, stream_flow.StreamFlowWords.Given, stream_flow.StreamPropertyWords.lead}
 use Rattle.yaml_base.proofs.{stream_nodes.StreamBegun.properties_whole, stream_nodes.StreamProperties.IsNamed}
 use Rattle.yaml_base.proofs.stream_nodes.StreamLeads.{lead_rendered, tag_is_written}
 use Rattle.yaml_base.proofs.stream_nodes.StreamScalarsFit.{render_styled, body_cursor, separation_text}
 use Rattle.yaml_base.proofs.stream_nodes.StreamStands.{tag_written, tag_meant, TagStands}
+use Rattle.yaml_base.proofs.stream_lines.StreamLineLaws.{break_line}
+use Rattle.yaml_base.proofs.stream_nodes.StreamAgrees.{plain_fits}
 
 -- Characters
-
--- the indicator of an anchor and that of a tag break no line
-property_line : (breaks12 : Bool) → (is_read_break breaks12 0x26 ≡ false) × (is_read_break breaks12 0x21 ≡ false)
-property_line true = (refl, refl)
-property_line false = (refl, refl)
 
 -- what is rendered behind a space where one is needed
 spaced_begins : (breaks12 : Bool) (cursor : Cursor) (own : Rendered) (head : ℕ) (tail : Text) → own.text ≡ space_if true cursor ++ (head ∷ tail)
@@ -30,10 +27,10 @@ led_begins : (rules : Rules) (cursor : Cursor) (own : Rendered) (anchor tag : Op
     → Begins rules.breaks12 cursor own
 led_begins rules cursor own None None parsed c t given shows goes_on e = spaced_begins rules.breaks12 cursor own c t e shows goes_on
 led_begins rules cursor own (Some name) None parsed c t given shows goes_on e =
-    spaced_begins rules.breaks12 cursor own 0x26 ((name ++ (space ∷ [])) ++ (c ∷ t)) e refl (property_line rules.breaks12).0
+    spaced_begins rules.breaks12 cursor own 0x26 ((name ++ (space ∷ [])) ++ (c ∷ t)) e refl (break_line rules.breaks12 0x26 refl)
 led_begins rules cursor own (Some name) (Some tag) parsed c t given shows goes_on e =
-    spaced_begins rules.breaks12 cursor own 0x26 (((name ++ (space ∷ tag)) ++ (space ∷ [])) ++ (c ∷ t)) e refl (property_line rules.breaks12).0
-led_begins rules cursor own None (Some tag) (Some parsed) c t given shows goes_on e = grind (arith, spaced_begins, property_line)
+    spaced_begins rules.breaks12 cursor own 0x26 (((name ++ (space ∷ tag)) ++ (space ∷ [])) ++ (c ∷ t)) e refl (break_line rules.breaks12 0x26 refl)
+led_begins rules cursor own None (Some tag) (Some parsed) c t given shows goes_on e = grind (arith, spaced_begins, break_line)
 led_begins rules cursor own None (Some tag) None c t given shows goes_on e = absurd given.tagged
 
 -- Properties
@@ -45,14 +42,14 @@ pub properties_begin : (s : Effective) (own directives : List TagDirective) (anc
 properties_begin s own directives None None cursor stands some = absurd (some refl refl)
 properties_begin s own directives (Some name) None cursor stands some =
     spaced_begins s.breaks12 cursor (render_properties s.portable directives (Some name) None false cursor) 0x26 name
-    (properties_whole s.portable directives (Some name) None cursor 0x26 name refl) refl (property_line s.breaks12).0
+    (properties_whole s.portable directives (Some name) None cursor 0x26 name refl) refl (break_line s.breaks12 0x26 refl)
 properties_begin s own directives None (Some tag) cursor stands some =
     spaced_begins s.breaks12 cursor (render_properties s.portable directives None (Some tag) false cursor) 0x21 stands.rest
-    (properties_whole s.portable directives None (Some tag) cursor 0x21 stands.rest stands.begins) refl (property_line s.breaks12).1
+    (properties_whole s.portable directives None (Some tag) cursor 0x21 stands.rest stands.begins) refl (break_line s.breaks12 0x21 refl)
 properties_begin s own directives (Some name) (Some tag) cursor stands some =
     let rest = name ++ (space ∷ spelled s.portable (spelling directives tag)) in
     spaced_begins s.breaks12 cursor (render_properties s.portable directives (Some name) (Some tag) false cursor) 0x26 rest
-    (properties_whole s.portable directives (Some name) (Some tag) cursor 0x26 rest refl) refl (property_line s.breaks12).0
+    (properties_whole s.portable directives (Some name) (Some tag) cursor 0x26 rest refl) refl (break_line s.breaks12 0x26 refl)
 
 -- Aliases
 
@@ -81,12 +78,6 @@ pub record HeadShows (breaks12 : Bool) (text : Text) : Type 0 where
 shown_head : (breaks12 : Bool) (c : ℕ) (t : Text) → is_read_white breaks12 c ≡ false → HeadShows breaks12 (c ∷ t)
 shown_head breaks12 c t h = grind (arith, or_parts)
 
--- quotes and the indicators of block scalars
-indicator_shows : (breaks12 : Bool) → (is_read_white breaks12 0x27 ≡ false) × (is_read_white breaks12 0x22 ≡ false) × (is_read_white breaks12 0x7C ≡ false)
-    × (is_read_white breaks12 0x3E ≡ false)
-indicator_shows true = (refl, refl, refl, refl)
-indicator_shows false = (refl, refl, refl, refl)
-
 -- a tidy plain text that reads as more than nothing
 plain_head : (breaks12 : Bool) (text value : Text) → is_empty value ≡ false → has_clean_edges breaks12 text ≡ true → read_plain breaks12 false text ≡ Some value
     → HeadShows breaks12 text
@@ -100,11 +91,11 @@ pub body_head : (s : Effective) (style : ScalarStyle) (limit : Option ℕ) (inde
     → read_in_style style s.breaks12 false column (render_body style s limit indent value cursor).text ≡ Some value
     → HeadShows s.breaks12 (render_body style s limit indent value cursor).text
 body_head s plain limit indent column value cursor some tidy read = grind (arith, plain_head, and_parts)
-body_head s single_quoted limit indent column value cursor some tidy read = grind (arith, shown_head, indicator_shows)
-body_head s double_quoted limit indent column value cursor some tidy read = grind (arith, shown_head, indicator_shows)
+body_head s single_quoted limit indent column value cursor some tidy read = grind (arith, shown_head, break_line)
+body_head s double_quoted limit indent column value cursor some tidy read = grind (arith, shown_head, break_line)
 body_head s any_style limit indent column value cursor some tidy read = absurd (false≢true tidy)
-body_head s literal limit indent column value cursor some tidy read = shown_head s.breaks12 0x7C _ (indicator_shows s.breaks12).2
-body_head s folded limit indent column value cursor some tidy read = shown_head s.breaks12 0x3E _ (indicator_shows s.breaks12).3
+body_head s literal limit indent column value cursor some tidy read = shown_head s.breaks12 0x7C _ (break_line s.breaks12 0x7C refl)
+body_head s folded limit indent column value cursor some tidy read = shown_head s.breaks12 0x3E _ (break_line s.breaks12 0x3E refl)
 
 -- what has the same text begins alike
 begins_alike : (breaks12 : Bool) (cursor : Cursor) (own other : Rendered) → other.text ≡ own.text → Begins breaks12 cursor own → Begins breaks12 cursor other
@@ -120,11 +111,7 @@ empty_begins s own directives anchor tag false plain limit indent [] cursor stan
     begins_alike s.breaks12 cursor begun (render_styled s directives anchor tag false plain limit indent [] cursor)
     (append-nil (begun.text ++ []) ∙ append-nil begun.text) (properties_begin s own directives anchor tag cursor stands some)
 empty_begins s own directives anchor tag bare plain limit indent (c ∷ value) cursor stands is empty h some = absurd (false≢true empty)
-empty_begins s own directives anchor tag bare single_quoted limit indent value cursor stands is empty h some = absurd (false≢true is)
-empty_begins s own directives anchor tag bare double_quoted limit indent value cursor stands is empty h some = absurd (false≢true is)
-empty_begins s own directives anchor tag bare any_style limit indent value cursor stands is empty h some = absurd (false≢true is)
-empty_begins s own directives anchor tag bare literal limit indent value cursor stands is empty h some = absurd (false≢true is)
-empty_begins s own directives anchor tag bare folded limit indent value cursor stands is empty h some = absurd (false≢true is)
+empty_begins s own directives anchor tag bare style limit indent value cursor stands is empty h some = absurd (false≢true is)
 
 -- a scalar whose body isn't empty
 pub styled_begins : (s : Effective) (own directives : List TagDirective) (anchor tag : Option Text) (bare : Bool) (style : ScalarStyle) (limit : Option ℕ)
@@ -147,12 +134,5 @@ styled_begins s own directives anchor tag bare style limit indent value cursor n
 pub plain_asked : (allowed : Allowances) (plain_fits block_fits : Bool) (asked : ScalarStyle)
     → is_plain (fitting_style allowed plain_fits block_fits asked) ≡ true
     → (is_plain asked ≡ true) × (plain_fits ≡ true)
-plain_asked allowed true block_fits plain h = (refl, refl)
-plain_asked allowed false block_fits plain h = grind (arith, false≢true)
-plain_asked allowed plain_fits block_fits single_quoted h = grind (arith, false≢true)
-plain_asked allowed plain_fits true literal h = absurd (false≢true h)
-plain_asked allowed plain_fits false literal h = absurd (false≢true h)
-plain_asked allowed plain_fits true folded h = absurd (false≢true h)
-plain_asked allowed plain_fits false folded h = absurd (false≢true h)
-plain_asked allowed plain_fits block_fits any_style h = absurd (false≢true h)
-plain_asked allowed plain_fits block_fits double_quoted h = absurd (false≢true h)
+plain_asked allowed true block_fits asked h = (grind (arith, nat_tests, false≢true), refl)
+plain_asked allowed false block_fits asked h = absurd (false≢true (plain_fits allowed false block_fits asked h))

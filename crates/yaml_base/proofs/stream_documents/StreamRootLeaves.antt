@@ -1,16 +1,18 @@
 -- A document's root that is a leaf stands, where its names, its bodies and the keys in it do.
 use Rattle.yaml_base.proofs.Common.{◌≤◌, is_some, Option, None, Bool, false, not, true, ◌&&◌, List, [], refl, ◌≡◌, true≢false, ap, sym, ◌∙◌, arith, and_parts}
-use Rattle.yaml_base.proofs.Common.{and_from, false≢true, list_all, Text, is_printable, Cursor, TagDirective, Scalar, scalar_tag, collection_tag, Node}
+use Rattle.yaml_base.proofs.Common.{and_from, list_all, Text, is_printable, Cursor, TagDirective, Scalar, scalar_tag, collection_tag, Node}
 use Rattle.yaml_base.proofs.Common.{alias_node, scalar_node, sequence_node, mapping_node, Document, root_place, render_properties, choice_of, as_root, deeper}
 use Rattle.yaml_base.proofs.Common.{Effective, is_written_as_nothing, directives_in_force, has_deep_lines, is_tidy_style, is_empty, Choice, is_plain}
 use Rattle.yaml_base.proofs.{stream_documents.StreamLeafMarkers.leaf_markerless, stream_flow.StreamFlowFits.flows_fit, stream_flow.StreamFlowKinds.KeysFit}
 use Rattle.yaml_base.proofs.{stream_flow.StreamFlowReads.sequence_reads, stream_flow.StreamFlowReads.mapping_reads, stream_flow.StreamFlowScalars.rules_of}
-use Rattle.yaml_base.proofs.{stream_flow.StreamFlowTakes.and_false, stream_nodes.StreamAgrees.node_tree, stream_nodes.StreamLeads.tag_is_written}
-use Rattle.yaml_base.proofs.{stream_nodes.StreamNodesFit.Stands, stream_nodes.StreamScalarsFit.body_cursor, stream_nodes.StreamTexts.node_own}
+use Rattle.yaml_base.proofs.{stream_nodes.StreamAgrees.node_tree, stream_nodes.StreamLeads.tag_is_written}
+use Rattle.yaml_base.proofs.{stream_nodes.StreamScalarsFit.body_cursor, stream_nodes.StreamTexts.node_own}
 use Rattle.yaml_base.proofs.stream_nodes.StreamLeaves.{ScalarsFit, SimpleKeysFit, leaves_stand}
 use Rattle.yaml_base.proofs.stream_documents.StreamRootBegins.{properties_begin, alias_begins, flow_begins, body_head, empty_begins, styled_begins, plain_asked}
 use Rattle.yaml_base.proofs.stream_documents.StreamRootsStand.{root_cursor, Begins, LeafStands, is_leaf, PropertiesStand, RootStands}
 use Rattle.yaml_base.proofs.stream_nodes.StreamStands.{tag_written, NamesStand, BodyStands, body_from, BodiesHold}
+use Rattle.yaml_base.proofs.Common.{and-false}
+use Rattle.yaml_base.proofs.stream_documents.StreamRootStood.{root_settled}
 
 -- Scalars
 
@@ -44,7 +46,7 @@ scalar_begins s own directives cursor content names stands some = by (is_plain c
     by true h =
         let parts = and_parts (is_plain choice.style) (is_empty content.value) h in
         empty_begins s own directives content.anchor tag choice.bare choice.style s.width (deeper s.indent None) content.value cursor names.1 parts.0 parts.1
-        (ap (λ x. not (is_some tag) && not content.quoted_implicit && not x) parts.0 ∙ and_false (not (is_some tag) && not content.quoted_implicit))
+        (ap (λ x. not (is_some tag) && not content.quoted_implicit && not x) parts.0 ∙ and-false (not (is_some tag) && not content.quoted_implicit))
         (λ no_anchor no_tag. true≢false (sym (nothing_written s content parts.0 parts.1 no_anchor no_tag) ∙ some))
 
 -- Roots
@@ -106,11 +108,7 @@ root_stands s document on_marker deep scalars simple_keys keys names bodies =
       leaves =
           leaves_stand document.root s own directives scalars (flows_fit s own directives keys deep) simple_keys as_root None
           (root_cursor on_marker) (λ h. refl) refl
-          (by on_marker) names bodies;
+          (root_settled on_marker) names bodies;
       leaf = λ leaf. leaf_stands s document on_marker (omega arith) keys names bodies leaf;
       block = λ block. properties_stand document.root s own directives on_marker names;
     }
-  where
-    by : (x : Bool) → Stands None (root_cursor x)
-    by true = λ h. absurd (false≢true h)
-    by false = λ h. (refl, refl)

@@ -1,8 +1,8 @@
 -- A root that stands, as a document's directives are given, fits where it begins, and its lines are those of a root.
 use Rattle.yaml_base.proofs.Common.{suc, ℕ, ◌≤◌, if◌then◌else◌, option_map, Option, None, Some, Bool, false, not, true, ◌||◌, List, [], ◌∷◌, refl, ◌≡◌}
 use Rattle.yaml_base.proofs.Common.{true≢false, ap, subst, sym, ◌∙◌, arith, or_parts, false≢true, Text, Rendered, TagDirective, Collection, collection_tag}
-use Rattle.yaml_base.proofs.Common.{Node, alias_node, scalar_node, Nodes, sequence_node, Pairs, mapping_node, Document, root_place, asks_flow}
-use Rattle.yaml_base.proofs.Common.{is_written_in_flow, square, curly, has_no_nodes, has_no_pairs, Effective, is_written_as_nothing, directives_in_force}
+use Rattle.yaml_base.proofs.Common.{Node, alias_node, scalar_node, sequence_node, mapping_node, Document, root_place, asks_flow}
+use Rattle.yaml_base.proofs.Common.{is_written_in_flow, has_no_nodes, has_no_pairs, Effective, is_written_as_nothing, directives_in_force}
 use Rattle.yaml_base.proofs.Common.{Tagging, Tree, scalar_tree, sequence_tree, mapping_tree, stands_at_margin, Line, lines_of, is_spaces, without_blank_lines}
 use Rattle.yaml_base.proofs.Common.{indented, blanked, Reads, NodeKind, begins_sequence, begins_mapping, begins_text, kind_of_node, ReadsText, node_by_kind}
 use Rattle.yaml_base.proofs.Common.{node_at, begins_properties, text_or_properties, node_read, Rules, no_properties}
@@ -14,9 +14,9 @@ use Rattle.yaml_base.proofs.{stream_nodes.StreamItems.items_lay, stream_nodes.St
 use Rattle.yaml_base.proofs.stream_documents.StreamRootLines.{FirstStands, Stood, begins_stands, block_stands}
 use Rattle.yaml_base.proofs.stream_documents.StreamRootsStand.{rules_of, root_cursor, render_root, is_leaf, PropertiesStand, RootStands}
 use Rattle.yaml_base.proofs.stream_nodes.StreamFits.{size, Opens, Fits, blanked_lines}
-use Rattle.yaml_base.proofs.stream_nodes.StreamNodesFit.{EitherType, LeafFits, render_begun, BegunReads, Leaves, ItemLeaves, PairLeaves, Stands, node_fits}
+use Rattle.yaml_base.proofs.stream_nodes.StreamNodesFit.{render_begun, BegunReads, Leaves, ItemLeaves, PairLeaves, Stands, node_fits}
 use Rattle.yaml_base.proofs.stream_nodes.StreamNodesFit.{items_fit, pairs_fit}
-use Rattle.yaml_base.proofs.stream_nodes.StreamTexts.{collection_own, node_own, items_own, pairs_own}
+use Rattle.yaml_base.proofs.stream_nodes.StreamTexts.{node_own, items_own, pairs_own}
 
 -- Collections in blocks
 
@@ -24,67 +24,34 @@ use Rattle.yaml_base.proofs.stream_nodes.StreamTexts.{collection_own, node_own, 
 not_empty : (s : Effective) (start : Collection) (empty : Bool) → is_written_in_flow s root_place start empty ≡ false → empty ≡ false
 not_empty s start empty h = (or_parts (false || s.canonical || asks_flow start.style) empty h).1
 
--- what is asked of a node in a block where it isn't written in flow
-asked_in_block : (A B : Type 0) (x : Bool) → x ≡ false → EitherType x A B → B
-asked_in_block A B true h asked = absurd (true≢false h)
-asked_in_block A B false h asked = asked
-
--- a sequence in a block
-sequence_stood : (start : Collection) (items : Nodes) (given : List TagDirective) (s : Effective) (directives : List TagDirective) (on_marker : Bool)
-    → 2 ≤ s.indent
-    → is_written_in_flow s root_place start (has_no_nodes items) ≡ false
-    → Leaves (sequence_node start items) (record { breaks12 = s.breaks12; directives = given }) s directives root_place (root_cursor on_marker)
-    → PropertiesStand on_marker s directives (sequence_node start items)
-    → Stood on_marker (lines_of s.breaks12 (closed (node_own (sequence_node start items) s directives root_place (root_cursor on_marker))))
-sequence_stood start items given s directives on_marker deep block leaves properties =
-    let rules : Rules = record { breaks12 = s.breaks12; directives = given } in
-    let begun : Rendered = render_begun s directives start (root_cursor on_marker) in
-    let asked =
-    asked_in_block (LeafFits rules s directives (sequence_node start items) root_place (root_cursor on_marker))
-    (BegunReads rules s directives start (root_cursor on_marker) × ItemLeaves items rules s directives 0)
-    (is_written_in_flow s root_place start (has_no_nodes items)) block leaves in
-    let fit = items_fit items rules s directives 0 deep asked.1 in
-    let some = not_empty s start (has_no_nodes items) block in
-    let reads = items_block rules s directives items 0 fit some in
-    let own : Bool → Rendered = λ x. collection_own s square x false (has_no_nodes items) None begun (items_own items s directives x) in
-    subst (λ x. Stood on_marker (lines_of s.breaks12 (closed (own x)))) (sym block)
-    (block_stands rules on_marker start.anchor (collection_tag s.canonical start) begun (items_own items s directives false 0 begun.cursor)
-    (items_text items s directives 0) reads.kind asked.0 (items_lay rules s directives items 0 begun.cursor fit some) reads.opened
-    (items_markerless rules s directives items fit) properties)
-
--- a mapping in a block
-mapping_stood : (start : Collection) (pairs : Pairs) (given : List TagDirective) (s : Effective) (directives : List TagDirective) (on_marker : Bool)
-    → 2 ≤ s.indent
-    → is_written_in_flow s root_place start (has_no_pairs pairs) ≡ false
-    → Leaves (mapping_node start pairs) (record { breaks12 = s.breaks12; directives = given }) s directives root_place (root_cursor on_marker)
-    → PropertiesStand on_marker s directives (mapping_node start pairs)
-    → Stood on_marker (lines_of s.breaks12 (closed (node_own (mapping_node start pairs) s directives root_place (root_cursor on_marker))))
-mapping_stood start pairs given s directives on_marker deep block leaves properties =
-    let rules : Rules = record { breaks12 = s.breaks12; directives = given } in
-    let begun : Rendered = render_begun s directives start (root_cursor on_marker) in
-    let asked =
-    asked_in_block (LeafFits rules s directives (mapping_node start pairs) root_place (root_cursor on_marker))
-    (BegunReads rules s directives start (root_cursor on_marker) × PairLeaves pairs rules s directives 0)
-    (is_written_in_flow s root_place start (has_no_pairs pairs)) block leaves in
-    let fit = pairs_fit pairs rules s directives 0 deep asked.1 in
-    let some = not_empty s start (has_no_pairs pairs) block in
-    let reads = pairs_block rules s directives pairs 0 fit some in
-    let own : Bool → Rendered = λ x. collection_own s curly x false (has_no_pairs pairs) None begun (pairs_own pairs s directives x) in
-    subst (λ x. Stood on_marker (lines_of s.breaks12 (closed (own x)))) (sym block)
-    (block_stands rules on_marker start.anchor (collection_tag s.canonical start) begun (pairs_own pairs s directives false 0 begun.cursor)
-    (pairs_text pairs s directives 0) reads.kind asked.0 (pairs_lay rules s directives pairs 0 begun.cursor fit some) reads.opened
-    (pairs_markerless rules s directives pairs fit) properties)
-
--- any of them
+-- a collection in a block
 block_stood : (n : Node) (given : List TagDirective) (s : Effective) (directives : List TagDirective) (on_marker : Bool) → 2 ≤ s.indent → is_leaf s n ≡ false
     → Leaves n (record { breaks12 = s.breaks12; directives = given }) s directives root_place (root_cursor on_marker) → PropertiesStand on_marker s directives n
     → Stood on_marker (lines_of s.breaks12 (closed (node_own n s directives root_place (root_cursor on_marker))))
 block_stood (alias_node name) given s directives on_marker deep block leaves properties = absurd (true≢false block)
 block_stood (scalar_node content) given s directives on_marker deep block leaves properties = absurd (true≢false block)
 block_stood (sequence_node start items) given s directives on_marker deep block leaves properties =
-    sequence_stood start items given s directives on_marker deep block leaves properties
+    let rules : Rules = record { breaks12 = s.breaks12; directives = given } in
+    let begun : Rendered = render_begun s directives start (root_cursor on_marker) in
+    let asked : BegunReads rules s directives start (root_cursor on_marker) × ItemLeaves items rules s directives 0 = rw block at leaves in
+    let fit = items_fit items rules s directives 0 deep asked.1 in
+    let some = not_empty s start (has_no_nodes items) block in
+    let reads = items_block rules s directives items 0 fit some in
+    rw block
+    (block_stands rules on_marker start.anchor (collection_tag s.canonical start) begun (items_own items s directives false 0 begun.cursor)
+    (items_text items s directives 0) reads.kind asked.0 (items_lay rules s directives items 0 begun.cursor fit some) reads.opened
+    (items_markerless rules s directives items fit) properties)
 block_stood (mapping_node start pairs) given s directives on_marker deep block leaves properties =
-    mapping_stood start pairs given s directives on_marker deep block leaves properties
+    let rules : Rules = record { breaks12 = s.breaks12; directives = given } in
+    let begun : Rendered = render_begun s directives start (root_cursor on_marker) in
+    let asked : BegunReads rules s directives start (root_cursor on_marker) × PairLeaves pairs rules s directives 0 = rw block at leaves in
+    let fit = pairs_fit pairs rules s directives 0 deep asked.1 in
+    let some = not_empty s start (has_no_pairs pairs) block in
+    let reads = pairs_block rules s directives pairs 0 fit some in
+    rw block
+    (block_stands rules on_marker start.anchor (collection_tag s.canonical start) begun (pairs_own pairs s directives false 0 begun.cursor)
+    (pairs_text pairs s directives 0) reads.kind asked.0 (pairs_lay rules s directives pairs 0 begun.cursor fit some) reads.opened
+    (pairs_markerless rules s directives pairs fit) properties)
 
 -- Scalars
 
@@ -154,16 +121,17 @@ nothing_stands (mapping_node start pairs) given s directives h leaves = absurd (
 abbrev pub root_tree : Effective → Document → Tree
 root_tree s document = node_tree document.root s (directives_in_force document.start.directives) root_place
 
+-- its cursor is one where a root begins
+pub root_settled : (on_marker : Bool) → Stands None (root_cursor on_marker)
+root_settled true = λ h. absurd (false≢true h)
+root_settled false = λ h. (refl, refl)
+
 -- it fits
 pub root_fits : (s : Effective) (document : Document) (on_marker : Bool) → 2 ≤ s.indent → RootStands s document on_marker
     → Fits (rules_of s document) (size document.root) (render_root on_marker s document) (root_tree s document) root_place (root_cursor on_marker)
 root_fits s document on_marker deep root =
     node_fits document.root (rules_of s document) s (directives_in_force document.start.directives) root_place (root_cursor on_marker) deep
-    (by on_marker) root.leaves
-  where
-    by : (x : Bool) → Stands None (root_cursor x)
-    by true = λ h. absurd (false≢true h)
-    by false = λ h. (refl, refl)
+    (root_settled on_marker) root.leaves
 
 -- its lines are those of a root, where it isn't nothing on a line of its own
 pub root_stood : (s : Effective) (document : Document) (on_marker : Bool) → 2 ≤ s.indent → RootStands s document on_marker

@@ -1,12 +1,13 @@
 -- A stream's text as far as it is read: its lines cut into sections, whatever markers follow them, and what they are read as.
 use Rattle.yaml_base.proofs.Common.{arith, ℕ, if◌then◌else◌, fold, option_and_then, None, Some, Bool, false, true, List, [], ◌++◌, ◌∷◌, refl, ◌≡◌, eqb-true}
-use Rattle.yaml_base.proofs.Common.{append-nil, append_assoc, ap, sym, ◌∙◌, and_parts, and_from, false≢true, list_all, Text, marker_of, Section, sections_of}
+use Rattle.yaml_base.proofs.Common.{append-nil, append_assoc, ap, sym, ◌∙◌, and_parts, false≢true, list_all, Text, marker_of, Section, sections_of}
 use Rattle.yaml_base.proofs.Common.{Heading, heading_of, after_heading, with_heading, begins_with_percent, prefix_kind, lines_before_marker_read}
 use Rattle.yaml_base.proofs.Common.{documents_at_end, sections_read, Line, lines_of, is_spaces, without_blank_lines}
 use Rattle.std.proofs.lemmas.Grind.{fold-append}
 use Rattle.yaml_base.proofs.stream_lines.{StreamClosed.closed_both, StreamLineLaws.is_closed, StreamLineLaws.lines_after_break}
 use Rattle.yaml_base.proofs.stream_lines.StreamSections.{is_markerless, AllMarkerless, markerless_before, IsMarker, markers_one}
 use Rattle.yaml_base.specs.streams.StreamDocuments.{StreamRead, section_read, may_end}
+use Rattle.yaml_base.proofs.AllPass.{all_pass}
 
 -- a text, up to its last line's end, whose lines are read as this
 pub record WalkProgress (breaks12 : Bool) (depth : ℕ) (text : Text) (read : StreamRead) : Type 0 where
@@ -38,25 +39,24 @@ pub one_more : (breaks12 : Bool) (depth : ℕ) (text more : Text) (read next : S
     → is_closed breaks12 more ≡ true → lines_of breaks12 more ≡ line ∷ body → IsMarker (marker_of line.text) → AllMarkerless body
     → section_read depth breaks12 (Some read) (record { marker = marker_of line.text; line = line; rest = body }) ≡ Some next
     → WalkProgress breaks12 depth (text ++ more) next
-one_more breaks12 depth text more read next line body so ends is marker markerless reads = record {
-  ends = closed_both breaks12 text more so.ends ends;
-  prefix = so.prefix;
-  sections = so.sections ++ one;
-  cuts = λ rest none.
-      let after = (markers_one line body marker markerless).markers rest none in
-      ap (λ ls. sections_of (ls ++ rest)) (lines_after_break breaks12 text more so.ends ∙ ap (λ ls. lines_of breaks12 text ++ ls) is)
-      ∙ ap sections_of (append_assoc (lines_of breaks12 text) (line ∷ body) rest)
-      ∙ so.cuts ((line ∷ body) ++ rest) (ap (λ g. g.before) after)
-      ∙ ap (λ g. record { before = so.prefix; sections = so.sections ++ g.sections }) after
-      ∙ ap (λ g. record { before = so.prefix; sections = g }) (sym (append_assoc so.sections one (sections_of rest).sections));
-  reads =
-      fold-append (section_read depth breaks12) (lines_before_marker_read (prefix_kind so.prefix) depth breaks12 so.prefix) so.sections one
-      ∙ ap (λ r. section_read depth breaks12 r (record { marker = marker_of line.text; line = line; rest = body })) so.reads
-      ∙ reads;
-}
-  where
-    one : List Section
-    one = record { marker = marker_of line.text; line = line; rest = body } ∷ []
+one_more breaks12 depth text more read next line body so ends is marker markerless reads =
+    let one : List Section = record { marker = marker_of line.text; line = line; rest = body } ∷ [] in
+    record {
+      ends = closed_both breaks12 text more so.ends ends;
+      prefix = so.prefix;
+      sections = so.sections ++ one;
+      cuts = λ rest none.
+          let after = (markers_one line body marker markerless).markers rest none in
+          ap (λ ls. sections_of (ls ++ rest)) (lines_after_break breaks12 text more so.ends ∙ ap (λ ls. lines_of breaks12 text ++ ls) is)
+          ∙ ap sections_of (append_assoc (lines_of breaks12 text) (line ∷ body) rest)
+          ∙ so.cuts ((line ∷ body) ++ rest) (ap (λ g. g.before) after)
+          ∙ ap (λ g. record { before = so.prefix; sections = so.sections ++ g.sections }) after
+          ∙ ap (λ g. record { before = so.prefix; sections = g }) (sym (append_assoc so.sections one (sections_of rest).sections));
+      reads =
+          fold-append (section_read depth breaks12) (lines_before_marker_read (prefix_kind so.prefix) depth breaks12 so.prefix) so.sections one
+          ∙ ap (λ r. section_read depth breaks12 r (record { marker = marker_of line.text; line = line; rest = body })) so.reads
+          ∙ reads;
+    }
 
 -- the documents of a stream that may end so
 pub documents_so_far : (breaks12 : Bool) (depth : ℕ) (text : Text) (read : StreamRead) → WalkProgress breaks12 depth text read → may_end read.place ≡ true
@@ -80,11 +80,8 @@ percent_markerless (c ∷ t) h = grind (arith, eqb-true)
 
 -- none of them is
 pub percents_markerless : (lines : List Line) → Percents lines → AllMarkerless lines
-percents_markerless [] h = refl
-percents_markerless (line ∷ rest) h =
-    let parts = and_parts (begins_with_percent line.text) (list_all (λ line. begins_with_percent line.text) rest) h in
-    and_from (is_markerless (marker_of line.text)) (list_all (λ line. is_markerless (marker_of line.text)) rest) (percent_markerless line.text parts.0)
-    (percents_markerless rest parts.1)
+percents_markerless lines h =
+    all_pass (λ line. begins_with_percent line.text) (λ line. is_markerless (marker_of line.text)) (λ line e. percent_markerless line.text e) lines h
 
 -- nor is such a line blank
 percent_shows : (t : Text) → begins_with_percent t ≡ true → is_spaces t ≡ false

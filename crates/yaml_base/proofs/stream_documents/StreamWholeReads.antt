@@ -87,25 +87,22 @@ document_so_rendered : (s : Effective) (first : Bool) (documents : Documents) (r
       standing =
           (render_document s first document rendered.standing).standing;
     })
-document_so_rendered s first documents rendered document deep stands at awaits = record {
-  cursor = joined.cursor;
-  awaits = λ depth long.
-      subst (λ t. Awaits s.breaks12 depth t (document_trees s (documents_and documents document)) (next.standing.open_ended == 0)) (sym same)
-      (subst (Awaits s.breaks12 depth (text_of rendered.pieces ++ text) (document_trees s (documents_and documents document))) (sym joined.ended)
-      (awaits depth (subst (λ t. suc (length t) ≤ depth) same long) (small depth (subst (λ t. suc (length t) ≤ depth) same long))));
-}
+document_so_rendered s first documents rendered document deep stands at awaits =
+    let next : RenderedPieces = render_document s first document rendered.standing in
+    let joined : RenderedDocument s first document rendered.standing =
+    document_joined s first document rendered.standing at (root_fits s document (is_on_marker s first document.start) deep stands.root).settled in
+    let same : text_of (rendered.pieces ++ next.pieces) ≡ text_of rendered.pieces ++ text =
+    flat_map-append piece_text rendered.pieces next.pieces ∙ ap (λ t. text_of rendered.pieces ++ t) joined.text in
+    record {
+      cursor = joined.cursor;
+      awaits = λ depth long.
+          subst (λ t. Awaits s.breaks12 depth t (document_trees s (documents_and documents document)) (next.standing.open_ended == 0)) (sym same)
+          (subst (Awaits s.breaks12 depth (text_of rendered.pieces ++ text) (document_trees s (documents_and documents document))) (sym joined.ended)
+          (awaits depth (subst (λ t. suc (length t) ≤ depth) same long) (small depth (subst (λ t. suc (length t) ≤ depth) same long))));
+    }
   where
-    next : RenderedPieces
-    next = render_document s first document rendered.standing
-
     text : Text
     text = document_text s first (rendered.standing.open_ended == 0) document
-
-    joined : RenderedDocument s first document rendered.standing
-    joined = document_joined s first document rendered.standing at (root_fits s document (is_on_marker s first document.start) deep stands.root).settled
-
-    same : text_of (rendered.pieces ++ next.pieces) ≡ text_of rendered.pieces ++ text
-    same = flat_map-append piece_text rendered.pieces next.pieces ∙ ap (λ t. text_of rendered.pieces ++ t) joined.text
 
     small : (depth : ℕ) → suc (length (text_of rendered.pieces ++ text)) ≤ depth → size document.root ≤ depth
     small depth long =

@@ -5,9 +5,9 @@ use Rattle.yaml_base.proofs.Common.{new_line, space_if, indicator, ScalarStyle, 
 use Rattle.yaml_base.proofs.Common.{Scalar, Collection, scalar_tag, collection_tag, Node, alias_node, scalar_node, Nodes, sequence_node, Pairs, mapping_node}
 use Rattle.yaml_base.proofs.Common.{no_nodes, nodes_and, no_pairs, pairs_and, render_properties, render_alias, render_separation, render_body, choice_of}
 use Rattle.yaml_base.proofs.Common.{is_written_in_flow, Brackets, square, curly, empty_or_comma, render_end, entry_place, Role, as_root, as_item, as_key}
-use Rattle.yaml_base.proofs.Common.{as_value, Place, is_key, is_undented, line_column, deeper, entries_column, has_no_nodes, has_no_pairs, is_simple}
-use Rattle.yaml_base.proofs.Common.{is_simple_at, flow_break, opening_or_comma, render_flow_place, render_place, is_read_break, Effective, is_read_white}
-use Rattle.yaml_base.proofs.Common.{has_deep_lines, ends_white, has_clean_edges, is_tidy_style, is_tidy, double_inside, render_quote, name_read}
+use Rattle.yaml_base.proofs.Common.{as_value, Place, is_key, line_column, deeper, has_no_nodes, has_no_pairs, is_simple}
+use Rattle.yaml_base.proofs.Common.{is_simple_at, flow_break, opening_or_comma, render_flow_place, render_place, is_read_break, Effective}
+use Rattle.yaml_base.proofs.Common.{has_deep_lines, ends_white, has_clean_edges, is_tidy_style, is_tidy, double_inside, render_quote, name_read, is_break}
 use Rattle.yaml_base.proofs.{stream_flow.StreamPropertyWords.lead, stream_lines.StreamClosed.spaces_line, stream_lines.StreamLineLaws.OneLine}
 use Rattle.yaml_base.proofs.{stream_lines.StreamLineLaws.one_line_both, stream_lines.StreamTidyLaws.deep_lines_fewer, stream_nodes.StreamAliasFits.name_line}
 use Rattle.yaml_base.proofs.{stream_nodes.StreamBegun.lead_line, stream_nodes.StreamLeads.lead_rendered, stream_nodes.StreamLeads.tag_is_written}
@@ -16,7 +16,8 @@ use Rattle.yaml_base.proofs.stream_flow.StreamFlowScalars.{rules_of, is_flow_sty
 use Rattle.yaml_base.proofs.stream_lines.StreamDeepBreaks.{Deep, deep_both, deep_line, deep_new_line, deep_tidy, ends_as_last, line_prefix, space_line}
 use Rattle.yaml_base.proofs.stream_nodes.StreamStands.{tag_written, tag_meant, TagStands, NamesStand, AllNamesStand, PairsNamesStand, BodyStands, body_from}
 use Rattle.yaml_base.proofs.stream_nodes.StreamStands.{BodiesHold, ItemsHold, PairsHold}
-use Rattle.yaml_base.proofs.stream_nodes.StreamTexts.{collection_own, node_own, items_own, pairs_own}
+use Rattle.yaml_base.proofs.stream_nodes.StreamTexts.{node_own, items_own, pairs_own}
+use Rattle.yaml_base.proofs.stream_lines.StreamLineLaws.{unbroken_line, break_line}
 
 -- Properties
 
@@ -33,11 +34,6 @@ properties_line s own directives anchor tag bare cursor named stands =
 
 -- Bodies
 
--- a quote isn't white
-quote_shown : (breaks12 : Bool) → (is_read_white breaks12 0x27 ≡ false) × (is_read_white breaks12 0x22 ≡ false)
-quote_shown true = (refl, refl)
-quote_shown false = (refl, refl)
-
 -- a text with clean edges ends with nothing white
 clean_shown : (breaks12 : Bool) (t : Text) → has_clean_edges breaks12 t ≡ true → ends_white breaks12 t ≡ false
 clean_shown breaks12 [] h = refl
@@ -48,9 +44,9 @@ body_shown : (s : Effective) (style : ScalarStyle) (limit : Option ℕ) (indent 
     → is_tidy_style style s.breaks12 (render_body style s limit indent value cursor).text ≡ true
     → ends_white s.breaks12 (render_body style s limit indent value cursor).text ≡ false
 body_shown s plain limit indent value cursor flow tidy = grind (arith, clean_shown, and_parts)
-body_shown s single_quoted limit indent value cursor flow tidy = grind (arith, ends_as_last, quote_shown)
+body_shown s single_quoted limit indent value cursor flow tidy = grind (arith, ends_as_last, break_line s.breaks12 0x27 refl)
 body_shown s double_quoted limit indent value cursor flow tidy =
-    ends_as_last s.breaks12 (0x22 ∷ (double_inside s.unicode limit indent None value (render_quote cursor).cursor).text) 0x22 ∙ (quote_shown s.breaks12).1
+    ends_as_last s.breaks12 (0x22 ∷ (double_inside s.unicode limit indent None value (render_quote cursor).cursor).text) 0x22 ∙ break_line s.breaks12 0x22 refl
 body_shown s any_style limit indent value cursor flow tidy = absurd (false≢true tidy)
 body_shown s literal limit indent value cursor flow tidy = absurd (false≢true flow)
 body_shown s folded limit indent value cursor flow tidy = absurd (false≢true flow)
@@ -69,28 +65,20 @@ body_deep s style limit count indent column value cursor le flow tidy =
 -- Indicators
 
 -- an indicator on one line, and the space before it
-pub indicator_deep : (breaks12 : Bool) (count : ℕ) (symbol : Text) (need white indented : Bool) (cursor : Cursor) → OneLine breaks12 symbol
+pub indicator_deep : (breaks12 : Bool) (count : ℕ) (symbol : Text) (need white indented : Bool) (cursor : Cursor)
+    → list_any is_break symbol ≡ false
     → Deep breaks12 count (indicator symbol need white indented cursor).text
 indicator_deep breaks12 count symbol need white indented cursor one =
-    deep_line breaks12 count (space_if need cursor ++ symbol) (one_line_both breaks12 (space_if need cursor) symbol (space_line breaks12 need cursor) one)
-
--- no flow indicator breaks a line
-pub indicators_line : (breaks12 : Bool) → OneLine breaks12 (codes ",") × OneLine breaks12 (codes "?") × OneLine breaks12 (codes ":")
-indicators_line true = (refl, refl, refl)
-indicators_line false = (refl, refl, refl)
-
--- nor does a bracket
-pub brackets_line : (breaks12 : Bool) → (OneLine breaks12 square.opening × OneLine breaks12 square.closing)
-    × (OneLine breaks12 curly.opening × OneLine breaks12 curly.closing)
-brackets_line true = ((refl, refl), (refl, refl))
-brackets_line false = ((refl, refl), (refl, refl))
+    deep_line breaks12 count (space_if need cursor ++ symbol)
+    (one_line_both breaks12 (space_if need cursor) symbol (space_line breaks12 need cursor) (unbroken_line breaks12 symbol one))
 
 -- a new line where one is too long
 break_deep : (s : Effective) (count column : ℕ) (cursor : Cursor) → count ≤ column → Deep s.breaks12 count (flow_break s (Some column) cursor).text
 break_deep s count column cursor le = grind (arith, deep_new_line)
 
 -- what stands before a first entry, or between two
-begin_deep : (s : Effective) (count column : ℕ) (bracket : Text) (first : Bool) (cursor : Cursor) → count ≤ column → OneLine s.breaks12 bracket
+begin_deep : (s : Effective) (count column : ℕ) (bracket : Text) (first : Bool) (cursor : Cursor) → count ≤ column
+    → list_any is_break bracket ≡ false
     → Deep s.breaks12 count (render_then (opening_or_comma bracket first cursor) (flow_break s (Some column))).text
 begin_deep s count column bracket true cursor le one =
     let symbol = indicator bracket true true false cursor in
@@ -99,20 +87,20 @@ begin_deep s count column bracket true cursor le one =
 begin_deep s count column bracket false cursor le one =
     let symbol = indicator (codes ",") false false false cursor in
     deep_both s.breaks12 count symbol.text (flow_break s (Some column) symbol.cursor).text
-    (indicator_deep s.breaks12 count (codes ",") false false false cursor (indicators_line s.breaks12).0) (break_deep s count column symbol.cursor le)
+    (indicator_deep s.breaks12 count (codes ",") false false false cursor refl) (break_deep s count column symbol.cursor le)
 
 -- the indicators of a place in flow
 place_deep : (s : Effective) (count column : ℕ) (role : Role) (simple : Bool) (cursor : Cursor) → count ≤ column
     → Deep s.breaks12 count (render_flow_place s role simple (Some column) cursor).text
 place_deep s count column as_root simple cursor le = refl
-place_deep s count column (as_item first) simple cursor le = begin_deep s count column (codes "[") first cursor le (brackets_line s.breaks12).0.0
-place_deep s count column (as_key first) simple cursor le = grind (arith, deep_both, begin_deep, brackets_line, indicator_deep, indicators_line)
-place_deep s count column (as_value true) simple cursor le = indicator_deep s.breaks12 count (codes ":") false false false cursor (indicators_line s.breaks12).2
-place_deep s count column (as_value false) simple cursor le = grind (arith, deep_both, break_deep, indicator_deep, indicators_line)
+place_deep s count column (as_item first) simple cursor le = begin_deep s count column (codes "[") first cursor le refl
+place_deep s count column (as_key first) simple cursor le = grind (arith, deep_both, begin_deep, indicator_deep)
+place_deep s count column (as_value true) simple cursor le = indicator_deep s.breaks12 count (codes ":") false false false cursor refl
+place_deep s count column (as_value false) simple cursor le = grind (arith, deep_both, break_deep, indicator_deep)
 
 -- the end of a collection at a column
-end_deep : (s : Effective) (count : ℕ) (brackets : Brackets) (empty : Bool) (column : Option ℕ) (cursor : Cursor) → OneLine s.breaks12 brackets.opening
-    → OneLine s.breaks12 brackets.closing → (s.canonical ≡ true → count ≤ line_column column)
+end_deep : (s : Effective) (count : ℕ) (brackets : Brackets) (empty : Bool) (column : Option ℕ) (cursor : Cursor)
+    → list_any is_break brackets.opening ≡ false → list_any is_break brackets.closing ≡ false → (s.canonical ≡ true → count ≤ line_column column)
     → Deep s.breaks12 count (render_end s brackets true empty column cursor).text
 end_deep s count brackets empty column cursor opening closing le =
     let begun = empty_or_comma s brackets.opening empty column cursor in
@@ -127,7 +115,7 @@ end_deep s count brackets empty column cursor opening closing le =
         (new_line (line_column column)) else render_nothing cursor in rendered.text)
     line true e =
         deep_both s.breaks12 count comma.text (new_line (line_column column) comma.cursor).text
-        (indicator_deep s.breaks12 count (codes ",") false false false cursor (indicators_line s.breaks12).0)
+        (indicator_deep s.breaks12 count (codes ",") false false false cursor refl)
         (deep_new_line s.breaks12 count (line_column column) comma.cursor (le e))
     line false e = refl
 
@@ -137,15 +125,10 @@ end_deep s count brackets empty column cursor opening closing le =
 
 -- Nodes
 
--- `*` breaks no line
-star_line : (breaks12 : Bool) → OneLine breaks12 (codes "*")
-star_line true = refl
-star_line false = refl
-
 -- an alias
 pub alias_deep : (s : Effective) (count : ℕ) (name : Text) (simple : Bool) (cursor : Cursor) → name_read name ≡ Some name
     → Deep s.breaks12 count (render_alias name simple cursor).text
-alias_deep s count name simple cursor named = grind (arith, deep_both, indicator_deep, star_line, deep_line, name_line, name_letters, spaces_line)
+alias_deep s count name simple cursor named = grind (arith, deep_both, indicator_deep, deep_line, name_line, name_letters, spaces_line)
 
 -- a scalar
 scalar_deep : (s : Effective) (own directives : List TagDirective) (count column : ℕ) (role : Role) (cursor : Cursor) (content : Scalar) → count ≤ column
@@ -171,7 +154,7 @@ scalar_deep s own directives count column role cursor content le names body =
 
 -- a collection, where its entries are so
 collection_deep : (s : Effective) (own directives : List TagDirective) (count : ℕ) (brackets : Brackets) (anchor tag : Option Text) (empty : Bool)
-    (column : Option ℕ) (cursor : Cursor) (entries : Rendered) → OneLine s.breaks12 brackets.opening → OneLine s.breaks12 brackets.closing
+    (column : Option ℕ) (cursor : Cursor) (entries : Rendered) → list_any is_break brackets.opening ≡ false → list_any is_break brackets.closing ≡ false
     → (s.canonical ≡ true → count ≤ line_column column) → IsNamed anchor → TagStands s.portable own directives tag → Deep s.breaks12 count entries.text
     → Deep s.breaks12 count
     (((render_properties s.portable directives anchor tag false cursor).text ++ entries.text) ++ (render_end s brackets true empty column entries.cursor).text)
@@ -190,13 +173,13 @@ mutual
   node_deep (sequence_node start items) s own directives count column role cursor le names bodies =
       let begun = render_properties s.portable directives start.anchor (collection_tag s.canonical start) false cursor in
       collection_deep s own directives count square start.anchor (collection_tag s.canonical start) (has_no_nodes items) (Some column) cursor
-      (items_own items s directives true (deeper s.indent (Some column)) begun.cursor) (brackets_line s.breaks12).0.0 (brackets_line s.breaks12).0.1 (λ h. le)
+      (items_own items s directives true (deeper s.indent (Some column)) begun.cursor) refl refl (λ h. le)
       names.0 names.1
       (items_deep items s own directives count (deeper s.indent (Some column)) begun.cursor (omega arith) names.2 bodies)
   node_deep (mapping_node start pairs) s own directives count column role cursor le names bodies =
       let begun = render_properties s.portable directives start.anchor (collection_tag s.canonical start) false cursor in
       collection_deep s own directives count curly start.anchor (collection_tag s.canonical start) (has_no_pairs pairs) (Some column) cursor
-      (pairs_own pairs s directives true (deeper s.indent (Some column)) begun.cursor) (brackets_line s.breaks12).1.0 (brackets_line s.breaks12).1.1 (λ h. le)
+      (pairs_own pairs s directives true (deeper s.indent (Some column)) begun.cursor) refl refl (λ h. le)
       names.0 names.1
       (pairs_deep pairs s own directives count (deeper s.indent (Some column)) begun.cursor (omega arith) names.2 bodies)
 
@@ -242,20 +225,11 @@ pub sequence_deep : (s : Effective) (own directives : List TagDirective) (count 
     → BodiesHold (BodyStands s) (sequence_node start items) s directives place cursor
     → Deep s.breaks12 count (node_own (sequence_node start items) s directives place cursor).text
 sequence_deep s own directives count place cursor start items le ends in_flow names bodies =
-    by (is_written_in_flow s place start (has_no_nodes items)) in_flow bodies
-  where
-    begun : Rendered
-    begun = render_properties s.portable directives start.anchor (collection_tag s.canonical start) false cursor
-
-    by : (x : Bool) → x ≡ true
-        → ItemsHold (BodyStands s) items s directives x (entries_column x (is_undented s place.role) s.indent place.column begun.cursor) begun.cursor
-        → Deep s.breaks12 count
-        (collection_own s square x (is_undented s place.role) (has_no_nodes items) place.column begun (items_own items s directives x)).text
-    by false h hold = absurd (false≢true h)
-    by true h hold =
-        collection_deep s own directives count square start.anchor (collection_tag s.canonical start) (has_no_nodes items) place.column cursor
-        (items_own items s directives true (deeper s.indent place.column) begun.cursor) (brackets_line s.breaks12).0.0 (brackets_line s.breaks12).0.1 ends
-        names.0 names.1 (items_deep items s own directives count (deeper s.indent place.column) begun.cursor le names.2 hold)
+    let begun = render_properties s.portable directives start.anchor (collection_tag s.canonical start) false cursor in
+    rw in_flow
+    (collection_deep s own directives count square start.anchor (collection_tag s.canonical start) (has_no_nodes items) place.column cursor
+    (items_own items s directives true (deeper s.indent place.column) begun.cursor) refl refl ends names.0 names.1
+    (items_deep items s own directives count (deeper s.indent place.column) begun.cursor le names.2 (rw in_flow at bodies)))
 
 -- and such a mapping
 pub mapping_deep : (s : Effective) (own directives : List TagDirective) (count : ℕ) (place : Place) (cursor : Cursor) (start : Collection) (pairs : Pairs)
@@ -264,15 +238,8 @@ pub mapping_deep : (s : Effective) (own directives : List TagDirective) (count :
     → BodiesHold (BodyStands s) (mapping_node start pairs) s directives place cursor
     → Deep s.breaks12 count (node_own (mapping_node start pairs) s directives place cursor).text
 mapping_deep s own directives count place cursor start pairs le ends in_flow names bodies =
-    by (is_written_in_flow s place start (has_no_pairs pairs)) in_flow bodies
-  where
-    begun : Rendered
-    begun = render_properties s.portable directives start.anchor (collection_tag s.canonical start) false cursor
-
-    by : (x : Bool) → x ≡ true → PairsHold (BodyStands s) pairs s directives x (entries_column x false s.indent place.column begun.cursor) begun.cursor
-        → Deep s.breaks12 count (collection_own s curly x false (has_no_pairs pairs) place.column begun (pairs_own pairs s directives x)).text
-    by false h hold = absurd (false≢true h)
-    by true h hold =
-        collection_deep s own directives count curly start.anchor (collection_tag s.canonical start) (has_no_pairs pairs) place.column cursor
-        (pairs_own pairs s directives true (deeper s.indent place.column) begun.cursor) (brackets_line s.breaks12).1.0 (brackets_line s.breaks12).1.1 ends
-        names.0 names.1 (pairs_deep pairs s own directives count (deeper s.indent place.column) begun.cursor le names.2 hold)
+    let begun = render_properties s.portable directives start.anchor (collection_tag s.canonical start) false cursor in
+    rw in_flow
+    (collection_deep s own directives count curly start.anchor (collection_tag s.canonical start) (has_no_pairs pairs) place.column cursor
+    (pairs_own pairs s directives true (deeper s.indent place.column) begun.cursor) refl refl ends names.0 names.1
+    (pairs_deep pairs s own directives count (deeper s.indent place.column) begun.cursor le names.2 (rw in_flow at bodies)))

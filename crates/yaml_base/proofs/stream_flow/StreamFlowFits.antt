@@ -1,9 +1,9 @@
 -- A collection in flow fits where it stands in a block.
-use Rattle.yaml_base.proofs.Common.{suc, ℕ, ◌<◌, ◌≤◌, if◌then◌else◌, ◌==◌, Option, None, Some, Bool, false, not, true, ◌&&◌, ◌||◌, List, [], ◌++◌, ◌∷◌, refl}
-use Rattle.yaml_base.proofs.Common.{◌≡◌, true≢false, append_assoc, ap, sym, ◌∙◌, arith, false≢true, list_all, Text, line_feed, space, Cursor, Rendered}
-use Rattle.yaml_base.proofs.Common.{space_if, TagDirective, Collection, collection_tag, alias_node, scalar_node, Nodes, sequence_node, Pairs, mapping_node}
-use Rattle.yaml_base.proofs.Common.{is_written_in_flow, Place, line_column, deeper, has_no_nodes, has_no_pairs, is_read_break, Effective, is_read_white, Tree}
-use Rattle.yaml_base.proofs.Common.{Line, prepend_to_first_line, prepend_character, lines_of, text_of_lines, belongs_to_entry, all_deeper, spaces}
+use Rattle.yaml_base.proofs.Common.{suc, ℕ, ◌≤◌, if◌then◌else◌, Option, None, Some, Bool, false, true, List, [], ◌++◌, ◌∷◌, refl}
+use Rattle.yaml_base.proofs.Common.{◌≡◌, append_assoc, ap, sym, ◌∙◌, arith, false≢true, list_all, Text, line_feed, Cursor, Rendered}
+use Rattle.yaml_base.proofs.Common.{space_if, TagDirective, Collection, collection_tag, alias_node, scalar_node, sequence_node, mapping_node}
+use Rattle.yaml_base.proofs.Common.{Place, line_column, deeper, is_read_break, Effective, is_read_white, Tree}
+use Rattle.yaml_base.proofs.Common.{Line, prepend_to_first_line, prepend_character, lines_of, text_of_lines, belongs_to_entry, all_deeper}
 use Rattle.yaml_base.proofs.Common.{kind_of_text, text_by_kind, text_read, kind_of_node, begins_properties, text_or_properties, Rules, Properties}
 use Rattle.yaml_base.proofs.{stream_flow.StreamFlowDeep.sequence_deep, stream_flow.StreamFlowDeep.mapping_deep, stream_flow.StreamFlowKinds.KeysFit}
 use Rattle.yaml_base.proofs.{stream_flow.StreamFlowScalars.rules_of, stream_flow.StreamFlowWords.Given, stream_flow.StreamPropertyWords.lead}
@@ -15,9 +15,13 @@ use Rattle.yaml_base.proofs.{stream_nodes.StreamAgrees.node_tree, stream_nodes.S
 use Rattle.yaml_base.proofs.{stream_nodes.StreamFits.Fits, stream_nodes.StreamLeads.tag_is_written, stream_nodes.StreamLeafFits.TextReads}
 use Rattle.yaml_base.proofs.{stream_nodes.StreamLeafFits.text_fits, stream_nodes.StreamLeaves.block_place, stream_nodes.StreamLeaves.FlowsFit}
 use Rattle.yaml_base.proofs.{stream_nodes.StreamNodesFit.LeafFits, stream_nodes.StreamOwnTexts.deeper_all, stream_nodes.StreamOwnTexts.parsed_reads}
-use Rattle.yaml_base.proofs.{stream_nodes.StreamOwnTexts.headed, stream_nodes.StreamProperties.begins_content, stream_nodes.StreamTexts.node_own}
-use Rattle.yaml_base.proofs.stream_flow.StreamFlowReads.{FlowContent, content_read, sequence_reads, mapping_reads}
-use Rattle.yaml_base.proofs.stream_nodes.StreamStands.{tag_written, tag_meant, NamesStand, BodyStands, BodiesHold}
+use Rattle.yaml_base.proofs.{stream_nodes.StreamOwnTexts.headed, stream_nodes.StreamTexts.node_own}
+use Rattle.yaml_base.proofs.stream_nodes.StreamProperties.{IsNamed}
+use Rattle.yaml_base.proofs.stream_flow.StreamFlowReads.{FlowContent, content_read, sequence_reads, mapping_reads, FlowReads}
+use Rattle.yaml_base.proofs.stream_nodes.StreamStands.{tag_written, tag_meant, TagStands}
+use Rattle.yaml_base.proofs.Common.{Node}
+use Rattle.yaml_base.proofs.stream_nodes.StreamLeads.{before_count, before_spaces, before_some}
+use Rattle.yaml_base.proofs.stream_nodes.StreamOwnTexts.{own_shows}
 
 -- Lines
 
@@ -73,10 +77,6 @@ content_text rules cursor own anchor tag given_tag tree of column line deep =
     ∙ append_assoc of.inside (of.closing ∷ []) (line_feed ∷ []))
     ∙ content_read rules cursor own anchor tag given_tag tree of column line.first (line_feed ∷ []) (feed_white rules.breaks12)
 
--- what begins a node's own text is no space and no indicator of a property
-pub own_shows : (c : ℕ) → begins_content (c ∷ []) ≡ true → ((c == space) ≡ false) × ((c == 0x26 || c == 0x21) ≡ false)
-own_shows c h = grind (arith, false≢true)
-
 -- the text of a collection, with its properties, up to the break after it
 abbrev flow_text : (rules : Rules) (cursor : Cursor) (own : Rendered) (anchor tag given_tag : Option Text) (tree : Tree)
     → FlowContent rules cursor own anchor tag given_tag tree → Text
@@ -91,7 +91,7 @@ flow_lines : (rules : Rules) (cursor : Cursor) (own : Rendered) (anchor tag give
 flow_lines rules cursor own anchor tag given_tag tree of one line =
     let text = (of.inside ++ (of.closing ∷ [])) ++ (line_feed ∷ []) in
     lines_behind rules.breaks12 (lead anchor tag) (of.bracket ∷ text) (of.bracket ∷ line.first) line.ending line.rest one
-    (lines_behind rules.breaks12 (of.bracket ∷ []) text line.first line.ending line.rest of.one_line line.is)
+    (lines_behind rules.breaks12 (of.bracket ∷ []) text line.first line.ending line.rest of.brackets.one_line line.is)
 
 -- it reads on its lines, behind properties or without them
 text_reads : (rules : Rules) (cursor : Cursor) (own : Rendered) (anchor tag given_tag : Option Text) (tree : Tree)
@@ -101,7 +101,7 @@ text_reads : (rules : Rules) (cursor : Cursor) (own : Rendered) (anchor tag give
 text_reads rules cursor own anchor tag given_tag tree of column given line deeper =
     let parsed = tag_meant given_tag false in
     let prefix = lead anchor tag ++ (of.bracket ∷ line.first) in
-    let h = headed rules anchor tag parsed of.bracket line.first given (own_shows of.bracket of.content).0 in
+    let h = headed rules anchor tag parsed of.bracket line.first given (own_shows of.bracket of.brackets.content).0 in
     let none : Given rules None None None = record { named = tt; tagged = tt } in
     record {
       head = h.head;
@@ -116,7 +116,7 @@ text_reads rules cursor own anchor tag given_tag tree of column given line deepe
       deeper = deeper;
       read = λ reads at.
           ap (λ t. text_or_properties (begins_properties t) rules reads column at t line.ending line.rest) (sym h.is)
-          ∙ parsed_reads rules reads column at anchor tag parsed of.bracket line.first line.ending line.rest given of.content
+          ∙ parsed_reads rules reads column at anchor tag parsed of.bracket line.first line.ending line.rest given of.brackets.content
           (of.line None None None none line.first line.more line.whole)
           ∙ content_text rules cursor own anchor tag given_tag tree of column line (deeper_all column line.rest deeper);
     }
@@ -129,48 +129,26 @@ closed_text : (rules : Rules) (cursor : Cursor) (own : Rendered) (anchor tag giv
     → own.text ++ (line_feed ∷ []) ≡ space_if true cursor ++ flow_text rules cursor own anchor tag given_tag tree of
 closed_text rules cursor own anchor tag given_tag tree of = grind (arith, append_assoc)
 
--- a collection whose text is read, and whose lines are deeper than the column around, fits behind some spaces
-spaced_fits : (rules : Rules) (place : Place) (cursor : Cursor) (own : Rendered) (anchor tag given_tag : Option Text) (tree : Tree)
-    (of : FlowContent rules cursor own anchor tag given_tag tree) → Given rules anchor tag (tag_meant given_tag false)
-    → ((c : ℕ) → place.column ≡ Some c → Deep rules.breaks12 (suc c) own.text) → (count : ℕ) → space_if true cursor ≡ spaces count
-    → (cursor.whitespace ≡ false → 0 < count) → Fits rules 1 own tree place cursor
-spaced_fits rules place cursor own anchor tag given_tag tree of given deep count spaced some =
-    text_fits rules own place cursor count (flow_text rules cursor own anchor tag given_tag tree of) tree
-    (fed ∙ closed_text rules cursor own anchor tag given_tag tree of ∙ ap (λ t. t ++ flow_text rules cursor own anchor tag given_tag tree of) spaced)
-    (ap (is_closed rules.breaks12) fed ∙ below_ends rules.breaks12 own.text [] refl)
-    (λ h. absurd (false≢true (sym of.ended.indention ∙ h)))
-    some
-    (text_reads rules cursor own anchor tag given_tag tree of place.column given line deeper)
-  where
-    line : FirstLine rules.breaks12 (of.inside ++ (of.closing ∷ []))
-    line = first_line rules.breaks12 (of.inside ++ (of.closing ∷ []))
-
-    fed : closed own ≡ own.text ++ (line_feed ∷ [])
-    fed = ap (λ x. own.text ++ (if x then [] else line_feed ∷ [])) of.ended.indention
-
-    after : lines_after_first (lines_of rules.breaks12 (own.text ++ (line_feed ∷ []))) ≡ line.rest
-    after =
-        let text = flow_text rules cursor own anchor tag given_tag tree of in
-        ap (λ t. lines_after_first (lines_of rules.breaks12 t)) (closed_text rules cursor own anchor tag given_tag tree of)
-        ∙ after_line rules.breaks12 (space_if true cursor) text (space_line rules.breaks12 true cursor)
-        ∙ ap lines_after_first
-        (flow_lines rules cursor own anchor tag given_tag tree of (lead_line rules anchor tag (tag_meant given_tag false) given.named given.tagged) line)
-
-    deeper : (c : ℕ) → place.column ≡ Some c → AllInside true c line.rest
-    deeper c e = ap (list_all (λ line. belongs_to_entry true c line.text)) (sym after) ∙ deep_inside rules.breaks12 c own.text (deep c e)
-
--- behind the space that stands before it where one is needed
+-- a collection whose text is read, and whose lines are deeper than the column around, fits
 pub content_fits : (rules : Rules) (place : Place) (cursor : Cursor) (own : Rendered) (anchor tag given_tag : Option Text) (tree : Tree)
     → FlowContent rules cursor own anchor tag given_tag tree → Given rules anchor tag (tag_meant given_tag false)
     → ((c : ℕ) → place.column ≡ Some c → Deep rules.breaks12 (suc c) own.text) → Fits rules 1 own tree place cursor
-content_fits rules place cursor own anchor tag given_tag tree of given deep = by cursor.whitespace refl
-  where
-    by : (x : Bool) → cursor.whitespace ≡ x → Fits rules 1 own tree place cursor
-    by true h =
-        spaced_fits rules place cursor own anchor tag given_tag tree of given deep 0 (ap (λ x. if true && not x then space ∷ [] else []) h)
-        (λ w. absurd (true≢false (sym h ∙ w)))
-    by false h =
-        spaced_fits rules place cursor own anchor tag given_tag tree of given deep 1 (ap (λ x. if true && not x then space ∷ [] else []) h) (λ w. omega arith)
+content_fits rules place cursor own anchor tag given_tag tree of given deep =
+    let text = flow_text rules cursor own anchor tag given_tag tree of in
+    let fed : closed own ≡ own.text ++ (line_feed ∷ []) = ap (λ x. own.text ++ (if x then [] else line_feed ∷ [])) of.ended.indention in
+    let line = first_line rules.breaks12 (of.inside ++ (of.closing ∷ [])) in
+    let after : lines_after_first (lines_of rules.breaks12 (own.text ++ (line_feed ∷ []))) ≡ line.rest =
+    ap (λ t. lines_after_first (lines_of rules.breaks12 t)) (closed_text rules cursor own anchor tag given_tag tree of)
+    ∙ after_line rules.breaks12 (space_if true cursor) text (space_line rules.breaks12 true cursor)
+    ∙ ap lines_after_first
+    (flow_lines rules cursor own anchor tag given_tag tree of (lead_line rules anchor tag (tag_meant given_tag false) given.named given.tagged) line) in
+    text_fits rules own place cursor (before_count cursor.whitespace) text tree
+    (fed ∙ closed_text rules cursor own anchor tag given_tag tree of ∙ ap (λ t. t ++ text) (before_spaces cursor.whitespace))
+    (ap (is_closed rules.breaks12) fed ∙ below_ends rules.breaks12 own.text [] refl)
+    (λ h. absurd (false≢true (sym of.ended.indention ∙ h)))
+    (before_some cursor.whitespace)
+    (text_reads rules cursor own anchor tag given_tag tree of place.column given line
+    (λ c e. ap (list_all (λ line. belongs_to_entry true c line.text)) (sym after) ∙ deep_inside rules.breaks12 c own.text (deep c e)))
 
 -- Nodes
 
@@ -179,43 +157,30 @@ deep_column : (s : Effective) (column : Option ℕ) (c : ℕ) → 2 ≤ s.indent
     → (suc c ≤ deeper s.indent column) × (s.canonical ≡ true → suc c ≤ line_column column)
 deep_column s column c deep root e = grind (arith, none_not_some)
 
--- each sequence that is written in flow in a block fits
-pub sequence_fits : (s : Effective) (own directives : List TagDirective) → KeysFit s own directives → 2 ≤ s.indent → (place : Place) (cursor : Cursor)
-    (start : Collection) (items : Nodes) → (s.canonical ≡ true → place.column ≡ None)
-    → is_written_in_flow s place start (has_no_nodes items) ≡ true → NamesStand s.portable own s.canonical directives (sequence_node start items)
-    → BodiesHold (BodyStands s) (sequence_node start items) s directives place cursor
-    → LeafFits (rules_of s own) s directives (sequence_node start items) place cursor
-sequence_fits s own directives fits deep place cursor start items root in_flow names bodies =
+-- a collection fits that is read, and whose lines are so deep
+collection_fits : (s : Effective) (own directives : List TagDirective) → 2 ≤ s.indent → (place : Place) (cursor : Cursor) (start : Collection) (n : Node)
+    → (s.canonical ≡ true → place.column ≡ None) → IsNamed start.anchor → TagStands s.portable own directives (collection_tag s.canonical start)
+    → FlowReads s own directives start cursor (node_own n s directives place cursor) (node_tree n s directives place)
+    → ((count : ℕ) → count ≤ deeper s.indent place.column → (s.canonical ≡ true → count ≤ line_column place.column)
+    → Deep s.breaks12 count (node_own n s directives place cursor).text)
+    → LeafFits (rules_of s own) s directives n place cursor
+collection_fits s own directives deep place cursor start n root named stands reads lines =
     let tag = collection_tag s.canonical start in
-    content_fits (rules_of s own) place cursor (node_own (sequence_node start items) s directives place cursor) start.anchor
-    (tag_written s.portable directives tag false) tag (node_tree (sequence_node start items) s directives place)
-    (sequence_reads s own directives fits place cursor start items in_flow names bodies)
-    (record { named = names.0; tagged = tag_is_written s.portable own directives tag false names.1 })
-    (λ c e.
-    sequence_deep s own directives (suc c) place cursor start items (deep_column s place.column c deep root e).0 (deep_column s place.column c deep root e).1
-    in_flow names bodies)
+    content_fits (rules_of s own) place cursor (node_own n s directives place cursor) start.anchor (tag_written s.portable directives tag false) tag
+    (node_tree n s directives place) reads (record { named = named; tagged = tag_is_written s.portable own directives tag false stands })
+    (λ c e. let column = deep_column s place.column c deep root e in lines (suc c) column.0 column.1)
 
--- and so does each mapping
-pub mapping_fits : (s : Effective) (own directives : List TagDirective) → KeysFit s own directives → 2 ≤ s.indent → (place : Place) (cursor : Cursor)
-    (start : Collection) (pairs : Pairs) → (s.canonical ≡ true → place.column ≡ None)
-    → is_written_in_flow s place start (has_no_pairs pairs) ≡ true → NamesStand s.portable own s.canonical directives (mapping_node start pairs)
-    → BodiesHold (BodyStands s) (mapping_node start pairs) s directives place cursor
-    → LeafFits (rules_of s own) s directives (mapping_node start pairs) place cursor
-mapping_fits s own directives fits deep place cursor start pairs root in_flow names bodies =
-    let tag = collection_tag s.canonical start in
-    content_fits (rules_of s own) place cursor (node_own (mapping_node start pairs) s directives place cursor) start.anchor
-    (tag_written s.portable directives tag false) tag (node_tree (mapping_node start pairs) s directives place)
-    (mapping_reads s own directives fits place cursor start pairs in_flow names bodies)
-    (record { named = names.0; tagged = tag_is_written s.portable own directives tag false names.1 })
-    (λ c e.
-    mapping_deep s own directives (suc c) place cursor start pairs (deep_column s place.column c deep root e).0 (deep_column s place.column c deep root e).1
-    in_flow names bodies)
-
--- so all of them fit
+-- so does each that is written in flow in a block
 pub flows_fit : (s : Effective) (own directives : List TagDirective) → KeysFit s own directives → 2 ≤ s.indent → FlowsFit s own directives
 flows_fit s own directives fits deep (sequence_node start items) role column cursor may in_flow simple stands names bodies =
-    sequence_fits s own directives fits deep (block_place role column) cursor start items may in_flow names bodies
+    let place = block_place role column in
+    collection_fits s own directives deep place cursor start (sequence_node start items) may names.0 names.1
+    (sequence_reads s own directives fits place cursor start items in_flow names bodies)
+    (λ count le ends. sequence_deep s own directives count place cursor start items le ends in_flow names bodies)
 flows_fit s own directives fits deep (mapping_node start pairs) role column cursor may in_flow simple stands names bodies =
-    mapping_fits s own directives fits deep (block_place role column) cursor start pairs may in_flow names bodies
+    let place = block_place role column in
+    collection_fits s own directives deep place cursor start (mapping_node start pairs) may names.0 names.1
+    (mapping_reads s own directives fits place cursor start pairs in_flow names bodies)
+    (λ count le ends. mapping_deep s own directives count place cursor start pairs le ends in_flow names bodies)
 flows_fit s own directives fits deep (alias_node name) role column cursor may in_flow simple stands names bodies = absurd (false≢true in_flow)
 flows_fit s own directives fits deep (scalar_node content) role column cursor may in_flow simple stands names bodies = absurd (false≢true in_flow)

@@ -3,20 +3,21 @@ use Rattle.yaml_base.proofs.Common.{arith, ℕ, if◌then◌else◌, is_some, Op
 use Rattle.yaml_base.proofs.Common.{true≢false, append-nil, append_assoc, ap, sym, ◌∙◌, false≢true, Text, space, Cursor, Rendered, space_if, TagDirective}
 use Rattle.yaml_base.proofs.Common.{Scalar, Collection, scalar_tag, collection_tag, Node, alias_node, scalar_node, Nodes, sequence_node, Pairs, mapping_node}
 use Rattle.yaml_base.proofs.Common.{no_nodes, nodes_and, no_pairs, pairs_and, render_properties, render_alias, render_separation, render_body, choice_of}
-use Rattle.yaml_base.proofs.Common.{square, curly, render_end, entry_place, Role, is_key, deeper, is_simple, Effective, is_plain, Tree, alias_tree}
+use Rattle.yaml_base.proofs.Common.{square, curly, render_end, entry_place, Role, is_key, deeper, is_simple, Effective, is_plain, Tree, alias_tree, and-false}
 use Rattle.yaml_base.proofs.Common.{sequence_tree, mapping_tree, no_trees, no_tree_pairs, is_alias, is_key_text, no_key, key_held, OpenFlow, in_sequence}
-use Rattle.yaml_base.proofs.Common.{in_mapping, at_once, after_blank, entry_awaited, comma_awaited, colon_awaited, within, with_tree, level_opened, Rules}
+use Rattle.yaml_base.proofs.Common.{in_mapping, with_tree, level_opened, Rules}
 use Rattle.yaml_base.proofs.Common.{name_read, begins_bracket, class_of}
-use Rattle.yaml_base.proofs.stream_flow.{StreamPropertyWords.lead, StreamSays.bracket_class, StreamTakes.takes_both, StreamTakes.takes_simple_key}
+use Rattle.yaml_base.proofs.stream_flow.{StreamPropertyWords.lead, StreamTakes.takes_both, StreamTakes.takes_simple_key}
 use Rattle.yaml_base.proofs.stream_flow.StreamWhites.{spaces_end_word, alias_blank}
 use Rattle.yaml_base.proofs.stream_flow.StreamFlowScalars.{rules_of, chosen_in_flow, bare_not_plain, body_flow_word, body_ended, scalar_whole}
-use Rattle.yaml_base.proofs.stream_flow.StreamFlowTakes.{FlowNode, FlowEntries, takes_word, takes_collection, opens_more, FlowEnd, and_false, sequence_ends}
+use Rattle.yaml_base.proofs.stream_flow.StreamFlowTakes.{FlowNode, FlowEntries, takes_word, takes_collection, opens_more, FlowEnd, sequence_ends}
 use Rattle.yaml_base.proofs.stream_flow.StreamFlowTakes.{mapping_ends}
 use Rattle.yaml_base.proofs.stream_flow.StreamFlowWords.{opens_inside, FlowWord, Given, lead_opens, alias_flow_word, empty_sequence_word, empty_mapping_word}
 use Rattle.yaml_base.proofs.stream_nodes.StreamAgrees.{node_tree, nodes_tree, pairs_tree}
 use Rattle.yaml_base.proofs.stream_nodes.StreamLeads.{EndedCollection, lead_rendered, tag_is_written}
 use Rattle.yaml_base.proofs.stream_nodes.StreamStands.{tag_written, tag_meant, NamesStand, BodyStands, body_from, BodiesHold}
 use Rattle.yaml_base.proofs.stream_nodes.StreamTexts.{node_own, items_own, pairs_own}
+use Rattle.yaml_base.proofs.stream_flow.StreamSays.{class_fixed}
 
 -- the space after an alias that is a simple key
 abbrev pub alias_space : Node → Text
@@ -53,27 +54,23 @@ alias_step s own directives fits role column cursor name named false e = record 
       (alias_flow_word (rules_of s own) name named) open_level;
   key = λ h. absurd (false≢true h);
 }
-alias_step s own directives fits role column cursor name named true e = record {
-  content = (0x2A ∷ name) ++ (space ∷ []);
-  whole = whole;
-  ended = record { white = refl; indention = refl };
-  opens = refl;
-  takes = λ h. absurd (true≢false h);
-  key = λ h anchor tag pairs levels.
-      let of = alias_flow_word (rules_of s own) name named in
-      takes_both (rules_of s own) (within (in_mapping anchor tag pairs no_key ∷ levels) entry_awaited)
-      (within (in_mapping anchor tag pairs (key_held (alias_tree name)) ∷ levels) (colon_awaited after_blank))
-      (within (in_mapping anchor tag pairs (key_held (alias_tree name)) ∷ levels) (colon_awaited at_once)) (0x2A ∷ name) (space ∷ [])
-      (takes_simple_key (rules_of s own) anchor tag pairs levels (0x2A ∷ name) (alias_tree name) of.says of.reads
-      (fits (alias_node name) role column cursor (0x2A ∷ name) e named tt (ap (λ x. (render_alias name x cursor).text) e ∙ whole)))
-      (alias_blank (rules_of s own) (in_mapping anchor tag pairs (key_held (alias_tree name)) ∷ levels))
-      (spaces_end_word s.breaks12 1);
-}
-  where
-    whole : (render_alias name true cursor).text ≡ space_if true cursor ++ ((0x2A ∷ name) ++ (space ∷ []))
-    whole =
-        ap (λ t. t ++ (space ∷ [])) (append_assoc (space_if true cursor) (0x2A ∷ []) name)
-        ∙ append_assoc (space_if true cursor) (0x2A ∷ name) (space ∷ [])
+alias_step s own directives fits role column cursor name named true e =
+    let whole : (render_alias name true cursor).text ≡ space_if true cursor ++ ((0x2A ∷ name) ++ (space ∷ [])) =
+    ap (λ t. t ++ (space ∷ [])) (append_assoc (space_if true cursor) (0x2A ∷ []) name)
+    ∙ append_assoc (space_if true cursor) (0x2A ∷ name) (space ∷ []) in
+    record {
+      content = (0x2A ∷ name) ++ (space ∷ []);
+      whole = whole;
+      ended = record { white = refl; indention = refl };
+      opens = refl;
+      takes = λ h. absurd (true≢false h);
+      key = λ h anchor tag pairs levels.
+          let of = alias_flow_word (rules_of s own) name named in
+          takes_both (takes_simple_key (rules_of s own) anchor tag pairs levels (0x2A ∷ name) (alias_tree name) of.says of.reads
+          (fits (alias_node name) role column cursor (0x2A ∷ name) e named tt (ap (λ x. (render_alias name x cursor).text) e ∙ whole)))
+          (alias_blank (rules_of s own) (in_mapping anchor tag pairs (key_held (alias_tree name)) ∷ levels))
+          (spaces_end_word s.breaks12 1);
+    }
 
 -- a scalar
 pub scalar_step : (s : Effective) (own directives : List TagDirective) (fits : KeysFit s own directives) (role : Role) (column : ℕ) (cursor : Cursor)
@@ -136,17 +133,9 @@ collection_node rules simple cursor properties entries ending bracket anchor tag
   takes = λ h levels open_level spaced.
       takes_collection rules levels spaced bracket anchor tag given_tag (of.inside ++ ending.text) (with_tree levels tree) given open_level class
       (opens_more of.inside ending.text of.opens)
-      (takes_both rules (within (level_opened bracket anchor given_tag ∷ levels) entry_awaited) (within (last anchor given_tag ∷ levels) comma_awaited)
-      (with_tree levels tree)
-      of.inside ending.text (of.takes anchor given_tag levels) (end levels).takes (end levels).ends);
+      (takes_both (of.takes anchor given_tag levels) (end levels).takes (end levels).ends);
   key = λ h. absurd (true≢false (sym h ∙ other));
 }
-
--- neither of two that rest on what doesn't hold
-neither_holds : (x y : Bool) → (x && (y && false)) ≡ false
-neither_holds true true = refl
-neither_holds true false = refl
-neither_holds false y = refl
 
 -- the items of a sequence in flow
 abbrev pub ItemsTake : Effective → List TagDirective → List TagDirective → Nodes → ℕ → Cursor → Type 0
@@ -181,7 +170,7 @@ sequence_step s own directives fits role column cursor start no_nodes names bodi
     word_node (rules_of s own) (is_key role && is_simple s.canonical directives (sequence_node start no_nodes)) cursor
     (node_own (sequence_node start no_nodes) s directives (entry_place true role column) cursor) text (sequence_tree start.anchor tag no_trees)
     whole
-    (record { white = refl; indention = and_false (properties.cursor.indention && false) })
+    (record { white = refl; indention = and-false (properties.cursor.indention && false) })
     (empty_sequence_word (rules_of s own) start.anchor (tag_written s.portable directives tag false) tag
     (record { named = names.0; tagged = tag_is_written s.portable own directives tag false names.1 }))
     refl
@@ -195,9 +184,9 @@ sequence_step s own directives fits role column cursor start (nodes_and items la
     (render_end s square true false (Some column) entries.cursor) 0x5B start.anchor (tag_written s.portable directives tag false) tag
     (λ anchor tag. in_sequence anchor tag trees) (sequence_tree start.anchor tag trees)
     (record { named = names.0; tagged = tag_is_written s.portable own directives tag false names.1 })
-    (lead_rendered s.portable directives start.anchor tag false cursor) (bracket_class s.breaks12).0 refl take
+    (lead_rendered s.portable directives start.anchor tag false cursor) (class_fixed s.breaks12 0x5B refl) refl take
     (λ levels. sequence_ends (rules_of s own) s start.anchor tag trees levels (Some column) entries.cursor)
-    (neither_holds (is_key role) (not s.canonical))
+    (ap (λ x. is_key role && x) (and-false (not s.canonical)) ∙ and-false (is_key role))
 
 -- a mapping, where its pairs take
 pub mapping_step : (s : Effective) (own directives : List TagDirective) (fits : KeysFit s own directives) (role : Role) (column : ℕ) (cursor : Cursor)
@@ -218,7 +207,7 @@ mapping_step s own directives fits role column cursor start no_pairs names bodie
     word_node (rules_of s own) (is_key role && is_simple s.canonical directives (mapping_node start no_pairs)) cursor
     (node_own (mapping_node start no_pairs) s directives (entry_place true role column) cursor) text (mapping_tree start.anchor tag no_tree_pairs)
     whole
-    (record { white = refl; indention = and_false (properties.cursor.indention && false) })
+    (record { white = refl; indention = and-false (properties.cursor.indention && false) })
     (empty_mapping_word (rules_of s own) start.anchor (tag_written s.portable directives tag false) tag
     (record { named = names.0; tagged = tag_is_written s.portable own directives tag false names.1 }))
     refl
@@ -233,6 +222,6 @@ mapping_step s own directives fits role column cursor start (pairs_and pairs key
     (render_end s curly true false (Some column) entries.cursor) 0x7B start.anchor (tag_written s.portable directives tag false) tag
     (λ anchor tag. in_mapping anchor tag trees no_key) (mapping_tree start.anchor tag trees)
     (record { named = names.0; tagged = tag_is_written s.portable own directives tag false names.1 })
-    (lead_rendered s.portable directives start.anchor tag false cursor) (bracket_class s.breaks12).1 refl take
+    (lead_rendered s.portable directives start.anchor tag false cursor) (class_fixed s.breaks12 0x7B refl) refl take
     (λ levels. mapping_ends (rules_of s own) s start.anchor tag trees levels (Some column) entries.cursor)
-    (neither_holds (is_key role) (not s.canonical))
+    (ap (λ x. is_key role && x) (and-false (not s.canonical)) ∙ and-false (is_key role))

@@ -3,7 +3,7 @@ use Rattle.yaml_base.proofs.Common.{arith, ℕ, option_map, Option, None, Some, 
 use Rattle.yaml_base.proofs.Common.{append_assoc, ap, sym, ◌∙◌, and_parts, false≢true, list_all, Text, Cursor, Rendered, new_line, space_if, indicator}
 use Rattle.yaml_base.proofs.Common.{TagDirective, Collection, collection_tag, Nodes, sequence_node, Pairs, mapping_node, no_nodes, nodes_and, no_pairs}
 use Rattle.yaml_base.proofs.Common.{pairs_and, render_properties, is_written_in_flow, Brackets, square, curly, render_end, Place, is_undented, line_column}
-use Rattle.yaml_base.proofs.Common.{deeper, entries_column, has_no_nodes, has_no_pairs, Effective, is_read_white, ParsedTag, Tree, sequence_tree, mapping_tree}
+use Rattle.yaml_base.proofs.Common.{deeper, has_no_nodes, has_no_pairs, Effective, is_read_white, ParsedTag, Tree, sequence_tree, mapping_tree, and-false}
 use Rattle.yaml_base.proofs.Common.{no_trees, no_tree_pairs, no_key, OpenFlow, in_sequence, in_mapping, Awaited, collection_awaited, entry_awaited}
 use Rattle.yaml_base.proofs.Common.{comma_awaited, FlowReading, done, within, word_step, level_opened, opened, flow_step, tree_at_end, flow_read}
 use Rattle.yaml_base.proofs.Common.{prepend_to_trimmed, trimmed, kind_of_text, text_by_kind, begins_text, kind_of_node, Rules, Properties, word_after, symbol}
@@ -16,33 +16,16 @@ use Rattle.yaml_base.proofs.stream_nodes.StreamAgrees.{node_tree, nodes_tree, pa
 use Rattle.yaml_base.proofs.stream_nodes.StreamLeads.{EndedCollection, lead_rendered}
 use Rattle.yaml_base.proofs.stream_flow.StreamFlowKinds.{KeysFit, empty_whole, collection_whole, ItemsTake, PairsTake}
 use Rattle.yaml_base.proofs.stream_flow.StreamFlowLines.{keeps_open, keeps_prefix, collection_kind, empty_kind}
-use Rattle.yaml_base.proofs.stream_flow.StreamFlowTakes.{FlowEntries, no_pair, opens_more, and_false}
+use Rattle.yaml_base.proofs.stream_flow.StreamFlowTakes.{FlowEntries, no_pair, opens_more}
 use Rattle.yaml_base.proofs.stream_flow.StreamPasses.{passes_both, takes_text, passes_comma, passes_entry_white, new_line_white}
-use Rattle.yaml_base.proofs.stream_flow.StreamSays.{comma_class, square_class, curly_class, indicator_ends, bracket_class, opens_before}
+use Rattle.yaml_base.proofs.stream_flow.StreamSays.{indicator_ends, opens_before, class_fixed}
 use Rattle.yaml_base.proofs.stream_flow.StreamTakes.{steps, TakesBytes, takes_both, flow_reads}
-use Rattle.yaml_base.proofs.stream_nodes.StreamStands.{tag_written, tag_meant, NamesStand, BodyStands, BodiesHold, ItemsHold}
+use Rattle.yaml_base.proofs.stream_nodes.StreamStands.{tag_written, tag_meant, NamesStand, BodyStands, BodiesHold}
 use Rattle.yaml_base.proofs.stream_nodes.StreamTexts.{collection_own, node_own, items_own, pairs_own}
-
--- the text of a collection in flow: a space where one is needed, its properties, and from a bracket to a bracket what is
--- read as its tree
-pub record FlowContent (rules : Rules) (cursor : Cursor) (own : Rendered) (anchor tag given_tag : Option Text) (tree : Tree) : Type 0 where
-  pub bracket : ℕ
-  pub inside : Text
-  pub closing : ℕ
-  pub begins : class_of rules.breaks12 bracket ≡ begins_bracket
-  pub closes : class_of rules.breaks12 closing ≡ is_flow_indicator
-  pub kind : (rest : Text) → kind_of_text (bracket ∷ rest) ≡ flow_text
-  pub shown : is_read_white rules.breaks12 closing ≡ false
-  pub one_line : OneLine rules.breaks12 (bracket ∷ [])
-  pub content : begins_content (bracket ∷ []) ≡ true
-  pub line : (before_anchor before_tag : Option Text) (parsed : Option ParsedTag) → Given rules before_anchor before_tag parsed → (first more : Text)
-      → inside ++ (closing ∷ []) ≡ first ++ more → kind_of_node rules (lead before_anchor before_tag ++ (bracket ∷ first)) ≡ begins_text
-  pub whole : own.text ≡ space_if true cursor ++ (lead anchor tag ++ ((bracket ∷ inside) ++ (closing ∷ [])))
-  pub ended : EndedCollection own.cursor
-  pub reads : flow_read rules (record { anchor = anchor; tag = tag_meant given_tag false }) ((bracket ∷ inside) ++ (closing ∷ [])) ≡ Some tree
+use Rattle.yaml_base.proofs.stream_lines.StreamLineLaws.{unbroken_line, break_line}
 
 -- a bracket that begins a collection in flow and one that ends it
-record AreBrackets (rules : Rules) (bracket closing : ℕ) : Type 0 where
+pub record AreBrackets (rules : Rules) (bracket closing : ℕ) : Type 0 where
   pub begins : class_of rules.breaks12 bracket ≡ begins_bracket
   pub closes : class_of rules.breaks12 closing ≡ is_flow_indicator
   pub kind : (rest : Text) → kind_of_text (bracket ∷ rest) ≡ flow_text
@@ -54,24 +37,27 @@ record AreBrackets (rules : Rules) (bracket closing : ℕ) : Type 0 where
   pub empty : (anchor tag : Option Text) (parsed : Option ParsedTag) → Given rules anchor tag parsed
       → kind_of_node rules (lead anchor tag ++ (bracket ∷ closing ∷ [])) ≡ begins_text
 
--- a bracket that closes isn't white
-indicator_shown : (breaks12 : Bool) → (is_read_white breaks12 0x5D ≡ false) × (is_read_white breaks12 0x7D ≡ false)
-indicator_shown true = (refl, refl)
-indicator_shown false = (refl, refl)
-
--- one that opens breaks no line
-bracket_line : (breaks12 : Bool) → OneLine breaks12 (0x5B ∷ []) × OneLine breaks12 (0x7B ∷ [])
-bracket_line true = (refl, refl)
-bracket_line false = (refl, refl)
+-- the text of a collection in flow: a space where one is needed, its properties, and from a bracket to a bracket what is
+-- read as its tree
+pub record FlowContent (rules : Rules) (cursor : Cursor) (own : Rendered) (anchor tag given_tag : Option Text) (tree : Tree) : Type 0 where
+  pub bracket : ℕ
+  pub inside : Text
+  pub closing : ℕ
+  pub brackets : AreBrackets rules bracket closing
+  pub line : (before_anchor before_tag : Option Text) (parsed : Option ParsedTag) → Given rules before_anchor before_tag parsed → (first more : Text)
+      → inside ++ (closing ∷ []) ≡ first ++ more → kind_of_node rules (lead before_anchor before_tag ++ (bracket ∷ first)) ≡ begins_text
+  pub whole : own.text ≡ space_if true cursor ++ (lead anchor tag ++ ((bracket ∷ inside) ++ (closing ∷ [])))
+  pub ended : EndedCollection own.cursor
+  pub reads : flow_read rules (record { anchor = anchor; tag = tag_meant given_tag false }) ((bracket ∷ inside) ++ (closing ∷ [])) ≡ Some tree
 
 -- the brackets of sequences
 square_brackets : (rules : Rules) → AreBrackets rules 0x5B 0x5D
 square_brackets rules = record {
-  begins = (bracket_class rules.breaks12).0;
-  closes = square_class rules.breaks12;
+  begins = class_fixed rules.breaks12 0x5B refl;
+  closes = class_fixed rules.breaks12 0x5D refl;
   kind = λ rest. refl;
-  shown = (indicator_shown rules.breaks12).0;
-  one_line = (bracket_line rules.breaks12).0;
+  shown = break_line rules.breaks12 0x5D refl;
+  one_line = unbroken_line rules.breaks12 (0x5B ∷ []) refl;
   content = refl;
   line = λ anchor tag parsed first given h. collection_kind rules anchor tag parsed true first given h;
   empty = λ anchor tag parsed given. (empty_kind rules anchor tag parsed given).0;
@@ -80,11 +66,11 @@ square_brackets rules = record {
 -- and those of mappings
 curly_brackets : (rules : Rules) → AreBrackets rules 0x7B 0x7D
 curly_brackets rules = record {
-  begins = (bracket_class rules.breaks12).1;
-  closes = curly_class rules.breaks12;
+  begins = class_fixed rules.breaks12 0x7B refl;
+  closes = class_fixed rules.breaks12 0x7D refl;
   kind = λ rest. refl;
-  shown = (indicator_shown rules.breaks12).1;
-  one_line = (bracket_line rules.breaks12).1;
+  shown = break_line rules.breaks12 0x7D refl;
+  one_line = unbroken_line rules.breaks12 (0x7B ∷ []) refl;
   content = refl;
   line = λ anchor tag parsed first given h. collection_kind rules anchor tag parsed false first given h;
   empty = λ anchor tag parsed given. (empty_kind rules anchor tag parsed given).1;
@@ -117,29 +103,23 @@ empty_content : (rules : Rules) (cursor : Cursor) (properties own : Rendered) (a
     → AreBrackets rules b c → is_pair b c ≡ true
     → word_after rules true None (record { anchor = anchor; tag = tag_meant given_tag false }) (b ∷ c ∷ []) ≡ Some tree
     → FlowContent rules cursor own anchor tag given_tag tree
-empty_content rules cursor properties own anchor tag given_tag b c tree e text ended brackets pair read = record {
-  bracket = b;
-  inside = [];
-  closing = c;
-  begins = brackets.begins;
-  closes = brackets.closes;
-  kind = brackets.kind;
-  shown = brackets.shown;
-  one_line = brackets.one_line;
-  content = brackets.content;
-  line = empty_line rules b c brackets;
-  whole = text ∙ empty_whole properties cursor (lead anchor tag) b c e;
-  ended = ended;
-  reads =
-      ap (λ k. (let here : FlowStep = begun k [] b in tree_at_end (steps rules from
-      (here.tokens ++ flow_tokens rules.breaks12 here.place (c ∷ []))))) brackets.begins
-      ∙ ap (λ x. (let here : FlowStep = bracket_step x (class_of rules.breaks12 c) [] b c in tree_at_end
-      (steps rules from (here.tokens ++ flow_tokens rules.breaks12 here.place [])))) pair
-      ∙ ap (λ r. tree_at_end (word_step rules.breaks12 [] (b ∷ c ∷ []) r)) read;
-}
-  where
-    from : FlowReading
-    from = within [] (collection_awaited (record { anchor = anchor; tag = tag_meant given_tag false }))
+empty_content rules cursor properties own anchor tag given_tag b c tree e text ended brackets pair read =
+    let from : FlowReading = within [] (collection_awaited (record { anchor = anchor; tag = tag_meant given_tag false })) in
+    record {
+      bracket = b;
+      inside = [];
+      closing = c;
+      brackets = brackets;
+      line = empty_line rules b c brackets;
+      whole = text ∙ empty_whole properties cursor (lead anchor tag) b c e;
+      ended = ended;
+      reads =
+          ap (λ k. (let here : FlowStep = begun k [] b in tree_at_end (steps rules from
+          (here.tokens ++ flow_tokens rules.breaks12 here.place (c ∷ []))))) brackets.begins
+          ∙ ap (λ x. (let here : FlowStep = bracket_step x (class_of rules.breaks12 c) [] b c in tree_at_end
+          (steps rules from (here.tokens ++ flow_tokens rules.breaks12 here.place [])))) pair
+          ∙ ap (λ r. tree_at_end (word_step rules.breaks12 [] (b ∷ c ∷ []) r)) read;
+    }
 
 -- Others
 
@@ -183,21 +163,19 @@ closing_rendered rules s level brackets closing tree column cursor e at_once_don
       ended = record { white = refl; indention = refl };
       awaited = entry_awaited;
       goes = λ from text takes.
-          let passed = passes_both rules (within (level ∷ []) comma_awaited) (within (level ∷ []) entry_awaited) (within (level ∷ []) entry_awaited)
-          (0x2C ∷ []) line
-          (passes_comma rules (level ∷ []))
+          let passed = passes_both (passes_comma rules (level ∷ []))
           (passes_entry_white rules (level ∷ []) line (new_line_white (line_column column) (indicator (codes ",") false false false cursor).cursor)) in
-          takes_both rules from (within (level ∷ []) comma_awaited) (within (level ∷ []) entry_awaited) text (0x2C ∷ line) takes
+          takes_both takes
           (record { takes = λ rest h. passed.passes rest })
-          (indicator_ends rules.breaks12 0x2C line (comma_class rules.breaks12));
+          (indicator_ends rules.breaks12 0x2C line (class_fixed rules.breaks12 0x2C refl));
       closes = after_comma;
     }
     by false = record {
       before = [];
       whole = e;
-      ended = record { white = refl; indention = and_false cursor.indention };
+      ended = record { white = refl; indention = and-false cursor.indention };
       awaited = comma_awaited;
-      goes = λ from text takes. takes_text rules from (within (level ∷ []) comma_awaited) (text ++ []) text (append-nil text) takes;
+      goes = λ from text takes. takes_text (append-nil text) takes;
       closes = at_once_done;
     }
 
@@ -216,12 +194,7 @@ whole_content rules cursor properties entries ending bracket closing anchor tag 
   bracket = bracket;
   inside = of.inside ++ end.before;
   closing = closing;
-  begins = brackets.begins;
-  closes = brackets.closes;
-  kind = brackets.kind;
-  shown = brackets.shown;
-  one_line = brackets.one_line;
-  content = brackets.content;
+  brackets = brackets;
   line = λ before_anchor before_tag parsed given first more same.
       brackets.line before_anchor before_tag parsed first given
       (keeps_prefix first more
@@ -273,8 +246,8 @@ pub content_read : (rules : Rules) (cursor : Cursor) (own : Rendered) (anchor ta
     ((of.bracket ∷ of.inside) ++ (of.closing ∷ white)) ≡ Some tree
 content_read rules cursor own anchor tag given_tag tree of column begun white h =
     let properties : Properties = record { anchor = anchor; tag = tag_meant given_tag false } in
-    ap (λ k. text_by_kind k rules column properties ((of.bracket ∷ of.inside) ++ (of.closing ∷ white))) (of.kind begun)
-    ∙ ap (flow_read rules properties) (shown_trimmed rules.breaks12 (of.bracket ∷ of.inside) of.closing white of.shown h)
+    ap (λ k. text_by_kind k rules column properties ((of.bracket ∷ of.inside) ++ (of.closing ∷ white))) (of.brackets.kind begun)
+    ∙ ap (flow_read rules properties) (shown_trimmed rules.breaks12 (of.bracket ∷ of.inside) of.closing white of.brackets.shown h)
     ∙ of.reads
 
 -- Nodes
@@ -298,7 +271,7 @@ sequence_content s own directives column undented cursor start no_nodes take =
     empty_content (rules_of s own) cursor properties (collection_own s square true undented true column properties (items_own no_nodes s directives true))
     start.anchor (tag_written s.portable directives tag false) tag 0x5B 0x5D (sequence_tree start.anchor tag no_trees)
     (lead_rendered s.portable directives start.anchor tag false cursor) refl
-    (record { white = refl; indention = and_false (properties.cursor.indention && false) })
+    (record { white = refl; indention = and-false (properties.cursor.indention && false) })
     (square_brackets (rules_of s own)) refl
     (ap (option_map (λ tag. sequence_tree start.anchor tag no_trees)) (tag_of_collection tag))
 sequence_content s own directives column undented cursor start (nodes_and items last) take =
@@ -324,7 +297,7 @@ mapping_content s own directives column cursor start no_pairs take =
     empty_content (rules_of s own) cursor properties (collection_own s curly true false true column properties (pairs_own no_pairs s directives true))
     start.anchor (tag_written s.portable directives tag false) tag 0x7B 0x7D (mapping_tree start.anchor tag no_tree_pairs)
     (lead_rendered s.portable directives start.anchor tag false cursor) refl
-    (record { white = refl; indention = and_false (properties.cursor.indention && false) })
+    (record { white = refl; indention = and-false (properties.cursor.indention && false) })
     (curly_brackets (rules_of s own)) refl
     (ap (option_map (λ tag. mapping_tree start.anchor tag no_tree_pairs)) (tag_of_collection tag))
 mapping_content s own directives column cursor start (pairs_and pairs key value) take =
@@ -346,20 +319,10 @@ pub sequence_reads : (s : Effective) (own directives : List TagDirective) → Ke
     → FlowReads s own directives start cursor (node_own (sequence_node start items) s directives place cursor)
     (node_tree (sequence_node start items) s directives place)
 sequence_reads s own directives fits place cursor start items in_flow names bodies =
-    by (is_written_in_flow s place start (has_no_nodes items)) in_flow bodies
-  where
-    begun : Rendered
-    begun = render_properties s.portable directives start.anchor (collection_tag s.canonical start) false cursor
-
-    by : (x : Bool) → x ≡ true
-        → ItemsHold (BodyStands s) items s directives x (entries_column x (is_undented s place.role) s.indent place.column begun.cursor) begun.cursor
-        → FlowReads s own directives start cursor (collection_own s square x (is_undented s place.role) (has_no_nodes items) place.column begun
-        (items_own items s directives x))
-        (sequence_tree start.anchor (collection_tag s.canonical start) (nodes_tree items s directives x))
-    by false h hold = absurd (false≢true h)
-    by true h hold =
-        sequence_content s own directives place.column (is_undented s place.role) cursor start items
-        (items_flow items s own directives fits (deeper s.indent place.column) begun.cursor names.2 hold)
+    let begun = render_properties s.portable directives start.anchor (collection_tag s.canonical start) false cursor in
+    rw in_flow
+    (sequence_content s own directives place.column (is_undented s place.role) cursor start items
+    (items_flow items s own directives fits (deeper s.indent place.column) begun.cursor names.2 (rw in_flow at bodies)))
 
 -- and so is a mapping
 pub mapping_reads : (s : Effective) (own directives : List TagDirective) → KeysFit s own directives → (place : Place) (cursor : Cursor) (start : Collection)

@@ -2,13 +2,14 @@
 use Rattle.yaml_base.proofs.Common.{nat_tests, arith, ℕ, is_some, Option, None, Some, Bool, false, not, true, ◌&&◌, ◌||◌, List, [], ◌++◌, ◌∷◌, refl, ◌≡◌}
 use Rattle.yaml_base.proofs.Common.{true≢false, append_assoc, and_parts, false≢true, Text, Cursor, Rendered, space_if, ScalarStyle, any_style, plain}
 use Rattle.yaml_base.proofs.Common.{single_quoted, double_quoted, literal, folded, TagDirective, Scalar, scalar_tag, render_properties, render_separation}
-use Rattle.yaml_base.proofs.Common.{render_body, charset_of, choice_of, entry_place, Role, read_in_style, Effective, read_plain, is_tidy, Allowances, is_empty}
+use Rattle.yaml_base.proofs.Common.{render_body, charset_of, style_asked_at, choice_of, entry_place, Role, read_in_style, Effective, read_plain, is_tidy}
+use Rattle.yaml_base.proofs.Common.{Allowances, is_empty, and-false}
 use Rattle.yaml_base.proofs.Common.{allowances, double_inside, render_quote, runs, render_runs, quotes_doubled, single_quote, is_plain, requested_style}
 use Rattle.yaml_base.proofs.Common.{quoted_style, fitting_style, fits_plain, Rules}
-use Rattle.yaml_base.proofs.{stream_flow.StreamFlowTakes.and_false, stream_flow.StreamPropertyWords.lead, stream_lines.StreamCuts.none_not_some}
+use Rattle.yaml_base.proofs.{stream_flow.StreamPropertyWords.lead, stream_lines.StreamCuts.none_not_some}
 use Rattle.yaml_base.proofs.stream_nodes.StreamLeads.{EndedCollection, lead_rendered}
 use Rattle.yaml_base.proofs.stream_nodes.StreamStands.{tag_written, tag_meant}
-use Rattle.yaml_base.proofs.stream_flow.StreamFlowWords.{FlowWord, Given, scalar_in, double_flow_word, single_flow_word, plain_flow_word}
+use Rattle.yaml_base.proofs.stream_flow.StreamFlowWords.{FlowWord, Given, scalar_in, quoted_flow_word, plain_flow_word}
 
 -- by what a document of the layout is read
 abbrev pub rules_of : Effective → List TagDirective → Rules
@@ -35,7 +36,7 @@ chosen_in_flow s role column simple content =
     let allowed = allowances (charset_of s) content.value in
     style_in_flow allowed
     (fits_plain allowed (is_empty content.value) (is_some (scalar_tag s.canonical content)) content.plain_implicit true simple) simple
-    (requested_style (s.canonical || (simple && allowed.multiline)) content.style)
+    (requested_style (s.canonical || (simple && allowed.multiline)) (style_asked_at s (entry_place true role column) content))
 
 -- the bare tag stands before no plain scalar
 pub bare_not_plain : (tag quoted plain_style : Bool) → (not tag && not quoted && not plain_style) ≡ true → plain_style ≡ false
@@ -63,10 +64,10 @@ body_flow_word s own anchor tag given_tag plain true limit indent column value c
 body_flow_word s own anchor tag given_tag plain false limit indent column value cursor given flow h tidy read =
     plain_case s own anchor tag given_tag column (render_body plain s limit indent value cursor).text value given tidy read
 body_flow_word s own anchor tag given_tag single_quoted bare limit indent column value cursor given flow h tidy read =
-    single_flow_word (rules_of s own) anchor tag given_tag bare (Some column)
+    quoted_flow_word (rules_of s own) false anchor tag given_tag bare (Some column)
     ((render_runs quotes_doubled limit indent true (runs value) (single_quote cursor).cursor).text ++ (0x27 ∷ [])) value given tidy read
 body_flow_word s own anchor tag given_tag double_quoted bare limit indent column value cursor given flow h tidy read =
-    double_flow_word (rules_of s own) anchor tag given_tag bare (Some column)
+    quoted_flow_word (rules_of s own) true anchor tag given_tag bare (Some column)
     ((double_inside s.unicode limit indent None value (render_quote cursor).cursor).text ++ (0x22 ∷ [])) value given tidy read
 body_flow_word s own anchor tag given_tag any_style bare limit indent column value cursor given flow h tidy read = absurd (none_not_some read)
 body_flow_word s own anchor tag given_tag literal bare limit indent column value cursor given flow h tidy read = absurd (false≢true flow)
@@ -75,7 +76,7 @@ body_flow_word s own anchor tag given_tag folded bare limit indent column value 
 -- after such a body white space has ended
 pub body_ended : (s : Effective) (style : ScalarStyle) (limit : Option ℕ) (indent : ℕ) (value : Text) (cursor : Cursor) → is_flow_style style ≡ true
     → EndedCollection (render_body style s limit indent value cursor).cursor
-body_ended s style limit indent value cursor h = grind (arith, nat_tests, and_false, false≢true)
+body_ended s style limit indent value cursor h = grind (arith, nat_tests, and-false, false≢true)
 
 -- in flow a space stands before each body, where none stands there
 pub separation_in_flow : (style : ScalarStyle) (value : Text) (cursor : Cursor) → (render_separation style true value cursor).text ≡ space_if true cursor

@@ -1,16 +1,16 @@
 -- What a node in flow, and the entries of a collection in flow, are to the reader of flow collections.
-use Rattle.yaml_base.proofs.Common.{nat_tests, arith, ℕ, ◌+◌, if◌then◌else◌, Option, codes, length, Bool, false, true, ◌&&◌, List, [], ◌++◌, ◌∷◌, refl, ◌≡◌}
+use Rattle.yaml_base.proofs.Common.{nat_tests, arith, ℕ, ◌+◌, if◌then◌else◌, Option, codes, length, Bool, false, true, List, [], ◌++◌, ◌∷◌, refl, ◌≡◌}
 use Rattle.yaml_base.proofs.Common.{eqb-true, append-nil, append_assoc, ap, sym, ◌∙◌, and_parts, false≢true, Text, Cursor, Rendered, new_line, space_if}
 use Rattle.yaml_base.proofs.Common.{indicator, Brackets, square, curly, render_end, line_column, Effective, ParsedTag, Tree, Trees, sequence_tree, TreePairs}
-use Rattle.yaml_base.proofs.Common.{mapping_tree, no_key, key_due, key_held, OpenFlow, in_sequence, in_mapping, at_once, Awaited, entry_awaited, node_awaited}
+use Rattle.yaml_base.proofs.Common.{mapping_tree, no_key, key_held, OpenFlow, in_sequence, in_mapping, at_once, Awaited, entry_awaited, node_awaited}
 use Rattle.yaml_base.proofs.Common.{comma_awaited, colon_awaited, FlowReading, within, with_tree, level_opened, ends_indicator, spaces, Rules, properties_read}
-use Rattle.yaml_base.proofs.Common.{opens, symbol, free, begins_bracket, class_of, is_pair, flow_tokens}
+use Rattle.yaml_base.proofs.Common.{opens, symbol, free, begins_bracket, class_of, is_pair, flow_tokens, and-false}
 use Rattle.yaml_base.proofs.{stream_flow.StreamPlainWords.ends_word, stream_lines.StreamInside.blank_spaces, stream_nodes.StreamStands.tag_meant}
 use Rattle.yaml_base.proofs.stream_flow.StreamPropertyWords.{lead, opens_after}
 use Rattle.yaml_base.proofs.stream_nodes.StreamLeads.{EndedCollection, lead_spaces, lead_then}
 use Rattle.yaml_base.proofs.stream_flow.StreamFlowWords.{opens_inside, FlowWord, Given, given_leads, tag_of_collection}
 use Rattle.yaml_base.proofs.stream_flow.StreamPasses.{passes_both, passes_then, takes_text, passes_comma, is_white_text, passes_entry_white, new_line_white}
-use Rattle.yaml_base.proofs.stream_flow.StreamSays.{EndsWord, says_indicator, comma_class, square_class, curly_class, indicator_ends}
+use Rattle.yaml_base.proofs.stream_flow.StreamSays.{EndsWord, says_indicator, indicator_ends, class_fixed}
 use Rattle.yaml_base.proofs.stream_flow.StreamTakes.{steps, TakesBytes, takes_to, takes_sequence_end, takes_mapping_end}
 use Rattle.yaml_base.proofs.stream_nodes.StreamProperties.{properties_text, has_properties, read_as, properties_parsed}
 use Rattle.yaml_base.specs.streams.StreamFlow.{with_word, may_open, opened_with}
@@ -123,10 +123,6 @@ pub record FlowEnd (rules : Rules) (ending : Rendered) (levels : List OpenFlow) 
   pub ends : EndsWord rules.breaks12 ending.text
   pub takes : TakesBytes rules (within levels comma_awaited) ending.text to
 
-pub and_false : (x : Bool) → (x && false) ≡ false
-and_false true = refl
-and_false false = refl
-
 -- a bracket that closes, after the last entry or after a comma and white space
 closes : (rules : Rules) (s : Effective) (levels : List OpenFlow) (to : FlowReading) (brackets : Brackets) (bracket : ℕ) (column : Option ℕ) (cursor : Cursor)
     → brackets.closing ≡ bracket ∷ [] → EndsWord rules.breaks12 (bracket ∷ [])
@@ -140,20 +136,17 @@ closes rules s levels to brackets bracket column cursor e ends at_once_taken aft
     by : (canonical : Bool) → FlowEnd rules (render_end (record s { canonical = canonical }) brackets true false column cursor) levels to
     by true = record {
       ended = record { white = refl; indention = refl };
-      ends = λ rest h. indicator_ends rules.breaks12 0x2C (line ++ brackets.closing) (comma_class rules.breaks12) rest h;
+      ends = λ rest h. indicator_ends rules.breaks12 0x2C (line ++ brackets.closing) (class_fixed rules.breaks12 0x2C refl) rest h;
       takes =
-          takes_text rules (within levels comma_awaited) to ((0x2C ∷ line) ++ brackets.closing) ((0x2C ∷ line) ++ (bracket ∷ []))
-          (ap (λ t. (0x2C ∷ line) ++ t) e)
-          (passes_then rules (within levels comma_awaited) (within levels entry_awaited) to (0x2C ∷ line) (bracket ∷ [])
-          (passes_both rules (within levels comma_awaited) (within levels entry_awaited) (within levels entry_awaited) (0x2C ∷ []) line
-          (passes_comma rules levels)
+          takes_text (ap (λ t. (0x2C ∷ line) ++ t) e)
+          (passes_then (passes_both (passes_comma rules levels)
           (passes_entry_white rules levels line (new_line_white (line_column column) (indicator (codes ",") false false false cursor).cursor)))
           after_comma);
     }
     by false = record {
-      ended = record { white = refl; indention = and_false cursor.indention };
+      ended = record { white = refl; indention = and-false cursor.indention };
       ends = λ rest h. ap (λ t. ends_word rules.breaks12 (t ++ rest)) e ∙ ends rest h;
-      takes = takes_text rules (within levels comma_awaited) to brackets.closing (bracket ∷ []) e at_once_taken;
+      takes = takes_text e at_once_taken;
     }
 
 -- a sequence that holds something ends
@@ -161,10 +154,10 @@ pub sequence_ends : (rules : Rules) (s : Effective) (anchor tag : Option Text) (
     → FlowEnd rules (render_end s square true false column cursor) (in_sequence anchor tag items ∷ levels) (with_tree levels (sequence_tree anchor tag items))
 sequence_ends rules s anchor tag items levels column cursor =
     closes rules s (in_sequence anchor tag items ∷ levels) (with_tree levels (sequence_tree anchor tag items)) square 0x5D column cursor refl
-    (indicator_ends rules.breaks12 0x5D [] (square_class rules.breaks12))
+    (indicator_ends rules.breaks12 0x5D [] (class_fixed rules.breaks12 0x5D refl))
     (takes_sequence_end rules anchor tag items levels)
     (takes_to rules (within (in_sequence anchor tag items ∷ levels) entry_awaited) (with_tree levels (sequence_tree anchor tag items))
-    (0x5D ∷ []) (symbol 0x5D ∷ []) (says_indicator rules.breaks12 0x5D (square_class rules.breaks12)) refl)
+    (0x5D ∷ []) (symbol 0x5D ∷ []) (says_indicator rules.breaks12 0x5D (class_fixed rules.breaks12 0x5D refl)) refl)
 
 -- and a mapping
 pub mapping_ends : (rules : Rules) (s : Effective) (anchor tag : Option Text) (pairs : TreePairs) (levels : List OpenFlow) (column : Option ℕ) (cursor : Cursor)
@@ -172,7 +165,7 @@ pub mapping_ends : (rules : Rules) (s : Effective) (anchor tag : Option Text) (p
     (with_tree levels (mapping_tree anchor tag pairs))
 mapping_ends rules s anchor tag pairs levels column cursor =
     closes rules s (in_mapping anchor tag pairs no_key ∷ levels) (with_tree levels (mapping_tree anchor tag pairs)) curly 0x7D column cursor refl
-    (indicator_ends rules.breaks12 0x7D [] (curly_class rules.breaks12))
+    (indicator_ends rules.breaks12 0x7D [] (class_fixed rules.breaks12 0x7D refl))
     (takes_mapping_end rules anchor tag pairs levels)
     (takes_to rules (within (in_mapping anchor tag pairs no_key ∷ levels) entry_awaited) (with_tree levels (mapping_tree anchor tag pairs))
-    (0x7D ∷ []) (symbol 0x7D ∷ []) (says_indicator rules.breaks12 0x7D (curly_class rules.breaks12)) refl)
+    (0x7D ∷ []) (symbol 0x7D ∷ []) (says_indicator rules.breaks12 0x7D (class_fixed rules.breaks12 0x7D refl)) refl)

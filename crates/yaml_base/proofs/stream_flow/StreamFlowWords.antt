@@ -1,16 +1,17 @@
 -- A node's own word in flow, with its anchor and tag: it is one word among the tokens, and reads as the node's tree.
 use Rattle.yaml_base.proofs.Common.{ℕ, if◌then◌else◌, ◌==◌, option_map, Option, None, Some, codes, Bool, false, not, true, ◌&&◌, [], ◌++◌, ◌∷◌, refl, ◌≡◌}
-use Rattle.yaml_base.proofs.Common.{true≢false, ap, ◌∙◌, arith, and_parts, or_parts, false≢true, nat_tests, list_all, Text, is_among, space, is_alpha}
-use Rattle.yaml_base.proofs.Common.{ScalarStyle, any_style, plain, single_quoted, double_quoted, literal, folded, read_double, is_read_white, holds_no_plain}
-use Rattle.yaml_base.proofs.Common.{read_plain, read_single, ParsedTag, has_clean_edges, is_tidy, is_plain, Tree, alias_tree, scalar_tree, sequence_tree}
+use Rattle.yaml_base.proofs.Common.{true≢false, ap, ◌∙◌, arith, and_parts, or_parts, false≢true, nat_tests, list_all, Text, is_among, is_alpha}
+use Rattle.yaml_base.proofs.Common.{ScalarStyle, plain, is_read_white, holds_no_plain, Properties}
+use Rattle.yaml_base.proofs.Common.{read_plain, ParsedTag, has_clean_edges, is_tidy, is_plain, Tree, alias_tree, scalar_tree, sequence_tree}
 use Rattle.yaml_base.proofs.Common.{mapping_tree, no_trees, no_tree_pairs, Rules, name_read, collection_tag_parsed, tagging_parsed, standing_of, scalar_parsed}
 use Rattle.yaml_base.proofs.Common.{scalar_of_style, a_scalar, kind_of_word, word_by_kind, word_after, word_read, word, FlowStep, begins_plain, class_of, begun}
 use Rattle.yaml_base.proofs.Common.{flow_tokens}
-use Rattle.yaml_base.proofs.{stream_keys.StreamAliasKeys.alias_word, stream_lines.StreamCuts.none_not_some, stream_lines.StreamTidyLaws.tidy_at_root}
+use Rattle.yaml_base.proofs.{stream_keys.StreamAliasKeys.alias_word, stream_lines.StreamTidyLaws.tidy_at_root}
 use Rattle.yaml_base.proofs.{stream_nodes.StreamAgrees.tagging_in, stream_nodes.StreamLeads.lead_then, stream_nodes.StreamStands.tag_meant}
-use Rattle.yaml_base.proofs.stream_flow.StreamSays.{Says, bracket_class}
+use Rattle.yaml_base.proofs.stream_lines.StreamCuts.{none_not_some, quote_of, quoted_in, read_quoted}
+use Rattle.yaml_base.proofs.stream_flow.StreamSays.{Says, class_fixed}
 use Rattle.yaml_base.proofs.stream_flow.StreamPlainWords.{stays_plain, is_white_class, all_stay, ends_shown, plain_text_word}
-use Rattle.yaml_base.proofs.stream_flow.StreamPropertyWords.{lead, lead_passes, Leads, says_double_after, says_single_after, says_plain_after, says_empty_after}
+use Rattle.yaml_base.proofs.stream_flow.StreamPropertyWords.{lead, lead_passes, Leads, says_quoted_after, says_plain_after, says_empty_after}
 use Rattle.yaml_base.proofs.stream_keys.StreamPlainKeys.{not_among, Begins, begins, plain_kind, plain_style, reads_plain, tidy_begins}
 use Rattle.yaml_base.proofs.stream_nodes.StreamProperties.{IsTagged, IsNamed, begins_content, name_letters, word_with_properties}
 
@@ -66,40 +67,36 @@ pub scalar_meant : (rules : Rules) (flow : Bool) (anchor tag : Option Text) (sty
 scalar_meant rules flow anchor tag style bare column text v value h tidy read = grind (arith, tagging_meant)
 
 -- a text in quotes is a scalar
-pub double_kind : (t : Text) → kind_of_word (0x22 ∷ t) ≡ a_scalar
-double_kind t = grind (arith, nat_tests)
+pub quoted_kind : (double : Bool) (t : Text) → kind_of_word (quote_of double ∷ t) ≡ a_scalar
+quoted_kind double t = grind (arith, nat_tests)
 
-pub single_kind : (t : Text) → kind_of_word (0x27 ∷ t) ≡ a_scalar
-single_kind t = grind (arith, nat_tests)
+-- it is read so
+pub quoted_after : (rules : Rules) (flow double : Bool) (column : Option ℕ) (properties : Properties) (t v : Text)
+    → is_tidy (quoted_in double) rules.breaks12 column (quote_of double ∷ t) ≡ true → read_quoted double rules.breaks12 (quote_of double ∷ t) ≡ Some v
+    → word_after rules flow column properties (quote_of double ∷ t) ≡ scalar_parsed properties (standing_of (quoted_in double)) (Some v)
+quoted_after rules flow double column properties t v tidy read = grind (arith, nat_tests, quoted_kind)
 
--- one in double quotes
-pub double_flow_word : (rules : Rules) (anchor tag given_tag : Option Text) (bare : Bool) (column : Option ℕ) (t v : Text)
-    → Given rules anchor tag (tag_meant given_tag bare) → is_tidy double_quoted rules.breaks12 column (0x22 ∷ t) ≡ true
-    → read_double rules.breaks12 (0x22 ∷ t) ≡ Some v
-    → FlowWord rules (lead anchor tag ++ (0x22 ∷ t)) (scalar_in anchor given_tag double_quoted bare v)
-double_flow_word rules anchor tag given_tag bare column t v given tidy read = record {
-  says = says_double_after rules.breaks12 (lead anchor tag) t v (given_leads rules anchor tag (tag_meant given_tag bare) given) read;
+-- also with its anchor and tag
+pub quoted_read : (rules : Rules) (flow double : Bool) (anchor tag : Option Text) (bare : Bool) (column : Option ℕ) (t v : Text)
+    → is_tidy (quoted_in double) rules.breaks12 column (quote_of double ∷ t) ≡ true → read_quoted double rules.breaks12 (quote_of double ∷ t) ≡ Some v
+    → word_after rules flow None (record { anchor = anchor; tag = tag_meant tag bare }) (quote_of double ∷ t)
+    ≡ Some (scalar_in anchor tag (quoted_in double) bare v)
+quoted_read rules flow double anchor tag bare column t v tidy read =
+    quoted_after rules flow double None (record { anchor = anchor; tag = tag_meant tag bare }) t v
+    (tidy_at_root (quoted_in double) rules.breaks12 column (quote_of double ∷ t) tidy) read
+    ∙ ap (option_map (λ tagging. scalar_tree anchor tagging v)) (tagging_meant tag (quoted_in double) bare (λ h. grind (arith)))
+
+-- so it is a word
+pub quoted_flow_word : (rules : Rules) (double : Bool) (anchor tag given_tag : Option Text) (bare : Bool) (column : Option ℕ) (t v : Text)
+    → Given rules anchor tag (tag_meant given_tag bare) → is_tidy (quoted_in double) rules.breaks12 column (quote_of double ∷ t) ≡ true
+    → read_quoted double rules.breaks12 (quote_of double ∷ t) ≡ Some v
+    → FlowWord rules (lead anchor tag ++ (quote_of double ∷ t)) (scalar_in anchor given_tag (quoted_in double) bare v)
+quoted_flow_word rules double anchor tag given_tag bare column t v given tidy read = record {
+  says = says_quoted_after double rules.breaks12 (lead anchor tag) t v (given_leads rules anchor tag (tag_meant given_tag bare) given) read;
   reads =
-      given_reads rules true anchor tag (tag_meant given_tag bare) (0x22 ∷ t) given refl
-      ∙ ap (λ kind. word_by_kind kind rules true None (record { anchor = anchor; tag = tag_meant given_tag bare }) (0x22 ∷ t)) (double_kind t)
-      ∙ scalar_meant rules true anchor given_tag double_quoted bare None (0x22 ∷ t) v (read_double rules.breaks12 (0x22 ∷ t)) (λ h. refl)
-      (tidy_at_root double_quoted rules.breaks12 column (0x22 ∷ t) tidy) read;
-  opens = lead_opens rules anchor tag (tag_meant given_tag bare) (0x22 ∷ t) given refl;
-}
-
--- one in single quotes
-pub single_flow_word : (rules : Rules) (anchor tag given_tag : Option Text) (bare : Bool) (column : Option ℕ) (t v : Text)
-    → Given rules anchor tag (tag_meant given_tag bare) → is_tidy single_quoted rules.breaks12 column (0x27 ∷ t) ≡ true
-    → read_single rules.breaks12 (0x27 ∷ t) ≡ Some v
-    → FlowWord rules (lead anchor tag ++ (0x27 ∷ t)) (scalar_in anchor given_tag single_quoted bare v)
-single_flow_word rules anchor tag given_tag bare column t v given tidy read = record {
-  says = says_single_after rules.breaks12 (lead anchor tag) t v (given_leads rules anchor tag (tag_meant given_tag bare) given) read;
-  reads =
-      given_reads rules true anchor tag (tag_meant given_tag bare) (0x27 ∷ t) given refl
-      ∙ ap (λ kind. word_by_kind kind rules true None (record { anchor = anchor; tag = tag_meant given_tag bare }) (0x27 ∷ t)) (single_kind t)
-      ∙ scalar_meant rules true anchor given_tag single_quoted bare None (0x27 ∷ t) v (read_single rules.breaks12 (0x27 ∷ t)) (λ h. refl)
-      (tidy_at_root single_quoted rules.breaks12 column (0x27 ∷ t) tidy) read;
-  opens = lead_opens rules anchor tag (tag_meant given_tag bare) (0x27 ∷ t) given refl;
+      given_reads rules true anchor tag (tag_meant given_tag bare) (quote_of double ∷ t) given (grind (arith))
+      ∙ quoted_read rules true double anchor given_tag bare column t v tidy read;
+  opens = lead_opens rules anchor tag (tag_meant given_tag bare) (quote_of double ∷ t) given (grind (arith));
 }
 
 -- what begins plain text in flow is of that class
@@ -163,11 +160,6 @@ letters_shown breaks12 c [] h =
     ap (λ class. not (is_white_class class)) (letter_class breaks12 c (and_parts (is_alpha c) true h).0)
 letters_shown breaks12 c (d ∷ name) h = letters_shown breaks12 d name (and_parts (is_alpha c) (list_all is_alpha (d ∷ name)) h).1
 
--- `*` is of that class too
-star_class : (breaks12 : Bool) → class_of breaks12 0x2A ≡ begins_plain
-star_class true = refl
-star_class false = refl
-
 -- an alias
 pub alias_flow_word : (rules : Rules) (name : Text) → name_read name ≡ Some name → FlowWord rules (0x2A ∷ name) (alias_tree name)
 alias_flow_word rules [] h = absurd (none_not_some h)
@@ -175,7 +167,7 @@ alias_flow_word rules (n ∷ name) h = record {
   says = record {
     says = λ rest ends.
         ap (λ class. (let here : FlowStep = begun class [] 0x2A in here.tokens ++ flow_tokens rules.breaks12 here.place ((n ∷ name) ++ rest)))
-        (star_class rules.breaks12)
+        (class_fixed rules.breaks12 0x2A refl)
         ∙ plain_text_word rules.breaks12 [] 0x2A (n ∷ name) rest (letters_stay rules.breaks12 (n ∷ name) (name_letters (n ∷ name) h))
         (letters_shown rules.breaks12 n name (name_letters (n ∷ name) h)) ends;
   };
@@ -195,7 +187,7 @@ pub empty_sequence_word : (rules : Rules) (anchor tag given_tag : Option Text) �
     → FlowWord rules (lead anchor tag ++ (0x5B ∷ 0x5D ∷ [])) (sequence_tree anchor given_tag no_trees)
 empty_sequence_word rules anchor tag given_tag given = record {
   says = says_empty_after rules.breaks12 (lead anchor tag) 0x5B 0x5D (given_leads rules anchor tag (tag_meant given_tag false) given)
-      (bracket_class rules.breaks12).0 refl;
+      (class_fixed rules.breaks12 0x5B refl) refl;
   reads =
       given_reads rules true anchor tag (tag_meant given_tag false) (0x5B ∷ 0x5D ∷ []) given refl
       ∙ ap (option_map (λ tag. sequence_tree anchor tag no_trees)) (tag_of_collection given_tag);
@@ -207,7 +199,7 @@ pub empty_mapping_word : (rules : Rules) (anchor tag given_tag : Option Text) �
     → FlowWord rules (lead anchor tag ++ (0x7B ∷ 0x7D ∷ [])) (mapping_tree anchor given_tag no_tree_pairs)
 empty_mapping_word rules anchor tag given_tag given = record {
   says = says_empty_after rules.breaks12 (lead anchor tag) 0x7B 0x7D (given_leads rules anchor tag (tag_meant given_tag false) given)
-      (bracket_class rules.breaks12).1 refl;
+      (class_fixed rules.breaks12 0x7B refl) refl;
   reads =
       given_reads rules true anchor tag (tag_meant given_tag false) (0x7B ∷ 0x7D ∷ []) given refl
       ∙ ap (option_map (λ tag. mapping_tree anchor tag no_tree_pairs)) (tag_of_collection given_tag);

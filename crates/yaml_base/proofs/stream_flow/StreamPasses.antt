@@ -1,11 +1,11 @@
 -- Indicators and white space in flow, which take the reader of flow collections on whatever follows them.
 use Rattle.yaml_base.proofs.Common.{arith, suc, zero, ℕ, ◌==◌, Option, codes, replicate, Bool, false, true, ◌||◌, List, [], ◌++◌, ◌∷◌, refl, ◌≡◌, eqb-true}
-use Rattle.yaml_base.proofs.Common.{true≢false, append_assoc, ap, ◌∙◌, and_parts, and_from, false≢true, list_all-append, list_all, Text, line_feed, space}
+use Rattle.yaml_base.proofs.Common.{true≢false, append_assoc, ◌∙◌, and_parts, and_from, false≢true, list_all-append, list_all, Text, line_feed, space}
 use Rattle.yaml_base.proofs.Common.{Cursor, render_then, new_line, space_if, indicator, flow_break, Effective, OpenFlow, at_once, after_white, entry_awaited}
 use Rattle.yaml_base.proofs.Common.{node_awaited, comma_awaited, colon_awaited, FlowReading, within, flow_step, Rules, symbol, blank, line_end, free}
-use Rattle.yaml_base.proofs.Common.{is_flow_indicator, class_of, flow_tokens}
-use Rattle.yaml_base.proofs.stream_flow.{StreamTakes.steps, StreamTakes.TakesBytes, StreamWhites.space_class, StreamWhites.line_feed_class}
-use Rattle.yaml_base.proofs.stream_flow.StreamSays.{comma_class, colon_class, question_class}
+use Rattle.yaml_base.proofs.Common.{is_flow_indicator, class_of, flow_tokens, or_cases, inl, inr, subst, sym}
+use Rattle.yaml_base.proofs.stream_flow.{StreamTakes.steps, StreamTakes.TakesBytes, StreamWhites.line_feed_class}
+use Rattle.yaml_base.proofs.stream_flow.StreamSays.{class_fixed}
 
 -- a text takes the reader from a reading to another, before anything
 pub record Passes (rules : Rules) (from : FlowReading) (text : Text) (to : FlowReading) : Type 0 where
@@ -16,21 +16,21 @@ pub passes_nothing : (rules : Rules) (from : FlowReading) → Passes rules from 
 passes_nothing rules from = record { passes = λ rest. refl }
 
 -- one such text after another
-pub passes_both : (rules : Rules) (from through to : FlowReading) (a b : Text) → Passes rules from a through → Passes rules through b to
+pub passes_both : {rules : Rules} {from through to : FlowReading} {a b : Text} → Passes rules from a through → Passes rules through b to
     → Passes rules from (a ++ b) to
-passes_both rules from through to a b one two = grind (arith, append_assoc)
+passes_both one two = grind (arith, append_assoc)
 
 -- and then one that takes it on before what ends a word
-pub passes_then : (rules : Rules) (from through to : FlowReading) (a b : Text) → Passes rules from a through → TakesBytes rules through b to
+pub passes_then : {rules : Rules} {from through to : FlowReading} {a b : Text} → Passes rules from a through → TakesBytes rules through b to
     → TakesBytes rules from (a ++ b) to
-passes_then rules from through to a b one two = grind (arith, append_assoc)
+passes_then one two = grind (arith, append_assoc)
 
 -- equal texts take the reader to equal places
-pub passes_text : (rules : Rules) (from to : FlowReading) (a b : Text) → a ≡ b → Passes rules from b to → Passes rules from a to
-passes_text rules from to a b e one = grind (arith)
+pub passes_text : {rules : Rules} {from to : FlowReading} {a b : Text} → a ≡ b → Passes rules from b to → Passes rules from a to
+passes_text e one = grind (arith)
 
-pub takes_text : (rules : Rules) (from to : FlowReading) (a b : Text) → a ≡ b → TakesBytes rules from b to → TakesBytes rules from a to
-takes_text rules from to a b e one = grind (arith)
+pub takes_text : {rules : Rules} {from to : FlowReading} {a b : Text} → a ≡ b → TakesBytes rules from b to → TakesBytes rules from a to
+takes_text e one = grind (arith)
 
 -- One character
 
@@ -39,31 +39,31 @@ passes_indicator : (rules : Rules) (from to : FlowReading) (c : ℕ) → class_o
 passes_indicator rules from to c e step = grind (arith)
 
 passes_space : (rules : Rules) (from to : FlowReading) → flow_step rules from blank ≡ to → Passes rules from (space ∷ []) to
-passes_space rules from to step = grind (arith, space_class)
+passes_space rules from to step = grind (arith, class_fixed)
 
 passes_line_feed : (rules : Rules) (from to : FlowReading) → flow_step rules from line_end ≡ to → Passes rules from (line_feed ∷ []) to
 passes_line_feed rules from to step = grind (arith, line_feed_class)
 
 -- a comma after an entry
 pub passes_comma : (rules : Rules) (levels : List OpenFlow) → Passes rules (within levels comma_awaited) (0x2C ∷ []) (within levels entry_awaited)
-passes_comma rules levels = passes_indicator rules (within levels comma_awaited) (within levels entry_awaited) 0x2C (comma_class rules.breaks12) refl
+passes_comma rules levels = passes_indicator rules (within levels comma_awaited) (within levels entry_awaited) 0x2C (class_fixed rules.breaks12 0x2C refl) refl
 
 -- a `:` at once
 pub passes_colon : (rules : Rules) (levels : List OpenFlow)
     → Passes rules (within levels (colon_awaited at_once)) (0x3A ∷ []) (within levels (node_awaited false))
 passes_colon rules levels = passes_indicator rules (within levels (colon_awaited at_once)) (within levels (node_awaited false)) 0x3A
-    (colon_class rules.breaks12) refl
+    (class_fixed rules.breaks12 0x3A refl) refl
 
 -- a `:` after something white
 pub passes_late_colon : (rules : Rules) (levels : List OpenFlow)
     → Passes rules (within levels (colon_awaited (after_white true))) (0x3A ∷ []) (within levels (node_awaited false))
 passes_late_colon rules levels =
-    passes_indicator rules (within levels (colon_awaited (after_white true))) (within levels (node_awaited false)) 0x3A (colon_class rules.breaks12) refl
+    passes_indicator rules (within levels (colon_awaited (after_white true))) (within levels (node_awaited false)) 0x3A (class_fixed rules.breaks12 0x3A refl) refl
 
 -- a `?` where a key may stand
 pub passes_question : (rules : Rules) (levels : List OpenFlow) (to : FlowReading) → flow_step rules (within levels entry_awaited) (symbol 0x3F) ≡ to
     → Passes rules (within levels entry_awaited) (0x3F ∷ []) to
-passes_question rules levels to step = passes_indicator rules (within levels entry_awaited) to 0x3F (question_class rules.breaks12) step
+passes_question rules levels to step = passes_indicator rules (within levels entry_awaited) to 0x3F (class_fixed rules.breaks12 0x3F refl) step
 
 -- the space between `?` or `:` and a node
 pub passes_node_space : (rules : Rules) (levels : List OpenFlow)
@@ -76,20 +76,25 @@ passes_node_space rules levels = passes_space rules (within levels (node_awaited
 abbrev pub is_white_text : Text → Bool
 is_white_text text = list_all (λ c. c == space || c == line_feed) text
 
+-- what holds of a space and of a line feed holds of what is either
+pub white_either : (P : ℕ → Type 0) (c : ℕ) → P space → P line_feed → (c == space || c == line_feed) ≡ true → P c
+white_either P c a b h =
+    elim (or_cases (c == space) (c == line_feed) h) [ inl e ↦ subst P (sym (eqb-true c space e)) a | inr e ↦ subst P (sym (eqb-true c line_feed e)) b ]
+
+-- so either passes where both do
+white_passes_one : (rules : Rules) (from to : FlowReading) (c : ℕ) → flow_step rules from blank ≡ to → flow_step rules from line_end ≡ to
+    → (c == space || c == line_feed) ≡ true → Passes rules from (c ∷ []) to
+white_passes_one rules from to c one two h =
+    white_either (λ d. Passes rules from (d ∷ []) to) c (passes_space rules from to one) (passes_line_feed rules from to two) h
+
 -- what a space and an LF do alike they do in any order
 white_passes : (rules : Rules) (reading : FlowReading) (text : Text) → flow_step rules reading blank ≡ reading → flow_step rules reading line_end ≡ reading
     → is_white_text text ≡ true → Passes rules reading text reading
 white_passes rules reading [] one two h = passes_nothing rules reading
 white_passes rules reading (c ∷ text) one two h =
     let parts = and_parts (c == space || c == line_feed) (is_white_text text) h in
-    passes_both rules reading reading reading (c ∷ []) text (by (c == space) (c == line_feed) refl refl parts.0)
+    passes_both (white_passes_one rules reading reading c one two parts.0)
     (white_passes rules reading text one two parts.1)
-  where
-    by : (x y : Bool) → (c == space) ≡ x → (c == line_feed) ≡ y → (x || y) ≡ true → Passes rules reading (c ∷ []) reading
-    by true y e f h = passes_text rules reading reading (c ∷ []) (space ∷ []) (ap (λ d. d ∷ []) (eqb-true c space e)) (passes_space rules reading reading one)
-    by false true e f h =
-        passes_text rules reading reading (c ∷ []) (line_feed ∷ []) (ap (λ d. d ∷ []) (eqb-true c line_feed f)) (passes_line_feed rules reading reading two)
-    by false false e f h = absurd (false≢true h)
 
 -- white space before an entry
 pub passes_entry_white : (rules : Rules) (levels : List OpenFlow) (text : Text) → is_white_text text ≡ true
@@ -101,22 +106,9 @@ pub passes_colon_white : (rules : Rules) (levels : List OpenFlow) (c : ℕ) (tex
     → Passes rules (within levels (colon_awaited (after_white false))) (c ∷ text) (within levels (colon_awaited (after_white true)))
 passes_colon_white rules levels c text h =
     let parts = and_parts (c == space || c == line_feed) (is_white_text text) h in
-    passes_both rules (within levels (colon_awaited (after_white false))) (within levels (colon_awaited (after_white true)))
-    (within levels (colon_awaited (after_white true)))
-    (c ∷ []) text (by (c == space) (c == line_feed) refl refl parts.0)
-    (white_passes rules (within levels (colon_awaited (after_white true))) text refl refl parts.1)
-  where
-    by : (x y : Bool) → (c == space) ≡ x → (c == line_feed) ≡ y → (x || y) ≡ true
-        → Passes rules (within levels (colon_awaited (after_white false))) (c ∷ []) (within levels (colon_awaited (after_white true)))
-    by true y e f h =
-        passes_text rules (within levels (colon_awaited (after_white false))) (within levels (colon_awaited (after_white true))) (c ∷ []) (space ∷ [])
-        (ap (λ d. d ∷ []) (eqb-true c space e))
-        (passes_space rules (within levels (colon_awaited (after_white false))) (within levels (colon_awaited (after_white true))) refl)
-    by false true e f h =
-        passes_text rules (within levels (colon_awaited (after_white false))) (within levels (colon_awaited (after_white true))) (c ∷ []) (line_feed ∷ [])
-        (ap (λ d. d ∷ []) (eqb-true c line_feed f))
-        (passes_line_feed rules (within levels (colon_awaited (after_white false))) (within levels (colon_awaited (after_white true))) refl)
-    by false false e f h = absurd (false≢true h)
+    let from = within levels (colon_awaited (after_white false)) in
+    let to = within levels (colon_awaited (after_white true)) in
+    passes_both (white_passes_one rules from to c refl refl parts.0) (white_passes rules to text refl refl parts.1)
 
 -- What the layout puts between
 

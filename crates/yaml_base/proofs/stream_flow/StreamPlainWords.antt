@@ -1,11 +1,12 @@
 -- Plain text is one word among the tokens of flow, before white space and a flow indicator.
-use Rattle.yaml_base.proofs.Common.{nat_tests, arith, ℕ, if◌then◌else◌, ◌==◌, None, Some, codes, Bool, false, not, true, ◌&&◌, ◌||◌, List, [], map, ◌++◌, ◌∷◌}
+use Rattle.yaml_base.proofs.Common.{nat_tests, arith, ℕ, ◌==◌, Some, codes, Bool, false, not, true, ◌&&◌, ◌||◌, List, [], map, ◌++◌, ◌∷◌}
 use Rattle.yaml_base.proofs.Common.{refl, ◌≡◌, true≢false, append-nil, append_assoc, ap, ◌∙◌, and_parts, or_parts, false≢true, map-append, list_all, Text}
-use Rattle.yaml_base.proofs.Common.{is_among, unit_of, folding_read, is_read_white, begins_white, begins_no_plain, begins_with_hash, holds_no_plain, read_plain}
+use Rattle.yaml_base.proofs.Common.{is_among, is_read_white, begins_white, begins_with_hash, holds_no_plain, read_plain}
 use Rattle.yaml_base.proofs.Common.{ends_white, has_clean_edges, FlowToken, word, free, FlowStep, FlowClass, is_white_blank, is_white_break, is_flow_indicator}
-use Rattle.yaml_base.proofs.Common.{begins_property, begins_double, begins_single, begins_bracket, begins_plain, class_of, begun, flow_tokens}
-use Rattle.yaml_base.proofs.{stream_flow.StreamWords.GivesWord, stream_lines.StreamCuts.none_not_some}
+use Rattle.yaml_base.proofs.Common.{begins_bracket, class_of, begun, flow_tokens, not-true}
+use Rattle.yaml_base.proofs.{stream_flow.StreamWords.GivesWord}
 use Rattle.yaml_base.specs.streams.StreamTokens.{in_plain, white_of_class, white_token, plain_step}
+use Rattle.yaml_base.proofs.stream_keys.StreamPlainKeys.{reads_plain}
 
 -- a character of a class ends a word, where white space does if what follows it does
 abbrev pub ends_by : FlowClass → Bool → Bool
@@ -51,10 +52,7 @@ plain_ends breaks12 text white (c ∷ rest) h = by (class_of breaks12 c) refl h 
     by begins_bracket e h ih =
         ap (λ t. word text ∷ t)
         (append_assoc (white_tokens breaks12 white) (begun begins_bracket [] c).tokens (flow_tokens breaks12 (begun begins_bracket [] c).place rest))
-    by begins_property e h ih = absurd (false≢true h)
-    by begins_double e h ih = absurd (false≢true h)
-    by begins_single e h ih = absurd (false≢true h)
-    by begins_plain e h ih = absurd (false≢true h)
+    by class e h ih = absurd (false≢true h)
 
 -- a class of characters that plain text goes on over
 abbrev pub stays_plain : FlowClass → Bool
@@ -108,12 +106,7 @@ plain_passes breaks12 c (d ∷ t) text white rest h k =
         ih text (white ++ (c ∷ [])) ∙ ap (λ s. flow_tokens breaks12 (in_plain (text ++ s) []) rest) (append_assoc white (c ∷ []) (d ∷ t))
     by true is_white_break e h ih =
         ih text (white ++ (c ∷ [])) ∙ ap (λ s. flow_tokens breaks12 (in_plain (text ++ s) []) rest) (append_assoc white (c ∷ []) (d ∷ t))
-    by true is_flow_indicator e h ih = absurd (false≢true h)
-    by true begins_bracket e h ih = absurd (false≢true h)
-    by true begins_property e h ih = absurd (false≢true e)
-    by true begins_double e h ih = absurd (false≢true e)
-    by true begins_single e h ih = absurd (false≢true e)
-    by true begins_plain e h ih = absurd (false≢true e)
+    by true class e h ih = absurd (false≢true e)
 
 -- a text without flow indicators, whose last character isn't white, is a word after its first character
 pub plain_text_word : (breaks12 : Bool) (before : Text) (c : ℕ) (t rest : Text) → all_stay breaks12 t ≡ true → ends_shown breaks12 (c ∷ t) ≡ true
@@ -149,19 +142,8 @@ pub plain_word : (breaks12 : Bool) (before : Text) (c : ℕ) (t rest v : Text) �
     → has_clean_edges breaks12 (c ∷ t) ≡ true → ends_word breaks12 rest ≡ true
     → GivesWord breaks12 (in_plain (before ++ (c ∷ [])) []) (before ++ (c ∷ [])) t rest
 plain_word breaks12 before c t rest v read clean ends =
+    let holds = (reads_plain breaks12 true c t v read).1 in
     plain_text_word breaks12 before c t rest
     (and_parts (stays_plain (class_of breaks12 c)) (all_stay breaks12 t) (plain_stays breaks12 (c ∷ t) holds)).1
-    (clean_shown breaks12 c t (shown (ends_white breaks12 (c ∷ t)) (and_parts (not (is_read_white breaks12 c)) (not (ends_white breaks12 (c ∷ t))) clean).1))
+    (clean_shown breaks12 c t (not-true (ends_white breaks12 (c ∷ t)) (and_parts (not (is_read_white breaks12 c)) (not (ends_white breaks12 (c ∷ t))) clean).1))
     ends
-  where
-    shown : (x : Bool) → not x ≡ true → x ≡ false
-    shown true h = absurd (false≢true h)
-    shown false h = refl
-
-    by : (x y : Bool) → (if x || y then None else Some (folding_read (map (unit_of breaks12) (c ∷ t)))) ≡ Some v → y ≡ false
-    by true y h = absurd (none_not_some h)
-    by false true h = absurd (none_not_some h)
-    by false false h = refl
-
-    holds : holds_no_plain breaks12 true (c ∷ t) ≡ false
-    holds = by (begins_no_plain breaks12 (c ∷ t)) (holds_no_plain breaks12 true (c ∷ t)) read

@@ -1,15 +1,16 @@
 -- The tokens of a word in flow with its anchor and tag before it: it is one word with them, and so is what opens a collection.
 use Rattle.yaml_base.proofs.Common.{ℕ, Option, None, Some, Bool, false, true, ◌||◌, List, [], ◌++◌, ◌∷◌, refl, ◌≡◌, true≢false, append-nil, append_assoc, ap}
-use Rattle.yaml_base.proofs.Common.{sym, ◌∙◌, arith, or_parts, false≢true, nat_tests, Text, space, is_blank, is_break, TagDirective, read_double}
-use Rattle.yaml_base.proofs.Common.{read_plain, read_single, ParsedTag, has_clean_edges, word, opens, FlowPlace, free, FlowStep, FlowClass}
-use Rattle.yaml_base.proofs.Common.{is_white_blank, is_white_break, is_flow_indicator, begins_property, begins_double, begins_single, begins_bracket}
+use Rattle.yaml_base.proofs.Common.{sym, ◌∙◌, arith, or_parts, false≢true, nat_tests, Text, space, is_blank, is_break, TagDirective}
+use Rattle.yaml_base.proofs.Common.{read_plain, ParsedTag, has_clean_edges, word, opens, FlowPlace, free, FlowStep, FlowClass}
+use Rattle.yaml_base.proofs.Common.{begins_property, begins_double, begins_single, begins_bracket}
 use Rattle.yaml_base.proofs.Common.{begins_plain, class_of, begun, bracket_step, is_pair, flow_tokens}
 use Rattle.yaml_base.proofs.TagWords.{letters_end_no_word}
-use Rattle.yaml_base.proofs.stream_flow.{StreamPlainWords.is_white_class, StreamPlainWords.shown_at, StreamPlainWords.plain_word, StreamWhites.space_class}
+use Rattle.yaml_base.proofs.stream_flow.{StreamPlainWords.is_white_class, StreamPlainWords.shown_at, StreamPlainWords.plain_word}
 use Rattle.yaml_base.proofs.stream_flow.{StreamWords.shifted, StreamWords.double_quoted_word, StreamWords.single_quoted_word}
-use Rattle.yaml_base.proofs.stream_flow.StreamSays.{Says, double_class, single_class, ends_unquoted}
+use Rattle.yaml_base.proofs.stream_flow.StreamSays.{Says, ends_unquoted, class_fixed}
 use Rattle.yaml_base.proofs.stream_nodes.StreamProperties.{holds_white, WrittenTag, IsTagged, IsNamed, name_letters}
 use Rattle.yaml_base.specs.streams.StreamTokens.{in_property, after_property, begun_after_property, property_step}
+use Rattle.yaml_base.proofs.stream_lines.StreamCuts.{quote_of, read_quoted}
 
 -- the anchor and the tag as they are written, and a space after them
 abbrev pub lead : Option Text → Option Text → Text
@@ -43,11 +44,6 @@ rest_passes breaks12 before (c ∷ text) rest h =
     ∙ rest_passes breaks12 (before ++ (c ∷ [])) text rest parts.1
     ∙ ap (λ t. flow_tokens breaks12 (in_property t) rest) (append_assoc before (c ∷ []) text)
 
--- `&` and `!` begin a property
-property_class : (breaks12 : Bool) → (class_of breaks12 0x26 ≡ begins_property) × (class_of breaks12 0x21 ≡ begins_property)
-property_class true = (refl, refl)
-property_class false = (refl, refl)
-
 -- where it begins, between tokens or after another
 begin_property : (breaks12 : Bool) (c : ℕ) (rest : Text) → class_of breaks12 c ≡ begins_property
     → flow_tokens breaks12 free (c ∷ rest) ≡ flow_tokens breaks12 (in_property (c ∷ [])) rest
@@ -69,7 +65,7 @@ rest_not_white directives tag parsed tagged =
 property_ends : (breaks12 : Bool) (before rest : Text)
     → flow_tokens breaks12 (in_property before) (space ∷ rest) ≡ flow_tokens breaks12 (after_property (before ++ (space ∷ []))) rest
 property_ends breaks12 before rest =
-    ap (λ class. (let here : FlowStep = property_step class before space in here.tokens ++ flow_tokens breaks12 here.place rest)) (space_class breaks12)
+    ap (λ class. (let here : FlowStep = property_step class before space in here.tokens ++ flow_tokens breaks12 here.place rest)) (class_fixed breaks12 space refl)
 
 -- tokens after an anchor and a tag, and the space after them
 pub lead_passes : (breaks12 : Bool) (directives : List TagDirective) (anchor tag : Option Text) (parsed : Option ParsedTag) (rest : Text)
@@ -77,11 +73,11 @@ pub lead_passes : (breaks12 : Bool) (directives : List TagDirective) (anchor tag
     → flow_tokens breaks12 free (lead anchor tag ++ rest) ≡ flow_tokens breaks12 (lead_place (lead anchor tag)) rest
 lead_passes breaks12 directives None None None rest named tagged = refl
 lead_passes breaks12 directives (Some name) None None rest named tagged =
-    grind (arith, begin_property, property_class, append_assoc, rest_passes, letters_end_no_word, name_letters, property_ends)
+    grind (arith, begin_property, class_fixed breaks12 0x26 refl, append_assoc, rest_passes, letters_end_no_word, name_letters, property_ends)
 lead_passes breaks12 directives None (Some tag) (Some parsed) rest named tagged =
-    grind (arith, begin_property, property_class, append_assoc, rest_passes, rest_not_white, property_ends)
+    grind (arith, begin_property, class_fixed breaks12 0x21 refl, append_assoc, rest_passes, rest_not_white, property_ends)
 lead_passes breaks12 directives (Some name) (Some tag) (Some parsed) rest named tagged =
-    grind (arith, begin_property, property_class, rest_passes, letters_end_no_word, name_letters, property_ends, next_property, append_assoc, rest_not_white)
+    grind (arith, begin_property, class_fixed, rest_passes, letters_end_no_word, name_letters, property_ends, next_property, append_assoc, rest_not_white)
 lead_passes breaks12 directives None None (Some parsed) rest named tagged = absurd tagged
 lead_passes breaks12 directives None (Some tag) None rest named tagged = absurd tagged
 lead_passes breaks12 directives (Some name) None (Some parsed) rest named tagged = absurd tagged
@@ -115,21 +111,17 @@ begun_after : (breaks12 : Bool) (before : Text) (c : ℕ) (t rest : Text) (class
 begun_after breaks12 before c t rest class leads e own =
     ap (flow_tokens breaks12 free) (append_assoc before (c ∷ t) rest) ∙ leads (c ∷ (t ++ rest)) ∙ begun_with breaks12 before c (t ++ rest) class e own
 
--- a scalar in double quotes, with its properties
-pub says_double_after : (breaks12 : Bool) (before t v : Text) → Leads breaks12 before → read_double breaks12 (0x22 ∷ t) ≡ Some v
-    → Says breaks12 (before ++ (0x22 ∷ t)) (word (before ++ (0x22 ∷ t)) ∷ [])
-says_double_after breaks12 before t v leads read = record {
+-- a scalar in quotes, with its properties
+pub says_quoted_after : (double breaks12 : Bool) (before t v : Text) → Leads breaks12 before → read_quoted double breaks12 (quote_of double ∷ t) ≡ Some v
+    → Says breaks12 (before ++ (quote_of double ∷ t)) (word (before ++ (quote_of double ∷ t)) ∷ [])
+says_quoted_after true breaks12 before t v leads read = record {
   says = λ rest h.
-      begun_after breaks12 before 0x22 t rest begins_double leads (double_class breaks12) refl
+      begun_after breaks12 before 0x22 t rest begins_double leads (class_fixed breaks12 0x22 refl) refl
       ∙ double_quoted_word breaks12 before t rest v read ∙ shifted breaks12 before 0x22 t rest;
 }
-
--- one in single quotes
-pub says_single_after : (breaks12 : Bool) (before t v : Text) → Leads breaks12 before → read_single breaks12 (0x27 ∷ t) ≡ Some v
-    → Says breaks12 (before ++ (0x27 ∷ t)) (word (before ++ (0x27 ∷ t)) ∷ [])
-says_single_after breaks12 before t v leads read = record {
+says_quoted_after false breaks12 before t v leads read = record {
   says = λ rest h.
-      begun_after breaks12 before 0x27 t rest begins_single leads (single_class breaks12) refl
+      begun_after breaks12 before 0x27 t rest begins_single leads (class_fixed breaks12 0x27 refl) refl
       ∙ single_quoted_word breaks12 before t rest v read (ends_unquoted breaks12 rest h) ∙ shifted breaks12 before 0x27 t rest;
 }
 

@@ -4,7 +4,7 @@ use Rattle.yaml_base.proofs.Common.{TreePairs, mapping_tree, is_key_text, no_key
 use Rattle.yaml_base.proofs.Common.{entry_awaited, comma_awaited, colon_awaited, FlowReading, done, within, with_tree, flow_step, flow_read, Rules, Properties}
 use Rattle.yaml_base.proofs.Common.{word_read, FlowToken, word, symbol, free, is_flow_indicator, class_of, flow_tokens}
 use Rattle.yaml_base.{proofs.stream_flow.StreamPlainWords.ends_word, specs.streams.StreamFlow.colon_after}
-use Rattle.yaml_base.proofs.stream_flow.StreamSays.{Says, EndsWord, says_indicator, square_class, curly_class}
+use Rattle.yaml_base.proofs.stream_flow.StreamSays.{Says, EndsWord, says_indicator, class_fixed}
 
 -- the readings of some tokens
 abbrev pub steps : Rules → FlowReading → List FlowToken → FlowReading
@@ -34,9 +34,9 @@ takes_to rules from to text tokens says e = record {
 }
 
 -- a text, and then one that ends a word
-pub takes_both : (rules : Rules) (from through to : FlowReading) (a b : Text) → TakesBytes rules from a through → TakesBytes rules through b to
+pub takes_both : {rules : Rules} {from through to : FlowReading} {a b : Text} → TakesBytes rules from a through → TakesBytes rules through b to
     → EndsWord rules.breaks12 b → TakesBytes rules from (a ++ b) to
-takes_both rules from through to a b one two ends = grind (arith, append_assoc)
+takes_both one two ends = grind (arith, append_assoc)
 
 -- Words
 
@@ -52,12 +52,12 @@ takes_simple_key rules anchor tag pairs levels text tree says read short = grind
 -- a `]` after an item
 pub takes_sequence_end : (rules : Rules) (anchor tag : Option Text) (items : Trees) (levels : List OpenFlow)
     → TakesBytes rules (within (in_sequence anchor tag items ∷ levels) comma_awaited) (0x5D ∷ []) (with_tree levels (sequence_tree anchor tag items))
-takes_sequence_end rules anchor tag items levels = grind (arith, takes_to, says_indicator, square_class)
+takes_sequence_end rules anchor tag items levels = grind (arith, takes_to, says_indicator, class_fixed rules.breaks12 0x5D refl)
 
 -- a `}` after a pair
 pub takes_mapping_end : (rules : Rules) (anchor tag : Option Text) (pairs : TreePairs) (levels : List OpenFlow)
     → TakesBytes rules (within (in_mapping anchor tag pairs no_key ∷ levels) comma_awaited) (0x7D ∷ []) (with_tree levels (mapping_tree anchor tag pairs))
-takes_mapping_end rules anchor tag pairs levels = grind (arith, takes_to, says_indicator, curly_class)
+takes_mapping_end rules anchor tag pairs levels = grind (arith, takes_to, says_indicator, class_fixed rules.breaks12 0x7D refl)
 
 -- The whole
 

@@ -1,13 +1,9 @@
 -- White space in flow, and what it does to the reader of flow collections.
 use Rattle.yaml_base.proofs.Common.{arith, suc, zero, ℕ, Bool, false, true, List, [], ◌++◌, ◌∷◌, refl, ◌≡◌, ap, ◌∙◌, line_feed, space, OpenFlow, at_once}
-use Rattle.yaml_base.proofs.Common.{after_blank, colon_awaited, within, spaces, Rules, is_white_blank, is_white_break, class_of}
+use Rattle.yaml_base.proofs.Common.{after_blank, colon_awaited, within, spaces, Rules, is_white_break, class_of}
 use Rattle.yaml_base.proofs.stream_flow.{StreamSays.EndsWord, StreamSays.says_blank, StreamTakes.TakesBytes, StreamTakes.takes_to}
 use Rattle.yaml_base.proofs.stream_flow.StreamPlainWords.{ends_by, ends_word}
-
--- a space is a blank
-pub space_class : (breaks12 : Bool) → class_of breaks12 space ≡ is_white_blank
-space_class true = refl
-space_class false = refl
+use Rattle.yaml_base.proofs.stream_flow.StreamSays.{class_fixed}
 
 -- LF is a break
 pub line_feed_class : (breaks12 : Bool) → class_of breaks12 line_feed ≡ is_white_break
@@ -18,9 +14,9 @@ line_feed_class false = refl
 pub spaces_end_word : (breaks12 : Bool) (n : ℕ) → EndsWord breaks12 (spaces n)
 spaces_end_word breaks12 zero rest h = h
 spaces_end_word breaks12 (suc n) rest h =
-    ap (λ class. ends_by class (ends_word breaks12 (spaces n ++ rest))) (space_class breaks12) ∙ spaces_end_word breaks12 n rest h
+    ap (λ class. ends_by class (ends_word breaks12 (spaces n ++ rest))) (class_fixed breaks12 space refl) ∙ spaces_end_word breaks12 n rest h
 
 -- the blank after an alias that is a key
 pub alias_blank : (rules : Rules) (levels : List OpenFlow)
     → TakesBytes rules (within levels (colon_awaited after_blank)) (space ∷ []) (within levels (colon_awaited at_once))
-alias_blank rules levels = grind (arith, takes_to, says_blank, space_class)
+alias_blank rules levels = grind (arith, takes_to, says_blank, class_fixed)

@@ -2,11 +2,11 @@
 -- its style writes it, on one line.
 use Rattle.yaml_base.proofs.Common.{suc, zero, ℕ, ◌/◌, if◌then◌else◌, ◌==◌, Option, None, Some, nat_le, Bool, false, not, true, ◌&&◌, ◌||◌, List, []}
 use Rattle.yaml_base.proofs.Common.{◌++◌, ◌∷◌, refl, ◌≡◌, eqb-true, append-nil, append_assoc, ap, sym, ◌∙◌, arith, and_parts, or_parts, agree_below_at}
-use Rattle.yaml_base.proofs.Common.{false≢true, nat_tests, flat_map, list_any, Text, space, is_space, is_break, hex_digits, Cursor, render_then}
-use Rattle.yaml_base.proofs.Common.{ScalarStyle, any_style, plain, single_quoted, double_quoted, literal, folded, render_body, is_read_break, Effective}
+use Rattle.yaml_base.proofs.Common.{false≢true, nat_tests, flat_map, list_any, Text, space, is_space, is_break, hex_digits, Cursor, render_then, and-false}
+use Rattle.yaml_base.proofs.Common.{ScalarStyle, any_style, plain, single_quoted, double_quoted, literal, folded, render_body, Effective}
 use Rattle.yaml_base.proofs.Common.{short_escapes, letter_among, escape_after_backslash, escape_text, needs_escape, character_text, double_inside}
 use Rattle.yaml_base.proofs.Common.{render_quote, runs, render_runs, quotes_doubled, single_quote}
-use Rattle.yaml_base.{proofs.stream_flow.StreamFlowScalars.is_flow_style, proofs.stream_lines.StreamLineLaws.OneLine, specs.Cursor.render_text}
+use Rattle.yaml_base.{proofs.stream_flow.StreamFlowScalars.is_flow_style, specs.Cursor.render_text}
 use Rattle.yaml_base.specs.scalars.DoubleQuoted.{quote, ShortEscape, may_fold, double_fold}
 use Rattle.yaml_base.specs.scalars.Plain.{Run, cons_run, run_text}
 
@@ -67,12 +67,8 @@ double_alone : (unicode : Bool) (indent : ℕ) (before : Option ℕ) (value : Te
 double_alone unicode indent before [] cursor = refl
 double_alone unicode indent before (c ∷ value) cursor =
     ap (λ x. (render_then (if x then double_fold indent value cursor else render_text (character_text unicode c) cursor)
-    (double_inside unicode None indent (Some c) value)).text) (never (is_space c && may_fold before value))
+    (double_inside unicode None indent (Some c) value)).text) (and-false (is_space c && may_fold before value))
     ∙ ap (λ t. character_text unicode c ++ t) (double_alone unicode indent (Some c) value (render_text (character_text unicode c) cursor).cursor)
-  where
-    never : (x : Bool) → (x && false) ≡ false
-    never true = refl
-    never false = refl
 
 -- the body of a simple key
 abbrev pub key_body : ScalarStyle → (unicode : Bool) → Text → Text
@@ -94,17 +90,6 @@ body_alone s literal indent value cursor flow h = absurd (false≢true flow)
 body_alone s folded indent value cursor flow h = absurd (false≢true flow)
 
 -- On one line
-
--- what breaks no line in a value breaks none that is read
-break_line : (breaks12 : Bool) (c : ℕ) → is_break c ≡ false → is_read_break breaks12 c ≡ false
-break_line true c h = grind (arith, nat_tests, h)
-break_line false c h = grind (arith, nat_tests, h)
-
-pub unbroken_line : (breaks12 : Bool) (text : Text) → list_any is_break text ≡ false → OneLine breaks12 text
-unbroken_line breaks12 [] h = refl
-unbroken_line breaks12 (c ∷ text) h =
-    let parts = or_parts (is_break c) (list_any is_break text) h in
-    ap (λ x. x || list_any (is_read_break breaks12) text) (break_line breaks12 c parts.0) ∙ unbroken_line breaks12 text parts.1
 
 -- two texts without a break
 unbroken_both : (a b : Text) → list_any is_break a ≡ false → list_any is_break b ≡ false → list_any is_break (a ++ b) ≡ false

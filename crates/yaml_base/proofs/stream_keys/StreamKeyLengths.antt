@@ -2,7 +2,7 @@
 -- most.
 use Rattle.yaml_base.proofs.Common.{suc, ℕ, ◌*◌, ◌+◌, ◌≤◌, if◌then◌else◌, Option, None, Some, nat_le, length, encode_utf8, Bool, false, true, List, []}
 use Rattle.yaml_base.proofs.Common.{◌++◌, ◌∷◌, refl, ◌≡◌, length-append, subst, sym, arith, nat_tests, length-encode, len_utf8_bounds, length-le-encodes}
-use Rattle.yaml_base.proofs.Common.{len_utf8, flat_map, Text, hex_digits, ScalarStyle, any_style, plain, single_quoted, double_quoted, literal, folded}
+use Rattle.yaml_base.proofs.Common.{len_utf8, flat_map, Text, hex_digits, ScalarStyle, plain, single_quoted}
 use Rattle.yaml_base.proofs.Common.{TagDirective, byte_count, name_count, tag_count, is_tag_character, byte_escaped, character_written, percent_escaped}
 use Rattle.yaml_base.proofs.Common.{is_suffix_character, suffix_escaped, Spelling, shorthand, verbatim, spelled, short_escapes, letter_among}
 use Rattle.yaml_base.proofs.Common.{escape_after_backslash, escape_text, needs_escape, character_text, quotes_doubled}
@@ -55,14 +55,7 @@ quoted_length quote inside bytes h = let both = length-append inside (quote ∷ 
 pub body_length : (style : ScalarStyle) (unicode : Bool) (value : Text) → length (key_body style unicode value) ≤ 4 * byte_count value + 2
 body_length plain unicode value = let less = length-le-encodes value in let same : length value ≤ byte_count value = less in omega arith
 body_length single_quoted unicode value = quoted_length 39 (quotes_doubled value) (byte_count value) (doubled_length value)
-body_length double_quoted unicode value =
-    quoted_length 0x22 (flat_map (character_text unicode) value) (byte_count value) (characters_length unicode value)
-body_length any_style unicode value =
-    quoted_length 0x22 (flat_map (character_text unicode) value) (byte_count value) (characters_length unicode value)
-body_length literal unicode value =
-    quoted_length 0x22 (flat_map (character_text unicode) value) (byte_count value) (characters_length unicode value)
-body_length folded unicode value =
-    quoted_length 0x22 (flat_map (character_text unicode) value) (byte_count value) (characters_length unicode value)
+body_length style unicode value = quoted_length 0x22 (flat_map (character_text unicode) value) (byte_count value) (characters_length unicode value)
 
 -- Properties
 

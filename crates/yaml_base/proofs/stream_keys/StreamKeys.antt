@@ -1,8 +1,8 @@
 -- A simple key in quotes is found where its text ends, before the `:` that follows it.
-use Rattle.yaml_base.proofs.Common.{nat_tests, arith, ℕ, if◌then◌else◌, ◌==◌, option_map, option_and_then, Option, None, Some, nat_le, length, Bool, false}
-use Rattle.yaml_base.proofs.Common.{true, ◌&&◌, [], ◌++◌, ◌∷◌, refl, ◌≡◌, append_assoc, ap, sym, ◌∙◌, option_or, Text, space, single_quoted, double_quoted}
-use Rattle.yaml_base.proofs.Common.{Stood, Tree, is_alias, longest_key, ends_indicator, SimpleKey, without_last_space, word_but_alias, word_of_alias}
-use Rattle.yaml_base.proofs.Common.{key_of_text, key_ends, key_from, Rules, Properties, no_properties, scalar_parsed, scalar_of_style, word_read}
+use Rattle.yaml_base.proofs.Common.{arith, ℕ, if◌then◌else◌, ◌==◌, option_map, option_and_then, Option, None, Some, nat_le, length, Bool, false}
+use Rattle.yaml_base.proofs.Common.{true, ◌&&◌, [], ◌++◌, ◌∷◌, refl, ◌≡◌, append_assoc, ap, sym, ◌∙◌, option_or, Text, space}
+use Rattle.yaml_base.proofs.Common.{Stood, Tree, longest_key, ends_indicator, SimpleKey, without_last_space, word_but_alias, word_of_alias}
+use Rattle.yaml_base.proofs.Common.{key_of_text, key_ends, key_from, Rules, Properties, scalar_parsed}
 
 -- no `:` inside a text ends a key, where so much stands before it and a `:` after it
 abbrev pub NoKey : Rules → Text → Text → Text → Type 0
@@ -40,23 +40,12 @@ key_found rules before (c ∷ t) after key clear read h =
         (key_from rules (before ++ (c ∷ [])) (t ++ (0x3A ∷ after)))) (none refl)
     by false none = refl
 
--- a scalar is no alias
-pub scalar_no_alias : (properties : Properties) (standing : Stood) (value : Option Text)
-    → option_and_then (λ tree. if is_alias tree then Some tree else None) (scalar_parsed properties standing value) ≡ None
-scalar_no_alias properties standing None = refl
-scalar_no_alias properties standing (Some text) = grind (arith)
+-- nothing is said of no value
+pub none_parsed : (properties : Properties) (standing : Stood) (x : Bool) → ◌≡◌ {A = Option Tree} (scalar_parsed properties standing (if x then None else None)) None
+none_parsed properties standing true = refl
+none_parsed properties standing false = refl
 
--- a word that begins with a double quote is a scalar in such quotes
-word_of_double : (rules : Rules) (flow : Bool) (t : Text)
-    → word_read rules flow (0x22 ∷ t) ≡ scalar_of_style double_quoted rules flow None no_properties (0x22 ∷ t)
-word_of_double rules flow t = grind (arith, nat_tests)
-
--- one that begins with a single quote, in such quotes
-word_of_single : (rules : Rules) (flow : Bool) (t : Text)
-    → word_read rules flow (0x27 ∷ t) ≡ scalar_of_style single_quoted rules flow None no_properties (0x27 ∷ t)
-word_of_single rules flow t = grind (arith, nat_tests)
-
--- a text that begins with a quote is no alias before a space
+-- what no alias begins with none stands before a space
 pub no_alias_before : (rules : Rules) (q : ℕ) (t : Text) → (q == space) ≡ false → ((u : Text) → word_of_alias rules (q ∷ u) ≡ None)
     → option_and_then (word_of_alias rules) (without_last_space (q ∷ t)) ≡ None
 no_alias_before rules q [] other none = ap (λ x. option_and_then (word_of_alias rules) (if x then Some [] else None)) other
@@ -65,12 +54,6 @@ no_alias_before rules q (d ∷ t) other none = by (without_last_space (d ∷ t))
     by : (u : Option Text) → option_and_then (word_of_alias rules) (option_map (λ text. q ∷ text) u) ≡ None
     by None = refl
     by (Some u) = none u
-
-pub double_no_alias : (rules : Rules) (u : Text) → word_of_alias rules (0x22 ∷ u) ≡ None
-double_no_alias rules u = grind (arith, word_of_double, scalar_no_alias)
-
-pub single_no_alias : (rules : Rules) (u : Text) → word_of_alias rules (0x27 ∷ u) ≡ None
-single_no_alias rules u = grind (arith, word_of_single, scalar_no_alias)
 
 -- a text is a key where the word is, if no alias stands before its last space
 pub key_by_word : (rules : Rules) (text : Text) (word : Option Tree) → word_but_alias rules text ≡ word

@@ -12,10 +12,11 @@ use Rattle.yaml_base.{proofs.stream_keys.StreamKeyLengths.body_length, proofs.st
 use Rattle.yaml_base.{proofs.stream_lines.StreamLineLaws.OneLine, proofs.stream_lines.StreamLineLaws.one_line_both}
 use Rattle.yaml_base.proofs.stream_flow.{StreamFlowKinds.KeysFit, StreamFlowKinds.empty_whole, StreamFlowScalars.rules_of, StreamFlowScalars.is_flow_style}
 use Rattle.yaml_base.proofs.stream_flow.{StreamFlowScalars.scalar_whole, StreamPropertyWords.lead}
-use Rattle.yaml_base.proofs.stream_keys.StreamKeyBodies.{key_body, body_alone, unbroken_line, key_unbroken}
+use Rattle.yaml_base.proofs.stream_keys.StreamKeyBodies.{key_body, body_alone, key_unbroken}
 use Rattle.yaml_base.proofs.stream_nodes.{StreamAgrees.node_tree, StreamAliasFits.name_line, StreamBegun.lead_line, StreamLeads.lead_rendered}
 use Rattle.yaml_base.proofs.stream_nodes.{StreamLeads.tag_is_written, StreamProperties.IsNamed, StreamProperties.name_letters, StreamStands.tag_written}
 use Rattle.yaml_base.proofs.stream_nodes.{StreamStands.tag_meant, StreamStands.TagStands, StreamTexts.scalar_own, StreamTexts.node_own}
+use Rattle.yaml_base.proofs.stream_lines.StreamLineLaws.{unbroken_line}
 
 -- the text of a simple key is on one line, and with a space after it not too long
 pub record KeyText (breaks12 : Bool) (text : Text) : Type 0 where
@@ -78,7 +79,7 @@ alias_key_text breaks12 name named short = grind (arith, length-le-encodes, one_
 
 -- the text of an empty collection, after its anchor and tag
 pub empty_key_text : (s : Effective) (own directives : List TagDirective) (start : Collection) (a b : ℕ)
-    → ((breaks12 : Bool) → OneLine breaks12 (a ∷ b ∷ [])) → IsNamed start.anchor → TagStands s.portable own directives (collection_tag s.canonical start)
+    → list_any is_break (a ∷ b ∷ []) ≡ false → IsNamed start.anchor → TagStands s.portable own directives (collection_tag s.canonical start)
     → name_count start.anchor + tag_count directives (collection_tag s.canonical start) ≤ most_key_bytes
     → KeyText s.breaks12 (lead start.anchor (tag_written s.portable directives (collection_tag s.canonical start) false) ++ (a ∷ b ∷ []))
 empty_key_text s own directives start a b line named stands short =
@@ -92,17 +93,8 @@ empty_key_text s own directives start a b line named stands short =
           one_line_both s.breaks12 before (a ∷ b ∷ [])
           (lead_line (rules_of s own) start.anchor (tag_written s.portable directives tag false) (tag_meant tag false) named
           (tag_is_written s.portable own directives tag false stands))
-          (line s.breaks12);
+          (unbroken_line s.breaks12 (a ∷ b ∷ []) line);
     }
-
--- brackets break no line
-pub square_line : (breaks12 : Bool) → OneLine breaks12 (0x5B ∷ 0x5D ∷ [])
-square_line true = refl
-square_line false = refl
-
-pub curly_line : (breaks12 : Bool) → OneLine breaks12 (0x7B ∷ 0x7D ∷ [])
-curly_line true = refl
-curly_line false = refl
 
 -- a collection that is a simple key is empty, and short
 pub simple_collection : (canonical empty : Bool) (count : ℕ) → (not canonical && (empty && is_short count)) ≡ true → (empty ≡ true) × (count ≤ most_key_bytes)
@@ -173,7 +165,7 @@ keys_fit s own directives (sequence_node start no_nodes) role column cursor text
     (empty_whole (render_properties s.portable directives start.anchor tag false cursor) cursor
     (lead start.anchor (tag_written s.portable directives tag false)) 0x5B 0x5D
     (lead_rendered s.portable directives start.anchor tag false cursor))))
-    (empty_key_text s own directives start 0x5B 0x5D square_line names.0 names.1 short))
+    (empty_key_text s own directives start 0x5B 0x5D refl names.0 names.1 short))
 keys_fit s own directives (sequence_node start (nodes_and items last)) role column cursor text h names bodies e =
     absurd (false≢true (simple_collection s.canonical false 0 (and_parts (is_key role)
     (is_simple s.canonical directives (sequence_node start (nodes_and items last))) h).1).0)
@@ -189,7 +181,7 @@ keys_fit s own directives (mapping_node start no_pairs) role column cursor text 
     (empty_whole (render_properties s.portable directives start.anchor tag false cursor) cursor
     (lead start.anchor (tag_written s.portable directives tag false)) 0x7B 0x7D
     (lead_rendered s.portable directives start.anchor tag false cursor))))
-    (empty_key_text s own directives start 0x7B 0x7D curly_line names.0 names.1 short))
+    (empty_key_text s own directives start 0x7B 0x7D refl names.0 names.1 short))
 keys_fit s own directives (mapping_node start (pairs_and pairs key value)) role column cursor text h names bodies e =
     absurd (false≢true (simple_collection s.canonical false 0 (and_parts (is_key role)
     (is_simple s.canonical directives (mapping_node start (pairs_and pairs key value))) h).1).0)

@@ -1,10 +1,10 @@
 -- No `:` in an anchor or a tag ends a key: what stands before it is no word, and no alias.
 use Rattle.yaml_base.proofs.Common.{nat_tests, arith, ℕ, ◌+◌, if◌then◌else◌, ◌==◌, is_some, option_map, option_and_then, Option, None, Some, length, Bool}
-use Rattle.yaml_base.proofs.Common.{false, not, true, ◌&&◌, ◌||◌, [], ◌++◌, ◌∷◌, refl, ◌≡◌, eqb-true, true≢false, append-nil, append_assoc, ap, subst, sym, ◌∙◌}
-use Rattle.yaml_base.proofs.Common.{and_parts, and_from, false≢true, list_all, option_or, Text, space, is_alpha, ParsedTag, tag_parsed, Stood, Tree}
-use Rattle.yaml_base.proofs.Common.{sequence_tree, mapping_tree, no_trees, no_tree_pairs, is_alias, ends_indicator, Indented, indented, spaces}
-use Rattle.yaml_base.proofs.Common.{without_last_space, word_of_alias, key_of_text, key_ends, key_from, Rules, Properties, PropertiesRead, cut_before_space}
-use Rattle.yaml_base.proofs.Common.{tag_of_word, tag_first, collection_tag_parsed, scalar_parsed, an_alias, empty_sequence, empty_mapping, a_scalar}
+use Rattle.yaml_base.proofs.Common.{false, not, true, ◌||◌, [], ◌++◌, ◌∷◌, refl, ◌≡◌, eqb-true, true≢false, append-nil, append_assoc, ap, subst, sym, ◌∙◌}
+use Rattle.yaml_base.proofs.Common.{and_parts, and_from, false≢true, list_all, Text, space, is_alpha, ParsedTag, tag_parsed, Stood, Tree}
+use Rattle.yaml_base.proofs.Common.{is_alias, ends_indicator, Indented, indented, spaces}
+use Rattle.yaml_base.proofs.Common.{without_last_space, word_of_alias, key_of_text, key_from, Rules, Properties, PropertiesRead, cut_before_space}
+use Rattle.yaml_base.proofs.Common.{tag_of_word, tag_first, scalar_parsed, an_alias}
 use Rattle.yaml_base.proofs.Common.{word_by_kind, word_after, word_read}
 use Rattle.yaml_base.{proofs.stream_flow.StreamPropertyWords.lead, proofs.stream_lines.StreamInside.indented_spaces, specs.streams.StreamScalars.WordKind}
 use Rattle.yaml_base.proofs.stream_keys.StreamKeys.{NoKey, no_alias_before, key_by_word}
@@ -26,17 +26,16 @@ nowhere_then rules before (c ∷ a) t after none clear = (
   nowhere_then rules (before ++ (c ∷ [])) a t after none.1 (subst (λ b. NoKey rules b t after) (sym (append_assoc before (c ∷ []) a)) clear),
 )
 
+-- nor, of a text alone, before any `:` that ends one
+pub nowhere_clear : (rules : Rules) (before t after : Text) → KeyNowhere rules before t → NoKey rules before t after
+nowhere_clear rules before [] after none = tt
+nowhere_clear rules before (c ∷ t) after none =
+    ((λ h. none.0 (and_parts (c == 0x3A) (ends_indicator (t ++ (0x3A ∷ after))) h).0), nowhere_clear rules (before ++ (c ∷ [])) t after none.1)
+
 -- a line of it alone has no key
 pub nowhere_alone : (rules : Rules) (before a : Text) → KeyNowhere rules before a → key_from rules before a ≡ None
 nowhere_alone rules before [] none = refl
-nowhere_alone rules before (c ∷ a) none =
-    by (c == 0x3A && ends_indicator a) (λ h. none.0 (and_parts (c == 0x3A) (ends_indicator a) h).0) ∙ nowhere_alone rules (before ++ (c ∷ [])) a none.1
-  where
-    by : (x : Bool) → (x ≡ true → key_of_text rules before ≡ None)
-        → option_or (key_ends rules x before a) (key_from rules (before ++ (c ∷ [])) a) ≡ key_from rules (before ++ (c ∷ [])) a
-    by true h =
-        ap (λ x. option_or (option_map (λ key. record { key = key; length = length before; after = a }) x) (key_from rules (before ++ (c ∷ [])) a)) (h refl)
-    by false h = refl
+nowhere_alone rules before (c ∷ a) none = grind (arith, nat_tests, and_parts, nowhere_alone rules (before ++ (c ∷ [])) a none.1)
 
 -- two such texts
 pub nowhere_both : (rules : Rules) (before a b : Text) → KeyNowhere rules before a → KeyNowhere rules (before ++ a) b → KeyNowhere rules before (a ++ b)
@@ -97,11 +96,10 @@ nothing_after rules flow properties count =
 tag_alone : (rules : Rules) (flow : Bool) (anchor : Option Text) (column : ℕ) (b : Text) → has_no_space b ≡ true
     → after_read rules flow (tag_first rules.directives anchor column (0x21 ∷ b)) ≡ None
 tag_alone rules flow anchor column b h =
+    let cut : cut_before_space (0x21 ∷ b) ≡ record { prefix = 0x21 ∷ b; rest = [] } =
+    ap cut_before_space (sym (append-nil (0x21 ∷ b))) ∙ word_whole (0x21 ∷ b) [] h refl in
     ap (λ cut. after_read rules flow (tag_of_word rules.directives anchor column cut)) cut ∙ by (tag_parsed rules.directives (0x21 ∷ b))
   where
-    cut : cut_before_space (0x21 ∷ b) ≡ record { prefix = 0x21 ∷ b; rest = [] }
-    cut = ap cut_before_space (sym (append-nil (0x21 ∷ b))) ∙ word_whole (0x21 ∷ b) [] h refl
-
     by : (parsed : Option ParsedTag)
         → after_read rules flow (option_map (λ parsed. record {
           properties = record { anchor = anchor; tag = Some parsed };

@@ -2,7 +2,7 @@
 use Rattle.yaml_base.proofs.Common.{arith, nat_tests, ℕ, if◌then◌else◌, ◌==◌, None, Some, codes, Bool, false, true, ◌&&◌, ◌||◌, [], map, ◌++◌, ◌∷◌, refl, ◌≡◌}
 use Rattle.yaml_base.proofs.Common.{eqb-true, true≢false, ap, sym, ◌∙◌, and_parts, or_parts, false≢true, Text, is_among, space, plain, unit_of, folding_read}
 use Rattle.yaml_base.proofs.Common.{is_read_white, begins_white, begins_no_plain, begins_with_hash, holds_no_plain, read_plain, is_tidy, ends_indicator, Rules}
-use Rattle.yaml_base.proofs.Common.{style_of_first_character, an_alias, a_scalar, kind_of_word}
+use Rattle.yaml_base.proofs.Common.{style_of_first_character, a_scalar, kind_of_word}
 use Rattle.yaml_base.proofs.{stream_keys.StreamKeys.NoKey, stream_lines.StreamCuts.none_not_some}
 
 -- a character outside a set is none of the set's

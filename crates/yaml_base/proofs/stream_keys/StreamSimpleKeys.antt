@@ -1,41 +1,40 @@
 -- Each simple key of the layout in a block is cut off before its `:`, where its names and its body stand.
 use Rattle.yaml_base.proofs.Common.{nat_tests, suc, ℕ, ◌+◌, ◌≤◌, if◌then◌else◌, is_some, Option, None, Some, nat_le, length, Bool, false, not, true, List, []}
 use Rattle.yaml_base.proofs.Common.{◌++◌, ◌∷◌, refl, ◌≡◌, le-leb, leb-true, length-append, true≢false, ap, subst, sym, ◌∙◌, arith, and_parts, false≢true}
-use Rattle.yaml_base.proofs.Common.{flat_map, list_all, Text, space, is_alpha, Cursor, Rendered, render_nothing, space_if, ScalarStyle, any_style, plain}
+use Rattle.yaml_base.proofs.Common.{flat_map, list_all, Text, space, is_alpha, Cursor, Rendered, space_if, ScalarStyle, any_style, plain}
 use Rattle.yaml_base.proofs.Common.{single_quoted, double_quoted, literal, folded, TagDirective, Scalar, Collection, scalar_tag, collection_tag, alias_node}
-use Rattle.yaml_base.proofs.Common.{scalar_node, sequence_node, Pairs, mapping_node, no_nodes, nodes_and, no_pairs, pairs_and, Body, render_properties}
-use Rattle.yaml_base.proofs.Common.{render_alias, render_separation, render_body, choice_of, body_at, is_written_in_flow, Brackets, square, curly, render_end}
+use Rattle.yaml_base.proofs.Common.{scalar_node, sequence_node, Pairs, mapping_node, no_nodes, nodes_and, no_pairs, pairs_and, Body, render_properties, ◌==◌}
+use Rattle.yaml_base.proofs.Common.{render_alias, render_separation, render_body, choice_of, body_at, is_written_in_flow}
 use Rattle.yaml_base.proofs.Common.{entry_place, Role, as_key, Place, deeper, byte_count, name_count, tag_count, is_short, has_no_pairs, read_in_style}
-use Rattle.yaml_base.proofs.Common.{most_key_bytes, Effective, is_tidy, Allowances, is_empty, character_text, quotes_doubled, is_plain, fitting_style, Tree}
+use Rattle.yaml_base.proofs.Common.{most_key_bytes, Effective, is_tidy, is_empty, character_text, quotes_doubled, is_plain, Tree}
 use Rattle.yaml_base.proofs.Common.{alias_tree, scalar_tree, longest_key, Rules}
 use Rattle.yaml_base.proofs.{stream_flow.StreamFlowKinds.empty_whole, stream_flow.StreamFlowWords.Given, stream_flow.StreamFlowWords.scalar_in}
 use Rattle.yaml_base.proofs.{stream_flow.StreamPropertyWords.lead, stream_keys.StreamAliasKeys.alias_key, stream_keys.StreamKeyBodies.key_body}
 use Rattle.yaml_base.proofs.{stream_keys.StreamKeyBodies.body_alone, stream_lines.StreamClosed.margin_cursor, stream_lines.StreamClosed.spaces_line}
 use Rattle.yaml_base.proofs.{stream_lines.StreamCuts.none_not_some, stream_lines.StreamLineLaws.one_line_both, stream_lines.StreamTidyLaws.tidy_at_root}
-use Rattle.yaml_base.proofs.{stream_nodes.StreamAgrees.tagging_in, stream_nodes.StreamAgrees.node_tree, stream_nodes.StreamLeaves.SimpleKeysFit}
+use Rattle.yaml_base.proofs.{stream_nodes.StreamAgrees.tagging_in, stream_nodes.StreamLeaves.SimpleKeysFit}
 use Rattle.yaml_base.proofs.{stream_nodes.StreamNodesFit.render_begun, stream_nodes.StreamPairs.KeyFits, stream_nodes.StreamPairs.key_place}
 use Rattle.yaml_base.proofs.stream_flow.StreamFlowScalars.{rules_of, is_flow_style, bare_not_plain}
 use Rattle.yaml_base.proofs.stream_keys.StreamPlainKeys.{begins, reads_plain, tidy_begins}
 use Rattle.yaml_base.proofs.stream_nodes.StreamLeads.{lead_rendered, tag_is_written}
-use Rattle.yaml_base.proofs.stream_nodes.StreamProperties.{IsNamed, name_letters}
+use Rattle.yaml_base.proofs.stream_nodes.StreamProperties.{IsNamed, name_letters, begins_content}
 use Rattle.yaml_base.proofs.stream_keys.StreamKeyPrefixes.{prefix_markerless, key_fits, other_prefix, lead_prefix, plain_prefix}
-use Rattle.yaml_base.proofs.stream_keys.StreamKeyReads.{double_key_read, single_key_read, plain_key_read, square_key_read, curly_key_read}
+use Rattle.yaml_base.proofs.stream_keys.StreamKeyReads.{quoted_key_read, plain_key_read, given_key}
 use Rattle.yaml_base.proofs.stream_keys.StreamKeysFit.{KeyText, key_style, SimpleScalar, simple_scalar, scalar_key_text, alias_key_text, empty_key_text}
-use Rattle.yaml_base.proofs.stream_keys.StreamKeysFit.{square_line, curly_line, simple_collection}
+use Rattle.yaml_base.proofs.stream_keys.StreamKeysFit.{simple_collection}
 use Rattle.yaml_base.proofs.stream_nodes.StreamStands.{tag_written, tag_meant, TagStands, NamesStand, BodyStands}
-use Rattle.yaml_base.proofs.stream_nodes.StreamTexts.{scalar_own, collection_own, items_own, pairs_own}
+use Rattle.yaml_base.proofs.stream_nodes.StreamTexts.{scalar_own}
+use Rattle.yaml_base.proofs.stream_nodes.StreamAgrees.{plain_fits}
+use Rattle.yaml_base.proofs.Common.{word_after, option_map, is_break, list_any, is_among, codes, no_trees, no_tree_pairs, sequence_tree, mapping_tree}
+use Rattle.yaml_base.proofs.stream_flow.StreamFlowWords.{tag_of_collection}
+use Rattle.yaml_base.proofs.stream_keys.StreamNoKeys.{nowhere_clear}
 
 -- Styles
-
--- where plain is chosen it fits
-plain_where : (allowed : Allowances) (fits block : Bool) (asked : ScalarStyle) → is_plain (fitting_style allowed fits block asked) ≡ true → fits ≡ true
-plain_where allowed true block asked h = refl
-plain_where allowed false block asked h = grind (arith, false≢true)
 
 -- a plain simple key isn't empty
 plain_not_empty : (s : Effective) (in_flow : Bool) (role : Role) (column : ℕ) (content : Scalar)
     → is_plain (choice_of s (entry_place in_flow role column) true content).style ≡ true → is_empty content.value ≡ false
-plain_not_empty s in_flow role column content h = grind (arith, and_parts, plain_where, false≢true)
+plain_not_empty s in_flow role column content h = grind (arith, and_parts, plain_fits, false≢true)
 
 -- Scalars
 
@@ -69,13 +68,13 @@ scalar_key_fits s own anchor tag given_tag plain false column (c ∷ t) given fl
 scalar_key_fits s own anchor tag given_tag single_quoted bare column value given flow h some tidy read of =
     let rules = rules_of s own in
     let t = quotes_doubled value ++ (39 ∷ []) in
-    let key = single_key_read rules anchor tag given_tag bare column t value given tidy read (key_short of) in
+    let key = quoted_key_read rules false anchor tag given_tag bare column t value given tidy read (key_short of) in
     key_fits rules (lead anchor tag ++ (0x27 ∷ t)) (scalar_in anchor given_tag single_quoted bare value)
     (lead_prefix rules anchor tag (tag_meant given_tag bare) (0x27 ∷ t) given (other_prefix 0x27 t refl refl)) of key.clear key.reads
 scalar_key_fits s own anchor tag given_tag double_quoted bare column value given flow h some tidy read of =
     let rules = rules_of s own in
     let t = flat_map (character_text s.unicode) value ++ (0x22 ∷ []) in
-    let key = double_key_read rules anchor tag given_tag bare column t value given tidy read (key_short of) in
+    let key = quoted_key_read rules true anchor tag given_tag bare column t value given tidy read (key_short of) in
     key_fits rules (lead anchor tag ++ (0x22 ∷ t)) (scalar_in anchor given_tag double_quoted bare value)
     (lead_prefix rules anchor tag (tag_meant given_tag bare) (0x22 ∷ t) given (other_prefix 0x22 t refl refl)) of key.clear key.reads
 scalar_key_fits s own anchor tag given_tag any_style bare column value given flow h some tidy read of = absurd (none_not_some read)
@@ -143,26 +142,29 @@ empty_in_flow : (s : Effective) (place : Place) (start : Collection) → is_writ
 empty_in_flow s place start = grind (arith)
 
 -- an empty collection that is a simple key
-empty_key_fits : (s : Effective) (own directives : List TagDirective) (start : Collection) (brackets : Brackets) (a b : ℕ) (tree : Tree) (e : ℕ)
-    (entries : Bool → ℕ → Cursor → Rendered)
-    → ((in_flow : Bool) (column : ℕ) (cursor : Cursor) → entries in_flow column cursor ≡ render_nothing cursor)
-    → brackets.opening ≡ a ∷ [] → brackets.closing ≡ b ∷ [] → (undented : Bool) (x : Bool) → x ≡ true
-    → KeyFits (rules_of s own) (lead start.anchor (tag_written s.portable directives (collection_tag s.canonical start) false) ++ (a ∷ b ∷ [])) tree
-    → KeyFits (rules_of s own)
-    (collection_own s brackets x undented true (Some e) (render_begun s directives start (margin_cursor e)) (entries x)).text tree
-empty_key_fits s own directives start brackets a b tree e entries nothing opening closing undented x in_flow fits =
+empty_key_fits : (s : Effective) (own directives : List TagDirective) (start : Collection) (a b : ℕ) (tree : Tree) (cursor : Cursor)
+    → IsNamed start.anchor → TagStands s.portable own directives (collection_tag s.canonical start)
+    → name_count start.anchor + tag_count directives (collection_tag s.canonical start) ≤ most_key_bytes
+    → list_any is_break (a ∷ b ∷ []) ≡ false → is_among (codes "?:-.") a ≡ false → begins_content (a ∷ []) ≡ true → (a == space) ≡ false → (a == 0x2A) ≡ false
+    → (a == 0x3A) ≡ false → (b == 0x3A) ≡ false
+    → word_after (rules_of s own) false None (record { anchor = start.anchor; tag = tag_meant (collection_tag s.canonical start) false }) (a ∷ b ∷ []) ≡ Some tree
+    → (let begun : Rendered = render_begun s directives start cursor in
+    space_if true cursor ≡ [] → KeyFits (rules_of s own) ((begun.text ++ []) ++ ((space_if true begun.cursor ++ (a ∷ [])) ++ (b ∷ []))) tree)
+empty_key_fits s own directives start a b tree cursor named stands count line other content shows star colon_a colon_b read nothing =
+    let rules = rules_of s own in
     let tag = collection_tag s.canonical start in
-    let cursor = margin_cursor e in
-    let begun = render_begun s directives start cursor in
-    subst (λ t. KeyFits (rules_of s own) t tree)
-    (sym (ap (λ y. (collection_own s brackets y undented true (Some e) begun (entries y)).text) in_flow
-    ∙ ap (λ (l : Rendered). (begun.text ++ l.text) ++ (render_end s brackets true true (Some e) l.cursor).text)
-    (nothing true (deeper s.indent (Some e)) begun.cursor)
-    ∙ ap (λ t. (begun.text ++ []) ++ ((space_if true begun.cursor ++ t) ++ brackets.closing)) opening
-    ∙ ap (λ t. (begun.text ++ []) ++ ((space_if true begun.cursor ++ (a ∷ [])) ++ t)) closing
-    ∙ empty_whole begun cursor (lead start.anchor (tag_written s.portable directives tag false)) a b
-    (lead_rendered s.portable directives start.anchor tag false cursor)))
-    fits
+    let before = lead start.anchor (tag_written s.portable directives tag false) in
+    let given = written_given s own directives start.anchor tag false named stands in
+    let of = empty_key_text s own directives start a b line named stands count in
+    let key = given_key rules start.anchor (tag_written s.portable directives tag false) (tag_meant tag false) a (b ∷ []) tree given content star
+    (λ after. nowhere_clear rules before (a ∷ b ∷ []) after
+    ((λ h. absurd (false≢true (sym colon_a ∙ h))), ((λ h. absurd (false≢true (sym colon_b ∙ h))), tt))) read (key_short of) in
+    subst (λ t. KeyFits rules t tree)
+    (sym (empty_whole (render_begun s directives start cursor) cursor before a b (lead_rendered s.portable directives start.anchor tag false cursor)
+    ∙ ap (λ t. t ++ (before ++ (a ∷ b ∷ []))) nothing))
+    (key_fits rules (before ++ (a ∷ b ∷ [])) tree
+    (lead_prefix rules start.anchor (tag_written s.portable directives tag false) (tag_meant tag false) (a ∷ b ∷ []) given (other_prefix a (b ∷ []) shows other))
+    of key.clear key.reads)
 
 -- Keys
 
@@ -183,31 +185,17 @@ simple_keys_fit s own directives (scalar_node content) pairs e h names body =
     body
 simple_keys_fit s own directives (sequence_node start no_nodes) pairs e h names bodies =
     let tag = collection_tag s.canonical start in
-    let written = tag_written s.portable directives tag false in
-    let tree = node_tree (sequence_node start no_nodes) s directives (key_place pairs e) in
-    let given = written_given s own directives start.anchor tag false names.0 names.1 in
-    let of = empty_key_text s own directives start 0x5B 0x5D square_line names.0 names.1
-    (simple_collection s.canonical true (name_count start.anchor + tag_count directives tag) h).1 in
-    let key = square_key_read (rules_of s own) start.anchor written tag given (key_short of) in
-    empty_key_fits s own directives start square 0x5B 0x5D tree e (λ in_flow column cursor. items_own no_nodes s directives in_flow column cursor)
-    (λ in_flow column cursor. refl) refl refl true (is_written_in_flow s (key_place pairs e) start true) (empty_in_flow s (key_place pairs e) start)
-    (key_fits (rules_of s own) (lead start.anchor written ++ (0x5B ∷ 0x5D ∷ [])) tree
-    (lead_prefix (rules_of s own) start.anchor written (tag_meant tag false) (0x5B ∷ 0x5D ∷ []) given
-    (other_prefix 0x5B (0x5D ∷ []) refl refl)) of key.clear key.reads)
+    rw (empty_in_flow s (key_place pairs e) start)
+    (empty_key_fits s own directives start 0x5B 0x5D (sequence_tree start.anchor tag no_trees) (margin_cursor e) names.0 names.1
+    (simple_collection s.canonical true (name_count start.anchor + tag_count directives tag) h).1 refl refl refl refl refl refl refl
+    (ap (option_map (λ tag. sequence_tree start.anchor tag no_trees)) (tag_of_collection tag)) refl)
 simple_keys_fit s own directives (sequence_node start (nodes_and items last)) pairs e h names bodies =
     absurd (false≢true (simple_collection s.canonical false 0 h).0)
 simple_keys_fit s own directives (mapping_node start no_pairs) pairs e h names bodies =
     let tag = collection_tag s.canonical start in
-    let written = tag_written s.portable directives tag false in
-    let tree = node_tree (mapping_node start no_pairs) s directives (key_place pairs e) in
-    let given = written_given s own directives start.anchor tag false names.0 names.1 in
-    let of = empty_key_text s own directives start 0x7B 0x7D curly_line names.0 names.1
-    (simple_collection s.canonical true (name_count start.anchor + tag_count directives tag) h).1 in
-    let key = curly_key_read (rules_of s own) start.anchor written tag given (key_short of) in
-    empty_key_fits s own directives start curly 0x7B 0x7D tree e (λ in_flow column cursor. pairs_own no_pairs s directives in_flow column cursor)
-    (λ in_flow column cursor. refl) refl refl false (is_written_in_flow s (key_place pairs e) start true) (empty_in_flow s (key_place pairs e) start)
-    (key_fits (rules_of s own) (lead start.anchor written ++ (0x7B ∷ 0x7D ∷ [])) tree
-    (lead_prefix (rules_of s own) start.anchor written (tag_meant tag false) (0x7B ∷ 0x7D ∷ []) given
-    (other_prefix 0x7B (0x7D ∷ []) refl refl)) of key.clear key.reads)
+    rw (empty_in_flow s (key_place pairs e) start)
+    (empty_key_fits s own directives start 0x7B 0x7D (mapping_tree start.anchor tag no_tree_pairs) (margin_cursor e) names.0 names.1
+    (simple_collection s.canonical true (name_count start.anchor + tag_count directives tag) h).1 refl refl refl refl refl refl refl
+    (ap (option_map (λ tag. mapping_tree start.anchor tag no_tree_pairs)) (tag_of_collection tag)) refl)
 simple_keys_fit s own directives (mapping_node start (pairs_and before key value)) pairs e h names bodies =
     absurd (false≢true (simple_collection s.canonical false 0 h).0)

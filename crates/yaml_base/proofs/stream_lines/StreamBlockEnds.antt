@@ -1,10 +1,10 @@
 -- How a block scalar leaves off: at a line's start where its value ends in a break, and elsewhere after an indicator that strips.
 use Rattle.yaml_base.proofs.Common.{ℕ, ◌+◌, ◌≤◌, if◌then◌else◌, ◌==◌, Option, Bool, false, not, true, ◌&&◌, ◌||◌, List, [], ◌++◌, ◌∷◌, refl, ◌≡◌, true≢false}
 use Rattle.yaml_base.proofs.Common.{append_assoc, ap, sym, ◌∙◌, arith, or_parts, false≢true, nat_tests, Text, line_feed, line_separator, paragraph_separator}
-use Rattle.yaml_base.proofs.Common.{is_ascii, is_space, is_break, is_printable, Cursor, column_after, ScalarStyle, any_style, plain, single_quoted}
-use Rattle.yaml_base.proofs.Common.{double_quoted, literal, folded, is_read_break, strip, after_digit, chomping_first, Charset, Allowances, somewhere, is_empty}
+use Rattle.yaml_base.proofs.Common.{is_ascii, is_space, is_break, is_printable, Cursor, column_after, ScalarStyle, not-true, not-false}
+use Rattle.yaml_base.proofs.Common.{is_read_break, strip, after_digit, chomping_first, Charset, Allowances, somewhere, is_empty}
 use Rattle.yaml_base.proofs.Common.{is_special, bars_block, allows_block, ending, indentation_hint, ending_hint, render_hint, ends_in_break, folded_parts}
-use Rattle.yaml_base.proofs.Common.{parts, fitting_style}
+use Rattle.yaml_base.proofs.Common.{parts, is_block, fitting_style}
 use Rattle.yaml_base.specs.{Cursor.next_column, scalars.Analysis.begins_with, scalars.Analysis.is_trailing_space, scalars.BlockHeader.without_break}
 use Rattle.yaml_base.specs.{scalars.BlockHeader.one_break, scalars.BlockHeader.more_breaks, scalars.Folded.cut_line, scalars.Folded.next_line_unindented}
 use Rattle.yaml_base.specs.{scalars.Lines.Part, scalars.Lines.line, scalars.Lines.line_break, scalars.Lines.begun, scalars.Literal.indented}
@@ -123,7 +123,7 @@ pub last_is_read : (charset : Charset) (value : Text) (end : EndsBreak value) �
     → is_read_break charset.breaks12 end.last ≡ true
 last_is_read charset value end allowed =
     let nowhere =
-    (or_parts (is_empty value) (somewhere (bars_block charset) value) (not_true (is_empty value || somewhere (bars_block charset) value) allowed)).1 in
+    (or_parts (is_empty value) (somewhere (bars_block charset) value) (not-true (is_empty value || somewhere (bars_block charset) value) allowed)).1 in
     let bars = nowhere_last (bars_block charset) end.prefix end.last (ap (somewhere (bars_block charset)) (sym end.is) ∙ nowhere) in
     let special =
     (or_parts (is_special charset end.last) (is_trailing_space end.last [])
@@ -132,16 +132,8 @@ last_is_read charset value end allowed =
     or_parts (not (is_printable end.last) || (not charset.unicode && not (is_ascii end.last)))
     (charset.breaks12 && (end.last == line_separator || end.last == paragraph_separator)) special in
     by charset.breaks12 end.last end.breaks
-    (not_false (is_printable end.last) (or_parts (not (is_printable end.last)) (not charset.unicode && not (is_ascii end.last)) parts.0).0) parts.1
+    (not-false (is_printable end.last) (or_parts (not (is_printable end.last)) (not charset.unicode && not (is_ascii end.last)) parts.0).0) parts.1
   where
-    not_true : (x : Bool) → not x ≡ true → x ≡ false
-    not_true true h = absurd (false≢true h)
-    not_true false h = refl
-
-    not_false : (x : Bool) → not x ≡ false → x ≡ true
-    not_false true h = refl
-    not_false false h = absurd (true≢false h)
-
     by : (breaks12 : Bool) (b : ℕ) → is_break b ≡ true → is_printable b ≡ true → (breaks12 && (b == line_separator || b == paragraph_separator)) ≡ false
         → is_read_break breaks12 b ≡ true
     by true b breaks shown none = grind (arith, nat_tests, breaks, shown, none)
@@ -161,13 +153,7 @@ strips best_indent value rest low high h = grind (arith, true≢false)
 
 -- Styles
 
--- a block style
-abbrev pub is_block : ScalarStyle → Bool
-is_block literal = true
-is_block folded = true
-is_block _ = false
-
--- one is chosen only where it fits
+-- a block style is chosen only where it fits
 pub block_fitting : (allowed : Allowances) (plain_fits block_fits : Bool) (asked : ScalarStyle)
     → is_block (fitting_style allowed plain_fits block_fits asked) ≡ true → block_fits ≡ true
 block_fitting allowed plain_fits block_fits asked h = grind (arith, nat_tests, false≢true)

@@ -2,7 +2,7 @@
 use Rattle.yaml_base.proofs.Common.{nat_tests, arith, ℕ, if◌then◌else◌, ◌==◌, option_and_then, Some, Bool, false, not, true, ◌&&◌, ◌||◌, List, [], ◌∷◌, refl}
 use Rattle.yaml_base.proofs.Common.{◌≡◌, eqb-true, ap, ◌∙◌, and_parts, and_from, or_right, false≢true, list_all-append, list_all, Text, line_feed}
 use Rattle.yaml_base.proofs.Common.{carriage_return, next_line, is_printable, break_text, with_breaks_written, is_rendered_text, LineBreak}
-use Rattle.yaml_base.proofs.Common.{carriage_return_break, line_feed_break, both_break, characters_read, documents_of, stream_trees}
+use Rattle.yaml_base.proofs.Common.{characters_read, documents_of, stream_trees}
 use Rattle.yaml_base.{proofs.BreakLaws.breaks-round, specs.streams.StreamReader.may_stand_raw, specs.streams.StreamReader.text_trees}
 
 -- a character that isn't printable is none of a printable text

@@ -4,6 +4,7 @@ use Rattle.yaml_base.proofs.Common.{◌∙◌, arith, and_parts, and_from, or_pa
 use Rattle.yaml_base.proofs.Common.{is_read_break, Line, prepend_to_first_line, prepend_character, lines_of, ends_indicator, belongs_to_entry, spaces}
 use Rattle.yaml_base.proofs.stream_lines.{StreamLineLaws.is_closed, StreamLineLaws.OneLine, StreamTidyLaws.lines_after_first}
 use Rattle.yaml_base.proofs.stream_lines.StreamInside.{inside_deeper, AllInside}
+use Rattle.yaml_base.proofs.stream_lines.StreamLineLaws.{break_line}
 
 -- Cursors
 
@@ -33,15 +34,10 @@ margin_cursor e = record { column = e; whitespace = true; indention = true }
 
 -- Lines
 
--- a space breaks no line
-space_goes_on : (breaks12 : Bool) → is_read_break breaks12 space ≡ false
-space_goes_on true = refl
-space_goes_on false = refl
-
 -- spaces are on one line
 pub spaces_line : (breaks12 : Bool) (k : ℕ) → OneLine breaks12 (spaces k)
 spaces_line breaks12 zero = refl
-spaces_line breaks12 (suc k) = ap (λ x. x || list_any (is_read_break breaks12) (spaces k)) (space_goes_on breaks12) ∙ spaces_line breaks12 k
+spaces_line breaks12 (suc k) = ap (λ x. x || list_any (is_read_break breaks12) (spaces k)) (break_line breaks12 space refl) ∙ spaces_line breaks12 k
 
 -- a character that breaks no line
 pub character_line : (breaks12 : Bool) (c : ℕ) (a : Text) → is_read_break breaks12 c ≡ false → OneLine breaks12 a → OneLine breaks12 (c ∷ a)

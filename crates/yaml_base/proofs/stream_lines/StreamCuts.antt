@@ -1,8 +1,9 @@
 -- What reads is what is cut off: no proper prefix of a quoted text is one, and a longer text begins with it.
 use Rattle.yaml_base.proofs.Common.{arith, nat_tests}
 use Rattle.yaml_base.proofs.Common.{ℕ, if◌then◌else◌, ◌==◌, option_map, Option, None, Some, Bool, false, true, [], map, ◌++◌, ◌∷◌, refl, ◌≡◌, true≢false, ap}
-use Rattle.yaml_base.proofs.Common.{sym, ◌∙◌, Text, QuotePlace, between, goes_on, gives, ends_quotes, has_no_reading, Quoted, with_unit, after_step}
+use Rattle.yaml_base.proofs.Common.{sym, ◌∙◌, Text, QuotePlace, between, Quoted, with_unit, after_step}
 use Rattle.yaml_base.proofs.Common.{quoted_from, quoted_reading, value_before, value_alone, read_double, FoldUnit, unit_of, folding_read, unquoted, read_single}
+use Rattle.yaml_base.proofs.Common.{ScalarStyle, single_quoted, double_quoted}
 use Rattle.yaml_base.specs.reading.ReadDouble.{QuoteStep, quote_step, QuotedReading, double_quoted_prefix}
 
 -- nothing is not something
@@ -46,7 +47,7 @@ prefix_extends breaks12 (c ∷ t) r =
     by false a b h = tt
 
 -- no proper prefix of a double-quoted text is one
-pub double_quoted_whole : (breaks12 : Bool) (t : Text) (c : ℕ) (rest v : Text) → read_double breaks12 (t ++ (c ∷ rest)) ≡ Some v → read_double breaks12 t ≡ None
+double_quoted_whole : (breaks12 : Bool) (t : Text) (c : ℕ) (rest v : Text) → read_double breaks12 (t ++ (c ∷ rest)) ≡ Some v → read_double breaks12 t ≡ None
 double_quoted_whole breaks12 t c rest v read = by (double_quoted_prefix breaks12 t) (prefix_extends breaks12 t (c ∷ rest))
   where
     by : (a : Option QuotedReading) → PrefixExtends (c ∷ rest) a (double_quoted_prefix breaks12 (t ++ (c ∷ rest))) → value_alone a ≡ None
@@ -75,7 +76,7 @@ unquoted_whole (a ∷ b ∷ t) c rest other h = by (a == 39) (b == 39) (unquoted
     by false y one two h = ap (option_map (λ t. a ∷ t)) (two (λ e. h (ap (option_map (λ t. a ∷ t)) e)))
 
 -- no proper prefix of a single-quoted text is one, where no quote follows it
-pub single_quoted_whole : (breaks12 : Bool) (t : Text) (c : ℕ) (rest v : Text) → (c == 39) ≡ false → read_single breaks12 (t ++ (c ∷ rest)) ≡ Some v
+single_quoted_whole : (breaks12 : Bool) (t : Text) (c : ℕ) (rest v : Text) → (c == 39) ≡ false → read_single breaks12 (t ++ (c ∷ rest)) ≡ Some v
     → read_single breaks12 t ≡ None
 single_quoted_whole breaks12 [] c rest v other read = refl
 single_quoted_whole breaks12 (q ∷ t) c rest v other read = by (q == 39) read
@@ -86,3 +87,26 @@ single_quoted_whole breaks12 (q ∷ t) c rest v other read = by (q == 39) read
         ap (option_map (λ t. folding_read (map (unit_of breaks12) t)))
         (unquoted_whole t c rest other (λ e. none_not_some (sym (ap (option_map (λ t. folding_read (map (unit_of breaks12) t))) e) ∙ read)))
     by false read = refl
+
+-- Either quotes
+
+-- the double quote or the single one
+abbrev pub quote_of : (double : Bool) → ℕ
+quote_of true = 0x22
+quote_of false = 0x27
+
+-- the style that it begins
+abbrev pub quoted_in : (double : Bool) → ScalarStyle
+quoted_in true = double_quoted
+quoted_in false = single_quoted
+
+-- what a text in such quotes reads as
+abbrev pub read_quoted : (double : Bool) → (breaks12 : Bool) → Text → Option Text
+read_quoted true breaks12 text = read_double breaks12 text
+read_quoted false breaks12 text = read_single breaks12 text
+
+-- no proper prefix of a quoted text is one, where no quote follows it
+pub quoted_whole : (double breaks12 : Bool) (t : Text) (c : ℕ) (rest v : Text) → (c == 39) ≡ false
+    → read_quoted double breaks12 (t ++ (c ∷ rest)) ≡ Some v → read_quoted double breaks12 t ≡ None
+quoted_whole true breaks12 t c rest v other read = double_quoted_whole breaks12 t c rest v read
+quoted_whole false breaks12 t c rest v other read = single_quoted_whole breaks12 t c rest v other read

@@ -41,6 +41,11 @@ pub blank_spaces : (e : ℕ) → is_spaces (spaces e) ≡ true
 blank_spaces zero = refl
 blank_spaces (suc e) = blank_spaces e
 
+-- with spaces before it a text of spaces is one
+pub blank_both : (k : ℕ) (t : Text) → is_spaces t ≡ true → is_spaces (spaces k ++ t) ≡ true
+blank_both zero t h = h
+blank_both (suc k) t h = blank_both k t h
+
 -- each of some lines is inside a column
 abbrev pub AllInside : Bool → ℕ → List Line → Type 0
 AllInside s column lines = list_all (λ line. belongs_to_entry s column line.text) lines ≡ true

@@ -1,6 +1,7 @@
 -- The lines of texts one after another.
 use Rattle.yaml_base.proofs.Common.{nat_tests, arith, ℕ, Bool, false, true, ◌||◌, List, [], ◌++◌, ◌∷◌, refl, ◌≡◌, ap, sym, ◌∙◌, or_parts, list_any, Text}
-use Rattle.yaml_base.proofs.Common.{is_read_break, Line, prepend_character, lines_of, text_of_lines}
+use Rattle.yaml_base.proofs.Common.{is_read_break, Line, prepend_character, lines_of, text_of_lines, is_break}
+use Rattle.yaml_base.proofs.AllPass.{fewer_pass}
 
 -- a text is empty, or its last character is a break
 abbrev pub is_closed : Bool → Text → Bool
@@ -41,3 +42,12 @@ one_line_both breaks12 [] b h k = k
 one_line_both breaks12 (c ∷ a) b h k =
     let parts : (is_read_break breaks12 c ≡ false) × OneLine breaks12 a = or_parts (is_read_break breaks12 c) (list_any (is_read_break breaks12) a) h in
     ap (λ x. x || list_any (is_read_break breaks12) (a ++ b)) parts.0 ∙ one_line_both breaks12 a b parts.1 k
+
+-- what breaks no line in a value breaks none that is read
+pub break_line : (breaks12 : Bool) (c : ℕ) → is_break c ≡ false → is_read_break breaks12 c ≡ false
+break_line true c h = grind (arith, nat_tests, h)
+break_line false c h = grind (arith, nat_tests, h)
+
+-- so it is for a text
+pub unbroken_line : (breaks12 : Bool) (text : Text) → list_any is_break text ≡ false → OneLine breaks12 text
+unbroken_line breaks12 text h = fewer_pass is_break (is_read_break breaks12) (break_line breaks12) text h

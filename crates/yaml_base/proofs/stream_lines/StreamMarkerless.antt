@@ -8,8 +8,10 @@ use Rattle.yaml_base.proofs.stream_lines.{StreamSections.is_markerless, StreamSe
 use Rattle.yaml_base.proofs.stream_nodes.{StreamAgrees.node_tree, StreamFits.size, StreamFits.Fits, StreamFits.indicated_lines, StreamItems.items_text}
 use Rattle.yaml_base.proofs.stream_nodes.{StreamItems.ItemsFit, StreamItems.items_inside}
 use Rattle.yaml_base.proofs.stream_nodes.StreamPairs.{key_place, value_place, colon_cursor, simple_key, indicated_key, simple_value, indicated_value}
-use Rattle.yaml_base.proofs.stream_nodes.StreamPairs.{pair_text, pairs_text, PairFits, PairsFit, question_line, colon_line, keyed_lines, rest_inside}
+use Rattle.yaml_base.proofs.stream_nodes.StreamPairs.{pair_text, pairs_text, PairFits, PairsFit, keyed_lines, rest_inside}
 use Rattle.yaml_base.proofs.stream_nodes.StreamPairs.{indicated_pair_lines, pairs_lines}
+use Rattle.yaml_base.proofs.stream_lines.StreamLineLaws.{unbroken_line}
+use Rattle.yaml_base.proofs.AllPass.{all_pass}
 
 -- a line that begins with a space is no marker
 space_markerless : (t : Text) → is_markerless (marker_of (space ∷ t)) ≡ true
@@ -41,11 +43,8 @@ inside_markerless s (c ∷ t) h = grind (arith, eqb-true, space_markerless, fals
 
 -- nor is any of some lines there
 pub all_markerless : (s : Bool) (lines : List Line) → AllInside s 0 lines → AllMarkerless lines
-all_markerless s [] h = refl
-all_markerless s (line ∷ rest) h =
-    let parts = and_parts (belongs_to_entry s 0 line.text) (list_all (λ line. belongs_to_entry s 0 line.text) rest) h in
-    and_from (is_markerless (marker_of line.text)) (list_all (λ line. is_markerless (marker_of line.text)) rest) (inside_markerless s line.text parts.0)
-    (all_markerless s rest parts.1)
+all_markerless s lines h =
+    all_pass (λ line. belongs_to_entry s 0 line.text) (λ line. is_markerless (marker_of line.text)) (λ line e. inside_markerless s line.text e) lines h
 
 -- lines, and then others
 pub markerless_both : (a b : List Line) → AllMarkerless a → AllMarkerless b → AllMarkerless (a ++ b)
@@ -88,9 +87,9 @@ pair_markerless false rules s directives pairs key value fit =
     ap (λ ls. list_all (λ line. is_markerless (marker_of line.text)) ls) (indicated_pair_lines rules s directives pairs key value 0 fit)
     ∙ markerless_both (lines_of rules.breaks12 (spaces 0 ++ (0x3F ∷ closed k))) (lines_of rules.breaks12 (spaces 0 ++ (0x3A ∷ closed v)))
     (indicated_markerless rules (size key) k (node_tree key s directives (key_place pairs 0)) (as_key (has_no_pairs pairs)) 0x3F fit.0
-    (question_line rules.breaks12) question_markerless)
+    (unbroken_line rules.breaks12 (0x3F ∷ []) refl) question_markerless)
     (indicated_markerless rules (size value) v (node_tree value s directives (value_place false 0)) (as_value false) 0x3A fit.1
-    (colon_line rules.breaks12) colon_markerless)
+    (unbroken_line rules.breaks12 (0x3A ∷ []) refl) colon_markerless)
 
 -- no line of a mapping at column 0 is a marker
 pub pairs_markerless : (rules : Rules) (s : Effective) (directives : List TagDirective) (pairs : Pairs) → PairsFit rules s directives pairs 0

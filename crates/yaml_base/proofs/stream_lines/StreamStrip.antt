@@ -1,5 +1,5 @@
 -- A break more at the end of a block scalar that strips its final breaks doesn't change what it reads as.
-use Rattle.yaml_base.proofs.Common.{nat_tests, arith, ℕ, if◌then◌else◌, option_map, option_and_then, Option, None, Some, Bool, false, true, List, [], ◌++◌, ◌∷◌}
+use Rattle.yaml_base.proofs.Common.{nat_tests, arith, ℕ, if◌then◌else◌, option_map, option_and_then, Option, Some, Bool, false, List, [], ◌++◌, ◌∷◌}
 use Rattle.yaml_base.proofs.Common.{refl, ◌≡◌, true≢false, ap, ◌∙◌, Text, line_feed, is_read_break, elements, strip, digit_first, after_digit, chomping_first}
 use Rattle.yaml_base.proofs.Common.{after_chomping, after_break, read_lines, read_block}
 use Rattle.yaml_base.proofs.stream_lines.StreamCuts.{none_not_some}

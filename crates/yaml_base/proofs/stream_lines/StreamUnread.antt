@@ -1,10 +1,10 @@
 -- No node is read of a line that begins with a directive's `%` or that is a document's marker: so what reads as a node is neither.
-use Rattle.yaml_base.proofs.Common.{nat_tests, arith, suc, zero, ℕ, if◌then◌else◌, ◌==◌, is_some, option_map, Option, None, Some, codes, length, Bool, false}
-use Rattle.yaml_base.proofs.Common.{true, ◌&&◌, ◌||◌, List, [], ◌++◌, ◌∷◌, refl, ◌≡◌, eqb-true, append_assoc, ap, sym, ◌∙◌, and_parts, false≢true, option_or}
-use Rattle.yaml_base.proofs.Common.{Text, plain, read_plain, is_tidy, stood_plain, Tree, begins_with_marker, start_marker, end_marker, no_exclamation}
-use Rattle.yaml_base.proofs.Common.{marker_of, begins_with_percent, Line, ends_indicator, SimpleKey, without_last_space, key_of_text, key_ends, key_from}
-use Rattle.yaml_base.proofs.Common.{key_of_line, trimmed, word_text, kind_of_text, text_read, begins_mapping, begins_text, kind_of_node, node_by_kind}
-use Rattle.yaml_base.proofs.Common.{begins_properties, text_or_properties, node_read, Rules, Properties, no_properties, scalar_parsed, word_after, word_read}
+use Rattle.yaml_base.proofs.Common.{nat_tests, arith, ℕ, if◌then◌else◌, ◌==◌, option_map, Option, None, Some, codes, Bool, false}
+use Rattle.yaml_base.proofs.Common.{true, List, [], ◌++◌, ◌∷◌, refl, ◌≡◌, eqb-true, append_assoc, ap, sym, ◌∙◌, and_parts, false≢true}
+use Rattle.yaml_base.proofs.Common.{Text, read_plain, stood_plain, Tree, begins_with_marker, start_marker, end_marker, no_exclamation}
+use Rattle.yaml_base.proofs.Common.{marker_of, begins_with_percent, Line, without_last_space, key_of_text, key_from}
+use Rattle.yaml_base.proofs.Common.{key_of_line, trimmed, word_text, kind_of_text, text_read, begins_text, kind_of_node}
+use Rattle.yaml_base.proofs.Common.{node_read, Rules, Properties, no_properties, scalar_parsed, word_after, word_read}
 use Rattle.yaml_base.proofs.stream_lines.{StreamCuts.none_not_some, StreamSections.is_markerless}
 
 -- what a document's text doesn't begin with
@@ -51,15 +51,7 @@ indicator_key symbol t rules = grind (arith, indicator_read, space_after)
 -- nor does one stand before a `:` later on
 no_key_after : (symbol : LineStart) (before t : Text) (rules : Rules) → key_from rules (indicator_text symbol ++ before) t ≡ None
 no_key_after symbol before [] rules = refl
-no_key_after symbol before (c ∷ t) rules =
-    ap (λ o. option_or o (key_from rules ((indicator_text symbol ++ before) ++ (c ∷ [])) t)) (by ((c == 0x3A) && ends_indicator t))
-    ∙ ap (λ b. key_from rules b t) (append_assoc (indicator_text symbol) before (c ∷ []))
-    ∙ no_key_after symbol (before ++ (c ∷ [])) t rules
-  where
-    by : (x : Bool) → key_ends rules x (indicator_text symbol ++ before) t ≡ None
-    by false = refl
-    by true = ap (option_map (λ key. let found : SimpleKey = record { key = key; length = length (indicator_text symbol ++ before); after = t } in found))
-        (indicator_key symbol before rules)
+no_key_after symbol before (c ∷ t) rules = grind (arith, nat_tests, append_assoc, indicator_key, no_key_after symbol (before ++ (c ∷ [])) t rules)
 
 -- so such a line begins with no key
 indicator_line : (symbol : LineStart) (t : Text) (rules : Rules) → key_of_line rules (indicator_text symbol ++ t) ≡ None

@@ -1,16 +1,18 @@
 -- The trees that a layout's nodes are to be read as, and that they agree with the events.
 use Rattle.yaml_base.proofs.Common.{arith, if◌then◌else◌, is_some, bytes_eq, Option, None, Some, Bool, false, not, true, ◌&&◌, ◌||◌, List, [], ◌∷◌, refl, ◌≡◌}
-use Rattle.yaml_base.proofs.Common.{ap, sym, ◌∙◌, and_parts, and_from, false≢true, Decides-int_eq, bytes_eq-Decides, Text, ScalarStyle, any_style, plain}
-use Rattle.yaml_base.proofs.Common.{single_quoted, double_quoted, literal, folded, Version, TagDirective, Scalar, scalar_tag, collection_tag, Node, alias_node}
+use Rattle.yaml_base.proofs.Common.{ap, ◌∙◌, and_parts, and_from, false≢true, Decides-int_eq, Text, ScalarStyle}
+use Rattle.yaml_base.proofs.Common.{Version, TagDirective, Scalar, scalar_tag, collection_tag, Node, alias_node}
 use Rattle.yaml_base.proofs.Common.{scalar_node, Nodes, sequence_node, Pairs, mapping_node, no_nodes, nodes_and, no_pairs, pairs_and, Document, root_place}
-use Rattle.yaml_base.proofs.Common.{charset_of, choice_of, is_written_in_flow, entry_place, as_item, as_key, as_value, Place, has_no_nodes, has_no_pairs}
+use Rattle.yaml_base.proofs.Common.{charset_of, style_asked_at, choice_of, is_written_in_flow, entry_place, as_item, as_key, as_value, Place, has_no_nodes}
+use Rattle.yaml_base.proofs.Common.{has_no_pairs}
 use Rattle.yaml_base.proofs.Common.{is_simple, is_simple_at, Effective, directives_in_force, Allowances, is_empty, allowances, Choice, lacks_tag_and_flags}
-use Rattle.yaml_base.proofs.Common.{is_plain, requested_style, quoted_style, fitting_style, fits_plain, Stood, stood_plain, stood_quoted, stood_bare, Tagging}
+use Rattle.yaml_base.proofs.Common.{is_plain, requested_style, fitting_style, fits_plain, Stood, stood_plain, stood_quoted, stood_bare, Tagging}
 use Rattle.yaml_base.proofs.Common.{with_tag, without_tag, Tree, alias_tree, scalar_tree, Trees, sequence_tree, TreePairs, mapping_tree, no_trees, trees_and}
 use Rattle.yaml_base.proofs.Common.{no_tree_pairs, tree_pairs_and, DocumentTree, document_agrees}
 use Rattle.std.specs.Ordering.{int_eq}
 use Rattle.yaml_base.specs.streams.StreamContent.{may_stand, is_same_text, tagging_agrees, tree_agrees, trees_agree, tree_pairs_agree, is_same_version}
 use Rattle.yaml_base.specs.streams.StreamContent.{are_same_directives}
+use Rattle.yaml_base.proofs.TagForms.{same_text}
 
 -- how a scalar stands in a style, after the bare tag or not
 abbrev pub standing_in : ScalarStyle → (bare : Bool) → Stood
@@ -76,27 +78,14 @@ abbrev mutual
   pairs_are_tagged canonical (pairs_and pairs key value) =
       pairs_are_tagged canonical pairs && node_is_tagged canonical key && node_is_tagged canonical value
 
-same_text : (text : Text) → bytes_eq text text ≡ true
-same_text text = (bytes_eq-Decides text text).1 refl
-
 same_option : (text : Option Text) → is_same_text text text ≡ true
 same_option None = refl
 same_option (Some text) = same_text text
 
 -- plain is chosen only where it fits
-quoted_not_plain : (allowed : Allowances) → is_plain (quoted_style allowed) ≡ false
-quoted_not_plain allowed = grind (arith)
-
-plain_fits : (allowed : Allowances) (fits block_fits : Bool) (style : ScalarStyle) → is_plain (fitting_style allowed fits block_fits style) ≡ true → fits ≡ true
+pub plain_fits : (allowed : Allowances) (fits block_fits : Bool) (style : ScalarStyle) → is_plain (fitting_style allowed fits block_fits style) ≡ true → fits ≡ true
 plain_fits allowed true block_fits style h = refl
-plain_fits allowed false block_fits plain h = absurd (false≢true (sym (quoted_not_plain allowed) ∙ h))
-plain_fits allowed false block_fits single_quoted h = absurd (false≢true (sym (quoted_not_plain allowed) ∙ h))
-plain_fits allowed false true literal h = absurd (false≢true h)
-plain_fits allowed false false literal h = absurd (false≢true h)
-plain_fits allowed false true folded h = absurd (false≢true h)
-plain_fits allowed false false folded h = absurd (false≢true h)
-plain_fits allowed false block_fits any_style h = absurd (false≢true h)
-plain_fits allowed false block_fits double_quoted h = absurd (false≢true h)
+plain_fits allowed false block_fits style h = grind (arith, false≢true)
 
 -- a scalar without a written tag stands as its flags let it
 stands : (content : Scalar) (style : ScalarStyle) → (is_plain style ≡ true → content.plain_implicit ≡ true)
@@ -122,14 +111,14 @@ tagging_is s place simple content None e flags =
     style : Option Text → ScalarStyle
     style t =
         fitting_style allowed (fit t) (allowed.block && not place.in_flow && not simple)
-        (requested_style (s.canonical || (simple && allowed.multiline)) content.style)
+        (requested_style (s.canonical || (simple && allowed.multiline)) (style_asked_at s place content))
 
     fits : is_plain (style None) ≡ true → content.plain_implicit ≡ true
     fits h =
         (and_parts ((if place.in_flow then allowed.flow_plain else allowed.block_plain) && not (is_empty content.value && (place.in_flow || simple)))
         (false || content.plain_implicit)
         (plain_fits allowed (fit None) (allowed.block && not place.in_flow && not simple)
-        (requested_style (s.canonical || (simple && allowed.multiline)) content.style) h)).1
+        (requested_style (s.canonical || (simple && allowed.multiline)) (style_asked_at s place content)) h)).1
 
 -- the tree of a node agrees with it
 mutual

@@ -1,12 +1,16 @@
 -- An alias that is no simple key fits where it stands in a block.
-use Rattle.yaml_base.proofs.Common.{ℕ, ◌<◌, if◌then◌else◌, ◌==◌, is_some, Option, None, Some, Bool, false, not, true, ◌&&◌, ◌||◌, List, [], ◌++◌, ◌∷◌, refl}
-use Rattle.yaml_base.proofs.Common.{◌≡◌, eqb-true, true≢false, append-nil, append_assoc, ap, subst, sym, ◌∙◌, arith, and_parts, false≢true, list_all, list_any}
+use Rattle.yaml_base.proofs.Common.{ℕ, ◌<◌, if◌then◌else◌, ◌==◌, is_some, Option, None, Some, Bool, false, not, true, ◌&&◌, List, [], ◌++◌, ◌∷◌, refl}
+use Rattle.yaml_base.proofs.Common.{◌≡◌, eqb-true, true≢false, append-nil, append_assoc, ap, subst, sym, ◌∙◌, arith, and_parts, false≢true, list_all}
 use Rattle.yaml_base.proofs.Common.{option_or, Text, line_feed, space, is_alpha, Cursor, TagDirective, alias_node, render_alias, Place, is_simple_at}
 use Rattle.yaml_base.proofs.Common.{is_read_break, Effective, is_read_white, alias_tree, ends_indicator, all_deeper, spaces, key_ends, key_from}
 use Rattle.yaml_base.proofs.Common.{prepend_to_trimmed, trimmed, begins_mapping, begins_text, kind_of_node, Rules, no_properties, word_after}
 use Rattle.yaml_base.proofs.{stream_lines.StreamClosed.closed, stream_lines.StreamClosed.lines_broken, stream_lines.StreamLineLaws.is_closed}
 use Rattle.yaml_base.proofs.{stream_lines.StreamLineLaws.OneLine, stream_nodes.StreamBlocks.below_ends, stream_nodes.StreamFits.Fits}
 use Rattle.yaml_base.proofs.{stream_nodes.StreamLeafFits.TextReads, stream_nodes.StreamLeafFits.text_fits, stream_nodes.StreamNodesFit.LeafFits}
+use Rattle.yaml_base.proofs.stream_lines.StreamLineLaws.{break_line}
+use Rattle.yaml_base.proofs.stream_lines.StreamClosed.{character_line}
+use Rattle.yaml_base.proofs.AllPass.{none_pass}
+use Rattle.yaml_base.proofs.stream_nodes.StreamLeads.{before_count, before_spaces, before_some}
 
 -- a letter of a name is none of what names don't hold
 other_letter : (c n : ℕ) → is_alpha n ≡ false → is_alpha c ≡ true → (c == n) ≡ false
@@ -22,10 +26,7 @@ letter_shows breaks12 c h = grind (arith, other_letter, letter_line)
 
 -- a name is on one line
 pub name_line : (breaks12 : Bool) (name : Text) → list_all is_alpha name ≡ true → OneLine breaks12 name
-name_line breaks12 [] h = refl
-name_line breaks12 (c ∷ name) h =
-    let parts = and_parts (is_alpha c) (list_all is_alpha name) h in
-    ap (λ x. x || list_any (is_read_break breaks12) name) (letter_line breaks12 c parts.0) ∙ name_line breaks12 name parts.1
+name_line breaks12 name h = none_pass is_alpha (is_read_break breaks12) (letter_line breaks12) name h
 
 -- the break after it is cut off
 name_trimmed : (breaks12 : Bool) (name : Text) → list_all is_alpha name ≡ true → trimmed breaks12 (name ++ (line_feed ∷ [])) ≡ name
@@ -47,11 +48,6 @@ name_no_key rules before (c ∷ name) h =
 -- an alias is a text of its own
 alias_kind : (rules : Rules) (name : Text) → list_all is_alpha name ≡ true → kind_of_node rules (0x2A ∷ name) ≡ begins_text
 alias_kind rules name h = ap (λ key. if is_some key then begins_mapping else begins_text) (name_no_key rules (0x2A ∷ []) name h)
-
--- an alias is on one line
-star_line : (breaks12 : Bool) (name : Text) → list_all is_alpha name ≡ true → OneLine breaks12 (0x2A ∷ name)
-star_line true name h = name_line true name h
-star_line false name h = name_line false name h
 
 -- the break after an alias is cut off
 star_trimmed : (breaks12 : Bool) (name : Text) → list_all is_alpha name ≡ true → trimmed breaks12 (0x2A ∷ (name ++ (line_feed ∷ []))) ≡ 0x2A ∷ name
@@ -83,7 +79,8 @@ alias_reads rules column n t h = record {
   first = n ∷ t;
   ending = line_feed ∷ [];
   rest = [];
-  is = lines_broken rules.breaks12 (0x2A ∷ n ∷ t) [] (star_line rules.breaks12 (n ∷ t) h);
+  is = lines_broken rules.breaks12 (0x2A ∷ n ∷ t) []
+      (character_line rules.breaks12 0x2A (n ∷ t) (break_line rules.breaks12 0x2A refl) (name_line rules.breaks12 (n ∷ t) h));
   shows = refl;
   kind = alias_kind rules (n ∷ t) h;
   deeper = λ c e. refl;
@@ -112,8 +109,5 @@ pub alias_fits : (rules : Rules) (s : Effective) (directives : List TagDirective
     → list_all is_alpha (n ∷ t) ≡ true
     → is_simple_at place s.canonical directives (alias_node (n ∷ t)) ≡ false → LeafFits rules s directives (alias_node (n ∷ t)) place cursor
 alias_fits rules s directives n t place cursor name simple =
-    subst (λ x. Fits rules 1 (render_alias (n ∷ t) x cursor) (alias_tree (n ∷ t)) place cursor) (sym simple) (by cursor.whitespace refl)
-  where
-    by : (x : Bool) → cursor.whitespace ≡ x → Fits rules 1 (render_alias (n ∷ t) false cursor) (alias_tree (n ∷ t)) place cursor
-    by true h = named_fits rules n t place cursor 0 name (ap (λ x. if true && not x then space ∷ [] else []) h) (λ w. absurd (true≢false (sym h ∙ w)))
-    by false h = named_fits rules n t place cursor 1 name (ap (λ x. if true && not x then space ∷ [] else []) h) (λ w. omega arith)
+    subst (λ x. Fits rules 1 (render_alias (n ∷ t) x cursor) (alias_tree (n ∷ t)) place cursor) (sym simple)
+    (named_fits rules n t place cursor (before_count cursor.whitespace) name (before_spaces cursor.whitespace) (before_some cursor.whitespace))

@@ -1,7 +1,7 @@
 -- The properties of a collection in a block are on one line, after a space where one is needed, and are read there.
-use Rattle.yaml_base.proofs.Common.{ℕ, ◌+◌, ◌<◌, if◌then◌else◌, ◌==◌, is_some, Option, None, Some, length, Bool, false, not, true, ◌&&◌, ◌||◌, List, [], ◌++◌}
-use Rattle.yaml_base.proofs.Common.{◌∷◌, refl, ◌≡◌, true≢false, append-nil, append_assoc, ap, subst, sym, ◌∙◌, arith, or_parts, nat_tests, list_any, Text}
-use Rattle.yaml_base.proofs.Common.{space, is_blank, is_break, Cursor, space_if, TagDirective, Collection, collection_tag, render_anchor, render_properties}
+use Rattle.yaml_base.proofs.Common.{ℕ, ◌+◌, if◌then◌else◌, ◌==◌, is_some, Option, None, Some, length, Bool, false, true, ◌&&◌, ◌||◌, List, [], ◌++◌}
+use Rattle.yaml_base.proofs.Common.{◌∷◌, refl, ◌≡◌, append-nil, append_assoc, ap, subst, sym, ◌∙◌, arith, nat_tests, Text}
+use Rattle.yaml_base.proofs.Common.{space, is_blank, is_break, Cursor, space_if, TagDirective, Collection, collection_tag, render_properties}
 use Rattle.yaml_base.proofs.Common.{is_read_break, Effective, spelling, spelled, ParsedTag, is_spaces, ends_indicator, spaces, key_from, key_of_line}
 use Rattle.yaml_base.proofs.Common.{begins_sequence, begins_mapping, begins_text, kind_of_node, Rules, properties_read}
 use Rattle.yaml_base.proofs.{stream_flow.StreamFlowScalars.rules_of, stream_flow.StreamFlowWords.tag_of_collection, stream_flow.StreamPropertyWords.lead}
@@ -12,6 +12,9 @@ use Rattle.yaml_base.proofs.{stream_nodes.StreamLeads.tag_is_written, stream_nod
 use Rattle.yaml_base.proofs.{stream_nodes.StreamStands.tag_meant, stream_nodes.StreamStands.TagStands}
 use Rattle.yaml_base.proofs.stream_nodes.StreamBlocks.{Said, BegunKind, unsaid, is_parsed}
 use Rattle.yaml_base.proofs.stream_nodes.StreamProperties.{holds_white, IsTagged, IsNamed, properties_text, name_letters, properties_parsed}
+use Rattle.yaml_base.proofs.stream_lines.StreamLineLaws.{unbroken_line}
+use Rattle.yaml_base.proofs.AllPass.{fewer_pass}
+use Rattle.yaml_base.proofs.stream_nodes.StreamLeads.{before_count, before_spaces, before_some}
 
 -- Lines
 
@@ -21,33 +24,25 @@ white_line true c h = grind (arith, nat_tests, h)
 white_line false c h = grind (arith, nat_tests, h)
 
 -- a text that holds nothing white is on one line
-shown_line : (breaks12 : Bool) (text : Text) → holds_white text ≡ false → OneLine breaks12 text
-shown_line breaks12 [] h = refl
-shown_line breaks12 (c ∷ text) h =
-    let parts = or_parts (is_blank c || is_break c) (holds_white text) h in
-    ap (λ x. x || list_any (is_read_break breaks12) text) (white_line breaks12 c parts.0) ∙ shown_line breaks12 text parts.1
-
--- the indicators of properties and the space between them break no line
-marker_line : (breaks12 : Bool) → OneLine breaks12 (0x26 ∷ []) × OneLine breaks12 (space ∷ [])
-marker_line true = (refl, refl)
-marker_line false = (refl, refl)
+pub shown_line : (breaks12 : Bool) (text : Text) → holds_white text ≡ false → OneLine breaks12 text
+shown_line breaks12 text h = fewer_pass (λ c. is_blank c || is_break c) (is_read_break breaks12) (white_line breaks12) text h
 
 -- properties are on one line
 pub properties_line : (rules : Rules) (anchor tag : Option Text) (parsed : Option ParsedTag) → IsNamed anchor → IsTagged rules.directives tag parsed
     → OneLine rules.breaks12 (properties_text anchor tag)
-properties_line rules anchor tag parsed h k = grind (arith, nat_tests, one_line_both, marker_line, name_line, name_letters, shown_line)
+properties_line rules anchor tag parsed h k = grind (arith, nat_tests, one_line_both, unbroken_line, name_line, name_letters, shown_line)
 
 -- with the space after them
 pub lead_line : (rules : Rules) (anchor tag : Option Text) (parsed : Option ParsedTag) → IsNamed anchor → IsTagged rules.directives tag parsed
     → OneLine rules.breaks12 (lead anchor tag)
 lead_line rules None None parsed named tagged = refl
 lead_line rules (Some name) None parsed named tagged =
-    one_line_both rules.breaks12 (0x26 ∷ name) (space ∷ []) (properties_line rules (Some name) None parsed named tagged) (marker_line rules.breaks12).1
+    one_line_both rules.breaks12 (0x26 ∷ name) (space ∷ []) (properties_line rules (Some name) None parsed named tagged) (unbroken_line rules.breaks12 (space ∷ []) refl)
 lead_line rules None (Some tag) parsed named tagged =
-    one_line_both rules.breaks12 tag (space ∷ []) (properties_line rules None (Some tag) parsed named tagged) (marker_line rules.breaks12).1
+    one_line_both rules.breaks12 tag (space ∷ []) (properties_line rules None (Some tag) parsed named tagged) (unbroken_line rules.breaks12 (space ∷ []) refl)
 lead_line rules (Some name) (Some tag) parsed named tagged =
     one_line_both rules.breaks12 (properties_text (Some name) (Some tag)) (space ∷ [])
-    (properties_line rules (Some name) (Some tag) parsed named tagged) (marker_line rules.breaks12).1
+    (properties_line rules (Some name) (Some tag) parsed named tagged) (unbroken_line rules.breaks12 (space ∷ []) refl)
 
 -- Layout
 
@@ -65,25 +60,22 @@ properties_ended portable directives anchor tag cursor c t h = grind (arith, nat
 
 -- Reading
 
--- how many spaces stand before them
-abbrev before_count : Bool → ℕ
-before_count true = 0
-before_count false = 1
-
-before_spaces : (white : Bool) → (if true && not white then space ∷ [] else []) ≡ spaces (before_count white)
-before_spaces true = refl
-before_spaces false = refl
-
-before_some : (white : Bool) → white ≡ false → 0 < before_count white
-before_some true h = absurd (true≢false h)
-before_some false h = omega arith
-
 -- properties that begin with `&` or `!` are read on their line
 properties_begun : (s : Effective) (own directives : List TagDirective) (anchor tag : Option Text) (cursor : Cursor) (c : ℕ) (t : Text)
     → IsNamed anchor → TagStands s.portable own directives tag → properties_text anchor (tag_written s.portable directives tag false) ≡ c ∷ t
     → (c == space) ≡ false → (c == 0x2D) ≡ false → (c == 0x3F) ≡ false → (c == 0x26 || c == 0x21) ≡ true
     → Said (rules_of s own) anchor tag cursor (render_properties s.portable directives anchor tag false cursor)
 properties_begun s own directives anchor tag cursor c t named stands is shows dash question begins =
+    let no_key : key_from (rules_of s own) [] (c ∷ t) ≡ None =
+    nowhere_alone (rules_of s own) [] (c ∷ t)
+    (subst (KeyNowhere (rules_of s own) []) is
+    (properties_nowhere (rules_of s own) anchor (tag_written s.portable directives tag false) (tag_meant tag false) named
+    (tag_is_written s.portable own directives tag false stands))) in
+    let kind : kind_of_node (rules_of s own) (c ∷ t) ≡ begins_text =
+    ap (λ x. if x && ends_indicator t then begins_sequence
+    else (if (c == 0x3F && ends_indicator t) || is_some (key_of_line (rules_of s own) (c ∷ t)) then begins_mapping else begins_text)) dash
+    ∙ ap (λ x. if (x && ends_indicator t) || is_some (key_of_line (rules_of s own) (c ∷ t)) then begins_mapping else begins_text) question
+    ∙ ap (λ x. if is_some x then begins_mapping else begins_text) no_key in
     let written = tag_written s.portable directives tag false in
     let tagged = tag_is_written s.portable own directives tag false stands in
     let count = length (properties_text anchor written) + 0 in
@@ -106,20 +98,6 @@ properties_begun s own directives anchor tag cursor c t named stands is shows da
       tag_read = tag_of_collection tag;
       ends = properties_ended s.portable directives anchor tag cursor c t is;
     }
-  where
-    no_key : key_from (rules_of s own) [] (c ∷ t) ≡ None
-    no_key =
-        nowhere_alone (rules_of s own) [] (c ∷ t)
-        (subst (KeyNowhere (rules_of s own) []) is
-        (properties_nowhere (rules_of s own) anchor (tag_written s.portable directives tag false) (tag_meant tag false) named
-        (tag_is_written s.portable own directives tag false stands)))
-
-    kind : kind_of_node (rules_of s own) (c ∷ t) ≡ begins_text
-    kind =
-        ap (λ x. if x && ends_indicator t then begins_sequence
-        else (if (c == 0x3F && ends_indicator t) || is_some (key_of_line (rules_of s own) (c ∷ t)) then begins_mapping else begins_text)) dash
-        ∙ ap (λ x. if (x && ends_indicator t) || is_some (key_of_line (rules_of s own) (c ∷ t)) then begins_mapping else begins_text) question
-        ∙ ap (λ x. if is_some x then begins_mapping else begins_text) no_key
 
 -- a collection's properties, if it has some, are read on their line
 pub begun_kind : (s : Effective) (own directives : List TagDirective) (anchor tag : Option Text) (cursor : Cursor) → IsNamed anchor

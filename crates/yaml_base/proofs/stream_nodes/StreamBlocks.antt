@@ -1,7 +1,7 @@
 -- A collection in a block, on the line of what stands before it or below, behind its properties or without them, fits where
 -- the text of its entries reads.
 use Rattle.yaml_base.proofs.Common.{suc, zero, ℕ, ◌+◌, ◌-◌, ◌<◌, ◌≤◌, if◌then◌else◌, ◌==◌, Option, None, Some, nat_lt, Bool, false, not, true, ◌&&◌, ◌||◌}
-use Rattle.yaml_base.proofs.Common.{List, [], ◌++◌, ◌∷◌, refl, ◌≡◌, append-nil, append_assoc, ap, subst, sym, ◌∙◌, arith, and_parts, list_all, Text}
+use Rattle.yaml_base.proofs.Common.{List, [], ◌++◌, ◌∷◌, refl, ◌≡◌, append-nil, append_assoc, ap, subst, sym, ◌∙◌, arith, and_parts, list_all, Text, or-true}
 use Rattle.yaml_base.proofs.Common.{line_feed, space, Cursor, Rendered, render_nothing, new_line, Place, Tree, Line, lines_of, is_spaces, without_blank_lines}
 use Rattle.yaml_base.proofs.Common.{begins_blank, ends_indicator, belongs_to_entry, Indented, spaces, blanked, Reads, text_read, NodeKind, begins_text}
 use Rattle.yaml_base.proofs.Common.{kind_of_node, ReadsText, node_by_kind, node_at, node_lines, begins_properties, after_properties, text_or_properties}
@@ -9,7 +9,7 @@ use Rattle.yaml_base.proofs.Common.{node_read, Rules, Properties, no_properties,
 use Rattle.yaml_base.proofs.stream_lines.{StreamLineLaws.is_closed, StreamLineLaws.OneLine, StreamLineLaws.one_line_both, StreamTidyLaws.lines_after_first}
 use Rattle.yaml_base.proofs.stream_lines.StreamClosed.{closing, closed, Settled, spaces_line, begins_cons, lines_behind, after_line, lines_broken}
 use Rattle.yaml_base.proofs.stream_lines.StreamClosed.{closed_alike, closed_both}
-use Rattle.yaml_base.proofs.stream_lines.StreamInside.{indented_spaces, not_blank, blank_spaces, AllInside}
+use Rattle.yaml_base.proofs.stream_lines.StreamInside.{indented_spaces, not_blank, blank_spaces, AllInside, blank_both}
 use Rattle.yaml_base.proofs.stream_nodes.{StreamFits.WithinColumn, StreamFits.Opens, StreamFits.Fits, StreamItems.Lays}
 
 -- Lines
@@ -56,13 +56,9 @@ block_below : (rules : Rules) (n e : ℕ) (text : Text) (make : Option Text → 
 block_below rules n e text make block depth deep reads_text properties tag parsed here line blank =
     let lines = lines_of rules.breaks12 text in
     ap (λ x. node_at rules (node_read depth rules) reads_text properties (here || x) (not x) (if x then without_blank_lines lines else line ∷ lines)) blank
-    ∙ ap (λ x. node_at rules (node_read depth rules) reads_text properties x false (without_blank_lines lines)) (or_true here)
+    ∙ ap (λ x. node_at rules (node_read depth rules) reads_text properties x false (without_blank_lines lines)) (or-true here)
     ∙ ap (node_at rules (node_read depth rules) reads_text properties true false) (opened_shows rules e lines block.kind block.opened).1
     ∙ block.reads depth deep reads_text properties false tag parsed
-  where
-    or_true : (x : Bool) → x || true ≡ true
-    or_true true = refl
-    or_true false = refl
 
 -- and on its line where a block may begin
 block_on_line : (rules : Rules) (n e : ℕ) (text : Text) (make : Option Text → Option Text → Tree) → Block rules n e text make → (depth : ℕ) → n ≤ depth
@@ -280,10 +276,6 @@ parsed_reads rules n e column text c t make block read anchor tag reads blank an
     (blanked k read.text (line_feed ∷ []))
     (blank_both k read.text blank)
     ∙ ap (λ a. Some (make a tag)) anchor_read
-  where
-    blank_both : (k : ℕ) (t : Text) → is_spaces t ≡ true → is_spaces (spaces k ++ t) ≡ true
-    blank_both zero t h = h
-    blank_both (suc k) t h = blank_both k t h
 
 -- a collection behind its properties fits
 parsed_fits : (rules : Rules) (n e : ℕ) (place : Place) (cursor : Cursor) (begun entries : Rendered) (text : Text) (make : Option Text → Option Text → Tree)

@@ -8,10 +8,12 @@ use Rattle.yaml_base.proofs.stream_nodes.StreamAgrees.{node_tree, nodes_tree, pa
 use Rattle.yaml_base.proofs.stream_nodes.StreamFits.{items_size, pairs_size, indicated_lines}
 use Rattle.yaml_base.proofs.stream_nodes.StreamPairReads.{pairs_read_back}
 use Rattle.yaml_base.proofs.stream_nodes.StreamBlocks.{Opened, opened_more, opened_reads, Block}
-use Rattle.yaml_base.proofs.stream_nodes.StreamItems.{item_text, items_text, item_entries, ItemsFit, items_lines, dash_line, items_split, items_read_back}
+use Rattle.yaml_base.proofs.stream_nodes.StreamItems.{item_text, items_text, item_entries, ItemsFit, items_lines, items_split, items_read_back}
 use Rattle.yaml_base.proofs.stream_nodes.StreamPairs.{key_place, simple_key, indicated_key, simple_value, indicated_value, pair_text, pairs_text, pair_entries}
-use Rattle.yaml_base.proofs.stream_nodes.StreamPairs.{PairFits, PairsFit, question_line, keyed_lines, indicated_pair_lines, pairs_lines, pairs_split}
+use Rattle.yaml_base.proofs.stream_nodes.StreamPairs.{PairFits, PairsFit, keyed_lines, indicated_pair_lines, pairs_lines, pairs_split}
 use Rattle.yaml_base.specs.streams.StreamNodes.{items_read, pairs_held, pairs_read, entries_whole}
+use Rattle.yaml_base.proofs.stream_lines.StreamLineLaws.{unbroken_line}
+use Rattle.yaml_base.proofs.Common.{or_right}
 
 -- The first line
 
@@ -20,7 +22,7 @@ items_open : (rules : Rules) (s : Effective) (directives : List TagDirective) (i
     → has_no_nodes items ≡ false
     → Opened rules e (lines_of rules.breaks12 (items_text items s directives e)) begins_sequence
 items_open rules s directives no_nodes e fit h = absurd (true≢false h)
-items_open rules s directives (nodes_and no_nodes last) e fit h = grind (arith, indicated_lines, dash_line)
+items_open rules s directives (nodes_and no_nodes last) e fit h = grind (arith, indicated_lines, unbroken_line rules.breaks12 (0x2D ∷ []) refl)
 items_open rules s directives (nodes_and (nodes_and items one) last) e fit h =
     subst (λ ls. Opened rules e ls begins_sequence) (sym (items_lines rules s directives (nodes_and items one) last e fit.0))
     (opened_more rules e (lines_of rules.breaks12 (items_text (nodes_and items one) s directives e))
@@ -32,11 +34,6 @@ key_begins : (rules : Rules) (t : Text) → (x y z : Bool) → x ≡ false → y
     → (if x then begins_sequence else (if y || z then begins_mapping else begins_text)) ≡ begins_mapping
 key_begins rules t x y z h k = ap (λ b. if b then begins_sequence else (if y || z then begins_mapping else begins_text)) h
     ∙ ap (λ b. if b then begins_mapping else begins_text) k
-
--- one of two holds
-or_is : (x y : Bool) → y ≡ true → x || y ≡ true
-or_is true y h = refl
-or_is false y h = h
 
 -- the lines of a pair begin a mapping
 pair_opens : (x : Bool) (rules : Rules) (s : Effective) (directives : List TagDirective) (pairs : Pairs) (key value : Node) (e : ℕ)
@@ -61,7 +58,7 @@ pair_opens true rules s directives pairs key value e fit =
           ∙ key_begins rules line (begins_with_indicator 0x2D (k ++ (0x3A ∷ o.head))) (begins_with_indicator 0x3F (k ++ (0x3A ∷ o.head)))
           (is_some (key_of_line rules (k ++ (0x3A ∷ o.head))))
           (fit.0.no_dash o.head o.symbol)
-          (or_is (begins_with_indicator 0x3F (k ++ (0x3A ∷ o.head))) (is_some (key_of_line rules (k ++ (0x3A ∷ o.head))))
+          (or_right (begins_with_indicator 0x3F (k ++ (0x3A ∷ o.head))) (is_some (key_of_line rules (k ++ (0x3A ∷ o.head))))
           (ap is_some (fit.0.cut o.head o.symbol)));
     }
 pair_opens false rules s directives pairs key value e fit =
@@ -74,7 +71,7 @@ pair_opens false rules s directives pairs key value e fit =
       ending = o.ending;
       rest = o.rest ++ more;
       is = indicated_pair_lines rules s directives pairs key value e fit
-          ∙ ap (λ ls. ls ++ more) (indicated_lines rules.breaks12 e 0x3F k o (question_line rules.breaks12));
+          ∙ ap (λ ls. ls ++ more) (indicated_lines rules.breaks12 e 0x3F k o (unbroken_line rules.breaks12 (0x3F ∷ []) refl));
       shows = refl;
       begins = ap (λ x. if x || is_some (key_of_line rules (0x3F ∷ o.head)) then begins_mapping else begins_text) o.symbol;
     }

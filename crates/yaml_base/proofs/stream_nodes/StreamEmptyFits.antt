@@ -1,8 +1,8 @@
 -- An empty plain scalar in a block, of which its anchor and tag are written or nothing, fits.
-use Rattle.yaml_base.proofs.Common.{nat_tests, suc, zero, ℕ, ◌≤◌, if◌then◌else◌, option_map, Option, None, Some, Bool, false, not, true, ◌||◌, List, [], ◌++◌}
+use Rattle.yaml_base.proofs.Common.{nat_tests, suc, zero, ℕ, ◌≤◌, if◌then◌else◌, option_map, Option, None, Some, Bool, false, not, ◌||◌, List, [], ◌++◌}
 use Rattle.yaml_base.proofs.Common.{◌∷◌, refl, ◌≡◌, append-nil, append_assoc, ap, sym, ◌∙◌, arith, false≢true, Text, line_feed, Cursor, Rendered}
-use Rattle.yaml_base.proofs.Common.{render_nothing, plain, TagDirective, render_properties, Place, Effective, ParsedTag, bare_parsed, name_parsed, stood_plain}
-use Rattle.yaml_base.proofs.Common.{scalar_tree, Line, lines_of, is_spaces, spaces, blanked, text_read, ReadsText, node_at, begins_properties, after_properties}
+use Rattle.yaml_base.proofs.Common.{render_nothing, plain, TagDirective, render_properties, Place, Effective, ParsedTag, stood_plain}
+use Rattle.yaml_base.proofs.Common.{scalar_tree, Line, lines_of, spaces, blanked, text_read, ReadsText, node_at, begins_properties, after_properties}
 use Rattle.yaml_base.proofs.Common.{text_or_properties, node_read, Rules, no_properties, collection_tag_parsed, tagging_parsed}
 use Rattle.yaml_base.proofs.{stream_flow.StreamFlowScalars.rules_of, stream_flow.StreamFlowWords.scalar_in, stream_lines.StreamCuts.none_not_some}
 use Rattle.yaml_base.proofs.{stream_lines.StreamInside.blank_spaces, stream_lines.StreamLineLaws.is_closed, stream_nodes.StreamAgrees.tagging_in}
@@ -11,6 +11,7 @@ use Rattle.yaml_base.proofs.{stream_nodes.StreamScalarsFit.render_styled, stream
 use Rattle.yaml_base.proofs.stream_lines.StreamClosed.{closed, spaces_line, lines_broken}
 use Rattle.yaml_base.proofs.stream_nodes.StreamLeafFits.{TextReads, text_fits}
 use Rattle.yaml_base.proofs.stream_nodes.StreamBlocks.{Said, BegunKind, unsaid, is_parsed, below_ends}
+use Rattle.yaml_base.proofs.stream_lines.StreamInside.{blank_both}
 
 -- after an empty plain body white space has ended
 abbrev pub emptied : Rendered → Rendered
@@ -62,10 +63,6 @@ parsed_reads_nothing rules column anchor tag cursor begun parsed = record {
       ∙ ap (option_map (λ tagging. scalar_tree parsed.read.properties.anchor tagging [])) (empty_tagging parsed.read.properties.tag tag parsed.tag_read)
       ∙ ap (λ a. Some (scalar_tree a (tagging_in tag (record { style = plain; bare = false })) [])) parsed.anchor_read;
 }
-  where
-    blank_both : (k : ℕ) (t : Text) → is_spaces t ≡ true → is_spaces (spaces k ++ t) ≡ true
-    blank_both zero t h = h
-    blank_both (suc k) t h = blank_both k t h
 
 -- so they fit
 parsed_fits_nothing : (rules : Rules) (place : Place) (anchor tag : Option Text) (cursor : Cursor) (begun : Rendered) → Said rules anchor tag cursor begun

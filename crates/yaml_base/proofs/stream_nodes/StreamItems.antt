@@ -7,7 +7,7 @@ use Rattle.yaml_base.proofs.Common.{spaces, blanked, node_read, Rules}
 use Rattle.yaml_base.proofs.stream_nodes.{StreamAgrees.node_tree, StreamAgrees.nodes_tree, StreamTexts.node_own, StreamTexts.items_own}
 use Rattle.yaml_base.proofs.stream_lines.StreamClosed.{closing, closed, Settled, new_line_closes, indicator_cursor, closed_both, rank, dash_inside, inside_both}
 use Rattle.yaml_base.proofs.stream_lines.StreamInside.{outside, past_spaces, AllInside, Splits, splits_none, splits_both, splits_one}
-use Rattle.yaml_base.proofs.stream_lines.StreamLineLaws.{is_closed, OneLine, lines_after_break}
+use Rattle.yaml_base.proofs.stream_lines.StreamLineLaws.{is_closed, lines_after_break, unbroken_line}
 use Rattle.yaml_base.proofs.stream_nodes.StreamFits.{size, items_size, Fits, tree_anywhere, indicated_lines, blanked_lines, indicated_ends}
 use Rattle.yaml_base.specs.streams.StreamNodes.{item_by_indicator, item_read, with_item}
 
@@ -57,11 +57,6 @@ pub items_lines : (rules : Rules) (s : Effective) (directives : List TagDirectiv
     ≡ lines_of rules.breaks12 (items_text items s directives e) ++ lines_of rules.breaks12 (spaces e ++ (0x2D ∷ item_text items last s directives e))
 items_lines rules s directives items last e fit = grind (arith, lines_after_break, items_end)
 
--- a `-` breaks no line
-pub dash_line : (breaks12 : Bool) → OneLine breaks12 (0x2D ∷ [])
-dash_line true = refl
-dash_line false = refl
-
 -- the lines of an item that fits
 abbrev ItemFits : Rules → Effective → List TagDirective → Nodes → Node → ℕ → Type 0
 ItemFits rules s directives items last e =
@@ -81,7 +76,7 @@ item_splits : (rules : Rules) (s : Effective) (directives : List TagDirective) (
 item_splits rules s directives items last e fit =
     let o = fit.opens refl in
     let line : Line = record { text = spaces e ++ (0x2D ∷ o.head); ending = o.ending } in
-    subst (λ ls. Splits true e ls (ls ∷ [])) (sym (indicated_lines rules.breaks12 e 0x2D (item_text items last s directives e) o (dash_line rules.breaks12)))
+    subst (λ ls. Splits true e ls (ls ∷ [])) (sym (indicated_lines rules.breaks12 e 0x2D (item_text items last s directives e) o (unbroken_line rules.breaks12 (0x2D ∷ []) refl)))
     (splits_one true e line o.rest (outside true e (0x2D ∷ o.head) refl) (item_inside rules s directives items last e fit true e (omega arith)))
 
 -- the lines of a sequence split into its items
@@ -100,7 +95,7 @@ items_inside rules s directives (nodes_and items last) e fit q d h =
     let line : Line = record { text = spaces e ++ (0x2D ∷ o.head); ending = o.ending } in
     ap (λ ls. list_all (λ line. belongs_to_entry q d line.text) ls) (items_lines rules s directives items last e fit.0
     ∙ ap (λ ls. lines_of rules.breaks12 (items_text items s directives e) ++ ls)
-    (indicated_lines rules.breaks12 e 0x2D (item_text items last s directives e) o (dash_line rules.breaks12)))
+    (indicated_lines rules.breaks12 e 0x2D (item_text items last s directives e) o (unbroken_line rules.breaks12 (0x2D ∷ []) refl)))
     ∙ inside_both q d (lines_of rules.breaks12 (items_text items s directives e)) (line ∷ o.rest) (items_inside rules s directives items e fit.0 q d h)
     (and_from (belongs_to_entry q d line.text) (list_all (λ line. belongs_to_entry q d line.text) o.rest) (dash_inside q d e o.head h o.symbol)
     (item_inside rules s directives items last e fit.1 q d (no_rank q h)))
@@ -117,7 +112,7 @@ item_reads : (rules : Rules) (s : Effective) (directives : List TagDirective) (i
     ≡ Some (node_tree last s directives (entry_place false (as_item (has_no_nodes items)) 0))
 item_reads rules s directives items last e fit depth deep =
     let o = fit.opens refl in
-    ap (item_read (node_read depth rules) e) (indicated_lines rules.breaks12 e 0x2D (item_text items last s directives e) o (dash_line rules.breaks12))
+    ap (item_read (node_read depth rules) e) (indicated_lines rules.breaks12 e 0x2D (item_text items last s directives e) o (unbroken_line rules.breaks12 (0x2D ∷ []) refl))
     ∙ ap (item_by_indicator (node_read depth rules) e o.ending o.rest) (past_spaces e (0x2D ∷ o.head))
     ∙ ap (λ x. if x then node_read depth rules true (Some e) (blanked (suc e) o.head o.ending ∷ o.rest) else None) o.symbol
     ∙ ap (node_read depth rules true (Some e)) (sym (blanked_lines rules.breaks12 (suc e) (item_text items last s directives e) o))

@@ -1,6 +1,6 @@
 -- The text of a node's anchor and tag as the layout puts it: a space where one is needed, and then each with a space after it.
-use Rattle.yaml_base.proofs.Common.{nat_tests, arith, ℕ, if◌then◌else◌, Option, None, Some, Bool, false, not, true, ◌&&◌, List, [], ◌++◌, ◌∷◌, refl, ◌≡◌}
-use Rattle.yaml_base.proofs.Common.{append-nil, append_assoc, ap, sym, Text, space, Cursor, Rendered, space_if, TagDirective, render_properties, suffix_escaped}
+use Rattle.yaml_base.proofs.Common.{nat_tests, arith, ℕ, if◌then◌else◌, Option, Bool, false, not, true, ◌&&◌, List, [], ◌++◌, ◌∷◌, refl, ◌≡◌, ◌<◌, true≢false}
+use Rattle.yaml_base.proofs.Common.{append-nil, append_assoc, ap, Text, space, Cursor, Rendered, space_if, TagDirective, render_properties, suffix_escaped}
 use Rattle.yaml_base.proofs.Common.{Spelling, shorthand, verbatim, spelled, spaces}
 use Rattle.yaml_base.{proofs.stream_flow.StreamPropertyWords.lead, specs.Layout.render_spelling}
 use Rattle.yaml_base.proofs.stream_nodes.StreamProperties.{IsTagged, properties_text, has_properties}
@@ -41,3 +41,16 @@ lead_then anchor tag rest = grind (arith, nat_tests, append_assoc)
 pub tag_is_written : (portable : Bool) (own directives : List TagDirective) (tag : Option Text) (bare : Bool) → TagStands portable own directives tag
     → IsTagged own (tag_written portable directives tag bare) (tag_meant tag bare)
 tag_is_written portable own directives tag bare h = grind (arith, nat_tests)
+
+-- how many spaces stand before what needs one
+abbrev pub before_count : Bool → ℕ
+before_count true = 0
+before_count false = 1
+
+pub before_spaces : (white : Bool) → (if true && not white then space ∷ [] else []) ≡ spaces (before_count white)
+before_spaces true = refl
+before_spaces false = refl
+
+pub before_some : (white : Bool) → white ≡ false → 0 < before_count white
+before_some true h = absurd (true≢false h)
+before_some false h = omega arith

@@ -7,6 +7,7 @@ use Rattle.yaml_base.proofs.{stream_lines.StreamLineLaws.is_closed, stream_lines
 use Rattle.yaml_base.proofs.{stream_nodes.StreamFits.WithinColumn, stream_nodes.StreamFits.Fits}
 use Rattle.yaml_base.proofs.stream_lines.StreamClosed.{closed, Settled, spaces_line, lines_behind, rank}
 use Rattle.yaml_base.proofs.stream_lines.StreamInside.{indented_spaces, not_blank, AllInside, inside_mapping}
+use Rattle.yaml_base.proofs.AllPass.{all_pass}
 
 -- Inside
 
@@ -22,12 +23,9 @@ inside_farther (suc d) (suc c) (x ∷ t) le h =
 
 -- lines deeper than a column are inside each that is farther out
 pub all_farther : (q : Bool) (d c : ℕ) (lines : List Line) → d ≤ c → AllInside true c lines → AllInside q d lines
-all_farther q d c [] le h = refl
-all_farther q d c (line ∷ rest) le h =
-    let parts = and_parts (belongs_to_entry true c line.text) (list_all (λ line. belongs_to_entry true c line.text) rest) h in
-    and_from (belongs_to_entry q d line.text) (list_all (λ line. belongs_to_entry q d line.text) rest)
-    (inside_mapping q d line.text (inside_farther d c line.text le parts.0))
-    (all_farther q d c rest le parts.1)
+all_farther q d c lines le h =
+    all_pass (λ line. belongs_to_entry true c line.text) (λ line. belongs_to_entry q d line.text)
+    (λ line e. inside_mapping q d line.text (inside_farther d c line.text le e)) lines h
 
 -- Texts
 

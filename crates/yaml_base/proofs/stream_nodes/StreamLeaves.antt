@@ -8,7 +8,7 @@ use Rattle.yaml_base.proofs.{stream_flow.StreamFlowScalars.rules_of, stream_line
 use Rattle.yaml_base.proofs.{stream_nodes.StreamAliasFits.alias_fits, stream_nodes.StreamBegun.begun_reads, stream_nodes.StreamPairReads.colon_ends}
 use Rattle.yaml_base.proofs.{stream_nodes.StreamProperties.name_letters, stream_nodes.StreamTexts.node_own, stream_nodes.StreamTexts.pairs_own}
 use Rattle.yaml_base.proofs.stream_lines.StreamClosed.{indicator_cursor, margin_cursor}
-use Rattle.yaml_base.proofs.stream_nodes.StreamNodesFit.{EitherType, LeafFits, render_begun, BegunReads, Leaves, ItemLeaves, PairLeaves, Stands}
+use Rattle.yaml_base.proofs.stream_nodes.StreamNodesFit.{EitherType, LeafFits, render_begun, BegunReads, Leaves, ItemLeaves, PairLeaves, Stands, either_of}
 use Rattle.yaml_base.proofs.stream_nodes.StreamPairs.{KeyFits, key_place, value_place, colon_cursor, simple_key}
 use Rattle.yaml_base.proofs.stream_nodes.StreamStands.{NamesStand, AllNamesStand, PairsNamesStand, BodyStands, body_from, BodiesHold, ItemsHold, PairsHold}
 
@@ -96,56 +96,6 @@ no_canonical s start empty h =
 may_stand : (s : Effective) (column : Option ℕ) → s.canonical ≡ false → MayStand s column
 may_stand s column block h = absurd (false≢true (sym block ∙ h))
 
--- a sequence's parts are read, where those of its items are
-sequence_leaves : (s : Effective) (own directives : List TagDirective) (flows : FlowsFit s own directives) (start : Collection) (items : Nodes)
-    (role : Role) (column : Option ℕ) (cursor : Cursor) → MayStand s column
-    → (is_key role && is_simple s.canonical directives (sequence_node start items)) ≡ false → Stands column cursor
-    → NamesStand s.portable own s.canonical directives (sequence_node start items)
-    → BodiesHold (BodyStands s) (sequence_node start items) s directives (block_place role column) cursor
-    → (s.canonical ≡ false → (e : ℕ) (at : Cursor) → ItemsHold (BodyStands s) items s directives false e at → ItemLeaves items (rules_of s own) s directives e)
-    → Leaves (sequence_node start items) (rules_of s own) s directives (block_place role column) cursor
-sequence_leaves s own directives flows start items role column cursor may simple stands names bodies each =
-    by (is_written_in_flow s (block_place role column) start (has_no_nodes items)) refl bodies
-  where
-    begun : Rendered
-    begun = render_begun s directives start cursor
-
-    by : (x : Bool) → is_written_in_flow s (block_place role column) start (has_no_nodes items) ≡ x
-        → ItemsHold (BodyStands s) items s directives x (entries_column x (is_undented s role) s.indent column begun.cursor) begun.cursor
-        → EitherType x (LeafFits (rules_of s own) s directives (sequence_node start items) (block_place role column) cursor)
-        (BegunReads (rules_of s own) s directives start cursor
-        × ItemLeaves items (rules_of s own) s directives (entries_column false (is_undented s role) s.indent column begun.cursor))
-    by true h hold = flows (sequence_node start items) role column cursor may h simple stands names bodies
-    by false h hold = (
-      begun_reads s own directives start cursor names.0 names.1,
-      each (no_canonical s start (has_no_nodes items) h) (entries_column false (is_undented s role) s.indent column begun.cursor) begun.cursor hold,
-    )
-
--- and a mapping's, where those of its pairs are
-mapping_leaves : (s : Effective) (own directives : List TagDirective) (flows : FlowsFit s own directives) (start : Collection) (pairs : Pairs)
-    (role : Role) (column : Option ℕ) (cursor : Cursor) → MayStand s column
-    → (is_key role && is_simple s.canonical directives (mapping_node start pairs)) ≡ false → Stands column cursor
-    → NamesStand s.portable own s.canonical directives (mapping_node start pairs)
-    → BodiesHold (BodyStands s) (mapping_node start pairs) s directives (block_place role column) cursor
-    → (s.canonical ≡ false → (e : ℕ) (at : Cursor) → PairsHold (BodyStands s) pairs s directives false e at → PairLeaves pairs (rules_of s own) s directives e)
-    → Leaves (mapping_node start pairs) (rules_of s own) s directives (block_place role column) cursor
-mapping_leaves s own directives flows start pairs role column cursor may simple stands names bodies each =
-    by (is_written_in_flow s (block_place role column) start (has_no_pairs pairs)) refl bodies
-  where
-    begun : Rendered
-    begun = render_begun s directives start cursor
-
-    by : (x : Bool) → is_written_in_flow s (block_place role column) start (has_no_pairs pairs) ≡ x
-        → PairsHold (BodyStands s) pairs s directives x (entries_column x false s.indent column begun.cursor) begun.cursor
-        → EitherType x (LeafFits (rules_of s own) s directives (mapping_node start pairs) (block_place role column) cursor)
-        (BegunReads (rules_of s own) s directives start cursor
-        × PairLeaves pairs (rules_of s own) s directives (entries_column false false s.indent column begun.cursor))
-    by true h hold = flows (mapping_node start pairs) role column cursor may h simple stands names bodies
-    by false h hold = (
-      begun_reads s own directives start cursor names.0 names.1,
-      each (no_canonical s start (has_no_pairs pairs) h) (entries_column false false s.indent column begun.cursor) begun.cursor hold,
-    )
-
 -- what is asked of the parts of a node in a block, where its names and bodies stand
 mutual
   pub leaves_stand : (n : Node) (s : Effective) (own directives : List TagDirective) (scalars : ScalarsFit s own directives)
@@ -159,11 +109,29 @@ mutual
   leaves_stand (scalar_node content) s own directives scalars flows keys role column cursor may simple stands names bodies =
       scalars content role column cursor simple stands names bodies
   leaves_stand (sequence_node start items) s own directives scalars flows keys role column cursor may simple stands names bodies =
-      sequence_leaves s own directives flows start items role column cursor may simple stands names bodies
-      (λ block e at hold. items_stand items s own directives scalars flows keys block e at names.2 hold)
+      let place = block_place role column in
+      let begun = render_begun s directives start cursor in
+      let e = entries_column false (is_undented s role) s.indent column begun.cursor in
+      either_of (LeafFits (rules_of s own) s directives (sequence_node start items) place cursor)
+      (BegunReads (rules_of s own) s directives start cursor × ItemLeaves items (rules_of s own) s directives e)
+      (is_written_in_flow s place start (has_no_nodes items))
+      (λ h. flows (sequence_node start items) role column cursor may h simple stands names bodies)
+      (λ h. (
+        begun_reads s own directives start cursor names.0 names.1,
+        items_stand items s own directives scalars flows keys (no_canonical s start (has_no_nodes items) h) e begun.cursor names.2 (rw h at bodies),
+      ))
   leaves_stand (mapping_node start pairs) s own directives scalars flows keys role column cursor may simple stands names bodies =
-      mapping_leaves s own directives flows start pairs role column cursor may simple stands names bodies
-      (λ block e at hold. pairs_stand pairs s own directives scalars flows keys block e at names.2 hold)
+      let place = block_place role column in
+      let begun = render_begun s directives start cursor in
+      let e = entries_column false false s.indent column begun.cursor in
+      either_of (LeafFits (rules_of s own) s directives (mapping_node start pairs) place cursor)
+      (BegunReads (rules_of s own) s directives start cursor × PairLeaves pairs (rules_of s own) s directives e)
+      (is_written_in_flow s place start (has_no_pairs pairs))
+      (λ h. flows (mapping_node start pairs) role column cursor may h simple stands names bodies)
+      (λ h. (
+        begun_reads s own directives start cursor names.0 names.1,
+        pairs_stand pairs s own directives scalars flows keys (no_canonical s start (has_no_pairs pairs) h) e begun.cursor names.2 (rw h at bodies),
+      ))
 
   items_stand : (items : Nodes) (s : Effective) (own directives : List TagDirective) (scalars : ScalarsFit s own directives)
       (flows : FlowsFit s own directives) (keys : SimpleKeysFit s own directives) → s.canonical ≡ false → (e : ℕ) (cursor : Cursor)

@@ -164,6 +164,9 @@ pub accepted_names_stand : (given : Settings) (events : List Event) (stream : St
     → list_all has_scalar_texts events ≡ true → reads_alike given.portable given.canonical events ≡ true → tree_of events ≡ Some stream
     → AllDocuments (IsSoundDocument given.portable given.canonical) (documents_in_order stream.documents)
 accepted_names_stand given events stream accepted texts portable tree =
+    let one_stream : Some accepted.stream ≡ Some stream = sym (tree_of-stream_events accepted.stream) ∙ ap tree_of accepted.is_stream ∙ tree in
+    let same : accepted.stream ≡ stream = let e : Some accepted.stream ≡ Some stream = one_stream in cc in
+    let events_of : stream_events stream ≡ events = ap stream_events (sym same) ∙ accepted.is_stream in
     let canonical = given.canonical in
     let Sound = IsSoundDocument given.portable canonical in
     let Allowed : Document → Type 0 = λ document. (given.portable || not (document_has_flow_indicator canonical document)) ≡ true in
@@ -176,12 +179,3 @@ accepted_names_stand given events stream accepted texts portable tree =
     (each_document (λ document. Allowed document → Sound document) (is_good canonical) (document_is_sound given.portable canonical) stream.documents good.0)
     (all_allowed given.portable canonical (documents_in_order stream.documents)
     (accepted_allowed given.portable canonical events stream tree portable).1)
-  where
-    one_stream : Some accepted.stream ≡ Some stream
-    one_stream = sym (tree_of-stream_events accepted.stream) ∙ ap tree_of accepted.is_stream ∙ tree
-
-    same : accepted.stream ≡ stream
-    same = let e : Some accepted.stream ≡ Some stream = one_stream in cc
-
-    events_of : stream_events stream ≡ events
-    events_of = ap stream_events (sym same) ∙ accepted.is_stream

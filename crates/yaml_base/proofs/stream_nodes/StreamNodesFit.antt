@@ -22,6 +22,11 @@ abbrev pub EitherType : Bool → Type 0 → Type 0 → Type 0
 EitherType true a b = a
 EitherType false a b = b
 
+-- one by either case
+pub either_of : (A B : Type 0) (x : Bool) → (x ≡ true → A) → (x ≡ false → B) → EitherType x A B
+either_of A B true a b = a refl
+either_of A B false a b = b refl
+
 -- a node fits by itself, with nothing in it that is read alone
 abbrev pub LeafFits : Rules → Effective → List TagDirective → Node → Place → Cursor → Type 0
 LeafFits rules s directives n place cursor = Fits rules 1 (node_own n s directives place cursor) (node_tree n s directives place) place cursor

@@ -1,13 +1,14 @@
 -- A literal or folded scalar as its own text on the lines of a block.
-use Rattle.yaml_base.proofs.Common.{nat_tests, arith, ℕ, if◌then◌else◌, option_and_then, Option, None, Some, Bool, false, true, ◌||◌, List, [], ◌++◌, ◌∷◌, refl}
-use Rattle.yaml_base.proofs.Common.{◌≡◌, append_assoc, ap, subst, sym, ◌∙◌, and_parts, and_from, or_parts, list_all-append, Text, ScalarStyle, literal, folded}
-use Rattle.yaml_base.proofs.Common.{is_read_break, elements, digit_first, after_digit, chomping_first, after_chomping, after_break, read_lines, read_block}
-use Rattle.yaml_base.proofs.Common.{ParsedTag, is_tidy, stood_quoted, Line, prepend_to_first_line, prepend_character, lines_of, word_of_alias, key_of_text}
-use Rattle.yaml_base.proofs.Common.{Rules, no_properties, scalar_parsed, a_scalar, kind_of_word}
-use Rattle.yaml_base.proofs.{stream_flow.StreamFlowWords.Given, stream_flow.StreamPropertyWords.lead, stream_keys.StreamKeys.scalar_no_alias}
+use Rattle.yaml_base.proofs.Common.{nat_tests, arith, ℕ, Option, None, Some, Bool, false, true, ◌||◌, List, [], ◌++◌, ◌∷◌, refl}
+use Rattle.yaml_base.proofs.Common.{◌≡◌, append_assoc, ap, subst, sym, and_parts, and_from, or_parts, list_all-append, Text, ScalarStyle, literal, folded}
+use Rattle.yaml_base.proofs.Common.{is_read_break, after_digit, after_chomping, after_break, read_block}
+use Rattle.yaml_base.proofs.Common.{ParsedTag, is_tidy, Line, prepend_to_first_line, prepend_character, lines_of, key_of_text}
+use Rattle.yaml_base.proofs.Common.{Rules, a_scalar, kind_of_word}
+use Rattle.yaml_base.proofs.{stream_flow.StreamFlowWords.Given, stream_flow.StreamPropertyWords.lead, stream_keys.StreamKeys.none_parsed}
+use Rattle.yaml_base.proofs.stream_keys.StreamKeyReads.{lead_no_text}
 use Rattle.yaml_base.proofs.{stream_keys.StreamNoKeys.KeyNowhere, stream_keys.StreamNoKeys.nowhere_alone, stream_lines.StreamLineLaws.OneLine}
 use Rattle.yaml_base.proofs.{stream_lines.StreamLineLaws.one_line_both, stream_lines.StreamTidyLaws.first_text, stream_nodes.StreamOwnTexts.OwnText}
-use Rattle.yaml_base.proofs.stream_nodes.StreamOwnWords.{feed, deep_more, lines_deeper, tidy_deep, behind_no_key, none_parsed, first_passes}
+use Rattle.yaml_base.proofs.stream_nodes.StreamOwnWords.{feed, deep_more, lines_deeper, tidy_deep, first_passes}
 
 -- the indicator of a block style, and the style
 abbrev pub block_indicator : (is_literal : Bool) → ℕ
@@ -32,15 +33,12 @@ no_block breaks12 l b h = grind (arith, nat_tests, header_alone)
 block_kind : (l : Bool) (t : Text) → kind_of_word (block_indicator l ∷ t) ≡ a_scalar
 block_kind l t = grind (arith, nat_tests)
 
--- and no alias
-block_no_alias : (rules : Rules) (l : Bool) (u : Text) → word_of_alias rules (block_indicator l ∷ u) ≡ None
-block_no_alias rules l u = grind (arith, nat_tests, scalar_no_alias)
-
 -- the beginning of a header is no key
 header_part : (rules : Rules) (l : Bool) (anchor tag : Option Text) (parsed : Option ParsedTag) (b : Text) → Given rules anchor tag parsed
     → OneLine rules.breaks12 b
     → key_of_text rules (lead anchor tag ++ (block_indicator l ∷ b)) ≡ None
-header_part rules l anchor tag parsed b given one = grind (arith, behind_no_key, block_kind, block_no_alias, no_block, none_parsed)
+header_part rules true anchor tag parsed b given one = grind (arith, lead_no_text, block_kind true b, no_block rules.breaks12 true b, none_parsed)
+header_part rules false anchor tag parsed b given one = grind (arith, lead_no_text, block_kind false b, no_block rules.breaks12 false b, none_parsed)
 
 -- so no key ends in the first line
 header_nowhere : (rules : Rules) (l : Bool) (anchor tag : Option Text) (parsed : Option ParsedTag) (b u : Text) → Given rules anchor tag parsed
@@ -78,39 +76,21 @@ indicators_go_on breaks12 l = grind (arith, nat_tests)
 -- a tidy text that reads as a block scalar
 pub own_block : (rules : Rules) (column : Option ℕ) (l : Bool) (u v : Text) → is_tidy (block_style l) rules.breaks12 column (block_indicator l ∷ u) ≡ true
     → read_block rules.breaks12 column (block_indicator l ∷ u) ≡ Some v → OwnText rules column (block_indicator l ∷ u) (block_style l) v
-own_block rules column true u v tidy read = record {
-  head = 0x7C;
+own_block rules column l u v tidy read = record {
+  head = block_indicator l;
   tail = u;
   is = refl;
-  content = refl;
-  goes_on = indicators_go_on rules.breaks12 true;
-  no_item = refl;
-  no_key = refl;
+  content = grind (arith);
+  goes_on = indicators_go_on rules.breaks12 l;
+  no_item = grind (arith);
+  no_key = grind (arith);
   keyless = λ anchor tag parsed given.
-      first_passes rules (lead anchor tag) (first_text (lines_of rules.breaks12 u)) 0x7C refl
-      (nowhere_alone rules (lead anchor tag ++ (0x7C ∷ [])) (first_text (lines_of rules.breaks12 u))
-      (header_nowhere rules true anchor tag parsed [] u given refl));
-  deeper = lines_deeper rules.breaks12 column 0x7C u (indicators_go_on rules.breaks12 true) (tidy_deep literal rules.breaks12 column (0x7C ∷ u) tidy);
-  read = λ properties.
-      ap (λ x. scalar_parsed properties stood_quoted (if x then read_block rules.breaks12 column (0x7C ∷ u) else None)) tidy
-      ∙ ap (scalar_parsed properties stood_quoted) read;
-}
-own_block rules column false u v tidy read = record {
-  head = 0x3E;
-  tail = u;
-  is = refl;
-  content = refl;
-  goes_on = indicators_go_on rules.breaks12 false;
-  no_item = refl;
-  no_key = refl;
-  keyless = λ anchor tag parsed given.
-      first_passes rules (lead anchor tag) (first_text (lines_of rules.breaks12 u)) 0x3E refl
-      (nowhere_alone rules (lead anchor tag ++ (0x3E ∷ [])) (first_text (lines_of rules.breaks12 u))
-      (header_nowhere rules false anchor tag parsed [] u given refl));
-  deeper = lines_deeper rules.breaks12 column 0x3E u (indicators_go_on rules.breaks12 false) (tidy_deep folded rules.breaks12 column (0x3E ∷ u) tidy);
-  read = λ properties.
-      ap (λ x. scalar_parsed properties stood_quoted (if x then read_block rules.breaks12 column (0x3E ∷ u) else None)) tidy
-      ∙ ap (scalar_parsed properties stood_quoted) read;
+      first_passes rules (lead anchor tag) (first_text (lines_of rules.breaks12 u)) (block_indicator l) (grind (arith))
+      (nowhere_alone rules (lead anchor tag ++ (block_indicator l ∷ [])) (first_text (lines_of rules.breaks12 u))
+      (header_nowhere rules l anchor tag parsed [] u given refl));
+  deeper = lines_deeper rules.breaks12 column (block_indicator l) u (indicators_go_on rules.breaks12 l)
+      (tidy_deep (block_style l) rules.breaks12 column (block_indicator l ∷ u) tidy);
+  read = λ properties. grind (arith, nat_tests);
 }
 
 -- it stays tidy with a break more

@@ -1,10 +1,10 @@
 -- A plain scalar as its own text on the lines of a block.
-use Rattle.yaml_base.proofs.Common.{arith, suc, ℕ, if◌then◌else◌, ◌==◌, Option, None, Some, codes, Bool, false, not, true, ◌&&◌, ◌||◌, [], ◌++◌, ◌∷◌, refl, ◌≡◌}
-use Rattle.yaml_base.proofs.Common.{eqb-true, true≢false, ap, sym, ◌∙◌, and_parts, or_parts, false≢true, list_all, option_or, Text, is_among, is_blank}
-use Rattle.yaml_base.proofs.Common.{is_printable, plain, is_read_break, is_read_white, begins_white, begins_no_plain, begins_with_hash, holds_no_plain}
-use Rattle.yaml_base.proofs.Common.{read_plain, has_deep_lines, has_no_space_before_break, ends_white, has_clean_edges, is_tidy, stood_plain, prepend_character}
+use Rattle.yaml_base.proofs.Common.{arith, suc, ℕ, if◌then◌else◌, ◌==◌, Option, None, Some, codes, Bool, false, true, ◌&&◌, ◌||◌, [], ◌++◌, ◌∷◌, refl, ◌≡◌}
+use Rattle.yaml_base.proofs.Common.{eqb-true, true≢false, ap, sym, ◌∙◌, and_parts, or_parts, option_or, Text, is_among, is_blank}
+use Rattle.yaml_base.proofs.Common.{plain, is_read_break, is_read_white, begins_white, begins_no_plain, begins_with_hash, holds_no_plain}
+use Rattle.yaml_base.proofs.Common.{read_plain, ends_white, is_tidy, stood_plain, prepend_character}
 use Rattle.yaml_base.proofs.Common.{lines_of, ends_indicator, begins_with_indicator, key_ends, key_from, word_text, kind_of_text, text_by_kind, Rules}
-use Rattle.yaml_base.proofs.Common.{scalar_parsed, scalar_of_style, word_by_kind, word_after}
+use Rattle.yaml_base.proofs.Common.{scalar_parsed, scalar_of_style, word_by_kind, word_after, not-true, nat_tests}
 use Rattle.yaml_base.proofs.{stream_flow.StreamPropertyWords.lead, stream_nodes.StreamOwnTexts.OwnText}
 use Rattle.yaml_base.proofs.stream_lines.StreamTidyLaws.{tidy_at_root, first_text}
 use Rattle.yaml_base.proofs.stream_keys.StreamPlainKeys.{Begins, begins, plain_kind, plain_style, reads_plain, tidy_begins}
@@ -59,16 +59,7 @@ plain_without_indicator breaks12 n c t symbol h = grind (arith, true≢false, eq
 
 -- a tidy plain text ends with nothing white
 plain_ends_shown : (breaks12 : Bool) (c : ℕ) (t : Text) → is_tidy plain breaks12 None (c ∷ t) ≡ true → ends_white breaks12 (c ∷ t) ≡ false
-plain_ends_shown breaks12 c t tidy =
-    let style =
-    (and_parts (list_all is_printable (c ∷ t) && has_deep_lines breaks12 1 (c ∷ t))
-    (has_no_space_before_break breaks12 (c ∷ t) && has_clean_edges breaks12 (c ∷ t)) tidy).1 in
-    let clean = (and_parts (has_no_space_before_break breaks12 (c ∷ t)) (has_clean_edges breaks12 (c ∷ t)) style).1 in
-    by (ends_white breaks12 (c ∷ t)) (and_parts (not (is_read_white breaks12 c)) (not (ends_white breaks12 (c ∷ t))) clean).1
-  where
-    by : (x : Bool) → not x ≡ true → x ≡ false
-    by true h = absurd (false≢true h)
-    by false h = refl
+plain_ends_shown breaks12 c t tidy = grind (arith, nat_tests, and_parts, not-true)
 
 -- a tidy plain text that isn't empty, up to the break after it
 pub own_plain : (rules : Rules) (column : Option ℕ) (c : ℕ) (t v : Text) → is_tidy plain rules.breaks12 column (c ∷ t) ≡ true

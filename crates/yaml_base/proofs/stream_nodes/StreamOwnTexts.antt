@@ -1,10 +1,10 @@
 -- A node's own text that reads on its lines does so behind its anchor and its tag.
 use Rattle.yaml_base.proofs.Common.{arith, ℕ, ◌+◌, if◌then◌else◌, ◌==◌, option_map, Option, None, Some, length, Bool, false, not, true, ◌&&◌, ◌||◌, List, []}
-use Rattle.yaml_base.proofs.Common.{◌++◌, ◌∷◌, refl, ◌≡◌, append-nil, append_assoc, ap, sym, ◌∙◌, and_parts, false≢true, option_or, Text, space, ScalarStyle}
+use Rattle.yaml_base.proofs.Common.{◌++◌, ◌∷◌, refl, ◌≡◌, append-nil, append_assoc, ap, sym, ◌∙◌, and_parts, false≢true, Text, space, ScalarStyle}
 use Rattle.yaml_base.proofs.Common.{is_read_break, ParsedTag, is_plain, scalar_tree, Line, lines_of, text_of_lines, ends_indicator, begins_with_indicator}
-use Rattle.yaml_base.proofs.Common.{all_deeper, spaces, key_of_text, key_ends, key_from, Reads, kind_of_text, text_by_kind, text_read, begins_text}
+use Rattle.yaml_base.proofs.Common.{all_deeper, spaces, key_from, Reads, kind_of_text, text_by_kind, text_read, begins_text, not-true}
 use Rattle.yaml_base.proofs.Common.{kind_of_node, node_lines, begins_properties, after_properties, text_or_properties, Rules, Properties, properties_read}
-use Rattle.yaml_base.proofs.Common.{standing_of, scalar_parsed}
+use Rattle.yaml_base.proofs.Common.{standing_of, scalar_parsed, nat_tests}
 use Rattle.yaml_base.proofs.{stream_flow.StreamPropertyWords.lead, stream_lines.StreamClosed.lines_behind, stream_lines.StreamLineLaws.text_of_lines_of}
 use Rattle.yaml_base.proofs.{stream_nodes.StreamBegun.lead_line, stream_nodes.StreamBlocks.spaces_both, stream_nodes.StreamLeads.lead_spaces}
 use Rattle.yaml_base.proofs.{stream_nodes.StreamLeads.lead_then, stream_nodes.StreamLeafFits.TextReads, stream_nodes.StreamStands.tag_meant}
@@ -50,17 +50,7 @@ own_read rules column properties c t h deeper =
 -- where no key ends in a text, one in what follows it is looked for
 nowhere_skips : (rules : Rules) (before a t : Text) → KeyNowhere rules before a → key_from rules before (a ++ t) ≡ key_from rules (before ++ a) t
 nowhere_skips rules before [] t none = ap (λ b. key_from rules b t) (sym (append-nil before))
-nowhere_skips rules before (c ∷ a) t none =
-    by (c == 0x3A && ends_indicator (a ++ t)) (λ h. none.0 (and_parts (c == 0x3A) (ends_indicator (a ++ t)) h).0)
-    ∙ nowhere_skips rules (before ++ (c ∷ [])) a t none.1
-    ∙ ap (λ b. key_from rules b t) (append_assoc before (c ∷ []) a)
-  where
-    by : (x : Bool) → (x ≡ true → key_of_text rules before ≡ None)
-        → option_or (key_ends rules x before (a ++ t)) (key_from rules (before ++ (c ∷ [])) (a ++ t)) ≡ key_from rules (before ++ (c ∷ [])) (a ++ t)
-    by true h =
-        ap (λ x. option_or (option_map (λ key. record { key = key; length = length before; after = a ++ t }) x)
-        (key_from rules (before ++ (c ∷ [])) (a ++ t))) (h refl)
-    by false h = refl
+nowhere_skips rules before (c ∷ a) t none = grind (arith, nat_tests, and_parts, append_assoc, nowhere_skips rules (before ++ (c ∷ [])) a t none.1)
 
 -- Own texts
 
@@ -96,6 +86,10 @@ behind_reads : (rules : Rules) (reads : Reads) (column : Option ℕ) (properties
     ≡ text_read rules column properties (c ∷ f) ending rest
 behind_reads rules reads column properties k c f ending rest shows kind = grind (arith, not_blank, indented_spaces)
 
+-- what begins a node's own text is no space and no indicator of a property
+pub own_shows : (c : ℕ) → begins_content (c ∷ []) ≡ true → ((c == space) ≡ false) × ((c == 0x26 || c == 0x21) ≡ false)
+own_shows c h = grind (arith, false≢true)
+
 -- a text behind properties or without them is read with these
 pub parsed_reads : (rules : Rules) (reads : Reads) (column : Option ℕ) (at : ℕ) (anchor tag : Option Text) (parsed : Option ParsedTag) (c : ℕ) (f ending : Text)
     (rest : List Line)
@@ -105,13 +99,7 @@ pub parsed_reads : (rules : Rules) (reads : Reads) (column : Option ℕ) (at : �
 parsed_reads rules reads column at anchor tag parsed c f ending rest given content kind = by anchor tag parsed given
   where
     shown : ((c == space) ≡ false) × ((c == 0x26 || c == 0x21) ≡ false)
-    shown = by (c == space) (c == 0x26) (c == 0x21) content
-      where
-        by : (x y z : Bool) → (not x && (not y && not z)) ≡ true → (x ≡ false) × ((y || z) ≡ false)
-        by false false false h = (refl, refl)
-        by true y z h = absurd (false≢true h)
-        by false true z h = absurd (false≢true h)
-        by false false true h = absurd (false≢true h)
+    shown = own_shows c content
 
     behind : (anchor tag : Option Text) (parsed : Option ParsedTag) → Given rules anchor tag parsed → has_properties anchor tag ≡ true
         → after_properties rules reads column at ending rest (properties_read rules.directives (lead anchor tag ++ (c ∷ f)))
@@ -167,7 +155,7 @@ own_reads rules column text value style anchor tag given_tag bare own given mean
     let line = lead anchor tag ++ (own.head ∷ f) in
     let properties : Properties = record { anchor = anchor; tag = parsed } in
     let parts = and_parts (not (own.head == space)) (not (own.head == 0x26) && not (own.head == 0x21)) own.content in
-    let h = headed rules anchor tag parsed own.head f given (not_true (own.head == space) parts.0) in
+    let h = headed rules anchor tag parsed own.head f given (not-true (own.head == space) parts.0) in
     let alone : Given rules None None None = record { named = tt; tagged = tt } in
     record {
       head = h.head;
@@ -191,7 +179,3 @@ own_reads rules column text value style anchor tag given_tag bare own given mean
           ∙ own.read properties
           ∙ ap (option_map (λ tagging. scalar_tree anchor tagging value)) (tagging_meant given_tag style bare meant);
     }
-  where
-    not_true : (x : Bool) → not x ≡ true → x ≡ false
-    not_true true h = absurd (false≢true h)
-    not_true false h = refl

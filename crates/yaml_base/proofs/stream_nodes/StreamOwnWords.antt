@@ -1,18 +1,19 @@
 -- Quoted and plain scalars as their own text on the lines of a block.
-use Rattle.yaml_base.proofs.Common.{nat_tests}
-use Rattle.yaml_base.proofs.Common.{arith, suc, zero, ℕ, if◌then◌else◌, ◌==◌, option_and_then, Option, None, Some, Bool, false, not, true, ◌&&◌, ◌||◌, List, []}
-use Rattle.yaml_base.proofs.Common.{◌++◌, ◌∷◌, refl, ◌≡◌, eqb-true, append_assoc, ap, subst, sym, ◌∙◌, and_parts, and_from, false≢true, option_or, Text}
-use Rattle.yaml_base.proofs.Common.{line_feed, space, ScalarStyle, single_quoted, double_quoted, is_read_break, read_double, is_read_white, read_single}
-use Rattle.yaml_base.proofs.Common.{ParsedTag, begins_with_spaces, begins_with_blank_line, begins_with_deep_line, has_deep_lines, ends_white, is_tidy, Stood}
-use Rattle.yaml_base.proofs.Common.{stood_quoted, Line, prepend_to_first_line, prepend_character, lines_of, ends_indicator, without_last_space, word_of_alias}
-use Rattle.yaml_base.proofs.Common.{key_of_text, key_ends, key_from, prepend_to_trimmed, trimmed, Rules, Properties, scalar_parsed, word_by_kind, word_after}
-use Rattle.yaml_base.proofs.{stream_flow.StreamPropertyWords.lead, stream_lines.StreamInside.AllInside, stream_nodes.StreamProperties.begins_content}
-use Rattle.yaml_base.proofs.stream_keys.StreamKeys.{no_alias_before, double_no_alias, single_no_alias}
-use Rattle.yaml_base.proofs.stream_lines.StreamCuts.{double_quoted_whole, single_quoted_whole}
+use Rattle.yaml_base.proofs.Common.{nat_tests, text_by_kind, kind_of_text, word_text}
+use Rattle.yaml_base.proofs.Common.{arith, suc, zero, ℕ, ◌==◌, Option, None, Some, Bool, false, not, true, ◌&&◌, ◌||◌, List, []}
+use Rattle.yaml_base.proofs.Common.{◌++◌, ◌∷◌, refl, ◌≡◌, ap, ◌∙◌, and_parts, and_from, false≢true, option_or, Text}
+use Rattle.yaml_base.proofs.Common.{line_feed, space, ScalarStyle, is_read_break, is_read_white}
+use Rattle.yaml_base.proofs.Common.{begins_with_spaces, begins_with_blank_line, begins_with_deep_line, has_deep_lines, ends_white, is_tidy}
+use Rattle.yaml_base.proofs.Common.{Line, prepend_to_first_line, prepend_character, lines_of, ends_indicator}
+use Rattle.yaml_base.proofs.Common.{key_ends, key_from, prepend_to_trimmed, trimmed, Rules, word_after}
+use Rattle.yaml_base.proofs.{stream_flow.StreamPropertyWords.lead, stream_lines.StreamInside.AllInside}
+use Rattle.yaml_base.proofs.stream_lines.StreamCuts.{quote_of, quoted_in, read_quoted}
 use Rattle.yaml_base.proofs.stream_lines.StreamTidyLaws.{first_text, lines_after_first, deep_lines_inside}
 use Rattle.yaml_base.proofs.stream_nodes.StreamOwnTexts.{lines_shown, OwnText}
-use Rattle.yaml_base.proofs.stream_flow.StreamFlowWords.{Given, given_reads, double_kind, single_kind}
-use Rattle.yaml_base.proofs.stream_keys.StreamNoKeys.{KeyNowhere, nowhere_alone, tag_no_alias, anchor_no_alias, no_key_text}
+use Rattle.yaml_base.proofs.stream_flow.StreamFlowWords.{quoted_after}
+use Rattle.yaml_base.proofs.stream_keys.StreamKeyReads.{quoted_nowhere}
+use Rattle.yaml_base.proofs.stream_keys.StreamNoKeys.{KeyNowhere, nowhere_alone}
+use Rattle.yaml_base.proofs.stream_lines.StreamDeepBreaks.{ends_as_last}
 
 -- The break after a text
 
@@ -67,35 +68,7 @@ shown_trimmed true c [] h = ap (λ x. prepend_to_trimmed x c []) h
 shown_trimmed false c [] h = ap (λ x. prepend_to_trimmed x c []) h
 shown_trimmed breaks12 c (d ∷ t) h = grind (arith, shown_trimmed breaks12 d t h)
 
--- the last character of a text shows
-last_shown : (breaks12 : Bool) (a : Text) (q : ℕ) → ends_white breaks12 (a ++ (q ∷ [])) ≡ is_read_white breaks12 q
-last_shown breaks12 [] q = refl
-last_shown breaks12 (c ∷ []) q = refl
-last_shown breaks12 (c ∷ d ∷ a) q = last_shown breaks12 (d ∷ a) q
-
 -- No key
-
--- behind properties or without them, what is no word and no alias is no key
-pub behind_no_key : (rules : Rules) (anchor tag : Option Text) (parsed : Option ParsedTag) (c : ℕ) (t : Text) → Given rules anchor tag parsed
-    → begins_content (c ∷ t) ≡ true
-    → word_after rules false None (record { anchor = anchor; tag = parsed }) (c ∷ t) ≡ None → ((u : Text) → word_of_alias rules (c ∷ u) ≡ None)
-    → key_of_text rules (lead anchor tag ++ (c ∷ t)) ≡ None
-behind_no_key rules anchor tag parsed c t given content no_word no_alias =
-    no_key_text rules (lead anchor tag ++ (c ∷ t)) (given_reads rules false anchor tag parsed (c ∷ t) given content ∙ no_word) (by anchor tag parsed given)
-  where
-    shows : (x : Bool) (y : Bool) → (not x && y) ≡ true → x ≡ false
-    shows true y h = absurd (false≢true h)
-    shows false y h = refl
-
-    by : (anchor tag : Option Text) (parsed : Option ParsedTag) → Given rules anchor tag parsed
-        → option_and_then (word_of_alias rules) (without_last_space (lead anchor tag ++ (c ∷ t))) ≡ None
-    by None None parsed given = no_alias_before rules c t (shows (c == space) (not (c == 0x26) && not (c == 0x21)) content) no_alias
-    by (Some name) None parsed given = no_alias_before rules 0x26 ((name ++ (space ∷ [])) ++ (c ∷ t)) refl (anchor_no_alias rules)
-    by (Some name) (Some tag) parsed given = no_alias_before rules 0x26 (((name ++ (space ∷ tag)) ++ (space ∷ [])) ++ (c ∷ t)) refl (anchor_no_alias rules)
-    by None (Some tag) (Some parsed) given =
-        ap (λ w. option_and_then (word_of_alias rules) (without_last_space ((w ++ (space ∷ [])) ++ (c ∷ t)))) given.tagged.begins
-        ∙ no_alias_before rules 0x21 ((given.tagged.rest ++ (space ∷ [])) ++ (c ∷ t)) refl (tag_no_alias rules)
-    by None (Some tag) None given = absurd given.tagged
 
 -- where no key ends in a text, none ends in its first line
 first_nowhere : (rules : Rules) (breaks12 : Bool) (before t : Text) → KeyNowhere rules before t
@@ -113,42 +86,6 @@ first_nowhere rules breaks12 before (c ∷ t) none = by (is_read_break breaks12 
     by true more = tt
     by false more = prepend_to_elements (lines_of breaks12 (t ++ feed)) more
 
--- nothing is said of no value
-pub none_parsed : (properties : Properties) (standing : Stood) (x : Bool) → scalar_parsed properties standing (if x then None else None) ≡ None
-none_parsed properties standing true = refl
-none_parsed properties standing false = refl
-
--- the beginning of a text in double quotes is no key
-double_part : (rules : Rules) (anchor tag : Option Text) (parsed : Option ParsedTag) (t : Text) → Given rules anchor tag parsed
-    → read_double rules.breaks12 (0x22 ∷ t) ≡ None
-    → key_of_text rules (lead anchor tag ++ (0x22 ∷ t)) ≡ None
-double_part rules anchor tag parsed t given none = grind (arith, behind_no_key, double_kind, none_parsed, double_no_alias)
-
-single_part : (rules : Rules) (anchor tag : Option Text) (parsed : Option ParsedTag) (t : Text) → Given rules anchor tag parsed
-    → read_single rules.breaks12 (0x27 ∷ t) ≡ None
-    → key_of_text rules (lead anchor tag ++ (0x27 ∷ t)) ≡ None
-single_part rules anchor tag parsed t given none = grind (arith, behind_no_key, single_kind, none_parsed, single_no_alias)
-
--- so no key ends in what reads whole
-double_nowhere : (rules : Rules) (anchor tag : Option Text) (parsed : Option ParsedTag) (b t v : Text) → Given rules anchor tag parsed
-    → read_double rules.breaks12 ((0x22 ∷ b) ++ t) ≡ Some v → KeyNowhere rules (lead anchor tag ++ (0x22 ∷ b)) t
-double_nowhere rules anchor tag parsed b [] v given read = tt
-double_nowhere rules anchor tag parsed b (c ∷ t) v given read = (
-  λ h. double_part rules anchor tag parsed b given (double_quoted_whole rules.breaks12 (0x22 ∷ b) c t v read),
-  subst (λ u. KeyNowhere rules u t) (sym (append_assoc (lead anchor tag) (0x22 ∷ b) (c ∷ [])))
-      (double_nowhere rules anchor tag parsed (b ++ (c ∷ [])) t v given (ap (read_double rules.breaks12) (append_assoc (0x22 ∷ b) (c ∷ []) t) ∙ read)),
-)
-
-single_nowhere : (rules : Rules) (anchor tag : Option Text) (parsed : Option ParsedTag) (b t v : Text) → Given rules anchor tag parsed
-    → read_single rules.breaks12 ((0x27 ∷ b) ++ t) ≡ Some v → KeyNowhere rules (lead anchor tag ++ (0x27 ∷ b)) t
-single_nowhere rules anchor tag parsed b [] v given read = tt
-single_nowhere rules anchor tag parsed b (c ∷ t) v given read = (
-  λ h. single_part rules anchor tag parsed b given
-      (single_quoted_whole rules.breaks12 (0x27 ∷ b) c t v (ap (λ n. n == 39) (eqb-true c 0x3A h)) read),
-  subst (λ u. KeyNowhere rules u t) (sym (append_assoc (lead anchor tag) (0x27 ∷ b) (c ∷ [])))
-      (single_nowhere rules anchor tag parsed (b ++ (c ∷ [])) t v given (ap (read_single rules.breaks12) (append_assoc (0x27 ∷ b) (c ∷ []) t) ∙ read)),
-)
-
 -- a line that begins with a character that is no `:`
 pub first_passes : (rules : Rules) (before f : Text) (c : ℕ) → (c == 0x3A) ≡ false → key_from rules (before ++ (c ∷ [])) f ≡ None
     → key_from rules before (c ∷ f) ≡ None
@@ -157,66 +94,39 @@ first_passes rules before f c other none =
 
 -- Quotes
 
--- a quote breaks no line
-quotes_go_on : (breaks12 : Bool) → (is_read_break breaks12 0x22 ≡ false) × (is_read_break breaks12 0x27 ≡ false)
-quotes_go_on true = (refl, refl)
-quotes_go_on false = (refl, refl)
+-- a quote breaks no line, and isn't white
+quotes_show : (breaks12 double : Bool) → (is_read_break breaks12 (quote_of double) ≡ false) × (is_read_white breaks12 (quote_of double) ≡ false)
+quotes_show breaks12 double = grind (arith, nat_tests)
 
--- nor is it white
-quotes_show : (breaks12 : Bool) → (is_read_white breaks12 0x22 ≡ false) × (is_read_white breaks12 0x27 ≡ false)
-quotes_show true = (refl, refl)
-quotes_show false = (refl, refl)
-
--- a tidy text in double quotes, up to the break after it
-pub own_double : (rules : Rules) (column : Option ℕ) (inside v : Text) → is_tidy double_quoted rules.breaks12 column (0x22 ∷ (inside ++ (0x22 ∷ []))) ≡ true
-    → read_double rules.breaks12 (0x22 ∷ (inside ++ (0x22 ∷ []))) ≡ Some v → OwnText rules column ((0x22 ∷ (inside ++ (0x22 ∷ []))) ++ feed) double_quoted v
-own_double rules column inside v tidy read =
-    let t = inside ++ (0x22 ∷ []) in
+-- a tidy text in quotes, up to the break after it
+pub own_quoted : (rules : Rules) (column : Option ℕ) (double : Bool) (inside v : Text)
+    → is_tidy (quoted_in double) rules.breaks12 column (quote_of double ∷ (inside ++ (quote_of double ∷ []))) ≡ true
+    → read_quoted double rules.breaks12 (quote_of double ∷ (inside ++ (quote_of double ∷ []))) ≡ Some v
+    → OwnText rules column ((quote_of double ∷ (inside ++ (quote_of double ∷ []))) ++ feed) (quoted_in double) v
+own_quoted rules column double inside v tidy read =
+    let q = quote_of double in
+    let t = inside ++ (q ∷ []) in
+    let shown = quotes_show rules.breaks12 double in
     record {
-      head = 0x22;
+      head = q;
       tail = t ++ feed;
       is = refl;
-      content = refl;
-      goes_on = (quotes_go_on rules.breaks12).0;
-      no_item = refl;
-      no_key = refl;
+      content = grind (arith);
+      goes_on = shown.0;
+      no_item = grind (arith);
+      no_key = grind (arith);
       keyless = λ anchor tag parsed given.
-          first_passes rules (lead anchor tag) (first_text (lines_of rules.breaks12 (t ++ feed))) 0x22 refl
-          (nowhere_alone rules (lead anchor tag ++ (0x22 ∷ [])) (first_text (lines_of rules.breaks12 (t ++ feed)))
-          (first_nowhere rules rules.breaks12 (lead anchor tag ++ (0x22 ∷ [])) t (double_nowhere rules anchor tag parsed [] t v given read)));
-      deeper = lines_deeper rules.breaks12 column 0x22 (t ++ feed) (quotes_go_on rules.breaks12).0
-          (λ c e. deep_more rules.breaks12 (suc c) (0x22 ∷ t) (tidy_deep double_quoted rules.breaks12 column (0x22 ∷ t) tidy c e));
+          first_passes rules (lead anchor tag) (first_text (lines_of rules.breaks12 (t ++ feed))) q (grind (arith))
+          (nowhere_alone rules (lead anchor tag ++ (q ∷ [])) (first_text (lines_of rules.breaks12 (t ++ feed)))
+          (first_nowhere rules rules.breaks12 (lead anchor tag ++ (q ∷ [])) t (quoted_nowhere rules double anchor tag parsed [] t v given read)));
+      deeper = lines_deeper rules.breaks12 column q (t ++ feed) shown.0
+          (λ c e. deep_more rules.breaks12 (suc c) (q ∷ t) (tidy_deep (quoted_in double) rules.breaks12 column (q ∷ t) tidy c e));
       read = λ properties.
-          ap (word_after rules false column properties)
-          (shown_trimmed rules.breaks12 0x22 t (last_shown rules.breaks12 (0x22 ∷ inside) 0x22 ∙ (quotes_show rules.breaks12).0))
-          ∙ ap (λ k. word_by_kind k rules false column properties (0x22 ∷ t)) (double_kind t)
-          ∙ ap (λ x. scalar_parsed properties stood_quoted (if x then read_double rules.breaks12 (0x22 ∷ t) else None)) tidy
-          ∙ ap (scalar_parsed properties stood_quoted) read;
+          ap (λ k. text_by_kind k rules column properties (q ∷ (t ++ feed))) (text_kind double)
+          ∙ ap (word_after rules false column properties) (shown_trimmed rules.breaks12 q t (ends_as_last rules.breaks12 (q ∷ inside) q ∙ shown.1))
+          ∙ quoted_after rules false double column properties t v tidy read;
     }
-
--- one in single quotes
-pub own_single : (rules : Rules) (column : Option ℕ) (inside v : Text) → is_tidy single_quoted rules.breaks12 column (0x27 ∷ (inside ++ (0x27 ∷ []))) ≡ true
-    → read_single rules.breaks12 (0x27 ∷ (inside ++ (0x27 ∷ []))) ≡ Some v → OwnText rules column ((0x27 ∷ (inside ++ (0x27 ∷ []))) ++ feed) single_quoted v
-own_single rules column inside v tidy read =
-    let t = inside ++ (0x27 ∷ []) in
-    record {
-      head = 0x27;
-      tail = t ++ feed;
-      is = refl;
-      content = refl;
-      goes_on = (quotes_go_on rules.breaks12).1;
-      no_item = refl;
-      no_key = refl;
-      keyless = λ anchor tag parsed given.
-          first_passes rules (lead anchor tag) (first_text (lines_of rules.breaks12 (t ++ feed))) 0x27 refl
-          (nowhere_alone rules (lead anchor tag ++ (0x27 ∷ [])) (first_text (lines_of rules.breaks12 (t ++ feed)))
-          (first_nowhere rules rules.breaks12 (lead anchor tag ++ (0x27 ∷ [])) t (single_nowhere rules anchor tag parsed [] t v given read)));
-      deeper = lines_deeper rules.breaks12 column 0x27 (t ++ feed) (quotes_go_on rules.breaks12).1
-          (λ c e. deep_more rules.breaks12 (suc c) (0x27 ∷ t) (tidy_deep single_quoted rules.breaks12 column (0x27 ∷ t) tidy c e));
-      read = λ properties.
-          ap (word_after rules false column properties)
-          (shown_trimmed rules.breaks12 0x27 t (last_shown rules.breaks12 (0x27 ∷ inside) 0x27 ∙ (quotes_show rules.breaks12).1))
-          ∙ ap (λ k. word_by_kind k rules false column properties (0x27 ∷ t)) (single_kind t)
-          ∙ ap (λ x. scalar_parsed properties stood_quoted (if x then read_single rules.breaks12 (0x27 ∷ t) else None)) tidy
-          ∙ ap (scalar_parsed properties stood_quoted) read;
-    }
+  where
+    text_kind : (double : Bool) → kind_of_text (quote_of double ∷ []) ≡ word_text
+    text_kind true = refl
+    text_kind false = refl

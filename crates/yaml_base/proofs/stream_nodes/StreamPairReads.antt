@@ -10,9 +10,10 @@ use Rattle.yaml_base.proofs.stream_nodes.{StreamAgrees.node_tree, StreamAgrees.p
 use Rattle.yaml_base.proofs.stream_nodes.{StreamTexts.pairs_own}
 use Rattle.yaml_base.proofs.stream_nodes.StreamFits.{size, pairs_size, Fits, tree_anywhere, indicated_lines, blanked_lines}
 use Rattle.yaml_base.proofs.stream_nodes.StreamPairs.{KeyFits, key_place, value_place, colon_cursor, simple_key, indicated_key, simple_value, indicated_value}
-use Rattle.yaml_base.proofs.stream_nodes.StreamPairs.{pair_text, pairs_text, entries_of_pair, pair_entries, PairFits, PairsFit, question_line, colon_line}
+use Rattle.yaml_base.proofs.stream_nodes.StreamPairs.{pair_text, pairs_text, entries_of_pair, pair_entries, PairFits, PairsFit}
 use Rattle.yaml_base.proofs.stream_nodes.StreamPairs.{keyed_lines}
 use Rattle.yaml_base.specs.streams.StreamNodes.{HeldPairs, with_key, with_value, simple_pair, entry_by_kind, entry_at, entry_read, no_pairs_held}
+use Rattle.yaml_base.proofs.stream_lines.StreamLineLaws.{unbroken_line}
 
 -- Reading
 
@@ -28,7 +29,7 @@ question : (rules : Rules) (n : ℕ) (own : Rendered) (tree : Tree) (role : Role
 question rules n own tree role e fit depth deep pairs =
     let o = fit.opens refl in
     let before : HeldPairs = record { pairs = pairs; key = None } in
-    ap (entry_read rules (node_read depth rules) e (held pairs None)) (indicated_lines rules.breaks12 e 0x3F (closed own) o (question_line rules.breaks12))
+    ap (entry_read rules (node_read depth rules) e (held pairs None)) (indicated_lines rules.breaks12 e 0x3F (closed own) o (unbroken_line rules.breaks12 (0x3F ∷ []) refl))
     ∙ ap (entry_at rules (node_read depth rules) e o.ending o.rest before) (past_spaces e (0x3F ∷ o.head))
     ∙ ap (λ x. entry_by_kind (if x then key_entry else simple_entry) rules (node_read depth rules) e o.ending o.rest before (0x3F ∷ o.head)) o.symbol
     ∙ ap (λ ls. with_key before (node_read depth rules true (Some e) ls)) (sym (blanked_lines rules.breaks12 (suc e) (closed own) o))
@@ -43,7 +44,7 @@ colon : (rules : Rules) (n : ℕ) (own : Rendered) (tree : Tree) (role : Role) (
 colon rules n own tree role e fit depth deep pairs key =
     let o = fit.opens refl in
     let before : HeldPairs = record { pairs = pairs; key = Some key } in
-    ap (entry_read rules (node_read depth rules) e (held pairs (Some key))) (indicated_lines rules.breaks12 e 0x3A (closed own) o (colon_line rules.breaks12))
+    ap (entry_read rules (node_read depth rules) e (held pairs (Some key))) (indicated_lines rules.breaks12 e 0x3A (closed own) o (unbroken_line rules.breaks12 (0x3A ∷ []) refl))
     ∙ ap (entry_at rules (node_read depth rules) e o.ending o.rest before) (past_spaces e (0x3A ∷ o.head))
     ∙ ap (λ x. entry_by_kind (if x then value_entry else simple_entry) rules (node_read depth rules) e o.ending o.rest before (0x3A ∷ o.head)) o.symbol
     ∙ ap (λ ls. with_value pairs (Some key) (node_read depth rules true (Some e) ls)) (sym (blanked_lines rules.breaks12 (suc e) (closed own) o))

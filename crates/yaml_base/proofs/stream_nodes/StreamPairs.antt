@@ -2,11 +2,11 @@
 -- and two for another, lie inside the columns around, and read as their trees.
 use Rattle.yaml_base.proofs.Common.{ℕ, ◌+◌, ◌<◌, ◌≤◌, ◌==◌, Some, codes, length, Bool, false, not, true, ◌&&◌, List, [], ◌++◌, ◌∷◌, refl, ◌≡◌, append_assoc, ap}
 use Rattle.yaml_base.proofs.Common.{subst, sym, ◌∙◌, arith, and_from, list_all, Text, space, Cursor, Rendered, indicator, TagDirective, Node, Pairs, no_pairs}
-use Rattle.yaml_base.proofs.Common.{pairs_and, entry_place, Role, as_key, as_value, Place, has_no_pairs, is_simple, Effective, Tree, marker_of}
+use Rattle.yaml_base.proofs.Common.{pairs_and, entry_place, Role, as_key, as_value, Place, has_no_pairs, is_simple, Effective, Tree, marker_of, nat_tests}
 use Rattle.yaml_base.proofs.Common.{Line, lines_of, ends_indicator, begins_with_indicator, belongs_to_entry, spaces, key_of_line, simple_entry, Rules}
 use Rattle.yaml_base.{proofs.stream_lines.StreamSections.is_markerless}
 use Rattle.yaml_base.{proofs.stream_nodes.StreamAgrees.node_tree, proofs.stream_nodes.StreamTexts.node_own, specs.streams.StreamNodes.kind_of_entry}
-use Rattle.yaml_base.proofs.stream_lines.StreamLineLaws.{is_closed, OneLine, lines_after_break}
+use Rattle.yaml_base.proofs.stream_lines.StreamLineLaws.{is_closed, OneLine, lines_after_break, unbroken_line}
 use Rattle.yaml_base.proofs.stream_lines.StreamClosed.{closed, indicator_cursor, margin_cursor, spaces_line, lines_behind, closed_behind, closed_both, rank}
 use Rattle.yaml_base.proofs.stream_lines.StreamClosed.{inside_both}
 use Rattle.yaml_base.proofs.stream_lines.StreamInside.{inside_deeper, begins_entry, outside, AllInside, Splits, splits_none, splits_both, splits_one}
@@ -95,23 +95,13 @@ PairsFit rules s directives no_pairs e = Unit {0}
 PairsFit rules s directives (pairs_and pairs key value) e =
     PairsFit rules s directives pairs e × PairFits (is_simple s.canonical directives key) rules s directives pairs key value e
 
--- the indicators of a pair break no line
-pub question_line : (breaks12 : Bool) → OneLine breaks12 (0x3F ∷ [])
-question_line true = refl
-question_line false = refl
-
--- nor does a `:`
-pub colon_line : (breaks12 : Bool) → OneLine breaks12 (0x3A ∷ [])
-colon_line true = refl
-colon_line false = refl
-
 -- the lines of a simple key and what its `:` opens
 pub keyed_lines : (rules : Rules) (text t : Text) (tree : Tree) (e : ℕ) → KeyFits rules text tree → (o : Opens rules.breaks12 t)
     → lines_of rules.breaks12 (spaces e ++ (text ++ (0x3A ∷ t))) ≡ record { text = spaces e ++ (text ++ (0x3A ∷ o.head)); ending = o.ending } ∷ o.rest
 keyed_lines rules text t tree e key o =
     lines_behind rules.breaks12 (spaces e) (text ++ (0x3A ∷ t)) (text ++ (0x3A ∷ o.head)) o.ending o.rest (spaces_line rules.breaks12 e)
     (lines_behind rules.breaks12 text (0x3A ∷ t) (0x3A ∷ o.head) o.ending o.rest key.one_line
-    (lines_behind rules.breaks12 (0x3A ∷ []) t o.head o.ending o.rest (colon_line rules.breaks12) o.is))
+    (lines_behind rules.breaks12 (0x3A ∷ []) t o.head o.ending o.rest (unbroken_line rules.breaks12 (0x3A ∷ []) refl) o.is))
 
 -- a key begins an entry
 keyed_begins : (rules : Rules) (text after : Text) (tree : Tree) → KeyFits rules text tree → ends_indicator after ≡ true
@@ -141,11 +131,7 @@ indicated_inside rules n own tree role cursor e c fit w one q d h =
     let o = fit.opens w in
     ap (λ ls. list_all (λ line. belongs_to_entry q d line.text) ls) (indicated_lines rules.breaks12 e c (closed own) o one)
     ∙ and_from (belongs_to_entry q d (spaces e ++ (c ∷ o.head))) (list_all (λ line. belongs_to_entry q d line.text) o.rest) (inside_deeper q d e (c ∷ o.head) h)
-    (rest_inside rules n own tree role cursor e fit w q d (ranked q))
-  where
-    ranked : (q : Bool) → d + rank q ≤ e
-    ranked true = omega arith
-    ranked false = omega arith
+    (rest_inside rules n own tree role cursor e fit w q d (grind (arith, nat_tests)))
 
 -- they are one entry of a mapping
 indicated_splits : (rules : Rules) (n : ℕ) (own : Rendered) (tree : Tree) (role : Role) (cursor : Cursor) (e c : ℕ)
@@ -199,9 +185,9 @@ pair_splits false rules s directives pairs key value e fit =
     (sym (indicated_pair_lines rules s directives pairs key value e fit))
     (splits_both false e (lines_of rules.breaks12 k) (lines_of rules.breaks12 v) (lines_of rules.breaks12 k ∷ []) (lines_of rules.breaks12 v ∷ [])
     (indicated_splits rules (size key) (indicated_key pairs key s directives e) (node_tree key s directives (key_place pairs e)) (as_key (has_no_pairs pairs))
-    (indicator_cursor e) e 0x3F fit.0 refl (question_line rules.breaks12) (λ t. refl))
+    (indicator_cursor e) e 0x3F fit.0 refl (unbroken_line rules.breaks12 (0x3F ∷ []) refl) (λ t. refl))
     (indicated_splits rules (size value) (indicated_value value s directives e) (node_tree value s directives (value_place false e)) (as_value false)
-    (indicator_cursor e) e 0x3A fit.1 refl (colon_line rules.breaks12) (λ t. refl)))
+    (indicator_cursor e) e 0x3A fit.1 refl (unbroken_line rules.breaks12 (0x3A ∷ []) refl) (λ t. refl)))
 
 -- a pair's lines are deeper than a column farther out
 pair_inside : (x : Bool) (rules : Rules) (s : Effective) (directives : List TagDirective) (pairs : Pairs) (key value : Node) (e : ℕ)
@@ -215,19 +201,15 @@ pair_inside true rules s directives pairs key value e fit q d h =
     ∙ and_from (belongs_to_entry q d (spaces e ++ (k ++ (0x3A ∷ o.head)))) (list_all (λ line. belongs_to_entry q d line.text) o.rest)
     (inside_deeper q d e (k ++ (0x3A ∷ o.head)) h)
     (rest_inside rules (size value) (simple_value pairs key value s directives e) (node_tree value s directives (value_place true e)) (as_value true)
-    (colon_cursor (simple_key pairs key s directives e).cursor) e fit.1 refl q d (ranked q))
-  where
-    ranked : (q : Bool) → d + rank q ≤ e
-    ranked true = omega arith
-    ranked false = omega arith
+    (colon_cursor (simple_key pairs key s directives e).cursor) e fit.1 refl q d (grind (arith, nat_tests)))
 pair_inside false rules s directives pairs key value e fit q d h =
     ap (λ ls. list_all (λ line. belongs_to_entry q d line.text) ls) (indicated_pair_lines rules s directives pairs key value e fit)
     ∙ inside_both q d (lines_of rules.breaks12 (spaces e ++ (0x3F ∷ closed (indicated_key pairs key s directives e))))
     (lines_of rules.breaks12 (spaces e ++ (0x3A ∷ closed (indicated_value value s directives e))))
     (indicated_inside rules (size key) (indicated_key pairs key s directives e) (node_tree key s directives (key_place pairs e)) (as_key (has_no_pairs pairs))
-    (indicator_cursor e) e 0x3F fit.0 refl (question_line rules.breaks12) q d h)
+    (indicator_cursor e) e 0x3F fit.0 refl (unbroken_line rules.breaks12 (0x3F ∷ []) refl) q d h)
     (indicated_inside rules (size value) (indicated_value value s directives e) (node_tree value s directives (value_place false e)) (as_value false)
-    (indicator_cursor e) e 0x3A fit.1 refl (colon_line rules.breaks12) q d h)
+    (indicator_cursor e) e 0x3A fit.1 refl (unbroken_line rules.breaks12 (0x3A ∷ []) refl) q d h)
 
 -- All pairs
 

@@ -3,8 +3,9 @@ use Rattle.yaml_base.proofs.Common.{nat_tests, suc, zero, ℕ, ◌+◌, ◌==◌
 use Rattle.yaml_base.proofs.Common.{[], ◌++◌, ◌∷◌, refl, ◌≡◌, eqb-true, length-append, append-nil, append_assoc, ap, sym, ◌∙◌, arith, and_parts, or_parts}
 use Rattle.yaml_base.proofs.Common.{false≢true, list_all, list_any, Text, space, is_alpha, is_blank, is_break, TagDirective, ParsedTag, CutText, tag_parsed}
 use Rattle.yaml_base.proofs.Common.{ends_indicator, Indented, indented_step, indented, spaces, Rules, no_properties, PropertiesRead, cut_before_space}
-use Rattle.yaml_base.proofs.Common.{name_read, anchor_of_word, tag_first, properties_read, word_after, word_read}
+use Rattle.yaml_base.proofs.Common.{name_read, anchor_of_word, tag_first, properties_read, word_after, word_read, not-true}
 use Rattle.yaml_base.{proofs.stream_lines.StreamCuts.none_not_some, specs.streams.StreamScalars.word_step, specs.streams.StreamScalars.anchor_first}
+use Rattle.yaml_base.proofs.AllPass.{all_pass}
 
 -- a text holds a blank or a break
 abbrev pub holds_white : Text → Bool
@@ -49,10 +50,6 @@ begins_content (c ∷ rest) = not (c == space) && (not (c == 0x26) && not (c == 
 abbrev pub has_no_space : Text → Bool
 has_no_space text = list_all (λ c. not (c == space)) text
 
-not_true : (x : Bool) → not x ≡ true → x ≡ false
-not_true true h = absurd (false≢true h)
-not_true false h = refl
-
 -- Words
 
 -- a word is cut before a space or the end
@@ -62,7 +59,7 @@ word_whole [] [] h ends = refl
 word_whole [] (c ∷ rest) h ends = ap (λ x. word_step x c rest (cut_before_space rest)) ends
 word_whole (c ∷ word) rest h ends =
     let parts = and_parts (not (c == space)) (has_no_space word) h in
-    ap (λ x. word_step x c (word ++ rest) (cut_before_space (word ++ rest))) (not_true (c == space) parts.0)
+    ap (λ x. word_step x c (word ++ rest) (cut_before_space (word ++ rest))) (not-true (c == space) parts.0)
     ∙ ap (λ (cut : CutText). let made : CutText = record { prefix = c ∷ cut.prefix; rest = cut.rest } in made) (word_whole word rest parts.1 ends)
 
 -- a letter is no space
@@ -70,10 +67,7 @@ letter_no_space : (c : ℕ) → is_alpha c ≡ true → not (c == space) ≡ tru
 letter_no_space c h = grind (arith, false≢true, eqb-true)
 
 pub letters_no_space : (name : Text) → list_all is_alpha name ≡ true → has_no_space name ≡ true
-letters_no_space [] h = refl
-letters_no_space (c ∷ name) h =
-    let parts = and_parts (is_alpha c) (list_all is_alpha name) h in
-    ap (λ x. x && has_no_space name) (letter_no_space c parts.0) ∙ letters_no_space name parts.1
+letters_no_space name h = all_pass is_alpha (λ c. not (c == space)) letter_no_space name h
 
 -- what is a name consists of letters
 pub name_letters : (name : Text) → name_read name ≡ Some name → list_all is_alpha name ≡ true
@@ -105,7 +99,7 @@ spaces_both (suc m) n t =
 pub content_indented : (n : ℕ) (t : Text) → begins_content t ≡ true → indented (spaces n ++ t) ≡ record { column = n; text = t }
 content_indented zero [] h = refl
 content_indented zero (c ∷ t) h =
-    ap (λ x. indented_step x (c ∷ t) (indented t)) (not_true (c == space) (and_parts (not (c == space)) (not (c == 0x26) && not (c == 0x21)) h).0)
+    ap (λ x. indented_step x (c ∷ t) (indented t)) (not-true (c == space) (and_parts (not (c == space)) (not (c == 0x26) && not (c == 0x21)) h).0)
 content_indented (suc n) t h = ap (λ (after : Indented). indented_step true (spaces (suc n) ++ t) after) (content_indented n t h)
 
 -- Properties
@@ -119,7 +113,7 @@ read_as anchor parsed count rest =
 no_tag : (directives : List TagDirective) (anchor : Option Text) (column : ℕ) (rest : Text) → begins_content rest ≡ true
     → tag_first directives anchor column rest ≡ read_as anchor None column rest
 no_tag directives anchor column [] h = grind (arith, append-nil)
-no_tag directives anchor column (c ∷ rest) h = grind (arith, and_parts, not_true)
+no_tag directives anchor column (c ∷ rest) h = grind (arith, and_parts, not-true)
 
 -- a tag, before a space or the end
 with_tag : (directives : List TagDirective) (anchor : Option Text) (column : ℕ) (tag rest : Text) (parsed : ParsedTag) → WrittenTag directives tag parsed
@@ -135,7 +129,7 @@ with_anchor name rest h ends = grind (arith, word_whole, letters_no_space, name_
 -- no anchor begins a text
 no_anchor : (n : ℕ) (rest : Text) → begins_content rest ≡ true
     → anchor_first (spaces n ++ rest) ≡ Some (record { properties = no_properties; text = spaces n ++ rest })
-no_anchor n rest h = grind (arith, nat_tests, and_parts, not_true)
+no_anchor n rest h = grind (arith, nat_tests, and_parts, not-true)
 
 -- what follows the reading of an anchor
 abbrev then_tag : List TagDirective → Option PropertiesRead → Option PropertiesRead

@@ -1,10 +1,11 @@
 -- Each scalar in a block fits where its names and its body stand.
-use Rattle.yaml_base.proofs.Common.{ℕ, ◌≤◌, if◌then◌else◌, is_some, Option, None, Some, Bool, false, not, true, ◌&&◌, ◌||◌, List, [], ◌∷◌, refl, ◌≡◌}
-use Rattle.yaml_base.proofs.Common.{true≢false, and_parts, Text, Cursor, ScalarStyle, any_style, plain, single_quoted, double_quoted, literal, folded}
-use Rattle.yaml_base.proofs.Common.{TagDirective, scalar_tag, scalar_node, render_body, charset_of, choice_of, Place, deeper, is_simple_at, read_in_style}
-use Rattle.yaml_base.proofs.Common.{Effective, is_tidy, Allowances, is_empty, allows_block, allowances, is_plain, requested_style, fits_plain}
+use Rattle.yaml_base.proofs.Common.{ℕ, ◌≤◌, if◌then◌else◌, is_some, Option, None, Some, Bool, false, not, true, ◌&&◌, ◌||◌, List, [], refl, ◌≡◌}
+use Rattle.yaml_base.proofs.Common.{true≢false, and_parts, Text, Cursor, ScalarStyle, plain}
+use Rattle.yaml_base.proofs.Common.{TagDirective, scalar_tag, scalar_node, render_body, charset_of, style_asked_at, choice_of, Place, deeper, is_simple_at}
+use Rattle.yaml_base.proofs.Common.{read_in_style}
+use Rattle.yaml_base.proofs.Common.{Effective, is_tidy, Allowances, is_empty, allows_block, allowances, is_plain, is_block, requested_style, fits_plain}
 use Rattle.yaml_base.proofs.{Charsets.block_still, stream_flow.StreamFlowScalars.rules_of, stream_flow.StreamFlowScalars.bare_not_plain}
-use Rattle.yaml_base.proofs.{stream_flow.StreamFlowWords.scalar_in, stream_lines.StreamBlockEnds.is_block, stream_lines.StreamBlockEnds.block_fitting}
+use Rattle.yaml_base.proofs.{stream_flow.StreamFlowWords.scalar_in, stream_lines.StreamBlockEnds.block_fitting}
 use Rattle.yaml_base.proofs.{stream_nodes.StreamEmptyFits.empty_fits, stream_nodes.StreamFits.Fits, stream_nodes.StreamLeaves.block_place}
 use Rattle.yaml_base.proofs.{stream_nodes.StreamLeaves.ScalarsFit, stream_nodes.StreamProperties.IsNamed, stream_nodes.StreamStands.TagStands}
 use Rattle.yaml_base.proofs.stream_nodes.StreamScalarsFit.{body_fits, render_styled, body_cursor, styled_fits}
@@ -18,37 +19,13 @@ scalar_fits : (s : Effective) (own directives : List TagDirective) (anchor tag :
     → read_in_style style s.breaks12 false place.column
     (render_body style s limit indent value (body_cursor s directives anchor tag bare style value cursor)).text ≡ Some value
     → Fits (rules_of s own) 1 (render_styled s directives anchor tag bare style limit indent value cursor) (scalar_in anchor tag style bare value) place cursor
+scalar_fits s own directives anchor tag true plain limit indent [] place cursor low high named stands meant allowed tidy read =
+    absurd (true≢false (meant refl))
+scalar_fits s own directives anchor tag false plain limit indent [] place cursor low high named stands meant allowed tidy read =
+    empty_fits s own directives anchor tag limit indent place cursor named stands
 scalar_fits s own directives anchor tag bare style limit indent value place cursor low high named stands meant allowed tidy read =
-    by style value bare meant allowed tidy read
-  where
-    full : (style : ScalarStyle) (value : Text) (bare : Bool) → (is_plain style && is_empty value) ≡ false → (bare ≡ true → is_plain style ≡ false)
-        → (is_block style ≡ true → allows_block (record { unicode = s.unicode; breaks12 = s.breaks12 }) value ≡ true)
-        → is_tidy style s.breaks12 place.column (render_body style s limit indent value
-        (body_cursor s directives anchor tag bare style value cursor)).text ≡ true
-        → read_in_style style s.breaks12 false place.column
-        (render_body style s limit indent value (body_cursor s directives anchor tag bare style value cursor)).text ≡ Some value
-        → Fits (rules_of s own) 1 (render_styled s directives anchor tag bare style limit indent value cursor) (scalar_in anchor tag style bare value) place
-        cursor
-    full style value bare some meant allowed tidy read =
-        styled_fits s own directives anchor tag bare style limit indent value place cursor named stands meant some
-        (body_fits s own place.column style limit indent value (body_cursor s directives anchor tag bare style value cursor) low high allowed some tidy read)
-
-    by : (style : ScalarStyle) (value : Text) (bare : Bool) → (bare ≡ true → is_plain style ≡ false)
-        → (is_block style ≡ true → allows_block (record { unicode = s.unicode; breaks12 = s.breaks12 }) value ≡ true)
-        → is_tidy style s.breaks12 place.column (render_body style s limit indent value
-        (body_cursor s directives anchor tag bare style value cursor)).text ≡ true
-        → read_in_style style s.breaks12 false place.column
-        (render_body style s limit indent value (body_cursor s directives anchor tag bare style value cursor)).text ≡ Some value
-        → Fits (rules_of s own) 1 (render_styled s directives anchor tag bare style limit indent value cursor) (scalar_in anchor tag style bare value) place
-        cursor
-    by plain [] true meant allowed tidy read = absurd (true≢false (meant refl))
-    by plain [] false meant allowed tidy read = empty_fits s own directives anchor tag limit indent place cursor named stands
-    by plain (c ∷ value) bare meant allowed tidy read = full plain (c ∷ value) bare refl meant allowed tidy read
-    by single_quoted value bare meant allowed tidy read = full single_quoted value bare refl meant allowed tidy read
-    by double_quoted value bare meant allowed tidy read = full double_quoted value bare refl meant allowed tidy read
-    by literal value bare meant allowed tidy read = full literal value bare refl meant allowed tidy read
-    by folded value bare meant allowed tidy read = full folded value bare refl meant allowed tidy read
-    by any_style value bare meant allowed tidy read = full any_style value bare refl meant allowed tidy read
+    styled_fits s own directives anchor tag bare style limit indent value place cursor named stands meant refl
+    (body_fits s own place.column style limit indent value (body_cursor s directives anchor tag bare style value cursor) low high allowed refl tidy read)
 
 -- so does each scalar in a block
 pub scalars_fit : (s : Effective) (own directives : List TagDirective) → 2 ≤ s.indent → s.indent ≤ 9 → ScalarsFit s own directives
@@ -66,5 +43,5 @@ scalars_fit s own directives low high content role column cursor complex stands 
     (and_parts allowed.block true
     (and_parts (allowed.block && true) (not simple)
     (block_fitting allowed (fits_plain allowed (is_empty content.value) (is_some tag) content.plain_implicit false simple) (allowed.block && true && not simple)
-    (requested_style (s.canonical || (simple && allowed.multiline)) content.style) h)).0).0)
+    (requested_style (s.canonical || (simple && allowed.multiline)) (style_asked_at s place content)) h)).0).0)
     body.tidy body.reads

@@ -1,24 +1,25 @@
 -- Scalars that stand in blocks fit: in each style, behind an anchor and a tag or without them, and where nothing is written.
 use Rattle.yaml_base.proofs.Common.{nat_tests}
-use Rattle.yaml_base.proofs.Common.{ℕ, ◌<◌, ◌≤◌, if◌then◌else◌, Option, None, Some, Bool, false, not, true, ◌&&◌, List, [], ◌++◌, ◌∷◌, refl, ◌≡◌, true≢false}
-use Rattle.yaml_base.proofs.Common.{append-nil, append_assoc, ap, subst, sym, ◌∙◌, arith, false≢true, Text, space, Cursor, Rendered, render_then}
+use Rattle.yaml_base.proofs.Common.{ℕ, ◌≤◌, if◌then◌else◌, Option, None, Some, Bool, false, true, ◌&&◌, List, [], ◌++◌, ◌∷◌, refl, ◌≡◌, true≢false}
+use Rattle.yaml_base.proofs.Common.{append-nil, append_assoc, ap, subst, sym, ◌∙◌, arith, false≢true, Text, Cursor, Rendered, render_then}
 use Rattle.yaml_base.proofs.Common.{column_after, space_if, ScalarStyle, any_style, plain, single_quoted, double_quoted, literal, folded}
 use Rattle.yaml_base.proofs.Common.{TagDirective, render_properties, render_separation, render_body, Place, read_in_style, Effective, read_block, is_tidy}
 use Rattle.yaml_base.proofs.Common.{is_empty, allows_block, ending, indentation_hint, ending_hint, ends_in_break, double_inside, render_quote}
-use Rattle.yaml_base.proofs.Common.{folded_parts, parts, runs, render_runs, quotes_doubled, single_quote, is_plain, spaces, Rules}
+use Rattle.yaml_base.proofs.Common.{folded_parts, parts, runs, render_runs, quotes_doubled, single_quote, is_plain, is_block, spaces, Rules}
 use Rattle.yaml_base.proofs.{stream_flow.StreamFlowScalars.rules_of, stream_flow.StreamFlowScalars.is_flow_style, stream_flow.StreamFlowScalars.body_ended}
 use Rattle.yaml_base.proofs.{stream_flow.StreamFlowWords.Given, stream_flow.StreamFlowWords.scalar_in, stream_flow.StreamPropertyWords.lead}
 use Rattle.yaml_base.proofs.{stream_lines.StreamCuts.none_not_some, stream_lines.StreamLineLaws.is_closed, stream_lines.StreamStrip.strip_more}
 use Rattle.yaml_base.proofs.{stream_nodes.StreamBlocks.below_ends, stream_nodes.StreamFits.Fits, stream_nodes.StreamLeads.lead_rendered}
 use Rattle.yaml_base.proofs.{stream_nodes.StreamLeads.tag_is_written, stream_nodes.StreamLeafFits.text_fits, stream_nodes.StreamOwnPlain.own_plain}
 use Rattle.yaml_base.proofs.{stream_nodes.StreamOwnTexts.OwnText, stream_nodes.StreamOwnTexts.own_reads, stream_nodes.StreamOwnWords.feed}
-use Rattle.yaml_base.proofs.{stream_nodes.StreamOwnWords.own_double, stream_nodes.StreamOwnWords.own_single, stream_nodes.StreamProperties.IsNamed}
+use Rattle.yaml_base.proofs.{stream_nodes.StreamOwnWords.own_quoted, stream_nodes.StreamProperties.IsNamed}
 use Rattle.yaml_base.proofs.{stream_nodes.StreamStands.tag_written, stream_nodes.StreamStands.tag_meant, stream_nodes.StreamStands.TagStands}
 use Rattle.yaml_base.proofs.stream_lines.StreamBlockEnds.{EndsBreak, ending_breaks, EndsLines, literal_end, folded_lines_end, column_ended, last_is_read}
-use Rattle.yaml_base.proofs.stream_lines.StreamBlockEnds.{hint_text, strips, is_block}
+use Rattle.yaml_base.proofs.stream_lines.StreamBlockEnds.{hint_text, strips}
 use Rattle.yaml_base.proofs.stream_lines.StreamClosed.{closed, Settled, closed_behind}
 use Rattle.yaml_base.proofs.stream_nodes.StreamOwnBlocks.{block_indicator, block_style, own_block, block_tidy_more}
 use Rattle.yaml_base.specs.scalars.{BlockHeader.render_header, BlockHeader.block_body, Literal.indented}
+use Rattle.yaml_base.proofs.stream_nodes.StreamLeads.{before_count, before_spaces, before_some}
 
 -- Bodies
 
@@ -52,11 +53,11 @@ flow_body s own column plain limit indent value cursor flow some tidy read =
 flow_body s own column single_quoted limit indent value cursor flow some tidy read =
     broken_body (rules_of s own) column single_quoted value (render_body single_quoted s limit indent value cursor)
     (body_ended s single_quoted limit indent value cursor refl).indention
-    (own_single (rules_of s own) column (render_runs quotes_doubled limit indent true (runs value) (single_quote cursor).cursor).text value tidy read)
+    (own_quoted (rules_of s own) column false (render_runs quotes_doubled limit indent true (runs value) (single_quote cursor).cursor).text value tidy read)
 flow_body s own column double_quoted limit indent value cursor flow some tidy read =
     broken_body (rules_of s own) column double_quoted value (render_body double_quoted s limit indent value cursor)
     (body_ended s double_quoted limit indent value cursor refl).indention
-    (own_double (rules_of s own) column (double_inside s.unicode limit indent None value (render_quote cursor).cursor).text value tidy read)
+    (own_quoted (rules_of s own) column true (double_inside s.unicode limit indent None value (render_quote cursor).cursor).text value tidy read)
 flow_body s own column any_style limit indent value cursor flow some tidy read = absurd (none_not_some read)
 flow_body s own column literal limit indent value cursor flow some tidy read = absurd (false≢true flow)
 flow_body s own column folded limit indent value cursor flow some tidy read = absurd (false≢true flow)
@@ -141,14 +142,8 @@ body_fits s own column literal limit indent value cursor low high allowed some t
 body_fits s own column folded limit indent value cursor low high allowed some tidy read =
     block_fits_body s own column false value (indented indent (folded_parts limit indent false (parts value))) cursor low high
     (folded_lines_end limit indent value) (allowed refl) tidy read
-body_fits s own column plain limit indent value cursor low high allowed some tidy read =
-    flow_body s own column plain limit indent value cursor refl some tidy read
-body_fits s own column single_quoted limit indent value cursor low high allowed some tidy read =
-    flow_body s own column single_quoted limit indent value cursor refl some tidy read
-body_fits s own column double_quoted limit indent value cursor low high allowed some tidy read =
-    flow_body s own column double_quoted limit indent value cursor refl some tidy read
-body_fits s own column any_style limit indent value cursor low high allowed some tidy read =
-    flow_body s own column any_style limit indent value cursor refl some tidy read
+body_fits s own column style limit indent value cursor low high allowed some tidy read =
+    flow_body s own column style limit indent value cursor refl some tidy read
 
 -- Scalars
 
@@ -185,34 +180,19 @@ pub styled_fits : (s : Effective) (own directives : List TagDirective) (anchor t
     tag → (bare ≡ true → is_plain style ≡ false) → (is_plain style && is_empty value) ≡ false
     → BodyFits (rules_of s own) place.column style value (render_body style s limit indent value (body_cursor s directives anchor tag bare style value cursor))
     → Fits (rules_of s own) 1 (render_styled s directives anchor tag bare style limit indent value cursor) (scalar_in anchor tag style bare value) place cursor
-styled_fits s own directives anchor tag bare style limit indent value place cursor named stands meant some body = by cursor.whitespace refl
-  where
-    rules : Rules
-    rules = rules_of s own
-
-    rendered : Rendered
-    rendered = render_styled s directives anchor tag bare style limit indent value cursor
-
-    before : Text
-    before = lead anchor (tag_written s.portable directives tag bare)
-
-    given : Given rules anchor (tag_written s.portable directives tag bare) (tag_meant tag bare)
-    given = record { named = named; tagged = tag_is_written s.portable own directives tag bare stands }
-
-    text : Text
-    text = closed (render_body style s limit indent value (body_cursor s directives anchor tag bare style value cursor))
-
-    fits : (count : ℕ) → (space_if true cursor) ≡ spaces count → (cursor.whitespace ≡ false → 0 < count)
-        → Fits rules 1 rendered (scalar_in anchor tag style bare value) place cursor
-    fits count spaced apart =
-        let same : closed rendered ≡ spaces count ++ (before ++ text) =
-        styled_closed s directives anchor tag bare style limit indent value cursor some ∙ ap (λ t. t ++ (before ++ text)) spaced in
-        text_fits rules rendered place cursor count (before ++ text) (scalar_in anchor tag style bare value) same
-        (ap (is_closed rules.breaks12)
-        (same ∙ ap (λ t. spaces count ++ (before ++ t)) body.own.is ∙ sym (append_assoc (spaces count) before (body.own.head ∷ body.own.tail)))
-        ∙ closed_behind rules.breaks12 (spaces count ++ before) body.own.head body.own.tail (ap (is_closed rules.breaks12) (sym body.own.is) ∙ body.ends))
-        body.settled apart (own_reads rules place.column text value style anchor (tag_written s.portable directives tag bare) tag bare body.own given meant)
-
-    by : (x : Bool) → cursor.whitespace ≡ x → Fits rules 1 rendered (scalar_in anchor tag style bare value) place cursor
-    by true h = fits 0 (ap (λ x. if true && not x then space ∷ [] else []) h) (λ w. absurd (true≢false (sym h ∙ w)))
-    by false h = fits 1 (ap (λ x. if true && not x then space ∷ [] else []) h) (λ w. omega arith)
+styled_fits s own directives anchor tag bare style limit indent value place cursor named stands meant some body =
+    let rules = rules_of s own in
+    let rendered = render_styled s directives anchor tag bare style limit indent value cursor in
+    let written = tag_written s.portable directives tag bare in
+    let given : Given rules anchor written (tag_meant tag bare) =
+    record { named = named; tagged = tag_is_written s.portable own directives tag bare stands } in
+    let text = closed (render_body style s limit indent value (body_cursor s directives anchor tag bare style value cursor)) in
+    let before = lead anchor written in
+    let count = before_count cursor.whitespace in
+    let same : closed rendered ≡ spaces count ++ (before ++ text) =
+    styled_closed s directives anchor tag bare style limit indent value cursor some ∙ ap (λ t. t ++ (before ++ text)) (before_spaces cursor.whitespace) in
+    text_fits rules rendered place cursor count (before ++ text) (scalar_in anchor tag style bare value) same
+    (ap (is_closed rules.breaks12)
+    (same ∙ ap (λ t. spaces count ++ (before ++ t)) body.own.is ∙ sym (append_assoc (spaces count) before (body.own.head ∷ body.own.tail)))
+    ∙ closed_behind rules.breaks12 (spaces count ++ before) body.own.head body.own.tail (ap (is_closed rules.breaks12) (sym body.own.is) ∙ body.ends))
+    body.settled (before_some cursor.whitespace) (own_reads rules place.column text value style anchor written tag bare body.own given meant)

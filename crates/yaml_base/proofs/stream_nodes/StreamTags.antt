@@ -10,6 +10,7 @@ use Rattle.yaml_base.proofs.stream_nodes.StreamProperties.{WrittenTag}
 use Rattle.yaml_base.proofs.PercentLaws.{stands_written, escaped_stands, suffix_stands, character_is_no_flow_indicator, portable_suffix_has_no_flow_indicator}
 use Rattle.yaml_base.proofs.PercentLaws.{written_is_no_less, alpha_is_no_less, escaped_begins, suffix_begins}
 use Rattle.yaml_base.proofs.TagForms.{closing_angle_dropped, IsHandle, handle_form, spelling_is, in_force_found}
+use Rattle.yaml_base.proofs.AllPass.{all_pass}
 
 -- Characters
 
@@ -18,10 +19,7 @@ pub uri_character : (c : ℕ) → stands_written c ≡ true → is_uri_character
 uri_character c h = grind (arith, nat_tests)
 
 pub uri_text : (text : Text) → list_all stands_written text ≡ true → list_all is_uri_character text ≡ true
-uri_text [] h = refl
-uri_text (c ∷ text) h =
-    let parts = and_parts (stands_written c) (list_all stands_written text) h in
-    and_from (is_uri_character c) (list_all is_uri_character text) (uri_character c parts.0) (uri_text text parts.1)
+uri_text text h = all_pass stands_written is_uri_character uri_character text h
 
 -- a flow indicator
 abbrev is_flow_indicator : ℕ → Bool

@@ -19,6 +19,12 @@ abbrev pub is_plain : ScalarStyle → Bool
 is_plain plain = true
 is_plain _ = false
 
+-- the style is a block style
+abbrev pub is_block : ScalarStyle → Bool
+is_block literal = true
+is_block folded = true
+is_block _ = false
+
 -- what is asked for: double quotes where they must stand, else the event's style; any is plain
 abbrev pub requested_style : (must_be_double : Bool) → ScalarStyle → ScalarStyle
 requested_style true style = double_quoted

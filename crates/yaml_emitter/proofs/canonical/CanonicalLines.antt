@@ -1,4 +1,7 @@
 -- What document markers and directives say to the canonical reader.
+use Rattle.yaml_base.proofs.Common.{and-false}
+use Rattle.yaml_base.proofs.AllPass.{all_pass, uncut_by}
+use Rattle.std.proofs.lemmas.List.Splits.{slice_split_at, slice_split_none}
 use Rattle.yaml_emitter.proofs.Common.{ℕ, ◌==◌, filter, Option, None, Some, codes, length, replicate, Bool, false, not, true, ◌||◌, List, [], ◌++◌, ◌∷◌, ◌⊎◌}
 use Rattle.yaml_emitter.proofs.Common.{refl, ◌≡◌, append-nil, append_assoc, inl, inr, ap, subst, sym, ◌∙◌, arith, and_parts, and_from, nat_tests}
 use Rattle.yaml_emitter.proofs.Common.{list_all-append, list_all, all_scalars, rendered-append, IsHandle, Text, line_feed, space, Cursor, new_line, space_if}
@@ -12,7 +15,7 @@ use Rattle.yaml_base.specs.Indicators.{document_start, document_end}
 use Rattle.yaml_base.specs.reading.CanonicalTokens.{in_line, words, tag_line_of, directive_token}
 use Rattle.yaml_emitter.proofs.canonical.CanonicalNames.{is_written, all_written, all-scalars, all-rendered, prefix-written, handle_text}
 use Rattle.yaml_emitter.proofs.canonical.CanonicalText.{anything, Says, scalars-append, says_after, says_text, says_nothing, says_white, space_if-white}
-use Rattle.yaml_emitter.proofs.canonical.CanonicalText.{new_line-white, indicator_says, and_false}
+use Rattle.yaml_emitter.proofs.canonical.CanonicalText.{line_says, indicator_says}
 use Rattle.yaml_emitter.proofs.canonical.CanonicalTokens.{version_tokens, tag_line_tokens}
 
 -- Marks.
@@ -26,18 +29,15 @@ says_ends true = record { scalars = refl; rendered = refl; reads = λ rest meets
 says_ends false = record { scalars = refl; rendered = refl; reads = λ rest meets. refl }
 
 module _ (breaks12 : Bool) where
-  line_says : (at : ℕ) (cursor : Cursor) → Says breaks12 anything (new_line at cursor).text []
-  line_says at cursor = says_white breaks12 (new_line at cursor).text (new_line-white at cursor)
-
   pub closing_says : (cursor : Cursor) → Says breaks12 anything (render_closing_marker cursor).text (document_ends ∷ [])
   closing_says cursor =
-      says_after (indicator_says true false false cursor (says_ends breaks12)) (line_says 0 (render_indicator document_end cursor).cursor)
+      says_after (indicator_says true false false cursor (says_ends breaks12)) (line_says breaks12 0 (render_indicator document_end cursor).cursor)
 
   pub marker_says : (cursor : Cursor) → Says breaks12 anything (render_document_marker true cursor).text (document_begins ∷ [])
   marker_says cursor =
       let line = new_line 0 cursor in
       let symbol = render_indicator document_start line.cursor in
-      says_after (says_after (line_says 0 cursor) (indicator_says true false false line.cursor (says_begins breaks12))) (line_says 0 symbol.cursor)
+      says_after (says_after (line_says breaks12 0 cursor) (indicator_says true false false line.cursor (says_begins breaks12))) (line_says breaks12 0 symbol.cursor)
 
 -- a new line after what leaves indention off breaks the line
 pub line_breaks : (at : ℕ) (cursor : Cursor) → cursor.indention ≡ false → (new_line at cursor).text ≡ line_feed ∷ replicate at space
@@ -76,7 +76,7 @@ version_says breaks12 (Some version) cursor ok = by (version_form version ok)
         ++ (new_line 0 (render_indicator (spaced word) (render_indicator yaml_directive cursor).cursor).cursor).text) (version_line v ∷ [])
     says word v line =
         let end = (render_indicator (spaced word) (render_indicator yaml_directive cursor).cursor).cursor in
-        says_text (((space_if true cursor ++ codes "%YAML") ++ (space ∷ word)) ++ (new_line 0 end).text) (version_text_is cursor word end (and_false _))
+        says_text (((space_if true cursor ++ codes "%YAML") ++ (space ∷ word)) ++ (new_line 0 end).text) (version_text_is cursor word end (and-false _))
         (says_after (says_white breaks12 (space_if true cursor) (space_if-white true cursor)) line)
 
     by : (version ≡ version_of 1) ⊎ (version ≡ version_of 2) → Says breaks12 anything (render_version (Some version) cursor).text (version_line version ∷ [])
@@ -108,23 +108,16 @@ written_in_line : (c : ℕ) → is_written c ≡ true → in_a_line c ≡ true
 written_in_line c h = rw h refl
 
 all_in_line : (text : Text) → all_written text ≡ true → list_all in_a_line text ≡ true
-all_in_line [] h = refl
-all_in_line (c ∷ text) h = let p = and_parts (is_written c) (all_written text) h in and_from _ _ (written_in_line c p.0) (all_in_line text p.1)
+all_in_line text h = all_pass is_written in_a_line written_in_line text h
 
 written_no_blank : (c : ℕ) → is_written c ≡ true → is_blank c ≡ false
 written_no_blank c h = grind (arith, nat_tests)
 
 split_word : (word rest : Text) → all_written word ≡ true → slice_split is_blank (word ++ space ∷ rest) ≡ word ∷ slice_split is_blank rest
-split_word [] rest h = slice_split-cons_yes is_blank space rest refl
-split_word (c ∷ word) rest h =
-    let p = and_parts (is_written c) (all_written word) h in
-    slice_split-cons_no is_blank c (word ++ space ∷ rest) (written_no_blank c p.0) ∙ ap (onto_first c) (split_word word rest p.1)
+split_word word rest h = slice_split_at is_blank word space rest (uncut_by is_written is_blank written_no_blank word h) refl
 
 split_last : (word : Text) → all_written word ≡ true → slice_split is_blank word ≡ word ∷ []
-split_last [] h = refl
-split_last (c ∷ word) h =
-    let p = and_parts (is_written c) (all_written word) h in
-    slice_split-cons_no is_blank c word (written_no_blank c p.0) ∙ ap (onto_first c) (split_last word p.1)
+split_last word h = slice_split_none is_blank word (uncut_by is_written is_blank written_no_blank word h)
 
 -- a word with a character counts
 abbrev counts : Text → Bool

@@ -5,11 +5,13 @@ use Rattle.yaml_emitter.proofs.Common.{IsHandle, handle_form, spelling_is, in_fo
 use Rattle.yaml_emitter.proofs.Common.{TagDirective, is_rendered_text, percent_escaped, suffix_escaped, prefix_escaped, exclamation_mark, directives_fault}
 use Rattle.yaml_emitter.proofs.Common.{directives_in_force, Spelling, spelling, spelled, anchor_token, alias_token, tag_token, free, goes_to}
 use Rattle.yaml_emitter.proofs.Common.{step_between_tokens, tokens_from, begins_with}
-use Rattle.yaml_base.proofs.Common.{is_among}
+use Rattle.yaml_base.proofs.Common.{is_among, if◌then◌else◌}
 use lib.Utf8.{scalar}
 use Rattle.yaml_base.proofs.PercentLaws.{stands_written, escaped_stands, suffix_stands, stands_in_prefix, prefix_stands}
-use Rattle.yaml_base.specs.reading.CanonicalTokens.{in_anchor, in_alias, in_tag, anchor_named, alias_named}
-use Rattle.yaml_emitter.proofs.canonical.CanonicalText.{name_ends, space_next, Says}
+use Rattle.yaml_base.specs.reading.CanonicalTokens.{Token, TokenPlace, TokenStep, in_anchor, in_alias, in_tag, anchor_named, alias_named}
+use Rattle.yaml_base.specs.reading.CanonicalTokens.{completes_before, token_step, tokens_at_end}
+use Rattle.yaml_emitter.proofs.canonical.CanonicalText.{name_ends, space_next, Says, step_fixed}
+use Rattle.yaml_base.proofs.AllPass.{all_pass}
 
 -- what stands in a written tag, handle or prefix
 abbrev pub is_written : ℕ → Bool
@@ -42,13 +44,10 @@ all-rendered [] h = refl
 all-rendered (c ∷ text) h = let p = and_parts (is_written c) (all_written text) h in and_from _ _ (written-rendered c p.0) (all-rendered text p.1)
 
 pub alphas-written : (text : Text) → list_all is_alpha text ≡ true → all_written text ≡ true
-alphas-written [] h = refl
-alphas-written (c ∷ text) h = let p = and_parts (is_alpha c) (list_all is_alpha text) h in and_from _ _ (alpha-written c p.0) (alphas-written text p.1)
+alphas-written text h = all_pass is_alpha is_written alpha-written text h
 
 stand-written : (text : Text) → list_all stands_written text ≡ true → all_written text ≡ true
-stand-written [] h = refl
-stand-written (c ∷ text) h = let p = and_parts (stands_written c) (list_all stands_written text) h in
-    and_from _ _ (stands-written c p.0) (stand-written text p.1)
+stand-written text h = all_pass stands_written is_written stands-written text h
 
 pub escaped-written : (text : Text) → all_written (percent_escaped text) ≡ true
 escaped-written text = stand-written (percent_escaped text) (escaped_stands text)
@@ -60,9 +59,7 @@ prefix_character : (c : ℕ) → stands_in_prefix c ≡ true → is_written c �
 prefix_character c h = grind (arith, nat_tests)
 
 stand-in-prefix : (text : Text) → list_all stands_in_prefix text ≡ true → all_written text ≡ true
-stand-in-prefix [] h = refl
-stand-in-prefix (c ∷ text) h = let p = and_parts (stands_in_prefix c) (list_all stands_in_prefix text) h in
-    and_from _ _ (prefix_character c p.0) (stand-in-prefix text p.1)
+stand-in-prefix text h = all_pass stands_in_prefix is_written prefix_character text h
 
 pub prefix-written : (portable : Bool) (text : Text) → all_written (prefix_escaped portable text) ≡ true
 prefix-written portable text = stand-in-prefix (prefix_escaped portable text) (prefix_stands portable text)
@@ -76,42 +73,23 @@ pub record IsName (name : Text) : Type 0 where
   pub some : begins_with is_alpha name ≡ true
   pub alphas : list_all is_alpha name ≡ true
 
-anchor-ends : (breaks12 : Bool) (seen rest : Text) → begins_with is_alpha rest ≡ false
-    → tokens_from breaks12 (in_anchor seen) rest ≡ anchor_named seen ∷ tokens_from breaks12 free rest
-anchor-ends breaks12 seen [] h = refl
-anchor-ends breaks12 seen (c ∷ rest) h = rw h refl
-
-anchor-goes : (breaks12 : Bool) (name seen rest : Text) → list_all is_alpha name ≡ true → begins_with is_alpha rest ≡ false
-    → tokens_from breaks12 (in_anchor seen) (name ++ rest) ≡ anchor_named (seen ++ name) ∷ tokens_from breaks12 free rest
-anchor-goes breaks12 [] seen rest h k = anchor-ends breaks12 seen rest k ∙ ap (λ t. anchor_named t ∷ tokens_from breaks12 free rest) (sym (append-nil seen))
-anchor-goes breaks12 (c ∷ name) seen rest h k =
-    let p : (is_alpha c ≡ true) × (list_all is_alpha name ≡ true) = and_parts _ _ h in
-    rw p.0
-    (anchor-goes breaks12 name (seen ++ c ∷ []) rest p.1 k
-    ∙ ap (λ t. anchor_named t ∷ tokens_from breaks12 free rest) (append_assoc seen (c ∷ []) name))
-
-alias-ends : (breaks12 : Bool) (seen rest : Text) → begins_with is_alpha rest ≡ false
-    → tokens_from breaks12 (in_alias seen) rest ≡ alias_named seen ∷ tokens_from breaks12 free rest
-alias-ends breaks12 seen [] h = refl
-alias-ends breaks12 seen (c ∷ rest) h = rw h refl
-
-alias-goes : (breaks12 : Bool) (name seen rest : Text) → list_all is_alpha name ≡ true → begins_with is_alpha rest ≡ false
-    → tokens_from breaks12 (in_alias seen) (name ++ rest) ≡ alias_named (seen ++ name) ∷ tokens_from breaks12 free rest
-alias-goes breaks12 [] seen rest h k = alias-ends breaks12 seen rest k ∙ ap (λ t. alias_named t ∷ tokens_from breaks12 free rest) (sym (append-nil seen))
-alias-goes breaks12 (c ∷ name) seen rest h k =
-    let p : (is_alpha c ≡ true) × (list_all is_alpha name ≡ true) = and_parts _ _ h in
-    rw p.0
-    (alias-goes breaks12 name (seen ++ c ∷ []) rest p.1 k
-    ∙ ap (λ t. alias_named t ∷ tokens_from breaks12 free rest) (append_assoc seen (c ∷ []) name))
-
--- `&` and `*` begin names
-free-anchor : (breaks12 : Bool) → step_between_tokens breaks12 0x26 ≡ goes_to (in_anchor [])
-free-anchor true = refl
-free-anchor false = refl
-
-free-alias : (breaks12 : Bool) → step_between_tokens breaks12 0x2A ≡ goes_to (in_alias [])
-free-alias true = refl
-free-alias false = refl
+-- letters go on in a name, and anything else ends it
+name-goes : (breaks12 : Bool) (place : Text → TokenPlace) (named : Text → Token)
+    → ((seen : Text) (c : ℕ) → token_step breaks12 (place seen) c
+    ≡ (if is_alpha c then goes_to (place (seen ++ c ∷ [])) else completes_before (named seen) (step_between_tokens breaks12 c)))
+    → ((seen : Text) → tokens_at_end (place seen) ≡ named seen ∷ []) → (name seen rest : Text) → list_all is_alpha name ≡ true
+    → begins_with is_alpha rest ≡ false → tokens_from breaks12 (place seen) (name ++ rest) ≡ named (seen ++ name) ∷ tokens_from breaks12 free rest
+name-goes breaks12 place named step end [] seen [] h k = end seen ∙ ap (λ t. named t ∷ []) (sym (append-nil seen))
+name-goes breaks12 place named step end [] seen (c ∷ rest) h k =
+    ap (λ (here : TokenStep). here.tokens ++ tokens_from breaks12 here.place rest)
+    (step seen c ∙ ap (λ x. if x then goes_to (place (seen ++ c ∷ [])) else completes_before (named seen) (step_between_tokens breaks12 c)) k)
+    ∙ ap (λ t. named t ∷ tokens_from breaks12 free (c ∷ rest)) (sym (append-nil seen))
+name-goes breaks12 place named step end (c ∷ name) seen rest h k =
+    let p = and_parts (is_alpha c) (list_all is_alpha name) h in
+    ap (λ (here : TokenStep). here.tokens ++ tokens_from breaks12 here.place (name ++ rest))
+    (step seen c ∙ ap (λ x. if x then goes_to (place (seen ++ c ∷ [])) else completes_before (named seen) (step_between_tokens breaks12 c)) p.0)
+    ∙ name-goes breaks12 place named step end name (seen ++ c ∷ []) rest p.1 k
+    ∙ ap (λ t. named t ∷ tokens_from breaks12 free rest) (append_assoc seen (c ∷ []) name)
 
 named-anchor : (name : Text) → begins_with is_alpha name ≡ true → anchor_named name ≡ anchor_token name
 named-anchor [] h = absurd (false≢true h)
@@ -126,8 +104,8 @@ anchor_says breaks12 name is = record {
   scalars = all-scalars name (alphas-written name is.alphas);
   rendered = all-rendered name (alphas-written name is.alphas);
   reads = λ rest meets.
-      rw (free-anchor breaks12)
-      (anchor-goes breaks12 name [] rest is.alphas meets
+      rw (step_fixed breaks12 0x26 refl)
+      (name-goes breaks12 in_anchor anchor_named (λ seen c. refl) (λ seen. refl) name [] rest is.alphas meets
       ∙ ap (λ t. t ∷ tokens_from breaks12 free rest) (named-anchor name is.some));
 }
 
@@ -136,8 +114,8 @@ alias_says breaks12 name is = record {
   scalars = all-scalars name (alphas-written name is.alphas);
   rendered = all-rendered name (alphas-written name is.alphas);
   reads = λ rest meets.
-      rw (free-alias breaks12)
-      (alias-goes breaks12 name [] rest is.alphas meets
+      rw (step_fixed breaks12 0x2A refl)
+      (name-goes breaks12 in_alias alias_named (λ seen c. refl) (λ seen. refl) name [] rest is.alphas meets
       ∙ ap (λ t. t ∷ tokens_from breaks12 free rest) (named-alias name is.some));
 }
 
@@ -157,10 +135,6 @@ tag-goes breaks12 (c ∷ text) seen rest h k =
     (tag-goes breaks12 text (seen ++ c ∷ []) rest p.1 k
     ∙ ap (λ t. tag_token t ∷ tokens_from breaks12 free rest) (append_assoc seen (c ∷ []) text))
 
-free-tag : (breaks12 : Bool) → step_between_tokens breaks12 0x21 ≡ goes_to (in_tag (0x21 ∷ []))
-free-tag true = refl
-free-tag false = refl
-
 -- a text of a tag, from its `!` on
 pub record IsTagText (text : Text) : Type 0 where
   pub rest : Text
@@ -173,7 +147,7 @@ tag_says breaks12 text tag =
     (record {
       scalars = all-scalars tag.rest tag.written;
       rendered = all-rendered tag.rest tag.written;
-      reads = λ rest meets. rw (free-tag breaks12) (tag-goes breaks12 tag.rest (0x21 ∷ []) rest tag.written meets);
+      reads = λ rest meets. rw (step_fixed breaks12 0x21 refl) (tag-goes breaks12 tag.rest (0x21 ∷ []) rest tag.written meets);
     })
 
 tag-append : (a b : Text) → IsTagText a → all_written b ≡ true → IsTagText (a ++ b)

@@ -1,4 +1,5 @@
 -- What the text of a node says to the canonical reader, after any text before it.
+use Rattle.yaml_base.proofs.Common.{and-false}
 use Rattle.yaml_emitter.proofs.Common.{ℕ, ◌≤◌, if◌then◌else◌, is_some, Option, None, Some, codes, Bool, false, not, true, ◌&&◌, List, [], ◌++◌, ◌∷◌, refl}
 use Rattle.yaml_emitter.proofs.Common.{◌≡◌, true≢false, append-nil, append_assoc, ap, subst, sym, ◌∙◌, arith, flat_map-append, all_scalars, Text, space}
 use Rattle.yaml_emitter.proofs.Common.{Cursor, render_then, new_line, space_if, indicator, TagDirective, Scalar, Collection, Event, alias, scalar}
@@ -11,12 +12,13 @@ use Rattle.yaml_emitter.proofs.Common.{closes_sequence, opens_mapping, closes_ma
 use Rattle.yaml_base.specs.Layout.{is_undented, one_piece, is_simple, render_collection, render_nodes, render_pairs}
 use Rattle.yaml_emitter.proofs.canonical.{CanonicalEvents.EachNode, CanonicalEvents.EachItem, CanonicalEvents.EachPair, CanonicalNames.IsName}
 use Rattle.yaml_emitter.proofs.canonical.{CanonicalNames.alias_says, CanonicalQuotes.body_says}
-use Rattle.yaml_emitter.proofs.canonical.CanonicalPlaces.{in_canonical, Spot, place_of, spot_tokens, Fits, Entered, Follows, says_square, says_square_end}
-use Rattle.yaml_emitter.proofs.canonical.CanonicalPlaces.{says_curly, says_curly_end, says_comma, place_says, opening_opens, place_opens, AnchorOk, demand_of}
+use Rattle.yaml_emitter.proofs.canonical.CanonicalPlaces.{in_canonical, Spot, place_of, spot_tokens, Fits, Entered, Follows}
+use Rattle.yaml_emitter.proofs.canonical.CanonicalPlaces.{place_says, opening_opens, place_opens, AnchorOk, demand_of}
 use Rattle.yaml_emitter.proofs.canonical.CanonicalPlaces.{properties_say, properties_fit}
 use Rattle.yaml_emitter.proofs.canonical.CanonicalText.{Demand, anything, name_ends, space_next, Says, Opens, opens_append, opens_any, says_then, says_after}
 use Rattle.yaml_emitter.proofs.canonical.CanonicalText.{says_text, says_tokens, says_less, says_white, space_if-white, new_line-white, indicator_says}
-use Rattle.yaml_emitter.proofs.canonical.CanonicalText.{and_false}
+use Rattle.yaml_emitter.proofs.canonical.CanonicalText.{symbol_says}
+use Rattle.yaml_emitter.proofs.Common.{comma}
 use Rattle.yaml_emitter.proofs.canonical.CanonicalTokens.{anchor_tokens, tag_tokens, properties_tokens, entry_indicator, node_tokens, nodes_tokens}
 use Rattle.yaml_emitter.proofs.canonical.CanonicalTokens.{pairs_tokens}
 
@@ -83,10 +85,10 @@ record BracketsSay (breaks12 : Bool) (brackets : Brackets) (opens closes : Token
   apart : Opens name_ends brackets.opening
 
 squares_say : (breaks12 : Bool) → BracketsSay breaks12 square opens_sequence closes_sequence
-squares_say breaks12 = record { opening = says_square breaks12; closing = says_square_end breaks12; apart = record { meets = λ rest. refl } }
+squares_say breaks12 = record { opening = symbol_says breaks12 0x5B opens_sequence refl refl refl refl; closing = symbol_says breaks12 0x5D closes_sequence refl refl refl refl; apart = record { meets = λ rest. refl } }
 
 curlies_say : (breaks12 : Bool) → BracketsSay breaks12 curly opens_mapping closes_mapping
-curlies_say breaks12 = record { opening = says_curly breaks12; closing = says_curly_end breaks12; apart = record { meets = λ rest. refl } }
+curlies_say breaks12 = record { opening = symbol_says breaks12 0x7B opens_mapping refl refl refl refl; closing = symbol_says breaks12 0x7D closes_mapping refl refl refl refl; apart = record { meets = λ rest. refl } }
 
 in_flow : (s : Effective) (at : Option Spot) (start : Collection) (empty : Bool) → is_written_in_flow (in_canonical s) (place_of at) start empty ≡ true
 in_flow s None start empty = refl
@@ -140,7 +142,7 @@ module _ (breaks12 : Bool) (s : Effective) (wide : 2 ≤ s.indent) (own : List T
             (ap (λ t. text ++ t) (append-nil ((lead.text ++ separation) ++ body.text))
             ∙ sym (ap (λ t. t ++ body.text) (append_assoc text lead.text separation) ∙ append_assoc text (lead.text ++ separation) body.text))
             (says_less name_ends all));
-        off = and_false _;
+        off = and-false _;
         open_ended = refl;
       }
 
@@ -208,7 +210,7 @@ module _ (breaks12 : Bool) (s : Effective) (wide : 2 ≤ s.indent) (own : List T
             ∙ ap (λ t. t ++ text_of (last.piece ∷ [])) (more_text text (piece.piece ∷ []) inner.pieces)
             ∙ ap (λ t. ((text ++ text_of (piece.piece ∷ [])) ++ text_of inner.pieces) ++ t) (lead_text end.text))
             (says_less name_ends ended));
-        off = and_false _;
+        off = and-false _;
         open_ended = within.open_ended;
       }
     where
@@ -220,7 +222,7 @@ module _ (breaks12 : Bool) (s : Effective) (wide : 2 ≤ s.indent) (own : List T
       end_says false cursor =
           let symbol = indicator (codes ",") false false false cursor in
           let line = new_line (line_column (place_of at).column) symbol.cursor in
-          says_after (says_after (indicator_says false false false cursor (says_comma breaks12))
+          says_after (says_after (indicator_says false false false cursor (symbol_says breaks12 0x2C comma refl refl refl refl))
           (says_white breaks12 line.text (new_line-white (line_column (place_of at).column) symbol.cursor)))
           (indicator_says false false false line.cursor symbols.closing)
 
@@ -244,12 +246,12 @@ module _ (breaks12 : Bool) (s : Effective) (wide : 2 ≤ s.indent) (own : List T
     node_after (alias_node name) at demand text tokens standing says follows ok =
         subst (λ b. After breaks12 text (tokens ++ (spot_tokens at ++ alias_token name ∷ [])) standing
         (one_piece (alias_piece (in_canonical s) (place_of at) b name standing)))
-        (sym (and_false (is_key (place_of at).role)))
+        (sym (and-false (is_key (place_of at).role)))
         (alias_after at demand text tokens name standing says follows ok)
     node_after (scalar_node content) at demand text tokens standing says follows ok =
         subst (λ b. After breaks12 text (tokens ++ (spot_tokens at ++ node_tokens s.portable (scalar_node content) own)) standing
         (one_piece (scalar_piece (in_canonical s) force (place_of at) b content standing)))
-        (sym (and_false (is_key (place_of at).role)))
+        (sym (and-false (is_key (place_of at).role)))
         (scalar_after at demand text tokens content standing says follows ok)
     node_after (sequence_node start items) at demand text tokens standing says follows ok =
         let empty = has_no_nodes items in
@@ -259,7 +261,7 @@ module _ (breaks12 : Bool) (s : Effective) (wide : 2 ≤ s.indent) (own : List T
         (render_collection (in_canonical s) square (is_written_in_flow (in_canonical s) (place_of at) start empty) undented empty (place_of at).column
         (start_piece (in_canonical s) force (place_of at) b start standing)
         (render_nodes items (in_canonical s) force (is_written_in_flow (in_canonical s) (place_of at) start empty))))
-        (sym (and_false (is_key (place_of at).role)))
+        (sym (and-false (is_key (place_of at).role)))
         (subst (λ b. After breaks12 text k standing
         (render_collection (in_canonical s) square b undented empty (place_of at).column (start_piece (in_canonical s) force (place_of at) false start standing)
         (render_nodes items (in_canonical s) force b)))
@@ -274,7 +276,7 @@ module _ (breaks12 : Bool) (s : Effective) (wide : 2 ≤ s.indent) (own : List T
         (render_collection (in_canonical s) curly (is_written_in_flow (in_canonical s) (place_of at) start empty) false empty (place_of at).column
         (start_piece (in_canonical s) force (place_of at) b start standing)
         (render_pairs pairs (in_canonical s) force (is_written_in_flow (in_canonical s) (place_of at) start empty))))
-        (sym (and_false (is_key (place_of at).role)))
+        (sym (and-false (is_key (place_of at).role)))
         (subst (λ b. After breaks12 text k standing
         (render_collection (in_canonical s) curly b false empty (place_of at).column (start_piece (in_canonical s) force (place_of at) false start standing)
         (render_pairs pairs (in_canonical s) force b)))

@@ -2,14 +2,14 @@
 use Rattle.yaml_emitter.proofs.Common.{ℕ, Option, None, Some, codes, Bool, false, true, List, [], ◌++◌, ◌∷◌, refl, ◌≡◌, append-nil, append_assoc, subst, sym}
 use Rattle.yaml_emitter.proofs.Common.{◌∙◌, Text, Cursor, new_line, space_if, indicator, TagDirective, root_place, render_anchor, render_spelling}
 use Rattle.yaml_emitter.proofs.Common.{render_properties, entry_place, Role, as_root, as_item, as_key, as_value, Place, opening_or_comma, render_place}
-use Rattle.yaml_emitter.proofs.Common.{percent_escaped, suffix_escaped, Effective, directives_fault, directives_in_force, Spelling, verbatim, spelling}
-use Rattle.yaml_emitter.proofs.Common.{spelled, Token, tag_token, opens_sequence, closes_sequence, opens_mapping, closes_mapping, key_token, value_token}
+use Rattle.yaml_emitter.proofs.Common.{Effective, directives_fault, directives_in_force, spelling}
+use Rattle.yaml_emitter.proofs.Common.{spelled, Token, tag_token, opens_sequence, opens_mapping, key_token, value_token}
 use Rattle.yaml_emitter.proofs.Common.{comma}
-use Rattle.yaml_base.proofs.Common.{shorthand}
+use Rattle.yaml_base.proofs.stream_nodes.StreamLeads.{spelling_text, spelling_ended}
 use Rattle.yaml_emitter.proofs.canonical.CanonicalNames.{IsName, anchor_says, IsTagText, tag_says, tag_text}
 use Rattle.yaml_emitter.proofs.canonical.CanonicalText.{Demand, anything, name_ends, space_next, Says, Opens, opens_append, opens_any, says_then, says_after}
 use Rattle.yaml_emitter.proofs.canonical.CanonicalText.{says_text, says_nothing, says_white, white-opens, space_if-white, new_line-white, indicator_says}
-use Rattle.yaml_emitter.proofs.canonical.CanonicalText.{indicator_opens, space_first}
+use Rattle.yaml_emitter.proofs.canonical.CanonicalText.{indicator_opens, line_says, space_first, symbol_says}
 use Rattle.yaml_emitter.proofs.canonical.CanonicalTokens.{anchor_tokens, properties_tokens, entry_indicator}
 
 -- settings in canonical mode
@@ -57,58 +57,27 @@ Follows (Some spot) demand cursor = RoleFollows spot.role demand cursor
 
 -- Indicators.
 
-pub says_square : (breaks12 : Bool) → Says breaks12 anything (codes "[") (opens_sequence ∷ [])
-says_square true = record { scalars = refl; rendered = refl; reads = λ rest meets. refl }
-says_square false = record { scalars = refl; rendered = refl; reads = λ rest meets. refl }
-
-pub says_square_end : (breaks12 : Bool) → Says breaks12 anything (codes "]") (closes_sequence ∷ [])
-says_square_end true = record { scalars = refl; rendered = refl; reads = λ rest meets. refl }
-says_square_end false = record { scalars = refl; rendered = refl; reads = λ rest meets. refl }
-
-pub says_curly : (breaks12 : Bool) → Says breaks12 anything (codes "{") (opens_mapping ∷ [])
-says_curly true = record { scalars = refl; rendered = refl; reads = λ rest meets. refl }
-says_curly false = record { scalars = refl; rendered = refl; reads = λ rest meets. refl }
-
-pub says_curly_end : (breaks12 : Bool) → Says breaks12 anything (codes "}") (closes_mapping ∷ [])
-says_curly_end true = record { scalars = refl; rendered = refl; reads = λ rest meets. refl }
-says_curly_end false = record { scalars = refl; rendered = refl; reads = λ rest meets. refl }
-
-says_key : (breaks12 : Bool) → Says breaks12 anything (codes "?") (key_token ∷ [])
-says_key true = record { scalars = refl; rendered = refl; reads = λ rest meets. refl }
-says_key false = record { scalars = refl; rendered = refl; reads = λ rest meets. refl }
-
-says_value : (breaks12 : Bool) → Says breaks12 anything (codes ":") (value_token ∷ [])
-says_value true = record { scalars = refl; rendered = refl; reads = λ rest meets. refl }
-says_value false = record { scalars = refl; rendered = refl; reads = λ rest meets. refl }
-
-pub says_comma : (breaks12 : Bool) → Says breaks12 anything (codes ",") (comma ∷ [])
-says_comma true = record { scalars = refl; rendered = refl; reads = λ rest meets. refl }
-says_comma false = record { scalars = refl; rendered = refl; reads = λ rest meets. refl }
-
 module _ (breaks12 : Bool) (s : Effective) where
-  line_says : (at : ℕ) (cursor : Cursor) → Says breaks12 anything (new_line at cursor).text []
-  line_says at cursor = says_white breaks12 (new_line at cursor).text (new_line-white at cursor)
-
   opening_says : (bracket : Text) (token : Token) → Says breaks12 anything bracket (token ∷ []) → (first : Bool) (cursor : Cursor)
       → Says breaks12 anything (opening_or_comma bracket first cursor).text (entry_indicator token first ∷ [])
   opening_says bracket token says true cursor = indicator_says true true false cursor says
-  opening_says bracket token says false cursor = indicator_says false false false cursor (says_comma breaks12)
+  opening_says bracket token says false cursor = indicator_says false false false cursor (symbol_says breaks12 0x2C comma refl refl refl refl)
 
   role_says : (role : Role) (column : ℕ) (cursor : Cursor)
       → Says breaks12 anything (render_place (in_canonical s) (entry_place true role column) false cursor).text (role_tokens role)
   role_says as_root column cursor = says_nothing breaks12
   role_says (as_item first) column cursor =
       let opening = opening_or_comma (codes "[") first cursor in
-      says_after (opening_says (codes "[") opens_sequence (says_square breaks12) first cursor) (line_says column opening.cursor)
+      says_after (opening_says (codes "[") opens_sequence (symbol_says breaks12 0x5B opens_sequence refl refl refl refl) first cursor) (line_says breaks12 column opening.cursor)
   role_says (as_key first) column cursor =
       let opening = opening_or_comma (codes "{") first cursor in
       let line = new_line column opening.cursor in
-      says_after (says_after (opening_says (codes "{") opens_mapping (says_curly breaks12) first cursor) (line_says column opening.cursor))
-      (indicator_says true false false line.cursor (says_key breaks12))
-  role_says (as_value true) column cursor = indicator_says false false false cursor (says_value breaks12)
+      says_after (says_after (opening_says (codes "{") opens_mapping (symbol_says breaks12 0x7B opens_mapping refl refl refl refl) first cursor) (line_says breaks12 column opening.cursor))
+      (indicator_says true false false line.cursor (symbol_says breaks12 0x3F key_token refl refl refl refl))
+  role_says (as_value true) column cursor = indicator_says false false false cursor (symbol_says breaks12 0x3A value_token refl refl refl refl)
   role_says (as_value false) column cursor =
       let line = new_line column cursor in
-      says_after (line_says column cursor) (indicator_says true false false line.cursor (says_value breaks12))
+      says_after (line_says breaks12 column cursor) (indicator_says true false false line.cursor (symbol_says breaks12 0x3A value_token refl refl refl refl))
 
   pub place_says : (at : Option Spot) (cursor : Cursor)
       → Says breaks12 anything (render_place (in_canonical s) (place_of at) false cursor).text (spot_tokens at)
@@ -168,16 +137,6 @@ abbrev anchor_demand : Option Text → Demand
 anchor_demand None = anything
 anchor_demand (Some name) = name_ends
 
-spelling_text : (portable : Bool) (x : Spelling) (cursor : Cursor) → (render_spelling portable x cursor).text ≡ space_if true cursor ++ spelled portable x
-spelling_text portable (shorthand handle suffix) cursor = append_assoc (space_if true cursor) handle (suffix_escaped portable suffix)
-spelling_text portable (verbatim tag) cursor =
-    append_assoc (space_if true cursor ++ codes "!<") (percent_escaped tag) (codes ">")
-    ∙ append_assoc (space_if true cursor) (codes "!<") (percent_escaped tag ++ codes ">")
-
-spelling_ends : (portable : Bool) (x : Spelling) (cursor : Cursor) → (render_spelling portable x cursor).cursor.whitespace ≡ false
-spelling_ends portable (shorthand handle suffix) cursor = refl
-spelling_ends portable (verbatim tag) cursor = refl
-
 tag_opens : (demand : Demand) (cursor : Cursor) (text : Text) → IsTagText text → Opens name_ends (space_if true cursor ++ text)
 tag_opens demand cursor text tag =
     white-opens (space_if true cursor) text (space_if-white true cursor)
@@ -221,7 +180,8 @@ module _ (breaks12 portable : Bool) (own : List TagDirective) (sound : directive
 
   pub properties_fit : (anchor tag : Option Text) (bare : Bool) (cursor : Cursor)
       → Fits (demand_of anchor tag bare) (render_properties portable (directives_in_force own) anchor tag bare cursor).cursor
-  properties_fit anchor (Some tag) bare cursor = spelling_ends portable (spelling (directives_in_force own) tag) (render_anchor anchor cursor).cursor
+  properties_fit anchor (Some tag) bare cursor =
+      (spelling_ended portable (spelling (directives_in_force own) tag) (render_anchor anchor cursor).cursor).white
   properties_fit anchor None true cursor = refl
   properties_fit None None false cursor = tt
   properties_fit (Some name) None false cursor = refl

@@ -9,7 +9,7 @@ use Rattle.yaml_base.specs.Cursor.{render_text}
 use Rattle.yaml_base.specs.reading.CanonicalTokens.{Token, scalar_token, free, in_quotes, goes_to, step_between_tokens, quotes_step, tokens_from}
 use Rattle.yaml_base.specs.reading.ReadDouble.{QuoteStep, quote_step, QuotedReading, double_quoted_prefix}
 use Rattle.yaml_base.specs.scalars.DoubleQuoted.{quote, backslash, ShortEscape, may_fold, space_kept, double_fold, double_character, double_quoted_body}
-use Rattle.yaml_emitter.proofs.canonical.CanonicalText.{anything, Says, scalars-append, says_white, new_line-white}
+use Rattle.yaml_emitter.proofs.canonical.CanonicalText.{anything, Says, scalars-append, says_white, new_line-white, step_fixed}
 use Rattle.yaml_scalar.proofs.DoubleReads.{double-prefix, double-rendered}
 
 -- a unit before what was read
@@ -63,13 +63,6 @@ module _ (breaks12 : Bool) where
       ∙ ap (λ v. scalar_token v ∷ tokens_from breaks12 free q.rest) same_value
       ∙ ap (λ r. scalar_token value ∷ tokens_from breaks12 free r) same_rest
 
-  free-quote : step_between_tokens breaks12 0x22 ≡ goes_to (in_quotes between [])
-  free-quote = by breaks12
-    where
-      by : (b : Bool) → step_between_tokens b 0x22 ≡ goes_to (in_quotes between [])
-      by true = refl
-      by false = refl
-
   prefix_tokens : (text value rest : Text) → double_quoted_prefix breaks12 text ≡ Some (record { value = value; rest = rest })
       → tokens_from breaks12 free text ≡ scalar_token value ∷ tokens_from breaks12 free rest
   prefix_tokens [] value rest e = absurd (cc)
@@ -80,7 +73,7 @@ module _ (breaks12 : Bool) where
           → tokens_from breaks12 free (c ∷ text) ≡ scalar_token value ∷ tokens_from breaks12 free rest
       by true is e =
           let same : c ≡ 0x22 = eqb-true c 0x22 is in
-          rw (same, free-quote) (read_tokens text value rest (quoted_from breaks12 between text) refl e)
+          rw (same, step_fixed breaks12 0x22 refl) (read_tokens text value rest (quoted_from breaks12 between text) refl e)
       by false is e = absurd (cc)
 
 -- The characters of a body are scalar values.

@@ -3,7 +3,9 @@ use Rattle.yaml_emitter.proofs.Common.{suc, zero, ℕ, ◌-◌, if◌then◌else
 use Rattle.yaml_emitter.proofs.Common.{eqb-true, true≢false, append_assoc, ap, subst, sym, ◌∙◌, and_parts, and_from, list_all, all_scalars, rendered-append}
 use Rattle.yaml_emitter.proofs.Common.{Text, line_feed, space, is_alpha, is_space, Cursor, new_line, space_if, indicator, is_rendered_text, Token, free}
 use Rattle.yaml_emitter.proofs.Common.{tokens_from, begins_with}
-use Rattle.yaml_base.proofs.Common.{breaks_line}
+use Rattle.yaml_base.proofs.Common.{breaks_line, is_break}
+use Rattle.yaml_base.proofs.stream_lines.StreamLineLaws.{break_line}
+use Rattle.yaml_base.specs.reading.CanonicalTokens.{TokenStep, completes, step_between_tokens}
 
 -- what may follow a text: anything, no letter of a name, or a space alone
 pub data Demand : Type 0 where
@@ -113,6 +115,9 @@ new_line-white at cursor = by (breaks_line at cursor)
     by true = spaces-white at
     by false = spaces-white (at - cursor.column)
 
+pub line_says : (breaks12 : Bool) (at : ℕ) (cursor : Cursor) → Says breaks12 anything (new_line at cursor).text []
+line_says breaks12 at cursor = says_white breaks12 (new_line at cursor).text (new_line-white at cursor)
+
 -- An indicator after a space or none.
 pub indicator_says : {breaks12 : Bool} {d : Demand} {symbol : Text} {k : List Token} (need whitespace indention : Bool) (cursor : Cursor)
     → Says breaks12 d symbol k
@@ -124,10 +129,6 @@ pub indicator_opens : (symbol : Text) (need whitespace indention : Bool) (cursor
     → Opens name_ends (indicator symbol need whitespace indention cursor).text
 indicator_opens symbol need whitespace indention cursor o = white-opens (space_if need cursor) symbol (space_if-white need cursor) o
 
-pub and_false : (a : Bool) → (a && false) ≡ false
-and_false true = refl
-and_false false = refl
-
 -- after a space the next character is one
 pub space_first : (cursor : Cursor) (b : Text) → cursor.whitespace ≡ false → Opens space_next (space_if true cursor ++ b)
 space_first cursor b e = by cursor.whitespace e
@@ -135,3 +136,17 @@ space_first cursor b e = by cursor.whitespace e
     by : (w : Bool) → w ≡ false → Opens space_next ((if true && not w then space ∷ [] else []) ++ b)
     by true e = absurd (true≢false e)
     by false e = record { meets = λ rest. refl }
+
+-- what is no break begins the same between tokens with either rule of breaks
+pub step_fixed : (breaks12 : Bool) (c : ℕ) → is_break c ≡ false → step_between_tokens breaks12 c ≡ step_between_tokens true c
+step_fixed true c h = refl
+step_fixed false c h = rw (break_line false c h, break_line true c h) refl
+
+-- an indicator that is a token
+pub symbol_says : (breaks12 : Bool) (c : ℕ) (token : Token) → is_break c ≡ false → all_scalars (c ∷ []) ≡ true → is_rendered_text (c ∷ []) ≡ true
+    → step_between_tokens true c ≡ completes token → Says breaks12 anything (c ∷ []) (token ∷ [])
+symbol_says breaks12 c token other scalars rendered step = record {
+  scalars = scalars;
+  rendered = rendered;
+  reads = λ rest meets. ap (λ (here : TokenStep). here.tokens ++ tokens_from breaks12 here.place rest) (step_fixed breaks12 c other ∙ step);
+}

@@ -6,6 +6,8 @@ use Rattle.yaml_emitter.proofs.Common.{is_first, step, stage_refusal, start_even
 use Rattle.yaml_emitter.proofs.Common.{result_of_error, Wrote, OnOk}
 use Rattle.std.specs.Result.{IfErr}
 use Rattle.yaml_base.specs.{Event.CollectionStyle, Layout.entries_column, Layout.is_simple_collection, Steps.node_allowed}
+use Rattle.yaml_base.specs.Steps.{at_stream, at_document, at_document_end, at_nothing, stage_allows}
+use Rattle.yaml_emitter.specs.NodeEvents.{is_at_node}
 use Rattle.yaml_base.specs.{declared.errors.yaml_error_t.yaml_error_t, declared.errors.yaml_error_t.TheVariants.ExpectedNode}
 use Rattle.yaml_base.specs.{declared.errors.yaml_error_t.TheVariants.Memory, declared.errors.yaml_error_t.TheVariants.TooDeep}
 use Rattle.yaml_emitter.proofs.events_done.ProcessedBy.{IsInStream, processed_refused_at, processed_written_at, processed_cut_at, processed_after_writing}
@@ -218,12 +220,17 @@ end_wrote_at before directives frame outer mapping empty column page answer colu
     by true w = w
     by false w = w
 
-pub end_refused : (before : MachineState) (directives : List TagDirective) (frames : List Frame) (mapping empty : Bool)
-    → before.stage ≡ at_node directives frames → node_allowed frames (end_event mapping) ≡ false
-    → Processed (end_event mapping) empty before before (Err ExpectedNode)
-end_refused before directives frames mapping empty at refused =
-    processed_refused_at (end_event mapping) empty before (at_node directives frames) ExpectedNode at tt
-    (end_refusal before.given.canonical directives frames mapping false refused)
+-- a collection ends only within a document
+pub ending_at_node : (stage : Stage) (mapping : Bool) → stage_allows stage (end_event mapping) ≡ true → is_at_node stage ≡ true
+ending_at_node at_stream true h = cc
+ending_at_node at_stream false h = cc
+ending_at_node (at_document first) true h = cc
+ending_at_node (at_document first) false h = cc
+ending_at_node (at_node directives frames) mapping h = refl
+ending_at_node at_document_end true h = cc
+ending_at_node at_document_end false h = cc
+ending_at_node at_nothing true h = cc
+ending_at_node at_nothing false h = cc
 
 end_written : (before : MachineState) (directives : List TagDirective) (frame : Frame) (outer : List Frame) (mapping empty : Bool) (column : Option ℕ)
     (after : Stage) (page : Page)

@@ -1,8 +1,8 @@
 -- A document's start, as a step of the emitter.
 use Rattle.yaml_emitter.proofs.Common.{if◌then◌else◌, ◌==◌, option_and_then, Option, None, Some, Err, Ok, nat_lt, Bool, false, not, true, ◌&&◌, ◌||◌, List}
 use Rattle.yaml_emitter.proofs.Common.{[], ◌++◌, ◌∷◌, refl, ◌≡◌, ap, sym, ◌∙◌, list_all, option_or, Text, is_alpha, Version, TagDirective, DocumentStart}
-use Rattle.yaml_emitter.proofs.Common.{Event, stream_start, stream_end, document_start, document_end, alias, scalar, sequence_start, sequence_end}
-use Rattle.yaml_emitter.proofs.Common.{mapping_start, mapping_end, scalar_tag, collection_tag, document_start_piece, some_if, properties_fault}
+use Rattle.yaml_emitter.proofs.Common.{Event, document_start, alias, scalar, sequence_start}
+use Rattle.yaml_emitter.proofs.Common.{mapping_start, scalar_tag, collection_tag, document_start_piece, some_if, properties_fault}
 use Rattle.yaml_emitter.proofs.Common.{name_or_tag_fault, content_fault, most_open, begins_collection, Frame, Stage, at_document, at_node, stage_refusal}
 use Rattle.yaml_emitter.proofs.Common.{name_fault, anchor_fault, tag_fault, version_fault, exclamation_mark, last_from, without_last, handle_fault}
 use Rattle.yaml_emitter.proofs.Common.{prefix_fault, directive_fault, gives_handle, next_directive_fault, directives_fault_after, directives_fault}
@@ -145,12 +145,7 @@ names_other canonical (alias name) = name_other AliasEmpty AliasAlphabet name re
 names_other canonical (scalar content) = properties_other content.anchor (scalar_tag canonical content)
 names_other canonical (sequence_start start) = properties_other start.anchor (collection_tag canonical start)
 names_other canonical (mapping_start start) = properties_other start.anchor (collection_tag canonical start)
-names_other canonical (stream_start encoding) = refl
-names_other canonical stream_end = refl
-names_other canonical (document_start start) = refl
-names_other canonical (document_end implicit) = refl
-names_other canonical sequence_end = refl
-names_other canonical mapping_end = refl
+names_other canonical event = refl
 
 -- what is looked at behind names and tags
 abbrev later : Bool → Stage → Event → Option yaml_error_t

@@ -69,6 +69,9 @@ kept_without e directives first none at kept =
 pub stage_inside : {A : Type 0} (e : Inside A) {seen : MachineState} {at : Stage} → machine_state e ≡ seen → seen.stage ≡ at → (machine_state e).stage ≡ at
 stage_inside e is stage = ap (λ (s : MachineState). s.stage) is ∙ stage
 
+pub seen_at : {A : Type 0} (e : Inside A) (st : stage.Stage) → e.stage ≡ st → (machine_state e).stage ≡ seen_stage st e.directives e.frames
+seen_at e st at = ap (λ (st : stage.Stage). seen_stage st e.directives e.frames) at
+
 pub behind_start : {st at : Stage} → st ≡ at → is_at_stream at ≡ false → is_at_stream st ≡ false
 behind_start is behind = ap is_at_stream is ∙ behind
 

@@ -9,17 +9,15 @@ use Rattle.yaml_base.specs.declared.errors.{yaml_error_t.yaml_error_t, yaml_erro
 use Rattle.yaml_emitter.proofs.{events_done.KeptInside.fits_ready, events_done.KeptInside.kept_writing, events_done.ProcessedBy.processed_refused_at}
 use Rattle.yaml_emitter.proofs.{events_done.ProcessedBy.processed_written_at, events_done.ProcessedBy.processed_cut_at, pieces.WritingNames.sound_anchor}
 use Rattle.yaml_emitter.specs.{NodeEvents.is_at_node, declared.machine.Machine.TheInside.Inside, declared.writing.open_ended.OpenEnded.OpenEnded}
-use Rattle.yaml_emitter.specs.declared.stage.Stage.TheVariants.{Document, DocumentEnd, Node, Nothing, Stream}
+use Rattle.yaml_emitter.specs.declared.stage.Stage.TheVariants.{Node}
 use Rattle.yaml_emitter.specs.declared.stage.Stage as stage
+use Rattle.yaml_emitter.specs.{BorrowedTexts.seen_scalar, SimpleAsciiScalars.StandsPlain, declared.writing.contents.ScalarContent.ScalarContent}
 
 -- The stage within a document
 
 is_node : (st : stage.Stage) (directives : List TagDirective) (frames : List Frame) → is_at_node (seen_stage st directives frames) ≡ true → st ≡ Node
-is_node Stream directives frames is = cc
-is_node (Document first) directives frames is = cc
 is_node Node directives frames is = refl
-is_node DocumentEnd directives frames is = cc
-is_node Nothing directives frames is = cc
+is_node other directives frames is = cc
 
 pub at_node_inside : {A : Type 0} (e : Inside A) {seen : MachineState} → machine_state e ≡ seen → is_at_node seen.stage ≡ true → e.stage ≡ Node
 at_node_inside e is at = is_node e.stage e.directives e.frames (ap (λ (s : MachineState). is_at_node s.stage) is ∙ at)
@@ -76,7 +74,8 @@ alias_wrote before frames name simple place page answer place_is simple_is wrote
     let at_place = subst (λ (b : Bool). Wrote
     (piece_at (alias_piece before.settings place b name) before.open_ended) before.page page answer) simple_is wrote in
     subst (λ (p : Place). Wrote (piece_at
-    (alias_piece before.settings p (is_key p.role && (not before.settings.canonical && is_simple_alias name)) name) before.open_ended) before.page page answer)
+    (alias_piece before.settings p
+    (is_key p.role && (not before.settings.canonical && is_simple_alias name)) name) before.open_ended) before.page page answer)
     place_is at_place
 
 alias_written : (before : MachineState) (directives : List TagDirective) (frames : List Frame) (name : Text) (empty simple : Bool) (place : Place)
@@ -223,3 +222,8 @@ collection_anchor canonical true start none =
     sound_anchor start.anchor (first_none (option_and_then anchor_fault start.anchor) (option_and_then tag_fault (collection_tag canonical start)) none)
 collection_anchor canonical false start none =
     sound_anchor start.anchor (first_none (option_and_then anchor_fault start.anchor) (option_and_then tag_fault (collection_tag canonical start)) none)
+
+-- a scalar that stands plain has no anchor, and no tag of it is written
+pub plain_names : {canonical given : Bool} (content : ScalarContent) → StandsPlain canonical content → canonical ≡ given
+    → name_or_tag_fault given (scalar (seen_scalar content)) ≡ None
+plain_names {canonical} {given} content stands same = rw (← same, stands.readable, stands.implicit, stands.anchor) refl

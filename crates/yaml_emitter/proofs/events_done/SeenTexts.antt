@@ -3,10 +3,9 @@ use Rattle.yaml_emitter.proofs.Common.{option_map, Option, None, Some, true, Lis
 use Rattle.yaml_emitter.proofs.Common.{Event, scalar, has_scalar_values, option_scalars, directive_scalars, has_scalar_texts, seen_directive, seen_event}
 use Rattle.std.{proofs.Common.String, proofs.lemmas.Str.IsUtf8-string_bytes, proofs.lemmas.Str.scalars-chars, specs.String.string_bytes}
 use Rattle.yaml_base.specs.{Seen.seen_text, declared.directives.yaml_tag_directive_t.yaml_tag_directive_t, declared.events.yaml_event_t.yaml_event_t}
-use Rattle.yaml_base.specs.declared.events.yaml_event_t.TheVariants.{YAML_ALIAS_EVENT, YAML_DOCUMENT_END_EVENT, YAML_DOCUMENT_START_EVENT}
-use Rattle.yaml_base.specs.declared.events.yaml_event_t.TheVariants.{YAML_MAPPING_END_EVENT, YAML_MAPPING_START_EVENT, YAML_SCALAR_EVENT}
-use Rattle.yaml_base.specs.declared.events.yaml_event_t.TheVariants.{YAML_SEQUENCE_END_EVENT, YAML_SEQUENCE_START_EVENT, YAML_STREAM_END_EVENT}
-use Rattle.yaml_base.specs.declared.events.yaml_event_t.TheVariants.{YAML_STREAM_START_EVENT}
+use Rattle.yaml_base.specs.declared.events.yaml_event_t.TheVariants.{YAML_DOCUMENT_START_EVENT}
+use Rattle.yaml_base.specs.declared.events.yaml_event_t.TheVariants.{YAML_MAPPING_START_EVENT, YAML_SCALAR_EVENT}
+use Rattle.yaml_base.specs.declared.events.yaml_event_t.TheVariants.{YAML_SEQUENCE_START_EVENT}
 
 string_scalars : {A : Type 0} (text : String A) → all_scalars (seen_text text) ≡ true
 string_scalars text = scalars-chars (string_bytes text) (IsUtf8-string_bytes text)
@@ -21,16 +20,11 @@ directives_scalars (directive ∷ rest) = and_from _ _ (string_scalars directive
 
 -- What is seen of an event.
 pub seen_scalars : {A : Type 0} (event : yaml_event_t A) → has_scalar_texts (seen_event event) ≡ true
-seen_scalars (YAML_STREAM_START_EVENT encoding) = refl
-seen_scalars YAML_STREAM_END_EVENT = refl
 seen_scalars (YAML_DOCUMENT_START_EVENT version directives implicit) = directives_scalars directives.items
-seen_scalars (YAML_DOCUMENT_END_EVENT implicit) = refl
-seen_scalars (YAML_ALIAS_EVENT anchor) = refl
 seen_scalars (YAML_SCALAR_EVENT anchor tag value plain_implicit quoted_implicit style) = and_from _ _ (choice_scalars tag) (string_scalars value)
 seen_scalars (YAML_SEQUENCE_START_EVENT anchor tag implicit style) = choice_scalars tag
-seen_scalars YAML_SEQUENCE_END_EVENT = refl
 seen_scalars (YAML_MAPPING_START_EVENT anchor tag implicit style) = choice_scalars tag
-seen_scalars YAML_MAPPING_END_EVENT = refl
+seen_scalars event = refl
 
 -- One more event.
 pub texts_more : (all : List Event) (event : Event) → list_all has_scalar_texts all ≡ true → has_scalar_texts event ≡ true

@@ -1,12 +1,14 @@
 -- A scalar that stands plain as it is: plain is chosen for it, and nothing but its place stands before it.
 use Rattle.yaml_emitter.proofs.Common.{ℕ, ◌+◌, if◌then◌else◌, is_some, option_map, Option, None, Some, Result, Bool, false, not, true, ◌&&◌, ◌||◌, List, []}
-use Rattle.yaml_emitter.proofs.Common.{◌∷◌, refl, ◌≡◌, ap, subst, sym, ◌∙◌, and_parts, Text, Cursor, Rendered, render_then, ScalarStyle, any_style, plain}
-use Rattle.yaml_emitter.proofs.Common.{single_quoted, double_quoted, literal, folded, TagDirective, scalar_tag, render_anchor, charset_of, choice_of}
+use Rattle.yaml_emitter.proofs.Common.{◌∷◌, refl, ◌≡◌, ap, subst, sym, ◌∙◌}
+use Rattle.yaml_emitter.proofs.Common.{and_parts, false≢true, Text, Cursor, Rendered, render_then, ScalarStyle, any_style}
+use Rattle.yaml_emitter.proofs.Common.{plain, single_quoted, double_quoted, literal, folded, TagDirective, scalar_tag, render_anchor, charset_of, choice_of}
 use Rattle.yaml_emitter.proofs.Common.{scalar_piece, Place, deeper, byte_count, name_count, tag_count, is_short, is_simple_scalar, render_place}
-use Rattle.yaml_emitter.proofs.Common.{seen_scalar_style, Effective, Spelling, spelling, Charset, Allowances, is_empty, allows_plain, Choice}
+use Rattle.yaml_emitter.proofs.Common.{seen_scalar_style, Effective, Spelling, spelling, Charset, Allowances, allowances, is_empty, allows_plain, Choice}
 use Rattle.yaml_emitter.proofs.Common.{lacks_tag_and_flags, is_plain, requested_style, quoted_style, fitting_style, fits_plain, chosen, seen_name}
 use Rattle.yaml_emitter.proofs.Common.{seen_scalar, render_scalar_text, StandsPlain, render_spelled_tag, piece_at, Page, Wrote}
 use Rattle.std.proofs.{Common.chars, lemmas.Bool.not-true}
+use Rattle.yaml_base.specs.{Places.is_root, scalars.BlockHeader.begins_blank, scalars.Style.is_block}
 use Rattle.yaml_base.specs.declared.errors.yaml_error_t.{yaml_error_t}
 use Rattle.yaml_emitter.proofs.pieces.WritingScalars.{wrote_scalar}
 use Rattle.yaml_emitter.specs.{SimpleAsciiScalars.asks_plain, SimpleAsciiScalars.is_asked_plain, declared.writing.contents.ScalarContent.ScalarContent}
@@ -20,10 +22,7 @@ no_name (Some text) h = cc
 plain_asked : (style : ScalarStyle) → asks_plain style ≡ true → requested_style false style ≡ plain
 plain_asked plain h = refl
 plain_asked any_style h = refl
-plain_asked single_quoted h = cc
-plain_asked double_quoted h = cc
-plain_asked literal h = cc
-plain_asked folded h = cc
+plain_asked style h = cc
 
 pub stands : {canonical : Bool} {content : ScalarContent} → is_asked_plain canonical content ≡ true → IsSimpleAscii content.value.now
     → StandsPlain canonical content
@@ -70,6 +69,16 @@ chosen_plain asked quoted_implicit flow simple h =
     ∙ ap (λ (b : Bool). whole (if b then plain else quoted_style all_allowed)) (fits flow simple)
     ∙ ap (λ (b : Bool). let c : Choice = record { style = plain; bare = b } in c) (not_bare quoted_implicit)
 
+-- no block style is asked for, so its header is no matter
+never_block : (style : ScalarStyle) (root portable blank : Bool) → requested_style false style ≡ plain
+    → (if is_block style && root && portable && blank then double_quoted else style) ≡ style
+never_block any_style root portable blank h = refl
+never_block plain root portable blank h = refl
+never_block single_quoted root portable blank h = refl
+never_block double_quoted root portable blank h = refl
+never_block literal root portable blank h = absurd (false≢true (ap is_plain h))
+never_block folded root portable blank h = absurd (false≢true (ap is_plain h))
+
 filled : (text : Text) (charset : Charset) → allows_plain charset true text ≡ true → is_empty text ≡ false
 filled [] charset h = cc
 filled (c ∷ rest) charset h = refl
@@ -82,7 +91,10 @@ simple_ascii_choice s place simple {content} is =
     let by : Allowances → (empty tag implicit canonical : Bool) → Choice =
     λ a empty tag implicit canonical. chosen a seen.style empty tag implicit seen.quoted_implicit place.in_flow simple canonical in
     let allowed = is.simple_ascii.allows charset in
-    ap (λ (a : Allowances). by a (is_empty seen.value) (is_some (scalar_tag s.canonical seen)) seen.plain_implicit s.canonical) allowed
+    ap (λ (style : ScalarStyle). chosen (allowances charset seen.value) style (is_empty seen.value) (is_some (scalar_tag s.canonical seen))
+    seen.plain_implicit seen.quoted_implicit place.in_flow simple s.canonical)
+    (never_block seen.style (is_root place) s.portable (begins_blank seen.value) is.asked)
+    ∙ ap (λ (a : Allowances). by a (is_empty seen.value) (is_some (scalar_tag s.canonical seen)) seen.plain_implicit s.canonical) allowed
     ∙ ap (λ (e : Bool). by all_allowed e (is_some (scalar_tag s.canonical seen)) seen.plain_implicit s.canonical)
     (filled seen.value charset (ap (λ (a : Allowances). a.flow_plain) allowed))
     ∙ ap (λ (t : Option Text). by all_allowed false (is_some t) seen.plain_implicit s.canonical) (no_tag is)

@@ -4,7 +4,10 @@ use Rattle.yaml_emitter.proofs.Common.{ℕ, ◌≤◌, None, Some, codes, length
 use Rattle.yaml_emitter.proofs.Common.{DocumentStart, Event, document_start, mapping_end, scalar_node, Document, Documents, no_documents, documents_and}
 use Rattle.yaml_emitter.proofs.Common.{settings_for, bytes_written, pieces, IsPrefix, refusal, nothing_given, BeginsOutput, State, StaysFlushed}
 use Rattle.yaml_emitter.proofs.Common.{whole_documents, KeepsDocuments}
-use Rattle.yaml_base.specs.declared.errors.yaml_error_t.TheVariants.{ExpectedNode}
+use Rattle.yaml_base.specs.declared.errors.{yaml_error_t.yaml_error_t, yaml_error_t.TheVariants.ExpectedDocumentStart, yaml_error_t.TheVariants.ExpectedNode}
+use Rattle.yaml_emitter.proofs.Common.{Option, stream_end, BeginsAccepted, most_open, Promised}
+use Rattle.yaml_emitter.proofs.{AcceptedLists.few_open, standing.KeptDocuments.documents_kept}
+use Rattle.yaml_emitter.specs.{KeptDocuments.DocumentsStay, KeptDocuments.KeepsAcceptedDocuments}
 
 -- a start without directives
 abbrev start : DocumentStart
@@ -74,3 +77,37 @@ not_empty output begins empty = let is = (subst (IsPrefix both) empty begins).pa
 
 emptied_before : (state : State) → BeginsOutput nothing_given (begun ++ mapping_end ∷ []) begun (length begun) state → state.page.output ≡ [] → ⊥
 emptied_before state h = not_empty state.page.output (stopped_before state h)
+
+-- the two begin an accepted list
+two_begin : BeginsAccepted false two
+two_begin =
+    let few : 0 ≤ most_open = omega arith in
+    let whole = two ++ stream_end ∷ [] in
+    record {
+      rest = stream_end ∷ [];
+      accepted =
+          record {
+            stream = record { encoding = None; documents = documents_and first (letter (codes "b")) };
+            is_stream = refl;
+            sound = refl;
+            shallow = λ prefix rest is. few_open most_open whole prefix rest (few, (few, (few, (few, (few, (few, (few, (few, few)))))))) is;
+          };
+    }
+
+-- where the end of a mapping is refused right behind them, the end of the second, which writes nothing, isn't what was refused: its
+-- bytes are in the output
+end_refused : refusal false two mapping_end ≡ Some ExpectedDocumentStart
+end_refused = refl
+
+refused_keeps : (state : State) → Promised nothing_given (two ++ mapping_end ∷ []) state → state.error ≡ Some ExpectedDocumentStart
+    → IsPrefix both state.page.output
+refused_keeps state promised is =
+    let stay : KeepsAcceptedDocuments nothing_given (two ++ mapping_end ∷ []) state.page.output =
+    subst (λ (error : Option yaml_error_t). DocumentsStay error nothing_given (two ++ mapping_end ∷ []) state) is
+    (documents_kept nothing_given (two ++ mapping_end ∷ []) state promised) in
+    subst (λ bytes. IsPrefix bytes state.page.output) (two_bytes (mapping_end ∷ []))
+    (stay None first (letter (codes "b")) (mapping_end ∷ []) refl two_begin)
+
+emptied_refused : (state : State) → Promised nothing_given (two ++ mapping_end ∷ []) state → state.error ≡ Some ExpectedDocumentStart
+    → state.page.output ≡ [] → ⊥
+emptied_refused state promised is = not_empty state.page.output (refused_keeps state promised is)

@@ -2,7 +2,13 @@
 use Rattle.yaml_emitter.proofs.Common.{ℕ, ◌<◌, ◌≤◌, vec_len, vec_capacity, length, false, true, List, [], map, ◌++◌, ◌∷◌, refl, ◌≡◌, ap, sym}
 use Rattle.yaml_emitter.proofs.Common.{◌∙◌, arith, length-map, map-append, Event, Scalar, scalar, seen_event, seen_events, Settings, state_of, IsEmitter}
 use Rattle.yaml_emitter.proofs.Common.{is_head_ready, State, MachineState}
+use Rattle.yaml_emitter.proofs.Common.{Option, None, Some, Bool, true, false≢true, is_ready, ◌==◌, ◌&&◌, ◌||◌, nat_lt, list_any, is_balanced}
+use Rattle.yaml_emitter.proofs.Common.{and_parts, eqb-true, nonempty_prefixes, awaited, document_start, sequence_start, mapping_start}
+use Rattle.yaml_base.proofs.ReadyLaws.{ready_stays}
+use Rattle.yaml_base.specs.Event.{any_style}
 use Rattle.yaml_emitter.proofs.standing.StandingPromises.{held_few, most_few}
+use Rattle.yaml_emitter.specs.EmitsEvent.{StillWait}
+use Rattle.yaml_emitter.specs.Queue.{StandsLast}
 use Rattle.yaml_emitter.specs.declared.emitter.yaml_emitter_t.TheInside.{Inside}
 
 -- Where the first event that waits isn't ready, at most three wait.
@@ -22,16 +28,49 @@ pub seen_more : {E : Type 0} (seen : E → Event) (items pushed slice : List E) 
     → map seen slice ≡ map seen items ++ seen x ∷ []
 seen_more seen items pushed slice x is grown = ap (map seen) (is ∙ grown) ∙ map-append seen items (x ∷ [])
 
--- The first that waits goes on waiting past a scalar that is put behind.
-pub waits_pushed : {E : Type 0} (seen : E → Event) (items pushed slice : List E) (x : E) (next : Scalar) → slice ≡ items → pushed ≡ items ++ x ∷ []
-    → seen x ≡ scalar next → is_head_ready (map seen items) ≡ false
-    → (is_head_ready (map seen slice) ≡ false → (next : Scalar) → is_head_ready (map seen slice ++ scalar next ∷ []) ≡ false)
-    → is_head_ready (map seen pushed) ≡ false
-waits_pushed seen items pushed slice x next is grown x_is waits past =
-    ap is_head_ready (seen_more seen items pushed pushed x refl grown)
-    ∙ ap (λ (event : Event). is_head_ready (map seen items ++ event ∷ [])) x_is
-    ∙ ap (λ l. is_head_ready (map seen l ++ scalar next ∷ [])) (sym is)
-    ∙ past (ap (λ l. is_head_ready (map seen l)) is ∙ waits) next
+-- An event may stand behind those that wait.
+pub some_last : (next : Option Event) → (last : Event) × StandsLast next last
+some_last (Some event) = (event, refl)
+some_last None =
+    let content : Scalar = record { anchor = None; tag = None; value = []; plain_implicit = true; quoted_implicit = true; style = any_style } in
+    (scalar content, (content, refl))
+
+-- Those that wait on with one more behind them wait without it.
+pub waits_without : (waiting : List Event) (last : Event) → StillWait waiting last → is_head_ready waiting ≡ false
+waits_without [] last still = refl
+waits_without (event ∷ rest) last still = by (is_ready event rest) refl
+  where
+    by : (b : Bool) → is_ready event rest ≡ b → b ≡ false
+    by true e = absurd (false≢true (sym still ∙ ready_stays event rest (last ∷ []) e))
+    by false e = refl
+
+waits_alone : (event : Event) → (awaited event == 0) ≡ false → is_head_ready (event ∷ []) ≡ false
+waits_alone (document_start start) more = refl
+waits_alone (sequence_start start) more = refl
+waits_alone (mapping_start start) more = refl
+waits_alone event more = cc
+
+-- An event that can't be written is put behind those that wait, and the first of them goes on waiting.
+pub waits_behind : (waiting : List Event) (event : Event) → StillWait waiting event → (waiting ≡ [] → (awaited event == 0) ≡ false)
+    → is_head_ready (waiting ++ event ∷ []) ≡ false
+waits_behind [] event still more = waits_alone event (more refl)
+waits_behind (first ∷ rest) event still more = still
+
+-- Where it may not pass the queue, and none waits, it awaits others.
+pub awaits_more : {E : Type 0} (seen : E → Event) (queue : List E) (awaits : Bool) → (length queue == 0 && awaits) ≡ false → map seen queue ≡ [] → awaits ≡ false
+awaits_more seen [] awaits apart empty = apart
+awaits_more seen (event ∷ rest) awaits apart empty = cc
+
+no_pass : {E : Type 0} (seen : E → Event) (first : E) (rest : List E) (awaits : Bool) → (length (first ∷ rest) == 0 && awaits) ≡ true → ⊥
+no_pass seen first rest awaits both =
+    let parts = and_parts (length (first ∷ rest) == 0) awaits both in omega (arith, eqb-true (length (first ∷ rest)) 0 parts.0)
+
+-- Where it may, it awaits none, and none waits.
+pub passes : {E : Type 0} (seen : E → Event) (queue : List E) (event : Event) → (length queue == 0 && awaited event == 0) ≡ true
+    → (map seen queue ≡ []) × (is_head_ready (event ∷ []) ≡ true)
+passes seen [] event both =
+    (refl, ap (λ b. b || nat_lt (awaited event) 1 || list_any is_balanced (nonempty_prefixes (event ∷ []))) both)
+passes seen (first ∷ rest) event both = absurd (no_pass seen first rest (awaited event == 0) both)
 
 pub within_count : {E : Type 0} (seen : E → Event) (xs : List E) (count len : ℕ) → count ≤ length (map seen xs) → length xs ≡ len → count ≤ len
 within_count seen xs count len within is = omega (arith, within, is, length-map xs seen)

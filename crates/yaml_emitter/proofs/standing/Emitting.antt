@@ -1,14 +1,14 @@
 -- The events that wait are written one after another.
-use Rattle.yaml_emitter.proofs.Common.{suc, ℕ, ◌+◌, ◌-◌, ◌≤◌, if◌then◌else◌, None, Some, Result, Err, Ok, drop, length, take, Bool, false, true, List, []}
+use Rattle.yaml_emitter.proofs.Common.{suc, ℕ, ◌+◌, ◌-◌, ◌≤◌, if◌then◌else◌, None, Result, Err, Ok, drop, length, take, Bool, false, true, List, []}
 use Rattle.yaml_emitter.proofs.Common.{map, ◌++◌, ◌∷◌, refl, ◌≡◌, drop-drop, ap, subst, sym, ◌∙◌, arith, drop-map, length-map, written-append, Event}
-use Rattle.yaml_emitter.proofs.Common.{stream_start, stream_end, document_start, document_end, alias, scalar, sequence_start, sequence_end, mapping_start}
-use Rattle.yaml_emitter.proofs.Common.{mapping_end, is_ready, written, held_back, Settings, closes_at_once, Processed, is_head_ready, StandsWithoutError}
-use Rattle.yaml_emitter.proofs.Common.{MachineStands, StateStands, Reached, failed_by, ReachedOn, ProcessedFirst, State, MachineState, machine_of}
+use Rattle.yaml_emitter.proofs.Common.{sequence_start, mapping_start}
+use Rattle.yaml_emitter.proofs.Common.{is_ready, written, held_back, Settings, closes_at_once, Processed, is_head_ready, StandsWithoutError}
+use Rattle.yaml_emitter.proofs.Common.{MachineStands, StateStands, Reached, ReachedOn, ProcessedFirst, State, MachineState, machine_of}
 use Rattle.std.proofs.lemmas.List.{length-drop, take_rest}
 use Rattle.yaml_base.specs.declared.errors.{yaml_error_t.yaml_error_t, yaml_error_t.TheVariants.Memory, yaml_error_t.TheVariants.WriteError}
 use Rattle.yaml_emitter.proofs.standing.{Standing.reached_first, StandingFailed.reached_failed, StandingPromises.stands_well, StandingSteps.reached_next}
 use Rattle.yaml_emitter.proofs.standing.{StandingSteps.reached_end}
-use Rattle.yaml_emitter.specs.StandsAfter.{WroteReady, FailedReady}
+use Rattle.yaml_emitter.specs.StandsAfter.{FailedReady}
 
 -- The first of the events that wait was ready.
 took_ready : (waiting : List Event) (before after : MachineState) (answer : Result (Unit {0}) yaml_error_t) (h : ProcessedFirst waiting before after answer)
@@ -91,16 +91,9 @@ none_became_ready given all event before h none same =
 
 -- Nothing follows an event that stands alone.
 pub closes_none : (event : Event) → closes_at_once event [] ≡ false
-closes_none (stream_start _) = refl
-closes_none stream_end = refl
-closes_none (document_start _) = refl
-closes_none (document_end _) = refl
-closes_none (alias _) = refl
-closes_none (scalar _) = refl
 closes_none (sequence_start _) = refl
-closes_none sequence_end = refl
 closes_none (mapping_start _) = refl
-closes_none mapping_end = refl
+closes_none event = refl
 
 -- What processes an event where none waits takes the first of a queue that holds it alone.
 pub took_alone : (event : Event) (before after : MachineState) (answer : Result (Unit {0}) yaml_error_t)
@@ -118,24 +111,3 @@ pub stands_on_end : (given : Settings) (all prefix rest : List Event) (machine :
     → is_head_ready rest ≡ false → MachineStands given all machine.error rest machine
 stands_on_end given all prefix rest machine at none unready =
     subst (λ e. MachineStands given all e rest machine) (sym none) (reached_end given all prefix rest machine at unready)
-
--- An event that was given behind those that wait: the first of them are written, or one of them failed.
-waits_behind : (given : Settings) (all : List Event) (event : Event) (state : State) (waiting : List Event) → StateStands given all state → state.error ≡ None
-    → waiting ≡ state.held ++ event ∷ [] → Reached given (all ++ event ∷ []) (take (written all) all) waiting (machine_of state)
-waits_behind given all event state waiting h none is =
-    subst (λ w. Reached given (all ++ event ∷ []) (take (written all) all) w (machine_of state)) (sym is) (reached_taken given all event state h none)
-
-pub stands_written : (given : Settings) (all : List Event) (event : Event) (state : State) (waiting held : List Event) (count : ℕ) (machine : MachineState)
-    → StateStands given all state → state.error ≡ None → waiting ≡ state.held ++ event ∷ [] → WroteReady waiting count (machine_of state) machine
-    → machine.error ≡ None → held ≡ drop count waiting → MachineStands given (all ++ event ∷ []) machine.error held machine
-stands_written given all event state waiting held count machine h none is wrote unfailed left =
-    let at = wrote.reached given (all ++ event ∷ []) (take (written all) all) (waits_behind given all event state waiting h none is) in
-    subst (λ (l : List Event). MachineStands given (all ++ event ∷ []) machine.error l machine) (sym left)
-    (stands_on_end given (all ++ event ∷ []) at.0 (drop count waiting) machine at.1 unfailed wrote.ended)
-
-pub stands_failing : (given : Settings) (all : List Event) (event : Event) (state : State) (waiting : List Event) (error : yaml_error_t)
-    (machine : MachineState)
-    → StateStands given all state → state.error ≡ None → waiting ≡ state.held ++ event ∷ [] → FailedReady waiting error (machine_of state) machine
-    → MachineStands given (all ++ event ∷ []) (Some error) [] (failed_by error machine)
-stands_failing given all event state waiting error machine h none is failed =
-    (refl, failed given (all ++ event ∷ []) (take (written all) all) (waits_behind given all event state waiting h none is))

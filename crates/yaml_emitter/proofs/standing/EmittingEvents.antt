@@ -1,15 +1,17 @@
 -- A call that gives an event, from what its steps did.
-use Rattle.yaml_emitter.proofs.Common.{IsSome, Option, None, Some, Result, Err, Ok, take, false, true, List, [], ◌++◌, ◌∷◌, refl, ◌≡◌, ap, subst, sym, ◌∙◌}
-use Rattle.yaml_emitter.proofs.Common.{false≢true, Event, has_scalar_texts, written, Settings, is_head_ready, Processed, MachineStands, Reached, StateStands}
+use Rattle.yaml_emitter.proofs.Common.{IsSome, ℕ, Bool, Option, None, Some, Result, Err, Ok, take, drop, false, true, List, [], ◌++◌, ◌∷◌, refl, ◌≡◌, ap, subst}
+use Rattle.yaml_emitter.proofs.Common.{sym, ◌∙◌, arith, KeepsGiven, failed_by, false≢true, Event, has_scalar_texts, written, Settings, is_head_ready, Processed, MachineStands, Reached, StateStands}
 use Rattle.yaml_emitter.proofs.Common.{StandsAfter, State, MachineState, machine_of, KeepsSet, result_of_error, Grows}
 use Rattle.std.specs.Prelude.{IsOk}
 use Rattle.yaml_base.specs.declared.errors.{yaml_error_t.yaml_error_t}
+use Rattle.yaml_emitter.specs.StandsAfter.{FailedReady}
 use Rattle.yaml_emitter.proofs.events_done.{SeenTexts.texts_more}
-use Rattle.yaml_emitter.proofs.standing.{Growing.grows_page, Growing.processed_grows, KeepsSet.emitting_keeps, KeepsSet.keeps_given_same}
-use Rattle.yaml_emitter.proofs.standing.KeepsSet.{processed_keeps_given}
-use Rattle.yaml_emitter.proofs.standing.{Promising.promised, PromisingRoom.memory_only, StandingMore.failed_more}
+use Rattle.yaml_emitter.proofs.standing.{Growing.grows_page, Growing.processed_grows, KeepsSet.keeps_set_then, KeepsSet.keeps_with_machine}
+use Rattle.yaml_emitter.proofs.standing.KeepsSet.{processed_keeps_given, with_machine}
+use Rattle.yaml_pen.proofs.Composing.{grows_then}
+use Rattle.yaml_emitter.proofs.standing.{Promising.promised, StandingMore.failed_more}
 use Rattle.yaml_emitter.proofs.standing.Emitting.{none_became_ready, processed_error, reached_taken, stands_on_end, took_alone, took_failed, took_next}
-use Rattle.yaml_emitter.specs.EmitsEvent.{EmitsEvent, WroteAlone, WroteBehind, kept_error}
+use Rattle.yaml_emitter.specs.EmitsEvent.{EmitsEvent, Settled, SettlingFailed, Settles, StillWait, WroteAlone, WroteWaiting, kept_error}
 
 -- A machine where none waits processed an event, and its error is kept.
 wrote_keeping : (event : Event) (before between after : MachineState) (answer : Result (Unit {0}) yaml_error_t) → before.error ≡ None
@@ -51,20 +53,14 @@ emits_by : (event : Event) (before after : State) (answer : Result (Unit {0}) ya
     → written (all ++ event ∷ []) ≡ written all → IsOk answer)
     → (IsSome before.error → after ≡ record before { started = true })
     → KeepsSet (record before { started = true }) after
-    → answer ≡ result_of_error after.error → after.has_output ≡ true
+    → answer ≡ result_of_error after.error
     → EmitsEvent before event answer after
-emits_by event before after answer text stands grows waits kept set answered output =
+emits_by event before after answer text stands grows waits kept set answered =
     record {
-      stands = stood;
+      moves = record { stands = stood; grows = grows; set = set; answered = answered };
       promised = λ given all h. promised given (all ++ event ∷ []) after (stood given all h);
-      fits = λ given all h fits.
-          memory_only after.error given (all ++ event ∷ []) (promised given (all ++ event ∷ []) after (stood given all h)).fits fits answer answered;
-      grows = grows;
       waits = λ given all h none same. waits given all h.so none same;
       kept = kept;
-      set = set;
-      answered = answered;
-      output = output;
     }
   where
     stood : (given : Settings) (all : List Event) → StandsAfter given all before → StandsAfter given (all ++ event ∷ []) after
@@ -72,63 +68,142 @@ emits_by event before after answer text stands grows waits kept set answered out
 
 -- After an error it changes nothing.
 pub emits_failed : (event : Event) (before : State) (error : yaml_error_t) → has_scalar_texts event ≡ true → before.error ≡ Some error
-    → before.has_output ≡ true → EmitsEvent before event (Err error) (record before { started = true })
-emits_failed event before error text is output =
+    → EmitsEvent before event (Err error) (record before { started = true })
+emits_failed event before error text is =
     emits_by event before (record before { started = true }) (Err error) text (λ given all h. failed_more given all event before error h is)
     (grows_page before.page before.page refl) (λ given all h none same. let wrong : Some error ≡ None = sym is ∙ none in cc) (λ some. refl)
     (record { given = refl; started = refl; has_output = refl; opened = refl; closed = refl; taken = refl })
-    (sym (ap result_of_error is)) output
-
--- An emitter with what a machine holds, where these events wait.
-abbrev pub with_machine : State → (held : List Event) → MachineState → State
-with_machine before held machine =
-    record before {
-      started = true;
-      held = held;
-      given = machine.given;
-      settings = machine.settings;
-      stage = machine.stage;
-      open_ended = machine.open_ended;
-      page = machine.page;
-      error = machine.error;
-    }
+    (sym (ap result_of_error is))
 
 some_error : (error : Option yaml_error_t) → error ≡ None → IsSome error → ⊥
 some_error None none some = cc
 some_error (Some error) none some = cc
 
--- All that waited, and an event with which they are ready, were written.
-pub emits_behind : (event : Event) (before : State) (held : List Event) (machine : MachineState) (answer : Result (Unit {0}) yaml_error_t)
-    → has_scalar_texts event ≡ true → before.error ≡ None → held ≡ [] → before.has_output ≡ true → is_head_ready (before.held ++ event ∷ []) ≡ true
-    → WroteBehind before.held (machine_of before) event answer machine → EmitsEvent before event answer (with_machine before held machine)
-emits_behind event before held machine answer text none empty output ready wrote =
-    emits_by event before (with_machine before held machine) answer text
-    (λ given all h.
-    subst (λ (l : List Event). MachineStands given (all ++ event ∷ []) machine.error l machine) (sym empty)
-    (wrote.stands given (all ++ event ∷ []) (take (written all) all) (reached_taken given all event before h none)))
-    wrote.grows
-    (λ given all h none same. absurd (false≢true (sym (none_became_ready given all event before h none same) ∙ ready)))
-    (λ some. absurd (some_error before.error none some))
-    (emitting_keeps before held machine wrote.set) wrote.answered output
+-- An emitter to which an event was given.
+abbrev pub starting : State → State
+starting before = record before { started = true }
 
--- An event was put behind those that wait, and the first of them goes on waiting.
-pub emits_waiting : (event : Event) (before : State) (held : List Event) → has_scalar_texts event ≡ true → before.error ≡ None
-    → held ≡ before.held ++ event ∷ [] → before.has_output ≡ true → is_head_ready held ≡ false
-    → EmitsEvent before event (Ok tt) (with_machine before held (machine_of before))
-emits_waiting event before held text none is output unready =
-    emits_by event before (with_machine before held (machine_of before)) (Ok tt) text
-    (λ given all h.
-    stands_on_end given (all ++ event ∷ []) (take (written all) all) held (machine_of before)
-    (subst (λ (l : List Event). Reached given (all ++ event ∷ []) (take (written all) all) l (machine_of before)) (sym is)
-    (reached_taken given all event before h none)) none unready)
-    (grows_page before.page before.page refl) (λ given all h none same. refl)
-    (λ some. absurd (some_error before.error none some))
-    (emitting_keeps before held (machine_of before) (keeps_given_same (machine_of before))) (sym (ap result_of_error none)) output
+-- The way of the events that wait, once one stands behind them.
+settled_reached : (event : Event) (before settled : State) → before.error ≡ None → (h : Settled (starting before) event settled)
+    → (given : Settings) (all : List Event) → StateStands given all before
+    → (prefix : List Event) × Reached given (all ++ event ∷ []) prefix (settled.held ++ event ∷ []) (machine_of settled)
+settled_reached event before settled none h given all stands =
+    let at = h.wrote.reached given (all ++ event ∷ []) (take (written all) all) (reached_taken given all event before stands none) in
+    (at.0, subst (λ (l : List Event). Reached given (all ++ event ∷ []) at.0 (l ++ event ∷ []) (machine_of settled)) (sym h.held) at.1)
 
--- Where none waits, an event that needn't wait is written.
-pub emits_alone : (event : Event) (before : State) (machine : MachineState) (answer : Result (Unit {0}) yaml_error_t) → has_scalar_texts event ≡ true
-    → before.error ≡ None → before.held ≡ [] → before.has_output ≡ true → is_head_ready (event ∷ []) ≡ true
-    → WroteAlone (machine_of before) event answer machine → EmitsEvent before event answer (with_machine before before.held machine)
-emits_alone event before machine answer text none alone output ready wrote =
-    emits_behind event before before.held machine answer text none alone output (ap (λ (l : List Event). is_head_ready (l ++ event ∷ [])) alone ∙ ready)
-    (subst (λ (l : List Event). WroteBehind l (machine_of before) event answer machine) (sym alone) wrote)
+-- Where nothing became ready, what waits is as it was.
+settled_same : (event : Event) (before settled : State) → Settled (starting before) event settled → is_head_ready (before.held ++ event ∷ []) ≡ false
+    → settled.held ≡ before.held
+settled_same event before settled h unready = h.held ∙ ap (λ (n : ℕ). drop n before.held) (h.unready unready)
+
+-- None waits any more, and an event that is ready alone was written.
+pub emits_alone : (event : Event) (before settled : State) (machine : MachineState) (answer : Result (Unit {0}) yaml_error_t)
+    → has_scalar_texts event ≡ true → before.error ≡ None → Settled (starting before) event settled → settled.held ≡ []
+    → is_head_ready (event ∷ []) ≡ true → WroteAlone (machine_of settled) event answer machine
+    → EmitsEvent before event answer (with_machine settled settled.held machine)
+emits_alone event before settled machine answer text none h alone ready wrote =
+    emits_by event before (with_machine settled settled.held machine) answer text
+    (λ given all stands.
+    let at = settled_reached event before settled none h given all stands in
+    let reached : Reached given (all ++ event ∷ []) at.0 (event ∷ []) (machine_of settled) =
+    subst (λ (l : List Event). Reached given (all ++ event ∷ []) at.0 (l ++ event ∷ []) (machine_of settled)) alone at.1 in
+    subst (λ (l : List Event). MachineStands given (all ++ event ∷ []) machine.error l machine) (sym alone)
+    (wrote.stands given (all ++ event ∷ []) at.0 reached))
+    (grows_then h.grows wrote.grows)
+    (λ given all stands none same.
+    let unready = none_became_ready given all event before stands none same in
+    let empty : before.held ≡ [] = sym (settled_same event before settled h unready) ∙ alone in
+    absurd (false≢true (sym unready ∙ ap (λ (l : List Event). is_head_ready (l ++ event ∷ [])) empty ∙ ready)))
+    (λ some. absurd (some_error before.error none some))
+    (keeps_set_then (starting before) settled (with_machine settled settled.held machine) h.set (keeps_with_machine settled settled.held machine wrote.set))
+    wrote.answered
+
+-- An event was put behind those that wait still, and the first of them goes on waiting.
+pub emits_waiting : (event : Event) (before settled : State) (held : List Event) → has_scalar_texts event ≡ true → before.error ≡ None
+    → Settled (starting before) event settled → held ≡ settled.held ++ event ∷ [] → is_head_ready held ≡ false
+    → EmitsEvent before event (Ok tt) (record settled { held = held })
+emits_waiting event before settled held text none h is unready =
+    emits_by event before (record settled { held = held }) (Ok tt) text
+    (λ given all stands.
+    let at = settled_reached event before settled none h given all stands in
+    stands_on_end given (all ++ event ∷ []) at.0 held (machine_of settled)
+    (subst (λ (l : List Event). Reached given (all ++ event ∷ []) at.0 l (machine_of settled)) (sym is) at.1) h.no_error unready)
+    h.grows (λ given all stands none same. refl)
+    (λ some. absurd (some_error before.error none some))
+    (keeps_set_then (starting before) settled (record settled { held = held }) h.set
+    (record { given = refl; started = refl; has_output = refl; opened = refl; closed = refl; taken = refl }))
+    (sym (ap result_of_error h.no_error))
+
+-- One of those that waited failed.
+pub emits_stopped : (event : Event) (before after : State) (error : yaml_error_t) → has_scalar_texts event ≡ true → before.error ≡ None
+    → SettlingFailed (starting before) event error after → EmitsEvent before event (Err error) after
+emits_stopped event before after error text none h =
+    emits_by event before after (Err error) text
+    (λ given all stands.
+    subst (λ e. MachineStands given (all ++ event ∷ []) e after.held (machine_of after)) (sym h.is_error)
+    (h.stands given (all ++ event ∷ []) (take (written all) all) (reached_taken given all event before stands none)))
+    h.grows
+    (λ given all stands none same. absurd (false≢true (sym (none_became_ready given all event before stands none same) ∙ h.ready)))
+    (λ some. absurd (some_error before.error none some))
+    h.set (sym (ap result_of_error h.is_error))
+
+ok_same : (n m : ℕ) → (let first : Result ℕ yaml_error_t = Ok n in first) ≡ Ok m → n ≡ m
+ok_same n m is = cc
+
+err_apart : (error : yaml_error_t) (n : ℕ) → (let first : Result ℕ yaml_error_t = Err error in first) ≡ Ok n → ⊥
+err_apart error n is = cc
+
+-- Nothing waits, and nothing was written.
+pub settles_none : (before : State) (last : Event) → before.held ≡ [] → before.error ≡ None → Settles before last (Ok tt) before
+settles_none before last empty none =
+    record {
+      count = 0;
+      held = refl;
+      wrote =
+          record {
+            within = omega arith;
+            reached = λ given all prefix reached. (prefix, reached);
+            waits = subst (λ (l : List Event). StillWait l last) (sym empty) tt;
+          };
+      unready = λ unready. refl;
+      grows = grows_page before.page before.page refl;
+      set = record { given = refl; started = refl; has_output = refl; opened = refl; closed = refl; taken = refl };
+      no_error = none;
+    }
+
+-- Those that were ready are written, and dropped.
+pub settles_written : (before : State) (last : Event) (held : List Event) (machine : MachineState) (answer : Result ℕ yaml_error_t) (count : ℕ)
+    → answer ≡ Ok count → held ≡ drop count before.held → WroteWaiting before.held last count (machine_of before) machine
+    → (is_head_ready (before.held ++ last ∷ []) ≡ false → answer ≡ Ok 0) → Grows before.page machine.page → KeepsGiven (machine_of before) machine
+    → machine.error ≡ None → Settles before last (Ok tt) (with_machine before held machine)
+settles_written before last held machine answer count is dropped wrote unready grows set none =
+    record {
+      count = count;
+      held = dropped;
+      wrote = wrote;
+      unready = λ h. ok_same count 0 (sym is ∙ unready h);
+      grows = grows;
+      set = keeps_with_machine before held machine set;
+      no_error = none;
+    }
+
+-- One of them failed.
+pub settles_failed : (before : State) (last : Event) (held : List Event) (between machine : MachineState) (answer : Result ℕ yaml_error_t)
+    (error : yaml_error_t) → answer ≡ Err error → held ≡ [] → machine ≡ failed_by error between
+    → FailedReady (before.held ++ last ∷ []) error (machine_of before) between
+    → (is_head_ready (before.held ++ last ∷ []) ≡ false → answer ≡ Ok 0) → Grows before.page between.page → KeepsGiven (machine_of before) between
+    → Settles before last (Err error) (with_machine before held machine)
+settles_failed before last held between machine answer error is empty failing failed unready grows set =
+    record {
+      ready = by (is_head_ready (before.held ++ last ∷ [])) refl;
+      stands = λ given all prefix reached.
+          subst (λ (m : MachineState). MachineStands given all (Some error) held m) (sym failing) (empty, failed given all prefix reached);
+      grows = subst (λ (m : MachineState). Grows before.page m.page) (sym failing) grows;
+      set = keeps_with_machine before held machine (subst (λ (m : MachineState). KeepsGiven (machine_of before) m) (sym failing)
+          (record { given = set.given; taken = set.taken }));
+      is_error = ap (λ (m : MachineState). m.error) failing;
+    }
+  where
+    by : (b : Bool) → is_head_ready (before.held ++ last ∷ []) ≡ b → b ≡ true
+    by true e = refl
+    by false e = absurd (err_apart error 0 (sym is ∙ unready e))

@@ -1,5 +1,5 @@
 -- Calls that write keep what the caller set.
-use Rattle.yaml_emitter.proofs.Common.{Result, Err, Ok, Bool, true, List, refl, ◌≡◌, ap, ◌∙◌, Event, stream_start, Keeps, WritesPage, CutPage, unwritten}
+use Rattle.yaml_emitter.proofs.Common.{Result, Err, Ok, Bool, List, refl, ◌≡◌, ap, ◌∙◌, Event, stream_start, Keeps, WritesPage, CutPage, unwritten}
 use Rattle.yaml_emitter.proofs.Common.{partly_written, Processed, ProcessedFirst, State, MachineState, machine_of, KeepsGiven, KeepsSet, Page}
 use Rattle.yaml_base.specs.declared.errors.{yaml_error_t.yaml_error_t, yaml_error_t.TheVariants.Memory, yaml_error_t.TheVariants.WriteError}
 
@@ -37,11 +37,21 @@ pub took_keeps_given : (waiting : List Event) (before after : MachineState) (ans
     → ProcessedFirst waiting before after answer → KeepsGiven before after
 took_keeps_given waiting before after answer took = processed_keeps_given took.event _ before after answer took.done
 
--- an emitter keeps what its machine keeps, and its own
-pub emitting_keeps : (before : State) (held : List Event) (machine : MachineState) → KeepsGiven (machine_of before) machine
-    → KeepsSet (record before { started = true })
-    (record before {
-      started = true;
+pub keeps_set_then : (before middle after : State) → KeepsSet before middle → KeepsSet middle after → KeepsSet before after
+keeps_set_then before middle after first second =
+    record {
+      given = second.given ∙ first.given;
+      started = second.started ∙ first.started;
+      has_output = second.has_output ∙ first.has_output;
+      opened = second.opened ∙ first.opened;
+      closed = second.closed ∙ first.closed;
+      taken = second.taken ∙ first.taken;
+    }
+
+-- an emitter with what a machine holds, where these events wait
+abbrev pub with_machine : State → (held : List Event) → MachineState → State
+with_machine before held machine =
+    record before {
       held = held;
       given = machine.given;
       settings = machine.settings;
@@ -49,6 +59,10 @@ pub emitting_keeps : (before : State) (held : List Event) (machine : MachineStat
       open_ended = machine.open_ended;
       page = machine.page;
       error = machine.error;
-    })
-emitting_keeps before held machine kept =
+    }
+
+-- it keeps what the machine keeps, and its own
+pub keeps_with_machine : (before : State) (held : List Event) (machine : MachineState) → KeepsGiven (machine_of before) machine
+    → KeepsSet before (with_machine before held machine)
+keeps_with_machine before held machine kept =
     record { given = kept.given; started = refl; has_output = refl; opened = refl; closed = refl; taken = kept.taken }

@@ -65,38 +65,6 @@ promises_held given all state h none =
       starts = ap begins_with_start well.held ∙ waits.1;
     }
 
--- A refusal.
-refused_at : (given : Settings) (all : List Event) (state : State) (error : yaml_error_t) → StandsRefused given all error (machine_of state)
-    → RefusedAt given all error state
-refused_at given all state error h =
-    let s = settings_for given all in
-    let stands = stands_from_begins given.canonical h.prefix h.progress.stands in
-    record {
-      prefix = h.prefix;
-      event = h.event;
-      later = h.later;
-      parts = h.failed.parts;
-      became_ready = h.failed.became_ready;
-      refusal = h.refusal;
-      begins = h.progress.stands;
-      ends = (λ more. let none : refusal given.canonical h.prefix h.event
-          ≡ None = (refused_exactly given.canonical h.prefix h.event h.progress.stands).1 more in cc);
-      text =
-          holds_text h.prefix s false None state.page h.progress.page
-          ∙ ap (text_written s) (sym (pieces_prefix h.prefix (h.event ∷ h.later) all s stands.partial h.failed.parts stands.is_partial));
-    }
-
-refused_by : (error : yaml_error_t) (given : Settings) (all : List Event) (state : State) → IsRefusal error → StandsFailed given all error (machine_of state)
-    → StandsRefused given all error (machine_of state)
-refused_by WriteError given all state is h = absurd is
-refused_by Memory given all state is h = absurd is
-refused_by error given all state is h = h
-
-pub promises_refusal : (given : Settings) (all : List Event) (state : State) (error : yaml_error_t) → StateStands given all state → state.error ≡ Some error
-    → IsRefusal error → RefusedAt given all error state
-promises_refusal given all state error h failed is =
-    refused_at given all state error (refused_by error given all state is (stands_failed given all state error h failed))
-
 -- The output begins that of an accepted list.
 output_by_pieces : (given : Settings) (all prefix later : List Event) (follows : Bool) (error : Option yaml_error_t) (state : State) → prefix ++ later ≡ all
     → HoldsPiecesWith error (settings_for given all) prefix (steps (settings_for given all) follows prefix at_stream first_standing).pieces state.page
@@ -128,6 +96,40 @@ output_from : (given : Settings) (all prefix later : List Event) (error : Option
     → BeginsOutput given all prefix (length prefix) state
 output_from given all prefix later error state parts begins h flushed =
     output_by_pieces given all prefix later false error state parts h flushed (goes_on given.canonical (settings_for given all) prefix begins)
+
+-- A refusal.
+refused_at : (given : Settings) (all : List Event) (state : State) (error : yaml_error_t) → StandsRefused given all error (machine_of state)
+    → RefusedAt given all error state
+refused_at given all state error h =
+    let s = settings_for given all in
+    let stands = stands_from_begins given.canonical h.prefix h.progress.stands in
+    record {
+      prefix = h.prefix;
+      event = h.event;
+      later = h.later;
+      parts = h.failed.parts;
+      became_ready = h.failed.became_ready;
+      refusal = h.refusal;
+      begins = h.progress.stands;
+      ends = (λ more. let none : refusal given.canonical h.prefix h.event
+          ≡ None = (refused_exactly given.canonical h.prefix h.event h.progress.stands).1 more in cc);
+      text =
+          holds_text h.prefix s false None state.page h.progress.page
+          ∙ ap (text_written s) (sym (pieces_prefix h.prefix (h.event ∷ h.later) all s stands.partial h.failed.parts stands.is_partial));
+      output =
+          output_from given all h.prefix (h.event ∷ h.later) None state h.failed.parts h.progress.stands h.progress.page h.progress.flushed;
+    }
+
+refused_by : (error : yaml_error_t) (given : Settings) (all : List Event) (state : State) → IsRefusal error → StandsFailed given all error (machine_of state)
+    → StandsRefused given all error (machine_of state)
+refused_by WriteError given all state is h = absurd is
+refused_by Memory given all state is h = absurd is
+refused_by error given all state is h = h
+
+pub promises_refusal : (given : Settings) (all : List Event) (state : State) (error : yaml_error_t) → StateStands given all state → state.error ≡ Some error
+    → IsRefusal error → RefusedAt given all error state
+promises_refusal given all state error h failed is =
+    refused_at given all state error (refused_by error given all state is (stands_failed given all state error h failed))
 
 -- The steps of a prefix begin those of the whole.
 pub steps_begin : (prefix rest : List Event) (s : Effective) (follows : Bool)
@@ -183,16 +185,21 @@ closing_more canonical s prefix (next ∷ later) true is begins =
     }
 
 -- After an error.
+abbrev Stops : Settings → List Event → State → Type 0
+Stops given all state = (prefix : List Event) × StopsWriting given all prefix state
+
 cut_output : (given : Settings) (all : List Event) (error : yaml_error_t) (state : State) → StandsCut given all error (machine_of state)
-    → StopsWriting given all state
+    → Stops given all state
 cut_output given all error state h =
     let s = settings_for given all in
     elim h.page [
       | holds_before memory page ↦
-          let follows = closes_last h.prefix (h.event ∷ h.later) in
-          stops_before h.prefix
-          (output_by_pieces given all h.prefix (h.event ∷ h.later) follows None state h.failed.parts page h.flushed
-          (closing_more given.canonical s h.prefix (h.event ∷ h.later) follows refl h.stands))
+          let follows = closes_last h.prefix (h.event ∷ h.later) in (
+            h.prefix,
+            stops_before
+                (output_by_pieces given all h.prefix (h.event ∷ h.later) follows None state h.failed.parts page h.flushed
+                (closing_more given.canonical s h.prefix (h.event ∷ h.later) follows refl h.stands)),
+          )
       | holds_part begun page failed least most ↦
           let longer = h.prefix ++ h.event ∷ [] in
           let empty = closes_at_once h.event h.later in
@@ -209,46 +216,50 @@ cut_output given all error state h =
           (steps_count h.prefix s (ends_collection h.event) at_stream first_standing) in
           let same : take (length h.prefix) whole ≡ (steps s (closes_last h.prefix (h.event ∷ h.later)) h.prefix at_stream first_standing).pieces =
           first ∙ ap (λ (made : Steps). made.pieces)
-          (end_next h.prefix h.later h.event stands.partial s (last_begins_collection h.prefix) refl stands.is_partial) in
-          stops_within h.prefix h.event
-          (record {
-            later = h.later;
-            parts = append_assoc h.prefix (h.event ∷ []) h.later ∙ h.failed.parts;
-            more = on.more;
-            accepted = on.accepted;
-            least = subst (λ pieces. IsPrefix (text_written s pieces) state.page.text) (sym same) least;
-            most = subst (λ pieces. IsPrefix state.page.text (text_written s pieces))
-                (sym (begin_take (length longer) pieces whole on.begins (steps_count longer s empty at_stream first_standing))) most;
-            output = output_begins s state.page whole page (prefix_longer s state.page.text pieces whole most on.begins);
-            flushed = h.flushed;
-          })
+          (end_next h.prefix h.later h.event stands.partial s (last_begins_collection h.prefix) refl stands.is_partial) in (
+            h.prefix,
+            stops_within h.event
+                (record {
+                  later = h.later;
+                  parts = append_assoc h.prefix (h.event ∷ []) h.later ∙ h.failed.parts;
+                  more = on.more;
+                  accepted = on.accepted;
+                  least = subst (λ pieces. IsPrefix (text_written s pieces) state.page.text) (sym same) least;
+                  most = subst (λ pieces. IsPrefix state.page.text (text_written s pieces))
+                      (sym (begin_take (length longer) pieces whole on.begins (steps_count longer s empty at_stream first_standing))) most;
+                  output = output_begins s state.page whole page (prefix_longer s state.page.text pieces whole most on.begins);
+                  flushed = h.flushed;
+                }),
+          )
     ]
 
 unflushed_output : (given : Settings) (all : List Event) (error : yaml_error_t) (state : State) → StandsUnflushed given all error (machine_of state)
-    → StopsWriting given all state
+    → Stops given all state
 unflushed_output given all error state h =
     let prefix = take (written h.before) h.before in
     let rest = drop (written h.before) h.before in
     let whole : prefix ++ (rest ++ h.later) ≡ all =
-    sym (append_assoc prefix rest h.later) ∙ ap (λ events. events ++ h.later) (take-append-drop (written h.before) h.before) ∙ h.parts in
-    stops_before prefix
-    (output_from given all prefix (rest ++ h.later) (Some error) state whole h.stands h.page
-    (subst (λ count. StaysFlushed given all count state.page.output) (sym (length-take-le (written h.before) h.before (written_within h.before))) h.flushed))
+    sym (append_assoc prefix rest h.later) ∙ ap (λ events. events ++ h.later) (take-append-drop (written h.before) h.before) ∙ h.parts in (
+      prefix,
+      stops_before
+          (output_from given all prefix (rest ++ h.later) (Some error) state whole h.stands h.page
+          (subst (λ count. StaysFlushed given all count state.page.output) (sym (length-take-le (written h.before) h.before (written_within h.before))) h.flushed)),
+    )
 
 refused_output : (given : Settings) (all : List Event) (error : yaml_error_t) (state : State) → StandsRefused given all error (machine_of state)
-    → StopsWriting given all state
+    → Stops given all state
 refused_output given all error state h =
-    stops_before h.prefix (output_from given all h.prefix (h.event ∷ h.later) None state h.failed.parts h.progress.stands h.progress.page h.progress.flushed)
+    let refused = refused_at given all state error h in (refused.prefix, stops_before refused.output)
 
 stopped_output : (given : Settings) (all : List Event) (error : yaml_error_t) (state : State) → StandsStopped given all error (machine_of state)
-    → StopsWriting given all state
+    → Stops given all state
 stopped_output given all error state h = elim h [
   | at_event cut ↦ cut_output given all error state cut
   | between_events other ↦ unflushed_output given all error state other
 ]
 
 failed_output : (error : yaml_error_t) (given : Settings) (all : List Event) (state : State) → StandsFailed given all error (machine_of state)
-    → StopsWriting given all state
+    → Stops given all state
 failed_output WriteError given all state h = stopped_output given all WriteError state h
 failed_output Memory given all state h = stopped_output given all Memory state h
 failed_output error given all state h = refused_output given all error state h

@@ -1,15 +1,19 @@
 -- A balanced prefix of a list, found by counting along.
-use Rattle.yaml_emitter.proofs.Common.{ℕ, ◌+◌, ◌<◌, ◌≤◌, ◌==◌, count_by, drop, length, slice_index_or as get_or, Bool, cond, false, true, ◌||◌, List, [], map}
-use Rattle.yaml_emitter.proofs.Common.{◌∷◌, refl, ◌≡◌, drop-cons, ap, sym, ◌∙◌, zero-add, add-one, arith, list_any, Event, document_start, sequence_start}
-use Rattle.yaml_emitter.proofs.Common.{mapping_start, awaited, is_balanced, nonempty_prefixes}
+use Rattle.yaml_emitter.proofs.Common.{ℕ, suc, zero, ◌+◌, ◌<◌, ◌==◌, count_by, drop, length, slice_index_or as get_or, Bool, cond, false, true, ◌||◌, ◌&&◌}
+use Rattle.yaml_emitter.proofs.Common.{List, [], map, ◌∷◌, ◌++◌, refl, ◌≡◌, drop-cons, ap, sym, ◌∙◌, zero-add, add-one, arith, ne_eqb, list_any, Event}
+use Rattle.yaml_emitter.proofs.Common.{stream_end, document_start, sequence_start, mapping_start}
+use Rattle.yaml_emitter.proofs.Common.{awaited, is_balanced, nonempty_prefixes, Some, if◌then◌else◌, option_map}
+use Rattle.std.proofs.{Common.eq-eqb}
+use Rattle.std.specs.Prelude.{◌≤◌, unwrap_or}
+use Rattle.yaml_emitter.specs.Queue.{one_less, open_behind}
 use Rattle.std.proofs.{Common.add-zero, Common.add_assoc, lemmas.List.Sums.sum_by-cons}
 use Rattle.yaml_base.specs.Ready.{is_start, is_end}
 
-abbrev pub one_if : Bool → ℕ
+abbrev one_if : Bool → ℕ
 one_if b = cond b 1 0
 
 -- some prefix of the list, with so many starts and ends before it, has as many starts as ends
-abbrev pub closes_after : ℕ → ℕ → List Event → Bool
+abbrev closes_after : ℕ → ℕ → List Event → Bool
 closes_after starts ends [] = false
 closes_after starts ends (event ∷ rest) =
     ((starts + one_if (is_start event)) == (ends + one_if (is_end event)))
@@ -58,7 +62,7 @@ closes_after-nonempty_prefixes starts ends (event ∷ rest) =
     ∙ ap (λ b. b || closes_after s e rest) (balanced_after-cons starts ends event [] ∙ balanced_after-nothing s e)
 
 -- counting from nothing tells whether some prefix is balanced
-pub closes_after-none : (events : List Event) → list_any is_balanced (nonempty_prefixes events) ≡ closes_after 0 0 events
+closes_after-none : (events : List Event) → list_any is_balanced (nonempty_prefixes events) ≡ closes_after 0 0 events
 closes_after-none events =
     list_any_same is_balanced (balanced_after 0 0) from_none (nonempty_prefixes events) ∙ closes_after-nonempty_prefixes 0 0 events
   where
@@ -74,25 +78,80 @@ seen_from seen xs i x within at =
     let here : drop i xs ≡ get_or xs i x ∷ drop (i + 1) xs = rw add-one (drop-cons xs i x within) in
     ap (map seen) here ∙ ap (λ y. seen y ∷ map seen (drop (i + 1) xs)) (sym at)
 
--- counting one event more
-pub closes_after-next : {E : Type 0} (seen : E → Event) (xs : List E) (i : ℕ) (x : E) → i < length xs → x ≡ get_or xs i x
-    → (starts ends one other : ℕ) → one ≡ one_if (is_start (seen x)) → other ≡ one_if (is_end (seen x))
-    → closes_after starts ends (map seen (drop i xs))
-    ≡ (((starts + one) == (ends + other)) || closes_after (starts + one) (ends + other) (map seen (drop (i + 1) xs)))
-closes_after-next seen xs i x within at starts ends one other is_one is_other =
-    ap (closes_after starts ends) (seen_from seen xs i x within at)
-    ∙ ap (λ n. ((starts + n) == (ends + one_if (is_end (seen x)))) || closes_after (starts + n) (ends + one_if (is_end (seen x))) (map seen (drop (i + 1) xs)))
-    (sym is_one)
-    ∙ ap (λ n. ((starts + one) == (ends + n)) || closes_after (starts + one) (ends + n) (map seen (drop (i + 1) xs))) (sym is_other)
+-- no event is both a start and an end
+apart : (event : Event) → (is_start event && is_end event) ≡ false
+apart stream_end = refl
+apart event = refl
 
--- an event counts once at most
-pub one_if-le-one : (b : Bool) → one_if b ≤ 1
-one_if-le-one true = omega arith
-one_if-le-one false = omega arith
+-- some event ends what was started before, within which so many are open
+abbrev pub closed_by : (depth : ℕ) → List Event → Bool
+closed_by depth [] = false
+closed_by depth (event ∷ rest) = unwrap_or (option_map (λ more. closed_by more rest) (open_behind depth event)) true
 
--- what awaits others begins something, so that alone it doesn't close
-pub alone_open : (event : Event) → (awaited event == 0) ≡ false → list_any is_balanced (nonempty_prefixes (event ∷ [])) ≡ false
-alone_open (document_start start) waits = refl
-alone_open (sequence_start start) waits = refl
-alone_open (mapping_start start) waits = refl
-alone_open event waits = cc
+closed_step : (rest : List Event) (depth starts ends : ℕ) → starts ≡ suc (depth + ends)
+    → ((depth starts ends : ℕ) → starts ≡ suc (depth + ends) → closes_after starts ends rest ≡ closed_by depth rest)
+    → (s t : Bool) → (s && t) ≡ false
+    → (((starts + one_if s) == (ends + one_if t)) || closes_after (starts + one_if s) (ends + one_if t) rest)
+    ≡ unwrap_or (option_map (λ more. closed_by more rest) (if s then Some (depth + 1) else (if t then one_less depth else Some depth))) true
+closed_step rest depth starts ends e later true true h = cc
+closed_step rest depth starts ends e later true false h =
+    ap (λ b. b || closes_after (starts + 1) (ends + 0) rest) (ne_eqb (starts + 1) (ends + 0) (λ same. omega (arith, e, same)))
+    ∙ later (depth + 1) (starts + 1) (ends + 0) (omega (arith, e))
+closed_step rest zero starts ends e later false true h =
+    ap (λ b. b || closes_after (starts + 0) (ends + 1) rest) (eq-eqb (starts + 0) (ends + 1) (omega (arith, e)))
+closed_step rest (suc depth) starts ends e later false true h =
+    ap (λ b. b || closes_after (starts + 0) (ends + 1) rest) (ne_eqb (starts + 0) (ends + 1) (λ same. omega (arith, e, same)))
+    ∙ later depth (starts + 0) (ends + 1) (omega (arith, e))
+closed_step rest depth starts ends e later false false h =
+    ap (λ b. b || closes_after (starts + 0) (ends + 0) rest) (ne_eqb (starts + 0) (ends + 0) (λ same. omega (arith, e, same)))
+    ∙ later depth (starts + 0) (ends + 0) (omega (arith, e))
+
+closed_is : (events : List Event) (depth starts ends : ℕ) → starts ≡ suc (depth + ends) → closes_after starts ends events ≡ closed_by depth events
+closed_is [] depth starts ends e = refl
+closed_is (event ∷ rest) depth starts ends e =
+    closed_step rest depth starts ends e (closed_is rest) (is_start event) (is_end event) (apart event)
+
+-- what a start begins is ended where the events behind it end it
+pub closed_start : (first : Event) (events : List Event) → is_start first ≡ true
+    → list_any is_balanced (nonempty_prefixes (first ∷ events)) ≡ closed_by 0 events
+closed_start first events starts =
+    closes_after-none (first ∷ events)
+    ∙ ap (λ s. ((0 + one_if s) == (0 + one_if (is_end first))) || closes_after (0 + one_if s) (0 + one_if (is_end first)) events) starts
+    ∙ ap (λ t. ((0 + 1) == (0 + one_if t)) || closes_after (0 + 1) (0 + one_if t) events) (ap (λ s. s && is_end first) (sym starts) ∙ apart first)
+    ∙ closed_is events 0 1 0 refl
+
+-- looking at one event more
+pub closed_from : {E : Type 0} (seen : E → Event) (xs : List E) (i : ℕ) (x : E) → i < length xs → x ≡ get_or xs i x → (depth : ℕ) (tail : List Event)
+    → closed_by depth (map seen (drop i xs) ++ tail)
+    ≡ unwrap_or (option_map (λ more. closed_by more (map seen (drop (i + 1) xs) ++ tail)) (open_behind depth (seen x))) true
+closed_from seen xs i x within at depth tail = ap (λ l. closed_by depth (l ++ tail)) (seen_from seen xs i x within at)
+
+-- the last event closes what nothing else within is open
+pub closed_last : (depth : ℕ) (event : Event) → closed_by depth (event ∷ []) ≡ (is_end event && depth == 0)
+closed_last depth event = by depth (is_start event) (is_end event) (apart event)
+  where
+    by : (depth : ℕ) (s t : Bool) → (s && t) ≡ false
+        → unwrap_or (option_map (λ more. closed_by more []) (if s then Some (depth + 1) else (if t then one_less depth else Some depth))) true
+        ≡ (t && depth == 0)
+    by depth true true h = cc
+    by depth true false h = refl
+    by zero false true h = refl
+    by (suc depth) false true h = sym (ne_eqb (suc depth) 0 (λ same. cc))
+    by depth false false h = refl
+
+-- one event opens one more at most
+pub behind_few : (depth : ℕ) (event : Event) (more : ℕ) → open_behind depth event ≡ Some more → more ≤ depth + 1
+behind_few depth event more is = by depth (is_start event) (is_end event) is
+  where
+    by : (depth : ℕ) (s t : Bool) → (if s then Some (depth + 1) else (if t then one_less depth else Some depth)) ≡ Some more → more ≤ depth + 1
+    by depth true t is = let same : depth + 1 ≡ more = cc in omega (arith, same)
+    by zero false true is = cc
+    by (suc depth) false true is = let same : depth ≡ more = cc in omega (arith, same)
+    by depth false false is = let same : depth ≡ more = cc in omega (arith, same)
+
+-- what awaits others is a start
+pub awaiting_starts : (event : Event) → (awaited event == 0) ≡ false → is_start event ≡ true
+awaiting_starts (document_start start) waits = refl
+awaiting_starts (sequence_start start) waits = refl
+awaiting_starts (mapping_start start) waits = refl
+awaiting_starts event waits = cc

@@ -70,7 +70,7 @@ fn write_atom<A: Allocator>(pen: &mut Pen<A>, site: &Site, atom: Atom) -> Result
     match atom {
         Atom::Nothing => pen.write_nothing(),
         Atom::Fixed(indicator) => write_indicator(pen, indicator),
-        Atom::Line => write_rare_new_line(pen, site.place.line_column()),
+        Atom::Line => write_new_line(pen, site.place.line_column()),
         Atom::FlowLine => write_flow_line(pen, site.settings, &site.place),
         Atom::Space => pen.put(b' '),
         Atom::Name(name) => write_anchor(pen, name),
@@ -84,7 +84,7 @@ fn write_atom<A: Allocator>(pen: &mut Pen<A>, site: &Site, atom: Atom) -> Result
     }
 }
 
-/// A new line at a column.
+/// Begins a new line at a column.
 pub(crate) fn write_new_line<A: Allocator>(
     pen: &mut Pen<A>,
     column: u32,
@@ -96,15 +96,6 @@ pub(crate) fn write_new_line<A: Allocator>(
     pen.write_indent(column as i32)
 }
 
-/// Begins a new line at a column.
-fn write_rare_new_line<A: Allocator>(pen: &mut Pen<A>, column: u32) -> Result<(), yaml_error_t>
-    requires ready { IsReady pen.old }
-    requires reach { column ≤ most_column }
-    ensures { Wrote (new_line column) pen.old pen.new result }
-{
-    write_new_line(pen, column)
-}
-
 pub(crate) fn write_flow_line<A: Allocator>(
     pen: &mut Pen<A>,
     settings: &EffectiveSettings,
@@ -114,7 +105,7 @@ pub(crate) fn write_flow_line<A: Allocator>(
     ensures { Wrote (flow_break (seen_effective settings.now) place.now.column) pen.old pen.new result }
 {
     if needs_flow_line(pen, settings) {
-        write_rare_new_line(pen, place.line_column())
+        write_new_line(pen, place.line_column())
     } else {
         pen.write_nothing()
     }

@@ -80,8 +80,8 @@ pub(crate) fn written_collection_tag<'a>(
     }
 }
 
-/// A text of an event, where there is one.
-pub(crate) fn borrowed_text<A: Allocator>(text: &Option<String<A>>) -> Option<&str>
+/// Borrows a text, where there is one.
+pub fn borrowed_text<A: Allocator>(text: &Option<String<A>>) -> Option<&str>
     ensures { seen_name result ≡ option_map seen_text text.now }
 {
     match text {

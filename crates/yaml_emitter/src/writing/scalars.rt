@@ -1,23 +1,22 @@
 //! Scalars: their style, what stands before them, and their text (YAML 1.1, chapter 9).
 
-ghost use Rattle.std.specs.Prelude.{◌≡◌, ◌&&◌, List, false, true, not, IfOk, IsOk, OnOk, chars, is_some, option_map};
+ghost use Rattle.std.specs.Prelude.{◌≡◌, ◌&&◌, false, true, not, IfOk, IsOk, chars, is_some};
 ghost use Rattle.yaml_base.specs.scalars.Analysis.{is_empty};
-ghost use Rattle.yaml_base.specs.Event.{TagDirective, double_quoted};
-ghost use Rattle.yaml_base.specs.Layout.{choice_of, open_ended_after, scalar_piece};
+ghost use Rattle.yaml_base.specs.Event.{double_quoted};
+ghost use Rattle.yaml_base.specs.Layout.{choice_of, style_asked_at};
 ghost use Rattle.yaml_base.specs.Event.{scalar_tag};
 ghost use Rattle.yaml_base.specs.Seen.{seen_scalar_style};
 ghost use Rattle.yaml_base.specs.Settings as in_force;
+ghost use Rattle.yaml_base.specs.Places.{is_root};
+ghost use Rattle.yaml_base.specs.scalars.BlockHeader as layout;
 ghost use Rattle.yaml_base.specs.scalars.Style.{lacks_tag_and_flags, requested_style};
-ghost use Rattle.yaml_base.specs.Tags.{spelling};
 ghost use Rattle.yaml_pen.specs.Page.{IsReady};
-ghost use Rattle.yaml_pen.specs.Wrote.{Wrote};
 ghost use Rattle.yaml_scalar.specs.ScalarData.{seen_choice};
-ghost use Rattle.yaml_emitter.specs.BorrowedTexts.{seen_name, seen_scalar};
+ghost use Rattle.yaml_emitter.specs.BorrowedTexts.{seen_scalar};
 ghost use Rattle.yaml_emitter.specs.Given.{seen_effective};
 ghost use Rattle.yaml_emitter.specs.Places.{seen_place};
-ghost use Rattle.yaml_emitter.specs.Atoms.{name_breaks};
-ghost use Rattle.yaml_emitter.specs.WrittenPieces.{piece_at, seen_open_ended};
-ghost use Rattle.yaml_emitter.specs.WrittenAtoms.{seen_tag, spelling_breaks};
+ghost use Rattle.yaml_emitter.specs.WrittenPieces.{seen_open_ended};
+ghost use Rattle.yaml_emitter.specs.WrittenScalars.{IsChecked, WritesScalar};
 
 use crate::effective::EffectiveSettings;
 use crate::writing::contents::ScalarContent;
@@ -27,9 +26,12 @@ use crate::writing::site::Site;
 use crate::writing::spelling::SpelledTag;
 use crate::writing::styles::write_text;
 use std::alloc::Allocator;
-use yaml_base::{YAML_DOUBLE_QUOTED_SCALAR_STYLE, yaml_error_t, yaml_scalar_style_t};
+use yaml_base::{
+    YAML_DOUBLE_QUOTED_SCALAR_STYLE, YAML_FOLDED_SCALAR_STYLE, YAML_LITERAL_SCALAR_STYLE,
+    yaml_error_t, yaml_scalar_style_t,
+};
 use yaml_pen::Pen;
-use yaml_scalar::{analyze_for_style, select_scalar_style};
+use yaml_scalar::{analyze_for_style, begins_blank, select_scalar_style};
 
 /// Writes a scalar at its place, its tag spelled so, and notes the open-ended state that it leaves.
 #[inline(always)]
@@ -41,24 +43,9 @@ pub(crate) fn write_scalar<A: Allocator>(
     tag: Option<SpelledTag>,
 ) -> Result<(), yaml_error_t>
     requires ready { IsReady pen.old }
-    requires anchor { name_breaks (seen_name content.now.anchor) ≡ false }
-    requires handle { spelling_breaks (seen_tag tag) ≡ false }
-    requires tag { is_some tag ≡ is_some (scalar_tag site.now.settings.now.canonical (seen_scalar content.now)) }
-    requires flags { lacks_tag_and_flags (is_some (scalar_tag site.now.settings.now.canonical (seen_scalar content.now)))
-        content.now.plain_implicit content.now.quoted_implicit
-        ≡ false }
-    ensures written { (directives : List TagDirective)
-        → seen_tag tag.entry ≡ option_map (spelling directives) (scalar_tag site.now.settings.now.canonical (seen_scalar content.now))
-        → Wrote
-        (piece_at
-        (scalar_piece (seen_effective site.now.settings.now) directives (seen_place site.now.place) site.now.simple (seen_scalar content.now))
-        (seen_open_ended open_ended.old))
-        pen.old pen.new result }
-    ensures ready { IsReady pen.new }
-    ensures open_ended { OnOk result
-        (seen_open_ended open_ended.new
-        ≡ open_ended_after (choice_of (seen_effective site.now.settings.now) (seen_place site.now.place) site.now.simple (seen_scalar content.now)).style
-        (chars content.now.value.now) (seen_open_ended open_ended.old)) }
+    requires checked { IsChecked site.now.settings.now.canonical (seen_scalar content.now) tag }
+    ensures { WritesScalar (seen_effective site.now.settings.now) (seen_place site.now.place) site.now.simple (seen_scalar content.now) tag.entry
+        pen.old pen.new (seen_open_ended open_ended.old) (seen_open_ended open_ended.new) result }
 {
     let (style, bare) = choose(site, content, tag.is_some())?;
     write_lead(pen, site, content.anchor, tag, bare)?;
@@ -79,7 +66,8 @@ fn choose(
         seen_choice given ≡ choice_of (seen_effective site.now.settings.now) (seen_place site.now.place) site.now.simple (seen_scalar content.now)) }
 {
     let settings = site.settings;
-    if is_surely_double(settings.canonical, content.style) {
+    let asked = style_asked(site, content);
+    if is_surely_double(settings.canonical, asked) {
         let bare = needs_bare_tag(tag_written, content.quoted_implicit);
         return Ok((YAML_DOUBLE_QUOTED_SCALAR_STYLE, bare));
     }
@@ -89,7 +77,7 @@ fn choose(
         escapes_separators(settings),
     );
     select_scalar_style(
-        content.style,
+        asked,
         &data,
         is_empty_value(content.value),
         tag_written,
@@ -99,6 +87,27 @@ fn choose(
         site.simple,
         settings.canonical,
     )
+}
+
+/// The style that is asked for: in portable mode a root asks for double quotes in place of a block style whose header would
+/// have a digit, since readers of YAML 1.2 count that digit in two ways.
+fn style_asked(site: &Site, content: &ScalarContent) -> yaml_scalar_style_t
+    ensures { seen_scalar_style result
+        ≡ style_asked_at (seen_effective site.now.settings.now) (seen_place site.now.place) (seen_scalar content.now) }
+{
+    match content.style {
+        YAML_LITERAL_SCALAR_STYLE | YAML_FOLDED_SCALAR_STYLE if bars_block(site, content.value) => {
+            YAML_DOUBLE_QUOTED_SCALAR_STYLE
+        }
+        style => style,
+    }
+}
+
+/// Whether the place bars block styles: in portable mode, at the root, where the header would have a digit.
+fn bars_block(site: &Site, value: &str) -> bool
+    ensures { result ≡ (is_root (seen_place site.now.place) && (seen_effective site.now.settings.now).portable && layout.begins_blank (chars value.now)) }
+{
+    site.place.column.is_none() && site.settings.portable && begins_blank(value)
 }
 
 /// Whether U+2028 and U+2029 are escaped: with the line breaks of YAML 1.2, and in portable mode.

@@ -26,7 +26,7 @@ use yaml_base::{
 use yaml_pen::Pen;
 use yaml_scalar::{is_simple_ascii, write_simple_ascii_scalar};
 
-/// Whether a scalar is known to stand plain as it is: it has no anchor, its tag is left out, and its value is simple ASCII.
+/// Returns whether a scalar can be plain without analysis: it has no anchor, its tag is left out, and its value is simple ASCII.
 #[inline(always)]
 pub(crate) fn stands_plain(settings: &EffectiveSettings, content: &ScalarContent) -> bool
     ensures { result ≡ true → StandsPlain settings.now.canonical content.now }

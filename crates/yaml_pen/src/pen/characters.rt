@@ -1,5 +1,5 @@
 //! Characters, runs and breaks.
-ghost use Rattle.std.specs.Prelude.{◌≡◌, ◌==◌, ◌<◌, ◌≤◌, length, [], ◌∷◌, false, true, IsSome};
+ghost use Rattle.std.specs.Prelude.{◌≡◌, ◌==◌, ◌<◌, ◌≤◌, length, [], ◌∷◌, false, true};
 ghost use Rattle.std.specs.Str.{IsAscii, chars};
 ghost use Rattle.std.specs.List.{list_any};
 ghost use Rattle.yaml_base.specs.Characters.{is_break, line_feed};
@@ -20,7 +20,6 @@ impl<A: Allocator> Pen<A> {
         requires ready { IsReady self.old }
         requires no_break { is_break character ≡ false }
         ensures written { Wrote (render_text (character ∷ [])) self.old self.new result }
-        ensures stays { IsSome self.old.error → self.new ≡ self.old }
     {
         self.write_character(character)
     }
@@ -31,7 +30,6 @@ impl<A: Allocator> Pen<A> {
         requires ascii { character < 128 }
         requires no_break { is_break character ≡ false }
         ensures written { Wrote (render_text (character ∷ [])) self.old self.new result }
-        ensures stays { IsSome self.old.error → self.new ≡ self.old }
     {
         self.write_ascii(&[character])
     }
@@ -41,7 +39,6 @@ impl<A: Allocator> Pen<A> {
         requires ready { IsReady self.old }
         requires no_break { list_any is_break (chars text.now) ≡ false }
         ensures written { Wrote (render_text (chars text.now)) self.old self.new result }
-        ensures stays { IsSome self.old.error → self.new ≡ self.old }
     {
         if text.is_empty() {
             self.write_nothing()
@@ -60,7 +57,6 @@ impl<A: Allocator> Pen<A> {
         requires no_break { list_any is_break text.now ≡ false }
         requires fits { length text.now ≤ buffer_size }
         ensures written { Wrote (render_text text.now) self.old self.new result }
-        ensures stays { IsSome self.old.error → self.new ≡ self.old }
     {
         if !has_bom(self.encoding) {
             self.write_ascii_bytes(text)
@@ -73,7 +69,6 @@ impl<A: Allocator> Pen<A> {
     pub fn put_break(&mut self) -> Result<(), yaml_error_t>
         requires ready { IsReady self.old }
         ensures written { Wrote (render_text (line_feed ∷ [])) self.old self.new result }
-        ensures stays { IsSome self.old.error → self.new ≡ self.old }
     {
         let bytes = encoded_break(self.encoding, self.line_break);
         self.outlet.append(bytes.as_slice())?;
@@ -86,7 +81,6 @@ impl<A: Allocator> Pen<A> {
         requires ready { IsReady self.old }
         requires a_break { is_break line_break ≡ true }
         ensures written { Wrote (render_text (line_break ∷ [])) self.old self.new result }
-        ensures stays { IsSome self.old.error → self.new ≡ self.old }
     {
         if line_break == '\n' {
             self.put_break()
@@ -115,7 +109,6 @@ impl<A: Allocator> Pen<A> {
         requires no_break { list_any is_break text.now ≡ false }
         requires fits { length text.now ≤ buffer_size }
         ensures written { Wrote (render_text text.now) self.old self.new result }
-        ensures stays { IsSome self.old.error → self.new ≡ self.old }
     {
         self.outlet.append(text)?;
         self.column = self.column.saturating_add(text.len() as u32);
@@ -129,7 +122,6 @@ impl<A: Allocator> Pen<A> {
         requires ascii { IsAscii text.now }
         requires no_break { list_any is_break text.now ≡ false }
         ensures written { Wrote (render_text text.now) self.old self.new result }
-        ensures stays { IsSome self.old.error → self.new ≡ self.old }
     {
         match str::from_utf8(text) {
             Ok(characters) => self.write_characters(characters),
@@ -143,7 +135,6 @@ impl<A: Allocator> Pen<A> {
         requires no_bom { has_bom self.old.encoding ≡ false }
         requires no_break { list_any is_break (chars text.now) ≡ false }
         ensures written { Wrote (render_text (chars text.now)) self.old self.new result }
-        ensures stays { IsSome self.old.error → self.new ≡ self.old }
     {
         self.write_nothing()?;
         let mut rest = text;
@@ -161,7 +152,6 @@ impl<A: Allocator> Pen<A> {
         requires no_break { list_any is_break (chars text.now) ≡ false }
         requires fits { length text.now ≤ buffer_size }
         ensures written { Wrote (render_text (chars text.now)) self.old self.new result }
-        ensures stays { IsSome self.old.error → self.new ≡ self.old }
     {
         self.outlet.append(text.as_bytes())?;
         self.column = self.column.saturating_add(character_count(text));
@@ -173,7 +163,6 @@ impl<A: Allocator> Pen<A> {
         requires ready { IsReady self.old }
         requires no_break { list_any is_break (chars text.now) ≡ false }
         ensures written { Wrote (render_text (chars text.now)) self.old self.new result }
-        ensures stays { IsSome self.old.error → self.new ≡ self.old }
     {
         self.write_nothing()?;
         let mut characters = text.chars();
@@ -187,7 +176,6 @@ impl<A: Allocator> Pen<A> {
         requires ready { IsReady self.old }
         requires not_line_feed { (character == line_feed) ≡ false }
         ensures written { Wrote (render_text (character ∷ [])) self.old self.new result }
-        ensures stays { IsSome self.old.error → self.new ≡ self.old }
     {
         let bytes = encoded_character(self.encoding, character);
         self.outlet.append(bytes.as_slice())?;

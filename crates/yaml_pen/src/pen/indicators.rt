@@ -1,5 +1,5 @@
 //! Indicators, and the spaces before them.
-ghost use Rattle.std.specs.Prelude.{◌≡◌, ◌&&◌, false, true, IsSome};
+ghost use Rattle.std.specs.Prelude.{◌≡◌, ◌&&◌, false, true};
 ghost use Rattle.std.specs.Str.{chars};
 ghost use Rattle.std.specs.List.{list_any};
 ghost use Rattle.yaml_base.specs.Characters.{is_break};
@@ -27,7 +27,7 @@ pub struct Indicator<'a> {
 }
 
 impl<'a> Indicator<'a> {
-    /// A space before it, none after it.
+    /// Makes an indicator with a space before it and none after it.
     pub fn spaced(text: &'a str) -> Indicator<'a>
         ensures { seen_indicator result ≡ spaced (chars text.now) }
     {
@@ -39,7 +39,7 @@ impl<'a> Indicator<'a> {
         }
     }
 
-    /// A bracket that opens: a space before it, and it counts as white space.
+    /// Makes an opening bracket: a space before it, and it counts as white space.
     pub fn opening(text: &'a str) -> Indicator<'a>
         ensures { seen_indicator result ≡ opening (chars text.now) }
     {
@@ -51,7 +51,7 @@ impl<'a> Indicator<'a> {
         }
     }
 
-    /// No space before it, and none after it.
+    /// Makes an indicator with no space before it and none after it.
     pub fn tight(text: &'a str) -> Indicator<'a>
         ensures { seen_indicator result ≡ tight (chars text.now) }
     {
@@ -63,7 +63,7 @@ impl<'a> Indicator<'a> {
         }
     }
 
-    /// The indicator of an entry in a block: a space before it, and it may stand in indentation.
+    /// Makes the indicator of an entry in a block: a space before it, and it may stand in indentation.
     pub fn indented(text: &'a str) -> Indicator<'a>
         ensures { seen_indicator result ≡ indented (chars text.now) }
     {
@@ -90,7 +90,6 @@ impl<A: Allocator> Pen<A> {
         requires ready { IsReady self.old }
         requires no_break { list_any is_break (chars text.now) ≡ false }
         ensures written { Wrote (indicator (chars text.now) need_whitespace whitespace indention) self.old self.new result }
-        ensures stays { IsSome self.old.error → self.new ≡ self.old }
     {
         self.put_indicator(&Indicator {
             text,
@@ -107,7 +106,6 @@ impl<A: Allocator> Pen<A> {
         requires ready { IsReady self.old }
         requires no_break { list_any is_break (chars indicator.now.text.now) ≡ false }
         ensures written { Wrote (render_indicator (seen_indicator indicator.now)) self.old self.new result }
-        ensures stays { IsSome self.old.error → self.new ≡ self.old }
     {
         self.separate_if(indicator.needs_space)?;
         self.write_indicator_text(indicator.text)?;
@@ -119,7 +117,6 @@ impl<A: Allocator> Pen<A> {
     pub fn separate(&mut self) -> Result<(), yaml_error_t>
         requires ready { IsReady self.old }
         ensures written { Wrote (λ cursor. render_text (space_if true cursor) cursor) self.old self.new result }
-        ensures stays { IsSome self.old.error → self.new ≡ self.old }
     {
         self.separate_if(true)
     }
@@ -128,7 +125,6 @@ impl<A: Allocator> Pen<A> {
     pub fn separate_if(&mut self, needed: bool) -> Result<(), yaml_error_t>
         requires ready { IsReady self.old }
         ensures written { Wrote (λ cursor. render_text (space_if needed cursor) cursor) self.old self.new result }
-        ensures stays { IsSome self.old.error → self.new ≡ self.old }
     {
         if needed && !self.whitespace {
             self.put(b' ')
@@ -143,7 +139,6 @@ impl<A: Allocator> Pen<A> {
         requires ready { IsReady self.old }
         requires no_break { list_any is_break (chars text.now) ≡ false }
         ensures written { Wrote (render_text (chars text.now)) self.old self.new result }
-        ensures stays { IsSome self.old.error → self.new ≡ self.old }
     {
         match text.as_bytes() {
             [byte] => self.put(*byte),

@@ -1,5 +1,5 @@
 //! New lines, and the spaces that they begin with.
-ghost use Rattle.std.specs.Prelude.{◌≡◌, pos, ◌≤ℤ◌, ◌<◌, ◌≤◌, false, true, IsSome, unwrap_or, replicate};
+ghost use Rattle.std.specs.Prelude.{◌≡◌, pos, ◌≤ℤ◌, ◌<◌, ◌≤◌, false, true, unwrap_or, replicate};
 ghost use Rattle.yaml_base.specs.Characters.{space};
 ghost use Rattle.yaml_base.specs.Cursor.{render_text, breaks_line, new_line};
 ghost use Rattle.yaml_base.specs.Settings.{line_feed_break};
@@ -27,7 +27,6 @@ impl<A: Allocator> Pen<A> {
         requires ready { IsReady self.old }
         requires not_negative { pos 0 ≤ℤ indent }
         ensures written { Wrote (new_line (natural indent)) self.old self.new result }
-        ensures stays { IsSome self.old.error → self.new ≡ self.old }
     {
         self.begin_line(indent as u32)
     }
@@ -37,7 +36,6 @@ impl<A: Allocator> Pen<A> {
         requires ready { IsReady self.old }
         requires below { at < 2147483648 }
         ensures written { Wrote (new_line at) self.old self.new result }
-        ensures stays { IsSome self.old.error → self.new ≡ self.old }
     {
         self.go_to_line(at)?;
         self.set_whitespace(true);
@@ -51,7 +49,6 @@ impl<A: Allocator> Pen<A> {
         requires ready { IsReady self.old }
         requires below { at < 2147483648 }
         ensures written { Wrote (line_begun at) self.old self.new result }
-        ensures stays { IsSome self.old.error → self.new ≡ self.old }
     {
         if self.starts_at_once(at) {
             self.write_line_start(at)
@@ -83,7 +80,6 @@ impl<A: Allocator> Pen<A> {
         requires no_bom { has_bom self.old.encoding ≡ false }
         requires line_feed { self.old.line_break ≡ line_feed_break }
         ensures written { Wrote (line_begun at) self.old self.new result }
-        ensures stays { IsSome self.old.error → self.new ≡ self.old }
     {
         match at {
             2 => self.append_line_start(2),
@@ -101,7 +97,6 @@ impl<A: Allocator> Pen<A> {
         requires no_bom { has_bom self.old.encoding ≡ false }
         requires line_feed { self.old.line_break ≡ line_feed_break }
         ensures written { Wrote (line_begun at) self.old self.new result }
-        ensures stays { IsSome self.old.error → self.new ≡ self.old }
     {
         self.outlet.append(&LINE_START[..at as usize + 1])?;
         self.column = at;
@@ -112,7 +107,6 @@ impl<A: Allocator> Pen<A> {
         requires ready { IsReady self.old }
         requires below { at < 2147483648 }
         ensures written { Wrote (line_begun at) self.old self.new result }
-        ensures stays { IsSome self.old.error → self.new ≡ self.old }
     {
         self.break_line(at)?;
         self.write_spaces_to(at)
@@ -123,7 +117,6 @@ impl<A: Allocator> Pen<A> {
         requires ready { IsReady self.old }
         requires below { at < 2147483648 }
         ensures written { Wrote (render_line_break at) self.old self.new result }
-        ensures stays { IsSome self.old.error → self.new ≡ self.old }
     {
         if self.breaks_line(at) {
             self.put_break()
@@ -143,7 +136,6 @@ impl<A: Allocator> Pen<A> {
         requires ready { IsReady self.old }
         requires below { at < 2147483648 }
         ensures written { Wrote (spaces_to at) self.old self.new result }
-        ensures stays { IsSome self.old.error → self.new ≡ self.old }
     {
         let missing = at.saturating_sub(self.column);
         self.write_spaces(missing)
@@ -152,7 +144,6 @@ impl<A: Allocator> Pen<A> {
     fn write_spaces(&mut self, count: u32) -> Result<(), yaml_error_t>
         requires ready { IsReady self.old }
         ensures written { Wrote (render_text (replicate count space)) self.old self.new result }
-        ensures stays { IsSome self.old.error → self.new ≡ self.old }
     {
         if count <= MOST_SPACES {
             self.write_few_spaces(count)
@@ -165,7 +156,6 @@ impl<A: Allocator> Pen<A> {
         requires ready { IsReady self.old }
         requires few { count ≤ 64 }
         ensures written { Wrote (render_text (replicate count space)) self.old self.new result }
-        ensures stays { IsSome self.old.error → self.new ≡ self.old }
     {
         let spaces = [b' '; 64];
         self.write_ascii(&spaces[..count as usize])
@@ -175,7 +165,6 @@ impl<A: Allocator> Pen<A> {
     fn write_many_spaces(&mut self, count: u32) -> Result<(), yaml_error_t>
         requires ready { IsReady self.old }
         ensures written { Wrote (render_text (replicate count space)) self.old self.new result }
-        ensures stays { IsSome self.old.error → self.new ≡ self.old }
     {
         self.write_nothing()?;
         for written in 0..count {
@@ -185,7 +174,7 @@ impl<A: Allocator> Pen<A> {
     }
 }
 
-/// Whether a break is written as LF; a setting of ANY is taken for LF.
+/// Returns whether a break is written as LF; a setting of ANY is taken for LF.
 fn is_line_feed(line_break: yaml_break_t) -> bool
     ensures { result ≡ true → unwrap_or (seen_break line_break) line_feed_break ≡ line_feed_break }
 {

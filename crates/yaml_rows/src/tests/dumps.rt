@@ -4,6 +4,7 @@ mod large;
 mod steps;
 mod streams;
 mod texts;
+mod typed;
 
 use crate::tests::{directives, owned};
 use std::alloc::{Allocator, Global};
@@ -13,7 +14,7 @@ use yaml_base::{
     YAML_DOUBLE_QUOTED_SCALAR_STYLE, YAML_FLOW_MAPPING_STYLE, yaml_document_t, yaml_error_t,
     yaml_node_data_t, yaml_node_pair_t, yaml_node_t, yaml_version_directive_t,
 };
-use yaml_dump::{yaml_emitter_close, yaml_emitter_dump};
+use yaml_dump::{yaml_emitter_close, yaml_emitter_dump, yaml_emitter_dump_typed};
 use yaml_emitter::yaml_emitter_t;
 
 /// A node as tables write it.
@@ -140,6 +141,17 @@ fn dump<A: Allocator + Copy>(
 ) -> Result<(), yaml_error_t> {
     assert!(rt; emitter.has_output());
     yaml_emitter_dump(alloc, emitter, document)
+}
+
+/// Dumps a document with its types: an output is set.
+fn dump_typed<A: Allocator + Copy>(
+    rt: &impl Abort,
+    alloc: A,
+    emitter: &mut yaml_emitter_t<A>,
+    document: yaml_document_t<A>,
+) -> Result<(), yaml_error_t> {
+    assert!(rt; emitter.has_output());
+    yaml_emitter_dump_typed(alloc, emitter, document)
 }
 
 /// Closes a stream that is opened.

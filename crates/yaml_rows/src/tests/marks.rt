@@ -210,14 +210,65 @@ const BY_OWN: &[Cut] = &[
     ("tag:yaml.org,2002:str", None, 0),
 ];
 
+/// More directives than are compared one after another. Prefixes begin prefixes before and after them, and one is given twice.
+const MANY: &str =
+    r#"+DOC 1 - "!0!" "n:0" "!1!" "v:a" "!2!" "v:ab" "!3!" "n:3" "!4!" "n:4" "!5!" "w:ab" "!6!" "n:6" "!7!" "n:7" "!8!" "t:a" "!9!" "t:ab:" "!10!" "u:ab:" "!11!" "u:a" "!12!" "t:a" "!13!" "v:abc" "!14!" "w:a" "!15!" "x:ab" "!16!" "x:\u{E9}""#;
+
+/// By the first of them, by one of the others, and by a default behind all.
+const BY_MANY: &[Cut] = &[
+    ("n:00", Some(0), 3),
+    ("n:77", Some(7), 3),
+    ("n:7", None, 0),
+    ("v:abcd", Some(1), 3),
+    ("w:abc", Some(5), 4),
+    ("w:ab", Some(14), 3),
+    ("t:ab:c", Some(8), 3),
+    ("t:ab", Some(8), 3),
+    ("t:a", None, 0),
+    ("u:ab:c", Some(10), 5),
+    ("u:ab:", Some(11), 3),
+    ("x:abc", Some(15), 4),
+    ("x:\u{E9}\u{E9}", Some(16), 4),
+    ("x:a\u{E9}", None, 0),
+    ("!e", Some(17), 1),
+    ("tag:yaml.org,2002:int", Some(18), 18),
+];
+
 /// The start of a document, and tags in it. An empty tag is refused.
-const CUTS: &[(&str, &[Cut])] = &[("+DOC 1 -", BY_DEFAULTS), (OWN, BY_OWN)];
+const CUTS: &[(&str, &[Cut])] = &[("+DOC 1 -", BY_DEFAULTS), (OWN, BY_OWN), (MANY, BY_MANY)];
 
 #[test]
 fn tags_are_cut_at_the_first_prefix_of_a_documents_own_and_of_the_defaults(rt: HostRuntime) {
     for (start, rows) in CUTS {
         check_cuts(&rt, &in_force(&rt, rt.alloc(), start), rows);
     }
+}
+
+/// Handles of the many, and one that isn't among them, and how many are then in force.
+const GIVEN_AGAIN: &[Given] = &[
+    (r#"+DOC 1 - "!0!" "a""#, false, TWICE, 17),
+    (r#"+DOC 1 - "!8!" "a""#, false, TWICE, 17),
+    (r#"+DOC 1 - "!16!" "a""#, true, Ok(()), 17),
+    (r#"+DOC 1 - "!17!" "t:a""#, false, Ok(()), 18),
+    (r#"+DOC 1 - "!17!" "b""#, false, TWICE, 18),
+];
+
+// All are dropped, and then one of the many is given alone.
+#[test]
+fn a_handle_is_given_once_among_many(rt: HostRuntime) {
+    let mut added = Directives::new(rt.alloc());
+    for given in &directives(&rt, rt.alloc(), MANY) {
+        equal(&rt, &added.append(given, false), &Ok(()));
+    }
+    for (line, as_default, answer, count) in GIVEN_AGAIN {
+        let given = directive(&rt, rt.alloc(), line);
+        let got = added.append(&given, *as_default);
+        equal(&rt, &(got, added.len()), &(*answer, *count));
+    }
+    added.clear();
+    let again = r#"+DOC 1 - "!8!" "t:a""#;
+    let rows = &[(again, false, Ok(()), 1)];
+    check_handles(&rt, rt.alloc(), &mut added, rows, again);
 }
 
 type Heap = Refusing<Global>;
@@ -240,8 +291,9 @@ fn check_added<'a>(
     }
 }
 
+/// The last two are more than are compared one after another.
 const ADDED: &str =
-    r#"+DOC 1 - "!first!" "p" "!second-of-them!" "tag:a-long-prefix.example,2000:" "!third!" "q""#;
+    r#"+DOC 1 - "!first!" "p" "!second-of-them!" "tag:a-long-prefix.example,2000:" "!3!" "q" "!4!" "r" "!5!" "s" "!6!" "t" "!7!" "u" "!8!" "v" "!9!" "w" "!10!" "xx""#;
 
 // Directives are added with this growth refused.
 fn add_refused(rt: &impl Abort, heap: &Heap, number: usize) {
@@ -261,12 +313,13 @@ fn is_refused(rt: &impl Abort, alloc: Global, number: usize) -> bool {
     heap.left() == 0
 }
 
-// The first growth is refused, the second, and so on, until none is. Each directive takes one for its handle and one for its prefix.
+// The first growth is refused, the second, and so on, until none is. Each directive takes one for its handle and one for its prefix,
+// and past the eighth one more for each.
 #[test]
 fn refused_growths_change_nothing(rt: HostRuntime) {
     for number in 1..usize::MAX {
         if !is_refused(&rt, rt.alloc(), number) {
-            equal(&rt, &(number > 6), &true);
+            equal(&rt, &(number > 24), &true);
             return;
         }
     }

@@ -19,7 +19,9 @@ pub(super) fn sink_of<T: Serialize>(
     value: &T,
 ) -> Result<Narrow, Error> {
     let taken = Vec::new(alloc);
-    to_writer(alloc, Narrow { taken, room }, value)
+    let mut sink = Narrow { taken, room };
+    to_writer(alloc, &mut sink, value)?;
+    Ok(sink)
 }
 
 /// The value gives this text, as characters, as bytes and in a sink.

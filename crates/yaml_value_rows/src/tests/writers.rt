@@ -1,4 +1,5 @@
 //! Values written, against bytes written by hand.
+mod headings;
 mod kinds;
 mod lists;
 mod parts;

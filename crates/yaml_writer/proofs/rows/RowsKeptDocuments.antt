@@ -2,7 +2,7 @@
 use Rattle.yaml_writer.proofs.Common.{ℕ, Option, None, Result, codes, false, true, List, [], ◌++◌, ◌∷◌, refl, ◌≡◌, prefix_then, Event, document_end, Grows}
 use Rattle.yaml_writer.proofs.Common.{WriterState, plain_start, StandsTaken, PassedEvents, GaveEvent}
 use Rattle.yaml_base.specs.{Prefix.IsPrefix, Settings.nothing_given, declared.errors.yaml_error_t.yaml_error_t}
-use Rattle.yaml_emitter.{proofs.standing.KeptDocuments.documents_kept, proofs.standing.Promising.promised, specs.State.new_state}
+use Rattle.yaml_emitter.{proofs.standing.KeptDocuments.documents_without_error, proofs.standing.Promising.promised, specs.State.new_state}
 use Rattle.yaml_emitter.proofs.rows.RowsKeptDocuments.{two, begun, both, kept, not_empty}
 use Rattle.yaml_writer.specs.Writing.{opening, text_event, EndedCollection}
 
@@ -23,7 +23,7 @@ module _ (later : List Event) (sent : List ℕ) (before : WriterState) (stood : 
   stays grows =
       prefix_then
       (kept (two ++ later) later before.emitter.page.output refl
-      (documents_kept nothing_given (two ++ later) before.emitter (promised nothing_given (two ++ later) before.emitter stood.stands) none))
+      (documents_without_error nothing_given (two ++ later) before.emitter (promised nothing_given (two ++ later) before.emitter stood.stands) none))
       grows.output
 
   -- so no state whose output was emptied follows a call, whether it gave an event, and whatever its error is,

@@ -9,5 +9,5 @@ returns-in-Emitted c read before after gave =
     let answer = c.in-Emitted.answer in
     let fits : to_z w32 (of_z w32 c.tell.result) ≡ c.tell.result = search rules in
     let event = took c.args.giving answer gave c.in-Emitted.is in
-    let returned = c.tell.ensures after.error event.2.answered in
+    let returned = c.tell.ensures after.error event.2.moves.answered in
     gives event.0 event.1 (takes_event event.0 answer before after event.2) (fits ∙ returned.0, returned.1)

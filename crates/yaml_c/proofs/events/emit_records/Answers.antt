@@ -21,8 +21,8 @@ returns-in-Emitted-Err-clause-emits g c given stands =
     (refused_next c.args.arena.now c.args.directives.now c.args.events.now c.args.emitter.now now.emitter after now.record-index now.number now.last _ event.0
     given error has now.invariant.4 c.loop-record-test.true (sym event.1) now.invariant.3
     stood (c.standing_is_promised.ensures given (events_in has.given) now.emitter stood)
-    (some_from_result after.error error emits.answered) (emits.stands given (events_in has.given) stood)
-    (emits.promised given (events_in has.given) stood) emits.grows)
+    (some_from_result after.error error emits.moves.answered) (emits.moves.stands given (events_in has.given) stood)
+    (emits.promised given (events_in has.given) stood) emits.moves.grows)
 
 pub loop-record-preserved : goal.loop-record-preserved
 loop-record-preserved g c =
@@ -34,12 +34,12 @@ loop-record-preserved g c =
     let after = c.give_record.new.emitter in (
       search rules,
       refl,
-      emits.output,
-      none_from_result after.error emits.answered,
+      emits.moves.set.has_output ∙ now.invariant.2,
+      none_from_result after.error emits.moves.answered,
       search rules,
       given_more c.args.arena.now c.args.directives.now c.args.events.now c.args.emitter.now now.emitter after now.record-index now.number now.last _ event.0
-          has now.invariant.4 c.loop-record-test.true (sym event.1) (λ set stood. emits.stands set (events_in has.given) stood),
-      emits.set.taken ∙ now.invariant.6,
+          has now.invariant.4 c.loop-record-test.true (sym event.1) (λ set stood. emits.moves.stands set (events_in has.given) stood),
+      emits.moves.set.taken ∙ now.invariant.6,
     )
 
 pub returns-in-Some-clause-emits : goal.returns-in-Some-clause-emits
@@ -107,7 +107,7 @@ pub returns-in-Emitted-Err-clause-taken : goal.returns-in-Emitted-Err-clause-tak
 returns-in-Emitted-Err-clause-taken g c =
     let event = took c.give_record.result (Err c.in-Emitted-Err.error) c.give_record.ensures.gave
     (c.in-Emitted-Err.is ∙ ap (λ answer. Emitted answer) c.in-Emitted-Err.field-0-is) in
-    event.2.set.taken ∙ c.loop-record.invariant.6
+    event.2.moves.set.taken ∙ c.loop-record.invariant.6
 
 pub returns-in-Some-clause-taken : goal.returns-in-Some-clause-taken
 returns-in-Some-clause-taken g c = c.flush_after.ensures.taken ∙ c.loop-record.invariant.6

@@ -8,15 +8,5 @@ returns-in-Owned-clause-gave g c =
     let emit = c.yaml_emitter_emit.ensures in (
       seen_event c.in-Owned.event,
       ap (λ given. Some (given_event given)) c.in-Owned.is,
-      record {
-        stands = emit.stands;
-        promised = emit.promised;
-        fits = emit.fits;
-        grows = emit.grows;
-        waits = emit.waits;
-        kept = emit.kept;
-        set = emit.set;
-        answered = emit.answered;
-        output = emit.output;
-      },
+      record { moves = emit.moves; promised = emit.promised; waits = emit.waits; kept = emit.kept },
     )

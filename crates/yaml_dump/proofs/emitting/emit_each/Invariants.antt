@@ -1,5 +1,5 @@
-use Rattle.yaml_dump.proofs.Common.{None, true, List, map, ◌++◌, ◌≡◌, into_iter_items, Event, seen_event, Settings, IsBegun, StandsAfter, Grows}
-use Rattle.yaml_dump.proofs.Emissions.{KeepsButStart}
+use Rattle.yaml_dump.proofs.Common.{None, Ok, true, [], map, ◌++◌, ◌≡◌, into_iter_items, seen_event}
+use Rattle.yaml_emitter.specs.Moves.{Moves}
 use Rattle.yaml_dump.proofs.emitting.emit_each.Given as goal
 
 abbrev pub invariant-loop-event : goal.invariant-loop-event
@@ -9,7 +9,5 @@ invariant-loop-event g l =
     × (l.emitter.has_output ≡ true)
     × (l.emitter.error ≡ None)
     × (l.yielded ++ into_iter_items l.event-iterator ≡ l.fn.events.items)
-    × ((given : Settings) (all : List Event) → StandsAfter given all l.initial.emitter → StandsAfter given (all ++ map seen_event l.yielded) l.emitter)
-    × KeepsButStart l.initial.emitter l.emitter
-    × Grows l.initial.emitter.page l.emitter.page
-    × IsBegun l.initial.emitter l.emitter
+    × Moves l.initial.emitter (map seen_event l.yielded) (Ok tt) l.emitter
+    × (map seen_event l.yielded ≡ [] → l.emitter ≡ l.initial.emitter)

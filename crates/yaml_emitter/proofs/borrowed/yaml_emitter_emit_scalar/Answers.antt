@@ -1,10 +1,9 @@
-use Rattle.yaml_emitter.proofs.Common.{Result, Err, true, [], inl, refl, ◌≡◌, eqb-true, ap, subst, sym, ◌∙◌, scalar}
-use Rattle.yaml_emitter.proofs.Common.{seen_events, seen_scalar, state_of, State}
-use Rattle.std.proofs.lemmas.List.{nil_from_length}
+use Rattle.yaml_emitter.proofs.Common.{Result, Err, true, [], refl, ◌≡◌, ap, subst, sym, ◌∙◌, scalar, seen_events, seen_scalar, state_of, State}
 use Rattle.yaml_base.specs.declared.errors.{yaml_error_t.yaml_error_t}
-use Rattle.yaml_emitter.proofs.{standing.EmitterKept.has_output_inside, standing.EmitterKept.kept_emitting}
-use Rattle.yaml_emitter.proofs.standing.{EmittingEvents.with_machine, EmittingEvents.emits_failed, EmittingEvents.emits_alone}
-use Rattle.yaml_emitter.specs.EmitsEvent.{EmitsEvent}
+use Rattle.yaml_emitter.proofs.{standing.EmitterKept.has_output_inside, standing.EmitterKept.kept_emitting, standing.KeepsSet.with_machine}
+use Rattle.yaml_emitter.proofs.standing.EmittingEvents.{emits_alone, emits_failed, emits_stopped, starting}
+use Rattle.yaml_emitter.proofs.standing.WritingAll.{none_waits_on}
+use Rattle.yaml_emitter.specs.{EmitsEvent.EmitsEvent, EmitsEvent.Settled, EmitsEvent.Settles, Queue.are_ready_by_one_more}
 use Rattle.yaml_emitter.proofs.borrowed.yaml_emitter_emit_scalar.Goals as goal
 
 pub returns-in-Some-clause-emits : goal.returns-in-Some-clause-emits
@@ -12,34 +11,76 @@ returns-in-Some-clause-emits g c =
     let before : State = state_of c.emitter.inside in
     let event = scalar (seen_scalar c.args.content.now) in
     let answer : Result (Unit {0}) yaml_error_t = Err c.in-Some.error in
-    inl
-    (subst (λ (s : State). EmitsEvent s event answer (record before { started = true })) c.emitter.view_is
-    (emits_failed event before c.in-Some.error c.texts_are_scalars.ensures (sym c.error.ensures ∙ c.in-Some.is)
-    (has_output_inside c.emitter.inside c.emitter.view_is c.requires)))
+    subst (λ (s : State). EmitsEvent s event answer (starting before)) c.emitter.view_is
+    (emits_failed event before c.in-Some.error c.texts_are_scalars.ensures (sym c.error.ensures ∙ c.in-Some.is))
 
-pub write_scalar_alone-requires : goal.write_scalar_alone-requires
-write_scalar_alone-requires g c = record { no_error = sym c.error.ensures ∙ c.in_default.is }
-
-pub invariant_of-emitter-then-nothing_waits : goal.invariant_of-emitter-then-nothing_waits
-invariant_of-emitter-then-nothing_waits g c =
-    kept_emitting c.emitter.inside _ (has_output_inside c.emitter.inside c.emitter.view_is c.requires) refl c.emitter.invariant.room
-    c.emitter.invariant.waits
-
-pub returns-then-nothing_waits-clause-emits : goal.returns-then-nothing_waits-clause-emits
-returns-then-nothing_waits-clause-emits g c =
+pub returns-in-Err-clause-emits : goal.returns-in-Err-clause-emits
+returns-in-Err-clause-emits g c =
     let before : State = state_of c.emitter.inside in
     let event = scalar (seen_scalar c.args.content.now) in
-    let alone : before.held ≡ [] =
-    ap seen_events (nil_from_length c.emitter.inside.queue.items (eqb-true _ 0 (sym c.nothing_waits.ensures ∙ c.if-nothing_waits.true))) in
-    inl
-    (subst (λ (s : State). EmitsEvent s event c.write_scalar_alone.result (with_machine before before.held c.write_scalar_alone.new.self)) c.emitter.view_is
-    (emits_alone event before c.write_scalar_alone.new.self c.write_scalar_alone.result c.texts_are_scalars.ensures
-    (sym c.error.ensures ∙ c.in_default.is) alone (has_output_inside c.emitter.inside c.emitter.view_is c.requires) refl c.write_scalar_alone.ensures))
+    subst (λ (s : State). EmitsEvent s event (Err c.in-Err.error) c.write_before_scalar.new.self) c.emitter.view_is
+    (emits_stopped event before c.write_before_scalar.new.self c.in-Err.error c.texts_are_scalars.ensures (sym c.error.ensures ∙ c.in_default.is)
+    (subst (λ (r : Result (Unit {0}) yaml_error_t). Settles (starting before) event r c.write_before_scalar.new.self) c.in-Err.is
+    (c.write_before_scalar.ensures (seen_scalar c.args.content.now))))
 
-pub emit_behind-requires : goal.emit_behind-requires
-emit_behind-requires g c =
-    record {
-      no_error = sym (ap (λ (s : State). s.error) c.emitter.view_is) ∙ sym c.error.ensures ∙ c.in_default.is;
-      output = c.requires;
-      texts = c.texts_are_scalars.ensures;
-    }
+pub returns-in-Err-clause-output : goal.returns-in-Err-clause-output
+returns-in-Err-clause-output g c =
+    let event = scalar (seen_scalar c.args.content.now) in
+    let h : Settles (starting (state_of c.emitter.inside)) event (Err c.in-Err.error) c.write_before_scalar.new.self =
+    subst (λ (r : Result (Unit {0}) yaml_error_t). Settles (starting (state_of c.emitter.inside)) event r c.write_before_scalar.new.self) c.in-Err.is
+    (c.write_before_scalar.ensures (seen_scalar c.args.content.now)) in
+    h.set.has_output ∙ has_output_inside c.emitter.inside c.emitter.view_is c.requires
+
+pub give_scalar-requires : goal.give_scalar-requires
+give_scalar-requires g c =
+    let before : State = state_of c.emitter.inside in
+    let event = scalar (seen_scalar c.args.content.now) in
+    let settled : State = state_of c.emitter-then-are_ready_by_one_more.inside in
+    let h : Settled (starting before) event settled =
+    subst (λ (s : State). Settled (starting before) event s) (sym c.emitter-then-are_ready_by_one_more.view_is)
+    (subst (λ (r : Result (Unit {0}) yaml_error_t). Settles (starting before) event r c.write_before_scalar.new.self) c.in_default-write_before_scalar.is
+    (c.write_before_scalar.ensures (seen_scalar c.args.content.now))) in
+    record { no_error = h.no_error }
+
+pub invariant_of-emitter-then-are_ready_by_one_more-2 : goal.invariant_of-emitter-then-are_ready_by_one_more-2
+invariant_of-emitter-then-are_ready_by_one_more-2 g c =
+    let before : State = state_of c.emitter.inside in
+    let event = scalar (seen_scalar c.args.content.now) in
+    let settled : State = state_of c.emitter-then-are_ready_by_one_more.inside in
+    let h : Settled (starting before) event settled =
+    subst (λ (s : State). Settled (starting before) event s) (sym c.emitter-then-are_ready_by_one_more.view_is)
+    (subst (λ (r : Result (Unit {0}) yaml_error_t). Settles (starting before) event r c.write_before_scalar.new.self) c.in_default-write_before_scalar.is
+    (c.write_before_scalar.ensures (seen_scalar c.args.content.now))) in
+    let output : c.emitter-then-are_ready_by_one_more.inside.has_output ≡ true =
+    h.set.has_output ∙ has_output_inside c.emitter.inside c.emitter.view_is c.requires in
+    kept_emitting c.emitter-then-are_ready_by_one_more.inside _ output refl c.emitter-then-are_ready_by_one_more.invariant.room
+    c.emitter-then-are_ready_by_one_more.invariant.waits
+
+pub returns-then-are_ready_by_one_more-clause-emits : goal.returns-then-are_ready_by_one_more-clause-emits
+returns-then-are_ready_by_one_more-clause-emits g c =
+    let before : State = state_of c.emitter.inside in
+    let event = scalar (seen_scalar c.args.content.now) in
+    let settled : State = state_of c.emitter-then-are_ready_by_one_more.inside in
+    let h : Settled (starting before) event settled =
+    subst (λ (s : State). Settled (starting before) event s) (sym c.emitter-then-are_ready_by_one_more.view_is)
+    (subst (λ (r : Result (Unit {0}) yaml_error_t). Settles (starting before) event r c.write_before_scalar.new.self) c.in_default-write_before_scalar.is
+    (c.write_before_scalar.ensures (seen_scalar c.args.content.now))) in
+    let ready : are_ready_by_one_more before.held ≡ true =
+    ap (λ q. are_ready_by_one_more (seen_events q)) (sym c.as_slice.ensures.value) ∙ sym c.are_ready_by_one_more.ensures ∙ c.if-are_ready_by_one_more.true in
+    let alone : settled.held ≡ [] = h.held ∙ none_waits_on h.count before.held (seen_scalar c.args.content.now) ready h.wrote.waits in
+    subst (λ (s : State). EmitsEvent s event c.give_scalar.result (with_machine settled settled.held c.give_scalar.new.self)) c.emitter.view_is
+    (emits_alone event before settled c.give_scalar.new.self c.give_scalar.result c.texts_are_scalars.ensures (sym c.error.ensures ∙ c.in_default.is)
+    h alone refl c.give_scalar.ensures)
+
+pub returns-then-are_ready_by_one_more-clause-output : goal.returns-then-are_ready_by_one_more-clause-output
+returns-then-are_ready_by_one_more-clause-output g c =
+    let before : State = state_of c.emitter.inside in
+    let event = scalar (seen_scalar c.args.content.now) in
+    let settled : State = state_of c.emitter-then-are_ready_by_one_more.inside in
+    let h : Settled (starting before) event settled =
+    subst (λ (s : State). Settled (starting before) event s) (sym c.emitter-then-are_ready_by_one_more.view_is)
+    (subst (λ (r : Result (Unit {0}) yaml_error_t). Settles (starting before) event r c.write_before_scalar.new.self) c.in_default-write_before_scalar.is
+    (c.write_before_scalar.ensures (seen_scalar c.args.content.now))) in
+    let output : c.emitter-then-are_ready_by_one_more.inside.has_output ≡ true =
+    h.set.has_output ∙ has_output_inside c.emitter.inside c.emitter.view_is c.requires in
+    output

@@ -1,10 +1,10 @@
-use Rattle.yaml_emitter.proofs.Common.{◌≤◌, None, Some, Err, List, refl, ◌≡◌, ap, subst, sym, ◌∙◌, Event, seen_events, state_of, is_head_ready, MachineStands}
-use Rattle.yaml_emitter.proofs.Common.{StandsAfter, State, MachineState, none_from_result, some_from_result, encoded, result_of_error, Grows}
+use Rattle.yaml_emitter.proofs.Common.{◌≤◌, None, Some, List, refl, ◌≡◌, ap, subst, sym, ◌∙◌, Event, seen_events, state_of, is_head_ready, MachineStands}
+use Rattle.yaml_emitter.proofs.Common.{append-nil, StandsAfter, State, MachineState, none_from_result, some_from_result, encoded, result_of_error, Grows, KeepsSet, Page}
 use Rattle.yaml_base.specs.declared.errors.yaml_error_t.TheVariants.{Memory}
-use Rattle.yaml_emitter.proofs.standing.{EmitterKept.has_output_inside, EmitterKept.kept_emitting, Growing.flushed_unflushed, PromisingRoom.memory_only}
+use Rattle.yaml_emitter.proofs.standing.{EmitterKept.has_output_inside, EmitterKept.kept_emitting, Growing.flushed_unflushed, Moving.moved_nowhere}
 use Rattle.yaml_emitter.proofs.standing.{StandingMore.flush_stands, StandingMore.flush_failed}
-use Rattle.yaml_emitter.proofs.standing.Promising.{promises_bytes, promised, stands_unfailed, stands_encoded}
-use Rattle.yaml_pen.proofs.Composing.{flushed_grows}
+use Rattle.yaml_emitter.proofs.standing.Promising.{promises_bytes, stands_unfailed, stands_encoded}
+use Rattle.yaml_pen.proofs.Composing.{flushed_grows, grows_itself}
 use Rattle.yaml_emitter.proofs.emit.yaml_emitter_flush.Goals as goal
 
 pub invariant_of-emitter : goal.invariant_of-emitter
@@ -17,38 +17,50 @@ invariant_of-emitter-in-Err g c =
     kept_emitting c.emitter.inside _ (has_output_inside c.emitter.inside c.emitter.view_is c.requires.output) refl
     (subst (λ n. 4 ≤ n) (sym c.clear.ensures.capacity) c.emitter.invariant.room) (ap (λ q. is_head_ready (seen_events q)) c.clear.ensures.items)
 
-pub returns-in-Some-clause-promised : goal.returns-in-Some-clause-promised
-returns-in-Some-clause-promised g c given all stands = promised given all c.args.emitter.now stands
-
-pub returns-in-Some-clause-fits : goal.returns-in-Some-clause-fits
-returns-in-Some-clause-fits g c given all stands fits =
-    memory_only c.args.emitter.now.error given all (returns-in-Some-clause-promised g c given all stands).fits fits (Err c.in-Some.error)
-    (sym (ap result_of_error (sym (ap (λ (s : State). s.error) c.emitter.view_is) ∙ sym c.error.ensures ∙ c.in-Some.is)))
-
-pub returns-in-Ok-clause-stands : goal.returns-in-Ok-clause-stands
-returns-in-Ok-clause-stands g c given all stands =
-    let h = subst (λ s. StandsAfter given all s) (sym c.emitter.view_is) stands in
+pub returns-in-Some-clause-moves : goal.returns-in-Some-clause-moves
+returns-in-Some-clause-moves g c =
     record {
-      texts = h.texts;
-      so =
-          flush_stands given all (seen_events c.emitter.inside.queue.items) c.emitter.inside.machine c.flush.new.self h.so
-          (sym c.error.ensures ∙ c.in_default.is)
-          c.flush.ensures.kept c.in-Ok.ensures.flushed;
+      stands = λ given all stands. subst (λ (l : List Event). StandsAfter given l c.args.emitter.now) (sym (append-nil all)) stands;
+      grows = grows_itself c.args.emitter.now.page;
+      set = record { given = refl; started = refl; has_output = refl; opened = refl; closed = refl; taken = refl };
+      answered = sym (ap result_of_error (sym (ap (λ (s : State). s.error) c.emitter.view_is) ∙ sym c.error.ensures ∙ c.in-Some.is));
     }
 
-pub returns-in-Ok-clause-promised : goal.returns-in-Ok-clause-promised
-returns-in-Ok-clause-promised g c given all stands = promised given all _ (returns-in-Ok-clause-stands g c given all stands)
+pub returns-in-Ok-clause-moves : goal.returns-in-Ok-clause-moves
+returns-in-Ok-clause-moves g c =
+    record {
+      stands = λ given all stands.
+          let h = subst (λ s. StandsAfter given all s) (sym c.emitter.view_is) stands in
+          subst (λ (l : List Event). StandsAfter given l (state_of (record c.emitter.inside { machine = c.flush.new.self }))) (sym (append-nil all))
+          (record {
+            texts = h.texts;
+            so =
+                flush_stands given all (seen_events c.emitter.inside.queue.items) c.emitter.inside.machine c.flush.new.self h.so
+                (sym c.error.ensures ∙ c.in_default.is)
+                c.flush.ensures.kept c.in-Ok.ensures.flushed;
+          });
+      grows = subst (λ (s : State). Grows s.page c.flush.new.self.page) c.emitter.view_is (flushed_grows c.flush.ensures.flushed);
+      set =
+          subst (λ (s : State). KeepsSet (record s { started = s.started }) (state_of (record c.emitter.inside { machine = c.flush.new.self })))
+          c.emitter.view_is
+          (record {
+            given = ap (λ (m : MachineState). m.given) c.flush.ensures.kept;
+            started = refl;
+            has_output = refl;
+            opened = refl;
+            closed = refl;
+            taken = ap (λ (p : Page). p.taken) c.flush.ensures.flushed.kept;
+          });
+      answered = c.in-Ok.ensures.flushed.answered ∙ ap result_of_error (sym (ap (λ (m : MachineState). m.error) c.flush.ensures.kept));
+    }
 
 pub returns-in-Ok-clause-flushed : goal.returns-in-Ok-clause-flushed
 returns-in-Ok-clause-flushed g c given all stands =
     let unfailed = none_from_result c.flush.new.self.page.error c.in-Ok.ensures.flushed.answered in
-    promises_bytes given all (state_of (record c.emitter.inside { machine = c.flush.new.self })) (returns-in-Ok-clause-stands g c given all stands).so
+    promises_bytes given all (state_of (record c.emitter.inside { machine = c.flush.new.self }))
+    (moved_nowhere (returns-in-Ok-clause-moves g c) given all stands).0.so
     (ap (λ (m : MachineState). m.error) c.flush.ensures.kept ∙ unfailed)
     (c.in-Ok.ensures.flushed.all unfailed).1
-
-pub returns-in-Ok-clause-grows : goal.returns-in-Ok-clause-grows
-returns-in-Ok-clause-grows g c =
-    subst (λ (s : State). Grows s.page c.flush.new.self.page) c.emitter.view_is (flushed_grows c.flush.ensures.flushed)
 
 pub returns-in-Ok-clause-empty : goal.returns-in-Ok-clause-empty
 returns-in-Ok-clause-empty g c given all stands none bytes =
@@ -60,28 +72,35 @@ returns-in-Ok-clause-empty g c given all stands none bytes =
     (c.flush.ensures.empty (stands_unfailed given all (state_of c.emitter.inside) h.so unfailed) bytes_inside)
     ∙ c.emitter.view_is
 
-pub returns-in-Err-clause-stands : goal.returns-in-Err-clause-stands
-returns-in-Err-clause-stands g c given all stands =
-    let h = subst (λ s. StandsAfter given all s) (sym c.emitter.view_is) stands in
+pub returns-in-Err-clause-moves : goal.returns-in-Err-clause-moves
+returns-in-Err-clause-moves g c =
     record {
-      texts = h.texts;
-      so =
-          subst (λ (l : List Event). MachineStands given all c.flush.new.self.error l c.flush.new.self) (sym (ap seen_events c.clear.ensures.items))
-          (flush_failed given all (seen_events c.emitter.inside.queue.items) c.emitter.inside.machine c.flush.new.self c.in-Err.error h.so
-          (sym c.error.ensures ∙ c.in_default.is) c.flush.ensures.kept c.in-Err.ensures.flushed);
+      stands = λ given all stands.
+          let h = subst (λ s. StandsAfter given all s) (sym c.emitter.view_is) stands in
+          subst
+          (λ (l : List Event). StandsAfter given l (state_of (record c.emitter.inside { queue = c.clear.new.self; machine = c.flush.new.self })))
+          (sym (append-nil all))
+          (record {
+            texts = h.texts;
+            so =
+                subst (λ (l : List Event). MachineStands given all c.flush.new.self.error l c.flush.new.self) (sym (ap seen_events c.clear.ensures.items))
+                (flush_failed given all (seen_events c.emitter.inside.queue.items) c.emitter.inside.machine c.flush.new.self c.in-Err.error h.so
+                (sym c.error.ensures ∙ c.in_default.is) c.flush.ensures.kept c.in-Err.ensures.flushed);
+          });
+      grows = subst (λ (s : State). Grows s.page c.flush.new.self.page) c.emitter.view_is (flushed_grows c.flush.ensures.flushed);
+      set =
+          subst (λ (s : State). KeepsSet (record s { started = s.started }) (state_of (record c.emitter.inside { queue = c.clear.new.self; machine = c.flush.new.self })))
+          c.emitter.view_is
+          (record {
+            given = ap (λ (m : MachineState). m.given) c.flush.ensures.kept;
+            started = refl;
+            has_output = refl;
+            opened = refl;
+            closed = refl;
+            taken = ap (λ (p : Page). p.taken) c.flush.ensures.flushed.kept;
+          });
+      answered = c.in-Err.ensures.flushed.answered ∙ ap result_of_error (sym (ap (λ (m : MachineState). m.error) c.flush.ensures.kept));
     }
-
-pub returns-in-Err-clause-promised : goal.returns-in-Err-clause-promised
-returns-in-Err-clause-promised g c given all stands = promised given all _ (returns-in-Err-clause-stands g c given all stands)
-
-pub returns-in-Err-clause-fits : goal.returns-in-Err-clause-fits
-returns-in-Err-clause-fits g c given all stands fits =
-    memory_only c.flush.new.self.error given all (returns-in-Err-clause-promised g c given all stands).fits fits (Err c.in-Err.error)
-    (c.in-Err.ensures.flushed.answered ∙ ap result_of_error (sym (ap (λ (m : MachineState). m.error) c.flush.ensures.kept)))
-
-pub returns-in-Err-clause-grows : goal.returns-in-Err-clause-grows
-returns-in-Err-clause-grows g c =
-    subst (λ (s : State). Grows s.page c.flush.new.self.page) c.emitter.view_is (flushed_grows c.flush.ensures.flushed)
 
 pub returns-in-Err-clause-unflushed : goal.returns-in-Err-clause-unflushed
 returns-in-Err-clause-unflushed g c memory =
@@ -99,9 +118,3 @@ returns-in-Err-clause-empty g c given all stands none bytes =
     let failed = some_from_result c.flush.new.self.page.error c.in-Err.error c.in-Err.ensures.flushed.answered in
     let wrong : Some c.in-Err.error ≡ None = sym failed ∙ ap (λ (m : MachineState). m.page.error) unchanged ∙ page_unfailed in
     cc
-
-pub returns-in-Ok-clause-answered : goal.returns-in-Ok-clause-answered
-returns-in-Ok-clause-answered g c = c.in-Ok.ensures.flushed.answered ∙ ap result_of_error (sym (ap (λ (m : MachineState). m.error) c.flush.ensures.kept))
-
-pub returns-in-Err-clause-answered : goal.returns-in-Err-clause-answered
-returns-in-Err-clause-answered g c = c.in-Err.ensures.flushed.answered ∙ ap result_of_error (sym (ap (λ (m : MachineState). m.error) c.flush.ensures.kept))

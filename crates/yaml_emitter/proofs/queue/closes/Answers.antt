@@ -1,47 +1,72 @@
-use Rattle.yaml_emitter.proofs.Common.{◌+◌, drop, ◌||◌, ne_eqb, ap, sym, ◌∙◌, arith, common_steps, seen_event, seen_events}
-use Rattle.std.proofs.{Common.eq-eqb, lemmas.List.drop_all}
-use Rattle.yaml_emitter.proofs.standing.WrittenPrefixes.{one_if, closes_after, closes_after-none, closes_after-next, one_if-le-one}
+use Rattle.yaml_emitter.proofs.Common.{ℕ, ◌+◌, drop, true, Option, List, [], map, ◌++◌, ◌∷◌, refl, ◌≡◌, ap, sym, subst, ◌∙◌, arith, option_map, Event, seen_event}
+use Rattle.yaml_emitter.proofs.Common.{seen_events, is_balanced, nonempty_prefixes, list_any}
+use Rattle.std.proofs.{lemmas.List.drop_all}
+use Rattle.std.specs.Prelude.{◌≤◌, ◌==◌, ◌&&◌, length, unwrap_or}
+use Rattle.yaml_base.specs.Ready.{is_end, is_start}
+use Rattle.yaml_emitter.specs.Queue.{StandsLast, seen_next}
+use Rattle.yaml_emitter.proofs.standing.WrittenPrefixes.{behind_few, closed_by, closed_from, closed_last, closed_start}
 use Rattle.yaml_emitter.proofs.queue.closes.Goals as goal
 
-pub returns-then-starts-ended : goal.returns-then-starts-ended
-returns-then-starts-ended g c =
-    let starts = c.loop-event.starts + c.one_if-starts.result in
-    let ends = c.loop-event.ended + c.one_if-ended.result in
-    sym
-    (closes_after-none (seen_events c.args.events.now)
-    ∙ sym c.loop-event.invariant.what_is_left
-    ∙ closes_after-next seen_event c.args.events.now c.loop-event.event-index c.event-item.result c.loop-event-test.true c.event-item.is
-    c.loop-event.starts c.loop-event.ended c.one_if-starts.result c.one_if-ended.result
-    (c.one_if-starts.ensures ∙ ap one_if c.begins.ensures) (c.one_if-ended.ensures ∙ ap one_if c.ends.ensures)
-    ∙ ap (λ b. b || closes_after starts ends (seen_events (drop (c.loop-event.event-index + 1) c.args.events.now))) (eq-eqb starts ends c.if-starts-ended.true))
+pub loop-event-init : goal.loop-event-init
+loop-event-init g c = record { in_range = omega arith; what_is_left = λ tail. refl }
 
 pub loop-event-preserved : goal.loop-event-preserved
 loop-event-preserved g c =
-    let starts = c.loop-event.starts + c.one_if-starts.result in
-    let ends = c.loop-event.ended + c.one_if-ended.result in
+    let rest = c.args.rest.now in
+    let i = c.loop-event.event-index in
+    let behind = c.open_behind.ensures in
     record {
-      starts_in_range = omega (arith, c.one_if-starts.ensures, one_if-le-one c.begins.result);
-      ends_in_range = omega (arith, c.one_if-ended.ensures, one_if-le-one c.ends.result);
-      what_is_left =
+      in_range =
+          omega (arith, c.loop-event.invariant.in_range, behind_few c.loop-event.depth (seen_event c.event-item.result) _ (sym behind ∙ c.in-Some.is));
+      what_is_left = λ tail.
           sym
-          (closes_after-next seen_event c.args.events.now c.loop-event.event-index c.event-item.result c.loop-event-test.true c.event-item.is
-          c.loop-event.starts c.loop-event.ended c.one_if-starts.result c.one_if-ended.result
-          (c.one_if-starts.ensures ∙ ap one_if c.begins.ensures) (c.one_if-ended.ensures ∙ ap one_if c.ends.ensures)
-          ∙ ap (λ b. b || closes_after starts ends (seen_events (drop (c.loop-event.event-index + 1) c.args.events.now)))
-          (ne_eqb starts ends c.if-starts-ended.false))
-          ∙ c.loop-event.invariant.what_is_left;
+          (closed_from seen_event rest i c.event-item.result c.loop-event-test.true c.event-item.is c.loop-event.depth tail
+          ∙ ap (λ (o : Option ℕ). unwrap_or (option_map (λ more. closed_by more (seen_events (drop (i + 1) rest) ++ tail)) o) true) (sym behind ∙ c.in-Some.is))
+          ∙ c.loop-event.invariant.what_is_left tail;
     }
 
-pub returns : goal.returns
-returns g c =
+pub returns-in-None : goal.returns-in-None
+returns-in-None g c = λ first last starts stands.
+    let rest = c.args.rest.now in
+    let i = c.loop-event.event-index in
+    let tail = last ∷ [] in
     sym
-    (closes_after-none (seen_events c.args.events.now)
-    ∙ sym c.loop-event.invariant.what_is_left
-    ∙ ap (λ events. closes_after c.loop-event.starts c.loop-event.ended (seen_events events))
-    (drop_all c.loop-event.event-index c.args.events.now c.loop-event-test.false))
+    (closed_start first (seen_events rest ++ tail) starts ∙ sym (c.loop-event.invariant.what_is_left tail)
+    ∙ closed_from seen_event rest i c.event-item.result c.loop-event-test.true c.event-item.is c.loop-event.depth tail
+    ∙ ap (λ (o : Option ℕ). unwrap_or (option_map (λ more. closed_by more (seen_events (drop (i + 1) rest) ++ tail)) o) true)
+    (sym c.open_behind.ensures ∙ c.in-None.is))
 
-pub overflow_add-starts : goal.overflow_add-starts
-overflow_add-starts g c = grind (arith, common_steps) steps 2000000
+-- behind all of them, the last event tells
+closed_behind : {E : Type 0} (seen : E → Event) (rest : List E) (depth i : ℕ) (first last : Event) → is_start first ≡ true → length rest ≤ i
+    → closed_by depth (map seen (drop i rest) ++ last ∷ []) ≡ closed_by 0 (map seen rest ++ last ∷ [])
+    → list_any is_balanced (nonempty_prefixes (first ∷ (map seen rest ++ last ∷ []))) ≡ (is_end last && depth == 0)
+closed_behind seen rest depth i first last starts end left =
+    closed_start first (map seen rest ++ last ∷ []) starts ∙ sym left
+    ∙ ap (λ l. closed_by depth (map seen l ++ last ∷ [])) (drop_all i rest end)
+    ∙ closed_last depth last
 
-pub overflow_add-ended : goal.overflow_add-ended
-overflow_add-ended g c = grind (arith, common_steps) steps 2000000
+pub returns-in-None-next : goal.returns-in-None-next
+returns-in-None-next g c = λ first last starts stands.
+    sym
+    (closed_behind seen_event c.args.rest.now c.loop-event.depth c.loop-event.event-index first last starts c.loop-event-test.false
+    (c.loop-event.invariant.what_is_left (last ∷ []))
+    ∙ ap (λ e. is_end e && c.loop-event.depth == 0) (subst (λ next. StandsLast (seen_next next) last) c.in-None-next.is stands).1)
+
+pub returns-then-ends : goal.returns-then-ends
+returns-then-ends g c = λ first last starts stands.
+    let is = subst (λ next. StandsLast (seen_next next) last) c.in-Some-next.is stands in
+    sym
+    (closed_behind seen_event c.args.rest.now c.loop-event.depth c.loop-event.event-index first last starts c.loop-event-test.false
+    (c.loop-event.invariant.what_is_left (last ∷ []))
+    ∙ ap (λ e. is_end e && c.loop-event.depth == 0) is
+    ∙ ap (λ b. b && c.loop-event.depth == 0) (sym c.ends.ensures ∙ c.if-ends.true))
+
+pub returns-else-ends : goal.returns-else-ends
+returns-else-ends g c = λ first last starts stands.
+    let is = subst (λ next. StandsLast (seen_next next) last) c.in-Some-next.is stands in
+    c.if-ends.false
+    ∙ sym
+    (closed_behind seen_event c.args.rest.now c.loop-event.depth c.loop-event.event-index first last starts c.loop-event-test.false
+    (c.loop-event.invariant.what_is_left (last ∷ []))
+    ∙ ap (λ e. is_end e && c.loop-event.depth == 0) is
+    ∙ ap (λ b. b && c.loop-event.depth == 0) (sym c.ends.ensures ∙ c.if-ends.false))

@@ -1,4 +1,5 @@
-use Rattle.yaml_emitter.proofs.Common.{true, ap, ◌∙◌, state_of, State, MachineState}
+use Rattle.yaml_emitter.proofs.Common.{arith, common_steps, rules}
+use Rattle.yaml_emitter.proofs.Common.{ap, ◌∙◌, State}
 use Rattle.yaml_emitter.proofs.standing.{EmitterKept.kept_limited, StandingSet.stands_limited}
 use Rattle.yaml_emitter.proofs.setters.yaml_emitter_set_output_string.Goals as goal
 
@@ -9,13 +10,7 @@ pub invariant_of-emitter : goal.invariant_of-emitter
 invariant_of-emitter g c = kept_limited c.emitter.inside c.set_limit.new.self c.emitter.invariant
 
 pub returns-clause-set : goal.returns-clause-set
-returns-clause-set g c =
-    ap (λ (m : MachineState). state_of (record c.emitter.inside { has_output = true; machine = m })) c.set_limit.ensures
-    ∙ ap (λ (s : State). let made : State = record s {
-      has_output = true;
-      given = record s.given { limit = c.args.size };
-      page = record s.page { limit = c.args.size };
-    } in made) c.emitter.view_is
+returns-clause-set g c = first_of (search rules, grind (arith, common_steps))
 
 pub returns-clause-stands : goal.returns-clause-stands
 returns-clause-stands g c stands = stands_limited c.args.emitter.now _ c.args.size (returns-clause-set g c) stands

@@ -1,14 +1,18 @@
-use Rattle.yaml_json.proofs.Common.{IfSome, Option, subst, sym, failure_of, FailedInTexts}
-use Rattle.std.proofs.Common.{rules}
-use Rattle.yaml_base.specs.declared.errors.yaml_error_t.{yaml_error_t}
-use Rattle.yaml_json.proofs.{Refusing.why_returned, Stopping.if_some, WroteLemmas.bare_awaits_none}
+use Rattle.yaml_json.proofs.Common.{None, Some, between, sym}
+use Rattle.std.proofs.Common.{ℕ, List, ◌≡◌, ◌+◌, length, length-append, flat_map, rules, arith, ap, ◌∙◌}
+use Rattle.json.specs.Json.{Json}
+use Rattle.yaml_json.{proofs.TextStops.placed_after, proofs.TextStops.text_stopped, proofs.WroteLemmas.bare_awaits_none, specs.Failing.writers_error}
+use Rattle.yaml_json.proofs.Growing.{grew_itself, grew_then, grew_kept, grew_said, grew_passed, grew_failing}
 use Rattle.yaml_json.proofs.TextsInTurn.{texts_begin, texts_go_on, next_failed, texts_done, texts_names, texts_read, no_more, is_more, some_more}
-use Rattle.yaml_json.proofs.TextsInTurn.{text_refused, texts_failed}
+use Rattle.yaml_json.proofs.TextsInTurn.{texts_stopped}
 use Rattle.yaml_json.proofs.several.write_json_texts.Goals as goal
 
 pub texts-init : goal.texts-init
-texts-init g c =
-    (search rules, texts_begin c.args.settings.depth c.args.settings.flow c.args.settings.unique_names c.args.text.now c.args.writer.now c.requires)
+texts-init g c = (
+  search rules,
+  texts_begin c.args.settings.depth c.args.settings.flow c.args.settings.unique_names c.args.text.now c.args.writer.now c.requires,
+  grew_itself c.args.writer.now,
+)
 
 pub write_text_by-requires : goal.write_text_by-requires
 write_text_by-requires g c = c.texts.invariant.1.wrote.bare
@@ -40,36 +44,68 @@ texts-preserved g c = (
       c.next_document.result
       c.next_document.new.self (is_more c.first_cut.result.1.now c.is_empty.result c.is_empty.ensures c.if-is_empty.false)
       (c.next_document.ensures.passed (bare_awaits_none c.write_text_by.new.writer c.in_default.ensures.written.wrote.bare)),
+  grew_then c.args.writer.now c.texts.writer c.next_document.new.self None c.texts.invariant.2
+      (grew_then c.texts.writer c.write_text_by.new.writer c.next_document.new.self None
+      (grew_kept c.texts.writer c.write_text_by.new.writer c.in_default.ensures.kept)
+      (grew_passed c.write_text_by.new.writer c.next_document.new.self between
+      (c.in_default-next_document.ensures.passed (bare_awaits_none c.write_text_by.new.writer c.in_default.ensures.written.wrote.bare)))),
 )
 
-pub returns-in-Err-clause-failed : goal.returns-in-Err-clause-failed
-returns-in-Err-clause-failed g c =
-    subst
-    (λ (found : Option yaml_error_t). IfSome found (λ code.
-    FailedInTexts c.args.settings.depth c.args.settings.flow c.args.text.now c.args.writer.now code c.write_text_by.new.writer))
-    (sym c.error_of.ensures.by_writer)
-    (if_some (failure_of c.write_text_by.new.writer c.in-Err.stop)
-    (texts_failed c.args.settings.depth c.args.settings.flow c.args.settings.unique_names c.args.text.now c.args.writer.now c.texts.rest.now
-    c.first_cut.result.0.now c.first_cut.result.1.now
-    c.texts.writer c.write_text_by.new.writer c.first_cut.ensures c.texts.invariant.1)
-    c.in-Err.ensures.stopped)
+pub returns-in-Err : goal.returns-in-Err
+returns-in-Err g c =
+    let s = c.args.settings in
+    let first = c.first_cut.result.0.now in
+    let now = c.write_text_by.new.writer in
+    let error = c.error_of.result in
+    let failed = c.in-Err.ensures in
+    let grew = grew_then c.args.writer.now c.texts.writer now (writers_error error) c.texts.invariant.2
+    (grew_said c.texts.writer now c.in-Err.stop (writers_error error) c.error_of.ensures.by_writer failed.kept_after) in
+    let so_far = c.texts.invariant.1 in
+    let before = flat_map (λ (part : List ℕ × Json). part.0) so_far.parts in
+    let joined : length before + length c.texts.rest.now ≡ length c.args.text.now =
+    sym (length-append before c.texts.rest.now) ∙ ap length so_far.joined in
+    let cut : length first + length c.first_cut.result.1.now ≡ length c.texts.rest.now =
+    sym (length-append first c.first_cut.result.1.now) ∙ ap length c.first_cut.ensures.0 in
+    record {
+      grows = grew.grows;
+      sound = grew.sound;
+      written = tt;
+      reads = tt;
+      names = tt;
+      stopped = texts_stopped s.depth s.flow s.unique_names c.args.text.now c.args.writer.now c.texts.rest.now first c.first_cut.result.1.now
+          c.texts.writer now c.first_cut.ensures c.texts.invariant.1 error
+          (text_stopped s.depth s.unique_names s.flow first c.texts.writer now c.in-Err.stop error c.error_of.ensures.says failed.refused failed.stopped)
+          (placed_after s.depth c.args.text.now first before c.in-Err.at c.saturating_add.result c.in-Err.stop error c.error_of.ensures.says failed.place
+          c.error_of.ensures.place (λ within. grind (arith, joined, cut)));
+    }
 
-pub returns-in-Err-next_document-clause-failed : goal.returns-in-Err-next_document-clause-failed
-returns-in-Err-next_document-clause-failed g c =
-    next_failed c.args.settings.depth c.args.settings.flow c.args.settings.unique_names c.args.text.now c.args.writer.now c.texts.rest.now
-    c.first_cut.result.0.now c.first_cut.result.1.now
-    c.texts.writer c.write_text_by.new.writer c.first_cut.ensures c.texts.invariant.1 c.in_default.ensures.names c.in_default.ensures.written
-    c.next_document.new.self
-    c.in-Err-next_document.error
-    (c.in-Err-next_document.ensures.passed (bare_awaits_none c.write_text_by.new.writer c.in_default.ensures.written.wrote.bare))
+pub returns-in-Err-next_document : goal.returns-in-Err-next_document
+returns-in-Err-next_document g c =
+    let s = c.args.settings in
+    let now = c.write_text_by.new.writer in
+    let error = c.in-Err-next_document.error in
+    let passed = c.in-Err-next_document.ensures.passed (bare_awaits_none now c.in_default.ensures.written.wrote.bare) in
+    let grew = grew_then c.args.writer.now c.texts.writer c.next_document.new.self (Some error) c.texts.invariant.2
+    (grew_then c.texts.writer now c.next_document.new.self (Some error) (grew_kept c.texts.writer now c.in_default.ensures.kept)
+    (grew_failing now c.next_document.new.self between error passed)) in
+    record {
+      grows = grew.grows;
+      sound = grew.sound;
+      written = tt;
+      reads = tt;
+      names = tt;
+      stopped = next_failed s.depth s.flow s.unique_names c.args.text.now c.args.writer.now c.texts.rest.now c.first_cut.result.0.now
+          c.first_cut.result.1.now c.texts.writer now c.first_cut.ensures c.texts.invariant.1 c.in_default.ensures.names c.in_default.ensures.written
+          c.next_document.new.self error (is_more c.first_cut.result.1.now c.is_empty.result c.is_empty.ensures c.if-is_empty.false) passed;
+    }
 
-pub returns-in-Err-clause-refused : goal.returns-in-Err-clause-refused
-returns-in-Err-clause-refused g c is =
-    text_refused c.args.settings.depth c.args.settings.flow c.args.settings.unique_names c.args.text.now c.args.writer.now c.texts.rest.now
-    c.first_cut.result.0.now
-    c.first_cut.result.1.now c.texts.writer c.first_cut.ensures c.texts.invariant.1 c.error_of.result
-    (why_returned c.args.settings.depth c.args.settings.unique_names c.first_cut.result.0.now c.in-Err.stop c.error_of.result c.error_of.ensures.says
-    c.in-Err.ensures.refused)
+pub returns-then-is_empty-clause-grows : goal.returns-then-is_empty-clause-grows
+returns-then-is_empty-clause-grows g c =
+    (grew_then c.args.writer.now c.texts.writer c.write_text_by.new.writer None c.texts.invariant.2
+    (grew_kept c.texts.writer c.write_text_by.new.writer c.in_default.ensures.kept)).grows
+
+pub returns-then-is_empty-clause-sound : goal.returns-then-is_empty-clause-sound
+returns-then-is_empty-clause-sound g c = c.in_default.ensures.kept.sound
 
 pub returns-then-is_empty-clause-names : goal.returns-then-is_empty-clause-names
 returns-then-is_empty-clause-names g c =
@@ -78,26 +114,5 @@ returns-then-is_empty-clause-names g c =
     c.in_default.ensures.names c.in_default.ensures.written
     (no_more c.first_cut.result.1.now c.is_empty.result c.is_empty.ensures c.if-is_empty.true)
 
-pub returns-in-Err-clause-written : goal.returns-in-Err-clause-written
-returns-in-Err-clause-written g c = tt
-
-pub returns-in-Err-clause-reads : goal.returns-in-Err-clause-reads
-returns-in-Err-clause-reads g c = tt
-
-pub returns-in-Err-clause-names : goal.returns-in-Err-clause-names
-returns-in-Err-clause-names g c = tt
-
-pub returns-then-is_empty-clause-refused : goal.returns-then-is_empty-clause-refused
-returns-then-is_empty-clause-refused g c = tt
-
-pub returns-then-is_empty-clause-failed : goal.returns-then-is_empty-clause-failed
-returns-then-is_empty-clause-failed g c = tt
-
-pub returns-in-Err-next_document-clause-written : goal.returns-in-Err-next_document-clause-written
-returns-in-Err-next_document-clause-written g c = tt
-
-pub returns-in-Err-next_document-clause-reads : goal.returns-in-Err-next_document-clause-reads
-returns-in-Err-next_document-clause-reads g c = tt
-
-pub returns-in-Err-next_document-clause-names : goal.returns-in-Err-next_document-clause-names
-returns-in-Err-next_document-clause-names g c = tt
+pub returns-then-is_empty-clause-stopped : goal.returns-then-is_empty-clause-stopped
+returns-then-is_empty-clause-stopped g c = tt

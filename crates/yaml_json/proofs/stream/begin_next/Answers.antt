@@ -1,15 +1,44 @@
-use Rattle.yaml_json.proofs.{GivenAndTaken.begun_taken, GivenAndTaken.begun_unsent, WroteLemmas.bare_awaits_none}
+use Rattle.yaml_json.proofs.Common.{None, WriterState, between, refl, subst, sym}
+use Rattle.yaml_json.proofs.{GivenAndTaken.begun_taken, GivenAndTaken.begun_unsent, GivenAndTaken.begun_not, WroteLemmas.bare_awaits_none}
+use Rattle.yaml_json.proofs.Growing.{grew_then, grew_passed, grew_failing, grew_sent}
+use Rattle.yaml_json.specs.{Failing.Grew, Sent.BeginsUnsent}
 use Rattle.yaml_pen.specs.Page.{output_left}
 use Rattle.yaml_json.proofs.stream.begin_next.Goals as goal
 
-pub returns-in-Ok-clause-begun : goal.returns-in-Ok-clause-begun
-returns-in-Ok-clause-begun g c =
-    let middle = c.next_document.new.self in
-    begun_taken c.args.writer.now middle c.send.new.self c.next_document.result (output_left middle.emitter.page)
-    (g.W.Write.contents c.args.sink.now) (g.W.Write.contents c.send.new.sink) c.requires
-    (c.next_document.ensures.passed (bare_awaits_none c.args.writer.now c.requires)) c.in-Ok.ensures.takes c.in-Ok.ensures.kept c.in-Ok.ensures.sent
+pub returns-in-Err : goal.returns-in-Err
+returns-in-Err g c =
+    let before = c.args.writer.now in
+    let passed = c.in-Err.ensures.passed (bare_awaits_none before c.requires) in
+    record {
+      begun = tt;
+      failed = (begun_not before c.next_document.new.self c.in-Err.error passed, refl);
+      grew = tt;
+      grew_to = grew_failing before c.next_document.new.self between c.in-Err.error passed;
+    }
 
-pub returns-in-Err-send-clause-unsent : goal.returns-in-Err-send-clause-unsent
-returns-in-Err-send-clause-unsent g c =
-    begun_unsent c.args.writer.now c.next_document.new.self c.next_document.result (g.W.Write.contents c.args.sink.now) (g.W.Write.contents c.send.new.sink)
-    (c.next_document.ensures.passed (bare_awaits_none c.args.writer.now c.requires)) c.in-Err-send.ensures.first
+pub returns-in-Ok : goal.returns-in-Ok
+returns-in-Ok g c =
+    let before = c.args.writer.now in
+    let middle = c.next_document.new.self in
+    let passed = c.in_default.ensures.passed (bare_awaits_none before c.requires) in
+    record {
+      begun = begun_taken before middle c.send.new.self (output_left middle.emitter.page) (g.W.Write.contents c.args.sink.now)
+          (g.W.Write.contents c.send.new.sink) c.requires passed c.in-Ok.ensures.takes c.in-Ok.ensures.kept c.in-Ok.ensures.sent;
+      failed = tt;
+      grew = grew_then before middle c.send.new.self None (grew_passed before middle between passed) (grew_sent middle c.send.new.self c.in-Ok.ensures.kept);
+      grew_to = tt;
+    }
+
+pub returns-in-Err-send : goal.returns-in-Err-send
+returns-in-Err-send g c =
+    let before = c.args.writer.now in
+    let middle = c.next_document.new.self in
+    let passed = c.in_default.ensures.passed (bare_awaits_none before c.requires) in
+    let left = c.in-Err-send.ensures.left in
+    record {
+      begun = tt;
+      failed = subst (λ (w : WriterState). BeginsUnsent before (g.W.Write.contents c.args.sink.now) w (g.W.Write.contents c.send.new.sink)) (sym left)
+          (begun_unsent before middle (g.W.Write.contents c.args.sink.now) (g.W.Write.contents c.send.new.sink) passed c.in-Err-send.ensures.first);
+      grew = tt;
+      grew_to = subst (λ (w : WriterState). Grew before None w) (sym left) (grew_passed before middle between passed);
+    }

@@ -1,7 +1,9 @@
-use Rattle.std.proofs.Common.{◌≡◌, ℕ, ◌+◌, ◌-◌, ◌≤◌, List, drop, length, take, take_all, length-drop, ap, ◌∙◌, arith}
+use Rattle.std.proofs.Common.{◌≡◌, ℕ, ◌+◌, ◌-◌, ◌≤◌, ◌++◌, List, refl, subst, drop, length, take, take_all, length-drop, ap, ◌∙◌, arith}
 use Rattle.std.proofs.lemmas.List.Edits.{take-paste}
 use Rattle.std.specs.List.{copy_within}
 use lib.Seq.{paste}
+use Rattle.yaml_json.proofs.PlacesAfter.{moves_nothing, moves_on}
+use Rattle.yaml_json.specs.Places.{IsPlaceAfter}
 use Rattle.yaml_json.proofs.stream.keep_last.Goals as goal
 
 -- the last bytes, where they are moved to the front
@@ -22,3 +24,22 @@ returns-clause-kept g c =
     moved_last held.items c.copy_within.new.self.items c.truncate.new.self.items (c.len.result - c.args.count) held.len c.args.count whole c.requires first
     c.copy_within.ensures.items c.truncate.ensures.items
     ∙ ap (λ n. drop n held.items) first
+
+pub returns-clause-place : goal.returns-clause-place
+returns-clause-place g c =
+    let held = c.args.incoming.now.held in
+    let start = c.len.result - c.args.count in
+    let whole : held.len ≡ length held.items = omega (arith, c.deref.ensures.len, ap length c.deref.ensures.value) in
+    let first : c.len.result - c.args.count ≡ length held.items - c.args.count = omega (arith, whole, c.len.ensures) in
+    moves_on held.items c.truncate.new.self.items (take start held.items) start c.args.incoming.now.reading.place c.after-incoming.result
+    (moved_last held.items c.copy_within.new.self.items c.truncate.new.self.items start held.len c.args.count whole c.requires first
+    c.copy_within.ensures.items c.truncate.ensures.items)
+    refl
+    (λ front follows. subst (λ (t : List ℕ). IsPlaceAfter (front ++ take start t) c.after-incoming.result) c.deref.ensures.value
+    (c.after-incoming.ensures front follows))
+
+pub returns-then-start-eq0-clause-place : goal.returns-then-start-eq0-clause-place
+returns-then-start-eq0-clause-place g c =
+    let held = c.args.incoming.now.held.items in
+    let place = c.args.incoming.now.reading.place in
+    moves_nothing held held place place refl refl

@@ -1,22 +1,65 @@
+use Rattle.yaml_json.proofs.Common.{List, ℕ, [], refl, subst, sym, tokens}
+use Rattle.yaml_json.proofs.{Growing.grew_itself, Growing.grew_said, GivenAndTaken.part_stopped, TextStops.placed_as, TextStops.placed_first, TextStops.placed_no_text, TextStops.text_stopped, WroteLemmas.wrote_nothing}
+use Rattle.std.specs.Prelude.{IsUtf8}
+use Rattle.std.specs.Str.{IsValidUpTo}
+use Rattle.yaml_json.specs.{Failing.writers_error, Sent.StopsInPart}
+use Rattle.yaml_json.specs.declared.error.StreamError.TheVariants as faults
 use Rattle.yaml_json.proofs.stream.write_bytes.Goals as goal
 
-pub returns-in-Err-clause-ready : goal.returns-in-Err-clause-ready
-returns-in-Err-clause-ready g c = tt
+pub returns-in-Err : goal.returns-in-Err
+returns-in-Err g c =
+    let writer = c.args.writer.now in
+    record {
+      ready = tt;
+      names = tt;
+      utf8 = tt;
+      written = tt;
+      kept = tt;
+      stopped = record {
+        taken = [];
+        left = tokens c.args.bytes.now;
+        split = refl;
+        why = (refl, c.in-Err.ensures.cases.0);
+        place = placed_no_text c.args.settings.now.depth c.args.bytes.now c.valid_up_to.result c.place_of-line.result.0 c.place_of-line.result.1
+            (c.place_of-line.ensures.line, c.place_of-line.ensures.column)
+            (subst (IsValidUpTo c.args.bytes.now) (sym c.valid_up_to.ensures) c.in-Err.ensures.cases.1);
+        adds = (wrote_nothing writer c.requires.bare).adds;
+      };
+      grew = grew_itself writer;
+    }
 
-pub returns-in-Err-clause-names : goal.returns-in-Err-clause-names
-returns-in-Err-clause-names g c = tt
+pub returns-in-Ok-write_text_in-clause-utf8 : goal.returns-in-Ok-write_text_in-clause-utf8
+returns-in-Ok-write_text_in-clause-utf8 g c = c.in-Ok.ensures.cases.1
 
-pub returns-in-Err-clause-written : goal.returns-in-Err-clause-written
-returns-in-Err-clause-written g c = tt
+pub returns-in-Ok-write_text_in-clause-kept : goal.returns-in-Ok-write_text_in-clause-kept
+returns-in-Ok-write_text_in-clause-kept g c = c.in-Ok-write_text_in.ensures.kept
 
-pub returns-in-Ok-write_text_in-clause-refused : goal.returns-in-Ok-write_text_in-clause-refused
-returns-in-Ok-write_text_in-clause-refused g c = tt
+pub returns-in-Ok-write_text_in-clause-stopped : goal.returns-in-Ok-write_text_in-clause-stopped
+returns-in-Ok-write_text_in-clause-stopped g c = tt
 
-pub returns-in-Err-write_text_in-clause-ready : goal.returns-in-Err-write_text_in-clause-ready
-returns-in-Err-write_text_in-clause-ready g c = tt
+pub returns-in-Ok-write_text_in-clause-grew : goal.returns-in-Ok-write_text_in-clause-grew
+returns-in-Ok-write_text_in-clause-grew g c = tt
 
-pub returns-in-Err-write_text_in-clause-names : goal.returns-in-Err-write_text_in-clause-names
-returns-in-Err-write_text_in-clause-names g c = tt
-
-pub returns-in-Err-write_text_in-clause-written : goal.returns-in-Err-write_text_in-clause-written
-returns-in-Err-write_text_in-clause-written g c = tt
+pub returns-in-Err-write_text_in : goal.returns-in-Err-write_text_in
+returns-in-Err-write_text_in g c =
+    let s = c.args.settings.now in
+    let was = c.args.writer.now in
+    let now = c.write_text_in.new.writer in
+    let error = c.error_of.result in
+    let failed = c.in-Err-write_text_in.ensures in
+    record {
+      ready = tt;
+      names = tt;
+      utf8 = tt;
+      written = tt;
+      kept = tt;
+      stopped = subst (λ (t : List ℕ). StopsInPart s.depth s.unique_names s.flow [] t was (faults.Refused error) now) c.in-Ok.ensures.cases.0
+          (part_stopped s.depth s.unique_names s.flow c.in-Ok.text.now was error now
+          (subst IsUtf8 (sym c.in-Ok.ensures.cases.0) c.in-Ok.ensures.cases.1)
+          (text_stopped s.depth s.unique_names s.flow c.in-Ok.text.now was now c.in-Err-write_text_in.stop error c.error_of.ensures.says failed.refused
+          failed.stopped)
+          (placed_first s.depth c.in-Ok.text.now c.in-Err-write_text_in.at error c.error_of.ensures.place
+          (placed_as s.depth c.in-Ok.text.now c.in-Ok.text.now c.in-Err-write_text_in.at c.in-Err-write_text_in.stop error c.error_of.ensures.says
+          failed.place)));
+      grew = grew_said was now c.in-Err-write_text_in.stop (writers_error error) c.error_of.ensures.by_writer failed.kept_after;
+    }

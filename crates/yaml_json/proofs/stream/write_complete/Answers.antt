@@ -1,5 +1,7 @@
 use Rattle.yaml_json.proofs.Common.{ℕ, ◌-◌, drop, length, List, refl, subst, sym, HasScanned, StopsWithin}
 use Rattle.yaml_json.proofs.Sending.{left_scanned, left_within, advances_left}
+use Rattle.yaml_json.specs.Places.{MovesPlace}
+use Rattle.yaml_json.specs.declared.places.Place.{Place}
 use Rattle.yaml_json.proofs.stream.write_complete.Goals as goal
 
 pub write_texts-requires : goal.write_texts-requires
@@ -28,8 +30,14 @@ returns-in-Ok-clause-gives g c =
     (drop (length slice - c.in-Ok.count) slice) c.write_texts.new.writer (g.W.Write.contents c.write_texts.new.sink) c.in-Ok.ensures.gives
     a.incoming.now.held.items c.keep_last.new.incoming.held.items c.in-Ok.count refl c.as_slice-held.ensures.value c.keep_last.ensures.kept
 
+pub returns-in-Ok-clause-place : goal.returns-in-Ok-clause-place
+returns-in-Ok-clause-place g c =
+    let held = c.args.incoming.now.held.items in
+    subst (λ (place : Place). MovesPlace held c.keep_last.new.incoming.held.items place c.keep_last.new.incoming.reading.place) c.in-Ok.ensures.place
+    c.keep_last.ensures.place
+
 pub returns-in-Err-clause-stops : goal.returns-in-Err-clause-stops
 returns-in-Err-clause-stops g c =
     let a = c.args in
-    subst (λ (t : List ℕ). StopsWithin a.settings.now.depth a.settings.now.flow a.settings.now.unique_names t a.writer.now
-    (g.W.Write.contents a.sink.now) c.in-Err.error (g.W.Write.contents c.write_texts.new.sink)) c.as_slice-held.ensures.value c.in-Err.ensures.stops
+    subst (λ (t : List ℕ). StopsWithin a.settings.now.depth a.settings.now.flow a.settings.now.unique_names t a.incoming.now.reading.place a.writer.now
+    (g.W.Write.contents a.sink.now) c.in-Err.error c.write_texts.new.writer (g.W.Write.contents c.write_texts.new.sink)) c.as_slice-held.ensures.value c.in-Err.ensures.stops

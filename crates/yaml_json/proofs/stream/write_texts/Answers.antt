@@ -1,6 +1,11 @@
-use Rattle.yaml_json.proofs.Common.{ℕ, ◌-◌, drop, length, true, List, [], refl, ◌≡◌, length-drop, ap, subst, sym, ◌∙◌, arith, tokens, NamesOnce, ExplainsPart}
-use Rattle.yaml_json.proofs.Common.{HasScanned, WroteText}
+use Rattle.yaml_json.proofs.Common.{ℕ, ◌-◌, Option, None, drop, length, take, true, List, [], refl, ◌≡◌, ◌++◌, length-drop, take-append-drop, ap, subst, sym, ◌∙◌, arith, tokens}
+use Rattle.yaml_json.proofs.Common.{NamesOnce, HasScanned, WroteText}
+use Rattle.std.specs.Prelude.{IsUtf8}
+use Rattle.yaml_base.specs.declared.errors.yaml_error_t.{yaml_error_t}
+use Rattle.yaml_json.{proofs.GivenAndTaken.part_placed, specs.Failing.Grew, specs.Sent.StopsInPart, specs.Sent.emitter_error}
+use Rattle.yaml_json.proofs.Growing.{grew_itself, grew_then, grew_kept}
 use Rattle.yaml_json.proofs.Sending.{whole_suffix, suffix_on, advances_none, advances_same, stops_at_first, advances_on, stops_next}
+use Rattle.yaml_json.specs.Places.{IsPlaceAfter}
 use Rattle.yaml_json.proofs.stream.write_texts.Goals as goal
 
 pub texts-init : goal.texts-init
@@ -14,6 +19,8 @@ texts-init g c =
       advances_none a.settings.now.depth a.settings.now.flow a.settings.now.unique_names a.held.now a.writer.now (g.W.Write.contents a.sink.now)
           a.held.now refl,
       c.new-room.ensures,
+      grew_itself a.writer.now,
+      refl,
     )
 
 pub texts-smaller : goal.texts-smaller
@@ -34,6 +41,7 @@ texts-preserved g c =
     let next = c.in_default-begin_next.ensures.begun in
     let named = subst (λ (t : List ℕ). a.settings.now.unique_names ≡ true → NamesOnce [] (tokens t)) c.split_at.ensures.front
     c.in_default-write_bytes.ensures.names in
+    let readable = subst IsUtf8 c.split_at.ensures.front c.in_default-write_bytes.ensures.utf8 in
     let wrote = subst (λ (t : List ℕ). WroteText a.settings.now.depth a.settings.now.flow t l.writer c.write_bytes.new.writer) c.split_at.ensures.front
     c.in_default-write_bytes.ensures.written in
     let suffix = suffix_on a.held.now l.rest.now c.split_at.result.1.now c.in-Some.end l.invariant.2 l.invariant.3 (omega (arith, within))
@@ -45,33 +53,72 @@ texts-preserved g c =
       advances_same a.settings.now.depth a.settings.now.flow a.settings.now.unique_names a.held.now a.writer.now (g.W.Write.contents a.sink.now)
           (drop c.in-Some.end l.rest.now) c.begin_next.new.writer (g.W.Write.contents c.begin_next.new.sink)
           (advances_on a.settings.now.depth a.settings.now.flow a.settings.now.unique_names a.held.now a.writer.now (g.W.Write.contents a.sink.now)
-          l.rest.now l.writer (g.W.Write.contents l.sink) l.invariant.4 c.in-Some.end cuts c.write_bytes.new.writer named wrote c.begin_next.new.writer
+          l.rest.now l.writer (g.W.Write.contents l.sink) l.invariant.4 c.in-Some.end cuts c.write_bytes.new.writer named readable wrote c.begin_next.new.writer
           (g.W.Write.contents c.begin_next.new.sink) next)
           c.split_at.result.1.now (sym c.split_at.ensures.back),
       c.in_default-write_bytes.ensures.ready,
+      grew_then a.writer.now l.writer c.begin_next.new.writer None l.invariant.6
+          (grew_then l.writer c.write_bytes.new.writer c.begin_next.new.writer None
+          (grew_kept l.writer c.write_bytes.new.writer c.in_default-write_bytes.ensures.kept) c.in_default-begin_next.ensures.grew),
+      l.invariant.7,
     )
 
-pub returns-in-Err-clause-stops : goal.returns-in-Err-clause-stops
-returns-in-Err-clause-stops g c =
-    let a = c.args in
-    let l = c.texts in
-    let why = subst (λ (t : List ℕ). ExplainsPart a.settings.now.depth a.settings.now.unique_names t c.placed.result) c.split_at.ensures.front
-    (c.placed.ensures.refused a.settings.now.depth a.settings.now.unique_names c.split_at.result.0.now c.in-Err.ensures.refused) in
-    stops_at_first a.settings.now.depth a.settings.now.flow a.settings.now.unique_names a.held.now a.writer.now (g.W.Write.contents a.sink.now)
-    l.rest.now l.writer (g.W.Write.contents l.sink) l.invariant.4 c.in-Some.end c.in-Some.ensures c.placed.result why
-
-pub returns-in-Err-begin_next-clause-stops : goal.returns-in-Err-begin_next-clause-stops
-returns-in-Err-begin_next-clause-stops g c =
+pub returns-in-Err : goal.returns-in-Err
+returns-in-Err g c =
     let a = c.args in
     let l = c.texts in
     let s = a.settings.now in
+    let now = c.write_bytes.new.writer in
+    let error = c.placed.result in
+    let rest = l.rest.now in
+    let first = take c.in-Some.end rest in
+    let done = take (length a.held.now - length rest) a.held.now in
+    let parts : done ++ rest ≡ a.held.now =
+    ap (λ (t : List ℕ). done ++ t) (sym l.invariant.3) ∙ take-append-drop (length a.held.now - length rest) a.held.now in
+    record {
+      bare = tt;
+      left = tt;
+      place = l.invariant.7;
+      gives = tt;
+      grew = tt;
+      stops = stops_at_first s.depth s.flow s.unique_names a.held.now a.writer.now (g.W.Write.contents a.sink.now) l.rest.now l.writer
+          (g.W.Write.contents l.sink) l.invariant.4 c.in-Some.end c.in-Some.ensures a.reading.now.place error now done parts
+          (λ front follows. part_placed s.depth s.unique_names s.flow (front ++ done) first l.writer c.in-Err.error error now c.placed.ensures.says
+          (c.placed.ensures.place s.depth (front ++ done) first (c.after.ensures front (subst (IsPlaceAfter front) (sym l.invariant.7) follows)))
+          (subst (λ (t : List ℕ). StopsInPart s.depth s.unique_names s.flow [] t l.writer c.in-Err.error now) c.split_at.ensures.front
+          c.in-Err.ensures.stopped));
+      grew_to = grew_then a.writer.now l.writer now (emitter_error error) l.invariant.6
+          (subst (λ (found : Option yaml_error_t). Grew l.writer found now) (sym c.placed.ensures.by_emitter) c.in-Err.ensures.grew);
+    }
+
+pub returns-in-Err-begin_next : goal.returns-in-Err-begin_next
+returns-in-Err-begin_next g c =
+    let a = c.args in
+    let l = c.texts in
+    let s = a.settings.now in
+    let given = c.write_bytes.new.writer in
+    let error = c.in-Err-begin_next.error in
     let named = subst (λ (t : List ℕ). s.unique_names ≡ true → NamesOnce [] (tokens t)) c.split_at.ensures.front
     c.in_default-write_bytes.ensures.names in
-    let wrote = subst (λ (t : List ℕ). WroteText s.depth s.flow t l.writer c.write_bytes.new.writer) c.split_at.ensures.front
+    let readable = subst IsUtf8 c.split_at.ensures.front c.in_default-write_bytes.ensures.utf8 in
+    let wrote = subst (λ (t : List ℕ). WroteText s.depth s.flow t l.writer given) c.split_at.ensures.front
     c.in_default-write_bytes.ensures.written in
-    stops_next s.depth s.flow s.unique_names a.held.now a.writer.now (g.W.Write.contents a.sink.now) l.rest.now l.writer (g.W.Write.contents l.sink)
-    l.invariant.4 c.in-Some.end c.in-Some.ensures c.write_bytes.new.writer named wrote c.in-Err-begin_next.error
-    (g.W.Write.contents c.begin_next.new.sink) c.in-Err-begin_next.ensures.failed c.in-Err-begin_next.ensures.unsent
+    record {
+      bare = tt;
+      left = tt;
+      place = l.invariant.7;
+      gives = tt;
+      grew = tt;
+      stops = stops_next s.depth s.flow s.unique_names a.held.now a.writer.now (g.W.Write.contents a.sink.now) l.rest.now l.writer
+          (g.W.Write.contents l.sink) l.invariant.4 c.in-Some.end c.in-Some.ensures given named readable wrote a.reading.now.place error c.begin_next.new.writer
+          (g.W.Write.contents c.begin_next.new.sink) c.in-Err-begin_next.ensures.failed;
+      grew_to = grew_then a.writer.now l.writer c.begin_next.new.writer (emitter_error error) l.invariant.6
+          (grew_then l.writer given c.begin_next.new.writer (emitter_error error) (grew_kept l.writer given c.in_default-write_bytes.ensures.kept)
+          c.in-Err-begin_next.ensures.grew_to);
+    }
+
+pub returns-clause-grew : goal.returns-clause-grew
+returns-clause-grew g c = c.texts.invariant.6
 
 pub returns-clause-gives : goal.returns-clause-gives
 returns-clause-gives g c =
@@ -79,6 +126,9 @@ returns-clause-gives g c =
     let l = c.texts in
     advances_same a.settings.now.depth a.settings.now.flow a.settings.now.unique_names a.held.now a.writer.now (g.W.Write.contents a.sink.now) l.rest.now
     l.writer (g.W.Write.contents l.sink) l.invariant.4 (drop (length a.held.now - length l.rest.now) a.held.now) (sym l.invariant.3)
+
+pub returns-clause-place : goal.returns-clause-place
+returns-clause-place g c = c.texts.invariant.7
 
 pub find_end-requires : goal.find_end-requires
 find_end-requires g c = c.texts.invariant.1

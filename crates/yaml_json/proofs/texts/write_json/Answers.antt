@@ -1,12 +1,35 @@
-use Rattle.yaml_json.proofs.{Refusing.why_no_json, Refusing.why_returned, TextsInTurn.text_names}
+use Rattle.yaml_json.specs.Failing.{writers_error}
+use Rattle.yaml_json.proofs.{Refusing.why_no_json, TextStops.explained, TextStops.placed_as, TextStops.said_as, TextStops.text_stopped, TextsInTurn.text_names}
 use Rattle.yaml_json.proofs.texts.write_json.Goals as goal
 
-pub returns-in-Err-clause-refused : goal.returns-in-Err-clause-refused
-returns-in-Err-clause-refused g c =
-    why_no_json c.args.settings.depth c.args.settings.unique_names c.args.text.now c.error_of.result
-    (why_returned c.args.settings.depth c.args.settings.unique_names c.args.text.now c.in-Err.stop c.error_of.result c.error_of.ensures.says
-    c.in-Err.ensures.refused)
+pub returns-in-Err : goal.returns-in-Err
+returns-in-Err g c =
+    let s = c.args.settings in
+    let text = c.args.text.now in
+    let error = c.error_of.result in
+    let failed = c.in-Err.ensures in
+    let stopped = text_stopped s.depth s.unique_names s.flow text c.args.writer.now c.write_text_by.new.writer c.in-Err.stop error c.error_of.ensures.says
+    failed.refused failed.stopped in
+    record {
+      grows = failed.kept_after.grows;
+      sound = said_as c.args.writer.now c.write_text_by.new.writer c.in-Err.stop (writers_error error) c.error_of.ensures.by_writer failed.kept_after;
+      written = tt;
+      names = tt;
+      refused = why_no_json s.depth s.unique_names text error
+          (explained s.depth s.unique_names s.flow text c.args.writer.now c.write_text_by.new.writer error stopped);
+      stopped = stopped;
+      place = (c.in-Err.at, (c.error_of.ensures.place, placed_as s.depth text text c.in-Err.at c.in-Err.stop error c.error_of.ensures.says failed.place));
+    }
 
-pub returns-in-Ok-clause-names : goal.returns-in-Ok-clause-names
-returns-in-Ok-clause-names g c =
-    text_names c.args.settings.unique_names c.args.text.now c.in-Ok.ensures.names
+pub returns-in-Ok : goal.returns-in-Ok
+returns-in-Ok g c =
+    let wrote = c.in-Ok.ensures in
+    record {
+      grows = wrote.kept.grows;
+      sound = wrote.kept.sound;
+      written = wrote.written;
+      names = text_names c.args.settings.unique_names c.args.text.now wrote.names;
+      refused = tt;
+      stopped = tt;
+      place = tt;
+    }

@@ -1,5 +1,5 @@
 use Rattle.yaml_json.proofs.Common.{refl, inl}
-use Rattle.yaml_json.proofs.{Stopping.if_some, WhyFailed.text_failed, WhyFailed.finish_failed, WroteLemmas.bare_awaits_none, YamlOf.yaml_of}
+use Rattle.yaml_json.proofs.{Stopping.if_some, TextStops.explained, TextStops.writer_failed, WhyFailed.text_failed, WhyFailed.finish_failed, WroteLemmas.bare_awaits_none, YamlOf.yaml_of}
 use Rattle.yaml_json.specs.Failing.{writers_error}
 use Rattle.yaml_emitter.specs.Given.{seen_settings}
 use Rattle.yaml_json.proofs.texts.yaml_from_json.Goals as goal
@@ -21,7 +21,8 @@ returns-in-Err-clause-failed g c =
     if_some (writers_error c.in-Err.error)
     (λ code. text_failed (seen_settings settings.writer) settings.flow settings.depth c.args.text.now first.writer c.write_json.new.writer code
     first.ensures.stands first.ensures.canonical)
-    c.in-Err.ensures.failed
+    (writer_failed settings.depth settings.unique_names settings.flow c.args.text.now first.writer c.write_json.new.writer c.in-Err.error
+    c.in-Err.ensures.stopped c.in-Err.ensures.sound)
 
 pub returns-in-Err-finish-clause-failed : goal.returns-in-Err-finish-clause-failed
 returns-in-Err-finish-clause-failed g c =
@@ -39,7 +40,10 @@ pub returns-in-Err-clause-refused : goal.returns-in-Err-clause-refused
 returns-in-Err-clause-refused g c = c.in-Err.ensures.refused
 
 pub returns-in-Err-clause-why : goal.returns-in-Err-clause-why
-returns-in-Err-clause-why g c = c.in-Err.ensures.why
+returns-in-Err-clause-why g c =
+    let settings = c.args.settings in
+    explained settings.depth settings.unique_names settings.flow c.args.text.now c.in-Ok.writer c.write_json.new.writer c.in-Err.error
+    c.in-Err.ensures.stopped
 
 pub returns-in-Ok-finish-clause-names : goal.returns-in-Ok-finish-clause-names
 returns-in-Ok-finish-clause-names g c = c.in_default-write_json.ensures.names
@@ -73,3 +77,15 @@ returns-in-Err-finish-clause-stream g c = tt
 
 pub returns-in-Err-finish-clause-names : goal.returns-in-Err-finish-clause-names
 returns-in-Err-finish-clause-names g c = tt
+
+pub returns-in_default-clause-place : goal.returns-in_default-clause-place
+returns-in_default-clause-place g c = (0, (tt, tt))
+
+pub returns-in-Err-clause-place : goal.returns-in-Err-clause-place
+returns-in-Err-clause-place g c = c.in-Err.ensures.place
+
+pub returns-in-Err-finish-clause-place : goal.returns-in-Err-finish-clause-place
+returns-in-Err-finish-clause-place g c = (0, (tt, tt))
+
+pub returns-in-Ok-finish-clause-place : goal.returns-in-Ok-finish-clause-place
+returns-in-Ok-finish-clause-place g c = tt

@@ -1,19 +1,20 @@
 use Rattle.yaml_json.proofs.Common.{◌<◌, ◌+◌, ◌≡◌, [], ◌∷◌, true, length, length-append, ap, sym, ◌∙◌, arith, refl, emitter_error_of}
-use Rattle.yaml_json.proofs.{KeepingNames.keeps_opener, Stopping.if_some, Taking.opener_began, Taking.opener_failed, Taking.opener_without_memory}
+use Rattle.yaml_json.proofs.{KeepingNames.keeps_opener, Stopping.if_some, Stopping.kept_same, Stopping.kept_memory, Taking.opener_began, Taking.opener_failed, Taking.opener_without_memory}
 use Rattle.yaml_json.proofs.{WroteLemmas.on_ok, WroteLemmas.always}
+use Rattle.yaml_json.specs.declared.values.Stop.TheVariants as stops
 use Rattle.yaml_json.proofs.values.begin.Goals as goal
 
 pub returns-in-Err-clause-stopped : goal.returns-in-Err-clause-stopped
 returns-in-Err-clause-stopped g c =
     let a = c.args in
     let fits : length a.nest.now.kinds.items < a.settings.now.depth = grind (arith, c.requires.fits.0) in
-    opener_without_memory a.settings.now.depth a.settings.now.flow a.nest.now.kinds.items a.writer.now a.writer.now a.kind fits
+    opener_without_memory a.settings.now.depth a.settings.now.flow a.nest.now.kinds.items a.writer.now a.writer.now a.kind fits refl
 
 pub returns-in-Err-push-clause-stopped : goal.returns-in-Err-push-clause-stopped
 returns-in-Err-push-clause-stopped g c =
     let a = c.args in
     let fits : length a.nest.now.kinds.items < a.settings.now.depth = grind (arith, c.requires.fits.0) in
-    opener_without_memory a.settings.now.depth a.settings.now.flow a.nest.now.kinds.items a.writer.now a.writer.now a.kind fits
+    opener_without_memory a.settings.now.depth a.settings.now.flow a.nest.now.kinds.items a.writer.now a.writer.now a.kind fits refl
 
 pub returns-in-Ok-clause-began : goal.returns-in-Ok-clause-began
 returns-in-Ok-clause-began g c =
@@ -51,3 +52,15 @@ returns-in-Ok-clause-fits g c =
     let as_many = λ (kept : c.enter.new.self.are_kept ≡ true). let was = sym entered.kept ∙ kept in
     entered.longer was ∙ ap (λ n. n + 1) (fits.1.1 was) ∙ sym more in
     always c.start.result (omega (arith, room, more), (entered.kept ∙ fits.1.0, as_many))
+
+pub returns-then-len-settings-clause-kept : goal.returns-then-len-settings-clause-kept
+returns-then-len-settings-clause-kept g c = kept_same c.args.writer.now c.args.writer.now stops.TooDeep refl tt
+
+pub returns-in-Err-clause-kept : goal.returns-in-Err-clause-kept
+returns-in-Err-clause-kept g c = kept_memory c.args.writer.now
+
+pub returns-in-Err-push-clause-kept : goal.returns-in-Err-push-clause-kept
+returns-in-Err-push-clause-kept g c = kept_memory c.args.writer.now
+
+pub returns-in-Ok-clause-same : goal.returns-in-Ok-clause-same
+returns-in-Ok-clause-same g c refused = absurd (c.start.ensures.failed refused)

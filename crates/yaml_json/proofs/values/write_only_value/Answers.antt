@@ -1,17 +1,59 @@
-use Rattle.yaml_json.proofs.Common.{Some, ◌∷◌, ◌≡◌, ap, ◌∙◌, value, token_of}
-use Rattle.yaml_json.proofs.Refusing.{past_refused, value_names}
+use Rattle.yaml_json.proofs.Common.{ℕ, Bool, true, Err, List, [], ◌∷◌, ◌++◌, refl, ◌≡◌, append_assoc, append_cancel_right, subst, sym, ◌∙◌, json_tokens}
+use Rattle.yaml_json.proofs.Common.{Event, AddsEvents, NamesOnce, Token, WriterState}
+use Rattle.yaml_json.proofs.{Refusing.past_refused, Refusing.value_names, Stopping.kept_same, Stopping.kept_then}
+use Rattle.yaml_json.proofs.{TokenLemmas.value_given, TokenLemmas.value_spelled}
+use Rattle.yaml_json.specs.Walk.{StopsWriting}
+use Rattle.yaml_json.specs.Wrote.{WroteValue}
+use Rattle.yaml_json.specs.declared.values.Spot.TheVariants.{PastValue}
+use Rattle.yaml_json.specs.declared.values.Stop.TheVariants as stops
 use Rattle.yaml_json.proofs.values.write_only_value.Goals as goal
 
-pub returns-in-Ok-Some-clause-refused : goal.returns-in-Ok-Some-clause-refused
-returns-in-Ok-Some-clause-refused g c =
+-- the writing is stopped by what follows the value
+past_stopped : (left : List Token) (depth : ℕ) (unique flow : Bool) (start before front : List Token) (last : Token) (was now : WriterState)
+    → (wrote : WroteValue depth flow start was left now) → (unique ≡ true → NamesOnce [] (json_tokens wrote.json))
+    → start ≡ front ++ last ∷ left → before ≡ last ∷ left → (left ≡ [] → ⊥) → StopsWriting depth unique flow start before was (stops.NotJson PastValue) now
+past_stopped [] depth unique flow start before front last was now wrote once parts were more = absurd (more refl)
+past_stopped (token ∷ after) depth unique flow start before front last was now wrote once parts were more =
+    let spelled = value_spelled depth start (token ∷ after) wrote.json wrote.read in
+    record {
+      taken = json_tokens wrote.json;
+      left = token ∷ after;
+      parts = sym spelled;
+      why = past_refused depth unique start wrote.json token after wrote.read once;
+      place = ((wrote.json, refl), more);
+      were = (
+        front,
+        (
+          last,
+          (
+            append_cancel_right (json_tokens wrote.json) (front ++ last ∷ []) (token ∷ after)
+                (sym spelled ∙ parts ∙ sym (append_assoc front (last ∷ []) (token ∷ after))),
+            were,
+          ),
+        ),
+      );
+      adds = subst (λ (events : List Event). AddsEvents was.emitter events now.emitter)
+          (sym (value_given wrote.json was.canonical flow)) wrote.wrote.adds;
+    }
+
+pub returns-else-is_at_end-clause-refused : goal.returns-else-is_at_end-clause-refused
+returns-else-is_at_end-clause-refused g c by_text =
     let a = c.args in
-    let wrote = c.in_default.ensures.written in
-    let read = rw c.in-Ok-Some.field-0-is at c.in-Ok-Some.ensures.value in
-    let read : value a.settings.now.depth a.reader.now ≡ Some (wrote.json, token_of c.in-Ok-Some._token ∷ c.next.new.self) =
-    wrote.read ∙ ap (λ rest. Some (wrote.json, rest)) read in
-    past_refused a.settings.now.depth a.settings.now.unique_names a.reader.now wrote.json (token_of c.in-Ok-Some._token) c.next.new.self read
-    (value_names a.settings.now.depth a.settings.now.unique_names a.reader.now c.write_value.new.reader wrote.json wrote.read
-    c.in_default.ensures.names)
+    let last = c.in_default.ensures.last in
+    past_stopped c.write_value.new.reader.ahead a.settings.now.depth a.settings.now.unique_names a.settings.now.flow a.reader.now.ahead
+    c.write_value.new.reader.before last.front last.last a.writer.now c.write_value.new.writer c.in_default.ensures.written
+    (value_names a.settings.now.depth a.settings.now.unique_names a.reader.now.ahead c.write_value.new.reader.ahead c.in_default.ensures.written.json
+    c.in_default.ensures.written.read c.in_default.ensures.names)
+    last.parts last.were (c.is_at_end.ensures.more c.if-is_at_end.false)
+
+pub returns-else-is_at_end-clause-kept : goal.returns-else-is_at_end-clause-kept
+returns-else-is_at_end-clause-kept g c =
+    let a = c.args in
+    kept_then a.writer.now c.write_value.new.writer c.write_value.new.writer (Err (stops.NotJson PastValue)) c.in_default.ensures.kept
+    (kept_same c.write_value.new.writer c.write_value.new.writer (stops.NotJson PastValue) refl tt)
+
+pub returns-then-is_at_end-clause-kept : goal.returns-then-is_at_end-clause-kept
+returns-then-is_at_end-clause-kept g c = c.in_default.ensures.kept
 
 pub write_value-requires-clause-bare : goal.write_value-requires-clause-bare
 write_value-requires-clause-bare g c = c.requires.bare
@@ -22,31 +64,4 @@ write_value-requires-clause-none g c = c.requires.none
 pub returns-in-Err : goal.returns-in-Err
 returns-in-Err g c =
     let failed = c.in-Err.ensures in
-    record { none = tt; written = tt; names = tt; refused = failed.refused; stopped = failed.stopped }
-
-pub returns-in-Ok-None-clause-refused : goal.returns-in-Ok-None-clause-refused
-returns-in-Ok-None-clause-refused g c = tt
-
-pub returns-in-Ok-None-clause-stopped : goal.returns-in-Ok-None-clause-stopped
-returns-in-Ok-None-clause-stopped g c = tt
-
-pub returns-in-Ok-Some-clause-none : goal.returns-in-Ok-Some-clause-none
-returns-in-Ok-Some-clause-none g c = tt
-
-pub returns-in-Ok-Some-clause-written : goal.returns-in-Ok-Some-clause-written
-returns-in-Ok-Some-clause-written g c = tt
-
-pub returns-in-Ok-Some-clause-names : goal.returns-in-Ok-Some-clause-names
-returns-in-Ok-Some-clause-names g c = tt
-
-pub returns-in-Ok-Some-clause-stopped : goal.returns-in-Ok-Some-clause-stopped
-returns-in-Ok-Some-clause-stopped g c = tt
-
-pub returns-in-Err-next-clause-none : goal.returns-in-Err-next-clause-none
-returns-in-Err-next-clause-none g c = tt
-
-pub returns-in-Err-next-clause-written : goal.returns-in-Err-next-clause-written
-returns-in-Err-next-clause-written g c = tt
-
-pub returns-in-Err-next-clause-names : goal.returns-in-Err-next-clause-names
-returns-in-Err-next-clause-names g c = tt
+    record { none = tt; written = tt; names = tt; refused = failed.refused; kept = failed.kept; text = failed.text; stopped = failed.stopped }

@@ -1,11 +1,12 @@
 use Rattle.yaml_json.proofs.Common.{ℕ, IfSome, OnOk, List, [], ◌∷◌, refl, ◌≡◌, Bor, subst, sym, chars, token_of, scalar, emitter_error_of, null_content}
 use Rattle.yaml_json.proofs.Common.{bool_content, number_content, text_content, Keeps, BeganValue, BeginFailed, RefusesToken, number_in}
 use Rattle.json.specs.{Print.IsPrintable, declared.token.Token.Token}
-use Rattle.yaml_json.proofs.{KeepingNames.keeps_scalar, NumberBridge.number_is, Refusing.unrefused, Stopping.if_some, Taking.scalar_began}
+use Rattle.yaml_json.proofs.{KeepingNames.keeps_scalar, NumberBridge.number_is, Refusing.unrefused, Stopping.if_some, Stopping.kept_same, Taking.scalar_began}
 use Rattle.yaml_json.proofs.{Taking.scalar_failed, WroteLemmas.on_ok, WroteLemmas.always}
 use Rattle.json.specs.Print as json
 use Rattle.json.specs.Token as tokens
 use Rattle.json.specs.declared.token.Token.TheVariants as variants
+use Rattle.yaml_json.specs.declared.values.Stop.TheVariants as stops
 use Rattle.yaml_json.proofs.values.write_token.Goals as goal
 
 number_apart : (text : Bor (List ℕ)) (token : Token) → token ≡ variants.Number text → token ≡ variants.Bad → ⊥
@@ -184,6 +185,8 @@ returns-in-BeginArray g c =
       fits = begun.fits;
       names = rw c.in-BeginArray.is begun.names;
       refused = rw c.in-BeginArray.is begun.refused;
+      same = begun.same;
+      kept = begun.kept;
       stopped = rw c.in-BeginArray.is begun.stopped;
     }
 
@@ -195,6 +198,8 @@ returns-in-BeginObject g c =
       fits = begun.fits;
       names = rw c.in-BeginObject.is begun.names;
       refused = rw c.in-BeginObject.is begun.refused;
+      same = begun.same;
+      kept = begun.kept;
       stopped = rw c.in-BeginObject.is begun.stopped;
     }
 
@@ -221,3 +226,39 @@ returns-in-EndObject-clause-names g c = tt
 
 pub returns-in-EndObject-clause-stopped : goal.returns-in-EndObject-clause-stopped
 returns-in-EndObject-clause-stopped g c = tt
+
+pub returns-in-Null-clause-same : goal.returns-in-Null-clause-same
+returns-in-Null-clause-same g c refused = absurd (c.write_null.ensures.failed refused)
+
+pub returns-in-Null-clause-kept : goal.returns-in-Null-clause-kept
+returns-in-Null-clause-kept g c = c.write_null.ensures.kept
+
+pub returns-in-Bool-clause-same : goal.returns-in-Bool-clause-same
+returns-in-Bool-clause-same g c refused = absurd (c.write_bool.ensures.failed refused)
+
+pub returns-in-Bool-clause-kept : goal.returns-in-Bool-clause-kept
+returns-in-Bool-clause-kept g c = c.write_bool.ensures.kept
+
+pub returns-in-Number-clause-same : goal.returns-in-Number-clause-same
+returns-in-Number-clause-same g c refused = absurd (c.write_number.ensures.failed refused)
+
+pub returns-in-Number-clause-kept : goal.returns-in-Number-clause-kept
+returns-in-Number-clause-kept g c = c.write_number.ensures.kept
+
+pub returns-in-String-clause-same : goal.returns-in-String-clause-same
+returns-in-String-clause-same g c refused = absurd (c.write_text.ensures.failed refused)
+
+pub returns-in-String-clause-kept : goal.returns-in-String-clause-kept
+returns-in-String-clause-kept g c = c.write_text.ensures.kept
+
+pub returns-in-Key-clause-same : goal.returns-in-Key-clause-same
+returns-in-Key-clause-same g c refused = refl
+
+pub returns-in-Key-clause-kept : goal.returns-in-Key-clause-kept
+returns-in-Key-clause-kept g c = kept_same c.args.writer.now c.args.writer.now (stops.NotJson _) refl tt
+
+pub returns-in-EndObject-clause-same : goal.returns-in-EndObject-clause-same
+returns-in-EndObject-clause-same g c refused = refl
+
+pub returns-in-EndObject-clause-kept : goal.returns-in-EndObject-clause-kept
+returns-in-EndObject-clause-kept g c = kept_same c.args.writer.now c.args.writer.now (stops.NotJson _) refl tt

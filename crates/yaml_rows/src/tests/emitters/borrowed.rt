@@ -4,7 +4,9 @@ use crate::tests::{equal, equal_at, event_of, same};
 use std::alloc::{Allocator, Global};
 use std::process::Abort;
 use yaml_base::{YAML_SCALAR_EVENT, yaml_error_t, yaml_event_t};
-use yaml_emitter::{ScalarContent, Settings, yaml_emitter_emit_scalar, yaml_emitter_t};
+use yaml_emitter::{
+    ScalarContent, Settings, borrowed_text, yaml_emitter_emit_scalar, yaml_emitter_t,
+};
 use yaml_test_allocator::Refusing;
 
 /// A line of a script, and how many events wait after it.
@@ -155,13 +157,6 @@ const TABLES: &[(&[Row], &[Way])] = &[
     (REFUSED, &[None, Some(0)]),
 ];
 
-fn borrowed<A: Allocator>(text: &Option<String<A>>) -> Option<&str> {
-    match text {
-        Some(text) => Some(text.as_str()),
-        None => None,
-    }
-}
-
 /// Emits a scalar whose texts are borrowed: an output is set.
 fn give_borrowed<A: Allocator + Copy>(
     rt: &impl Abort,
@@ -169,7 +164,7 @@ fn give_borrowed<A: Allocator + Copy>(
     content: &ScalarContent,
 ) -> Answer {
     assert!(rt; emitter.has_output());
-    yaml_emitter_emit_scalar(emitter, content)
+    yaml_emitter_emit_scalar(emitter, content).into_result()
 }
 
 // A scalar that is queued takes memory: where it isn't granted any, nothing changes, and it is taken when it comes again. One
@@ -206,8 +201,8 @@ fn content_of<A: Allocator>(event: &yaml_event_t<A>) -> Option<ScalarContent<'_>
             quoted_implicit,
             style,
         } => Some(ScalarContent {
-            anchor: borrowed(anchor),
-            tag: borrowed(tag),
+            anchor: borrowed_text(anchor),
+            tag: borrowed_text(tag),
             value: value.as_str(),
             plain_implicit: *plain_implicit,
             quoted_implicit: *quoted_implicit,

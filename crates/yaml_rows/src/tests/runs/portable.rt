@@ -1,5 +1,5 @@
-//! Portable mode: documents begin with `---`, flow indicators after a handle are escaped, a prefix begins with its `!`, and
-//! U+2028 and U+2029 are escaped.
+//! Portable mode: documents begin with `---`, flow indicators after a handle are escaped, a prefix begins with its `!`,
+//! U+2028 and U+2029 are escaped, and no root is a block scalar with a digit in its header.
 use crate::tests::Rows;
 
 /// Roots.
@@ -32,6 +32,36 @@ pub(super) const ROOTS: Rows = &[
 =VAL any 0 0 - "tag:yaml.org,2002:," "x"
 =VAL any 0 0 - "a,b" "x"
 -SEQ |--- [!!%2C x, !<a,b> x]↵
+
+# A root in a block style, whose header would have a digit, stands in double quotes.
+=VAL literal 1 1 - - "\na" |--- "\na"↵
+
+=VAL folded 1 1 - - " a" |--- " a"↵
+
+=VAL literal 1 1 - - "\n" |--- "\n"↵
+
+=VAL literal 1 0 - - "\na" |--- ! "\na"↵
+
+=VAL literal 0 1 "x" - " a\nb" |--- &x " a\nb"↵
+
+=VAL literal 0 0 - "!t" "\na" |--- !t "\na"↵
+
+# Other roots, and what stands in a collection, stand as they do without portable mode.
+=VAL single 1 1 - - "\na" |--- '↵↵  a'↵
+
+=VAL literal 1 1 - - "a\n b" |--- |-↵  a↵   b↵
+
+=VAL folded 1 1 - - "a b" |--- >-↵  a b↵
+
++SEQ block 1 - -
+=VAL literal 1 1 - - "\na"
+=VAL folded 1 1 - - " a"
+-SEQ |---↵- |2-↵↵  a↵- >2-↵   a↵
+
++MAP block 1 - -
+=VAL literal 1 1 - - "\na"
+=VAL folded 1 1 - - " a"
+-MAP |---↵? |2-↵↵  a↵: >2-↵   a↵
 "#,
     ),
     (
@@ -44,6 +74,10 @@ pub(super) const ROOTS: Rows = &[
         "portable off",
         r#"
 =VAL any 1 1 - - "" |↵
+
+=VAL literal 1 1 - - "\na" ||2-↵↵  a↵
+
+=VAL folded 1 1 - - " a" |>2-↵   a↵
 "#,
     ),
     (
@@ -131,6 +165,16 @@ pub(super) const STREAMS: Rows = &[
 =VAL any 1 1 - - ""
 -DOC 1 |---↵
 -STR
+"#,
+    ),
+    (
+        "portable off",
+        r#"
++STR any
++DOC 1 -
+=VAL literal 1 1 - - "\n"
+-DOC 1 ||2+↵↵
+-STR |...↵
 "#,
     ),
     (

@@ -1,4 +1,4 @@
-use Rattle.yaml_serde.proofs.Common.{OnOk, length, take, false, ◌≡◌, ap, subst, ◌∙◌, GivesEvents, WriterState, awaits_node}
+use Rattle.yaml_serde.proofs.Common.{grows_itself, Grows, OnOk, length, take, false, ◌≡◌, ap, subst, ◌∙◌, GivesEvents, WriterState, awaits_node}
 use Rattle.yaml_serde.proofs.Giving.{gives_none}
 use Rattle.yaml_serde.proofs.serializing.write.Goals as goal
 
@@ -9,6 +9,14 @@ pub returns-clause-gives : goal.returns-clause-gives
 returns-clause-gives g c =
     let now = c.given-lent.result.0 in
     subst (λ (was : WriterState). GivesEvents was.emitter now.emitter) c.replace-lent.ensures.value c.given-lent.ensures.gives
+
+pub returns-in_default-clause-grows : goal.returns-in_default-clause-grows
+returns-in_default-clause-grows g c = grows_itself c.args.writer.now.emitter.page
+
+pub returns-clause-grows : goal.returns-clause-grows
+returns-clause-grows g c =
+    let now = c.given-lent.result.0 in
+    subst (λ (was : WriterState). Grows was.emitter.page now.emitter.page) c.replace-lent.ensures.value c.given-lent.ensures.grows
 
 pub returns-clause-canonical : goal.returns-clause-canonical
 returns-clause-canonical g c = c.given-lent.ensures.canonical ∙ ap (λ (was : WriterState). was.canonical) c.replace-lent.ensures.value

@@ -13,9 +13,9 @@ returns-in-Err-clause-emits g c given stands =
     (into_iter_items now.numbered-iterator) c.args.events.items c.in-Err.error now.emitter c.yaml_emitter_emit.new.emitter
     now.invariant.4 c.in-Some.ensures.steps.0 now.invariant.3 stood
     (c.standing_is_promised.ensures given (events_in (map seen_numbered now.yielded)) now.emitter stood)
-    (some_from_result c.yaml_emitter_emit.new.emitter.error c.in-Err.error c.in-Err.ensures.answered)
-    (c.yaml_emitter_emit.ensures.stands given (events_in (map seen_numbered now.yielded)) stood)
-    (c.yaml_emitter_emit.ensures.promised given (events_in (map seen_numbered now.yielded)) stood) c.yaml_emitter_emit.ensures.grows)
+    (some_from_result c.yaml_emitter_emit.new.emitter.error c.in-Err.error c.in-Err.ensures.moves.answered)
+    (c.yaml_emitter_emit.ensures.moves.stands given (events_in (map seen_numbered now.yielded)) stood)
+    (c.yaml_emitter_emit.ensures.promised given (events_in (map seen_numbered now.yielded)) stood) c.yaml_emitter_emit.ensures.moves.grows)
 
 pub loop-numbered-preserved : goal.loop-numbered-preserved
 loop-numbered-preserved g c =
@@ -23,14 +23,14 @@ loop-numbered-preserved g c =
       tt,
       tt,
       c.yaml_emitter_emit.ensures.output,
-      none_from_result c.yaml_emitter_emit.new.emitter.error c.in_default.ensures.answered,
+      none_from_result c.yaml_emitter_emit.new.emitter.error c.in_default.ensures.moves.answered,
       parts_more now.yielded c.in-Some.numbered (into_iter_items c.next.new.self)
           (into_iter_items now.numbered-iterator) c.args.events.items now.invariant.4 c.in-Some.ensures.steps.0,
       λ given stands.
           subst (λ events. StandsAfter given events c.yaml_emitter_emit.new.emitter) (events_more now.yielded c.in-Some.numbered)
-          (c.yaml_emitter_emit.ensures.stands given (events_in (map seen_numbered now.yielded)) (now.invariant.5 given stands)),
+          (c.yaml_emitter_emit.ensures.moves.stands given (events_in (map seen_numbered now.yielded)) (now.invariant.5 given stands)),
       ends_more now.yielded c.in-Some.numbered,
-      c.yaml_emitter_emit.ensures.set.taken ∙ now.invariant.7,
+      c.yaml_emitter_emit.ensures.moves.set.taken ∙ now.invariant.7,
     )
 
 pub returns-in-Some-last-clause-emits : goal.returns-in-Some-last-clause-emits
@@ -60,7 +60,7 @@ returns-in-None-last-clause-emits g c given stands =
     (subst (λ all. LastLine all now.last now.emitter) whole now.invariant.6)
 
 pub returns-in-Err-clause-taken : goal.returns-in-Err-clause-taken
-returns-in-Err-clause-taken g c = c.yaml_emitter_emit.ensures.set.taken ∙ c.loop-numbered.invariant.7
+returns-in-Err-clause-taken g c = c.yaml_emitter_emit.ensures.moves.set.taken ∙ c.loop-numbered.invariant.7
 
 pub returns-in-Some-last-clause-taken : goal.returns-in-Some-last-clause-taken
 returns-in-Some-last-clause-taken g c = c.flush_last.ensures.taken ∙ c.loop-numbered.invariant.7

@@ -1,5 +1,6 @@
 use Rattle.yaml_value.proofs.Common.{false, true, ◌≡◌, rules, sym, ◌∙◌, seen_value}
 use Rattle.yaml_value.proofs.WritingLemmas.{too_deep_apart, test_fits, test_exceeds, memory_alone}
+use Rattle.yaml_value.proofs.TextLemmas.{text_written}
 use Rattle.yaml_value.proofs.writing.write_canonical.Goals as goal
 
 pub written-requires : goal.written-requires
@@ -20,3 +21,6 @@ returns-clause-too_deep g c =
 
 pub returns-clause-failed : goal.returns-clause-failed
 returns-clause-failed g c = memory_alone c.written.result c.written.ensures.memory
+
+pub returns-clause-layout : goal.returns-clause-layout
+returns-clause-layout g c = text_written (seen_value c.args.value.now) c.written.result c.written.ensures.written

@@ -6,14 +6,14 @@ use crate::tests::{answers, equal, same};
 use std::alloc::{AllocError, Global};
 use std::process::Abort;
 use yaml_dump::{
-    NodeNumber, YAML_ANY_MAPPING_STYLE, YAML_ANY_SCALAR_STYLE, YAML_MAP_TAG, YAML_STR_TAG,
-    document_events, emit_each, yaml_document_t, yaml_emitter_close, yaml_emitter_dump,
-    yaml_emitter_initialize, yaml_emitter_open, yaml_emitter_set_output_string,
-    yaml_emitter_set_width, yaml_emitter_t, yaml_error_t, yaml_node_data_t, yaml_node_pair_t,
-    yaml_node_t,
+    NodeNumber, YAML_ANY_SCALAR_STYLE, YAML_BLOCK_MAPPING_STYLE, YAML_FLOW_SEQUENCE_STYLE,
+    YAML_MAP_TAG, YAML_SEQ_TAG, YAML_STR_TAG, document_events, emit_each, yaml_document_t,
+    yaml_emitter_close, yaml_emitter_dump, yaml_emitter_dump_typed, yaml_emitter_initialize,
+    yaml_emitter_open, yaml_emitter_set_output_string, yaml_emitter_set_width, yaml_emitter_t,
+    yaml_error_t, yaml_node_data_t, yaml_node_pair_t, yaml_node_t,
 };
 
-/// A document as YAML of at most `limit` bytes.
+/// A document as YAML of at most `limit` bytes, in which each node keeps its type.
 fn yaml_of(
     alloc: Global,
     document: yaml_document_t<Global>,
@@ -22,7 +22,7 @@ fn yaml_of(
     let mut emitter = yaml_emitter_initialize(alloc)?;
     yaml_emitter_set_output_string(&mut emitter, limit);
     yaml_emitter_set_width(&mut emitter, -1);
-    yaml_emitter_dump(alloc, &mut emitter, document)?;
+    yaml_emitter_dump_typed(alloc, &mut emitter, document)?;
     yaml_emitter_close(&mut emitter)?;
     Vec::from_slice(alloc, emitter.output()).map_err(|_| yaml_error_t::Memory)
 }
@@ -34,6 +34,29 @@ fn text_node(alloc: Global, value: &str) -> Result<yaml_node_t<Global>, AllocErr
         contents: yaml_node_data_t::Scalar {
             value: String::from_str(alloc, value)?,
             style: YAML_ANY_SCALAR_STYLE,
+        },
+    })
+}
+
+/// A sequence of the nodes of these numbers.
+fn sequence_node(alloc: Global, items: &[i32]) -> Result<yaml_node_t<Global>, AllocError> {
+    Ok(yaml_node_t {
+        tag: String::from_str(alloc, YAML_SEQ_TAG)?,
+        contents: yaml_node_data_t::Sequence {
+            items: Vec::from_slice(alloc, items)?,
+            style: YAML_FLOW_SEQUENCE_STYLE,
+        },
+    })
+}
+
+/// A mapping of the node of one number to that of another.
+fn mapping_node(alloc: Global, key: i32, value: i32) -> Result<yaml_node_t<Global>, AllocError> {
+    let pair = yaml_node_pair_t { key, value };
+    Ok(yaml_node_t {
+        tag: String::from_str(alloc, YAML_MAP_TAG)?,
+        contents: yaml_node_data_t::Mapping {
+            pairs: Vec::from_slice(alloc, &[pair])?,
+            style: YAML_BLOCK_MAPPING_STYLE,
         },
     })
 }
@@ -91,18 +114,6 @@ fn close_if_open(emitter: &mut yaml_emitter_t<Global>) -> Result<(), yaml_error_
     yaml_emitter_close(emitter)
 }
 
-/// A mapping of node 2 to the node of this number.
-fn pair_node(rt: &impl Abort, alloc: Global, value: i32) -> yaml_node_t<Global> {
-    let pairs = vec![in alloc; yaml_node_pair_t { key: 2, value }];
-    yaml_node_t {
-        tag: String::from_str(alloc, YAML_MAP_TAG).expect(rt, "no memory"),
-        contents: yaml_node_data_t::Mapping {
-            pairs: pairs.expect(rt, "no memory"),
-            style: YAML_ANY_MAPPING_STYLE,
-        },
-    }
-}
-
 /// A document of a mapping of node 2 to the node of this number, and of these texts, from node 2 on.
 fn mapping(
     rt: &impl Abort,
@@ -111,7 +122,7 @@ fn mapping(
     texts: &[&str],
 ) -> Result<yaml_document_t<Global>, NodeNumber> {
     let mut nodes = Vec::new(alloc);
-    let pair = pair_node(rt, alloc, value);
+    let pair = mapping_node(alloc, 2, value).expect(rt, "no memory");
     nodes.push(pair).expect(rt, "no memory");
     for text in texts {
         let node = text_node(alloc, text).expect(rt, "no memory");
@@ -132,8 +143,32 @@ fn a_document_is_written_where_each_number_names_a_node(rt: HostRuntime) {
     let document = named(&rt, alloc);
     equal(&rt, &document.node_count(), &3);
     answers(&rt, yaml_of(alloc, document, 100), &Ok("name: beta\n"));
+    let document = mapping(&rt, alloc, 3, &["country", "no"]);
+    let document = document.expect(&rt, "each number names a node");
+    answers(&rt, yaml_of(alloc, document, 100), &Ok("country: 'no'\n"));
     let refused = mapping(&rt, alloc, 4, &["name", "beta"]).err();
     equal(&rt, &refused, &Some(NodeNumber(4)));
+}
+
+/// A document of a mapping of `both` to a sequence that has one node twice.
+fn twice(rt: &impl Abort, alloc: Global) -> yaml_document_t<Global> {
+    let mut nodes = Vec::new(alloc);
+    for node in [
+        mapping_node(alloc, 2, 3),
+        text_node(alloc, "both"),
+        sequence_node(alloc, &[4, 4]),
+        text_node(alloc, "beta"),
+    ] {
+        let node = node.expect(rt, "no memory");
+        nodes.push(node).expect(rt, "no memory");
+    }
+    document_of(alloc, nodes).expect(rt, "each number names a node")
+}
+
+#[test]
+fn a_sequence_has_a_node_twice(rt: HostRuntime) {
+    let bytes = yaml_of(rt.alloc(), twice(&rt, rt.alloc()), 100);
+    answers(&rt, bytes, &Ok("both: [&id001 beta, *id001]\n"));
 }
 
 /// The first is a mapping that is its own value, and the second is empty.

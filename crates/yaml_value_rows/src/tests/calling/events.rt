@@ -5,9 +5,10 @@ use crate::tests::equal;
 use std::alloc::{AllocError, Global};
 use std::process::Abort;
 use yaml_dump::{
-    ScalarContent, YAML_ANY_ENCODING, YAML_ANY_SCALAR_STYLE, YAML_DOCUMENT_END_EVENT,
-    YAML_DOCUMENT_START_EVENT, YAML_EMITTER_ERROR, YAML_FLOW_SEQUENCE_STYLE, YAML_SCALAR_EVENT,
-    YAML_SEQUENCE_END_EVENT, YAML_SEQUENCE_START_EVENT, YAML_STREAM_END_EVENT,
+    ScalarContent, YAML_ALIAS_EVENT, YAML_ANY_ENCODING, YAML_ANY_SCALAR_STYLE,
+    YAML_BLOCK_MAPPING_STYLE, YAML_DOCUMENT_END_EVENT, YAML_DOCUMENT_START_EVENT,
+    YAML_EMITTER_ERROR, YAML_FLOW_SEQUENCE_STYLE, YAML_MAPPING_END_EVENT, YAML_MAPPING_START_EVENT,
+    YAML_SCALAR_EVENT, YAML_SEQUENCE_END_EVENT, YAML_SEQUENCE_START_EVENT, YAML_STREAM_END_EVENT,
     YAML_STREAM_START_EVENT, yaml_emitter_emit, yaml_emitter_emit_scalar, yaml_emitter_flush,
     yaml_emitter_initialize, yaml_emitter_set_output_string, yaml_emitter_t,
     yaml_emitter_take_output, yaml_error_t, yaml_event_t,
@@ -61,7 +62,38 @@ fn emit_text(emitter: &mut yaml_emitter_t<Global>, value: &str) -> Result<(), ya
         quoted_implicit: true,
         style: YAML_ANY_SCALAR_STYLE,
     };
-    yaml_emitter_emit_scalar(emitter, &content)
+    yaml_emitter_emit_scalar(emitter, &content).into_result()
+}
+
+/// Emits a mapping in which a sequence stands once, and then as an alias.
+fn emit_twice(alloc: Global, emitter: &mut yaml_emitter_t<Global>) -> Result<(), yaml_error_t>
+    requires { emitter.old.has_output ≡ true }
+    ensures { emitter.new.has_output ≡ true }
+{
+    let memory = |_| yaml_error_t::Memory;
+    let name = String::from_str(alloc, "list").map_err(memory)?;
+    let again = String::from_str(alloc, "list").map_err(memory)?;
+    let mapping = YAML_MAPPING_START_EVENT {
+        anchor: None,
+        tag: None,
+        implicit: true,
+        style: YAML_BLOCK_MAPPING_STYLE,
+    };
+    let sequence = YAML_SEQUENCE_START_EVENT {
+        anchor: Some(name),
+        tag: None,
+        implicit: true,
+        style: YAML_FLOW_SEQUENCE_STYLE,
+    };
+    let alias = YAML_ALIAS_EVENT { anchor: again };
+    yaml_emitter_emit(emitter, mapping)?;
+    emit_text(emitter, "first")?;
+    yaml_emitter_emit(emitter, sequence)?;
+    emit_text(emitter, "a")?;
+    yaml_emitter_emit(emitter, YAML_SEQUENCE_END_EVENT)?;
+    emit_text(emitter, "again")?;
+    yaml_emitter_emit(emitter, alias)?;
+    yaml_emitter_emit(emitter, YAML_MAPPING_END_EVENT)
 }
 
 /// Flushes all text so far, and sends what was flushed since the last call. Returns how many events still wait.
@@ -137,6 +169,8 @@ enum Act {
     Emit(&'static str),
     /// Emits a scalar whose text is borrowed.
     Text(&'static str),
+    /// Emits a mapping with a sequence and its alias.
+    Twice,
     /// Sends what was flushed.
     Send,
 }
@@ -155,6 +189,7 @@ fn held_after(
     match act {
         Act::Emit(words) => emit_words(rt, alloc, emitter, words)?,
         Act::Text(text) => emit_text(emitter, text)?,
+        Act::Twice => emit_twice(alloc, emitter)?,
         Act::Send => return send(emitter, sent),
     }
     Ok(emitter.held())
@@ -202,6 +237,13 @@ const TEXTS: &[Step] = &[
     (Act::Emit("b ] end"), 0, "[a, second, 'no: 3', b]\n", ""),
 ];
 
+/// A sequence, and an alias of it.
+const ALIAS: &[Step] = &[
+    (Act::Emit("stream document"), 1, "", ""),
+    (Act::Twice, 0, "", ""),
+    (Act::Emit("end"), 0, "first: &list [a]\nagain: *list\n", ""),
+];
+
 /// A flush writes what is ready.
 const FLUSHED: &[Step] = &[
     (Act::Emit("stream document [ a"), 2, "", ""),
@@ -220,7 +262,7 @@ const PARTS: &[Step] = &[
 
 #[test]
 fn bytes_appear_where_they_are_ready(rt: HostRuntime) {
-    for steps in [WHOLE, TEXTS, FLUSHED, PARTS] {
+    for steps in [WHOLE, TEXTS, ALIAS, FLUSHED, PARTS] {
         check_stream(&rt, rt.alloc(), steps);
     }
 }

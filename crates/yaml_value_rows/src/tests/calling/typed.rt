@@ -12,6 +12,14 @@ fn list_of(alloc: Global, number: i64, text: &str) -> Result<Value<Global>, Allo
     Ok(Value::List(items))
 }
 
+/// A map of a text to a value.
+fn map_of(alloc: Global, key: &str, value: Value<Global>) -> Result<Value<Global>, AllocError> {
+    let mut members = Vec::new(alloc);
+    let key = Value::Text(String::from_str(alloc, key)?);
+    members.push((key, value))?;
+    Ok(Value::Map(members))
+}
+
 /// Whether two values are the same: their canonical bytes are.
 fn are_same(
     alloc: Global,
@@ -29,6 +37,16 @@ fn check_forms(rt: &impl Abort, alloc: Global, list: &Value<Global>, other: &Val
     answers(rt, write_canonical(alloc, list), &Ok(expected));
     equal(rt, &are_same(alloc, list, list), &Ok(true));
     equal(rt, &are_same(alloc, list, other), &Ok(false));
+}
+
+#[test]
+fn a_map_has_a_list(rt: HostRuntime) {
+    let alloc = rt.alloc();
+    let list = list_of(alloc, 5, "a").expect(&rt, "no memory");
+    let map = map_of(alloc, "b", list).expect(&rt, "no memory");
+    let expected =
+        "---\n!!map {\n  ? !!str \"b\"\n  : !!seq [\n    !!int \"5\",\n    !!str \"a\",\n  ],\n}\n";
+    answers(&rt, write_canonical(alloc, &map), &Ok(expected));
 }
 
 #[test]

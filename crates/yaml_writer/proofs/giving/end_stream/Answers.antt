@@ -20,11 +20,11 @@ returns-in_err-yaml_emitter_emit-clause-unfinished g c =
     (λ error is.
     error_kept between after error c.yaml_emitter_emit-2.ensures.kept (error_kept before between error c.yaml_emitter_emit.ensures.kept is))
     (λ given all stands.
-    let ended = c.yaml_emitter_emit.ensures.stands given all stands in (
-      closed_stands implicit given all after (c.yaml_emitter_emit-2.ensures.stands given (all ++ document_end implicit ∷ []) ended),
+    let ended = c.yaml_emitter_emit.ensures.moves.stands given all stands in (
+      closed_stands implicit given all after (c.yaml_emitter_emit-2.ensures.moves.stands given (all ++ document_end implicit ∷ []) ended),
       closed implicit given all after (c.yaml_emitter_emit-2.ensures.promised given (all ++ document_end implicit ∷ []) ended),
     ))
-    (some_from_result after.error error c.in_err-yaml_emitter_emit.ensures.answered)))
+    (some_from_result after.error error c.in_err-yaml_emitter_emit.ensures.moves.answered)))
 
 pub returns-then-held-gt0-clause-unfinished : goal.returns-then-held-gt0-clause-unfinished
 returns-then-held-gt0-clause-unfinished g c =
@@ -33,10 +33,10 @@ returns-then-held-gt0-clause-unfinished g c =
     let between = c.yaml_emitter_emit.new.emitter in
     let closed_once = c.yaml_emitter_emit-2.new.emitter in
     let after = c.yaml_emitter_emit-then-held-gt0.new.emitter in
-    let none = none_from_result closed_once.error c.in_ok-yaml_emitter_emit.ensures.answered in
+    let none = none_from_result closed_once.error c.in_ok-yaml_emitter_emit.ensures.moves.answered in
     let some = some_waits c.held.result closed_once.held c.if-held-gt0.true c.held.ensures in
     subst (λ (end : Bool). IfErr c.yaml_emitter_emit-then-held-gt0.result (λ error. IsUnfinishedBy end before error)) c.is_implicit-implicit.ensures
-    (third_err implicit before after c.yaml_emitter_emit-then-held-gt0.result c.yaml_emitter_emit-then-held-gt0.ensures.answered
+    (third_err implicit before after c.yaml_emitter_emit-then-held-gt0.result c.yaml_emitter_emit-then-held-gt0.ensures.moves.answered
     (λ error is.
     third_unfinished implicit before after error
     (no_earlier before closed_once
@@ -44,12 +44,12 @@ returns-then-held-gt0-clause-unfinished g c =
     error_kept between closed_once earlier c.yaml_emitter_emit-2.ensures.kept (error_kept before between earlier c.yaml_emitter_emit.ensures.kept was))
     none)
     (λ given all stands.
-    let ended = c.yaml_emitter_emit.ensures.stands given all stands in
+    let ended = c.yaml_emitter_emit.ensures.moves.stands given all stands in
     let with_end = all ++ document_end implicit ∷ [] in
-    let stood = closed_stands implicit given all closed_once (c.yaml_emitter_emit-2.ensures.stands given with_end ended) in
+    let stood = closed_stands implicit given all closed_once (c.yaml_emitter_emit-2.ensures.moves.stands given with_end ended) in
     let promised = closed implicit given all closed_once (c.yaml_emitter_emit-2.ensures.promised given with_end ended) in (
       waiting_unaccepted implicit given all closed_once promised none some,
-      c.yaml_emitter_emit-then-held-gt0.ensures.stands given (all ++ closing_by implicit) stood,
+      c.yaml_emitter_emit-then-held-gt0.ensures.moves.stands given (all ++ closing_by implicit) stood,
       c.yaml_emitter_emit-then-held-gt0.ensures.promised given (all ++ closing_by implicit) stood,
     ))
     is))
@@ -61,13 +61,13 @@ returns-then-held-gt0-clause-finishes g c =
     let between = c.yaml_emitter_emit.new.emitter in
     let closed_once = c.yaml_emitter_emit-2.new.emitter in
     let after = c.yaml_emitter_emit-then-held-gt0.new.emitter in
-    let none = none_from_result closed_once.error c.in_ok-yaml_emitter_emit.ensures.answered in
+    let none = none_from_result closed_once.error c.in_ok-yaml_emitter_emit.ensures.moves.answered in
     let some = some_waits c.held.result closed_once.held c.if-held-gt0.true c.held.ensures in
-    third_ok after c.yaml_emitter_emit-then-held-gt0.result c.yaml_emitter_emit-then-held-gt0.ensures.answered
+    third_ok after c.yaml_emitter_emit-then-held-gt0.result c.yaml_emitter_emit-then-held-gt0.ensures.moves.answered
     (λ unfailed given all sent stands.
-    let ended = c.yaml_emitter_emit.ensures.stands given all stands.stands in
+    let ended = c.yaml_emitter_emit.ensures.moves.stands given all stands.stands in
     let with_end = all ++ document_end implicit ∷ [] in
-    let stood = closed_stands implicit given all closed_once (c.yaml_emitter_emit-2.ensures.stands given with_end ended) in
+    let stood = closed_stands implicit given all closed_once (c.yaml_emitter_emit-2.ensures.moves.stands given with_end ended) in
     let promised = closed implicit given all closed_once (c.yaml_emitter_emit-2.ensures.promised given with_end ended) in
     absurd
     (third_fails implicit given all after (waiting_unaccepted implicit given all closed_once promised none some)
@@ -84,12 +84,12 @@ returns-clause-finishes g c =
     let with_end = all ++ document_end implicit ∷ [] in
     let with_both = with_end ++ stream_end ∷ [] in
     let ended =
-    still_taken given all with_end sent before between stands c.yaml_emitter_emit.ensures.set c.yaml_emitter_emit.ensures.grows
-    (c.yaml_emitter_emit.ensures.stands given all stands.stands) in
+    still_taken given all with_end sent before between stands c.yaml_emitter_emit.ensures.moves.set c.yaml_emitter_emit.ensures.moves.grows
+    (c.yaml_emitter_emit.ensures.moves.stands given all stands.stands) in
     let closes =
-    still_taken given with_end with_both sent between after ended c.yaml_emitter_emit-2.ensures.set c.yaml_emitter_emit-2.ensures.grows
-    (c.yaml_emitter_emit-2.ensures.stands given with_end ended.stands) in
+    still_taken given with_end with_both sent between after ended c.yaml_emitter_emit-2.ensures.moves.set c.yaml_emitter_emit-2.ensures.moves.grows
+    (c.yaml_emitter_emit-2.ensures.moves.stands given with_end ended.stands) in
     rest_finished implicit given all with_both sent after closes
     (closed implicit given all after (c.yaml_emitter_emit-2.ensures.promised given with_end ended.stands))
-    (none_from_result after.error c.in_ok-yaml_emitter_emit.ensures.answered)
+    (none_from_result after.error c.in_ok-yaml_emitter_emit.ensures.moves.answered)
     (none_waits c.held.result after.held c.if-held-gt0.false c.held.ensures))

@@ -5,4 +5,4 @@ use Rattle.yaml_writer.proofs.giving.give.Goals as goal
 pub returns-clause-adds : goal.returns-clause-adds
 returns-clause-adds g c given all sent stands =
     still_taken given all (all ++ seen_event c.args.event ∷ []) sent c.args.emitter.now c.yaml_emitter_emit.new.emitter stands
-    c.yaml_emitter_emit.ensures.set c.yaml_emitter_emit.ensures.grows (c.yaml_emitter_emit.ensures.stands given all stands.stands)
+    c.yaml_emitter_emit.ensures.moves.set c.yaml_emitter_emit.ensures.moves.grows (c.yaml_emitter_emit.ensures.moves.stands given all stands.stands)

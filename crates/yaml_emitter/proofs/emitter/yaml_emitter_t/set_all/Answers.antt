@@ -1,4 +1,5 @@
-use Rattle.yaml_emitter.proofs.Common.{true, [], refl, ap, subst, sym, ◌∙◌, state_of, StandsAfter, State, MachineState}
+use Rattle.yaml_emitter.proofs.Common.{arith, common_steps, rules}
+use Rattle.yaml_emitter.proofs.Common.{true, [], refl, ap, subst, sym, ◌∙◌, StandsAfter, State}
 use Rattle.yaml_emitter.proofs.standing.{EmitterKept.kept_limited, StandingSet.stands_set}
 use Rattle.yaml_emitter.specs.Given.{seen_settings}
 use Rattle.yaml_emitter.proofs.emitter.yaml_emitter_t.set_all.Goals as goal
@@ -10,14 +11,7 @@ pub invariant_of-self : goal.invariant_of-self
 invariant_of-self g c = kept_limited c.self.inside c.set_all.new.self c.self.invariant
 
 pub returns-clause-set : goal.returns-clause-set
-returns-clause-set g c =
-    ap (λ (m : MachineState). state_of (record c.self.inside { has_output = true; machine = m })) c.set_all.ensures
-    ∙ ap (λ (s : State). let made : State = record s {
-      has_output = true;
-      given = seen_settings c.args.settings;
-      settings = record s.settings { canonical = c.args.settings.canonical };
-      page = record s.page { limit = c.args.settings.limit };
-    } in made) c.self.view_is
+returns-clause-set g c = first_of (search rules, grind (arith, common_steps))
 
 pub returns-clause-stands : goal.returns-clause-stands
 returns-clause-stands g c stands =

@@ -1,5 +1,6 @@
-use Rattle.yaml_emitter.proofs.Common.{option_map, nat_lt, length, ap, ◌∙◌, arith, any_layout, collection_tag, most_open, spelling}
-use Rattle.yaml_emitter.proofs.Common.{seen_collection, machine_state, start_event, is_mapping, seen_place, seen_frame, seen_stage, seen_tag}
+use Rattle.yaml_emitter.proofs.Common.{common_steps, rules}
+use Rattle.yaml_emitter.proofs.Common.{option_map, nat_lt, length, ap, ◌∙◌, arith, any_layout, most_open, spelling}
+use Rattle.yaml_emitter.proofs.Common.{seen_collection, machine_state, start_event, is_mapping, seen_place, seen_frame, seen_stage}
 use Rattle.std.proofs.lemmas.{Bool.ltb-true, Result.on_ok_weaker}
 use Rattle.yaml_emitter.proofs.{events_done.ProcessedBy.processed_exit, pieces.WritingTags.spelled_handle}
 use Rattle.yaml_emitter.proofs.events_done.CollectionsDone.{room_here, full_here, of_any_style, start_refused, start_cut, start_left}
@@ -8,24 +9,18 @@ use Rattle.yaml_emitter.proofs.events_done.NodesDone.{collection_anchor}
 use Rattle.yaml_emitter.proofs.machine.Machine.open_collection.Goals as goal
 
 pub returns-then-is_full : goal.returns-then-is_full
-returns-then-is_full g c = λ style asked.
-    rw (← c.self.view_is)
-    (start_refused (machine_state c.self.inside) c.self.inside.directives c.self.inside.frames (is_mapping c.args.kind)
-    (seen_collection c.args.content.now style) c.args.empty
-    (seen_at_node c.self.inside (at_node_inside c.self.inside c.self.view_is c.requires.stage))
-    (of_any_style c.self.inside.given.canonical (is_mapping c.args.kind) (seen_collection c.args.content.now any_layout) style
-    (names_inside c.self.inside c.self.view_is (start_event (is_mapping c.args.kind) (seen_collection c.args.content.now any_layout)) c.requires.names))
-    (full_here (nat_lt (length c.self.inside.frames) most_open) c.is_full.result c.is_full.ensures c.if-is_full.true))
+returns-then-is_full g c =
+    first_of (
+      search (rules, at_node_inside, full_here, names_inside, of_any_style, seen_at_node, start_refused),
+      grind (arith, common_steps, at_node_inside, full_here, names_inside, of_any_style, seen_at_node, start_refused),
+    )
 
 pub write_collection_start-requires-clause-ready : goal.write_collection_start-requires-clause-ready
 write_collection_start-requires-clause-ready g c =
     ready_inside c.self.inside c.self.invariant (at_node_inside c.self.inside c.self.view_is c.requires.stage)
 
 pub write_collection_start-requires-clause-handle : goal.write_collection_start-requires-clause-handle
-write_collection_start-requires-clause-handle g c =
-    spelled_handle c.self.inside.directives (collection_tag c.self.inside.settings.canonical (seen_collection c.args.content.now any_layout))
-    (seen_tag c.spell-tag.result) (c.spell-tag.ensures
-    ∙ ap (option_map (spelling c.self.inside.directives)) (c.written_collection_tag-written.ensures any_layout)) c.self.invariant.handles
+write_collection_start-requires-clause-handle g c = first_of (search (rules, spelled_handle), grind (arith, common_steps, spelled_handle))
 
 pub write_collection_start-requires-clause-anchor : goal.write_collection_start-requires-clause-anchor
 write_collection_start-requires-clause-anchor g c = collection_anchor c.args.self.now.given.canonical (is_mapping c.args.kind)
@@ -83,13 +78,7 @@ returns g c = λ style asked.
     (c.spell-tag.ensures ∙ ap (option_map (spelling c.self.inside.directives)) (c.written_collection_tag-written.ensures style))))
 
 pub opened_frame-frame-requires : goal.opened_frame-frame-requires
-opened_frame-frame-requires g c =
-    omega (
-      arith,
-      c.next_place-place.ensures.nested,
-      ltb-true (length c.self.inside.frames) most_open
-          (room_here (nat_lt (length c.self.inside.frames) most_open) c.is_full.result c.is_full.ensures c.if-is_full.false),
-    )
+opened_frame-frame-requires g c = first_of (search (rules, ltb-true, room_here), grind (arith, common_steps, ltb-true, room_here))
 
 pub push-requires-clause-column : goal.push-requires-clause-column
 push-requires-clause-column g c = omega (arith, c.next_place-place.ensures.nested, c.opened_frame-frame.ensures.nested)

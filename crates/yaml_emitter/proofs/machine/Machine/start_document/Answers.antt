@@ -1,14 +1,16 @@
+use Rattle.yaml_emitter.proofs.Common.{arith, common_steps, rules}
 use Rattle.yaml_emitter.proofs.Common.{Ok, at_node, option_map, option_and_then, map, ap, subst, sym, ◌∙◌, DocumentStart, document_start, seen_version}
 use Rattle.yaml_emitter.proofs.Common.{seen_directive, version_fault, directives_fault, some_handle_breaks, machine_state, Processed, MachineState}
 use Rattle.yaml_emitter.proofs.{events_done.ProcessedBy.processed_exit, pieces.WritingNames.sound_handles, pieces.WritingNames.sound_in_force}
 use Rattle.yaml_emitter.proofs.events_done.DocumentsDone.{document_refused, document_start_cut, document_begun, none_behind}
-use Rattle.yaml_emitter.proofs.events_done.KeptInside.{kept_cut, kept_prefix, seen_without, kept_without, stage_inside}
+use Rattle.yaml_emitter.proofs.events_done.KeptInside.{kept_cut, kept_prefix, seen_without, kept_without, seen_at}
+use Rattle.yaml_emitter.specs.declared.stage.Stage.TheVariants.{Document}
 use Rattle.yaml_emitter.proofs.machine.Machine.start_document.Goals as goal
 
 pub invariant_of-self : goal.invariant_of-self
 invariant_of-self g c =
-    kept_without c.self.inside c.replace-before.new.dest c.args.first (c.replace-before.ensures.after ∙ c.new.ensures)
-    (stage_inside c.self.inside c.self.view_is c.requires.stage) c.self.invariant
+    kept_without c.self.inside c.replace-before.new.dest c.in-Document.first (c.replace-before.ensures.after ∙ c.new.ensures)
+    (seen_at c.self.inside (Document c.in-Document.first) c.in-Document.is) c.self.invariant
 
 pub returns-in_err-directives : goal.returns-in_err-directives
 returns-in_err-directives g c = λ empty.
@@ -17,41 +19,30 @@ returns-in_err-directives g c = λ empty.
       directives = map seen_directive c.args.own.now;
       implicit = c.args.implicit;
     } in
-    let same = seen_without c.self.inside c.replace-before.new.dest c.args.first (stage_inside c.self.inside c.self.view_is c.requires.stage)
+    let same = seen_without c.self.inside c.replace-before.new.dest c.in-Document.first
+    (seen_at c.self.inside (Document c.in-Document.first) c.in-Document.is)
     ∙ c.self.view_is in
     subst (λ (s : MachineState). Processed (document_start start) empty c.args.self.now s c.from_residual.result) (sym same)
     (processed_exit (document_start start) empty c.args.self.now c.args.self.now c.in_err-directives.field-0.0 c.from_residual.result c.from_residual.ensures
-    (document_refused empty c.args.self.now c.args.first start c.in_err-directives.field-0.0 c.requires.stage c.in_err-directives.ensures.refusal))
+    (document_refused empty c.args.self.now c.in-Document.first start c.in_err-directives.field-0.0
+    (sym (ap (λ (s : MachineState). s.stage) c.self.view_is) ∙ seen_at c.self.inside (Document c.in-Document.first) c.in-Document.is)
+    c.in_err-directives.ensures.refusal))
 
 pub write_document_start-requires-clause-handles : goal.write_document_start-requires-clause-handles
 write_document_start-requires-clause-handles g c =
-    sound_handles (map seen_directive c.args.own.now)
-    (none_behind (option_and_then version_fault (option_map seen_version c.args.version)) (directives_fault (map seen_directive c.args.own.now))
-    (sym (c.in_ok-directives.ensures.refusal (λ h. cc))))
+    first_of (search (rules, none_behind, sound_handles), grind (arith, common_steps, none_behind, sound_handles))
 
 pub invariant_of-self-in_err-write_document_start : goal.invariant_of-self-in_err-write_document_start
 invariant_of-self-in_err-write_document_start g c =
-    kept_cut c.self.inside c.replace-before.new.dest c.write_document_start.new.pen c.args.first (c.replace-before.ensures.after ∙ c.new.ensures)
-    (stage_inside c.self.inside c.self.view_is c.requires.stage) c.self.invariant c.write_document_start.ensures.ready
+    kept_cut c.self.inside c.replace-before.new.dest c.write_document_start.new.pen c.in-Document.first (c.replace-before.ensures.after ∙ c.new.ensures)
+    (seen_at c.self.inside (Document c.in-Document.first) c.in-Document.is) c.self.invariant c.write_document_start.ensures.ready
 
 pub returns-in_err-write_document_start : goal.returns-in_err-write_document_start
-returns-in_err-write_document_start g c = λ empty.
-    let start : DocumentStart = record {
-      version = option_map seen_version c.args.version;
-      directives = map seen_directive c.args.own.now;
-      implicit = c.args.implicit;
-    } in
-    let emptied = record c.self.inside { directives = c.replace-before.new.dest } in
-    let at = stage_inside c.self.inside c.self.view_is c.requires.stage in
-    let same = seen_without c.self.inside c.replace-before.new.dest c.args.first at in
-    let after = record (machine_state emptied) { page = c.write_document_start.new.pen } in
-    subst (λ (s : MachineState). Processed (document_start start) empty s after c.from_residual-in_err-write_document_start.result) (same ∙ c.self.view_is)
-    (processed_exit (document_start start) empty
-    (machine_state emptied) after c.in_err-write_document_start.field-0.0 c.from_residual-in_err-write_document_start.result
-    c.from_residual-in_err-write_document_start.ensures
-    (document_start_cut empty (machine_state emptied) c.args.first start c.write_document_start.new.pen c.in_err-write_document_start.field-0.0
-    (ap (λ (s : MachineState). s.stage) same ∙ at)
-    (sym (c.in_ok-directives.ensures.refusal (λ h. cc))) c.in_err-write_document_start.ensures))
+returns-in_err-write_document_start g c =
+    first_of (
+      search (rules, document_start_cut, processed_exit, seen_at, seen_without),
+      grind (arith, common_steps, document_start_cut, processed_exit, seen_at, seen_without),
+    )
 
 pub invariant_of-self-2 : goal.invariant_of-self-2
 invariant_of-self-2 g c =
@@ -77,6 +68,7 @@ returns g c = λ empty.
       page = c.write_document_start.new.pen;
     } in
     subst (λ (s : MachineState). Processed (document_start start) empty s after (Ok tt)) c.self.view_is
-    (document_begun empty (machine_state c.self.inside) c.args.first start c.write_document_start.new.pen c.in_ok-directives.directives c.clear.new.self
-    (stage_inside c.self.inside c.self.view_is c.requires.stage)
+    (document_begun empty
+    (machine_state c.self.inside) c.in-Document.first start c.write_document_start.new.pen c.in_ok-directives.directives c.clear.new.self
+    (seen_at c.self.inside (Document c.in-Document.first) c.in-Document.is)
     (sym (c.in_ok-directives.ensures.refusal (λ h. cc))) c.in_ok-write_document_start.ensures c.in_ok-directives.ensures.in_force c.clear.ensures)

@@ -1,35 +1,9 @@
-use Rattle.yaml_emitter.proofs.Common.{◌==◌, option_map, Bool, not, ◌&&◌, ◌||◌, map, ap, sym, ◌∙◌, seen_version, seen_directive, seen_effective}
-use Rattle.yaml_emitter.proofs.Common.{seen_open_ended}
+use Rattle.yaml_emitter.proofs.Common.{arith, common_steps, rules}
 use Rattle.yaml_emitter.proofs.pieces.WritingPieces.{wrote_bare_start, wrote_document_start}
 use Rattle.yaml_emitter.proofs.writing.directives.write_document_start.Goals as goal
 
 pub returns-then-not-directed : goal.returns-then-not-directed
-returns-then-not-directed g c =
-    wrote_bare_start (seen_effective c.args.settings.now) c.args.first
-    (record {
-      version = option_map seen_version c.args.start.now.version;
-      directives = map seen_directive c.args.start.now.directives.now;
-      implicit = c.args.start.now.implicit;
-    })
-    (seen_open_ended c.args.open_ended)
-    (sym c.has_directives-directed.ensures ∙ c.if-not-directed.true)
-    (c.is_explicit-explicit.ensures
-    ∙ ap (λ (d : Bool). not c.args.start.now.implicit || not c.args.first || (c.args.settings.now.canonical || c.args.settings.now.portable) || d)
-    c.has_directives-directed.ensures)
-    c.write_document_marker.ensures
+returns-then-not-directed g c = first_of (search (rules, wrote_bare_start), grind (arith, common_steps, wrote_bare_start))
 
 pub returns : goal.returns
-returns g c =
-    wrote_document_start (seen_effective c.args.settings.now) c.args.first
-    (record {
-      version = option_map seen_version c.args.start.now.version;
-      directives = map seen_directive c.args.start.now.directives.now;
-      implicit = c.args.start.now.implicit;
-    })
-    (seen_open_ended c.args.open_ended)
-    (c.is_open.ensures
-    ∙ ap (λ (d : Bool). d && not (seen_open_ended c.args.open_ended == 0)) (sym c.if-not-directed.false ∙ c.has_directives-directed.ensures))
-    (c.is_explicit-explicit.ensures
-    ∙ ap (λ (d : Bool). not c.args.start.now.implicit || not c.args.first || (c.args.settings.now.canonical || c.args.settings.now.portable) || d)
-    c.has_directives-directed.ensures)
-    c.write_document_head.ensures
+returns g c = first_of (search (rules, wrote_document_start), grind (arith, common_steps, wrote_document_start))

@@ -30,24 +30,28 @@ invariant_of-self-2 g c =
     c.self.inside.bom_due c.self.inside.column _ c.self.invariant ready.bom_written is_utf8 (ascii-scalars raw ascii) adds
     (at_column c.args.at (column_after (decode (seen_encoding c.self.inside.encoding) c.self.inside.outlet.all) 0) c.requires.few)
 
-pub returns-in_err-append-clause-written : goal.returns-in_err-append-clause-written
-returns-in_err-append-clause-written g c =
-    wrote_exit c.from_residual.ensures
-    (Wrote-refused c.self.inside.encoding c.self.inside.line_break _ c.self.inside.outlet c.append.new.self c.self.inside.whitespace c.self.inside.indention
-    c.self.inside.bom_due c.self.inside.column c.args.self.now (line_begun c.args.at) _ c.self.invariant c.in_err-append.ensures
-    c.self.view_is c.requires.ready)
+pub returns-in_err-append : goal.returns-in_err-append
+returns-in_err-append g c = record {
+  written =
+      wrote_exit c.from_residual.ensures
+      (Wrote-refused c.self.inside.encoding c.self.inside.line_break _ c.self.inside.outlet c.append.new.self c.self.inside.whitespace c.self.inside.indention
+      c.self.inside.bom_due c.self.inside.column c.args.self.now (line_begun c.args.at) _ c.self.invariant c.in_err-append.ensures
+      c.self.view_is c.requires.ready);
+}
 
-pub returns-clause-written : goal.returns-clause-written
-returns-clause-written g c =
-    let raw = line_feed ∷ replicate c.args.at space in
-    let ready = subst IsReady (sym c.self.view_is) c.requires.ready in
-    let is_utf8 = no_bom _ ready.begun (ap (λ (p : Page). has_bom p.encoding) c.self.view_is ∙ c.requires.no_bom) in
-    let ascii = line_start_ascii c.args.at in
-    let bytes = line_start c.args.at c.requires.few ∙ ascii-bytes raw ascii in
-    let adds = AddsEvent-appended utf8 raw _ c.self.inside.outlet c.append.new.self c.in_ok-append.ensures bytes in
-    wrote_as (line_begun c.args.at) (broken_begun c.args.at c.args.self.now.cursor c.requires.breaks)
-    (Wrote-added utf8 raw c.self.inside.encoding c.self.inside.line_break c.self.inside.outlet c.append.new.self c.self.inside.whitespace
-    c.self.inside.indention
-    c.self.inside.bom_due c.self.inside.column c.args.self.now (render_text raw) c.self.invariant is_utf8
-    (ascii-scalars raw ascii) adds c.self.view_is
-    c.requires.ready (line_start_names c.args.at c.args.self.now c.requires.line_feed))
+pub returns : goal.returns
+returns g c = record {
+  written =
+      let raw = line_feed ∷ replicate c.args.at space in
+      let ready = subst IsReady (sym c.self.view_is) c.requires.ready in
+      let is_utf8 = no_bom _ ready.begun (ap (λ (p : Page). has_bom p.encoding) c.self.view_is ∙ c.requires.no_bom) in
+      let ascii = line_start_ascii c.args.at in
+      let bytes = line_start c.args.at c.requires.few ∙ ascii-bytes raw ascii in
+      let adds = AddsEvent-appended utf8 raw _ c.self.inside.outlet c.append.new.self c.in_ok-append.ensures bytes in
+      wrote_as (line_begun c.args.at) (broken_begun c.args.at c.args.self.now.cursor c.requires.breaks)
+      (Wrote-added utf8 raw c.self.inside.encoding c.self.inside.line_break c.self.inside.outlet c.append.new.self c.self.inside.whitespace
+      c.self.inside.indention
+      c.self.inside.bom_due c.self.inside.column c.args.self.now (render_text raw) c.self.invariant is_utf8
+      (ascii-scalars raw ascii) adds c.self.view_is
+      c.requires.ready (line_start_names c.args.at c.args.self.now c.requires.line_feed));
+}

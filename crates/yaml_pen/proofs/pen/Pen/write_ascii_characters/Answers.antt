@@ -6,10 +6,12 @@ write_characters-requires-clause-no_break g c =
     ap (λ (l : List ℕ). list_any is_break (chars l)) c.in-Ok.ensures.cases.0 ∙ ap (list_any is_break) (chars-IsAscii c.args.text.now c.requires.ascii)
     ∙ c.requires.no_break
 
-pub returns-in-Ok-clause-written : goal.returns-in-Ok-clause-written
-returns-in-Ok-clause-written g c =
-    subst (λ (t : Text). Wrote (render_text t) c.args.self.now c.write_characters.new.self c.write_characters.result)
-    (ap chars c.in-Ok.ensures.cases.0 ∙ chars-IsAscii c.args.text.now c.requires.ascii) c.write_characters.ensures.written
+pub returns-in-Ok : goal.returns-in-Ok
+returns-in-Ok g c = record {
+  written =
+      subst (λ (t : Text). Wrote (render_text t) c.args.self.now c.write_characters.new.self c.write_characters.result)
+      (ap chars c.in-Ok.ensures.cases.0 ∙ chars-IsAscii c.args.text.now c.requires.ascii) c.write_characters.ensures.written;
+}
 
-pub returns-in-Err-clause-written : goal.returns-in-Err-clause-written
-returns-in-Err-clause-written g c = absurd (c.in-Err.ensures.cases.0 (IsUtf8-from_ascii c.args.text.now c.requires.ascii))
+pub returns-in-Err : goal.returns-in-Err
+returns-in-Err g c = record { written = absurd (c.in-Err.ensures.cases.0 (IsUtf8-from_ascii c.args.text.now c.requires.ascii)) }

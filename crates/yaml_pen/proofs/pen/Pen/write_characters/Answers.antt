@@ -31,18 +31,24 @@ loop-character-preserved g c =
       no_break = (or_parts _ _ (sym (ap (list_any is_break) step) ∙ c.loop-character.invariant.no_break)).1;
     }
 
-pub returns-in_err-write_character-clause-written : goal.returns-in_err-write_character-clause-written
-returns-in_err-write_character-clause-written g c =
-    let step = chars_past_char _ (chars_rest c.next.new.self) c.in-Some.character c.loop-character.invariant.is_text c.in-Some.ensures.steps.0 in
-    wrote_exit c.from_residual-in_err-write_character.ensures
-    (still_failed (render_text (chars (chars_rest c.next.new.self))) (still_part (c.in-Some.character ∷ []) _ step c.loop-character.invariant.still)
-    c.in_err-write_character.ensures.written)
+pub returns-in_err-write_character : goal.returns-in_err-write_character
+returns-in_err-write_character g c = record {
+  written =
+      let step = chars_past_char _ (chars_rest c.next.new.self) c.in-Some.character c.loop-character.invariant.is_text c.in-Some.ensures.steps.0 in
+      wrote_exit c.from_residual-in_err-write_character.ensures
+      (still_failed (render_text (chars (chars_rest c.next.new.self))) (still_part (c.in-Some.character ∷ []) _ step c.loop-character.invariant.still)
+      c.in_err-write_character.ensures.written);
+}
 
-pub returns-clause-written : goal.returns-clause-written
-returns-clause-written g c =
-    (end_still render_text _ c.in_default.ensures.steps.0.0 c.loop-character.invariant.still).writes _ _ c.loop-character.invariant.unfailed
+pub returns : goal.returns
+returns g c = record {
+  written =
+      (end_still render_text _ c.in_default.ensures.steps.0.0 c.loop-character.invariant.still).writes _ _ c.loop-character.invariant.unfailed;
+}
 
-pub returns-in_err-write_nothing-clause-written : goal.returns-in_err-write_nothing-clause-written
-returns-in_err-write_nothing-clause-written g c =
-    let text = chars c.args.text.now in
-    wrote_exit c.from_residual.ensures (wrote_cut (render_text text) text refl c.in_err-write_nothing.ensures)
+pub returns-in_err-write_nothing : goal.returns-in_err-write_nothing
+returns-in_err-write_nothing g c = record {
+  written =
+      let text = chars c.args.text.now in
+      wrote_exit c.from_residual.ensures (wrote_cut (render_text text) text refl c.in_err-write_nothing.ensures);
+}

@@ -10,7 +10,9 @@ pub write_ascii-requires-clause-no_break : goal.write_ascii-requires-clause-no_b
 write_ascii-requires-clause-no_break g c =
     ap (list_any is_break) (take-replicate c.args.count 64 space c.requires.few) ∙ spaces_unbroken c.args.count
 
-pub returns-clause-written : goal.returns-clause-written
-returns-clause-written g c =
-    subst (λ (l : List ℕ). Wrote (render_text l) c.args.self.now c.write_ascii.new.self c.write_ascii.result)
-    (take-replicate c.args.count 64 space c.requires.few) c.write_ascii.ensures.written
+pub returns : goal.returns
+returns g c = record {
+  written =
+      subst (λ (l : List ℕ). Wrote (render_text l) c.args.self.now c.write_ascii.new.self c.write_ascii.result)
+      (take-replicate c.args.count 64 space c.requires.few) c.write_ascii.ensures.written;
+}

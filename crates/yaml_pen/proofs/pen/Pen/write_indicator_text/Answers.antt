@@ -10,7 +10,9 @@ put-requires-clause-no_break g c =
     let one = one_byte_chars c.as_bytes.result.now c.as_bytes.ensures.utf8 c.in-len1.len_at_least c.in-len1.len_below in
     (or_parts _ _ (ap (list_any is_break) one ∙ ap (λ b. list_any is_break (chars b)) c.as_bytes.ensures.value ∙ c.requires.no_break)).0
 
-pub returns-in-len1-clause-written : goal.returns-in-len1-clause-written
-returns-in-len1-clause-written g c =
-    let one = one_byte_chars c.as_bytes.result.now c.as_bytes.ensures.utf8 c.in-len1.len_at_least c.in-len1.len_below in
-    subst (λ (t : Text). Wrote (render_text t) c.args.self.now c.put.new.self c.put.result) (one ∙ ap chars c.as_bytes.ensures.value) c.put.ensures.written
+pub returns-in-len1 : goal.returns-in-len1
+returns-in-len1 g c = record {
+  written =
+      let one = one_byte_chars c.as_bytes.result.now c.as_bytes.ensures.utf8 c.in-len1.len_at_least c.in-len1.len_below in
+      subst (λ (t : Text). Wrote (render_text t) c.args.self.now c.put.new.self c.put.result) (one ∙ ap chars c.as_bytes.ensures.value) c.put.ensures.written;
+}

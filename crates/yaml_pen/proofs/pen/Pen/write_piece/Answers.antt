@@ -1,7 +1,6 @@
 use Rattle.yaml_pen.proofs.Common.{ap, subst, sym, ◌∙◌, scalars-chars, chars, render_text, utf8, Page, has_bom, IsReady}
 use Rattle.yaml_pen.proofs.Writing.{AddsEvent-appended, IsPen-added, Wrote-added, no_bom, utf8-bytes, Names-run, piece-column}
 use Rattle.yaml_pen.proofs.{Composing.wrote_exit, Refused.Wrote-refused}
-use Rattle.yaml_pen.proofs.Refused.{refused_stays}
 use Rattle.yaml_pen.proofs.pen.Pen.write_piece.Goals as goal
 
 pub invariant_of-self-2 : goal.invariant_of-self-2
@@ -17,25 +16,26 @@ invariant_of-self-2 g c =
     (c.saturating_add-self-inside.ensures
     ∙ piece-column text _ c.self.inside.column c.character_count.result c.requires.no_break c.self.invariant.column c.character_count.ensures)
 
-pub returns-in_err-append-clause-written : goal.returns-in_err-append-clause-written
-returns-in_err-append-clause-written g c =
-    wrote_exit c.from_residual.ensures
-    (Wrote-refused c.self.inside.encoding c.self.inside.line_break _ c.self.inside.outlet c.append.new.self c.self.inside.whitespace c.self.inside.indention
-    c.self.inside.bom_due c.self.inside.column c.args.self.now (render_text (chars c.args.text.now)) _ c.self.invariant c.in_err-append.ensures
-    c.self.view_is c.requires.ready)
+pub returns-in_err-append : goal.returns-in_err-append
+returns-in_err-append g c = record {
+  written =
+      wrote_exit c.from_residual.ensures
+      (Wrote-refused c.self.inside.encoding c.self.inside.line_break _ c.self.inside.outlet c.append.new.self c.self.inside.whitespace c.self.inside.indention
+      c.self.inside.bom_due c.self.inside.column c.args.self.now (render_text (chars c.args.text.now)) _ c.self.invariant c.in_err-append.ensures
+      c.self.view_is c.requires.ready);
+}
 
-pub returns-clause-written : goal.returns-clause-written
-returns-clause-written g c =
-    let text = chars c.args.text.now in
-    let ready = subst IsReady (sym c.self.view_is) c.requires.ready in
-    let is_utf8 = no_bom _ ready.begun (ap (λ (p : Page). has_bom p.encoding) c.self.view_is ∙ c.requires.no_bom) in
-    let bytes = c.as_bytes.ensures.value ∙ utf8-bytes c.args.text.now c.utf8.text in
-    let adds = AddsEvent-appended utf8 text _ c.self.inside.outlet c.append.new.self c.in_ok-append.ensures bytes in
-    Wrote-added utf8 text c.self.inside.encoding c.self.inside.line_break c.self.inside.outlet c.append.new.self c.self.inside.whitespace
-    c.self.inside.indention
-    c.self.inside.bom_due c.self.inside.column c.args.self.now (render_text text) c.self.invariant is_utf8
-    (scalars-chars c.args.text.now c.utf8.text) adds c.self.view_is
-    c.requires.ready (Names-run text c.args.self.now c.requires.no_break)
-
-pub returns-in_err-append-clause-stays : goal.returns-in_err-append-clause-stays
-returns-in_err-append-clause-stays g c some = refused_stays _ _ _ _ _ c.self.view_is c.in_err-append.ensures.stopped some
+pub returns : goal.returns
+returns g c = record {
+  written =
+      let text = chars c.args.text.now in
+      let ready = subst IsReady (sym c.self.view_is) c.requires.ready in
+      let is_utf8 = no_bom _ ready.begun (ap (λ (p : Page). has_bom p.encoding) c.self.view_is ∙ c.requires.no_bom) in
+      let bytes = c.as_bytes.ensures.value ∙ utf8-bytes c.args.text.now c.utf8.text in
+      let adds = AddsEvent-appended utf8 text _ c.self.inside.outlet c.append.new.self c.in_ok-append.ensures bytes in
+      Wrote-added utf8 text c.self.inside.encoding c.self.inside.line_break c.self.inside.outlet c.append.new.self c.self.inside.whitespace
+      c.self.inside.indention
+      c.self.inside.bom_due c.self.inside.column c.args.self.now (render_text text) c.self.invariant is_utf8
+      (scalars-chars c.args.text.now c.utf8.text) adds c.self.view_is
+      c.requires.ready (Names-run text c.args.self.now c.requires.no_break);
+}

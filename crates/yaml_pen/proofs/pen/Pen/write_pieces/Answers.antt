@@ -29,21 +29,25 @@ loop-rest-smaller g c =
     let len = c.split_at.ensures.back_len in
     omega arith
 
-pub returns-in_err-write_piece-clause-written : goal.returns-in_err-write_piece-clause-written
-returns-in_err-write_piece-clause-written g c =
-    let so_far = c.loop-rest.invariant in
-    let step = chars-cut _ _ _ _ so_far.is_text c.floor_char_boundary.ensures.boundary c.split_at.ensures.front c.split_at.ensures.back in
-    wrote_exit c.from_residual-in_err-write_piece.ensures
-    (still_failed (render_text (chars c.split_at.result.1.now)) (still_part (chars c.split_at.result.0.now) _ step so_far.still)
-    c.in_err-write_piece.ensures.written)
+pub returns-in_err-write_piece : goal.returns-in_err-write_piece
+returns-in_err-write_piece g c = record {
+  written =
+      let so_far = c.loop-rest.invariant in
+      let step = chars-cut _ _ _ _ so_far.is_text c.floor_char_boundary.ensures.boundary c.split_at.ensures.front c.split_at.ensures.back in
+      wrote_exit c.from_residual-in_err-write_piece.ensures
+      (still_failed (render_text (chars c.split_at.result.1.now)) (still_part (chars c.split_at.result.0.now) _ step so_far.still)
+      c.in_err-write_piece.ensures.written);
+}
 
-pub returns-clause-written : goal.returns-clause-written
-returns-clause-written g c = c.loop-rest.invariant.still.writes _ _ c.write_piece-2.ensures.written
+pub returns : goal.returns
+returns g c = record { written = c.loop-rest.invariant.still.writes _ _ c.write_piece-2.ensures.written }
 
-pub returns-in_err-write_nothing-clause-written : goal.returns-in_err-write_nothing-clause-written
-returns-in_err-write_nothing-clause-written g c =
-    let text = chars c.args.text.now in
-    wrote_exit c.from_residual.ensures (wrote_cut (render_text text) text refl c.in_err-write_nothing.ensures)
+pub returns-in_err-write_nothing : goal.returns-in_err-write_nothing
+returns-in_err-write_nothing g c = record {
+  written =
+      let text = chars c.args.text.now in
+      wrote_exit c.from_residual.ensures (wrote_cut (render_text text) text refl c.in_err-write_nothing.ensures);
+}
 
 pub loop-rest-init : goal.loop-rest-init
 loop-rest-init g c =

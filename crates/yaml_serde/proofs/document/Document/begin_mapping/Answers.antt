@@ -9,6 +9,7 @@ invariant_of-self g c =
     let answer = c.begin_mapping-begun in
     record {
       stands =
-          stands_begun g.W.Write.contents g.G.Given.held g.G.Given.keeps g.G.Given.start answer.result self.outlet self.base self.writer answer.new.self
-          Mapping (mapping_call (with_collection self.writer Mapping)) answer.ensures.given answer.ensures.failed self.stands;
+          stands_begun g.W.Write.contents g.G.Given.held g.G.Given.name g.G.Given.keeps g.G.Given.start
+          answer.result self.outlet self.base self.writer answer.new.self
+          Mapping (mapping_call (with_collection self.writer Mapping)) answer.ensures self.stands;
     }

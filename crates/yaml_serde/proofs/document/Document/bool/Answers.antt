@@ -7,6 +7,7 @@ invariant_of-self g c =
     let answer = c.bool-given in
     record {
       stands =
-          stands_given g.W.Write.contents g.G.Given.held g.G.Given.keeps g.G.Given.start answer.result self.outlet self.base self.writer answer.new.self
-          (bool_call self.writer c.args.value) answer.ensures.given answer.ensures.failed self.stands;
+          stands_given g.W.Write.contents g.G.Given.held g.G.Given.name g.G.Given.keeps g.G.Given.start
+          answer.result self.outlet self.base self.writer answer.new.self
+          (bool_call self.writer c.args.value) answer.ensures self.stands;
     }

@@ -9,6 +9,7 @@ invariant_of-self g c =
     let inner : self.base < length self.writer.levels = omega arith in
     record {
       stands =
-          stands_ended g.W.Write.contents g.G.Given.held g.G.Given.keeps g.G.Given.start answer.result self.outlet self.base self.writer answer.new.self
+          stands_ended g.W.Write.contents g.G.Given.held g.G.Given.name g.G.Given.keeps g.G.Given.start
+          answer.result self.outlet self.base self.writer answer.new.self
           inner answer.ensures.awaited answer.ensures.ended self.stands;
     }

@@ -8,6 +8,7 @@ invariant_of-self g c =
     let answer = c.tagged in
     record {
       stands =
-          stands_tagged g.W.Write.contents g.G.Given.held g.G.Given.keeps g.G.Given.start answer.result self.outlet self.base self.writer answer.new.self
+          stands_tagged g.W.Write.contents g.G.Given.held g.G.Given.name g.G.Given.keeps g.G.Given.start
+          answer.result self.outlet self.base self.writer answer.new.self
           (chars c.args.tag.now) answer.ensures.tagged answer.ensures.memory self.stands;
     }

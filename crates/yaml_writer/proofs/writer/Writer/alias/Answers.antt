@@ -7,5 +7,5 @@ returns-clause-passed g c none =
     let after = c.give_alias.new.emitter in
     inr
     (passed (state_of c.self.inside) c.args.self.now (alias (chars c.args.name.now) ∷ []) c.give_alias.result after c.self.view_is
-    (subst (λ (name : Text). AddsEvents c.self.inside.emitter (alias name ∷ []) after) c.in_ok-name.ensures.text c.give_alias.ensures.adds)
+    (subst (λ (name : Text). AddsEvents c.self.inside.emitter (alias name ∷ []) after) c.in_ok-name.ensures c.give_alias.ensures.adds)
     c.give_alias.ensures.grows c.give_alias.ensures.answered)

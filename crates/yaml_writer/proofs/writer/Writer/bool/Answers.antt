@@ -5,7 +5,5 @@ use Rattle.yaml_writer.proofs.writer.Writer.bool.Goals as goal
 
 pub returns : goal.returns
 returns g c =
-    let both =
     given_as c.args.self.now c.word.new.self c.word.result
-    (ap₂ (word_event c.args.self.now) (chars-literal bool_tag refl) c.word_of.ensures) c.word.ensures.given c.word.ensures.failed in
-    record { given = both.0; failed = both.1 }
+    (ap₂ (word_event c.args.self.now) (chars-literal bool_tag refl) c.word_of.ensures) c.word.ensures

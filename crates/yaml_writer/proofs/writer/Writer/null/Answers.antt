@@ -5,7 +5,5 @@ use Rattle.yaml_writer.proofs.writer.Writer.null.Goals as goal
 
 pub returns : goal.returns
 returns g c =
-    let both =
     given_as c.args.self.now c.word.new.self c.word.result
-    (ap₂ (word_event c.args.self.now) (chars-literal null_tag refl) (chars-literal (codes "null") refl)) c.word.ensures.given c.word.ensures.failed in
-    record { given = both.0; failed = both.1 }
+    (ap₂ (word_event c.args.self.now) (chars-literal null_tag refl) (chars-literal (codes "null") refl)) c.word.ensures

@@ -9,9 +9,7 @@ returns-then-is_spelled g c =
     let number = c.args.number.now in
     let text : chars c.as_str.result.now ≡ yaml_number number =
     (number_by_chars c.as_str.result.now number c.as_str.ensures).text_is ∙ sym (same_spelling number (sym c.is_spelled.ensures ∙ c.if-is_spelled.true)) in
-    let both =
     given_as before c.scalar.new.self c.scalar.result
     (ap₂ (λ (tag : Option Text) (text : Text). scalar_event before tag text plain)
     (ap (option_or before.tag) c.number_tag-own.ensures ∙ or_own before.tag before.canonical (number_tag number)) text)
-    c.scalar.ensures.given c.scalar.ensures.failed in
-    record { given = both.0; failed = both.1 }
+    c.scalar.ensures

@@ -5,7 +5,5 @@ use Rattle.yaml_writer.proofs.writer.Writer.respelled_number.Goals as goal
 pub returns-in-Ok : goal.returns-in-Ok
 returns-in-Ok g c =
     let spelled : chars c.as_str.result.now ≡ yaml_number c.args.number.now = ap chars c.as_str.ensures ∙ c.in-Ok.ensures.spelled in
-    let both =
     given_as c.args.self.now c.word.new.self c.word.result
-    (ap₂ (word_event c.args.self.now) c.tag_of_number.ensures spelled) c.word.ensures.given c.word.ensures.failed in
-    record { given = both.0; failed = both.1 }
+    (ap₂ (word_event c.args.self.now) c.tag_of_number.ensures spelled) c.word.ensures

@@ -1,9 +1,11 @@
 use Rattle.yaml_writer.proofs.Common.{Option, None, chars, is_none, is_some, false, ◌||◌, ◌≡◌, refl, ap, ap₂, subst, sym, ◌∙◌, option_or, Event, Text, scalar}
 use Rattle.yaml_writer.proofs.Common.{seen_scalar_style, state_of, WriterState}
-use Rattle.yaml_base.proofs.Common.{Some, ◌⊎◌, false≢true, or_parts}
+use Rattle.yaml_base.proofs.Common.{Some, false≢true, or_parts}
+use Rattle.std.specs.Prelude.{Result}
+use Rattle.yaml_base.specs.declared.errors.yaml_error_t.{yaml_error_t}
 use Rattle.yaml_base.specs.Event.{ScalarStyle}
-use Rattle.yaml_emitter.specs.{BorrowedTexts.seen_name, BorrowedTexts.seen_scalar, EmitsEvent.EmitsEvent, EmitsEvent.CopyFailed}
-use Rattle.yaml_writer.{proofs.Taken.gave_bare, specs.Writing.scalar_event}
+use Rattle.yaml_emitter.specs.{BorrowedTexts.seen_name, BorrowedTexts.seen_scalar, EmitsEvent.EmitsScalar}
+use Rattle.yaml_writer.{proofs.Taken.gave_bare, specs.Writing.Gives, specs.Writing.scalar_event}
 use Rattle.yaml_writer.proofs.writer.Writer.scalar.Goals as goal
 
 none_is : (text : Option Text) → is_some text ≡ false → text ≡ None
@@ -43,7 +45,7 @@ returns g c =
     let no_tag = none_is before.tag bare.1 in
     let same : scalar (seen_scalar c.bare_scalar.result) ≡ event c.args.self.now =
     ap scalar c.bare_scalar.ensures ∙ bare_event before own value style no_anchor no_tag ∙ ap event c.self.view_is in
-    let emits = subst (λ (e : Event). EmitsEvent before.emitter e answer emitter ⊎ CopyFailed before.emitter answer emitter) same
-    c.yaml_emitter_emit_scalar.ensures.emits in
-    let both = gave_bare before c.args.self.now emitter (event c.args.self.now) answer c.self.view_is emits no_anchor no_tag in
-    record { given = both.0; failed = both.1 }
+    let emits = subst (λ (e : Event). EmitsScalar before.emitter e answer emitter) same c.yaml_emitter_emit_scalar.ensures.emits in
+    subst (λ (r : Result (Unit {0}) yaml_error_t). Gives c.args.self.now (event c.args.self.now) r (record before { emitter = emitter }))
+    (sym c.into_result.ensures)
+    (gave_bare before c.args.self.now emitter (event c.args.self.now) answer c.self.view_is emits no_anchor no_tag)

@@ -4,7 +4,5 @@ use Rattle.yaml_writer.proofs.writer.Writer.special_float.Goals as goal
 
 pub returns : goal.returns
 returns g c =
-    let both =
     given_as c.args.self.now c.word.new.self c.word.result
-    (ap₂ (word_event c.args.self.now) (chars-literal float_tag refl) c.special_word.ensures) c.word.ensures.given c.word.ensures.failed in
-    record { given = both.0; failed = both.1 }
+    (ap₂ (word_event c.args.self.now) (chars-literal float_tag refl) c.special_word.ensures) c.word.ensures

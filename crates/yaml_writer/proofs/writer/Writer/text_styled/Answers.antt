@@ -11,8 +11,6 @@ or_none (Some tag) = refl
 pub returns : goal.returns
 returns g c =
     let before : WriterState = c.args.self.now in
-    let both =
     given_as before c.scalar.new.self c.scalar.result
     (ap₂ (λ (tag : Option Text) (style : ScalarStyle). scalar_event before tag (chars c.args.value.now) style) (or_none before.tag) c.style_for.ensures)
-    c.scalar.ensures.given c.scalar.ensures.failed in
-    record { given = both.0; failed = both.1 }
+    c.scalar.ensures

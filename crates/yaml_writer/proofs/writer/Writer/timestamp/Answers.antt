@@ -16,9 +16,7 @@ returns-in-Ok g c =
     let own : seen_name c.own_tag-tag.result ≡ tag_or_default None (before.canonical || is_some moment.time) timestamp_tag =
     c.own_tag-tag.ensures ∙ ap₂ (tag_or_default None) needed (chars-literal timestamp_tag refl) in
     let text : chars c.as_str.result.now ≡ timestamp_text moment = ap chars c.as_str.ensures.value ∙ c.in-Ok.ensures.text in
-    let both =
     given_as before c.scalar.new.self c.scalar.result
     (ap₂ (λ (tag : Option Text) (text : Text). scalar_event before tag text plain)
     (ap (option_or before.tag) own ∙ or_own before.tag (before.canonical || is_some moment.time) timestamp_tag) text)
-    c.scalar.ensures.given c.scalar.ensures.failed in
-    record { given = both.0; failed = both.1 }
+    c.scalar.ensures

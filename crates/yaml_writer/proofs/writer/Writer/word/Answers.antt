@@ -10,9 +10,7 @@ returns g c =
     let tag = chars c.args.tag.now in
     let own : seen_name c.own_tag-own.result ≡ tag_or_default None before.canonical tag =
     c.own_tag-own.ensures ∙ ap (λ (writer : WriterState). tag_or_default None writer.canonical tag) c.self.view_is in
-    let both =
     given_as before c.scalar.new.self c.scalar.result
     (ap (λ (own : Option Text). scalar_event before own (chars c.args.word.now) plain)
     (ap (option_or before.tag) own ∙ or_own before.tag before.canonical tag))
-    c.scalar.ensures.given c.scalar.ensures.failed in
-    record { given = both.0; failed = both.1 }
+    c.scalar.ensures

@@ -1,37 +1,14 @@
 use Rattle.yaml_emitter.proofs.Common.{rules, refl, List, ℕ, true, false, ◌≡◌, ap, ◌∙◌, chars, list_any, is_break}
 use Rattle.yaml_base.specs.Indicators.{Indicator, opening, tight, indented, spaced}
 use Rattle.yaml_emitter.specs.{Atoms.is_visible_ascii, WrittenAtoms.seen_indicator, declared.writing.indicators.IndicatorKind.IndicatorKind}
-use Rattle.yaml_emitter.specs.declared.writing.indicators.IndicatorKind.TheVariants.{DocumentStart, DocumentEnd, YamlDirective, Version11, Version12}
-use Rattle.yaml_emitter.specs.declared.writing.indicators.IndicatorKind.TheVariants.{TagDirective, FlowSequenceStart, FlowSequenceEnd}
-use Rattle.yaml_emitter.specs.declared.writing.indicators.IndicatorKind.TheVariants.{FlowMappingStart, FlowMappingEnd, FlowEntry, FlowKey, FlowValue}
-use Rattle.yaml_emitter.specs.declared.writing.indicators.IndicatorKind.TheVariants.{BlockEntry, BlockKey, BlockValue, SimpleValue, Anchor, Alias}
-use Rattle.yaml_emitter.specs.declared.writing.indicators.IndicatorKind.TheVariants.{VerbatimStart, VerbatimEnd}
+use Rattle.yaml_emitter.specs.declared.writing.indicators.IndicatorKind.TheVariants.{DocumentStart}
 use Rattle.yaml_emitter.proofs.pieces.Atoms.{symbol-chars, symbol-no_break}
 use Rattle.yaml_emitter.proofs.writing.indicators.IndicatorKind.indicator.Goals as goal
 
 -- an indicator is of characters that stand for themselves
 visible : (kind : IndicatorKind) → is_visible_ascii (seen_indicator kind).text ≡ true
 visible DocumentStart = refl
-visible DocumentEnd = refl
-visible YamlDirective = refl
-visible Version11 = refl
-visible Version12 = refl
-visible TagDirective = refl
-visible FlowSequenceStart = refl
-visible FlowSequenceEnd = refl
-visible FlowMappingStart = refl
-visible FlowMappingEnd = refl
-visible FlowEntry = refl
-visible FlowKey = refl
-visible FlowValue = refl
-visible BlockEntry = refl
-visible BlockKey = refl
-visible BlockValue = refl
-visible SimpleValue = refl
-visible Anchor = refl
-visible Alias = refl
-visible VerbatimStart = refl
-visible VerbatimEnd = refl
+visible kind = refl
 
 visible_text : (kind : IndicatorKind) {bytes : List ℕ} → bytes ≡ (seen_indicator kind).text → is_visible_ascii bytes ≡ true
 visible_text kind is = ap is_visible_ascii is ∙ visible kind

@@ -1,0 +1,3 @@
+mod Files
+mod Doing
+mod Portable

@@ -1,0 +1,239 @@
+-- The loops of the grammar, a turn at a time.
+use Rattle.std.proofs.Common.{◌≡◌, ℕ, zero, suc, ◌-◌, ◌<◌, true, false, ◌||◌, ◌==◌, List, [], ◌∷◌, length, drop, Option, Some, None, Result, Ok, Err, refl, ap, ◌∙◌, arith}
+use Rattle.std.proofs.Common.{take, take_all, length-drop, option_map, cond, Bool, sym, inl, inr, ◌⊎◌, ◌≤◌}
+use Rattle.std.proofs.lemmas.Bool.{cases_lt}
+use Rattle.std.specs.Result.{IsErrAnd}
+use Rattle.toml_parser.specs.Numbers.{unquoted, word_len, word_value}
+use Rattle.toml_parser.specs.Strings.{starts_string}
+use Rattle.toml_parser.specs.declared.scalar.Scalar.{Scalar}
+use Rattle.toml_parser.specs.declared.error.ParseError.{ParseError}
+use Rattle.toml_parser.specs.declared.error.ParseError.TheVariants as parse
+use Rattle.toml_parser.specs.Lexical.{Read, first, skip_blank}
+use Rattle.toml_parser.specs.Strings.{Key}
+use Rattle.toml.specs.Parse.{read_map, after_element, key_equals, skip_bom}
+use Rattle.toml_ordered.specs.Data.{Node, Items, no_items, array, table, push_item, Nodes, no_nodes}
+use Rattle.toml_ordered.specs.Tables.{put, Document, Expression, define, Edit, along, passed, get_node, replace, append, made_by, Definition, redefine, new_node, at_key}
+use Rattle.toml_ordered.specs.Reading.{Gives, IsMemory, fault_of}
+use Rattle.toml_ordered.specs.declared.fault.Fault.{Fault}
+use Rattle.toml_ordered.specs.declared.route.Way.{Way}
+use Rattle.toml_ordered.specs.Grammar.{scalar_node, atom, val, keyval, items, members, line, lines, ordered_document}
+use Rattle.toml_ordered.specs.declared.tree.Origin.TheVariants.{Closed}
+
+module _ (val : List ℕ → Read Node) where
+  pub items_end : (m : ℕ) (found : Items) (text : List ℕ) → 0 < m → (first (skip_blank text) == 93) ≡ true
+      → items val m found text ≡ Some (found, drop 1 (skip_blank text))
+  unfolding items
+  items_end zero found text some closing = absurd (omega arith)
+  items_end (suc m) found text some closing = rw closing
+
+  pub items_more : (m : ℕ) (found : Items) (text : List ℕ) (x : Node) (after next : List ℕ) → 0 < m → (first (skip_blank text) == 93) ≡ false
+      → val (skip_blank text) ≡ Some (x, after) → after_element 93 after ≡ Some next
+      → items val m found text ≡ items val (m - 1) (push_item found x) next
+  unfolding items
+  items_more zero found text x after next some other read element = absurd (omega arith)
+  items_more (suc m) found text x after next some other read element =
+      let less : suc m - 1 ≡ m = omega arith in
+      rw (other, read, element, less)
+
+  pub items_bad : (m : ℕ) (found : Items) (text : List ℕ) → 0 < m → (first (skip_blank text) == 93) ≡ false
+      → val (skip_blank text) ≡ None → items val m found text ≡ None
+  unfolding items
+  items_bad zero found text some other read = absurd (omega arith)
+  items_bad (suc m) found text some other read = rw (other, read)
+
+  pub items_unended : (m : ℕ) (found : Items) (text : List ℕ) (x : Node) (after : List ℕ) → 0 < m → (first (skip_blank text) == 93) ≡ false
+      → val (skip_blank text) ≡ Some (x, after) → after_element 93 after ≡ None → items val m found text ≡ None
+  unfolding items
+  items_unended zero found text x after some other read element = absurd (omega arith)
+  items_unended (suc m) found text x after some other read element = rw (other, read, element)
+
+  pub keyval_is : (text : List ℕ) (key : Key) (at after : List ℕ) (x : Node) → key_equals text ≡ Some (key, at) → val at ≡ Some (x, after)
+      → keyval val text ≡ Some ((key, x), after)
+  keyval_is text key at after x named read = rw (named, read)
+
+  pub keyval_nameless : (text : List ℕ) → key_equals text ≡ None → keyval val text ≡ None
+  keyval_nameless text named = rw named
+
+  pub keyval_bad : (text : List ℕ) (key : Key) (at : List ℕ) → key_equals text ≡ Some (key, at) → val at ≡ None → keyval val text ≡ None
+  keyval_bad text key at named read = rw (named, read)
+
+  pub members_end : (m : ℕ) (found : Nodes) (text : List ℕ) → 0 < m → (first (skip_blank text) == 125) ≡ true
+      → members val m found text ≡ Some (found, drop 1 (skip_blank text))
+  unfolding members
+  members_end zero found text some closing = absurd (omega arith)
+  members_end (suc m) found text some closing = rw closing
+
+  pub members_more : (m : ℕ) (found more : Nodes) (text : List ℕ) (key : Key) (x : Node) (after next : List ℕ) → 0 < m
+      → (first (skip_blank text) == 125) ≡ false → keyval val (skip_blank text) ≡ Some ((key, x), after) → put key x found ≡ Some more
+      → after_element 125 after ≡ Some next → members val m found text ≡ members val (m - 1) more next
+  unfolding members
+  members_more zero found more text key x after next some other read defined element = absurd (omega arith)
+  members_more (suc m) found more text key x after next some other read defined element =
+      let less : suc m - 1 ≡ m = omega arith in
+      rw (other, read, defined, element, less)
+
+  pub members_bad : (m : ℕ) (found : Nodes) (text : List ℕ) → 0 < m → (first (skip_blank text) == 125) ≡ false
+      → keyval val (skip_blank text) ≡ None → members val m found text ≡ None
+  unfolding members
+  members_bad zero found text some other read = absurd (omega arith)
+  members_bad (suc m) found text some other read = rw (other, read)
+
+  pub members_again : (m : ℕ) (found : Nodes) (text : List ℕ) (key : Key) (x : Node) (after : List ℕ) → 0 < m
+      → (first (skip_blank text) == 125) ≡ false → keyval val (skip_blank text) ≡ Some ((key, x), after) → put key x found ≡ None
+      → members val m found text ≡ None
+  unfolding members
+  members_again zero found text key x after some other read defined = absurd (omega arith)
+  members_again (suc m) found text key x after some other read defined = rw (other, read, defined)
+
+  pub members_unended : (m : ℕ) (found more : Nodes) (text : List ℕ) (key : Key) (x : Node) (after : List ℕ) → 0 < m
+      → (first (skip_blank text) == 125) ≡ false → keyval val (skip_blank text) ≡ Some ((key, x), after) → put key x found ≡ Some more
+      → after_element 125 after ≡ None → members val m found text ≡ None
+  unfolding members
+  members_unended zero found more text key x after some other read defined element = absurd (omega arith)
+  members_unended (suc m) found more text key x after some other read defined element = rw (other, read, defined, element)
+
+pub val_atom : (depth : ℕ) (text : List ℕ) → (first text == 91) ≡ false → (first text == 123) ≡ false → val depth text ≡ atom text
+unfolding val
+val_atom zero text a b = rw (a, b)
+val_atom (suc depth) text a b = rw (a, b)
+
+pub val_deep : (text : List ℕ) → (first text == 91 || first text == 123) ≡ true → val 0 text ≡ None
+unfolding val
+val_deep text h = rw h
+
+pub val_array : (depth : ℕ) (text : List ℕ) → 0 < depth → (first text == 91) ≡ true
+    → val depth text ≡ read_map array (items (val (depth - 1)) (length text) no_items (drop 1 text))
+unfolding val
+val_array zero text some a = absurd (omega arith)
+val_array (suc depth) text some a =
+    let less : suc depth - 1 ≡ depth = omega arith in
+    rw (a, less)
+
+pub val_table : (depth : ℕ) (text : List ℕ) → 0 < depth → (first text == 91) ≡ false → (first text == 123) ≡ true
+    → val depth text ≡ read_map (table Closed) (members (val (depth - 1)) (length text) no_nodes (drop 1 text))
+unfolding val
+val_table zero text some a b = absurd (omega arith)
+val_table (suc depth) text some a b =
+    let less : suc depth - 1 ≡ depth = omega arith in
+    rw (a, b, less)
+
+pub lines_end : (m : ℕ) (doc : Document) (text : List ℕ) → 0 < m → length (skip_blank text) ≡ 0 → lines m doc text ≡ Some doc
+unfolding lines
+lines_end zero doc text some none = absurd (omega arith)
+lines_end (suc m) doc text some none = rw none
+
+pub lines_more : (m : ℕ) (doc next : Document) (text : List ℕ) (e : Expression) (after : List ℕ) → 0 < m → (length (skip_blank text) == 0) ≡ false
+    → line (skip_blank text) ≡ Some (e, after) → define doc e ≡ Some next → lines m doc text ≡ lines (m - 1) next after
+unfolding lines
+lines_more zero doc next text e after some other read defined = absurd (omega arith)
+lines_more (suc m) doc next text e after some other read defined =
+    let less : suc m - 1 ≡ m = omega arith in
+    rw (other, read, defined, less)
+
+pub lines_bad : (m : ℕ) (doc : Document) (text : List ℕ) → 0 < m → (length (skip_blank text) == 0) ≡ false → line (skip_blank text) ≡ None
+    → lines m doc text ≡ None
+unfolding lines
+lines_bad zero doc text some other read = absurd (omega arith)
+lines_bad (suc m) doc text some other read = rw (other, read)
+
+pub lines_again : (m : ℕ) (doc : Document) (text : List ℕ) (e : Expression) (after : List ℕ) → 0 < m → (length (skip_blank text) == 0) ≡ false
+    → line (skip_blank text) ≡ Some (e, after) → define doc e ≡ None → lines m doc text ≡ None
+unfolding lines
+lines_again zero doc text e after some other read defined = absurd (omega arith)
+lines_again (suc m) doc text e after some other read defined = rw (other, read, defined)
+
+pub document_some : (text : List ℕ) (doc : Document) → lines (suc (length text)) (no_nodes, []) (skip_bom text) ≡ Some doc
+    → ordered_document text ≡ Some doc.0
+unfolding ordered_document
+document_some text doc read = rw read
+
+pub document_none : (text : List ℕ) → lines (suc (length text)) (no_nodes, []) (skip_bom text) ≡ None → ordered_document text ≡ None
+unfolding ordered_document
+document_none text read = rw read
+
+-- ---- keys
+
+pub along_end : (edit : Edit) (ns : Nodes) → along [] edit ns ≡ edit ns
+unfolding along
+along_end edit ns = refl
+
+module _ (by : Way) (k : List ℕ) (rest : List (Way × List ℕ)) (edit : Edit) (ns : Nodes) where
+  pub along_found : (x y : Node) (new : Nodes) → get_node k ns ≡ Some x → passed by (along rest edit) x ≡ Some y → new ≡ replace k y ns
+      → along ((by, k) ∷ rest) edit ns ≡ Some new
+  unfolding along
+  along_found x y new found step written = rw (found, step, written)
+
+  pub along_refused : (x : Node) → get_node k ns ≡ Some x → passed by (along rest edit) x ≡ None → along ((by, k) ∷ rest) edit ns ≡ None
+  unfolding along
+  along_refused x found step = rw (found, step)
+
+  pub along_new : (inner new : Nodes) → get_node k ns ≡ None → along rest edit no_nodes ≡ Some inner → new ≡ append ns k (table (made_by by) inner)
+      → along ((by, k) ∷ rest) edit ns ≡ Some new
+  unfolding along
+  along_new inner new none step written = rw (none, step, written)
+
+  pub along_new_refused : get_node k ns ≡ None → along rest edit no_nodes ≡ None → along ((by, k) ∷ rest) edit ns ≡ None
+  unfolding along
+  along_new_refused none step = rw (none, step)
+
+module _ (k : List ℕ) (what : Definition) (ns : Nodes) where
+  pub at_key_found : (x y : Node) (new : Nodes) → get_node k ns ≡ Some x → redefine what x ≡ Some y → new ≡ replace k y ns → at_key k what ns ≡ Some new
+  unfolding at_key
+  at_key_found x y new found step written = rw (found, step, written)
+
+  pub at_key_refused : (x : Node) → get_node k ns ≡ Some x → redefine what x ≡ None → at_key k what ns ≡ None
+  unfolding at_key
+  at_key_refused x found step = rw (found, step)
+
+  pub at_key_new : get_node k ns ≡ None → at_key k what ns ≡ Some (append ns k (new_node what))
+  unfolding at_key
+  at_key_new none = rw none
+
+-- ---- faults
+
+-- the fault that a `?` passes on
+pub gives_err : {A B : Type 0} (f : A → B) (r : Result A Fault) (expected : Option B) (e : Fault) (Q : Fault → Type 0)
+    → IsErrAnd r Q → ((y : Fault) → Q y → y ≡ e) → ((IsMemory e → ⊥) → expected ≡ None) → Gives f r expected
+gives_err f (Ok a) expected e Q h same refused = absurd h
+gives_err f (Err y) expected e Q h same refused = λ other. refused (λ m. other (same y h ∙ m))
+
+-- what it makes of an error of `toml_parser`
+pub made_of : {B : Type 0} (e : ParseError) (expected : Option B) → ((e ≡ parse.OutOfMemory → ⊥) → expected ≡ None) → (IsMemory (fault_of e) → ⊥)
+    → expected ≡ None
+made_of e expected refused other = refused (λ m. other (ap fault_of m))
+
+-- and of a refused allocation
+pub gives_memory : {A B : Type 0} (f : A → B) (r : Result A Fault) (expected : Option B) → IsErrAnd r IsMemory → Gives f r expected
+gives_memory f (Ok a) expected h = absurd h
+gives_memory f (Err y) expected h = λ other. absurd (other h)
+
+-- ---- scalars
+
+abbrev read_or : List ℕ → Option (Scalar × List ℕ) → List ℕ
+read_or d None = d
+read_or d (Some r) = r.1
+
+-- what follows a word is what is left of the text
+rest_is : (s : List ℕ) (d : Scalar) (rest : List ℕ) → unquoted s ≡ Some (d, rest) → rest ≡ drop (word_len s) s
+unfolding unquoted
+rest_is s d rest = by (word_len s == 0) (word_value (take (word_len s) s))
+  where
+    by : (b : Bool) (o : Option Scalar) → cond {A = Option (Scalar × List ℕ)} b None (option_map (λ x. (x, drop (word_len s) s)) o) ≡ Some (d, rest) → rest ≡ drop (word_len s) s
+    by true o e = absurd (cc)
+    by false None e = absurd (cc)
+    by false (Some x) e = sym (ap (read_or rest) e)
+
+word_taken : (s rest : List ℕ) (n : ℕ) → rest ≡ drop n s → take (length s - length rest) s ≡ take n s
+word_taken s rest n is = by (cases_lt (length s) n)
+  where
+    left : length rest ≡ length s - n
+    left = ap length is ∙ length-drop n s
+
+    by : (length s < n) ⊎ (n ≤ length s) → take (length s - length rest) s ≡ take n s
+    by (inl past) = take_all (length s - length rest) s (omega (arith, left)) ∙ sym (take_all n s (omega (arith, past)))
+    by (inr within) = ap (λ m. take m s) (omega (arith, left))
+
+pub atom_scalar : (s : List ℕ) (d : Scalar) (rest : List ℕ) (x : Node) → starts_string s ≡ false → unquoted s ≡ Some (d, rest)
+    → x ≡ scalar_node (take (length s - length rest) s) d → atom s ≡ Some (x, rest)
+atom_scalar s d rest x other read is =
+    rw (other, read) (ap (λ y. Some (y, rest)) (sym (is ∙ ap (λ w. scalar_node w d) (word_taken s rest (word_len s) (rest_is s d rest read)))))

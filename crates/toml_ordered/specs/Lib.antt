@@ -1,0 +1,5 @@
+pub mod Data
+pub mod Tables
+pub mod Grammar
+pub mod Reading
+pub mod Sorted

@@ -1,0 +1,67 @@
+-- How a result stands to what the grammar gives.
+use Rattle.std.specs.Prelude.{◌≡◌, ℕ, zero, suc, ◌<◌, true, false, bytes_eq, string_bytes, List, [], ◌∷◌, length, String, Result, MatchResult, IfOk, Option, Some, None}
+use Rattle.std.specs.Borrow.{Bor}
+use Rattle.std.specs.declared.alloc.Global.{Global}
+use Rattle.toml_parser.specs.Lexical.{Read}
+use Rattle.toml_parser.specs.Reading.{path_view, key_view}
+use Rattle.toml_parser.specs.declared.error.ParseError.{ParseError}
+use Rattle.toml_parser.specs.declared.error.ParseError.TheVariants as parse
+use Rattle.toml_parser.specs.declared.key.Key as code_key
+use Rattle.toml_ordered.specs.Data.{entries_view, node_view}
+use Rattle.toml_ordered.specs.Tables.{Definition, Document, Edit, Expression, key_value, std_table, array_table, steps, along, at_key}
+use Rattle.toml_ordered.specs.declared.route.Way.{Way}
+use Rattle.toml_ordered.specs.declared.document.Document.{Document as CodeDocument}
+use Rattle.toml_ordered.specs.declared.fault.Fault.{Fault}
+use Rattle.toml_ordered.specs.declared.fault.Fault.TheVariants as fault
+use Rattle.toml_ordered.specs.declared.route.Route.{Route}
+use Rattle.toml_ordered.specs.declared.tables.Definition as code_definition
+use Rattle.toml_ordered.specs.declared.tables.Entry.{Entry}
+use Rattle.toml_ordered.specs.declared.tables.Definition.TheVariants.{Value, Table, Tables}
+use Rattle.toml_ordered.specs.declared.tree.Node.{Node as CodeNode}
+
+-- an allocation failed
+abbrev pub IsMemory : Fault → Type 0
+IsMemory e = e ≡ fault.Memory
+
+-- the fault of an error of `toml_parser`
+abbrev pub fault_of : ParseError → Fault
+fault_of parse.OutOfMemory = fault.Memory
+fault_of (parse.At kind from to) = fault.NotToml from
+
+-- the result is what the grammar gives, seen through f, unless an allocation failed
+abbrev pub Gives : {A B : Type 0} → (A → B) → Result A Fault → Option B → Type 0
+Gives f r expected = MatchResult r (λ a. expected ≡ Some (f a)) (λ e. (IsMemory e → ⊥) → expected ≡ None)
+
+-- the same of a value and the text after it
+abbrev pub Reads : {A B : Type 0} → (A → B) → Result (A × Bor (List ℕ)) Fault → Read B → Type 0
+Reads f r expected = Gives (λ p. (f p.0, p.1.now)) r expected
+
+-- less text is left
+abbrev pub Shortens : {A : Type 0} → List ℕ → Result (A × Bor (List ℕ)) Fault → Type 0
+Shortens text r = IfOk r (λ p. length p.1.now < length text)
+
+abbrev pub definition_view : code_definition.Definition → Definition
+definition_view (Value x) = key_value (node_view x)
+definition_view Table = std_table
+definition_view Tables = array_table
+
+abbrev pub expression_view : code_key.Key × code_definition.Definition → Expression
+expression_view e = (key_view e.0, definition_view e.1)
+
+-- the keys of a route
+abbrev pub steps_of : Route → List (Way × List ℕ)
+steps_of route = steps (path_view route.header.now) (path_view route.dots.now)
+
+-- what an entry defines in the table at the end of a route
+abbrev pub along_route : Route → Entry → Edit
+along_route route entry = along (steps_of route) (at_key (string_bytes entry.key) (definition_view entry.what))
+
+-- what was read of a document
+abbrev pub document_view : CodeDocument → Document
+document_view document = (entries_view document.root.items, path_view document.section.items)
+
+-- a key stands at this place, and at none before it
+abbrev pub HasFirst : List ℕ → ℕ → List (String Global × CodeNode × ℕ) → Type 0
+HasFirst k at [] = ⊥
+HasFirst k zero (m ∷ ms) = bytes_eq k (string_bytes m.0) ≡ true
+HasFirst k (suc at) (m ∷ ms) = (bytes_eq k (string_bytes m.0) ≡ false) × HasFirst k at ms

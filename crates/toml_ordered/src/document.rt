@@ -1,0 +1,169 @@
+//! Documents, expression by expression.
+ghost use Rattle.std.specs.Prelude.{◌≡◌, ◌≤◌, length};
+ghost use Rattle.toml_parser.specs.Reading.{key_view};
+ghost use Rattle.toml.specs.Parse.{header_key, skip_bom};
+ghost use Rattle.toml_ordered.specs.Data.{entries_view, node_view};
+ghost use Rattle.toml_ordered.specs.Grammar as spec;
+ghost use Rattle.toml_ordered.specs.Reading.{Gives, Reads, Shortens, definition_view, document_view, expression_view};
+ghost use Rattle.toml_ordered.specs.Tables.{define, defined_header, defined_pair};
+
+use crate::fault::{Fault, not_toml};
+use crate::route::Route;
+use crate::tables::{Definition, Entry, define_at};
+use crate::tree::{Node, Nodes};
+use crate::values::{key_and_equals, value};
+use std::alloc::Global;
+use toml_parser::text::{byte_at, first, skip, skip_blank, skip_ws};
+use toml_parser::{Key, RECURSION_LIMIT, dotted_key};
+
+/// What was read of a document: its root table, and the key of the last header.
+#[derive(Drop)]
+struct Document {
+    root: Nodes,
+    section: Vec<String>,
+}
+
+impl Document {
+    /// Defines what an expression defines, which begins where this much of the text is left.
+    fn define(
+        &mut self,
+        alloc: Global,
+        expression: (Key, Definition),
+        left: usize,
+    ) -> Result<(), Fault>
+        ensures { Gives (λ _. document_view self.new) result (define (document_view self.old) (expression_view expression)) }
+    {
+        let (key, what) = expression;
+        match what {
+            Definition::Value(node) => self.define_pair(alloc, key, node, left),
+            _ => self.define_header(alloc, key, what, left),
+        }
+    }
+
+    /// Defines a pair, in the table of the last header.
+    fn define_pair(&mut self, alloc: Global, key: Key, node: Node, left: usize) -> Result<(), Fault>
+        ensures { Gives (λ _. document_view self.new) result (defined_pair (document_view self.old) (key_view key) (node_view node)) }
+    {
+        let Key { path, last } = key;
+        let route = Route {
+            header: &self.section,
+            dots: &path,
+        };
+        let entry = Entry {
+            key: last,
+            what: Definition::Value(node),
+            left,
+        };
+        define_at(alloc, &mut self.root, route, entry)
+    }
+
+    /// Defines the table of a header.
+    fn define_header(
+        &mut self,
+        alloc: Global,
+        key: Key,
+        what: Definition,
+        left: usize,
+    ) -> Result<(), Fault>
+        ensures { Gives (λ _. document_view self.new) result (defined_header (document_view self.old) (key_view key) (definition_view what)) }
+    {
+        let Key { mut path, last } = key;
+        let route = Route {
+            header: &path,
+            dots: &[],
+        };
+        let entry = Entry {
+            key: last.clone()?,
+            what,
+            left,
+        };
+        define_at(alloc, &mut self.root, route, entry)?;
+        path.push(last)?;
+        self.section = path;
+        Ok(())
+    }
+}
+
+/// Reads a document: the keys of its root table and their values.
+///
+/// # Errors
+///
+/// `NotToml` where the text isn't TOML 1.1, or a key has more than 80 parts, or arrays and tables in braces nest more than 80 deep;
+/// `DefinedAgain` where a key is defined twice; `Memory` where an allocation fails.
+pub fn read_document(alloc: Global, text: &str) -> Result<Nodes, Fault>
+    ensures { Gives (λ root. entries_view root.items) result (spec.ordered_document text.now) }
+{
+    let mut read = Document {
+        root: Vec::new(alloc),
+        section: Vec::new(alloc),
+    };
+    let mut rest = past_mark(text);
+    'lines: loop {
+        let start = skip_blank(rest, true);
+        if start.is_empty() {
+            return Ok(read.root);
+        }
+        let (expression, after) = line(alloc, start)?;
+        read.define(alloc, expression, start.len())?;
+        rest = after;
+    }
+}
+
+/// What follows the byte order mark, if any.
+fn past_mark(s: &str) -> &str
+    ensures rest { result.now ≡ skip_bom s.now }
+    ensures within { length result.now ≤ length s.now }
+{
+    if first(s) == 0xEF && byte_at(s, 1) == 0xBB && byte_at(s, 2) == 0xBF {
+        &s[3..]
+    } else {
+        s
+    }
+}
+
+/// An expression that has its line to itself.
+fn line(alloc: Global, s: &str) -> Result<((Key, Definition), &str), Fault>
+    ensures value { Reads expression_view result (spec.line s.now) }
+    ensures shorter { Shortens s.now result }
+{
+    let (expression, rest) = expression(alloc, s)?;
+    let end = skip_ws(rest);
+    if end.is_empty() || matches!(first(end), b'#' | b'\n' | b'\r') {
+        Ok((expression, rest))
+    } else {
+        Err(not_toml(end))
+    }
+}
+
+/// A header, or a pair.
+fn expression(alloc: Global, s: &str) -> Result<((Key, Definition), &str), Fault>
+    ensures value { Reads expression_view result (spec.expression s.now) }
+    ensures shorter { Shortens s.now result }
+{
+    if first(s) == b'[' && byte_at(s, 1) == b'[' {
+        let (key, rest) = header_key(alloc, skip(s, 2))?;
+        if first(rest) != b']' {
+            return Err(not_toml(rest));
+        }
+        Ok(((key, Definition::Tables), skip(rest, 1)))
+    } else if first(s) == b'[' {
+        let (key, rest) = header_key(alloc, skip(s, 1))?;
+        Ok(((key, Definition::Table), rest))
+    } else {
+        let (key, at_value) = key_and_equals(alloc, s)?;
+        let (node, rest) = value(alloc, at_value, RECURSION_LIMIT)?;
+        Ok(((key, Definition::Value(node)), rest))
+    }
+}
+
+/// The key of a header, and what follows its first closing bracket.
+fn header_key(alloc: Global, s: &str) -> Result<(Key, &str), Fault>
+    ensures value { Reads key_view result (header_key s.now) }
+    ensures shorter { Shortens s.now result }
+{
+    let (key, rest) = dotted_key(alloc, skip_ws(s))?;
+    if first(rest) != b']' {
+        return Err(not_toml(rest));
+    }
+    Ok((key, skip(rest, 1)))
+}

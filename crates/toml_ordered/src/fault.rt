@@ -1,0 +1,63 @@
+//! Why a text isn't read.
+ghost use Rattle.toml_ordered.specs.Reading.{fault_of};
+
+use std::alloc::{AllocError, AllocFailed};
+use toml_parser::{ErrorKind, ParseError};
+
+/// Why a text isn't read. Places are given by how many bytes of the text were left there.
+#[derive(Drop)]
+pub enum Fault {
+    /// An allocation failed.
+    Memory,
+    /// The text can't go on here.
+    NotToml {
+        left: usize,
+    },
+    /// An expression defines a key, or something in it, that is defined already and takes no more.
+    DefinedAgain {
+        key: String,
+        first: usize,
+        second: usize,
+    },
+}
+
+impl From<ParseError> for Fault {
+    ghost use Rattle.std.specs.Prelude.{◌≡◌};
+    ghost use Rattle.toml_ordered.specs.Reading.{fault_of};
+
+    ghost from_gives = { λ error fault. fault ≡ fault_of error };
+
+    fn from(error: ParseError) -> Fault {
+        match error {
+            ParseError::OutOfMemory => Fault::Memory,
+            ParseError::At(_, left, _) => Fault::NotToml { left },
+        }
+    }
+}
+
+impl From<AllocError> for Fault {
+    ghost use Rattle.std.specs.Prelude.{◌≡◌};
+    ghost use Rattle.toml_ordered.specs.declared.fault.Fault.TheVariants.{Memory};
+
+    ghost from_gives = { λ _ fault. fault ≡ Memory };
+
+    fn from(_refused: AllocError) -> Fault {
+        Fault::Memory
+    }
+}
+
+impl<T: Drop> From<AllocFailed<T>> for Fault {
+    ghost use Rattle.std.specs.Prelude.{◌≡◌};
+    ghost use Rattle.toml_ordered.specs.declared.fault.Fault.TheVariants.{Memory};
+
+    ghost from_gives = { λ _ fault. fault ≡ Memory };
+
+    fn from(_refused: AllocFailed<T>) -> Fault {
+        Fault::Memory
+    }
+}
+
+/// The text can't go on where this is left of it.
+pub(crate) fn not_toml(rest: &str) -> Fault {
+    Fault::NotToml { left: rest.len() }
+}

@@ -1,0 +1,16 @@
+//! TOML documents (TOML 1.1), read with the keys of each table in the order in which they are first defined. The tokens are read
+//! by `toml_parser`.
+#![tactic(auto)]
+
+mod document;
+mod fault;
+mod laws;
+mod route;
+mod tables;
+mod tree;
+mod values;
+
+pub use document::read_document;
+pub use fault::Fault;
+pub use laws::ordered_is_sorted;
+pub use tree::{Node, Nodes, Origin};

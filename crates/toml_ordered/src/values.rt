@@ -1,0 +1,186 @@
+//! Values: strings, scalars, arrays and tables in braces.
+ghost use Rattle.std.specs.Prelude.{◌≡◌, ℕ, ◌<◌, ◌≤◌, [], ◌∷◌, ◌++◌, IfOk, length, string_bytes};
+ghost use Rattle.toml_parser.specs.Reading.{key_view};
+ghost use Rattle.toml.specs.Parse.{after_element, key_equals};
+ghost use Rattle.toml_ordered.specs.Data.{entries_view, items_view, no_items, no_nodes, node_view};
+ghost use Rattle.toml_ordered.specs.Grammar as spec;
+ghost use Rattle.toml_ordered.specs.Reading.{Gives, Reads, Shortens};
+ghost use Rattle.toml_ordered.specs.Tables as tables;
+
+use crate::fault::{Fault, not_toml};
+use crate::route::Route;
+use crate::tables::{Definition, Entry, define_at};
+use crate::tree::{Node, Nodes, Origin};
+use std::alloc::{AllocError, Global};
+use toml_parser::text::{first, skip, skip_blank, skip_ws};
+use toml_parser::{Key, Scalar, dotted_key, quoted, starts_string, unquoted};
+
+/// A value, in which arrays and tables in braces nest at most `depth` deep, and the text after it.
+#[cycle(value)]
+pub(crate) fn value(alloc: Global, s: &str, depth: usize) -> Result<(Node, &str), Fault>
+    ensures value { Reads node_view result (spec.val depth s.now) }
+    ensures shorter { Shortens s.now result }
+{
+    let byte = first(s);
+    if byte != b'[' && byte != b'{' {
+        return atom(alloc, s);
+    }
+    if depth == 0 {
+        return Err(not_toml(s));
+    }
+    if byte == b'[' {
+        let (items, rest) = array(alloc, skip(s, 1), depth - 1)?;
+        Ok((Node::Array(items), rest))
+    } else {
+        let (members, rest) = braces(alloc, skip(s, 1), depth - 1)?;
+        Ok((Node::Table(Origin::Closed, members), rest))
+    }
+}
+
+/// The rest of an array.
+#[cycle(value)]
+fn array(alloc: Global, s: &str, depth: usize) -> Result<(Vec<Node>, &str), Fault>
+    ensures value { (n : ℕ) → length s.now < n → Reads (λ found. items_view found.items) result (spec.items (spec.val depth) n no_items s.now) }
+    ensures shorter { Shortens s.now result }
+{
+    let mut found = Vec::new(alloc);
+    let mut rest = s;
+    'items: loop {
+        let start = skip_blank(rest, true);
+        if first(start) == b']' {
+            return Ok((found, skip(start, 1)));
+        }
+        let (item, after) = value(alloc, start, depth)?;
+        found.push(item)?;
+        rest = past_element(after, b']')?;
+    }
+}
+
+/// The rest of a table in braces.
+#[cycle(value)]
+fn braces(alloc: Global, s: &str, depth: usize) -> Result<(Nodes, &str), Fault>
+    ensures value { (n : ℕ) → length s.now < n → Reads (λ found. entries_view found.items) result (spec.members (spec.val depth) n no_nodes s.now) }
+    ensures shorter { Shortens s.now result }
+{
+    let mut found = Vec::new(alloc);
+    let mut rest = s;
+    'members: loop {
+        let start = skip_blank(rest, true);
+        if first(start) == b'}' {
+            return Ok((found, skip(start, 1)));
+        }
+        let (key, at_value) = key_and_equals(alloc, start)?;
+        let (member, after) = value(alloc, at_value, depth)?;
+        put(alloc, &mut found, key, member, start.len())?;
+        rest = past_element(after, b'}')?;
+    }
+}
+
+/// Defines a pair of a table in braces.
+fn put(alloc: Global, nodes: &mut Nodes, key: Key, value: Node, left: usize) -> Result<(), Fault>
+    ensures { Gives (λ _. entries_view nodes.new.items) result (tables.put (key_view key) (node_view value) (entries_view nodes.old.items)) }
+{
+    let Key { path, last } = key;
+    let route = Route {
+        header: &[],
+        dots: &path,
+    };
+    let what = Definition::Value(value);
+    let entry = Entry {
+        key: last,
+        what,
+        left,
+    };
+    define_at(alloc, nodes, route, entry)
+}
+
+/// What follows a comma, or the closing bracket.
+fn past_element(s: &str, closing: u8) -> Result<&str, Fault>
+    ensures value { Gives (λ rest. rest.now) result (after_element closing s.now) }
+    ensures within { IfOk result (λ rest. length rest.now ≤ length s.now) }
+{
+    let rest = skip_blank(s, true);
+    if first(rest) == b',' {
+        Ok(skip(rest, 1))
+    } else if first(rest) == closing {
+        Ok(rest)
+    } else {
+        Err(not_toml(rest))
+    }
+}
+
+/// A key, `=` and the blanks after it.
+pub(crate) fn key_and_equals(alloc: Global, s: &str) -> Result<(Key, &str), Fault>
+    ensures value { Reads key_view result (key_equals s.now) }
+    ensures shorter { Shortens s.now result }
+{
+    let (key, rest) = dotted_key(alloc, s)?;
+    if first(rest) != b'=' {
+        return Err(not_toml(rest));
+    }
+    Ok((key, skip_ws(skip(rest, 1))))
+}
+
+/// A string or a scalar.
+fn atom(alloc: Global, s: &str) -> Result<(Node, &str), Fault>
+    ensures value { Reads node_view result (spec.atom s.now) }
+    ensures shorter { Shortens s.now result }
+{
+    if starts_string(s) {
+        let (text, rest) = quoted(alloc, s)?;
+        return Ok((Node::Text(text), rest));
+    }
+    let (scalar, rest) = unquoted(alloc, s)?;
+    let word = &s.as_bytes()[..s.len() - rest.len()];
+    Ok((scalar_node(alloc, word, scalar)?, rest))
+}
+
+/// A scalar, with the word that writes it.
+fn scalar_node(alloc: Global, word: &[u8], scalar: Scalar) -> Result<Node, AllocError>
+    ensures { IfOk result (λ node. node_view node ≡ spec.scalar_node word.now scalar) }
+{
+    match scalar {
+        Scalar::Boolean(flag) => Ok(Node::Boolean(flag)),
+        Scalar::Integer(integer) => Ok(Node::Integer(integer)),
+        Scalar::Datetime(datetime) => Ok(Node::Datetime(datetime)),
+        Scalar::Float(_) => float_node(plain_word(alloc, word)?),
+    }
+}
+
+/// A float, by its word.
+fn float_node(word: String) -> Result<Node, AllocError>
+    ensures { IfOk result (λ node. node_view node ≡ spec.float_node (string_bytes word)) }
+{
+    let name = past_sign(word.as_str());
+    if name == "inf" {
+        let negative = first(word.as_str()) == b'-';
+        Ok(Node::Infinity { negative })
+    } else if name == "nan" {
+        Ok(Node::NotANumber)
+    } else {
+        Ok(Node::Decimal(word))
+    }
+}
+
+fn past_sign(word: &str) -> &str
+    ensures { result.now ≡ spec.past_sign word.now }
+{
+    if first(word) == b'+' || first(word) == b'-' {
+        skip(word, 1)
+    } else {
+        word
+    }
+}
+
+/// The characters of a word but underscores.
+fn plain_word(alloc: Global, word: &[u8]) -> Result<String, AllocError>
+    ensures { IfOk result (λ plain. string_bytes plain ≡ spec.plain_word word.now) }
+{
+    let bytes: Vec<u8> = word
+        .iter()
+        .copied()
+        .filter(|byte| *byte != b'_')
+        .collect(alloc)?;
+    // A word is ASCII.
+    String::from_utf8(bytes).map_err(|_| AllocError)
+}

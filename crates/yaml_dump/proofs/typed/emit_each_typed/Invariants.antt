@@ -1,0 +1,14 @@
+use Rattle.yaml_dump.proofs.Common.{None, Ok, true, [], map, ◌++◌, ◌≡◌, into_iter_items, seen_event}
+use Rattle.yaml_emitter.specs.Moves.{Moves}
+use Rattle.yaml_writer.specs.TypedEvents.{typed_event}
+use Rattle.yaml_dump.proofs.typed.emit_each_typed.Given as goal
+
+abbrev pub invariant-loop-event : goal.invariant-loop-event
+invariant-loop-event g l =
+    (goal.iterator-loop-event g).can_next l.event-iterator
+    × (goal.iterator-loop-event g).is_finite l.event-iterator
+    × (l.emitter.has_output ≡ true)
+    × (l.emitter.error ≡ None)
+    × (l.yielded ++ into_iter_items l.event-iterator ≡ l.fn.events.items)
+    × Moves l.initial.emitter (map typed_event (map seen_event l.yielded)) (Ok tt) l.emitter
+    × (map seen_event l.yielded ≡ [] → l.emitter ≡ l.initial.emitter)

@@ -1,0 +1,43 @@
+-- What follows of dumps, and of events emitted in order.
+use Rattle.std.specs.Prelude.{Bool, ◌≡◌, ◌⊎◌, true, Result, Ok, Err, List, [], ◌∷◌, ◌++◌}
+use Rattle.yaml_base.specs.Settings.{Settings}
+use Rattle.yaml_base.specs.Event.{Event, stream_end}
+use Rattle.yaml_base.specs.graphs.Meetings.{Graph, document_event_list}
+use Rattle.yaml_base.specs.graphs.Unfolding.{EventsUnfold, IsDocument}
+use Rattle.yaml_base.specs.declared.errors.yaml_error_t.{yaml_error_t}
+use Rattle.yaml_pen.specs.Wrote.{Grows}
+use Rattle.yaml_emitter.specs.State.{State, KeepsSet}
+use Rattle.yaml_emitter.specs.StandsAfter.{StandsAfter}
+use Rattle.yaml_emitter.specs.Moves.{Moves}
+use Rattle.yaml_dump.specs.Dumps.{DumpsEvents, EmitsEach, ReadsGraphs}
+use Rattle.yaml_dump.specs.GraphTrees.{ReadsTrees}
+
+-- nothing was done, or the stream was begun
+abbrev pub IsBegun : State → State → Type 0
+IsBegun before after = (after ≡ before) ⊎ (after.started ≡ true)
+
+-- text and output only grow; what the caller set stays, but for what says that the stream is begun, opened and closed; nothing was
+-- done, or the stream was begun
+pub record KeepsRest (before after : State) : Type 0 where
+  pub grows : Grows before.page after.page
+  pub set : KeepsSet (record before { started = after.started; opened = after.opened; closed = after.closed }) after
+  pub begun : IsBegun before after
+
+-- emitting in order is a move, by all events that were given; both it and a dump keep the rest; a dump that fails closes nothing;
+-- a document's events unfold its graph; and of what ends by the stream's end without an error both readers find the graphs of which
+-- it is a dump
+pub record DumpsTell : Type 0 where
+  pub moves : (before after : State) (events : List Event) (answer : Result (Unit {0}) yaml_error_t) → EmitsEach before events answer after
+      → (given : List Event) × Moves before given answer after
+  pub each : (before after : State) (events : List Event) (answer : Result (Unit {0}) yaml_error_t) → EmitsEach before events answer after
+      → KeepsRest before after
+  pub dumps : (nodeless : Bool) (document : List Event) (before after : State) (answer : Result (Unit {0}) yaml_error_t)
+      → DumpsEvents nodeless document before answer after
+      → KeepsRest before after
+  pub unclosed : (nodeless : Bool) (document : List Event) (before after : State) (error : yaml_error_t)
+      → DumpsEvents nodeless document before (Err error) after
+      → after.closed ≡ before.closed
+  pub unfolds : (graph : Graph) → IsDocument graph → EventsUnfold graph (document_event_list graph)
+  pub reads : (before after : State) (events : List Event) → Moves before (events ++ stream_end ∷ []) (Ok tt) after
+      → (given : Settings) (all : List Event) → StandsAfter given all before
+      → ReadsGraphs given (all ++ (events ++ stream_end ∷ [])) after × ReadsTrees given (all ++ (events ++ stream_end ∷ [])) after

@@ -1,0 +1,42 @@
+-- Documents that are dumped with their types: what is read of them has all tags of their nodes, whichever schema resolves it.
+use Rattle.std.specs.Prelude.{◌≡◌, ◌==◌, ℕ, Bool, true, None, Some, Result, List, map, length}
+use Rattle.yaml_base.specs.Settings.{Settings}
+use Rattle.yaml_base.specs.Event.{Event}
+use Rattle.yaml_base.specs.graphs.Meetings.{Graph, document_event_list}
+use Rattle.yaml_base.specs.graphs.Dumped.{AreDumped}
+use Rattle.yaml_base.specs.declared.errors.yaml_error_t.{yaml_error_t}
+use Rattle.yaml_base.specs.streams.StreamContent.{DocumentTree}
+use Rattle.yaml_base.specs.StreamLaw.{reads_alike}
+use Rattle.yaml_base.specs.streams.StreamReader.{stream_trees}
+use Rattle.yaml_base.specs.values.SchemaCore.{resolved_by_core}
+use Rattle.yaml_base.specs.values.SchemaOf11.{resolved_by_11}
+use Rattle.yaml_emitter.specs.State.{State}
+use Rattle.yaml_emitter.specs.StandsAfter.{StandsAfter}
+use Rattle.yaml_writer.specs.TypedEvents.{typed_event, document_by}
+use Rattle.yaml_dump.specs.Dumps.{DumpsEvents}
+use Rattle.yaml_dump.specs.GraphTrees.{TreesUnfold}
+
+-- the events of a document, typed
+abbrev pub typed_event_list : Graph → List Event
+typed_event_list graph = map typed_event (document_event_list graph)
+
+-- a typed dump on an emitter without an error: as a dump, with these events
+abbrev pub DumpsTyped : Graph → State → Result (Unit {0}) yaml_error_t → State → Type 0
+DumpsTyped graph before answer after = DumpsEvents (length graph.nodes == 0) (typed_event_list graph) before answer after
+
+-- what the reader of whole streams finds in bytes unfolds these graphs with all their tags, where either schema gives its tag to what
+-- has none
+pub record TypesReadBack (breaks12 : Bool) (graphs : List Graph) (bytes : List ℕ) : Type 0 where
+  pub documents : List DocumentTree
+  pub read : stream_trees breaks12 bytes ≡ Some documents
+  pub by_11 : TreesUnfold graphs (map (document_by resolved_by_11) documents)
+  pub by_core : TreesUnfold graphs (map (document_by resolved_by_core) documents)
+
+-- so of an emitter that was given the typed events of dumped graphs, and has no error: in portable mode whatever they are, else where
+-- no document is lost and no tag has a flow indicator
+abbrev pub TypedDumpsReadBack : Type 0
+TypedDumpsReadBack =
+    (given : Settings) (graphs : List Graph) (events : List Event) (state : State) → AreDumped graphs events
+    → StandsAfter given (map typed_event events) state → state.error ≡ None
+    → reads_alike given.portable given.canonical (map typed_event events) ≡ true
+    → TypesReadBack given.breaks12 graphs state.page.output

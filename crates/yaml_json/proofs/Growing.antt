@@ -1,0 +1,75 @@
+-- A writer's text and output only grow, and its emitter has no error but the one that is said.
+use Rattle.yaml_json.proofs.Common.{[], append-nil, subst, sym, Option, None, Some, Result, Ok, Err, List, ◌≡◌, inl, inr, some_from_result, Event, failure_of, WriterState, PassedEvents}
+use Rattle.yaml_base.specs.declared.errors.yaml_error_t.{yaml_error_t}
+use Rattle.yaml_json.proofs.Common.{refl, OnOk, IfErr}
+use Rattle.yaml_json.specs.{Failing.writers_error, Sent.IsByReader, Sent.IsSoundSending, Sent.emitter_error, declared.error.JsonError.JsonError}
+use Rattle.yaml_json.specs.declared.error.StreamError.{StreamError}
+use Rattle.yaml_json.specs.declared.error.StreamError.TheVariants as faults
+use Rattle.yaml_pen.specs.Wrote.{Grows}
+use Rattle.yaml_emitter.specs.State.{with_all_taken}
+use Rattle.yaml_pen.{proofs.Composing.grows_itself, proofs.Composing.grows_then, proofs.Writing.none_from_result}
+use Rattle.yaml_json.{proofs.TextStops.said_as, specs.Failing.Grew, specs.Failing.HasErrorSaid, specs.Failing.Kept, specs.declared.values.Stop.Stop}
+
+pub grew_itself : (writer : WriterState) → Grew writer None writer
+grew_itself writer = record { grows = grows_itself writer.emitter.page; sound = λ none. none }
+
+-- a call that succeeded, and then another
+pub grew_then : (before between after : WriterState) (found : Option yaml_error_t) → Grew before None between → Grew between found after
+    → Grew before found after
+grew_then before between after found one other =
+    record { grows = grows_then {between = between.emitter.page} one.grows other.grows; sound = sound_then found other.sound } where
+      sound_then : (found : Option yaml_error_t) → HasErrorSaid between found after → HasErrorSaid before found after
+      sound_then None stays = λ none. stays (one.sound none)
+      sound_then (Some code) (inl memory) = inl (memory.0, λ none. memory.1 (one.sound none))
+      sound_then (Some code) (inr has) = inr has
+
+pub grew_kept : (before after : WriterState) → Kept before (Ok tt) after → Grew before None after
+grew_kept before after kept = record { grows = kept.grows; sound = λ none. kept.sound }
+
+pub grew_said : (before after : WriterState) (stop : Stop) (found : Option yaml_error_t) → found ≡ failure_of after stop → Kept before (Err stop) after
+    → Grew before found after
+grew_said before after stop found is kept = record { grows = kept.grows; sound = said_as before after stop found is kept }
+
+-- a call that gives events
+pub grew_passed : (before after : WriterState) (events : List Event) → PassedEvents before events (Ok tt) after → Grew before None after
+grew_passed before after events passed =
+    record { grows = passed.grows; sound = λ none. none_from_result after.emitter.error passed.answered }
+
+pub grew_failing : (before after : WriterState) (events : List Event) (error : yaml_error_t) → PassedEvents before events (Err error) after
+    → Grew before (Some error) after
+grew_failing before after events error passed =
+    record { grows = passed.grows; sound = inr (some_from_result after.emitter.error error passed.answered) }
+
+-- all that was flushed is taken
+pub grew_sent : (before after : WriterState) → after ≡ record before { emitter = with_all_taken before.emitter } → Grew before None after
+grew_sent before after kept =
+    subst (Grew before None) (sym kept)
+    (record {
+      grows = record {
+        text = record { rest = []; parts = append-nil before.emitter.page.text };
+        output = record { rest = []; parts = append-nil before.emitter.page.output };
+      };
+      sound = λ none. none;
+    })
+
+-- ---- of texts that are sent
+
+-- the reader failed
+pub reader_sound : (was now : WriterState) (error : StreamError) → IsByReader error → Grew was None now → HasErrorSaid was (emitter_error error) now
+reader_sound was now (faults.Refused error) is grew =
+    subst (λ (e : JsonError). HasErrorSaid was (writers_error e) now) (sym is) (inl (refl, grew.sound))
+reader_sound was now (faults.NotText line column) is grew = absurd is
+reader_sound was now (faults.ReadFailed error) is grew = grew.sound
+reader_sound was now (faults.WriteFailed error) is grew = absurd is
+
+-- the last text
+module _ (was middle now : WriterState) where
+  pub ends_grown : (result : Result (Unit {0}) StreamError) → Grew was None middle → OnOk result (Kept middle (Ok tt) now)
+      → IfErr result (λ error. Grew middle (emitter_error error) now) → Grows was.emitter.page now.emitter.page
+  ends_grown (Ok done) grew kept failed = grows_then {between = middle.emitter.page} grew.grows kept.grows
+  ends_grown (Err error) grew kept failed = grows_then {between = middle.emitter.page} grew.grows failed.grows
+
+  pub ends_sound : (result : Result (Unit {0}) StreamError) → Grew was None middle → OnOk result (Kept middle (Ok tt) now)
+      → IfErr result (λ error. Grew middle (emitter_error error) now) → IsSoundSending was result now
+  ends_sound (Ok done) grew kept failed = kept.sound
+  ends_sound (Err error) grew kept failed = (grew_then was middle now (emitter_error error) grew failed).sound

@@ -1,0 +1,42 @@
+-- Where lexemes begin, computed on small texts.
+use Rattle.std.specs.Prelude.{codes}
+use Rattle.yaml_json.proofs.Common.{◌≡◌, ℕ, ◌++◌, List, [], ◌∷◌, drop, take, refl, inl, inr}
+use Rattle.json.specs.Lex.{Lexeme, between, colon, comma, lex, token}
+use Rattle.json.specs.Text.{content}
+use Rattle.json.specs.Word.{after_number, word}
+use Rattle.json.specs.Token.{begin_array, begin_object, number, string}
+use Rattle.yaml_json.specs.Lexing.{MayBegin, mode_over}
+
+-- before the offset are these lexemes, and one may begin there, or the text ends
+abbrev Begins : (text : List ℕ) → (at : ℕ) → List Lexeme → Type 0
+Begins text at before = (before ++ lex between (drop at text) ≡ lex between text) × MayBegin (mode_over between (take at text)) (drop at text)
+
+-- the colon of a string that isn't a name
+colon_row : Begins (codes "[\"a\" :1]") 5 (token begin_array ∷ token (string (97 ∷ [])) ∷ [])
+unfolding lex word after_number content
+colon_row = (refl, inr tt)
+
+-- what closes too early
+closer_row : Begins (codes "[1, ]") 4 (token begin_array ∷ token (number (49 ∷ [])) ∷ comma ∷ [])
+unfolding lex word after_number content
+closer_row = (refl, inr tt)
+
+-- a comma after a value
+comma_row : Begins (codes "1 ,2") 2 (token (number (49 ∷ [])) ∷ [])
+unfolding lex word after_number content
+comma_row = (refl, inr tt)
+
+-- the end
+end_row : Begins (codes "{\"a\":") 5 (token begin_object ∷ token (string (97 ∷ [])) ∷ colon ∷ [])
+unfolding lex word after_number content
+end_row = (refl, inl refl)
+
+-- not within a word
+word_row : MayBegin (mode_over between (take 2 (codes "[tru]"))) (drop 2 (codes "[tru]")) → ⊥
+word_row (inl none) = cc
+word_row (inr ends) = cc
+
+-- nor within a string
+string_row : MayBegin (mode_over between (take 2 (codes "[\",\"]"))) (drop 2 (codes "[\",\"]")) → ⊥
+string_row (inl none) = cc
+string_row (inr never) = never

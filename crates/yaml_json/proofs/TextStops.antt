@@ -1,0 +1,211 @@
+-- What an error says of a text, and of the writer that was given its first tokens.
+use Rattle.yaml_json.proofs.Common.{ℕ, IfSome, Option, None, Some, Err, Bool, List, ◌≡◌, refl, inl, inr, subst, sym, unwrap_or, failure_of, FailedInText, ap, ◌∙◌, ◌++◌, ◌⊎◌}
+use Rattle.yaml_json.proofs.Common.{WriterState, Token, ExplainsError, WhyStopped}
+use Rattle.yaml_base.specs.declared.errors.{yaml_error_t.yaml_error_t, yaml_error_t.TheVariants.Memory}
+use Rattle.yaml_json.specs.{Failing.HasErrorSaid, Failing.Kept, Failing.SoundAfter, Failing.writers_error, Refused.IsByText}
+use Rattle.yaml_json.specs.{Refused.StopsAt, Stopped.StopsInText, Walk.MatchesStop, Walk.StopsText, declared.error.JsonError.JsonError}
+use Rattle.yaml_json.proofs.Common.{◌+◌, ◌≤◌, [], arith, length}
+use Rattle.yaml_json.specs.{Offsets.StopsAtLexeme, Places.AreOf, Places.HasPlaceAfter, Places.HasPlaceWithin, Places.IsAt, Places.IsPlaced}
+use Rattle.std.specs.Str.{IsValidUpTo}
+use Rattle.yaml_json.specs.declared.error.StreamError.TheVariants as faults
+use Rattle.yaml_json.specs.declared.values.Stop.{Stop}
+use Rattle.yaml_json.specs.declared.error.JsonError.TheVariants as errors
+use Rattle.yaml_json.specs.declared.values.Stop.TheVariants as stops
+
+module _ (depth : ℕ) (unique in_flow : Bool) (text : List ℕ) (was now : WriterState) where
+  why_returned : (taken left : List Token) (stop : Stop) (error : JsonError) → MatchesStop text stop error → IsByText stop
+      → WhyStopped depth unique taken left stop → StopsAt depth unique text taken left error
+  why_returned taken left (stops.NotJson spot) (errors.NotJson line column) same is why = (why, same)
+  why_returned taken left (stops.NotJson spot) (errors.Marked line column) same is why = (why, same)
+  why_returned taken left (stops.NotJson spot) (errors.TooDeep line column) same is why = absurd same
+  why_returned taken left (stops.NotJson spot) (errors.DuplicateName line column) same is why = absurd same
+  why_returned taken left (stops.NotJson spot) (errors.Emitter returned) same is why = absurd same
+  why_returned taken left stops.TooDeep (errors.NotJson line column) same is why = absurd same
+  why_returned taken left stops.TooDeep (errors.Marked line column) same is why = absurd same
+  why_returned taken left stops.TooDeep (errors.TooDeep line column) same is why = why
+  why_returned taken left stops.TooDeep (errors.DuplicateName line column) same is why = absurd same
+  why_returned taken left stops.TooDeep (errors.Emitter returned) same is why = absurd same
+  why_returned taken left stops.NameAgain (errors.NotJson line column) same is why = absurd same
+  why_returned taken left stops.NameAgain (errors.Marked line column) same is why = absurd same
+  why_returned taken left stops.NameAgain (errors.TooDeep line column) same is why = absurd same
+  why_returned taken left stops.NameAgain (errors.DuplicateName line column) same is why = why
+  why_returned taken left stops.NameAgain (errors.Emitter returned) same is why = absurd same
+  why_returned taken left stops.Memory error same is why = absurd is
+  why_returned taken left stops.Failed error same is why = absurd is
+
+  stopped_by_text : (stop : Stop) (error : JsonError) → MatchesStop text stop error → IsByText stop
+      → StopsText depth unique in_flow text was stop now → StopsInText depth unique in_flow text was error now
+  stopped_by_text stop error same is stopped =
+      record {
+        taken = stopped.1.taken;
+        left = stopped.1.left;
+        split = stopped.1.parts;
+        why = why_returned stopped.1.taken stopped.1.left stop error same is stopped.1.why;
+        adds = stopped.1.adds;
+      }
+
+  stopped_by_writer : (code returned : yaml_error_t) → FailedInText depth in_flow text was code now
+      → StopsInText depth unique in_flow text was (errors.Emitter returned) now
+  stopped_by_writer code returned failed =
+      record { taken = failed.0; left = failed.1.0.left; split = failed.1.0.parts; why = failed.1.1; adds = failed.1.0.gave.adds }
+
+  -- an error says what the stop does
+  pub text_stopped : (stop : Stop) (error : JsonError) → MatchesStop text stop error
+      → (IsByText stop → StopsText depth unique in_flow text was stop now)
+      → IfSome (failure_of now stop) (λ code. FailedInText depth in_flow text was code now) → StopsInText depth unique in_flow text was error now
+  text_stopped (stops.NotJson spot) error same refused failed = stopped_by_text (stops.NotJson spot) error same tt (refused tt)
+  text_stopped stops.TooDeep error same refused failed = stopped_by_text stops.TooDeep error same tt (refused tt)
+  text_stopped stops.NameAgain error same refused failed = stopped_by_text stops.NameAgain error same tt (refused tt)
+  text_stopped stops.Memory (errors.NotJson line column) same refused failed = absurd same
+  text_stopped stops.Memory (errors.Marked line column) same refused failed = absurd same
+  text_stopped stops.Memory (errors.TooDeep line column) same refused failed = absurd same
+  text_stopped stops.Memory (errors.DuplicateName line column) same refused failed = absurd same
+  text_stopped stops.Memory (errors.Emitter returned) same refused failed = stopped_by_writer Memory returned failed
+  text_stopped stops.Failed (errors.NotJson line column) same refused failed = absurd same
+  text_stopped stops.Failed (errors.Marked line column) same refused failed = absurd same
+  text_stopped stops.Failed (errors.TooDeep line column) same refused failed = absurd same
+  text_stopped stops.Failed (errors.DuplicateName line column) same refused failed = absurd same
+  text_stopped stops.Failed (errors.Emitter returned) same refused failed =
+      stopped_by_writer (unwrap_or now.emitter.error Memory) returned failed
+
+  -- which explains the error
+  pub explained : (error : JsonError) → StopsInText depth unique in_flow text was error now → ExplainsError depth unique text error
+  explained (errors.NotJson line column) stops = (
+    record { taken = stops.taken; left = stops.left; parts = stops.split; begins = stops.why.0.begins; breaks = stops.why.0.breaks },
+    stops.why.1,
+  )
+  explained (errors.Marked line column) stops = (
+    record { taken = stops.taken; left = stops.left; parts = stops.split; begins = stops.why.0.begins; breaks = stops.why.0.breaks },
+    stops.why.1,
+  )
+  explained (errors.TooDeep line column) stops =
+      let why = stops.why in
+      record {
+        taken = stops.taken;
+        next = why.next;
+        left = why.after;
+        parts = ap (λ (all : List Token). stops.taken ++ all) (sym why.first) ∙ stops.split;
+        begins = why.begins;
+        some = why.some;
+        deeper = why.deeper;
+      }
+  explained (errors.DuplicateName line column) stops =
+      let why = stops.why in
+      record {
+        wanted = why.wanted;
+        taken = stops.taken;
+        name = why.name;
+        left = why.after;
+        parts = ap (λ (all : List Token). stops.taken ++ all) (sym why.first) ∙ stops.split;
+        begins = why.begins;
+        some = why.some;
+        twice = why.twice;
+      }
+  explained (errors.Emitter code) stops = tt
+
+  -- and the writer's failure
+  code_said : (code : yaml_error_t) → HasErrorSaid was (Some code) now → (code ≡ Memory) ⊎ (now.emitter.error ≡ Some code)
+  code_said code (inl memory) = inl memory.0
+  code_said code (inr has) = inr has
+
+  pub writer_failed : (error : JsonError) → StopsInText depth unique in_flow text was error now → HasErrorSaid was (writers_error error) now
+      → IfSome (writers_error error) (λ code. FailedInText depth in_flow text was code now)
+  writer_failed (errors.NotJson line column) stops said = tt
+  writer_failed (errors.Marked line column) stops said = tt
+  writer_failed (errors.TooDeep line column) stops said = tt
+  writer_failed (errors.DuplicateName line column) stops said = tt
+  writer_failed (errors.Emitter code) stops said = (
+    stops.taken,
+    (record { left = stops.left; parts = stops.split; gave = record { adds = stops.adds; is_error = code_said code said } }, stops.why),
+  )
+
+-- the emitter's error is the one that is said
+said_so : (was now : WriterState) (found : Option yaml_error_t) → now.emitter.error ≡ found → HasErrorSaid was (Some (unwrap_or found Memory)) now
+said_so was now None none = inl (refl, λ sound. none)
+said_so was now (Some code) has = inr has
+
+pub said_by : (was now : WriterState) (stop : Stop) → SoundAfter was (Err stop) now → HasErrorSaid was (failure_of now stop) now
+said_by was now (stops.NotJson spot) sound = sound
+said_by was now stops.TooDeep sound = sound
+said_by was now stops.NameAgain sound = sound
+said_by was now stops.Memory (inl sound) = inl (refl, sound)
+said_by was now stops.Memory (inr has) = inr has
+said_by was now stops.Failed sound = said_so was now now.emitter.error refl
+
+pub said_as : (was now : WriterState) (stop : Stop) (found : Option yaml_error_t) → found ≡ failure_of now stop → Kept was (Err stop) now
+    → HasErrorSaid was found now
+said_as was now stop found is kept = subst (λ (f : Option yaml_error_t). HasErrorSaid was f now) (sym is) (said_by was now stop kept.sound)
+
+-- the error is where the stop is
+pub placed_as : (depth : ℕ) (part text : List ℕ) (at : ℕ) (stop : Stop) (error : JsonError) → MatchesStop part stop error
+    → (IsByText stop → StopsAtLexeme depth text at stop) → IsPlaced depth text at error
+placed_as depth part text at (stops.NotJson spot) (errors.NotJson line column) same placed = placed tt
+placed_as depth part text at (stops.NotJson spot) (errors.Marked line column) same placed = placed tt
+placed_as depth part text at (stops.NotJson spot) (errors.TooDeep line column) same placed = absurd same
+placed_as depth part text at (stops.NotJson spot) (errors.DuplicateName line column) same placed = absurd same
+placed_as depth part text at (stops.NotJson spot) (errors.Emitter returned) same placed = absurd same
+placed_as depth part text at stops.TooDeep (errors.NotJson line column) same placed = absurd same
+placed_as depth part text at stops.TooDeep (errors.Marked line column) same placed = absurd same
+placed_as depth part text at stops.TooDeep (errors.TooDeep line column) same placed = placed tt
+placed_as depth part text at stops.TooDeep (errors.DuplicateName line column) same placed = absurd same
+placed_as depth part text at stops.TooDeep (errors.Emitter returned) same placed = absurd same
+placed_as depth part text at stops.NameAgain (errors.NotJson line column) same placed = absurd same
+placed_as depth part text at stops.NameAgain (errors.Marked line column) same placed = absurd same
+placed_as depth part text at stops.NameAgain (errors.TooDeep line column) same placed = absurd same
+placed_as depth part text at stops.NameAgain (errors.DuplicateName line column) same placed = placed tt
+placed_as depth part text at stops.NameAgain (errors.Emitter returned) same placed = absurd same
+placed_as depth part text at stops.Memory (errors.NotJson line column) same placed = absurd same
+placed_as depth part text at stops.Memory (errors.Marked line column) same placed = absurd same
+placed_as depth part text at stops.Memory (errors.TooDeep line column) same placed = absurd same
+placed_as depth part text at stops.Memory (errors.DuplicateName line column) same placed = absurd same
+placed_as depth part text at stops.Memory (errors.Emitter returned) same placed = tt
+placed_as depth part text at stops.Failed (errors.NotJson line column) same placed = absurd same
+placed_as depth part text at stops.Failed (errors.Marked line column) same placed = absurd same
+placed_as depth part text at stops.Failed (errors.TooDeep line column) same placed = absurd same
+placed_as depth part text at stops.Failed (errors.DuplicateName line column) same placed = absurd same
+placed_as depth part text at stops.Failed (errors.Emitter returned) same placed = tt
+
+-- and in the text that it is in
+pub placed_after : (depth : ℕ) (text part front : List ℕ) (at whole : ℕ) (stop : Stop) (error : JsonError) → MatchesStop part stop error
+    → (IsByText stop → StopsAtLexeme depth part at stop) → IsAt text whole error → (at ≤ length part → whole ≡ length front + at)
+    → HasPlaceAfter depth text front part error
+placed_after depth text part front at whole (stops.NotJson spot) (errors.NotJson line column) same placed is sum =
+    (at, (subst (λ n. IsAt text n (errors.NotJson line column)) (sum (placed tt).start.within) is, placed tt))
+placed_after depth text part front at whole (stops.NotJson spot) (errors.Marked line column) same placed is sum =
+    (at, (subst (λ n. IsAt text n (errors.Marked line column)) (sum (placed tt).start.within) is, placed tt))
+placed_after depth text part front at whole (stops.NotJson spot) (errors.TooDeep line column) same placed is sum = absurd same
+placed_after depth text part front at whole (stops.NotJson spot) (errors.DuplicateName line column) same placed is sum = absurd same
+placed_after depth text part front at whole (stops.NotJson spot) (errors.Emitter returned) same placed is sum = absurd same
+placed_after depth text part front at whole stops.TooDeep (errors.NotJson line column) same placed is sum = absurd same
+placed_after depth text part front at whole stops.TooDeep (errors.Marked line column) same placed is sum = absurd same
+placed_after depth text part front at whole stops.TooDeep (errors.TooDeep line column) same placed is sum =
+    (at, (subst (λ n. IsAt text n (errors.TooDeep line column)) (sum (placed tt).start.within) is, placed tt))
+placed_after depth text part front at whole stops.TooDeep (errors.DuplicateName line column) same placed is sum = absurd same
+placed_after depth text part front at whole stops.TooDeep (errors.Emitter returned) same placed is sum = absurd same
+placed_after depth text part front at whole stops.NameAgain (errors.NotJson line column) same placed is sum = absurd same
+placed_after depth text part front at whole stops.NameAgain (errors.Marked line column) same placed is sum = absurd same
+placed_after depth text part front at whole stops.NameAgain (errors.TooDeep line column) same placed is sum = absurd same
+placed_after depth text part front at whole stops.NameAgain (errors.DuplicateName line column) same placed is sum =
+    (at, (subst (λ n. IsAt text n (errors.DuplicateName line column)) (sum (placed tt).start.within) is, placed tt))
+placed_after depth text part front at whole stops.NameAgain (errors.Emitter returned) same placed is sum = absurd same
+placed_after depth text part front at whole stops.Memory (errors.NotJson line column) same placed is sum = absurd same
+placed_after depth text part front at whole stops.Memory (errors.Marked line column) same placed is sum = absurd same
+placed_after depth text part front at whole stops.Memory (errors.TooDeep line column) same placed is sum = absurd same
+placed_after depth text part front at whole stops.Memory (errors.DuplicateName line column) same placed is sum = absurd same
+placed_after depth text part front at whole stops.Memory (errors.Emitter returned) same placed is sum = (0, (tt, tt))
+placed_after depth text part front at whole stops.Failed (errors.NotJson line column) same placed is sum = absurd same
+placed_after depth text part front at whole stops.Failed (errors.Marked line column) same placed is sum = absurd same
+placed_after depth text part front at whole stops.Failed (errors.TooDeep line column) same placed is sum = absurd same
+placed_after depth text part front at whole stops.Failed (errors.DuplicateName line column) same placed is sum = absurd same
+placed_after depth text part front at whole stops.Failed (errors.Emitter returned) same placed is sum = (0, (tt, tt))
+
+-- in a text before which none came
+pub placed_first : (depth : ℕ) (text : List ℕ) (at : ℕ) (error : JsonError) → IsAt text at error → IsPlaced depth text at error
+    → HasPlaceWithin depth [] text (faults.Refused error)
+placed_first depth text at error is placed =
+    let e : at ≡ length {A = ℕ} [] + at = omega arith in (at, ((λ less. subst (λ n. IsAt text n error) e is), placed))
+
+pub placed_no_text : (depth : ℕ) (bytes : List ℕ) (at line column : ℕ) → AreOf bytes at line column → IsValidUpTo bytes at
+    → HasPlaceWithin depth [] bytes (faults.NotText line column)
+placed_no_text depth bytes at line column is valid =
+    let e : at ≡ length {A = ℕ} [] + at = omega arith in (at, ((λ less. subst (λ n. AreOf bytes n line column) e is), valid))

@@ -1,0 +1,113 @@
+-- Where in a text an error is.
+use Rattle.std.specs.Prelude.{◌≡◌, ℕ, ◌+◌, ◌<◌, ◌≤◌, List, [], ◌∷◌, ◌++◌, drop, flat_map, length, take}
+use Rattle.std.specs.Str.{IsValidUpTo}
+use Rattle.json.specs.Json.{Json}
+use Rattle.json.specs.Lex.{Lexeme, between, fresh, lex, punctuate}
+use Rattle.json.specs.Strict.{HasUniqueKeys}
+use Rattle.json.specs.Tree.{depth as nesting, json_tokens}
+use Rattle.yaml_base.specs.values.LinesAndColumns.{column_of, line_of}
+use Rattle.yaml_json.specs.Ahead.{IsTrimmed}
+use Rattle.yaml_json.specs.Lexing.{MayBegin, mode_over}
+use Rattle.yaml_json.specs.Texts.{texts_in}
+use Rattle.yaml_json.specs.declared.error.JsonError.{JsonError}
+use Rattle.yaml_json.specs.declared.error.JsonError.TheVariants as errors
+use Rattle.yaml_json.specs.declared.error.StreamError.{StreamError}
+use Rattle.yaml_json.specs.declared.error.StreamError.TheVariants as faults
+use Rattle.yaml_json.specs.declared.places.Place.{Place}
+
+-- the line and the column are those of an offset in a text
+abbrev pub AreOf : (text : List ℕ) → (at line column : ℕ) → Type 0
+AreOf text at line column = (line ≡ line_of text at) × (column ≡ column_of text at)
+
+-- the error, where it has a place, is at this offset of the text
+abbrev pub IsAt : (text : List ℕ) → (at : ℕ) → JsonError → Type 0
+IsAt text at (errors.NotJson line column) = AreOf text at line column
+IsAt text at (errors.Marked line column) = AreOf text at line column
+IsAt text at (errors.TooDeep line column) = AreOf text at line column
+IsAt text at (errors.DuplicateName line column) = AreOf text at line column
+IsAt text at (errors.Emitter error) = Unit {0}
+
+-- ---- the lexeme that can't stand there
+
+-- a lexeme begins at this offset, or the text ends there
+pub record IsLexemeStart (text : List ℕ) (at : ℕ) : Type 0 where
+  pub within : at ≤ length text
+  pub begins : MayBegin (mode_over between (take at text)) (drop at text)
+  pub trimmed : IsTrimmed (drop at text)
+
+-- the lexemes of some allowed value begin with these
+abbrev pub BeginLexemes : (allowed : Json → Type 0) → List Lexeme → Type 0
+BeginLexemes allowed lexemes =
+    (json : Json) × (allowed json × ((more : List Lexeme) × (punctuate fresh (lexemes ++ more) ≡ json_tokens json)))
+
+-- after these lexemes those of no allowed value go on with the next of these; where there is none, those of none end
+abbrev pub NoneGoOn : (allowed : Json → Type 0) → (before after : List Lexeme) → Type 0
+NoneGoOn allowed before [] = (json : Json) → allowed json → punctuate fresh before ≡ json_tokens json → ⊥
+NoneGoOn allowed before (next ∷ after) = BeginLexemes allowed (before ++ next ∷ []) → ⊥
+
+-- the text's lexemes up to this offset are those with which an allowed value begins, and the next can't stand there
+pub record CannotStandAt (allowed : Json → Type 0) (text : List ℕ) (at : ℕ) : Type 0 where
+  pub start : IsLexemeStart text at
+  pub before : List Lexeme
+  pub parts : before ++ lex between (drop at text) ≡ lex between text
+  pub begins : BeginLexemes allowed before
+  pub none : NoneGoOn allowed before (lex between (drop at text))
+
+abbrev pub IsAny : Json → Type 0
+IsAny json = Unit {0}
+
+-- it nests at most `depth` deep
+abbrev pub IsWithinDepth : (depth : ℕ) → Json → Type 0
+IsWithinDepth depth json = nesting json ≤ depth
+
+-- the error is at the first lexeme that can't stand where it stands, or at the text's end: of any value; of one that nests at most
+-- `depth` deep; of one whose objects have each name once
+abbrev pub IsPlaced : (depth : ℕ) → (text : List ℕ) → (at : ℕ) → JsonError → Type 0
+IsPlaced depth text at (errors.NotJson line column) = CannotStandAt IsAny text at
+IsPlaced depth text at (errors.Marked line column) = CannotStandAt IsAny text at
+IsPlaced depth text at (errors.TooDeep line column) = CannotStandAt (IsWithinDepth depth) text at
+IsPlaced depth text at (errors.DuplicateName line column) = CannotStandAt HasUniqueKeys text at
+IsPlaced depth text at (errors.Emitter error) = Unit {0}
+
+-- the line and the column of the error, where it has them, are those of that lexeme
+abbrev pub HasPlace : (depth : ℕ) → (text : List ℕ) → JsonError → Type 0
+HasPlace depth text error = (at : ℕ) × (IsAt text at error × IsPlaced depth text at error)
+
+-- so of a text that begins after these bytes of a longer one: the line and the column are those in the longer one
+abbrev pub HasPlaceAfter : (depth : ℕ) → (text front part : List ℕ) → JsonError → Type 0
+HasPlaceAfter depth text front part error = (at : ℕ) × (IsAt text (length front + at) error × IsPlaced depth part at error)
+
+-- ---- texts that come part by part
+
+-- places are counted of fewer bytes than these
+abbrev pub many_bytes : ℕ
+many_bytes = 9223372036854775808
+
+-- the place that follows these bytes
+abbrev pub IsPlaceAfter : (front : List ℕ) → Place → Type 0
+IsPlaceAfter front place = length front < many_bytes → AreOf front (length front) place.line place.column
+
+-- an error is at this lexeme of a text, or where it stops to be UTF-8; its line and column are counted from the start of these bytes,
+-- which come before it
+abbrev pub HasPlaceWithin : (depth : ℕ) → (front part : List ℕ) → StreamError → Type 0
+HasPlaceWithin depth front part (faults.Refused error) =
+    (at : ℕ) × ((length front + at < many_bytes → IsAt (front ++ part) (length front + at) error) × IsPlaced depth part at error)
+HasPlaceWithin depth front part (faults.NotText line column) =
+    (at : ℕ) × ((length front + at < many_bytes → AreOf (front ++ part) (length front + at) line column) × IsValidUpTo part at)
+HasPlaceWithin depth front part _ = Unit {0}
+
+-- of these bytes those are left, and the place moves with what they follow
+pub record MovesPlace (before after : List ℕ) (old new : Place) : Type 0 where
+  pub dropped : List ℕ
+  pub parts : dropped ++ after ≡ before
+  pub follows : (front : List ℕ) → IsPlaceAfter front old → IsPlaceAfter (front ++ dropped) new
+
+-- of the texts in a text, the one that begins at `start` has the offset in it
+pub record HasInText (text : List ℕ) (offset start : ℕ) : Type 0 where
+  pub before : List (List ℕ)
+  pub first : List ℕ
+  pub later : List (List ℕ)
+  pub cut : before ++ first ∷ later ≡ texts_in text
+  pub joined : flat_map (λ part. part) before ++ drop start text ≡ text
+  pub begins : start ≤ offset
+  pub reaches : offset < start + length first

@@ -1,0 +1,259 @@
+-- A character that was read stood there in its one spelling.
+use Rattle.yaml_base.proofs.Common.{ℕ, ◌+◌, ◌*◌, ◌/◌, ◌%◌, ◌-◌, ◌<◌, ◌≤◌, ◌==◌, Bool, true, false, not, ◌&&◌, ◌||◌, Option, None, Some, List, [], ◌∷◌, ◌++◌, refl, ◌≡◌}
+use Rattle.yaml_base.proofs.Common.{ap, subst, sym, ◌∙◌, arith, nat_tests, append_assoc, append-nil, and_parts, and_from, eqb-true, if◌then◌else◌, nat_le}
+use Rattle.yaml_base.proofs.Common.{Text, encode_utf8_all, encode_utf8, all_scalars, hex_digit, hex_digits, character_text, is_between, flat_map, flat_map-append, codes}
+use Rattle.yaml_base.proofs.Common.{chars-encodes, chars}
+use lib.Utf8.{scalar}
+use Rattle.std.specs.Prelude.{String}
+use Rattle.std.specs.Str.{IsUtf8}
+use Rattle.std.specs.String.{string_bytes}
+use Rattle.std.proofs.lemmas.Str.{cons_from_encodes, encodes-append}
+use Rattle.yaml_base.specs.Seen.{seen_text}
+use Rattle.yaml_base.specs.reading.ReadDouble.{digit_meaning, letter_meaning, meaning_among}
+use Rattle.yaml_base.specs.scalars.DoubleQuoted.{short_escapes, letter_among, needs_escape, escape_after_backslash, escape_text, quote, backslash}
+use Rattle.yaml_base.specs.values.ValueText.{in_quotes}
+use Rattle.yaml_read.proofs.Encoded.{word_encoded}
+use Rattle.yaml_read.proofs.Firsts.{four_text}
+use Rattle.yaml_read.specs.Sound.{IsByNumber, IsCharacter, IsEscape}
+
+-- the first character of a text is a Unicode scalar value
+pub scalar_of : (bytes rest : List ℕ) (c : ℕ) → IsUtf8 bytes → bytes ≡ encode_utf8 c ++ rest → all_scalars (c ∷ []) ≡ true
+scalar_of bytes rest c utf8 is =
+    let first = cons_from_encodes utf8.0 rest c (utf8.1.1 ∙ is) in
+    let both : (scalar c ≡ true) × (all_scalars first.0 ≡ true) = and_parts (scalar c) (all_scalars first.0) (ap all_scalars (sym first.1) ∙ utf8.1.0) in
+    ap (λ b. b && true) both.0
+
+-- ---- digits
+
+digit_by : (c d : ℕ) (low high : Bool) → is_between 48 57 c ≡ low → is_between 65 70 c ≡ high
+    → (if low then Some (c - 48) else (if high then Some (c - 55) else None)) ≡ Some d → c ≡ hex_digit d
+digit_by c d true high is_low is_high is = grind (arith, nat_tests, and_parts, is_low)
+digit_by c d false true is_low is_high is = grind (arith, nat_tests, and_parts, is_high)
+digit_by c d false false is_low is_high is = cc
+
+-- a digit that was read
+pub digit_is : (c d : ℕ) → digit_meaning c ≡ Some d → c ≡ hex_digit d
+digit_is c d is = digit_by c d (is_between 48 57 c) (is_between 65 70 c) refl refl is
+
+-- two numbers behind one another
+pub two_read : (bytes behind rest : List ℕ) (upper lower : ℕ) → upper < 16 → lower < 16 → bytes ≡ encode_utf8_all (hex_digit upper ∷ []) ++ behind
+    → behind ≡ encode_utf8_all (hex_digit lower ∷ []) ++ rest → bytes ≡ encode_utf8_all (hex_digits 2 (upper * 16 + lower)) ++ rest
+two_read bytes behind rest upper lower few also first second =
+    first ∙ ap (λ b. encode_utf8_all (hex_digit upper ∷ []) ++ b) second
+    ∙ sym (append_assoc (encode_utf8_all (hex_digit upper ∷ [])) (encode_utf8_all (hex_digit lower ∷ [])) rest)
+    ∙ ap (λ b. b ++ rest) (sym (encodes-append (hex_digit upper ∷ []) (hex_digit lower ∷ [])) ∙ ap encode_utf8_all digits)
+  where
+    up : upper ≡ (upper * 16 + lower) / 16 % 16
+    up = omega (arith, few, also)
+
+    low : lower ≡ (upper * 16 + lower) % 16
+    low = omega (arith, few, also)
+
+    digits : hex_digit upper ∷ hex_digit lower ∷ [] ≡ hex_digits 2 (upper * 16 + lower)
+    digits = ap (λ n. hex_digit n ∷ hex_digit lower ∷ []) up ∙ ap (λ n. hex_digit ((upper * 16 + lower) / 16 % 16) ∷ hex_digit n ∷ []) low
+
+pub four_read : (bytes behind rest : List ℕ) (upper lower : ℕ) → lower < 256 → bytes ≡ encode_utf8_all (hex_digits 2 upper) ++ behind
+    → behind ≡ encode_utf8_all (hex_digits 2 lower) ++ rest → bytes ≡ encode_utf8_all (hex_digits 4 (upper * 256 + lower)) ++ rest
+four_read bytes behind rest upper lower few first second =
+    first ∙ ap (λ b. encode_utf8_all (hex_digits 2 upper) ++ b) second
+    ∙ sym (append_assoc (encode_utf8_all (hex_digits 2 upper)) (encode_utf8_all (hex_digits 2 lower)) rest)
+    ∙ ap (λ b. b ++ rest) (sym (encodes-append (hex_digits 2 upper) (hex_digits 2 lower)) ∙ ap encode_utf8_all digits)
+  where
+    up : upper ≡ (upper * 256 + lower) / 256
+    up = omega (arith, few)
+
+    low : lower ≡ (upper * 256 + lower) % 256
+    low = omega (arith, few)
+
+    digits : hex_digits 2 upper ++ hex_digits 2 lower ≡ hex_digits 4 (upper * 256 + lower)
+    digits =
+        ap (λ n. hex_digits 2 n ++ hex_digits 2 lower) up ∙ ap (λ n. hex_digits 2 ((upper * 256 + lower) / 256) ++ hex_digits 2 n) low
+        ∙ ap (λ t. hex_digits 2 ((upper * 256 + lower) / 256) ++ t) (sym (append-nil (hex_digits 2 ((upper * 256 + lower) % 256))))
+        ∙ sym (four_text (upper * 256 + lower) []) ∙ append-nil (hex_digits 4 (upper * 256 + lower))
+
+-- ---- letters
+
+-- an answer is there and is this number
+abbrev is_answer : Option ℕ → ℕ → Bool
+is_answer None n = false
+is_answer (Some m) n = m == n
+
+is_answer-is : (o : Option ℕ) (n : ℕ) → is_answer o n ≡ true → o ≡ Some n
+is_answer-is None n h = cc
+is_answer-is (Some m) n h = ap (λ k. Some k) (eqb-true m n h)
+
+-- each letter is that of its meaning, where that needs an escape
+abbrev letters_fit : (letters meanings : Text) → Bool
+letters_fit (letter ∷ letters) (meaning ∷ meanings) =
+    (not (needs_escape true meaning) || is_answer (letter_among short_escapes meaning) letter) && letters_fit letters meanings
+letters_fit _ _ = true
+
+letter_fits : (letters meanings : Text) (c meaning : ℕ) → letters_fit letters meanings ≡ true → meaning_among letters meanings c ≡ Some meaning
+    → needs_escape true meaning ≡ true → letter_among short_escapes meaning ≡ Some c
+letter_fits [] meanings c meaning fit is needs = cc
+letter_fits (letter ∷ letters) [] c meaning fit is needs = cc
+letter_fits (letter ∷ letters) (m ∷ meanings) c meaning fit is needs =
+    let parts : ((not (needs_escape true m) || is_answer (letter_among short_escapes m) letter) ≡ true) × (letters_fit letters meanings ≡ true) =
+    and_parts _ _ fit in
+    first (c == letter) refl parts.0 (letter_fits letters meanings c meaning parts.1) is
+  where
+    answered : (needed : Bool) (o : Option ℕ) → needed ≡ true → (not needed || is_answer o letter) ≡ true → o ≡ Some letter
+    answered true o need h = is_answer-is o letter h
+    answered false o need h = cc
+
+    first : (b : Bool) → (c == letter) ≡ b → (not (needs_escape true m) || is_answer (letter_among short_escapes m) letter) ≡ true
+        → (meaning_among letters meanings c ≡ Some meaning → needs_escape true meaning ≡ true → letter_among short_escapes meaning ≡ Some c)
+        → (if b then Some m else meaning_among letters meanings c) ≡ Some meaning → letter_among short_escapes meaning ≡ Some c
+    first true same fits more found =
+        let meant : m ≡ meaning = cc in
+        subst (λ k. letter_among short_escapes k ≡ Some c) meant
+        (answered (needs_escape true m) (letter_among short_escapes m) (ap (needs_escape true) meant ∙ needs) fits
+        ∙ ap (λ l. Some l) (sym (eqb-true c letter same)))
+    first false other fits more found = more found needs
+
+pub letter_is : (letter c : ℕ) → letter_meaning letter ≡ Some c → needs_escape true c ≡ true → letter_among short_escapes c ≡ Some letter
+letter_is letter c is needs =
+    letter_fits (codes "0abtnvfre\"\\N_LP ")
+    (0 ∷ 7 ∷ 8 ∷ 9 ∷ 0xA ∷ 0xB ∷ 0xC ∷ 0xD ∷ 0x1B ∷ 0x22 ∷ 0x5C ∷ 0x85 ∷ 0xA0 ∷ 0x2028 ∷ 0x2029 ∷ 0x20 ∷ []) letter c refl is needs
+
+-- a letter that was read, with what precedes it
+pub letter_read : (bytes rest : List ℕ) (letter c : ℕ) → all_scalars (c ∷ []) ≡ true → letter_meaning letter ≡ Some c → needs_escape true c ≡ true
+    → bytes ≡ encode_utf8 letter ++ rest → IsEscape bytes c rest
+letter_read bytes rest letter c scalar means needs starts =
+    record {
+      scalar = scalar;
+      needs = needs;
+      text =
+          starts ∙ ap (λ b. b ++ rest) (sym (append-nil (encode_utf8 letter)))
+          ∙ ap (λ o. encode_utf8_all (escape_after_backslash o c) ++ rest) (sym (letter_is letter c means needs));
+    }
+
+-- ---- numbers
+
+behind_first : (bytes rest tail : List ℕ) (first : ℕ) (digits escape : Text) → bytes ≡ encode_utf8 first ++ tail → tail ≡ encode_utf8_all digits ++ rest
+    → escape ≡ first ∷ digits → bytes ≡ encode_utf8_all escape ++ rest
+behind_first bytes rest tail first digits escape starts is same =
+    starts ∙ ap (λ b. encode_utf8 first ++ b) is ∙ sym (append_assoc (encode_utf8 first) (encode_utf8_all digits) rest)
+    ∙ ap (λ t. encode_utf8_all t ++ rest) (sym same)
+
+by_tests : (c : ℕ) (two four : Bool) → nat_le c 0xFF ≡ two → nat_le c 0xFFFF ≡ four
+    → escape_after_backslash None c ≡ (if two then 120 ∷ hex_digits 2 c else (if four then 117 ∷ hex_digits 4 c else 85 ∷ hex_digits 8 c))
+by_tests c two four is_two is_four =
+    ap (λ b. if b then 120 ∷ hex_digits 2 c else (if nat_le c 0xFFFF then 117 ∷ hex_digits 4 c else 85 ∷ hex_digits 8 c)) is_two
+    ∙ ap (λ b. if two then 120 ∷ hex_digits 2 c else (if b then 117 ∷ hex_digits 4 c else 85 ∷ hex_digits 8 c)) is_four
+
+pub short_read : (bytes tail rest : List ℕ) (first c : ℕ) → IsByNumber tail 2 c rest → c < 256 → bytes ≡ encode_utf8 first ++ tail → first ≡ 120
+    → IsEscape bytes c rest
+short_read bytes tail rest first c number few starts is =
+    let at_most : nat_le c 0xFF ≡ true = grind (arith, nat_tests, few) in
+    record {
+      scalar = number.scalar;
+      needs = number.needs;
+      text =
+          behind_first bytes rest tail 120 (hex_digits 2 c) (escape_after_backslash (letter_among short_escapes c) c)
+          (starts ∙ ap (λ f. encode_utf8 f ++ tail) is) number.text
+          (ap (λ o. escape_after_backslash o c) number.none ∙ by_tests c true (nat_le c 0xFFFF) at_most refl);
+    }
+
+pub long_read : (bytes tail rest : List ℕ) (first c : ℕ) → IsByNumber tail 4 c rest → 256 ≤ c → c < 65536 → bytes ≡ encode_utf8 first ++ tail
+    → first ≡ 117 → IsEscape bytes c rest
+long_read bytes tail rest first c number many few starts is =
+    let more : nat_le c 0xFF ≡ false = grind (arith, nat_tests, many) in
+    let at_most : nat_le c 0xFFFF ≡ true = grind (arith, nat_tests, few) in
+    record {
+      scalar = number.scalar;
+      needs = number.needs;
+      text =
+          behind_first bytes rest tail 117 (hex_digits 4 c) (escape_after_backslash (letter_among short_escapes c) c)
+          (starts ∙ ap (λ f. encode_utf8 f ++ tail) is) number.text
+          (ap (λ o. escape_after_backslash o c) number.none ∙ by_tests c false true more at_most);
+    }
+
+-- ---- characters
+
+pub escape_read : (bytes tail rest : List ℕ) (first c : ℕ) → IsEscape tail c rest → bytes ≡ encode_utf8 first ++ tail → first ≡ backslash
+    → IsCharacter bytes c rest
+escape_read bytes tail rest first c escape starts is =
+    record {
+      scalar = escape.scalar;
+      text =
+          behind_first bytes rest tail backslash (escape_after_backslash (letter_among short_escapes c) c) (character_text true c)
+          (starts ∙ ap (λ f. encode_utf8 f ++ tail) is) escape.text (ap (λ b. if b then escape_text c else c ∷ []) escape.needs);
+    }
+
+pub itself_read : (bytes rest : List ℕ) (c : ℕ) → all_scalars (c ∷ []) ≡ true → needs_escape true c ≡ false → bytes ≡ encode_utf8 c ++ rest
+    → IsCharacter bytes c rest
+itself_read bytes rest c scalar plain starts =
+    record {
+      scalar = scalar;
+      text =
+          starts ∙ ap (λ b. b ++ rest) (sym (append-nil (encode_utf8 c)))
+          ∙ ap (λ t. encode_utf8_all t ++ rest) (sym (ap (λ b. if b then escape_text c else c ∷ []) plain));
+    }
+
+-- ---- texts
+
+-- the characters so far
+pub record ReadSoFar (whole value bytes : List ℕ) : Type 0 where
+  pub read : Text
+  pub scalars : all_scalars read ≡ true
+  pub value_is : value ≡ encode_utf8_all read
+  pub whole_is : whole ≡ codes "\"" ++ (encode_utf8_all (flat_map (character_text true) read) ++ bytes)
+
+scalars_more : (a b : Text) → all_scalars a ≡ true → all_scalars b ≡ true → all_scalars (a ++ b) ≡ true
+scalars_more [] b ha hb = hb
+scalars_more (c ∷ a) b ha hb = let parts = and_parts _ (all_scalars a) ha in and_from _ _ parts.0 (scalars_more a b parts.1 hb)
+
+pub none_yet : (whole bytes : List ℕ) → whole ≡ codes "\"" ++ bytes → ReadSoFar whole [] bytes
+none_yet whole bytes is = record { read = []; scalars = refl; value_is = refl; whole_is = is }
+
+pub one_more : (whole value bytes rest : List ℕ) (c : ℕ) → ReadSoFar whole value bytes → IsCharacter bytes c rest
+    → ReadSoFar whole (value ++ encode_utf8 c) rest
+one_more whole value bytes rest c so_far character =
+    let text = character_text true c in
+    let before = flat_map (character_text true) so_far.read in
+    record {
+      read = so_far.read ++ c ∷ [];
+      scalars = scalars_more so_far.read (c ∷ []) so_far.scalars character.scalar;
+      value_is =
+          ap (λ v. v ++ encode_utf8 c) so_far.value_is ∙ ap (λ t. encode_utf8_all so_far.read ++ t) (sym (append-nil (encode_utf8 c)))
+          ∙ sym (encodes-append so_far.read (c ∷ []));
+      whole_is =
+          so_far.whole_is
+          ∙ ap (λ t. codes "\"" ++ t)
+          (ap (λ b. encode_utf8_all before ++ b) character.text ∙ sym (append_assoc (encode_utf8_all before) (encode_utf8_all text) rest)
+          ∙ ap (λ b. b ++ rest) (sym (encodes-append before text)
+          ∙ ap encode_utf8_all (ap (λ t. before ++ t) (sym (append-nil text)) ∙ sym (flat_map-append (character_text true) so_far.read (c ∷ [])))));
+    }
+
+pub all_read : {A : Type 0} (whole bytes end : List ℕ) (value : String A) → ReadSoFar whole (string_bytes value) bytes → bytes ≡ codes "\"" ++ end
+    → whole ≡ encode_utf8_all (in_quotes (seen_text value)) ++ end
+all_read whole bytes end value so_far ends =
+    let inside = flat_map (character_text true) so_far.read in
+    so_far.whole_is ∙ ap (λ b. codes "\"" ++ (encode_utf8_all inside ++ b)) ends
+    ∙ ap (λ t. codes "\"" ++ t) (sym (append_assoc (encode_utf8_all inside) (codes "\"") end)
+    ∙ ap (λ b. b ++ end) (ap (λ q. encode_utf8_all inside ++ q) (sym (word_encoded (codes "\"") [] refl)) ∙ sym (encodes-append inside (quote ∷ []))))
+    ∙ ap (λ b. b ++ end) (sym (word_encoded (codes "\"") (inside ++ quote ∷ []) refl))
+    ∙ ap (λ t. encode_utf8_all (in_quotes t) ++ end) (sym (ap chars so_far.value_is ∙ chars-encodes so_far.read so_far.scalars))
+
+-- what a letter stands for is a Unicode scalar value
+means_scalar : (letters meanings : Text) (c meaning : ℕ) → all_scalars meanings ≡ true → meaning_among letters meanings c ≡ Some meaning
+    → all_scalars (meaning ∷ []) ≡ true
+means_scalar [] meanings c meaning h is = cc
+means_scalar (letter ∷ letters) [] c meaning h is = cc
+means_scalar (letter ∷ letters) (m ∷ meanings) c meaning h is =
+    let parts : (all_scalars (m ∷ []) ≡ true) × (all_scalars meanings ≡ true) = (
+      ap (λ b. b && true) (and_parts _ (all_scalars meanings) h).0,
+      (and_parts _ (all_scalars meanings) h).1,
+    ) in
+    first (c == letter) parts.0 (means_scalar letters meanings c meaning parts.1) is
+  where
+    first : (b : Bool) → all_scalars (m ∷ []) ≡ true → (meaning_among letters meanings c ≡ Some meaning → all_scalars (meaning ∷ []) ≡ true)
+        → (if b then Some m else meaning_among letters meanings c) ≡ Some meaning → all_scalars (meaning ∷ []) ≡ true
+    first true fits more found = let meant : m ≡ meaning = cc in subst (λ k. all_scalars (k ∷ []) ≡ true) meant fits
+    first false fits more found = more found
+
+pub letter_scalar : (letter c : ℕ) → letter_meaning letter ≡ Some c → all_scalars (c ∷ []) ≡ true
+letter_scalar letter c is =
+    means_scalar (codes "0abtnvfre\"\\N_LP ")
+    (0 ∷ 7 ∷ 8 ∷ 9 ∷ 0xA ∷ 0xB ∷ 0xC ∷ 0xD ∷ 0x1B ∷ 0x22 ∷ 0x5C ∷ 0x85 ∷ 0xA0 ∷ 0x2028 ∷ 0x2029 ∷ 0x20 ∷ []) letter c refl is

@@ -1,0 +1,28 @@
+-- Which errors tell that no value has some bytes.
+use Rattle.yaml_base.proofs.Common.{ℕ, List, Some, ◌≡◌, sym, ◌∙◌, ◌⊎◌, inl, inr, encode_utf8_all}
+use Rattle.std.specs.Prelude.{Err, ◌≢◌}
+use Rattle.yaml_base.proofs.Decoding.{text_bytes-utf8}
+use Rattle.yaml_base.specs.Encoding.{encode}
+use Rattle.yaml_base.specs.Settings.{utf8}
+use Rattle.yaml_base.specs.values.TypedValues.{TypedValue}
+use Rattle.yaml_base.specs.values.ValueText.{document_text}
+use Rattle.yaml_read.specs.Errors.{Tells}
+use Rattle.yaml_read.specs.Readable.{CanBeRead}
+use Rattle.yaml_read.specs.Words.{OrMemory}
+use Rattle.yaml_read.specs.declared.errors.ReadError.{ReadError}
+use Rattle.yaml_read.specs.declared.errors.ReadError.TheVariants as told
+use Rattle.yaml_read.specs.declared.errors.Stop.{Stop}
+use Rattle.yaml_read.specs.declared.errors.Stop.TheVariants as stop
+
+-- memory gave out, or no value has these bytes
+abbrev pub IsJust : List ℕ → ReadError → Type 0
+IsJust bytes error = (error ≡ told.Memory) ⊎ ((value : TypedValue) → CanBeRead value → encode (Some utf8) (document_text value) ≢ bytes)
+
+-- a text that is no value's
+pub stopped : {T : Type 0} (Holds : TypedValue → T → Type 0) (bytes text : List ℕ) (why : Stop) (error : ReadError) → text ≡ bytes → Tells why error
+    → ((value : TypedValue) → CanBeRead value → text ≡ encode_utf8_all (document_text value) → OrMemory (Holds value) (Err why)) → IsJust bytes error
+stopped Holds bytes text stop.Memory error same tells reads = inl tells
+stopped Holds bytes text (stop.Refused n) error same tells reads =
+    inr (λ value readable is. reads value readable (same ∙ sym is ∙ text_bytes-utf8 (document_text value)))
+stopped Holds bytes text (stop.TooDeep n) error same tells reads =
+    inr (λ value readable is. reads value readable (same ∙ sym is ∙ text_bytes-utf8 (document_text value)))

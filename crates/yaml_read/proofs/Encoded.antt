@@ -1,0 +1,24 @@
+-- Words of ASCII in UTF-8.
+use Rattle.yaml_base.proofs.Common.{ℕ, suc, zero, Bool, true, [], ◌∷◌, ◌++◌, refl, ◌≡◌, ap, ◌∙◌}
+use Rattle.yaml_base.proofs.Common.{nat_lt, ltb-true, and_parts, list_all, replicate, space, encode_utf8_all, Text}
+use Rattle.std.proofs.lemmas.Str.{encode_ascii}
+use Rattle.yaml_base.specs.values.ValueText.{line_at}
+
+-- characters of ASCII; computes at a literal
+abbrev pub are_ascii : Text → Bool
+are_ascii word = list_all (λ c. nat_lt c 128) word
+
+-- a word of ASCII is its bytes
+pub word_encoded : (word rest : Text) → are_ascii word ≡ true → encode_utf8_all (word ++ rest) ≡ word ++ encode_utf8_all rest
+word_encoded [] rest h = refl
+word_encoded (c ∷ word) rest h =
+    let both = and_parts (nat_lt c 128) (are_ascii word) h in
+    ap (λ bytes. bytes ++ encode_utf8_all (word ++ rest)) (encode_ascii c (ltb-true c 128 both.0)) ∙ ap (λ t. c ∷ t) (word_encoded word rest both.1)
+
+spaces_ascii : (n : ℕ) → are_ascii (replicate n space) ≡ true
+spaces_ascii zero = refl
+spaces_ascii (suc n) = spaces_ascii n
+
+-- so is a line's end with an indentation
+pub line_encoded : (column : ℕ) (rest : Text) → encode_utf8_all (line_at column ++ rest) ≡ line_at column ++ encode_utf8_all rest
+line_encoded column rest = word_encoded (line_at column) rest (spaces_ascii column)

@@ -1,0 +1,62 @@
+-- Escapes and digits.
+use Rattle.yaml_base.proofs.Common.{ℕ, ◌<◌, ◌==◌, Bool, true, false, ◌&&◌, Option, None, Some, List, [], ◌∷◌, refl, ◌≡◌}
+use Rattle.yaml_base.proofs.Common.{ap, sym, ◌∙◌, arith, nat_tests, nat_lt, ltb-true, true≢false, and_parts, agree_below_at, eqb-true, if◌then◌else◌, Text, hex_digit}
+use Rattle.yaml_base.proofs.Common.{scalar_cases, all_scalars, character_text}
+use Rattle.yaml_base.specs.reading.ReadDouble.{letter_meaning, digit_meaning}
+use Rattle.yaml_base.specs.scalars.DoubleQuoted.{ShortEscape, short_escapes, letter_among, needs_escape, escape_after_backslash, escape_text, backslash}
+
+-- an answer is there and is this number
+abbrev is_answer : Option ℕ → ℕ → Bool
+is_answer None n = false
+is_answer (Some m) n = m == n
+
+is_answer-is : (o : Option ℕ) (n : ℕ) → is_answer o n ≡ true → o ≡ Some n
+is_answer-is None n h = cc
+is_answer-is (Some m) n h = ap (λ k. Some k) (eqb-true m n h)
+
+-- a digit is read as its value
+pub digit_reads : (d : ℕ) → d < 16 → digit_meaning (hex_digit d) ≡ Some d
+digit_reads d h = is_answer-is _ d (agree_below_at (λ d. is_answer (digit_meaning (hex_digit d)) d) (λ k. true) 16 d refl h)
+
+-- each letter of a table is read as its character
+abbrev letters_read : List ShortEscape → Bool
+letters_read [] = true
+letters_read (entry ∷ more) = is_answer (letter_meaning entry.letter) entry.character && letters_read more
+
+letter_found : (more : List ShortEscape) (entry : ShortEscape) (c letter : ℕ) (b : Bool) → (c == entry.character) ≡ b
+    → is_answer (letter_meaning entry.letter) entry.character ≡ true
+    → (letter_among more c ≡ Some letter → letter_meaning letter ≡ Some c)
+    → (if b then Some entry.letter else letter_among more c) ≡ Some letter → letter_meaning letter ≡ Some c
+letter_found more entry c letter true is reads later h = grind (arith, eqb-true, is_answer-is)
+letter_found more entry c letter false is reads later h = later h
+
+letter_by : (table : List ShortEscape) (c letter : ℕ) → letters_read table ≡ true
+    → letter_among table c ≡ Some letter → letter_meaning letter ≡ Some c
+letter_by [] c letter h found = cc
+letter_by (entry ∷ more) c letter h found =
+    let p : (is_answer (letter_meaning entry.letter) entry.character ≡ true) × (letters_read more ≡ true) = and_parts _ _ h in
+    letter_found more entry c letter (c == entry.character) refl p.0 (letter_by more c letter p.1) found
+
+-- the letter of a character's escape is read as the character
+pub letter_reads : (c letter : ℕ) → letter_among short_escapes c ≡ Some letter → letter_meaning letter ≡ Some c
+letter_reads c letter found = letter_by short_escapes c letter refl found
+
+-- no character past U+FFFF needs an escape
+pub short_number : (c : ℕ) → all_scalars (c ∷ []) ≡ true → needs_escape true c ≡ true → c < 65536
+short_number c is_scalar needs = by (nat_lt c 65536) refl
+  where
+    by : (b : Bool) → nat_lt c 65536 ≡ b → c < 65536
+    by true is = ltb-true c 65536 is
+    by false is = absurd (true≢false (sym needs ∙ grind (arith, nat_tests, scalar_cases, and_parts)))
+
+-- how a character stands between quotes: as itself, or as a backslash and what follows it
+pub data Stands (c : ℕ) : Text → Type 0 where
+  as_itself : needs_escape true c ≡ false → Stands c (c ∷ [])
+  as_escape : needs_escape true c ≡ true → Stands c (backslash ∷ escape_after_backslash (letter_among short_escapes c) c)
+
+pub stands : (c : ℕ) → Stands c (character_text true c)
+stands c = by (needs_escape true c) refl
+  where
+    by : (b : Bool) → needs_escape true c ≡ b → Stands c (if b then escape_text c else c ∷ [])
+    by true is = as_escape is
+    by false is = as_itself is

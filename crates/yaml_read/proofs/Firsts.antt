@@ -1,0 +1,68 @@
+-- The first character of a text.
+use Rattle.yaml_base.proofs.Common.{ℕ, ◌+◌, ◌*◌, ◌/◌, ◌%◌, ◌<◌, ◌≤◌, Bool, true, false, Option, None, Some, List, [], ◌∷◌, ◌++◌, refl, ◌≡◌, ap, sym, ◌∙◌}
+use Rattle.yaml_base.proofs.Common.{arith, nat_tests, length, length-append, length-encode, len_utf8_bounds, Text, encode_utf8_all, encode_utf8}
+use Rattle.yaml_base.proofs.Common.{all_scalars, nat_le, leb-true, if◌then◌else◌, hex_digit, hex_digits, true≢false}
+use Rattle.std.proofs.lemmas.Str.{encode_same}
+use Rattle.yaml_base.specs.reading.ReadDouble.{letter_meaning}
+use Rattle.yaml_base.specs.scalars.DoubleQuoted.{short_escapes, letter_among, needs_escape, escape_after_backslash}
+use Rattle.yaml_read.proofs.Escapes.{letter_reads, short_number}
+
+-- the first character, and what follows it
+pub first_is : (bytes rest : List ℕ) (c d : ℕ) (text : Text) → bytes ≡ encode_utf8 c ++ rest → bytes ≡ encode_utf8_all (d ∷ text)
+    → (c ≡ d) × (rest ≡ encode_utf8_all text)
+first_is bytes rest c d text is also = encode_same c d rest (encode_utf8_all text) (sym is ∙ also)
+
+-- where a character stands, a text isn't empty
+pub not_empty : (bytes : List ℕ) (d : ℕ) (text : Text) → bytes ≡ encode_utf8_all (d ∷ text) → length bytes ≡ 0 → ⊥
+not_empty bytes d text is none =
+    absurd (omega (arith, ap length is, length-append (encode_utf8 d) (encode_utf8_all text), length-encode d, len_utf8_bounds d))
+
+-- ---- digits
+
+-- the two last digits, and the four last ones
+pub two_digits : (n : ℕ) → n < 256 → (n / 16 % 16) * 16 + n % 16 ≡ n
+two_digits n h = omega arith
+
+pub two_text : (n : ℕ) (rest : Text) → hex_digits 2 n ++ rest ≡ hex_digit (n / 16 % 16) ∷ hex_digit (n % 16) ∷ rest
+two_text n rest = refl
+
+pub four_text : (n : ℕ) (rest : Text) → hex_digits 4 n ++ rest ≡ hex_digits 2 (n / 256) ++ (hex_digits 2 (n % 256) ++ rest)
+four_text n rest =
+    four (n / 16 / 16 / 16 % 16) (n / 16 / 16 % 16) (n / 16 % 16) (n % 16) (n / 256 / 16 % 16) (n / 256 % 16) (n % 256 / 16 % 16) (n % 256 % 16)
+    (omega arith) (omega arith) (omega arith) (omega arith)
+  where
+    four : (a b c d e f g h : ℕ) → a ≡ e → b ≡ f → c ≡ g → d ≡ h
+        → hex_digit a ∷ hex_digit b ∷ hex_digit c ∷ hex_digit d ∷ rest ≡ hex_digit e ∷ hex_digit f ∷ hex_digit g ∷ hex_digit h ∷ rest
+    four a b c d e f g h first second third last =
+        ap (λ n. hex_digit n ∷ hex_digit b ∷ hex_digit c ∷ hex_digit d ∷ rest) first
+        ∙ ap (λ n. hex_digit e ∷ hex_digit n ∷ hex_digit c ∷ hex_digit d ∷ rest) second
+        ∙ ap (λ n. hex_digit e ∷ hex_digit f ∷ hex_digit n ∷ hex_digit d ∷ rest) third
+        ∙ ap (λ n. hex_digit e ∷ hex_digit f ∷ hex_digit g ∷ hex_digit n ∷ rest) last
+
+pub four_digits : (n : ℕ) → n / 256 * 256 + n % 256 ≡ n
+four_digits n = omega arith
+
+-- ---- escapes
+
+-- what an escape's first character says
+pub data AfterBackslash (c : ℕ) : Text → Type 0 where
+  by_letter : (letter : ℕ) → letter_meaning letter ≡ Some c → AfterBackslash c (letter ∷ [])
+  by_two : letter_among short_escapes c ≡ None → c < 256 → AfterBackslash c (120 ∷ hex_digits 2 c)
+  by_four : letter_among short_escapes c ≡ None → 256 ≤ c → c < 65536 → AfterBackslash c (117 ∷ hex_digits 4 c)
+
+pub after_backslash : (c : ℕ) → all_scalars (c ∷ []) ≡ true → needs_escape true c ≡ true
+    → AfterBackslash c (escape_after_backslash (letter_among short_escapes c) c)
+after_backslash c scalar needs = by (letter_among short_escapes c) refl
+  where
+    number : (two four : Bool) → letter_among short_escapes c ≡ None → nat_le c 0xFF ≡ two → nat_le c 0xFFFF ≡ four
+        → AfterBackslash c (if two then 120 ∷ hex_digits 2 c else (if four then 117 ∷ hex_digits 4 c else 85 ∷ hex_digits 8 c))
+    number true four none is_two is_four = by_two none (let le : c ≤ 0xFF = leb-true c 0xFF is_two in omega arith)
+    number false true none is_two is_four =
+        by_four none (grind (arith, nat_tests, is_two)) (let le : c ≤ 0xFFFF = leb-true c 0xFFFF is_four in omega arith)
+    number false false none is_two is_four =
+        let few : c < 65536 = short_number c scalar needs in
+        absurd (true≢false (sym (grind (arith, nat_tests, few)) ∙ is_four))
+
+    by : (o : Option ℕ) → letter_among short_escapes c ≡ o → AfterBackslash c (escape_after_backslash o c)
+    by (Some letter) is = by_letter letter (letter_reads c letter is)
+    by None is = number (nat_le c 0xFF) (nat_le c 0xFFFF) is refl refl

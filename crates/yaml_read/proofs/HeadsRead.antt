@@ -1,0 +1,115 @@
+-- How a value that was read began.
+use Rattle.yaml_base.proofs.Common.{ℕ, ◌<◌, Bool, true, List, [], ◌++◌, refl, ◌≡◌, ap, subst, sym, ◌∙◌}
+use Rattle.yaml_base.proofs.Common.{append_assoc, append-nil, arith, codes, Text, encode_utf8_all, chars, chars-IsAscii}
+use Rattle.std.proofs.Common.{FitsSigned, w64, pos, negsuc, rules}
+use Rattle.std.proofs.lemmas.Fmt.{IsAscii-signed}
+use Rattle.std.proofs.lemmas.Str.{IsUtf8-string_bytes, scalars-chars}
+use Rattle.std.specs.Borrow.{Bor}
+use Rattle.std.specs.Fmt.{signed_decimal}
+use Rattle.std.specs.Int.Signed.{mag}
+use Rattle.std.specs.Prelude.{ℤ, ◌^◌, Result, Ok, Err, IfOk, String}
+use Rattle.std.specs.Str.Parse.{ParsesSigned}
+use Rattle.std.specs.String.{string_bytes}
+use Rattle.yaml_base.specs.Seen.{seen_text}
+use Rattle.yaml_base.specs.values.TypedValues.{TypedValue, null_value, bool_value, text_value, list_value, map_value, no_values, no_value_pairs, bool_text}
+use Rattle.yaml_base.specs.values.ValueText.{in_quotes}
+use Rattle.yaml_value.specs.SeenValues.{seen_value}
+use Rattle.yaml_value.specs.declared.value.Value as declared
+use Rattle.yaml_read.proofs.Encoded.{are_ascii, word_encoded}
+use Rattle.yaml_read.specs.Heads.{ListRead, MapRead}
+use Rattle.yaml_read.specs.Sound.{HeadIs, IsInteger, IsTruth, IsValue}
+use Rattle.yaml_read.specs.declared.errors.Stop.{Stop}
+use Rattle.yaml_read.specs.declared.heads.Head.{Head}
+use Rattle.yaml_read.specs.declared.heads.Head.TheVariants as head
+
+-- a word of ASCII is its bytes
+pub word_bytes : (word : Text) → are_ascii word ≡ true → encode_utf8_all word ≡ word
+word_bytes word h = ap encode_utf8_all (sym (append-nil word)) ∙ word_encoded word [] h ∙ append-nil word
+
+pub seen_truth : (A : Type 0) (b : Bool) → seen_value {A = A} (declared.Bool b) ≡ bool_value b
+seen_truth A b = search (rules, declared.the_lemmas)
+
+-- an integer that was parsed has 64 bits
+pub parsed_fits : {E : Type 0} (bytes : List ℕ) (n : ℤ) (answer : Result ℤ E) → ParsesSigned w64 10 bytes answer → answer ≡ Ok n → FitsSigned w64 n
+parsed_fits bytes n (Ok z) parses is = let same : z ≡ n = cc in subst (FitsSigned w64) (sym parses.1 ∙ same) parses.0.1
+parsed_fits bytes n (Err error) parses is = absurd (apart is)
+  where
+    apart : Err error ≡ Ok n → ⊥
+    apart e = cc
+
+pub bits_of_fits : (n : ℤ) → FitsSigned w64 n → mag n < 2 ^ 63
+bits_of_fits (pos n) fits = omega (arith, fits)
+bits_of_fits (negsuc n) fits = omega (arith, fits)
+
+pub digits_seen : {A : Type 0} (digits : String A) (n : ℤ) → mag n < 2 ^ 63 → string_bytes digits ≡ signed_decimal n → seen_text digits ≡ signed_decimal n
+digits_seen digits n few is = ap chars is ∙ chars-IsAscii (signed_decimal n) (IsAscii-signed n few)
+
+-- behind a tag the rest of a value's text
+pub tagged_text : (bytes behind rest tail : List ℕ) (word written : Text) → are_ascii word ≡ true → bytes ≡ word ++ behind
+    → behind ≡ encode_utf8_all written ++ rest → bytes ≡ encode_utf8_all (word ++ written) ++ rest
+tagged_text bytes behind rest tail word written h tagged is =
+    tagged ∙ ap (λ b. word ++ b) is ∙ sym (append_assoc word (encode_utf8_all written) rest) ∙ ap (λ b. b ++ rest) (sym (word_encoded word written h))
+
+-- ---- values on their line
+
+pub null_read : (bytes behind rest : List ℕ) → bytes ≡ codes "!!null " ++ behind → behind ≡ codes "\"null\"" ++ rest → IsValue bytes null_value rest
+null_read bytes behind rest tagged is =
+    record {
+      readable = λ depth room. tt;
+      text = λ column. tagged_text bytes behind rest [] (codes "!!null ") (codes "\"null\"") refl tagged
+          (is ∙ ap (λ w. w ++ rest) (sym (word_bytes (codes "\"null\"") refl)));
+    }
+
+pub truth_read : (bytes behind rest : List ℕ) (value : TypedValue) → bytes ≡ codes "!!bool " ++ behind → IsTruth behind value rest → IsValue bytes value rest
+truth_read bytes behind rest value tagged truth =
+    subst (λ value. IsValue bytes value rest) (sym truth.is)
+    (record {
+      readable = λ depth room. tt;
+      text = λ column. tagged_text bytes behind rest [] (codes "!!bool ") (in_quotes (bool_text truth.truth)) refl tagged truth.text;
+    })
+
+pub integer_read : (bytes behind rest : List ℕ) (value : TypedValue) → bytes ≡ codes "!!int " ++ behind → IsInteger behind value rest → IsValue bytes value rest
+integer_read bytes behind rest value tagged integer =
+    subst (λ value. IsValue bytes value rest) (sym integer.is)
+    (record {
+      readable = λ depth room. integer.bits;
+      text = λ column. tagged_text bytes behind rest [] (codes "!!int ") (in_quotes (signed_decimal integer.number)) refl tagged integer.text;
+    })
+
+pub string_read : {A : Type 0} (bytes behind rest : List ℕ) (text : String A) → bytes ≡ codes "!!str " ++ behind
+    → behind ≡ encode_utf8_all (in_quotes (seen_text text)) ++ rest → IsValue bytes (text_value (seen_text text)) rest
+string_read bytes behind rest text tagged is =
+    record {
+      readable = λ depth room. scalars-chars (string_bytes text) (IsUtf8-string_bytes text);
+      text = λ column. tagged_text bytes behind rest [] (codes "!!str ") (in_quotes (seen_text text)) refl tagged is;
+    }
+
+empty_list : (bytes behind rest : List ℕ) → bytes ≡ codes "!!seq " ++ behind → behind ≡ codes "[]" ++ rest → IsValue bytes (list_value no_values) rest
+empty_list bytes behind rest tagged is =
+    record {
+      readable = λ depth room. (room refl, tt);
+      text = λ column. tagged_text bytes behind rest [] (codes "!!seq ") (codes "[]") refl tagged (is ∙ ap (λ w. w ++ rest) (sym (word_bytes (codes "[]") refl)));
+    }
+
+empty_map : (bytes behind rest : List ℕ) → bytes ≡ codes "!!map " ++ behind → behind ≡ codes "{}" ++ rest → IsValue bytes (map_value no_value_pairs) rest
+empty_map bytes behind rest tagged is =
+    record {
+      readable = λ depth room. (room refl, tt);
+      text = λ column. tagged_text bytes behind rest [] (codes "!!map ") (codes "{}") refl tagged (is ∙ ap (λ w. w ++ rest) (sym (word_bytes (codes "{}") refl)));
+    }
+
+pub list_read : {A : Type 0} (bytes tail : List ℕ) (result : Result (Head A × Bor (List ℕ)) Stop) → bytes ≡ codes "!!seq " ++ tail → ListRead tail result
+    → IfOk result (HeadIs bytes)
+list_read bytes tail (Ok (head.Whole found, after)) tagged read =
+    subst (λ value. IsValue bytes value after.now) (sym read.0) (empty_list bytes tail after.now tagged read.1)
+list_read bytes tail (Ok (head.Items, inside)) tagged read = tagged ∙ ap (λ t. codes "!!seq " ++ t) read.0
+list_read bytes tail (Ok (head.Pairs, inside)) tagged read = absurd read
+list_read bytes tail (Err error) tagged read = tt
+
+pub map_read : {A : Type 0} (bytes tail : List ℕ) (result : Result (Head A × Bor (List ℕ)) Stop) → bytes ≡ codes "!!map " ++ tail → MapRead tail result
+    → IfOk result (HeadIs bytes)
+map_read bytes tail (Ok (head.Whole found, after)) tagged read =
+    subst (λ value. IsValue bytes value after.now) (sym read.0) (empty_map bytes tail after.now tagged read.1)
+map_read bytes tail (Ok (head.Items, inside)) tagged read = absurd read
+map_read bytes tail (Ok (head.Pairs, inside)) tagged read = tagged ∙ ap (λ t. codes "!!map " ++ t) read.0
+map_read bytes tail (Err error) tagged read = tt

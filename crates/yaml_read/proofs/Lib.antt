@@ -1,0 +1,17 @@
+pub mod Words
+pub mod Encoded
+pub mod Escapes
+pub mod Remaining
+pub mod HeadTexts
+pub mod SeenLevels
+pub mod Turns
+pub mod Firsts
+pub mod QuotedTexts
+pub mod Scalars
+pub mod FirstCharacters
+pub mod Completeness
+pub mod Texts
+pub mod Opening
+pub mod CharactersRead
+pub mod HeadsRead
+pub mod WrittenValues

@@ -1,0 +1,154 @@
+-- A readable value's text consists of Unicode scalar values, so its bytes are UTF-8.
+use Rattle.yaml_base.proofs.Common.{ℕ, ◌+◌, ◌%◌, ◌/◌, ◌<◌, ◌==◌, suc, zero, Bool, true, false, Some, List, [], ◌∷◌, ◌++◌, refl, ◌≡◌, ap, sym, ◌∙◌}
+use Rattle.yaml_base.proofs.Common.{arith, codes, space, line_feed, Text, replicate, all_scalars, encode_utf8_all, and_parts, and_from, agree_below_at, hex_digit, hex_digits}
+use Rattle.yaml_base.proofs.Common.{character_text, flat_map, if◌then◌else◌, chars-IsAscii, eqb-true}
+use Rattle.std.specs.Fmt.{signed_decimal}
+use Rattle.std.specs.Int.Signed.{mag}
+use Rattle.std.specs.Prelude.{ℤ, ◌^◌}
+use Rattle.std.specs.Str.{IsUtf8}
+use Rattle.std.proofs.lemmas.Fmt.{IsAscii-signed}
+use Rattle.std.proofs.lemmas.Str.{scalars-chars, IsUtf8-from_ascii}
+use Rattle.std.proofs.lemmas.Str.{encodes-chars, encodes-IsAscii, IsUtf8-string_bytes}
+use Rattle.std.proofs.lemmas.Fmt.{parse-signed_decimal}
+use Rattle.std.proofs.Common.{FitsSigned, w64, pos, negsuc}
+use Rattle.std.specs.Prelude.{Result, Ok, Err, String}
+use Rattle.std.specs.Str.Parse.{ParsesSigned}
+use Rattle.std.specs.String.{string_bytes}
+use Rattle.yaml_base.specs.Seen.{seen_text}
+use lib.Utf8.{scalar}
+use Rattle.yaml_base.specs.reading.ReadDouble.{meaning_among}
+use Rattle.yaml_base.specs.scalars.DoubleQuoted.{quote}
+use Rattle.yaml_base.specs.values.TypedValues.{TypedValue, null_value, bool_value, int_value, text_value, list_value, map_value, TypedValues, no_values}
+use Rattle.yaml_base.specs.values.TypedValues.{values_and, TypedPairs, no_value_pairs, value_pairs_and}
+use Rattle.yaml_base.specs.values.ValueText.{line_at, value_text, items_text, pairs_text, entry_lead, entries_end, has_no_values, has_no_value_pairs, document_text, in_quotes}
+use Rattle.yaml_read.specs.Readable.{CanBeRead, CanBeReadAt, AllCanBeReadAt, PairsCanBeReadAt}
+use Rattle.yaml_read.proofs.Escapes.{Stands, as_itself, as_escape, stands}
+use Rattle.yaml_read.proofs.Firsts.{AfterBackslash, by_letter, by_two, by_four, after_backslash}
+use Rattle.yaml_read.proofs.Remaining.{readable_root}
+
+both : (a b : Text) → all_scalars a ≡ true → all_scalars b ≡ true → all_scalars (a ++ b) ≡ true
+both [] b ha hb = hb
+both (c ∷ a) b ha hb = let parts = and_parts (scalar c) (all_scalars a) ha in and_from _ _ parts.0 (both a b parts.1 hb)
+
+one : (c : ℕ) → scalar c ≡ true → all_scalars (c ∷ []) ≡ true
+one c h = and_from (scalar c) true h refl
+
+spaces_scalars : (n : ℕ) → all_scalars (replicate n space) ≡ true
+spaces_scalars zero = refl
+spaces_scalars (suc n) = spaces_scalars n
+
+digit_scalar : (n : ℕ) → scalar (hex_digit (n % 16)) ≡ true
+digit_scalar n = agree_below_at (λ d. scalar (hex_digit d)) (λ d. true) 16 (n % 16) refl (omega arith)
+
+digits_scalars : (count n : ℕ) → all_scalars (hex_digits count n) ≡ true
+digits_scalars zero n = refl
+digits_scalars (suc count) n =
+    both (hex_digits count (n / 16)) (hex_digit (n % 16) ∷ []) (digits_scalars count (n / 16))
+    (one (hex_digit (n % 16)) (digit_scalar n))
+
+meaning_scalar : (letters meanings : Text) (c meaning : ℕ) → all_scalars letters ≡ true → meaning_among letters meanings c ≡ Some meaning
+    → scalar c ≡ true
+meaning_scalar [] meanings c meaning h is = cc
+meaning_scalar (letter ∷ letters) [] c meaning h is = cc
+meaning_scalar (letter ∷ letters) (m ∷ meanings) c meaning h is =
+    let parts : (scalar letter ≡ true) × (all_scalars letters ≡ true) = and_parts (scalar letter) (all_scalars letters) h in
+    first letter letters meanings c m meaning parts.0 (meaning_scalar letters meanings c meaning parts.1) (c == letter) refl is
+  where
+    first : (letter : ℕ) (letters meanings : Text) (c m meaning : ℕ) → scalar letter ≡ true
+        → (meaning_among letters meanings c ≡ Some meaning → scalar c ≡ true) → (b : Bool) → (c == letter) ≡ b
+        → (if b then Some m else meaning_among letters meanings c) ≡ Some meaning → scalar c ≡ true
+    first letter letters meanings c m meaning fits more true same found = ap scalar (eqb-true c letter same) ∙ fits
+    first letter letters meanings c m meaning fits more false other found = more found
+
+escape_scalars : (c : ℕ) (text : Text) → AfterBackslash c text → all_scalars text ≡ true
+escape_scalars c text (by_letter letter means) = one letter (meaning_scalar (codes "0abtnvfre\"\\N_LP ")
+    (0 ∷ 7 ∷ 8 ∷ 9 ∷ 0xA ∷ 0xB ∷ 0xC ∷ 0xD ∷ 0x1B ∷ 0x22 ∷ 0x5C ∷ 0x85 ∷ 0xA0 ∷ 0x2028 ∷ 0x2029 ∷ 0x20 ∷ []) letter c refl means)
+escape_scalars c text (by_two none few) = digits_scalars 2 c
+escape_scalars c text (by_four none many few) = digits_scalars 4 c
+
+character_scalars : (c : ℕ) → scalar c ≡ true → all_scalars (character_text true c) ≡ true
+character_scalars c h = by (character_text true c) (stands c)
+  where
+    by : (text : Text) → Stands c text → all_scalars text ≡ true
+    by text (as_itself plain) = one c h
+    by text (as_escape needs) = escape_scalars c _ (after_backslash c (one c h) needs)
+
+inside_scalars : (text : Text) → all_scalars text ≡ true → all_scalars (flat_map (character_text true) text) ≡ true
+inside_scalars [] h = refl
+inside_scalars (c ∷ text) h =
+    let parts = and_parts (scalar c) (all_scalars text) h in
+    both (character_text true c) (flat_map (character_text true) text) (character_scalars c parts.0) (inside_scalars text parts.1)
+
+quotes_scalars : (text : Text) → all_scalars text ≡ true → all_scalars (in_quotes text) ≡ true
+quotes_scalars text h = both (flat_map (character_text true) text) (quote ∷ []) (inside_scalars text h) refl
+
+-- the digits of an integer
+pub int_scalars : (n : ℤ) → mag n < 2 ^ 63 → all_scalars (signed_decimal n) ≡ true
+int_scalars n few =
+    let ascii = IsAscii-signed n few in
+    ap all_scalars (sym (chars-IsAscii (signed_decimal n) ascii)) ∙ scalars-chars (signed_decimal n) (IsUtf8-from_ascii (signed_decimal n) ascii)
+
+lead_scalars : (bracket : Text) (first : Bool) → all_scalars bracket ≡ true → all_scalars (entry_lead bracket first) ≡ true
+lead_scalars bracket true h = h
+lead_scalars bracket false h = refl
+
+end_scalars : (opens closes : Text) (column : ℕ) (empty : Bool) → all_scalars opens ≡ true → all_scalars closes ≡ true
+    → all_scalars (entries_end opens closes column empty) ≡ true
+end_scalars opens closes column true ho hc = both opens closes ho hc
+end_scalars opens closes column false ho hc = both (line_at column) closes (spaces_scalars column) hc
+
+mutual
+  value_scalars : (value : TypedValue) (column depth : ℕ) → CanBeReadAt depth value → all_scalars (value_text column value) ≡ true
+  value_scalars null_value column depth readable = refl
+  value_scalars (bool_value true) column depth readable = refl
+  value_scalars (bool_value false) column depth readable = refl
+  value_scalars (int_value n) column depth readable = quotes_scalars (signed_decimal n) (int_scalars n readable)
+  value_scalars (text_value text) column depth readable = quotes_scalars text readable
+  value_scalars (list_value items) column depth readable =
+      both (items_text (column + 2) items) _ (items_scalars items (column + 2) (suc depth) readable.1)
+      (end_scalars (codes "[") (codes "]") column (has_no_values items) refl refl)
+  value_scalars (map_value pairs) column depth readable =
+      both (pairs_text (column + 2) pairs) _ (pairs_scalars pairs (column + 2) (suc depth) readable.1)
+      (end_scalars (codes "{") (codes "}") column (has_no_value_pairs pairs) refl refl)
+
+  items_scalars : (items : TypedValues) (column depth : ℕ) → AllCanBeReadAt depth items → all_scalars (items_text column items) ≡ true
+  items_scalars no_values column depth readable = refl
+  items_scalars (values_and items item) column depth readable =
+      both (items_text column items) _ (items_scalars items column depth readable.0)
+      (both (entry_lead (codes "[") (has_no_values items)) _ (lead_scalars (codes "[") (has_no_values items) refl)
+      (both (line_at column) (value_text column item) (spaces_scalars column) (value_scalars item column depth readable.1)))
+
+  pairs_scalars : (pairs : TypedPairs) (column depth : ℕ) → PairsCanBeReadAt depth pairs → all_scalars (pairs_text column pairs) ≡ true
+  pairs_scalars no_value_pairs column depth readable = refl
+  pairs_scalars (value_pairs_and pairs key value) column depth readable =
+      both (pairs_text column pairs) _ (pairs_scalars pairs column depth readable.0)
+      (both (entry_lead (codes "{") (has_no_value_pairs pairs)) _ (lead_scalars (codes "{") (has_no_value_pairs pairs) refl)
+      (both (line_at column) _ (spaces_scalars column)
+      (both (codes "? ") (value_text column key ++ (line_at column ++ (codes ": " ++ value_text column value))) refl
+      (both (value_text column key) (line_at column ++ (codes ": " ++ value_text column value)) (value_scalars key column depth readable.1.0)
+      (both (line_at column) (codes ": " ++ value_text column value) (spaces_scalars column)
+      (both (codes ": ") (value_text column value) refl (value_scalars value column depth readable.1.1)))))))
+
+-- a document's bytes are UTF-8
+pub document_utf8 : (value : TypedValue) → CanBeRead value → IsUtf8 (encode_utf8_all (document_text value))
+document_utf8 value readable =
+    (document_text value, (both (value_text 0 value) (line_feed ∷ []) (value_scalars value 0 0 (readable_root value readable)) refl, refl))
+
+-- the bytes of an integer's digits
+pub digits_are : {A : Type 0} (digits : String A) (n : ℤ) → mag n < 2 ^ 63 → seen_text digits ≡ signed_decimal n → string_bytes digits ≡
+    signed_decimal n
+digits_are digits n few is =
+    sym (encodes-chars (string_bytes digits) (IsUtf8-string_bytes digits)) ∙ ap encode_utf8_all is
+    ∙ encodes-IsAscii (signed_decimal n) (IsAscii-signed n few)
+
+pub fits_signed : (n : ℤ) → mag n < 2 ^ 63 → FitsSigned w64 n
+fits_signed (pos n) few = omega (arith, few)
+fits_signed (negsuc n) few = omega (arith, few)
+
+pub parsed : {A E : Type 0} (digits : String A) (n value : ℤ) (bytes : List ℕ) (answer : Result ℤ E) → mag n < 2 ^ 63
+    → seen_text digits ≡ signed_decimal n → bytes ≡ string_bytes digits → ParsesSigned w64 10 bytes answer → answer ≡ Ok n
+parsed digits n value bytes answer few is read parses =
+    parse-signed_decimal w64 n bytes answer (fits_signed n few) few (read ∙ digits_are digits n few is) parses
+
+pub not_parsed : {E : Type 0} (n : ℤ) (error : E) (answer : Result ℤ E) → answer ≡ Ok n → answer ≡ Err error → ⊥
+not_parsed n error answer is also = cc

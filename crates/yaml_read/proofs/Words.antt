@@ -1,0 +1,126 @@
+-- Words at a text's beginning.
+use Rattle.yaml_base.proofs.Common.{ℕ, ◌==◌, ◌+◌, ◌*◌, ◌-◌, ◌<◌, Bool, true, false, Option, None, Some, List, [], ◌∷◌, ◌++◌, refl, ◌≡◌, ap, subst, sym, ◌∙◌}
+use Rattle.yaml_base.proofs.Common.{if◌then◌else◌, option_and_then, true≢false, eqb-true, arith, nat_tests, append_assoc, replicate, space, codes}
+use Rattle.std.proofs.lemmas.List.{replicate-append-replicate, append_cancel_left}
+use Rattle.std.specs.Prelude.{Result, Ok, Err, MatchResult}
+use Rattle.std.specs.Result.{IsErr, IsErrAnd}
+use Rattle.std.specs.Borrow.{Bor}
+use Rattle.yaml_read.specs.Words.{behind, Cuts, OpensAt, OrMemory}
+use Rattle.yaml_read.specs.declared.errors.Stop.{Stop}
+use Rattle.yaml_read.specs.declared.errors.Stop.TheVariants as stop
+
+eqb-self : (n : ℕ) → (n == n) ≡ true
+eqb-self n = grind (arith, nat_tests)
+
+pub behind_word : (word rest : List ℕ) → behind word (word ++ rest) ≡ Some rest
+behind_word [] rest = refl
+behind_word (w ∷ word) rest = ap (λ b. if b then behind word (word ++ rest) else None) (eqb-self w) ∙ behind_word word rest
+
+pub behind_takes : (word text rest : List ℕ) → behind word text ≡ Some rest → text ≡ word ++ rest
+behind_takes [] text rest is = cc
+behind_takes (w ∷ word) [] rest is = cc
+behind_takes (w ∷ word) (c ∷ text) rest is = by (c == w) refl is (behind_takes word text rest)
+  where
+    by : (b : Bool) → (c == w) ≡ b → (if b then behind word text else None) ≡ Some rest
+        → (behind word text ≡ Some rest → text ≡ word ++ rest) → c ∷ text ≡ w ∷ (word ++ rest)
+    by true e is more = ap (λ d. d ∷ text) (eqb-true c w e) ∙ ap (λ t. w ∷ t) (more is)
+    by false e is more = cc
+
+-- one word behind another
+pub behind_both : (first second text : List ℕ) → behind (first ++ second) text ≡ option_and_then (behind second) (behind first text)
+behind_both [] second text = refl
+behind_both (w ∷ first) second [] = refl
+behind_both (w ∷ first) second (c ∷ text) = by (c == w) (behind_both first second text)
+  where
+    by : (b : Bool) → behind (first ++ second) text ≡ option_and_then (behind second) (behind first text)
+        → (if b then behind (first ++ second) text else None) ≡ option_and_then (behind second) (if b then behind first text else None)
+    by true more = more
+    by false more = refl
+
+-- what doesn't stand first isn't found
+pub absent : (word text : List ℕ) → ((rest : List ℕ) → text ≡ word ++ rest → ⊥) → behind word text ≡ None
+absent word text lacks = by (behind word text) refl
+  where
+    by : (o : Option (List ℕ)) → behind word text ≡ o → o ≡ None
+    by None is = refl
+    by (Some rest) is = absurd (lacks rest (behind_takes word text rest is))
+
+-- what isn't found doesn't stand first
+pub no_word : (word text rest : List ℕ) → behind word text ≡ None → text ≡ word ++ rest → ⊥
+no_word word text rest none is = absurd (apart (sym none ∙ ap (behind word) is ∙ behind_word word rest))
+  where
+    apart : ◌≡◌ {A = Option (List ℕ)} None (Some rest) → ⊥
+    apart e = cc
+
+-- a longer word isn't found where its rest isn't found behind its beginning
+pub longer_none : (first second text rest : List ℕ) → text ≡ first ++ rest → behind second rest ≡ None → behind (first ++ second) text ≡ None
+longer_none first second text rest is none =
+    behind_both first second text ∙ ap (option_and_then (behind second)) (ap (behind first) is ∙ behind_word first rest) ∙ none
+
+pub first_none : (first second text : List ℕ) → behind first text ≡ None → behind (first ++ second) text ≡ None
+first_none first second text none = behind_both first second text ∙ ap (option_and_then (behind second)) none
+
+-- the spaces of one level more
+pub spaces_more : (level : ℕ) (text rest next : List ℕ) → text ≡ replicate (level * 2) space ++ rest → rest ≡ codes "  " ++ next
+    → text ≡ replicate ((level + 1) * 2) space ++ next
+spaces_more level text rest next is more =
+    is ∙ ap (λ t. replicate (level * 2) space ++ t) more
+    ∙ sym (append_assoc (replicate (level * 2) space) (codes "  ") next)
+    ∙ ap (λ t. t ++ next) (replicate-append-replicate (level * 2) 2 space ∙ ap (λ n. replicate n space) twice)
+  where
+    twice : level * 2 + 2 ≡ (level + 1) * 2
+    twice = omega arith
+
+-- too few spaces
+pub spaces_lack : (level depth : ℕ) (text rest : List ℕ) → text ≡ replicate (level * 2) space ++ rest → level < depth → behind (codes "  ") rest ≡ None
+    → behind (replicate (depth * 2) space) text ≡ None
+spaces_lack level depth text rest is below none =
+    subst (λ (t : List ℕ). behind t text ≡ None) all
+    (longer_none (replicate (level * 2) space) (codes "  " ++ replicate ((depth - level - 1) * 2) space) text rest is
+    (first_none (codes "  ") (replicate ((depth - level - 1) * 2) space) rest none))
+  where
+    sums : level * 2 + (2 + (depth - level - 1) * 2) ≡ depth * 2
+    sums = omega (arith, below)
+
+    all : replicate (level * 2) space ++ (codes "  " ++ replicate ((depth - level - 1) * 2) space) ≡ replicate (depth * 2) space
+    all =
+        ap (λ t. replicate (level * 2) space ++ t) (replicate-append-replicate 2 ((depth - level - 1) * 2) space)
+        ∙ replicate-append-replicate (level * 2) (2 + (depth - level - 1) * 2) space ∙ ap (λ n. replicate n space) sums
+
+-- one cut behind another
+pub cuts_behind : (first second text rest : List ℕ) (result : Result (Bor (List ℕ)) Stop) → text ≡ first ++ rest → Cuts second rest result
+    → Cuts (first ++ second) text result
+cuts_behind first second text rest (Ok found) is cut = is ∙ ap (λ t. first ++ t) cut ∙ sym (append_assoc first second found.now)
+cuts_behind first second text rest (Err error) is cut = longer_none first second text rest is cut
+
+-- what follows a word that stands first is cut
+pub cut_there : (word text tail : List ℕ) (result : Result (Bor (List ℕ)) Stop) → text ≡ word ++ tail → Cuts word text result
+    → MatchResult result (λ rest. rest.now ≡ tail) (λ _. ⊥)
+cut_there word text tail (Ok rest) is cut = append_cancel_left word rest.now tail (sym cut ∙ is)
+cut_there word text tail (Err error) is cut = absurd (no_word word text tail cut is)
+
+-- an error that is want of memory, or can't be
+pub memory_is : {T : Type 0} (Holds : T → Type 0) (error : Stop) → error ≡ stop.Memory → OrMemory Holds (Err error)
+memory_is Holds error is = subst (λ (e : Stop). OrMemory Holds (Err e)) (sym is) tt
+
+pub error_stays : {S T : Type 0} (Held : S → Type 0) (Holds : T → Type 0) (error : Stop) → OrMemory Held (Err error) → OrMemory Holds (Err error)
+error_stays Held Holds stop.Memory is = tt
+error_stays Held Holds (stop.Refused n) is = is
+error_stays Held Holds (stop.TooDeep n) is = is
+
+-- what a `?` returns
+pub at_exit : {T : Type 0} (P : Result T Stop → Type 0) (error : Stop) (answer : Result T Stop) → IsErr answer × IsErrAnd answer (λ given. given ≡ error)
+    → P (Err error) → P answer
+at_exit P error (Ok found) is holds = absurd (true≢false (sym is.0))
+at_exit P error (Err given) is holds = subst (λ (e : Stop). P (Err e)) (sym is.1) holds
+
+-- a word that wasn't opened
+pub opens_error : (word text : List ℕ) (error : Stop) → behind word text ≡ None → OpensAt word text (Err error)
+opens_error word text stop.Memory none = tt
+opens_error word text (stop.Refused n) none = none
+opens_error word text (stop.TooDeep n) none = none
+
+pub opens_cut : (word more text line : List ℕ) (result : Result (Bor (List ℕ)) Stop) → text ≡ word ++ line → Cuts more line result
+    → OpensAt (word ++ more) text result
+opens_cut word more text line (Ok rest) is cut = is ∙ ap (λ t. word ++ t) cut ∙ sym (append_assoc word more rest.now)
+opens_cut word more text line (Err error) is cut = opens_error (word ++ more) text error (longer_none word more text line is cut)

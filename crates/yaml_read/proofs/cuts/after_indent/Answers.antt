@@ -1,0 +1,19 @@
+use Rattle.std.proofs.Common.{◌*◌, List, ℕ, replicate}
+use Rattle.std.specs.Borrow.{Bor}
+use Rattle.std.specs.Prelude.{codes, Result}
+use Rattle.yaml_base.specs.Characters.{space}
+use Rattle.yaml_base.specs.values.ValueText.{line_at}
+use Rattle.yaml_read.proofs.Words.{at_exit, cuts_behind, first_none}
+use Rattle.yaml_read.specs.Words.{Cuts}
+use Rattle.yaml_read.specs.declared.errors.Stop.{Stop}
+use Rattle.yaml_read.proofs.cuts.after_indent.Goals as goal
+
+pub returns-in_err-line-clause-cut : goal.returns-in_err-line-clause-cut
+returns-in_err-line-clause-cut c =
+    at_exit (λ (r : Result (Bor (List ℕ)) Stop). Cuts (line_at (c.args.depth * 2)) c.args.text.now r) c.in_err-line.field-0.0 c.from_residual.result
+    c.from_residual.ensures (first_none (codes "\n") (replicate (c.args.depth * 2) space) c.args.text.now c.in_err-line.ensures.cut)
+
+pub returns-clause-cut : goal.returns-clause-cut
+returns-clause-cut c =
+    cuts_behind (codes "\n") (replicate (c.args.depth * 2) space) c.args.text.now c.in_ok-line.line.now c.after_spaces.result c.in_ok-line.ensures.cut
+    c.after_spaces.ensures.cut

@@ -1,0 +1,22 @@
+use Rattle.std.proofs.Common.{◌*◌, replicate, rules, arith}
+use Rattle.std.proofs.Common.{List, ℕ}
+use Rattle.std.specs.Borrow.{Bor}
+use Rattle.std.specs.Prelude.{Result}
+use Rattle.yaml_base.specs.Characters.{space}
+use Rattle.yaml_read.specs.Words.{Cuts}
+use Rattle.yaml_read.specs.declared.errors.Stop.{Stop}
+use Rattle.yaml_read.proofs.Words.{at_exit, spaces_lack, spaces_more}
+use Rattle.yaml_read.proofs.cuts.after_spaces.Goals as goal
+
+pub returns-in_err-rest-clause-cut : goal.returns-in_err-rest-clause-cut
+returns-in_err-rest-clause-cut c =
+    at_exit (λ (r : Result (Bor (List ℕ)) Stop). Cuts (replicate (c.args.depth * 2) space) c.args.text.now r) c.in_err-rest.field-0.0
+    c.from_residual.result c.from_residual.ensures
+    (spaces_lack c.loop-level._level c.args.depth c.args.text.now c.loop-level.rest.now c.loop-level.invariant.2 (omega arith) c.in_err-rest.ensures.cut)
+
+pub loop-level-preserved : goal.loop-level-preserved
+loop-level-preserved c = (
+  search rules,
+  omega (arith, c.loop-level.invariant.1, c.in_ok-rest.ensures.shorter),
+  spaces_more c.loop-level._level c.args.text.now c.loop-level.rest.now _ c.loop-level.invariant.2 c.in_ok-rest.ensures.cut,
+)

@@ -1,0 +1,131 @@
+use Rattle.std.proofs.Common.{◌≡◌, ◌++◌, List, ℕ, ap, subst, sym, ◌∙◌}
+use Rattle.std.specs.Prelude.{codes, Result}
+use Rattle.std.specs.Str.{encode_utf8_all}
+use Rattle.yaml_base.specs.Characters.{Text}
+use Rattle.yaml_base.specs.values.TypedValues.{TypedValue, text_value}
+use Rattle.yaml_base.specs.values.ValueText.{value_text}
+use Rattle.yaml_read.specs.Heads.{HeadRead, tag_word}
+use Rattle.yaml_read.specs.Readable.{CanBeReadAt}
+use Rattle.yaml_read.specs.declared.heads.Kind.{Kind}
+use Rattle.yaml_read.specs.declared.heads.Kind.TheVariants as kind
+use Rattle.std.proofs.Common.{refl}
+use Rattle.std.specs.Borrow.{Bor}
+use Rattle.yaml_read.proofs.Encoded.{word_encoded}
+use Rattle.yaml_read.proofs.HeadTexts.{TailOf, list_head, map_head, no_tag, tail_of}
+use Rattle.yaml_read.proofs.SeenLevels.{seen_null, seen_string}
+use Rattle.yaml_read.proofs.Turns.{cut_is}
+use Rattle.yaml_read.proofs.Words.{at_exit}
+use Rattle.yaml_read.specs.declared.errors.Stop.{Stop}
+use Rattle.yaml_read.specs.declared.heads.Head.{Head}
+use Rattle.yaml_value.specs.SeenValues.{seen_value}
+use Rattle.yaml_read.proofs.HeadsRead.{integer_read, list_read, map_read, null_read, string_read, truth_read}
+use Rattle.yaml_read.specs.Sound.{IsValue}
+use Rattle.yaml_read.proofs.heads.read_head.Goals as goal
+
+-- what follows the tag of a kind
+tail_at : (k read : Kind) (column : ℕ) (value : TypedValue) (rest : Text) (text behind : List ℕ) → read ≡ k → text ≡ tag_word read ++ behind
+    → text ≡ encode_utf8_all (value_text column value ++ rest) → TailOf k column value rest behind
+tail_at k read column value rest text behind same tagged is =
+    tail_of k column value rest text behind is (subst (λ (k : Kind). text ≡ tag_word k ++ behind) same tagged)
+
+pub returns-in_err-kind-clause-reads : goal.returns-in_err-kind-clause-reads
+returns-in_err-kind-clause-reads g c =
+    λ depth column value rest readable is. absurd (no_tag column value rest c.args.text.now is c.in_err-kind.ensures.reads)
+
+pub returns-in_ok-rest-in-Null-clause-reads : goal.returns-in_ok-rest-in-Null-clause-reads
+returns-in_ok-rest-in-Null-clause-reads g c =
+    λ depth column value rest readable is.
+    let tail = tail_at kind.Null c.in_ok-kind.kind column value rest c.args.text.now c.in_ok-kind.behind.now c.in-Null.is
+    c.in_ok-kind.ensures.reads is in (
+      seen_null g.row.A.Denot ∙ sym tail.0,
+      cut_is (codes "\"null\"") c.in_ok-kind.behind.now c.in_ok-rest-in-Null.rest.now (encode_utf8_all
+          rest) c.in_ok-rest-in-Null.ensures.cut
+          (tail.1 ∙ word_encoded (codes "\"null\"") rest refl),
+    )
+
+pub returns-in_err-value-in-Bool-clause-reads : goal.returns-in_err-value-in-Bool-clause-reads
+returns-in_err-value-in-Bool-clause-reads g c =
+    λ depth column value rest readable is.
+    let tail = tail_at kind.Bool c.in_ok-kind.kind column value rest c.args.text.now c.in_ok-kind.behind.now c.in-Bool.is
+    c.in_ok-kind.ensures.reads is in
+    at_exit (λ (r : Result (Head _ × Bor (List ℕ)) Stop). HeadRead c.args.text.now value rest r) c.in_err-value-in-Bool.field-0.0
+    c.from_residual-in_err-value-in-Bool.result c.from_residual-in_err-value-in-Bool.ensures (c.in_err-value-in-Bool.ensures.reads tail.0 rest tail.2)
+
+pub returns-in_ok-value-in-Bool-clause-reads : goal.returns-in_ok-value-in-Bool-clause-reads
+returns-in_ok-value-in-Bool-clause-reads g c =
+    λ depth column value rest readable is.
+    let tail = tail_at kind.Bool c.in_ok-kind.kind column value rest c.args.text.now c.in_ok-kind.behind.now c.in-Bool.is
+    c.in_ok-kind.ensures.reads is in
+    let read = c.in_ok-value-in-Bool.ensures.reads tail.0 rest tail.2 in
+    (read.0 ∙ sym tail.1, read.1)
+
+pub returns-in_err-value-in-Int-clause-reads : goal.returns-in_err-value-in-Int-clause-reads
+returns-in_err-value-in-Int-clause-reads g c =
+    λ depth column value rest readable is.
+    let tail = tail_at kind.Int c.in_ok-kind.kind column value rest c.args.text.now c.in_ok-kind.behind.now c.in-Int.is
+    c.in_ok-kind.ensures.reads is in
+    at_exit (λ (r : Result (Head _ × Bor (List ℕ)) Stop). HeadRead c.args.text.now value rest r) c.in_err-value-in-Int.field-0.0
+    c.from_residual-in_err-value-in-Int.result c.from_residual-in_err-value-in-Int.ensures
+    (c.in_err-value-in-Int.ensures.reads tail.0 rest (subst (CanBeReadAt depth) tail.1 readable) tail.2)
+
+pub returns-in_ok-value-in-Int-clause-reads : goal.returns-in_ok-value-in-Int-clause-reads
+returns-in_ok-value-in-Int-clause-reads g c =
+    λ depth column value rest readable is.
+    let tail = tail_at kind.Int c.in_ok-kind.kind column value rest c.args.text.now c.in_ok-kind.behind.now c.in-Int.is
+    c.in_ok-kind.ensures.reads is in
+    let read = c.in_ok-value-in-Int.ensures.reads tail.0 rest (subst (CanBeReadAt depth) tail.1 readable) tail.2 in
+    (read.0 ∙ sym tail.1, read.1)
+
+pub returns-in_ok-value-in-Text-clause-reads : goal.returns-in_ok-value-in-Text-clause-reads
+returns-in_ok-value-in-Text-clause-reads g c =
+    λ depth column value rest readable is.
+    let tail = tail_at kind.Text c.in_ok-kind.kind column value rest c.args.text.now c.in_ok-kind.behind.now c.in-Text.is
+    c.in_ok-kind.ensures.reads is in
+    let read = c.in_ok-value-in-Text.ensures.reads tail.0 rest (subst (CanBeReadAt depth) tail.1 readable) tail.2 in
+    (seen_string c.in_ok-value-in-Text.value ∙ ap text_value read.0 ∙ sym tail.1, read.1)
+
+pub returns-in-List-clause-reads : goal.returns-in-List-clause-reads
+returns-in-List-clause-reads g c =
+    λ depth column value rest readable is.
+    let tail = tail_at kind.List c.in_ok-kind.kind column value rest c.args.text.now c.in_ok-kind.behind.now c.in-List.is
+    c.in_ok-kind.ensures.reads is in
+    list_head column value tail.0 rest c.args.text.now c.in_ok-kind.behind.now c.read_list.result c.read_list.ensures.reads
+    (subst (λ (k : Kind). c.args.text.now ≡ tag_word k ++ c.in_ok-kind.behind.now) c.in-List.is c.in_ok-kind.ensures.reads) tail.1 tail.2
+
+pub returns-in-Map-clause-reads : goal.returns-in-Map-clause-reads
+returns-in-Map-clause-reads g c =
+    λ depth column value rest readable is.
+    let tail = tail_at kind.Map c.in_ok-kind.kind column value rest c.args.text.now c.in_ok-kind.behind.now c.in-Map.is
+    c.in_ok-kind.ensures.reads is in
+    map_head column value tail.0 rest c.args.text.now c.in_ok-kind.behind.now c.read_map.result c.read_map.ensures.reads
+    (subst (λ (k : Kind). c.args.text.now ≡ tag_word k ++ c.in_ok-kind.behind.now) c.in-Map.is c.in_ok-kind.ensures.reads) tail.1 tail.2
+
+pub returns-in_ok-rest-in-Null-clause-sound : goal.returns-in_ok-rest-in-Null-clause-sound
+returns-in_ok-rest-in-Null-clause-sound g c =
+    let tagged = subst (λ (k : Kind). c.args.text.now ≡ tag_word k ++ c.in_ok-kind.behind.now) c.in-Null.is c.in_ok-kind.ensures.reads in
+    subst (λ value. IsValue c.args.text.now value c.in_ok-rest-in-Null.rest.now) (sym (seen_null g.row.A.Denot))
+    (null_read c.args.text.now c.in_ok-kind.behind.now c.in_ok-rest-in-Null.rest.now tagged c.in_ok-rest-in-Null.ensures.cut)
+
+pub returns-in_ok-value-in-Bool-clause-sound : goal.returns-in_ok-value-in-Bool-clause-sound
+returns-in_ok-value-in-Bool-clause-sound g c =
+    truth_read c.args.text.now c.in_ok-kind.behind.now c.in_ok-value-in-Bool.rest.now (seen_value c.in_ok-value-in-Bool.value) (subst (λ (k : Kind). c.args.text.now ≡ tag_word k ++ c.in_ok-kind.behind.now) c.in-Bool.is c.in_ok-kind.ensures.reads)
+    c.in_ok-value-in-Bool.ensures.sound
+
+pub returns-in_ok-value-in-Int-clause-sound : goal.returns-in_ok-value-in-Int-clause-sound
+returns-in_ok-value-in-Int-clause-sound g c =
+    integer_read c.args.text.now c.in_ok-kind.behind.now c.in_ok-value-in-Int.rest.now (seen_value c.in_ok-value-in-Int.value) (subst (λ (k : Kind). c.args.text.now ≡ tag_word k ++ c.in_ok-kind.behind.now) c.in-Int.is c.in_ok-kind.ensures.reads)
+    c.in_ok-value-in-Int.ensures.sound
+
+pub returns-in_ok-value-in-Text-clause-sound : goal.returns-in_ok-value-in-Text-clause-sound
+returns-in_ok-value-in-Text-clause-sound g c =
+    let tagged = subst (λ (k : Kind). c.args.text.now ≡ tag_word k ++ c.in_ok-kind.behind.now) c.in-Text.is c.in_ok-kind.ensures.reads in
+    subst (λ value. IsValue c.args.text.now value c.in_ok-value-in-Text.rest.now) (sym (seen_string c.in_ok-value-in-Text.value))
+    (string_read c.args.text.now c.in_ok-kind.behind.now c.in_ok-value-in-Text.rest.now c.in_ok-value-in-Text.value tagged c.in_ok-value-in-Text.ensures.sound)
+
+pub returns-in-List-clause-sound : goal.returns-in-List-clause-sound
+returns-in-List-clause-sound g c =
+    list_read c.args.text.now c.in_ok-kind.behind.now c.read_list.result (subst (λ (k : Kind). c.args.text.now ≡ tag_word k ++ c.in_ok-kind.behind.now) c.in-List.is c.in_ok-kind.ensures.reads) c.read_list.ensures.reads
+
+pub returns-in-Map-clause-sound : goal.returns-in-Map-clause-sound
+returns-in-Map-clause-sound g c =
+    map_read c.args.text.now c.in_ok-kind.behind.now c.read_map.result (subst (λ (k : Kind). c.args.text.now ≡ tag_word k ++ c.in_ok-kind.behind.now) c.in-Map.is c.in_ok-kind.ensures.reads) c.read_map.ensures.reads

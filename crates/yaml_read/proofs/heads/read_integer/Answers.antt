@@ -1,0 +1,77 @@
+use Rattle.std.proofs.Common.{◌≡◌, ◌++◌, ap, subst, sym, ◌∙◌}
+use Rattle.std.proofs.Common.{FitsSigned, true≢false, w64}
+use Rattle.std.proofs.lemmas.Int.{to_z-of_z}
+use Rattle.std.proofs.lemmas.Slice.Eq.{bytes_eq-Decides}
+use Rattle.std.specs.Fmt.{signed_decimal}
+use Rattle.yaml_value.specs.SeenValues.{seen_value}
+use Rattle.yaml_value.specs.declared.value.Value as declared
+use Rattle.yaml_base.specs.values.TypedValues.{int_value}
+use Rattle.yaml_read.proofs.Scalars.{digits_are, fits_signed, int_scalars, not_parsed, parsed}
+use Rattle.yaml_read.proofs.SeenLevels.{seen_integer}
+use Rattle.yaml_read.proofs.Words.{at_exit}
+use Rattle.yaml_read.specs.Heads.{IsWhole}
+use Rattle.yaml_read.specs.Words.{OrMemory}
+use Rattle.yaml_read.specs.declared.errors.Stop.TheVariants as stop
+use Rattle.std.specs.Str.{encode_utf8_all}
+use Rattle.yaml_base.specs.values.ValueText.{in_quotes}
+use Rattle.yaml_read.proofs.HeadsRead.{bits_of_fits, digits_seen, parsed_fits}
+use Rattle.yaml_read.proofs.heads.read_integer.Goals as goal
+
+pub returns-in_err-digits-clause-reads : goal.returns-in_err-digits-clause-reads
+returns-in_err-digits-clause-reads g c =
+    λ n rest few is.
+    at_exit (OrMemory (IsWhole {A = g.row.A.Denot} (int_value n) rest)) c.in_err-digits.field-0.0 c.from_residual.result c.from_residual.ensures
+    (c.in_err-digits.ensures.reads (signed_decimal n) rest (int_scalars n few) is)
+
+pub returns-in_err-spelled-in-Ok-clause-reads : goal.returns-in_err-spelled-in-Ok-clause-reads
+returns-in_err-spelled-in-Ok-clause-reads g c =
+    λ n rest few is.
+    at_exit (OrMemory (IsWhole {A = g.row.A.Denot} (int_value n) rest)) stop.Memory c.from_residual-in_err-spelled-in-Ok.result
+    c.from_residual-in_err-spelled-in-Ok.ensures tt
+
+pub returns-then-eq-clause-reads : goal.returns-then-eq-clause-reads
+returns-then-eq-clause-reads g c =
+    λ n rest few is.
+    let read = c.in_ok-digits.ensures.reads (signed_decimal n) rest (int_scalars n few) is in
+    let value = parsed c.in_ok-digits.digits n c.in-Ok.value c.as_str.result.now c.parse.result few read.0 c.as_str.ensures.value c.parse.ensures.value.0 in
+    let same : c.in-Ok.value ≡ n = cc in
+    let fits = subst (FitsSigned w64) (sym same) (fits_signed n few) in (
+      ap (λ z. seen_value {A = g.row.A.Denot} (declared.Int z)) (to_z-of_z w64 c.in-Ok.value fits) ∙ seen_integer g.row.A.Denot c.in-Ok.value
+          ∙ ap int_value same,
+      read.1,
+    )
+
+pub returns-in-Ok-clause-reads : goal.returns-in-Ok-clause-reads
+returns-in-Ok-clause-reads g c =
+    λ n rest few is.
+    let read = c.in_ok-digits.ensures.reads (signed_decimal n) rest (int_scalars n few) is in
+    let value = parsed c.in_ok-digits.digits n c.in-Ok.value c.as_str.result.now c.parse.result few read.0 c.as_str.ensures.value c.parse.ensures.value.0 in
+    let same : c.in-Ok.value ≡ n = cc in
+    let fits = subst (FitsSigned w64) (sym same) (fits_signed n few) in
+    let digits = digits_are c.in_ok-digits.digits n few read.0 in
+    let spelled = c.in_ok-spelled-in-Ok.ensures.ok ∙ ap signed_decimal (to_z-of_z w64 c.in-Ok.value fits ∙ same) in
+    let one : c.as_str-in-Ok.result.now ≡ c.as_str-in-Ok-2.result.now =
+    c.as_str-in-Ok.ensures.value ∙ spelled ∙ sym digits ∙ sym c.as_str-in-Ok-2.ensures.value in
+    absurd (true≢false (sym ((bytes_eq-Decides c.as_str-in-Ok.result.now c.as_str-in-Ok-2.result.now).1 one) ∙ sym c.eq.ensures ∙ c.if-eq.false))
+
+pub returns-clause-reads : goal.returns-clause-reads
+returns-clause-reads g c =
+    λ n rest few is.
+    let read = c.in_ok-digits.ensures.reads (signed_decimal n) rest (int_scalars n few) is in
+    let value = parsed c.in_ok-digits.digits n n c.as_str.result.now c.parse.result few read.0 c.as_str.ensures.value c.parse.ensures.value.0 in
+    absurd (not_parsed n c.in-Err.field-0 c.parse.result value c.in-Err.is)
+
+pub returns-then-eq-clause-sound : goal.returns-then-eq-clause-sound
+returns-then-eq-clause-sound g c =
+    let fits = parsed_fits c.as_str.result.now c.in-Ok.value c.parse.result c.parse.ensures.value.0 c.in-Ok.is in
+    let same = (bytes_eq-Decides c.as_str-in-Ok.result.now c.as_str-in-Ok-2.result.now).0 (sym c.eq.ensures ∙ c.if-eq.true) in
+    let made = to_z-of_z w64 c.in-Ok.value fits in
+    let digits = sym c.as_str-in-Ok-2.ensures.value ∙ sym same ∙ c.as_str-in-Ok.ensures.value ∙ c.in_ok-spelled-in-Ok.ensures.ok ∙ ap signed_decimal made in
+    record {
+      number = c.in-Ok.value;
+      is = ap (λ z. seen_value {A = g.row.A.Denot} (declared.Int z)) made ∙ seen_integer g.row.A.Denot c.in-Ok.value;
+      bits = bits_of_fits c.in-Ok.value fits;
+      text =
+          c.in_ok-digits.ensures.sound
+          ∙ ap (λ t. encode_utf8_all (in_quotes t) ++ c.in_ok-digits.rest.now) (digits_seen c.in_ok-digits.digits c.in-Ok.value (bits_of_fits c.in-Ok.value fits) digits);
+    }

@@ -1,0 +1,20 @@
+use Rattle.std.proofs.Common.{◌++◌, true, false, refl, ap, sym, ◌∙◌}
+use Rattle.std.specs.Prelude.{codes}
+use Rattle.yaml_read.proofs.HeadsRead.{seen_truth, word_bytes}
+use Rattle.yaml_read.proofs.heads.read_truth.Goals as goal
+
+pub returns-in-Some-clause-sound : goal.returns-in-Some-clause-sound
+returns-in-Some-clause-sound g c =
+    record {
+      truth = true;
+      is = seen_truth g.row.A.Denot true;
+      text = c.in-Some.ensures.cut ∙ ap (λ w. w ++ c.in-Some.rest.now) (sym (word_bytes (codes "\"true\"") refl));
+    }
+
+pub returns-in_ok-rest-in-None-clause-sound : goal.returns-in_ok-rest-in-None-clause-sound
+returns-in_ok-rest-in-None-clause-sound g c =
+    record {
+      truth = false;
+      is = seen_truth g.row.A.Denot false;
+      text = c.in_ok-rest-in-None.ensures.cut ∙ ap (λ w. w ++ c.in_ok-rest-in-None.rest.now) (sym (word_bytes (codes "\"false\"") refl));
+    }

@@ -1,0 +1,25 @@
+use Rattle.std.proofs.Common.{◌≡◌, ◌+◌, ◌*◌, ◌++◌, List, ℕ, None, subst, arith}
+use Rattle.std.specs.Borrow.{Bor}
+use Rattle.std.specs.Prelude.{codes, length, Result}
+use Rattle.yaml_base.specs.values.ValueText.{line_at}
+use Rattle.yaml_read.proofs.Words.{at_exit, first_none, opens_cut, opens_error}
+use Rattle.yaml_read.specs.Words.{OpensAt, behind}
+use Rattle.yaml_read.specs.declared.errors.Stop.{Stop}
+use Rattle.yaml_read.proofs.levels.enter_map.Goals as goal
+
+pub returns-in_err-line-clause-cut : goal.returns-in_err-line-clause-cut
+returns-in_err-line-clause-cut g c =
+    let old = c.args.levels.now.items in
+    let deeper : c.len.result * 2 ≡ length old * 2 + 2 = omega (arith, c.len.ensures, c.push.new.levels.ok.0, c.in_ok-push.ensures.1) in
+    let word = line_at (length old * 2 + 2) in
+    at_exit (λ (r : Result (Bor (List ℕ)) Stop). OpensAt (word ++ codes "? ") c.args.text.now r) c.in_err-line.field-0.0 c.from_residual-in_err-line.result
+    c.from_residual-in_err-line.ensures
+    (opens_error (word ++ codes "? ") c.args.text.now c.in_err-line.field-0.0
+    (first_none word (codes "? ") c.args.text.now (subst (λ n. behind (line_at n) c.args.text.now ≡ None) deeper c.in_err-line.ensures.cut)))
+
+pub returns-clause-cut : goal.returns-clause-cut
+returns-clause-cut g c =
+    let old = c.args.levels.now.items in
+    let deeper : c.len.result * 2 ≡ length old * 2 + 2 = omega (arith, c.len.ensures, c.push.new.levels.ok.0, c.in_ok-push.ensures.1) in
+    opens_cut (line_at (length old * 2 + 2)) (codes "? ") c.args.text.now c.in_ok-line.line.now c.after.result
+    (subst (λ n. c.args.text.now ≡ line_at n ++ c.in_ok-line.line.now) deeper c.in_ok-line.ensures.cut) c.after.ensures.cut

@@ -1,0 +1,17 @@
+use Rattle.std.proofs.Common.{◌≤◌, length, vec_len}
+use denote.Text.{Utf8}
+use denote.Shadow.{shadow}
+use Rattle.yaml_value.specs.SeenValues.{seen_value}
+use Rattle.yaml_read.specs.Remaining.{seen_levels}
+use Rattle.yaml_read.proofs.Opening.{ReadsOn}
+use Rattle.yaml_read.proofs.Turns.{GoesOn}
+use Rattle.yaml_read.proofs.levels.settle.Given as goal
+
+abbrev pub invariant-loop-level : goal.invariant-loop-level
+invariant-loop-level g l =
+    shadow (Utf8 l.rest) × (length l.rest ≤ length l.fn.text)
+    × GoesOn (seen_levels l.fn.levels.items) (seen_value l.fn.value) l.fn.text (seen_levels l.levels.items) (seen_value l.value) l.rest
+    × ReadsOn (seen_levels l.fn.levels.items) (seen_value l.fn.value) l.fn.text (seen_levels l.levels.items) (seen_value l.value) l.rest
+
+abbrev pub decreases-loop-level : goal.decreases-loop-level
+decreases-loop-level g l = vec_len l.levels

@@ -1,0 +1,40 @@
+use Rattle.std.proofs.Common.{◌*◌, ◌++◌, subst, sym}
+use Rattle.std.specs.Prelude.{codes}
+use Rattle.yaml_base.specs.values.ValueText.{line_at}
+use Rattle.yaml_value.specs.SeenValues.{seen_pairs, seen_value}
+use Rattle.yaml_read.specs.Remaining.{IsDue}
+use Rattle.yaml_read.proofs.Turns.{cut_is, key_bytes, key_ends}
+use Rattle.yaml_read.proofs.Words.{no_word}
+use Rattle.std.proofs.Common.{ap, ◌∙◌}
+use Rattle.yaml_read.proofs.Opening.{key_on}
+use Rattle.yaml_read.proofs.levels.take_key.Goals as goal
+
+pub returns-in_err-line-clause-reached : goal.returns-in_err-line-clause-reached
+returns-in_err-line-clause-reached g c =
+    λ root levels depth read.
+    let ends = key_ends root levels (seen_pairs c.args.pairs.items) (seen_value c.args.key) c.args.text.now read in
+    absurd (no_word (line_at (c.args.depth * 2)) c.args.text.now (codes "  : " ++ ends.tail) c.in_err-line.ensures.cut
+    (key_bytes root levels (seen_pairs c.args.pairs.items) (seen_value c.args.key) c.args.depth c.args.text.now depth ends))
+
+pub returns-in_err-rest-clause-reached : goal.returns-in_err-rest-clause-reached
+returns-in_err-rest-clause-reached g c =
+    λ root levels depth read.
+    let ends = key_ends root levels (seen_pairs c.args.pairs.items) (seen_value c.args.key) c.args.text.now read in
+    absurd (no_word (codes "  : ") c.in_ok-line.line.now ends.tail c.in_err-rest.ensures.cut
+    (cut_is (line_at (c.args.depth * 2)) c.args.text.now c.in_ok-line.line.now (codes "  : " ++ ends.tail) c.in_ok-line.ensures.cut
+    (key_bytes root levels (seen_pairs c.args.pairs.items) (seen_value c.args.key) c.args.depth c.args.text.now depth ends)))
+
+pub returns-clause-reached : goal.returns-clause-reached
+returns-clause-reached g c =
+    λ root levels depth read.
+    let ends = key_ends root levels (seen_pairs c.args.pairs.items) (seen_value c.args.key) c.args.text.now read in
+    let line = cut_is (line_at (c.args.depth * 2)) c.args.text.now c.in_ok-line.line.now (codes "  : " ++ ends.tail) c.in_ok-line.ensures.cut
+    (key_bytes root levels (seen_pairs c.args.pairs.items) (seen_value c.args.key) c.args.depth c.args.text.now depth ends) in
+    subst (IsDue root _) (sym (cut_is (codes "  : ") c.in_ok-line.line.now c.in_ok-rest.rest.now ends.tail c.in_ok-rest.ensures.cut line)) ends.due
+
+pub returns-clause-read : goal.returns-clause-read
+returns-clause-read g c =
+    λ whole levels depth read.
+    key_on whole levels (seen_pairs c.args.pairs.items) (seen_value c.args.key) c.args.text.now c.in_ok-rest.rest.now read
+    (c.in_ok-line.ensures.cut ∙ ap (λ t. line_at (c.args.depth * 2) ++ t) c.in_ok-rest.ensures.cut
+    ∙ ap (λ n. line_at (n * 2) ++ (codes "  : " ++ c.in_ok-rest.rest.now)) depth)

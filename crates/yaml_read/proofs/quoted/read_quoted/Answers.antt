@@ -1,0 +1,61 @@
+use Rattle.std.proofs.Common.{◌≡◌, List, ℕ, None, Some, subst, sym, rules, arith}
+use Rattle.std.specs.Borrow.{Bor}
+use Rattle.std.specs.Prelude.{String}
+use Rattle.std.specs.Str.{encode_utf8_all}
+use Rattle.std.specs.String.{string_bytes}
+use Rattle.yaml_base.specs.Seen.{seen_text}
+use Rattle.yaml_read.proofs.QuotedTexts.{ReadsOn, opening_there, reads_first, reads_more, text_read}
+use Rattle.yaml_read.proofs.Words.{at_exit}
+use Rattle.yaml_read.specs.Words.{OrMemory}
+use Rattle.yaml_read.specs.declared.errors.Stop.TheVariants as stop
+use Rattle.yaml_read.proofs.CharactersRead.{ReadSoFar, all_read, none_yet, one_more}
+use Rattle.yaml_read.proofs.quoted.read_quoted.Goals as goal
+
+pub returns-in_err-rest-clause-reads : goal.returns-in_err-rest-clause-reads
+returns-in_err-rest-clause-reads g c = λ value rest scalars is. absurd (opening_there c.args.text.now value rest is c.in_err-rest.ensures.cut)
+
+pub returns-in-Some-clause-reads : goal.returns-in-Some-clause-reads
+returns-in-Some-clause-reads g c =
+    λ value rest scalars is.
+    text_read c.characters.value value rest c.args.text.now c.characters.rest.now c.in-Some.end.now c.characters.invariant.2 c.in-Some.ensures.cut scalars is
+
+pub returns-in-None-read_character-clause-reads : goal.returns-in-None-read_character-clause-reads
+returns-in-None-read_character-clause-reads g c =
+    λ value rest scalars is.
+    absurd (reads_more c.args.text.now (string_bytes c.characters.value) c.characters.rest.now None c.characters.invariant.2 c.in-None.ensures.cut
+    c.in-None-read_character.ensures.reads value rest scalars is)
+
+pub returns-in_err-push-clause-reads : goal.returns-in_err-push-clause-reads
+returns-in_err-push-clause-reads g c =
+    λ value rest scalars is.
+    at_exit (OrMemory (λ (found : String _ × Bor (List ℕ)). (seen_text found.0 ≡ value) × (found.1.now ≡ encode_utf8_all rest))) stop.Memory
+    c.from_residual-in_err-push.result c.from_residual-in_err-push.ensures tt
+
+pub characters-init : goal.characters-init
+characters-init g c = (
+  search rules,
+  omega (arith, c.in_ok-rest.ensures.shorter),
+  subst (λ (value : List ℕ). ReadsOn c.args.text.now value c.in_ok-rest.rest.now) (sym c.new-value.ensures.bytes)
+      (reads_first c.args.text.now c.in_ok-rest.rest.now c.in_ok-rest.ensures.cut),
+  subst (λ (value : List ℕ). ReadSoFar c.args.text.now value c.in_ok-rest.rest.now) (sym c.new-value.ensures.bytes)
+      (none_yet c.args.text.now c.in_ok-rest.rest.now c.in_ok-rest.ensures.cut),
+)
+
+pub characters-preserved : goal.characters-preserved
+characters-preserved g c = (
+  search rules,
+  omega (arith, c.characters.invariant.1, c.in-Some-read_character.ensures.shorter),
+  subst (λ (value : List ℕ). ReadsOn c.args.text.now value c.in-Some-read_character.found.1.now) (sym c.in_ok-push.ensures.bytes)
+      (record {
+        left = λ value rest scalars is.
+            reads_more c.args.text.now (string_bytes c.characters.value) c.characters.rest.now (Some c.in-Some-read_character.found)
+            c.characters.invariant.2 c.in-None.ensures.cut c.in-Some-read_character.ensures.reads value rest scalars is;
+      }),
+  subst (λ (value : List ℕ). ReadSoFar c.args.text.now value c.in-Some-read_character.found.1.now) (sym c.in_ok-push.ensures.bytes)
+      (one_more c.args.text.now (string_bytes c.characters.value) c.characters.rest.now c.in-Some-read_character.found.1.now
+      c.in-Some-read_character.found.0 c.characters.invariant.3 c.in-Some-read_character.ensures.sound),
+)
+
+pub returns-in-Some-clause-sound : goal.returns-in-Some-clause-sound
+returns-in-Some-clause-sound g c =
+    all_read c.args.text.now c.characters.rest.now c.in-Some.end.now c.characters.value c.characters.invariant.3 c.in-Some.ensures.cut

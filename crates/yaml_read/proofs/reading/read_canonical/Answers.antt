@@ -1,0 +1,30 @@
+use Rattle.std.proofs.Common.{◌≡◌, subst, sym, ◌∙◌, inr}
+use Rattle.std.specs.Str.{IsUtf8}
+use Rattle.yaml_base.proofs.Decoding.{text_bytes-utf8}
+use Rattle.yaml_base.specs.values.TypedValues.{TypedValue}
+use Rattle.yaml_base.specs.values.ValueText.{document_text}
+use Rattle.yaml_value.specs.SeenValues.{seen_value}
+use Rattle.yaml_value.specs.declared.value.Value.{Value}
+use Rattle.yaml_read.proofs.Completeness.{stopped}
+use Rattle.yaml_read.proofs.Scalars.{document_utf8}
+use Rattle.std.proofs.Common.{◌<◌, rules}
+use Rattle.std.specs.Prelude.{length}
+use Rattle.yaml_base.specs.Settings.{largest_usize}
+use Rattle.yaml_read.proofs.WrittenValues.{written_value}
+use Rattle.yaml_read.proofs.reading.read_canonical.Goals as goal
+
+pub returns-in-Err-clause-complete : goal.returns-in-Err-clause-complete
+returns-in-Err-clause-complete g c =
+    inr (λ value readable is.
+    c.in-Err.ensures.cases.0 (subst IsUtf8 (sym (text_bytes-utf8 (document_text value)) ∙ is) (document_utf8 value readable)))
+
+pub returns-in-Ok-read_text-clause-read : goal.returns-in-Ok-read_text-clause-read
+returns-in-Ok-read_text-clause-read g c =
+    let few : length c.args.bytes.now < largest_usize = search rules in
+    written_value (seen_value c.in-Ok-read_text.value) c.args.bytes.now c.in-Ok-read_text.ensures.sound.1
+    (sym c.in-Ok.ensures.cases.0 ∙ c.in-Ok-read_text.ensures.sound.0) few
+
+pub returns-in-Err-read_text-clause-complete : goal.returns-in-Err-read_text-clause-complete
+returns-in-Err-read_text-clause-complete g c =
+    stopped (λ (value : TypedValue) (found : Value g.row.A.Denot). seen_value found ≡ value) c.args.bytes.now c.in-Ok.text.now c.in-Err-read_text.stop
+    c.error_of.result c.in-Ok.ensures.cases.0 c.error_of.ensures c.in-Err-read_text.ensures.reads

@@ -1,0 +1,65 @@
+use Rattle.std.proofs.Common.{◌≡◌, List, subst, sym, rules}
+use Rattle.std.specs.Prelude.{Ok}
+use Rattle.yaml_value.specs.SeenValues.{seen_value}
+use Rattle.yaml_value.specs.declared.value.Value.{Value}
+use Rattle.yaml_read.specs.Remaining.{Reached, seen_levels}
+use Rattle.yaml_read.specs.Words.{OrMemory}
+use Rattle.std.specs.Prelude.{codes}
+use Rattle.yaml_read.specs.declared.levels.Level.{Level}
+use Rattle.yaml_read.specs.declared.levels.Next.{Next}
+use Rattle.yaml_read.proofs.Turns.{TextDue, root_due, text_due}
+use Rattle.yaml_read.proofs.Words.{at_exit, no_word}
+use Rattle.yaml_read.proofs.Opening.{TextOpen, text_open, text_read}
+use Rattle.yaml_read.specs.Opened.{NextRead}
+use Rattle.yaml_read.proofs.reading.read_text.Goals as goal
+
+pub nodes-init : goal.nodes-init
+nodes-init g c = (
+  search rules,
+  subst (λ (levels : List (Level g.row.A.Denot)). TextDue c.args.text.now (seen_levels levels) c.in_ok-rest.rest.now) (sym c.new-levels.ensures.items)
+      (text_due c.args.text.now c.in_ok-rest.rest.now c.in_ok-rest.ensures.cut),
+  subst (λ (levels : List (Level g.row.A.Denot)). TextOpen c.args.text.now (seen_levels levels) c.in_ok-rest.rest.now) (sym c.new-levels.ensures.items)
+      (text_open c.args.text.now c.in_ok-rest.rest.now c.in_ok-rest.ensures.cut),
+)
+
+pub returns-in_err-rest-clause-reads : goal.returns-in_err-rest-clause-reads
+returns-in_err-rest-clause-reads g c =
+    λ value readable is.
+    let root = root_due value c.args.text.now readable is in
+    absurd (no_word (codes "---\n") c.args.text.now root.0 c.in_err-rest.ensures.cut root.1)
+
+pub returns-in_err-next-clause-reads : goal.returns-in_err-next-clause-reads
+returns-in_err-next-clause-reads g c =
+    λ value readable is.
+    at_exit (OrMemory (λ (found : Value _). seen_value found ≡ value)) c.in_err-next.field-0.0 c.from_residual-in_err-next.result
+    c.from_residual-in_err-next.ensures (c.in_err-next.ensures.reached value (c.nodes.invariant.1.due value readable is))
+
+pub returns-in-Done-clause-reads : goal.returns-in-Done-clause-reads
+returns-in-Done-clause-reads g c =
+    λ value readable is.
+    subst (λ (next : Next _). Reached value (seen_levels c.step.new.levels.items) (Ok next)) c.in-Done.is
+    (c.in_ok-next.ensures.reached value (c.nodes.invariant.1.due value readable is))
+
+pub nodes-preserved : goal.nodes-preserved
+nodes-preserved g c = (
+  search rules,
+  record {
+    due = λ value readable is.
+        subst (λ (next : Next _). Reached value (seen_levels c.step.new.levels.items) (Ok next)) c.in-Node.is
+        (c.in_ok-next.ensures.reached value (c.nodes.invariant.1.due value readable is));
+  },
+  record {
+    whole = c.nodes.invariant.2.whole;
+    text_is = c.nodes.invariant.2.text_is;
+    opened =
+        subst (λ (next : Next g.row.A.Denot). NextRead c.nodes.invariant.2.whole (seen_levels c.step.new.levels.items) next) c.in-Node.is
+        (c.in_ok-next.ensures.read c.nodes.invariant.2.whole c.nodes.invariant.2.opened);
+  },
+)
+
+pub returns-in-Done-clause-sound : goal.returns-in-Done-clause-sound
+returns-in-Done-clause-sound g c =
+    let opened = c.nodes.invariant.2 in
+    let read = subst (λ (next : Next g.row.A.Denot). NextRead opened.whole (seen_levels c.step.new.levels.items) next) c.in-Done.is
+    (c.in_ok-next.ensures.read opened.whole opened.opened) in
+    (text_read (seen_value c.in-Done.value) c.args.text.now opened.whole opened.text_is read.0, read.1)

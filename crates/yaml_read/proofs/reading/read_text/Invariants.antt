@@ -1,0 +1,14 @@
+use Rattle.std.proofs.Common.{length}
+use denote.Text.{Utf8}
+use denote.Shadow.{shadow}
+use Rattle.yaml_read.specs.Remaining.{seen_levels}
+use Rattle.yaml_read.proofs.Opening.{TextOpen}
+use Rattle.yaml_read.proofs.Turns.{TextDue}
+use Rattle.yaml_read.proofs.reading.read_text.Given as goal
+
+abbrev pub invariant-nodes : goal.invariant-nodes
+invariant-nodes g l = shadow (Utf8 l.rest) × TextDue l.fn.text (seen_levels l.levels.items) l.rest
+    × TextOpen l.fn.text (seen_levels l.levels.items) l.rest
+
+abbrev pub decreases-nodes : goal.decreases-nodes
+decreases-nodes g l = length l.rest

@@ -1,0 +1,9 @@
+pub mod Shorter
+pub mod Words
+pub mod Readable
+pub mod Entries
+pub mod Remaining
+pub mod Heads
+pub mod Errors
+pub mod Opened
+pub mod Sound

@@ -1,0 +1,68 @@
+-- What was read of a value's text, by the lists and maps that are open.
+use Rattle.std.specs.Prelude.{ℕ, suc, ◌+◌, ◌*◌, ◌<◌, ◌≡◌, List, [], ◌∷◌, ◌++◌, codes, length}
+use Rattle.std.specs.Str.{encode_utf8_all}
+use Rattle.yaml_base.specs.Characters.{Text, line_feed}
+use Rattle.yaml_base.specs.values.TypedValues.{TypedValue, most_nested}
+use Rattle.yaml_base.specs.values.ValueText.{line_at, value_text, items_text, pairs_text, entry_lead, has_no_values, has_no_value_pairs}
+use Rattle.yaml_value.specs.SeenValues.{seen_value}
+use Rattle.yaml_read.specs.Readable.{CanBeReadAt, AllCanBeReadAt, PairsCanBeReadAt}
+use Rattle.yaml_read.specs.Remaining.{OpenLevel, items_open, pairs_open, value_due, column_of, seen_level}
+use Rattle.yaml_read.specs.declared.levels.Entry.{Entry}
+use Rattle.yaml_read.specs.declared.levels.Entry.TheVariants.{Another, End}
+use Rattle.yaml_read.specs.declared.levels.Turn.{Turn}
+use Rattle.yaml_read.specs.declared.levels.Turn.TheVariants.{Continues, Ends}
+use Rattle.yaml_read.specs.declared.levels.Next.{Next}
+use Rattle.yaml_read.specs.declared.levels.Next.TheVariants.{Done, Node}
+
+-- the text of the lists and maps that are open, the innermost first, up to the next node
+abbrev pub opened_text : List OpenLevel → Text
+opened_text [] = []
+opened_text (items_open items ∷ levels) =
+    opened_text levels
+    ++ (codes "!!seq" ++ (items_text (column_of levels + 2) items ++ (entry_lead (codes "[") (has_no_values items) ++ line_at (column_of levels + 2))))
+opened_text (pairs_open pairs ∷ levels) =
+    opened_text levels
+    ++ (codes "!!map" ++ (pairs_text (column_of levels + 2) pairs
+    ++ (entry_lead (codes "{") (has_no_value_pairs pairs) ++ (line_at (column_of levels + 2) ++ codes "? "))))
+opened_text (value_due pairs key ∷ levels) =
+    opened_text levels
+    ++ (codes "!!map" ++ (pairs_text (column_of levels + 2) pairs
+    ++ (entry_lead (codes "{") (has_no_value_pairs pairs)
+    ++ (line_at (column_of levels + 2) ++ (codes "? " ++ (value_text (column_of levels + 2) key ++ (line_at (column_of levels + 2) ++ codes ": ")))))))
+
+-- what they hold could be written where it lies
+abbrev pub OpenCanBeRead : List OpenLevel → Type 0
+OpenCanBeRead [] = Unit {0}
+OpenCanBeRead (items_open items ∷ levels) = OpenCanBeRead levels × ((length levels < most_nested) × AllCanBeReadAt (suc (length levels)) items)
+OpenCanBeRead (pairs_open pairs ∷ levels) = OpenCanBeRead levels × ((length levels < most_nested) × PairsCanBeReadAt (suc (length levels)) pairs)
+OpenCanBeRead (value_due pairs key ∷ levels) =
+    OpenCanBeRead levels
+    × ((length levels < most_nested) × (PairsCanBeReadAt (suc (length levels)) pairs × CanBeReadAt (suc (length levels)) key))
+
+-- a whole text is that of what is open, and these bytes
+pub record IsOpen (whole : List ℕ) (levels : List OpenLevel) (bytes : List ℕ) : Type 0 where
+  pub text : whole ≡ encode_utf8_all (opened_text levels) ++ bytes
+  pub readable : OpenCanBeRead levels
+
+-- it is that of what is open, of a value that has its place there, and these bytes
+pub record HasRead (whole : List ℕ) (levels : List OpenLevel) (value : TypedValue) (bytes : List ℕ) : Type 0 where
+  pub text : whole ≡ encode_utf8_all (opened_text levels ++ value_text (column_of levels) value) ++ bytes
+  pub outer : OpenCanBeRead levels
+  pub readable : CanBeReadAt (length levels) value
+
+-- ---- the code's answers
+
+-- what follows an entry
+abbrev pub EntryCut : (depth : ℕ) → (lead end text : List ℕ) → Entry → Type 0
+EntryCut depth lead end text (Another rest) = text ≡ codes "," ++ (line_at (depth * 2) ++ (lead ++ rest.now))
+EntryCut depth lead end text (End rest) = text ≡ codes "," ++ (line_at (depth * 2) ++ (end ++ rest.now))
+
+-- behind a value in a list or a map
+abbrev pub TurnRead : {A : Type 0} → List ℕ → List OpenLevel → Turn A → Type 0
+TurnRead whole levels (Continues level rest) = IsOpen whole (seen_level level ∷ levels) rest.now
+TurnRead whole levels (Ends value rest) = HasRead whole levels (seen_value value) rest.now
+
+-- behind a value
+abbrev pub NextRead : {A : Type 0} → List ℕ → List OpenLevel → Next A → Type 0
+NextRead whole levels (Done value) = (whole ≡ encode_utf8_all (value_text 0 (seen_value value) ++ line_feed ∷ [])) × CanBeReadAt 0 (seen_value value)
+NextRead whole levels (Node rest) = IsOpen whole levels rest.now

@@ -1,0 +1,111 @@
+-- What is left of a value's text while it is read, by the lists and maps that are open.
+use Rattle.std.specs.Prelude.{ℕ, suc, ◌+◌, ◌≡◌, Bool, true, false, Result, Ok, Err, List, [], ◌∷◌, ◌++◌, codes, length}
+use Rattle.std.specs.Str.{encode_utf8_all}
+use Rattle.yaml_base.specs.Characters.{Text, line_feed}
+use Rattle.yaml_base.specs.values.TypedValues.{TypedValue, list_value, map_value, TypedValues, values_and}
+use Rattle.yaml_base.specs.values.TypedValues.{TypedPairs, value_pairs_and}
+use Rattle.yaml_base.specs.values.ValueText.{line_at, value_text}
+use Rattle.yaml_value.specs.SeenValues.{seen_value, seen_values, seen_pairs}
+use Rattle.yaml_read.specs.Readable.{CanBeReadAt}
+use Rattle.yaml_read.specs.declared.errors.Stop.{Stop}
+use Rattle.yaml_read.specs.declared.errors.Stop.TheVariants as stop
+use Rattle.yaml_read.specs.declared.levels.Level.{Level}
+use Rattle.yaml_read.specs.declared.levels.Level.TheVariants as code
+use Rattle.yaml_read.specs.declared.levels.Turn.{Turn}
+use Rattle.yaml_read.specs.declared.levels.Turn.TheVariants.{Continues, Ends}
+use Rattle.yaml_read.specs.declared.levels.Next.{Next}
+use Rattle.yaml_read.specs.declared.levels.Next.TheVariants.{Done, Node}
+
+-- a list or a map that is open, with what was read of it
+pub data OpenLevel : Type 0 where
+  items_open : TypedValues → OpenLevel
+  pairs_open : TypedPairs → OpenLevel
+  value_due : TypedPairs → TypedValue → OpenLevel
+
+-- the column of entries, the innermost level first
+abbrev pub column_of : List OpenLevel → ℕ
+column_of [] = 0
+column_of (level ∷ levels) = column_of levels + 2
+
+-- behind a value that has its place in the open lists and maps this text completes a whole value
+pub data Completes (root : TypedValue) : List OpenLevel → TypedValue → Text → Type 0 where
+  text_ends : (value : TypedValue) (text : Text) → value ≡ root → text ≡ line_feed ∷ [] → Completes root [] value text
+  item_follows : (levels : List OpenLevel) (items : TypedValues) (value item : TypedValue) (rest text : Text)
+      → CanBeReadAt (suc (length levels)) item
+      → text ≡ codes "," ++ (line_at (column_of levels + 2) ++ (value_text (column_of levels + 2) item ++ rest))
+      → Completes root (items_open (values_and items value) ∷ levels) item rest
+      → Completes root (items_open items ∷ levels) value text
+  list_ends : (levels : List OpenLevel) (items : TypedValues) (value : TypedValue) (rest text : Text)
+      → text ≡ codes "," ++ (line_at (column_of levels) ++ (codes "]" ++ rest))
+      → Completes root levels (list_value (values_and items value)) rest
+      → Completes root (items_open items ∷ levels) value text
+  value_follows : (levels : List OpenLevel) (pairs : TypedPairs) (key value : TypedValue) (rest text : Text)
+      → CanBeReadAt (suc (length levels)) value
+      → text ≡ line_at (column_of levels + 2) ++ (codes ": " ++ (value_text (column_of levels + 2) value ++ rest))
+      → Completes root (value_due pairs key ∷ levels) value rest
+      → Completes root (pairs_open pairs ∷ levels) key text
+  pair_follows : (levels : List OpenLevel) (pairs : TypedPairs) (key value next : TypedValue) (rest text : Text)
+      → CanBeReadAt (suc (length levels)) next
+      → text ≡ codes "," ++ (line_at (column_of levels + 2) ++ (codes "? " ++ (value_text (column_of levels + 2) next ++ rest)))
+      → Completes root (pairs_open (value_pairs_and pairs key value) ∷ levels) next rest
+      → Completes root (value_due pairs key ∷ levels) value text
+  map_ends : (levels : List OpenLevel) (pairs : TypedPairs) (key value : TypedValue) (rest text : Text)
+      → text ≡ codes "," ++ (line_at (column_of levels) ++ (codes "}" ++ rest))
+      → Completes root levels (map_value (value_pairs_and pairs key value)) rest
+      → Completes root (value_due pairs key ∷ levels) value text
+
+-- these bytes begin with a value that has its place in the open lists and maps of a whole value's text
+pub record IsDue (root : TypedValue) (levels : List OpenLevel) (bytes : List ℕ) : Type 0 where
+  pub value : TypedValue
+  pub rest : Text
+  pub readable : CanBeReadAt (length levels) value
+  pub text : bytes ≡ encode_utf8_all (value_text (column_of levels) value ++ rest)
+  pub completes : Completes root levels value rest
+
+-- these bytes stand behind such a value
+pub record IsRead (root : TypedValue) (levels : List OpenLevel) (value : TypedValue) (bytes : List ℕ) : Type 0 where
+  pub rest : Text
+  pub text : bytes ≡ encode_utf8_all rest
+  pub completes : Completes root levels value rest
+
+-- a list or a map
+abbrev pub is_nested : TypedValue → Bool
+is_nested (list_value items) = true
+is_nested (map_value pairs) = true
+is_nested _ = false
+
+-- ---- the code's answers
+
+-- a list or a map of the code
+abbrev pub seen_level : {A : Type 0} → Level A → OpenLevel
+seen_level (code.Items items) = items_open (seen_values items.items)
+seen_level (code.Pairs pairs) = pairs_open (seen_pairs pairs.items)
+seen_level (code.PairsAndKey pairs key) = value_due (seen_pairs pairs.items) (seen_value key)
+
+-- the innermost first, before outer ones
+abbrev pub onto : {A : Type 0} → List OpenLevel → List (Level A) → List OpenLevel
+onto outer [] = outer
+onto outer (level ∷ levels) = onto (seen_level level ∷ outer) levels
+
+abbrev pub seen_levels : {A : Type 0} → List (Level A) → List OpenLevel
+seen_levels levels = onto [] levels
+
+-- behind a value in a list or a map, unless memory gave out
+abbrev pub TurnReached : {A : Type 0} → TypedValue → List OpenLevel → Result (Turn A) Stop → Type 0
+TurnReached root levels (Ok (Continues level rest)) = IsDue root (seen_level level ∷ levels) rest.now
+TurnReached root levels (Ok (Ends value rest)) = IsRead root levels (seen_value value) rest.now
+TurnReached root levels (Err stop.Memory) = Unit {0}
+TurnReached root levels (Err _) = ⊥
+
+-- behind a value, unless memory gave out
+abbrev pub Reached : {A : Type 0} → TypedValue → List OpenLevel → Result (Next A) Stop → Type 0
+Reached root levels (Ok (Done value)) = seen_value value ≡ root
+Reached root levels (Ok (Node rest)) = IsDue root levels rest.now
+Reached root levels (Err stop.Memory) = Unit {0}
+Reached root levels (Err _) = ⊥
+
+-- a level was opened within the others, or memory gave out
+abbrev pub Pushed : {A : Type 0} → OpenLevel → (before after : List (Level A)) → Result (Unit {0}) Stop → Type 0
+Pushed level before after (Ok _) = (seen_levels after ≡ level ∷ seen_levels before) × (length after ≡ suc (length before))
+Pushed level before after (Err stop.Memory) = Unit {0}
+Pushed level before after (Err _) = ⊥

@@ -1,0 +1,32 @@
+-- Words at a text's beginning, and what follows them, in bytes.
+use Rattle.std.specs.Prelude.{ℕ, ◌≡◌, ◌==◌, Option, None, Some, Result, Ok, Err, List, [], ◌∷◌, ◌++◌, if◌then◌else◌}
+use Rattle.std.specs.Borrow.{Bor}
+use Rattle.yaml_read.specs.declared.errors.Stop.{Stop}
+use Rattle.yaml_read.specs.declared.errors.Stop.TheVariants as stop
+
+-- what follows a word at a text's beginning
+abbrev pub behind : (word text : List ℕ) → Option (List ℕ)
+behind [] text = Some text
+behind (w ∷ word) [] = None
+behind (w ∷ word) (c ∷ text) = if c == w then behind word text else None
+
+-- the word stands first, and this follows it; or it doesn't stand first
+abbrev pub CutsIf : (word text : List ℕ) → Option (Bor (List ℕ)) → Type 0
+CutsIf word text (Some rest) = text ≡ word ++ rest.now
+CutsIf word text None = behind word text ≡ None
+
+abbrev pub Cuts : (word text : List ℕ) → Result (Bor (List ℕ)) Stop → Type 0
+Cuts word text (Ok rest) = text ≡ word ++ rest.now
+Cuts word text (Err error) = behind word text ≡ None
+
+-- the answer is this, unless memory gave out
+abbrev pub OrMemory : {T : Type 0} → (T → Type 0) → Result T Stop → Type 0
+OrMemory Holds (Ok found) = Holds found
+OrMemory Holds (Err stop.Memory) = Unit {0}
+OrMemory Holds (Err _) = ⊥
+
+-- the word stands first, and this follows it; or it doesn't stand first, or memory gave out
+abbrev pub OpensAt : (word text : List ℕ) → Result (Bor (List ℕ)) Stop → Type 0
+OpensAt word text (Ok rest) = text ≡ word ++ rest.now
+OpensAt word text (Err stop.Memory) = Unit {0}
+OpensAt word text (Err _) = behind word text ≡ None

@@ -1,0 +1,50 @@
+//! What follows a word at a text's beginning.
+ghost use Rattle.std.specs.Prelude.{◌≡◌, ◌+◌, ◌*◌, ◌<◌, ◌≤◌, IfOk, IfSome, length, replicate};
+ghost use Rattle.yaml_base.specs.Characters.{space};
+ghost use Rattle.yaml_base.specs.values.ValueText.{line_at};
+ghost use Rattle.yaml_read.specs.Words.{Cuts, CutsIf};
+
+use crate::errors::{Stop, refused_at};
+
+/// What follows a word, where the text begins with it.
+pub(crate) fn past<'a>(text: &'a str, word: &str) -> Option<&'a str>
+    ensures cut { CutsIf word.now text.now result }
+    ensures shorter { IfSome result (λ rest. length rest.now + length word.now ≡ length text.now) }
+{
+    match text.strip_prefix(word) {
+        Some(rest) => Some(rest),
+        None => None,
+    }
+}
+
+/// What follows a word.
+pub(crate) fn after<'a>(text: &'a str, word: &str) -> Result<&'a str, Stop>
+    ensures cut { Cuts word.now text.now result }
+    ensures shorter { IfOk result (λ rest. length rest.now + length word.now ≡ length text.now) }
+{
+    match past(text, word) {
+        Some(rest) => Ok(rest),
+        None => Err(refused_at(text)),
+    }
+}
+
+/// What follows the indentation of a depth.
+fn after_spaces(text: &str, depth: usize) -> Result<&str, Stop>
+    ensures cut { Cuts (replicate (depth * 2) space) text.now result }
+    ensures shorter { IfOk result (λ rest. length rest.now ≤ length text.now) }
+{
+    let mut rest = text;
+    for _level in 0..depth {
+        rest = after(rest, "  ")?;
+    }
+    Ok(rest)
+}
+
+/// What follows a line's end and the indentation of a depth.
+pub(crate) fn after_indent(text: &str, depth: usize) -> Result<&str, Stop>
+    ensures cut { Cuts (line_at (depth * 2)) text.now result }
+    ensures shorter { IfOk result (λ rest. length rest.now < length text.now) }
+{
+    let line = after(text, "\n")?;
+    after_spaces(line, depth)
+}

@@ -1,0 +1,45 @@
+//! Why bytes aren't read.
+ghost use Rattle.std.specs.Prelude.{◌≡◌};
+ghost use Rattle.yaml_read.specs.declared.errors.Stop.TheVariants as stop;
+
+use std::alloc::AllocError;
+use thiserror::Error;
+
+/// Why bytes aren't read. Lines end with LF, and lines and columns count from 1, columns in characters.
+#[derive(Clone, Copy, Debug, Drop, Error, PartialEq, Eq)]
+pub enum ReadError {
+    /// They are no value's canonical bytes. The first word that can't stand where it stands begins here: a tag, a bracket,
+    /// a level's two spaces, a character of a text or its escape, an integer with its quotes. Where they end too early, a
+    /// word is missing or cut off here. Where they aren't UTF-8, this is the end of their longest prefix that is.
+    #[error("line {line}, column {column}: not canonical")]
+    NotCanonical { line: usize, column: usize },
+    /// Lists and maps nest more than 1,000 deep. The first that lies too deep begins here.
+    #[error("line {line}, column {column}: lists and maps nest too deep")]
+    TooDeep { line: usize, column: usize },
+    /// An allocation failed.
+    #[error("out of memory")]
+    Memory,
+}
+
+/// Why the reader stops.
+#[derive(Clone, Copy, Debug, Drop)]
+pub(crate) enum Stop {
+    /// The word so many bytes before the end can't stand there.
+    Refused(usize),
+    /// The list or the map that begins so many bytes before the end lies too deep.
+    TooDeep(usize),
+    Memory,
+}
+
+impl From<AllocError> for Stop {
+    ghost from_gives = { λ _ error. error ≡ stop.Memory };
+
+    fn from(_: AllocError) -> Stop {
+        Stop::Memory
+    }
+}
+
+/// The first word of the rest can't stand there.
+pub(crate) fn refused_at(rest: &str) -> Stop {
+    Stop::Refused(rest.len())
+}

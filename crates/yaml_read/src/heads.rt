@@ -1,0 +1,156 @@
+//! How a node begins.
+ghost use Rattle.std.specs.Prelude.{◌≡◌, ◌++◌, ◌<◌, ◌^◌, ℕ, ℤ, Bool, IfOk, length};
+ghost use Rattle.std.specs.Fmt.{signed_decimal};
+ghost use Rattle.std.specs.Int.Signed.{mag};
+ghost use Rattle.std.specs.Str.{encode_utf8_all};
+ghost use Rattle.yaml_base.specs.Characters.{Text};
+ghost use Rattle.yaml_base.specs.values.TypedValues.{TypedValue, bool_text, bool_value, int_value};
+ghost use Rattle.yaml_base.specs.values.ValueText.{in_quotes, value_text};
+ghost use Rattle.yaml_read.specs.Heads.{HeadRead, IsWhole, ListRead, MapRead, TagRead};
+ghost use Rattle.yaml_read.specs.Readable.{CanBeReadAt};
+ghost use Rattle.yaml_read.specs.Sound.{HeadIs, IsInteger, IsTruth};
+ghost use Rattle.yaml_read.specs.Words.{OrMemory};
+ghost use Rattle.yaml_value.specs.SeenValues.{seen_value};
+
+use crate::cuts::{after, past};
+use crate::errors::{Stop, refused_at};
+use crate::quoted::read_quoted;
+use std::alloc::Allocator;
+use yaml_value::Value;
+
+/// The beginning of a node.
+#[derive(Drop)]
+pub(crate) enum Head<A: Allocator> {
+    /// A whole value: a scalar, or a list or a map that has no entry.
+    Whole(Value<A>),
+    /// The opening bracket of a list that has items.
+    Items,
+    /// The opening bracket of a map that has pairs.
+    Pairs,
+}
+
+/// An integer in its one spelling, between quotes.
+fn read_integer<A: Allocator + Copy>(alloc: A, text: &str) -> Result<(Value<A>, &str), Stop>
+    ensures reads { (n : ℤ) (rest : Text) → mag n < 2 ^ 63 → text.now ≡ encode_utf8_all (in_quotes (signed_decimal n) ++ rest)
+        → OrMemory (IsWhole (int_value n) rest) result }
+    ensures sound { IfOk result (λ found. IsInteger text.now (seen_value found.0) found.1.now) }
+    ensures shorter { IfOk result (λ found. length found.1.now < length text.now) }
+{
+    let (digits, rest) = read_quoted(alloc, text)?;
+    match digits.as_str().parse::<i64>() {
+        Ok(value) => {
+            let spelled = format!(in alloc; "{value}")?;
+            if spelled.as_str() == digits.as_str() {
+                Ok((Value::Int(value), rest))
+            } else {
+                Err(refused_at(text))
+            }
+        }
+        Err(_) => Err(refused_at(text)),
+    }
+}
+
+/// A truth value between quotes.
+fn read_truth<A: Allocator>(text: &str) -> Result<(Value<A>, &str), Stop>
+    ensures reads { (b : Bool) (rest : Text) → text.now ≡ encode_utf8_all (in_quotes (bool_text b) ++ rest)
+        → OrMemory (IsWhole (bool_value b) rest) result }
+    ensures sound { IfOk result (λ found. IsTruth text.now (seen_value found.0) found.1.now) }
+    ensures shorter { IfOk result (λ found. length found.1.now < length text.now) }
+{
+    match past(text, "\"true\"") {
+        Some(rest) => Ok((Value::Bool(true), rest)),
+        None => {
+            let rest = after(text, "\"false\"")?;
+            Ok((Value::Bool(false), rest))
+        }
+    }
+}
+
+/// An empty list, or the opening bracket of one that has items.
+fn read_list<A: Allocator + Copy>(alloc: A, text: &str) -> Result<(Head<A>, &str), Stop>
+    ensures reads { ListRead text.now result }
+    ensures shorter { IfOk result (λ found. length found.1.now < length text.now) }
+{
+    let inside = after(text, "[")?;
+    match past(inside, "]") {
+        Some(rest) => Ok((Head::Whole(Value::List(Vec::new(alloc))), rest)),
+        None => Ok((Head::Items, inside)),
+    }
+}
+
+/// An empty map, or the opening bracket of one that has pairs.
+fn read_map<A: Allocator + Copy>(alloc: A, text: &str) -> Result<(Head<A>, &str), Stop>
+    ensures reads { MapRead text.now result }
+    ensures shorter { IfOk result (λ found. length found.1.now < length text.now) }
+{
+    let inside = after(text, "{")?;
+    match past(inside, "}") {
+        Some(rest) => Ok((Head::Whole(Value::Map(Vec::new(alloc))), rest)),
+        None => Ok((Head::Pairs, inside)),
+    }
+}
+
+/// The kinds of nodes, by their tags.
+#[derive(Clone, Copy)]
+pub(crate) enum Kind {
+    Null,
+    Bool,
+    Int,
+    Text,
+    List,
+    Map,
+}
+
+/// A tag and the space after it.
+fn read_tag(text: &str) -> Result<(Kind, &str), Stop>
+    ensures reads { TagRead text.now result }
+    ensures shorter { IfOk result (λ found. length found.1.now < length text.now) }
+{
+    if let Some(rest) = past(text, "!!str ") {
+        return Ok((Kind::Text, rest));
+    }
+    if let Some(rest) = past(text, "!!int ") {
+        return Ok((Kind::Int, rest));
+    }
+    if let Some(rest) = past(text, "!!seq ") {
+        return Ok((Kind::List, rest));
+    }
+    if let Some(rest) = past(text, "!!map ") {
+        return Ok((Kind::Map, rest));
+    }
+    if let Some(rest) = past(text, "!!bool ") {
+        return Ok((Kind::Bool, rest));
+    }
+    let rest = after(text, "!!null ")?;
+    Ok((Kind::Null, rest))
+}
+
+/// The beginning of a node, from its tag on, and what follows.
+pub(crate) fn read_head<A: Allocator + Copy>(alloc: A, text: &str) -> Result<(Head<A>, &str), Stop>
+    ensures reads { (depth column : ℕ) (value : TypedValue) (rest : Text) → CanBeReadAt depth value
+        → text.now ≡ encode_utf8_all (value_text column value ++ rest) → HeadRead text.now value rest result }
+    ensures sound { IfOk result (HeadIs text.now) }
+    ensures shorter { IfOk result (λ found. length found.1.now < length text.now) }
+{
+    let (kind, behind) = read_tag(text)?;
+    match kind {
+        Kind::Null => {
+            let rest = after(behind, "\"null\"")?;
+            Ok((Head::Whole(Value::Null), rest))
+        }
+        Kind::Bool => {
+            let (value, rest) = read_truth(behind)?;
+            Ok((Head::Whole(value), rest))
+        }
+        Kind::Int => {
+            let (value, rest) = read_integer(alloc, behind)?;
+            Ok((Head::Whole(value), rest))
+        }
+        Kind::Text => {
+            let (value, rest) = read_quoted(alloc, behind)?;
+            Ok((Head::Whole(Value::Text(value)), rest))
+        }
+        Kind::List => read_list(alloc, behind),
+        Kind::Map => read_map(alloc, behind),
+    }
+}

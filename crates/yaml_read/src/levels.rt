@@ -1,0 +1,235 @@
+//! The lists and maps that are open.
+ghost use Rattle.std.specs.Prelude.{◌≡◌, ◌++◌, ◌∷◌, ◌+◌, ◌*◌, ◌<◌, [], IfOk, List, OnOk, codes, length, ℕ};
+ghost use Rattle.yaml_base.specs.values.TypedValues.{TypedPairs, TypedValue, TypedValues, no_value_pairs, no_values};
+ghost use Rattle.yaml_base.specs.values.ValueText.{line_at};
+ghost use Rattle.yaml_read.specs.Entries.{EntryFound};
+ghost use Rattle.yaml_read.specs.Opened.{EntryCut, HasRead, NextRead, TurnRead};
+ghost use Rattle.yaml_read.specs.Remaining.{IsRead, OpenLevel, Pushed, Reached, TurnReached, items_open, pairs_open, seen_level, seen_levels, value_due};
+ghost use Rattle.yaml_read.specs.Shorter.{EntryShorter, NextShorter, TurnShorter};
+ghost use Rattle.yaml_read.specs.Words.{OpensAt};
+ghost use Rattle.yaml_value.specs.SeenValues.{seen_pairs, seen_value, seen_values};
+
+use crate::cuts::{after, after_indent, past};
+use crate::errors::{Stop, refused_at};
+use std::alloc::Allocator;
+use yaml_value::Value;
+
+/// A list or a map that is open, with what it holds.
+#[derive(Drop)]
+pub(crate) enum Level<A: Allocator> {
+    Items(Vec<Value<A>, A>),
+    /// A key is to come.
+    Pairs(Vec<(Value<A>, Value<A>), A>),
+    /// The value of this key is to come.
+    PairsAndKey(Vec<(Value<A>, Value<A>), A>, Value<A>),
+}
+
+/// After a value in a list or a map: another node in it follows, or it ends. The text is what follows then.
+#[derive(Drop)]
+pub(crate) enum Turn<'a, A: Allocator> {
+    Continues(Level<A>, &'a str),
+    Ends(Value<A>, &'a str),
+}
+
+/// After a value: all is read, or another node follows.
+#[derive(Drop)]
+pub(crate) enum Next<'a, A: Allocator> {
+    Done(Value<A>),
+    Node(&'a str),
+}
+
+/// After an entry: another one, or the closing bracket, and what follows it.
+pub(crate) enum Entry<'a> {
+    Another(&'a str),
+    End(&'a str),
+}
+
+/// What follows an entry of a list or a map that lies so deep: what leads to another one, or the end.
+fn next_entry<'a>(text: &'a str, depth: usize, lead: &str, end: &str) -> Result<Entry<'a>, Stop>
+    ensures found { (tail : List ℕ) → text.now ≡ codes "," ++ (line_at (depth * 2) ++ tail)
+        → EntryFound lead.now end.now tail result }
+    ensures cut { IfOk result (EntryCut depth lead.now end.now text.now) }
+    ensures shorter { IfOk result (EntryShorter text.now) }
+{
+    let behind = after(text, ",")?;
+    let line = after_indent(behind, depth)?;
+    match past(line, lead) {
+        Some(rest) => Ok(Entry::Another(rest)),
+        None => {
+            let rest = after(line, end)?;
+            Ok(Entry::End(rest))
+        }
+    }
+}
+
+/// An item of a list.
+fn take_item<'a, A: Allocator>(
+    items: Vec<Value<A>, A>,
+    item: Value<A>,
+    text: &'a str,
+    depth: usize,
+) -> Result<Turn<'a, A>, Stop>
+    ensures reached { (root : TypedValue) (levels : List OpenLevel) → depth ≡ length levels
+        → IsRead root (items_open (seen_values items.items) ∷ levels) (seen_value item) text.now → TurnReached root levels result }
+    ensures read { (whole : List ℕ) (levels : List OpenLevel) → depth ≡ length levels
+        → HasRead whole (items_open (seen_values items.items) ∷ levels) (seen_value item) text.now → IfOk result (TurnRead whole levels) }
+    ensures shorter { IfOk result (TurnShorter text.now) }
+{
+    let mut items = items;
+    match items.push(item) {
+        Ok(()) => {}
+        Err(_) => return Err(Stop::Memory),
+    }
+    let entry = next_entry(text, depth, "  ", "]")?;
+    match entry {
+        Entry::Another(rest) => Ok(Turn::Continues(Level::Items(items), rest)),
+        Entry::End(rest) => Ok(Turn::Ends(Value::List(items), rest)),
+    }
+}
+
+/// A pair of a map.
+fn take_pair<'a, A: Allocator>(
+    pairs: Vec<(Value<A>, Value<A>), A>,
+    pair: (Value<A>, Value<A>),
+    text: &'a str,
+    depth: usize,
+) -> Result<Turn<'a, A>, Stop>
+    ensures reached { (root : TypedValue) (levels : List OpenLevel) → depth ≡ length levels
+        → IsRead root (value_due (seen_pairs pairs.items) (seen_value pair.0) ∷ levels) (seen_value pair.1) text.now
+        → TurnReached root levels result }
+    ensures read { (whole : List ℕ) (levels : List OpenLevel) → depth ≡ length levels
+        → HasRead whole (value_due (seen_pairs pairs.items) (seen_value pair.0) ∷ levels) (seen_value pair.1) text.now → IfOk result (TurnRead whole levels) }
+    ensures shorter { IfOk result (TurnShorter text.now) }
+{
+    let mut pairs = pairs;
+    match pairs.push(pair) {
+        Ok(()) => {}
+        Err(_) => return Err(Stop::Memory),
+    }
+    let entry = next_entry(text, depth, "  ? ", "}")?;
+    match entry {
+        Entry::Another(rest) => Ok(Turn::Continues(Level::Pairs(pairs), rest)),
+        Entry::End(rest) => Ok(Turn::Ends(Value::Map(pairs), rest)),
+    }
+}
+
+/// A key of a map.
+fn take_key<'a, A: Allocator>(
+    pairs: Vec<(Value<A>, Value<A>), A>,
+    key: Value<A>,
+    text: &'a str,
+    depth: usize,
+) -> Result<Turn<'a, A>, Stop>
+    ensures reached { (root : TypedValue) (levels : List OpenLevel) → depth ≡ length levels
+        → IsRead root (pairs_open (seen_pairs pairs.items) ∷ levels) (seen_value key) text.now → TurnReached root levels result }
+    ensures read { (whole : List ℕ) (levels : List OpenLevel) → depth ≡ length levels
+        → HasRead whole (pairs_open (seen_pairs pairs.items) ∷ levels) (seen_value key) text.now → IfOk result (TurnRead whole levels) }
+    ensures shorter { IfOk result (TurnShorter text.now) }
+{
+    let line = after_indent(text, depth)?;
+    let rest = after(line, "  : ")?;
+    Ok(Turn::Continues(Level::PairsAndKey(pairs, key), rest))
+}
+
+/// A value in a list or a map that lies so deep.
+fn take_value<'a, A: Allocator>(
+    level: Level<A>,
+    value: Value<A>,
+    text: &'a str,
+    depth: usize,
+) -> Result<Turn<'a, A>, Stop>
+    ensures reached { (root : TypedValue) (levels : List OpenLevel) → depth ≡ length levels
+        → IsRead root (seen_level level ∷ levels) (seen_value value) text.now → TurnReached root levels result }
+    ensures read { (whole : List ℕ) (levels : List OpenLevel) → depth ≡ length levels
+        → HasRead whole (seen_level level ∷ levels) (seen_value value) text.now → IfOk result (TurnRead whole levels) }
+    ensures shorter { IfOk result (TurnShorter text.now) }
+{
+    match level {
+        Level::Items(items) => take_item(items, value, text, depth),
+        Level::Pairs(pairs) => take_key(pairs, value, text, depth),
+        Level::PairsAndKey(pairs, key) => take_pair(pairs, (key, value), text, depth),
+    }
+}
+
+/// Opens a level within the others.
+fn push<A: Allocator>(levels: &mut Vec<Level<A>, A>, level: Level<A>) -> Result<(), Stop>
+    ensures { Pushed (seen_level level) levels.old.items levels.new.items result }
+{
+    match levels.push(level) {
+        Ok(()) => Ok(()),
+        Err(_) => Err(Stop::Memory),
+    }
+}
+
+/// After the outermost value comes a line's end, and nothing else.
+fn finish<'a, A: Allocator>(value: Value<A>, text: &'a str) -> Result<Next<'a, A>, Stop>
+    ensures reached { (root : TypedValue) (levels : List OpenLevel) → IsRead root [] (seen_value value) text.now → Reached root levels result }
+    ensures read { (whole : List ℕ) (levels : List OpenLevel) → HasRead whole [] (seen_value value) text.now → IfOk result (NextRead whole levels) }
+    ensures shorter { IfOk result (NextShorter text.now) }
+{
+    let end = after(text, "\n")?;
+    if end.is_empty() {
+        Ok(Next::Done(value))
+    } else {
+        Err(refused_at(end))
+    }
+}
+
+/// Gives a value to the innermost list or map, and each that ends with it to the one around it.
+pub(crate) fn settle<'a, A: Allocator>(
+    levels: &mut Vec<Level<A>, A>,
+    value: Value<A>,
+    text: &'a str,
+) -> Result<Next<'a, A>, Stop>
+    ensures reached { (root : TypedValue) → IsRead root (seen_levels levels.old.items) (seen_value value) text.now
+        → Reached root (seen_levels levels.new.items) result }
+    ensures read { (whole : List ℕ) → HasRead whole (seen_levels levels.old.items) (seen_value value) text.now
+        → IfOk result (NextRead whole (seen_levels levels.new.items)) }
+    ensures shorter { IfOk result (NextShorter text.now) }
+{
+    let mut value = value;
+    let mut rest = text;
+    while let Some(level) = levels.pop() {
+        let turn = take_value(level, value, rest, levels.len())?;
+        match turn {
+            Turn::Continues(level, next) => {
+                push(levels, level)?;
+                return Ok(Next::Node(next));
+            }
+            Turn::Ends(whole, next) => {
+                value = whole;
+                rest = next;
+            }
+        }
+    }
+    finish(value, rest)
+}
+
+/// Opens a list, up to its first item.
+pub(crate) fn enter_list<'a, A: Allocator>(
+    alloc: A,
+    levels: &mut Vec<Level<A>, A>,
+    text: &'a str,
+) -> Result<&'a str, Stop>
+    ensures opened { OnOk result (seen_levels levels.new.items ≡ items_open no_values ∷ seen_levels levels.old.items) }
+    ensures cut { OpensAt (line_at (length levels.old.items * 2 + 2)) text.now result }
+    ensures shorter { IfOk result (λ rest. length rest.now < length text.now) }
+{
+    push(levels, Level::Items(Vec::new(alloc)))?;
+    after_indent(text, levels.len())
+}
+
+/// Opens a map, up to its first key.
+pub(crate) fn enter_map<'a, A: Allocator>(
+    alloc: A,
+    levels: &mut Vec<Level<A>, A>,
+    text: &'a str,
+) -> Result<&'a str, Stop>
+    ensures opened { OnOk result (seen_levels levels.new.items ≡ pairs_open no_value_pairs ∷ seen_levels levels.old.items) }
+    ensures cut { OpensAt (line_at (length levels.old.items * 2 + 2) ++ codes "? ") text.now result }
+    ensures shorter { IfOk result (λ rest. length rest.now < length text.now) }
+{
+    push(levels, Level::Pairs(Vec::new(alloc)))?;
+    let line = after_indent(text, levels.len())?;
+    after(line, "? ")
+}

@@ -1,0 +1,234 @@
+//! Texts between double quotes, in their one spelling.
+ghost use Rattle.std.specs.Prelude.{ℕ, ◌≡◌, ◌∷◌, ◌++◌, ◌+◌, ◌*◌, ◌<◌, ◌≤◌, [], true, Some, None, IfOk, IfSome, MatchOption, is_some, length};
+ghost use Rattle.std.specs.Str.{all_scalars, encode_utf8_all};
+ghost use Rattle.yaml_base.specs.Characters.{Text, hex_digit, hex_digits};
+ghost use Rattle.yaml_base.specs.Seen.{seen_text};
+ghost use Rattle.yaml_base.specs.reading.ReadDouble.{digit_meaning, letter_meaning};
+ghost use Rattle.yaml_base.specs.scalars.DoubleQuoted as double;
+ghost use Rattle.yaml_base.specs.values.ValueText.{in_quotes};
+ghost use Rattle.yaml_read.specs.Heads.{ReadsCharacter};
+ghost use Rattle.yaml_read.specs.Sound.{IsByNumber, IsCharacter, IsEscape};
+ghost use Rattle.yaml_read.specs.Words.{OrMemory};
+
+use crate::cuts::{after, past};
+use crate::errors::{Stop, refused_at};
+use std::alloc::Allocator;
+use yaml_base::{is_break, is_printable};
+
+/// Whether a character can't stand as itself.
+fn needs_escape(c: char) -> bool
+    ensures { result ≡ double.needs_escape true c }
+{
+    !is_printable(c) || is_break(c) || c == '"' || c == '\\'
+}
+
+/// The character that a letter after a backslash stands for.
+fn meaning_of(letter: char) -> Option<char>
+    ensures { result ≡ letter_meaning letter }
+{
+    let character = match letter {
+        '0' => '\0',
+        'a' => '\u{7}',
+        'b' => '\u{8}',
+        't' => '\t',
+        'n' => '\n',
+        'v' => '\u{B}',
+        'f' => '\u{C}',
+        'r' => '\r',
+        'e' => '\u{1B}',
+        '"' => '"',
+        '\\' => '\\',
+        'N' => '\u{85}',
+        '_' => '\u{A0}',
+        'L' => '\u{2028}',
+        'P' => '\u{2029}',
+        ' ' => ' ',
+        _ => return None,
+    };
+    Some(character)
+}
+
+/// Whether a character has an escape of one letter.
+fn has_letter(c: char) -> bool
+    ensures { result ≡ is_some (double.letter_among double.short_escapes c) }
+{
+    matches!(
+        c,
+        '\0' | '\u{7}'..='\r'
+            | '\u{1B}'
+            | '"'
+            | '\\'
+            | '\u{85}'
+            | '\u{A0}'
+            | '\u{2028}'
+            | '\u{2029}'
+    )
+}
+
+/// The value of a hexadecimal digit in upper case.
+fn digit_of(c: char) -> Option<u32>
+    ensures { result ≡ digit_meaning c }
+{
+    match c {
+        '0'..='9' => Some(c as u32 - '0' as u32),
+        'A'..='F' => Some(c as u32 - 'A' as u32 + 10),
+        _ => None,
+    }
+}
+
+/// A hexadecimal digit, and what follows.
+fn read_digit(text: &str) -> Option<(u32, &str)>
+    ensures reads { (d : ℕ) (rest : Text) → d < 16 → text.now ≡ encode_utf8_all (hex_digit d ∷ rest)
+        → MatchOption result ⊥ (λ found. (found.0 ≡ d) × (found.1.now ≡ encode_utf8_all rest)) }
+    ensures sound { IfSome result (λ found. text.now ≡ encode_utf8_all (hex_digit found.0 ∷ []) ++ found.1.now) }
+    ensures small { IfSome result (λ found. found.0 < 16) }
+    ensures shorter { IfSome result (λ found. length found.1.now ≤ length text.now) }
+{
+    let mut characters = text.chars();
+    let c = characters.next()?;
+    let digit = digit_of(c)?;
+    Some((digit, characters.as_str()))
+}
+
+/// A number of two hexadecimal digits, and what follows.
+fn read_two_digits(text: &str) -> Option<(u32, &str)>
+    ensures reads { (n : ℕ) (rest : Text) → n < 256 → text.now ≡ encode_utf8_all (hex_digits 2 n ++ rest)
+        → MatchOption result ⊥ (λ found. (found.0 ≡ n) × (found.1.now ≡ encode_utf8_all rest)) }
+    ensures sound { IfSome result (λ found. text.now ≡ encode_utf8_all (hex_digits 2 found.0) ++ found.1.now) }
+    ensures small { IfSome result (λ found. found.0 < 256) }
+    ensures shorter { IfSome result (λ found. length found.1.now ≤ length text.now) }
+{
+    let (upper, behind) = read_digit(text)?;
+    let (lower, rest) = read_digit(behind)?;
+    Some((upper * 16 + lower, rest))
+}
+
+/// A number of four hexadecimal digits, and what follows.
+fn read_four_digits(text: &str) -> Option<(u32, &str)>
+    ensures reads { (n : ℕ) (rest : Text) → n < 65536 → text.now ≡ encode_utf8_all (hex_digits 4 n ++ rest)
+        → MatchOption result ⊥ (λ found. (found.0 ≡ n) × (found.1.now ≡ encode_utf8_all rest)) }
+    ensures sound { IfSome result (λ found. text.now ≡ encode_utf8_all (hex_digits 4 found.0) ++ found.1.now) }
+    ensures small { IfSome result (λ found. found.0 < 65536) }
+    ensures shorter { IfSome result (λ found. length found.1.now ≤ length text.now) }
+{
+    let (upper, behind) = read_two_digits(text)?;
+    let (lower, rest) = read_two_digits(behind)?;
+    Some((upper * 256 + lower, rest))
+}
+
+/// The character of a number, which no shorter escape has and which can't stand as itself.
+fn character_of(number: u32, least: u32) -> Option<char>
+    ensures reads { all_scalars (number ∷ []) ≡ true → least ≤ number → double.needs_escape true number ≡ true
+        → double.letter_among double.short_escapes number ≡ None → result ≡ Some number }
+    ensures sound { IfSome result (λ c. (c ≡ number) × (least ≤ number) × (double.needs_escape true number ≡ true)
+        × (double.letter_among double.short_escapes number ≡ None) × (all_scalars (number ∷ []) ≡ true)) }
+{
+    let c = char::from_u32(number)?;
+    let is_shortest = number >= least && !has_letter(c);
+    if is_shortest && needs_escape(c) {
+        Some(c)
+    } else {
+        None
+    }
+}
+
+/// The character of a number of two digits, and what follows.
+fn read_short_number(text: &str) -> Option<(char, &str)>
+    ensures reads { (c : ℕ) (rest : Text) → all_scalars (c ∷ []) ≡ true → double.needs_escape true c ≡ true
+        → double.letter_among double.short_escapes c ≡ None → c < 256 → text.now ≡ encode_utf8_all (hex_digits 2 c ++ rest)
+        → MatchOption result ⊥ (λ found. (found.0 ≡ c) × (found.1.now ≡ encode_utf8_all rest)) }
+    ensures sound { IfSome result (λ found. IsByNumber text.now 2 found.0 found.1.now × (found.0 < 256)) }
+    ensures shorter { IfSome result (λ found. length found.1.now ≤ length text.now) }
+{
+    let (number, rest) = read_two_digits(text)?;
+    let c = character_of(number, 0)?;
+    Some((c, rest))
+}
+
+/// The character of a number of four digits, and what follows.
+fn read_long_number(text: &str) -> Option<(char, &str)>
+    ensures reads { (c : ℕ) (rest : Text) → all_scalars (c ∷ []) ≡ true → double.needs_escape true c ≡ true
+        → double.letter_among double.short_escapes c ≡ None → 256 ≤ c → c < 65536 → text.now ≡ encode_utf8_all (hex_digits 4 c ++ rest)
+        → MatchOption result ⊥ (λ found. (found.0 ≡ c) × (found.1.now ≡ encode_utf8_all rest)) }
+    ensures sound { IfSome result (λ found. IsByNumber text.now 4 found.0 found.1.now × (256 ≤ found.0) × (found.0 < 65536)) }
+    ensures shorter { IfSome result (λ found. length found.1.now ≤ length text.now) }
+{
+    let (number, rest) = read_four_digits(text)?;
+    let c = character_of(number, 0x100)?;
+    Some((c, rest))
+}
+
+/// The character of a letter after a backslash, and the text that follows it.
+fn read_letter(letter: char, text: &str) -> Option<(char, &str)>
+    ensures reads { (c : ℕ) → double.needs_escape true c ≡ true → letter_meaning letter ≡ Some c
+        → MatchOption result ⊥ (λ found. (found.0 ≡ c) × (found.1.now ≡ text.now)) }
+    ensures sound { IfSome result (λ found. (letter_meaning letter ≡ Some found.0) × (double.needs_escape true found.0 ≡ true)
+        × (found.1.now ≡ text.now)) }
+    ensures shorter { IfSome result (λ found. length found.1.now ≤ length text.now) }
+{
+    let c = meaning_of(letter)?;
+    if needs_escape(c) {
+        Some((c, text))
+    } else {
+        None
+    }
+}
+
+/// The character of what follows a backslash.
+fn read_escape(text: &str) -> Option<(char, &str)>
+    ensures reads { (c : ℕ) (rest : Text) → all_scalars (c ∷ []) ≡ true → double.needs_escape true c ≡ true
+        → text.now ≡ encode_utf8_all (double.escape_after_backslash (double.letter_among double.short_escapes c) c ++ rest)
+        → MatchOption result ⊥ (λ found. (found.0 ≡ c) × (found.1.now ≡ encode_utf8_all rest)) }
+    ensures sound { IfSome result (λ found. IsEscape text.now found.0 found.1.now) }
+    ensures shorter { IfSome result (λ found. length found.1.now ≤ length text.now) }
+{
+    let mut characters = text.chars();
+    let letter = characters.next()?;
+    if letter == 'x' {
+        read_short_number(characters.as_str())
+    } else if letter == 'u' {
+        read_long_number(characters.as_str())
+    } else {
+        read_letter(letter, characters.as_str())
+    }
+}
+
+/// A character between quotes, as itself or as its escape, and what follows.
+fn read_character(text: &str) -> Option<(char, &str)>
+    ensures reads { ReadsCharacter text.now result }
+    ensures sound { IfSome result (λ found. IsCharacter text.now found.0 found.1.now) }
+    ensures shorter { IfSome result (λ found. length found.1.now < length text.now) }
+{
+    let mut characters = text.chars();
+    let c = characters.next()?;
+    if c == '\\' {
+        read_escape(characters.as_str())
+    } else if needs_escape(c) {
+        None
+    } else {
+        Some((c, characters.as_str()))
+    }
+}
+
+/// A text from its opening quote on, and what follows its closing quote.
+pub(crate) fn read_quoted<A: Allocator>(alloc: A, text: &str) -> Result<(String<A>, &str), Stop>
+    ensures reads { (value rest : Text) → all_scalars value ≡ true → text.now ≡ encode_utf8_all (in_quotes value ++ rest)
+        → OrMemory (λ found. (seen_text found.0 ≡ value) × (found.1.now ≡ encode_utf8_all rest)) result }
+    ensures sound { IfOk result (λ found. text.now ≡ encode_utf8_all (in_quotes (seen_text found.0)) ++ found.1.now) }
+    ensures shorter { IfOk result (λ found. length found.1.now < length text.now) }
+{
+    let mut value = String::new(alloc);
+    let mut rest = after(text, "\"")?;
+    'characters: loop {
+        match past(rest, "\"") {
+            Some(end) => return Ok((value, end)),
+            None => {}
+        }
+        let (c, next) = match read_character(rest) {
+            Some(found) => found,
+            None => return Err(refused_at(rest)),
+        };
+        value.push(c)?;
+        rest = next;
+    }
+}

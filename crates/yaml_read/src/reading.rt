@@ -1,0 +1,128 @@
+//! Canonical YAML read as a value.
+ghost use Rattle.std.specs.Prelude.{◌≡◌, ◌≢◌, ◌<◌, ◌≤◌, ◌⊎◌, List, ℕ, IfErr, IfOk, OnErr, OnOk, Some, length};
+ghost use Rattle.std.specs.Str.{encode_utf8_all};
+ghost use Rattle.yaml_base.specs.Encoding.{encode};
+ghost use Rattle.yaml_base.specs.Settings.{utf8};
+ghost use Rattle.yaml_base.specs.values.TypedValues.{TypedValue, WritesValue, most_nested};
+ghost use Rattle.yaml_base.specs.values.ValueText.{document_text};
+ghost use Rattle.yaml_read.specs.Errors.{Tells};
+ghost use Rattle.yaml_read.specs.Opened.{IsOpen, NextRead};
+ghost use Rattle.yaml_read.specs.Readable.{CanBeRead, CanBeReadAt};
+ghost use Rattle.yaml_read.specs.Remaining.{IsDue, Reached, is_nested, seen_levels};
+ghost use Rattle.yaml_read.specs.Shorter.{NextShorter};
+ghost use Rattle.yaml_read.specs.Words.{OrMemory};
+ghost use Rattle.yaml_value.specs.SeenValues.{seen_value};
+
+use crate::cuts::after;
+use crate::errors::{ReadError, Stop};
+use crate::heads::{Head, read_head};
+use crate::levels::{Level, Next, enter_list, enter_map, settle};
+use crate::places::line_and_column;
+use std::alloc::Allocator;
+use yaml_value::Value;
+
+/// The maximum nesting depth of lists and maps.
+const MOST_NESTED: usize = 1_000;
+
+fn is_collection<A: Allocator>(value: &Value<A>) -> bool
+    ensures { result ≡ is_nested (seen_value value.now) }
+{
+    matches!(value, Value::List(_) | Value::Map(_))
+}
+
+/// Whether one more list or map may lie within the open ones; it begins here.
+fn check_room<A: Allocator>(levels: &Vec<Level<A>, A>, text: &str) -> Result<(), Stop>
+    ensures full { OnErr result (most_nested ≤ length levels.now.items) }
+    ensures room { OnOk result (length levels.now.items < most_nested) }
+{
+    if levels.len() >= MOST_NESTED {
+        Err(Stop::TooDeep(text.len()))
+    } else {
+        Ok(())
+    }
+}
+
+/// Reads the next node, from its tag on.
+fn step<'a, A: Allocator + Copy>(
+    alloc: A,
+    levels: &mut Vec<Level<A>, A>,
+    text: &'a str,
+) -> Result<Next<'a, A>, Stop>
+    ensures reached { (root : TypedValue) → IsDue root (seen_levels levels.old.items) text.now → Reached root (seen_levels levels.new.items) result }
+    ensures read { (whole : List ℕ) → IsOpen whole (seen_levels levels.old.items) text.now → IfOk result (NextRead whole (seen_levels levels.new.items)) }
+    ensures shorter { IfOk result (NextShorter text.now) }
+{
+    let (head, rest) = read_head(alloc, text)?;
+    match head {
+        Head::Whole(value) => {
+            if is_collection(&value) {
+                check_room(levels, text)?;
+            }
+            settle(levels, value, rest)
+        }
+        Head::Items => {
+            check_room(levels, text)?;
+            let next = enter_list(alloc, levels, rest)?;
+            Ok(Next::Node(next))
+        }
+        Head::Pairs => {
+            check_room(levels, text)?;
+            let next = enter_map(alloc, levels, rest)?;
+            Ok(Next::Node(next))
+        }
+    }
+}
+
+/// A document's text read as its value.
+fn read_text<A: Allocator + Copy>(alloc: A, text: &str) -> Result<Value<A>, Stop>
+    ensures reads { (value : TypedValue) → CanBeRead value → text.now ≡ encode_utf8_all (document_text value)
+        → OrMemory (λ found. seen_value found ≡ value) result }
+    ensures sound { IfOk result (λ value. (text.now ≡ encode_utf8_all (document_text (seen_value value))) × CanBeReadAt 0 (seen_value value)) }
+{
+    let mut rest = after(text, "---\n")?;
+    let mut levels = Vec::new(alloc);
+    'nodes: loop {
+        let next = step(alloc, &mut levels, rest)?;
+        match next {
+            Next::Done(value) => return Ok(value),
+            Next::Node(next) => rest = next,
+        }
+    }
+}
+
+fn not_canonical(bytes: &[u8], offset: usize) -> ReadError {
+    let (line, column) = line_and_column(bytes, offset);
+    ReadError::NotCanonical { line, column }
+}
+
+fn error_of(bytes: &[u8], stop: Stop) -> ReadError
+    ensures { Tells stop result }
+{
+    match stop {
+        Stop::Refused(left) => not_canonical(bytes, bytes.len().saturating_sub(left)),
+        Stop::TooDeep(left) => {
+            let (line, column) = line_and_column(bytes, bytes.len().saturating_sub(left));
+            ReadError::TooDeep { line, column }
+        }
+        Stop::Memory => ReadError::Memory,
+    }
+}
+
+/// The value of these canonical bytes. They are exactly those that `write_canonical` writes of it; nothing else is accepted.
+///
+/// # Errors
+/// `NotCanonical` where the bytes are no value's, `TooDeep` where more than 1,000 lists and maps lie within one another: both
+/// with the line and the column. `Memory` where an allocation fails.
+pub fn read_canonical<A: Allocator + Copy>(alloc: A, bytes: &[u8]) -> Result<Value<A>, ReadError>
+    ensures read { IfOk result (λ value. WritesValue (seen_value value) bytes.now) }
+    ensures complete { IfErr result (λ error. (error ≡ ReadError.Memory)
+        ⊎ ((value : TypedValue) → CanBeRead value → encode (Some utf8) (document_text value) ≢ bytes.now)) }
+{
+    match std::str::from_utf8(bytes) {
+        Ok(text) => match read_text(alloc, text) {
+            Ok(value) => Ok(value),
+            Err(stop) => Err(error_of(bytes, stop)),
+        },
+        Err(error) => Err(not_canonical(bytes, error.valid_up_to())),
+    }
+}

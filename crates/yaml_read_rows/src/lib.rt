@@ -1,0 +1,5 @@
+//! Tests of typed values that are read back. There is nothing else here.
+#![tactic(auto)]
+
+#[cfg(test)]
+mod tests;

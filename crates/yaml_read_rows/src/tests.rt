@@ -1,0 +1,42 @@
+//! Canonical bytes read as typed values.
+mod callers;
+mod calling;
+mod depths;
+mod places;
+mod random;
+mod refused;
+mod spoiled;
+mod taken;
+
+use std::alloc::{Allocator, Global};
+use std::fmt::Debug;
+use std::process::Abort;
+use yaml_read::{ReadError, Value, read_canonical};
+use yaml_value::{write_canonical, yaml_error_t};
+
+/// The two are equal. (A comparison in a function of its own is proved once.)
+fn equal<T: PartialEq + Debug>(rt: &impl Abort, got: &T, wanted: &T) {
+    assert_eq!(rt; *got, *wanted);
+}
+
+/// The canonical bytes of a value. (Tests need none of the clauses of the call.)
+fn written<A: Allocator + Copy>(alloc: A, value: &Value<A>) -> Result<Vec<u8, A>, yaml_error_t> {
+    write_canonical(alloc, value)
+}
+
+/// The value that has these canonical bytes. (The same.)
+fn read<A: Allocator + Copy>(alloc: A, bytes: &[u8]) -> Result<Value<A>, ReadError> {
+    read_canonical(alloc, bytes)
+}
+
+/// Reads a value and writes it again, which gives the same bytes; or returns why it isn't read.
+fn read_and_written(rt: &impl Abort, alloc: Global, bytes: &[u8]) -> Option<ReadError> {
+    match read(alloc, bytes) {
+        Ok(value) => {
+            let again = written(alloc, &value).expect(rt, "not written");
+            equal(rt, &again.as_slice(), &bytes);
+            None
+        }
+        Err(error) => Some(error),
+    }
+}

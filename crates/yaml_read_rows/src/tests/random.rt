@@ -1,0 +1,167 @@
+//! Random values, written and read back.
+use super::{equal, read, written};
+use std::alloc::Global;
+use std::process::Abort;
+use yaml_read::Value;
+
+/// Numbers that follow from a seed (a linear congruence, of which the high bits are used).
+#[derive(Drop)]
+struct Random {
+    state: u64,
+}
+
+impl Random {
+    fn next(&mut self) -> u64 {
+        self.state = self
+            .state
+            .wrapping_mul(6_364_136_223_846_793_005)
+            .wrapping_add(1_442_695_040_888_963_407);
+        self.state >> 16
+    }
+
+    /// A number below a bound, which isn't 0.
+    fn below(&mut self, bound: u64) -> u64 {
+        self.next().checked_rem(bound).unwrap_or(0)
+    }
+
+    /// The same of an index.
+    fn small(&mut self, bound: usize) -> usize {
+        let bound = u64::try_from(bound).unwrap_or(1);
+        usize::try_from(self.below(bound)).unwrap_or(0)
+    }
+}
+
+/// Characters that are written in ways of their own.
+const CHARACTERS: &[char] = &[
+    'a',
+    ' ',
+    '"',
+    '\\',
+    '\n',
+    '\r',
+    '\t',
+    '\0',
+    '\u{1}',
+    '\u{7}',
+    '\u{1B}',
+    '\u{7F}',
+    '\u{85}',
+    '\u{9F}',
+    '\u{A0}',
+    'é',
+    '\u{2028}',
+    '\u{2029}',
+    '\u{D7FF}',
+    '\u{E000}',
+    '\u{FEFF}',
+    '\u{FFFD}',
+    '\u{FFFE}',
+    '\u{FFFF}',
+    '\u{10000}',
+    '\u{10FFFF}',
+];
+
+/// One of the characters, or any other.
+fn random_character(random: &mut Random) -> char {
+    if random.below(3) > 0 {
+        return CHARACTERS
+            .iter()
+            .nth(random.small(CHARACTERS.len()))
+            .copied()
+            .unwrap_or('a');
+    }
+    char::from_u32(u32::try_from(random.below(0x11_0000)).unwrap_or(0)).unwrap_or(' ')
+}
+
+fn random_text(rt: &impl Abort, alloc: Global, random: &mut Random) -> String {
+    let mut text = String::new(alloc);
+    for _ in 0..random.below(6) {
+        text.push(random_character(random)).expect(rt, "no memory");
+    }
+    text
+}
+
+/// A number of any size, and of either sign.
+fn random_integer(random: &mut Random) -> i64 {
+    let bits = random.next().wrapping_mul(random.next()) >> 1u32;
+    let shift = u32::try_from(random.below(63)).unwrap_or(0);
+    let number = i64::try_from(bits.wrapping_shr(shift)).unwrap_or(0);
+    match random.below(2) {
+        0 => number,
+        _ => number.wrapping_neg(),
+    }
+}
+
+fn random_scalar(rt: &impl Abort, alloc: Global, random: &mut Random) -> Value<Global> {
+    match random.below(6) {
+        0 => Value::Null,
+        1 => Value::Bool(random.below(2) == 0),
+        2 | 3 => Value::Int(random_integer(random)),
+        _ => Value::Text(random_text(rt, alloc, random)),
+    }
+}
+
+/// A list of the last values, at most so many.
+fn take_items(
+    rt: &impl Abort,
+    alloc: Global,
+    values: &mut Vec<Value<Global>>,
+    count: u64,
+) -> Value<Global> {
+    let mut items = Vec::new(alloc);
+    for _ in 0..count {
+        if let Some(value) = values.pop() {
+            items.push(value).expect(rt, "no memory");
+        }
+    }
+    Value::List(items)
+}
+
+/// A map of the last values, at most so many pairs.
+fn take_pairs(
+    rt: &impl Abort,
+    alloc: Global,
+    values: &mut Vec<Value<Global>>,
+    count: u64,
+) -> Value<Global> {
+    let mut pairs = Vec::new(alloc);
+    for _ in 0..count {
+        let key = values.pop().unwrap_or(Value::Null);
+        let value = values.pop().unwrap_or(Value::Null);
+        pairs.push((key, value)).expect(rt, "no memory");
+    }
+    Value::Map(pairs)
+}
+
+/// A value of so many parts: each is a scalar, or a list or a map of some before it.
+fn random_value(rt: &impl Abort, alloc: Global, random: &mut Random, parts: u64) -> Value<Global> {
+    let mut values = Vec::new(alloc);
+    for _ in 0..parts {
+        let count = random.below(5);
+        let value = match random.below(4) {
+            0 => take_items(rt, alloc, &mut values, count),
+            1 => take_pairs(rt, alloc, &mut values, count),
+            _ => random_scalar(rt, alloc, random),
+        };
+        values.push(value).expect(rt, "no memory");
+    }
+    values.pop().unwrap_or(Value::Null)
+}
+
+/// What is written of a value is read, and the value that is read is written as the same bytes.
+fn check_value(rt: &impl Abort, alloc: Global, value: &Value<Global>) {
+    let bytes = written(alloc, value).expect(rt, "not written");
+    let back = read(alloc, bytes.as_slice()).expect(rt, "not read");
+    let again = written(alloc, &back).expect(rt, "not written");
+    equal(rt, &again.as_slice(), &bytes.as_slice());
+}
+
+#[test]
+fn random_values_are_read_back(rt: HostRuntime) {
+    let mut random = Random { state: 56 };
+    for _ in 0..1_000 {
+        let parts = random.below(30).saturating_add(1);
+        let value = random_value(&rt, rt.alloc(), &mut random, parts);
+        check_value(&rt, rt.alloc(), &value);
+    }
+}

@@ -1,0 +1,40 @@
+//! Values read where memory is refused.
+use super::taken::TAKEN;
+use super::{equal, read};
+use std::alloc::Global;
+use std::process::Abort;
+use yaml_read::ReadError;
+use yaml_test_allocator::Refusing;
+
+/// Reads with this growth refused, and returns whether there is one: then `Memory` is returned, and else a value.
+fn is_reported(rt: &impl Abort, heap: &Refusing<Global>, bytes: &[u8], number: usize) -> bool {
+    heap.refuse(number);
+    let answer = read(heap, bytes).err();
+    let is_met = heap.left() == 0;
+    heap.refuse(0);
+    let wanted = if is_met {
+        Some(ReadError::Memory)
+    } else {
+        None
+    };
+    equal(rt, &answer, &wanted);
+    is_met
+}
+
+/// Each growth is refused in turn, and after each the bytes are read.
+fn check_row(rt: &impl Abort, heap: &Refusing<Global>, bytes: &[u8]) {
+    for number in 1..usize::MAX {
+        if !is_reported(rt, heap, bytes, number) {
+            break;
+        }
+        equal(rt, &read(heap, bytes).err(), &None);
+    }
+}
+
+#[test]
+fn a_refused_growth_is_reported(rt: HostRuntime) {
+    let heap = Refusing::new(rt.alloc());
+    for (text, _) in TAKEN {
+        check_row(&rt, &heap, text.as_bytes());
+    }
+}

@@ -1,0 +1,15 @@
+use Rattle.yaml_serde.proofs.Common.{Option, List, [], ℕ, subst, sym, Appends}
+use Rattle.yaml_serde.proofs.Giving.{stands_new}
+use Rattle.yaml_serde.specs.declared.outlet.Handing.TheVariants.{Kept}
+use Rattle.yaml_serde.proofs.document.Document.kept.Goals as goal
+
+pub invariant_of-result : goal.invariant_of-result
+invariant_of-result g c =
+    let now = g.W.Write.contents c.args.nowhere.now in
+    record {
+      stands =
+          stands_new g.W.Write.contents g.G.Given.held g.G.Given.name g.G.Given.keeps g.G.Given.start
+          (record { sink = c.args.nowhere; handing = Kept }) c.depth-base.result c.args.writer c.requires.start
+          (subst (λ (held : Option (List ℕ)). Appends held now []) (sym c.requires.held) tt) (sym c.requires.keeps)
+          (λ sent. cc) c.depth-base.ensures;
+    }

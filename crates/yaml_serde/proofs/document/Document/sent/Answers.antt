@@ -1,0 +1,16 @@
+use Rattle.yaml_serde.proofs.Common.{Option, List, [], ℕ, subst, sym, Appends}
+use Rattle.yaml_serde.proofs.Giving.{stands_new}
+use Rattle.std.proofs.KnownBytes.{Appends-nil}
+use Rattle.yaml_serde.specs.declared.outlet.Handing.TheVariants.{Open}
+use Rattle.yaml_serde.proofs.document.Document.sent.Goals as goal
+
+pub invariant_of-result : goal.invariant_of-result
+invariant_of-result g c =
+    let now = g.W.Write.contents c.args.sink.now in
+    record {
+      stands =
+          stands_new g.W.Write.contents g.G.Given.held g.G.Given.name g.G.Given.keeps g.G.Given.start
+          (record { sink = c.args.sink; handing = Open }) c.depth-base.result c.args.writer c.requires.start
+          (subst (λ (held : Option (List ℕ)). Appends held now []) (sym c.requires.held) (Appends-nil now)) (sym c.requires.keeps)
+          (λ sent. sym c.requires.name) c.depth-base.ensures;
+    }

@@ -1,0 +1,152 @@
+-- What a call of a writer says to the walk.
+use Rattle.yaml_json.proofs.Common.{◌≡◌, ◌⊎◌, ◌∷◌, ◌++◌, [], List, Bool, Option, None, Some, Result, Ok, Err, IfErr, OnOk, inl, inr, refl, ap, subst, sym, ◌∙◌, append-nil, append_assoc}
+use Rattle.yaml_json.proofs.Common.{Event, State, WriterState, GaveEvent, Wrote, WroteEvent, IsBare, start_event, end_event, with_collection, EndsInnermost}
+use Rattle.yaml_json.proofs.WroteLemmas.{adds_then, ended, none_more, starts_with}
+use Rattle.yaml_pen.{proofs.Composing.grows_itself, proofs.Composing.grows_then, proofs.Writing.none_from_result, specs.Wrote.Grows}
+use Rattle.yaml_emitter.proofs.Common.{some_from_result}
+use Rattle.yaml_base.specs.declared.errors.{yaml_error_t.yaml_error_t, yaml_error_t.TheVariants.Memory}
+use Rattle.yaml_emitter.specs.declared.place.CollectionKind.{CollectionKind}
+use Rattle.yaml_json.specs.Failing.{HasErrorSaid, StaysSound}
+use Rattle.yaml_json.proofs.Common.{ap₂, Text, scalar, plain, is_none, is_some, ◌||◌}
+use Rattle.yaml_writer.specs.Times.{Moment, timestamp_text}
+use Rattle.yaml_writer.specs.Writing.{tag_or_default, timestamp_event, timestamp_tag}
+use Rattle.yaml_toml.specs.Events.{moment_content}
+use Rattle.yaml_toml.specs.Walk.{Answers, SoundAfter, Kept, SoundAfterStop, stop_error, IsStopOf, IsMemory, Moved, HasInnermost}
+use Rattle.yaml_toml.specs.declared.walk.Stop.{Stop}
+use Rattle.yaml_toml.specs.declared.walk.Stop.TheVariants as stop
+
+-- nothing changed
+unchanged : (before : WriterState) → HasErrorSaid before (Some Memory) before
+unchanged before = inl (refl, λ none. none)
+
+-- a call that gives an event
+module _ (before after first : WriterState) (same : first.emitter ≡ before.emitter) (event : Event) where
+  pub answers_event : (answer : Result (Unit {0}) yaml_error_t) → OnOk answer (GaveEvent first event None after)
+      → IfErr answer (λ error. GaveEvent first event (Some error) after ⊎ ((error ≡ Memory) × (after ≡ before))) → Answers before answer after
+  answers_event (Ok done) gave failed =
+      record { grows = subst (λ (s : State). Grows s.page after.emitter.page) same gave.grows; sound = gave.error_is }
+  answers_event (Err error) gave (inl given) =
+      record { grows = subst (λ (s : State). Grows s.page after.emitter.page) same given.grows; sound = inr given.error_is }
+  answers_event (Err error) gave (inr memory) =
+      subst (λ (now : WriterState). Answers before (Err error) now) (sym memory.1)
+      (record { grows = grows_itself before.emitter.page; sound = inl (memory.0, λ none. none) })
+
+-- a call that ends a collection, which is open
+pub answers_end : (before after : WriterState) (answer : Result (Unit {0}) yaml_error_t) (outer : List CollectionKind) (kind : CollectionKind)
+    → before.levels ≡ outer ++ kind ∷ [] → EndsInnermost before answer after → Answers before answer after
+answers_end before after answer outer kind levels (inl none) = absurd (none_more outer kind (sym levels ∙ none.0))
+answers_end before after (Ok done) outer kind levels (inr end) = record { grows = end.grows; sound = none_from_result after.emitter.error end.answered }
+answers_end before after (Err error) outer kind levels (inr end) =
+    record { grows = end.grows; sound = inr (some_from_result after.emitter.error error end.answered) }
+
+-- ---- stops
+
+pub kept_of : (before after : WriterState) (answer : Result (Unit {0}) yaml_error_t) (result : Result (Unit {0}) Stop) → IsStopOf answer result
+    → Answers before answer after → Kept before result after
+kept_of before after (Ok done) (Ok same) is answers = record { grows = answers.grows; sound = λ none. answers.sound }
+kept_of before after (Ok done) (Err stopped) is answers = absurd is
+kept_of before after (Err error) (Ok done) is answers = absurd is
+kept_of before after (Err error) (Err stopped) is answers =
+    record { grows = answers.grows; sound = subst (λ (s : Stop). HasErrorSaid before (stop_error s) after) (sym is) answers.sound }
+
+pub ok_of : (P : Type 0) (answer : Result (Unit {0}) yaml_error_t) (result : Result (Unit {0}) Stop) → IsStopOf answer result → OnOk answer P → OnOk result P
+ok_of P (Ok done) (Ok same) is held = held
+ok_of P (Ok done) (Err stopped) is held = absurd is
+ok_of P (Err error) (Ok done) is held = absurd is
+ok_of P (Err error) (Err stopped) is held = tt
+
+-- nothing was given
+pub kept_memory : (before : WriterState) (stopped : Stop) → IsMemory stopped → Kept before (Err stopped) before
+kept_memory before stopped is =
+    record { grows = grows_itself before.emitter.page; sound = subst (λ (s : Stop). HasErrorSaid before (stop_error s) before) (sym is) (unchanged before) }
+
+pub kept_deep : (before : WriterState) → Kept before (Err stop.TooDeep) before
+kept_deep before = record { grows = grows_itself before.emitter.page; sound = λ none. none }
+
+-- a success, and then another call
+pub kept_then : (before between after : WriterState) (result : Result (Unit {0}) Stop) → Kept before (Ok tt) between → Kept between result after
+    → Kept before result after
+kept_then before between after result one other =
+    record { grows = grows_then {between = between.emitter.page} one.grows other.grows; sound = sound_then result other.sound }
+  where
+    said : (found : Option yaml_error_t) → HasErrorSaid between found after → HasErrorSaid before found after
+    said None stays = λ none. stays (one.sound none)
+    said (Some error) (inl memory) = inl (memory.0, λ none. memory.1 (one.sound none))
+    said (Some error) (inr has) = inr has
+
+    sound_then : (result : Result (Unit {0}) Stop) → SoundAfterStop between result after → SoundAfterStop before result after
+    sound_then (Ok done) stays = λ none. stays (one.sound none)
+    sound_then (Err stopped) sound = said (stop_error stopped) sound
+
+-- ---- moves
+
+-- an event that leaves what is open
+pub moved_event : (before after : WriterState) (event : Event) (kinds : List CollectionKind) → WroteEvent before event after
+    → Moved before (event ∷ []) kinds kinds after
+moved_event before after event kinds wrote =
+    record { adds = wrote.adds; canonical = wrote.canonical; levels = λ outer is. wrote.levels ∙ is; bare = wrote.bare }
+
+-- the start of a collection
+pub moved_start : (before after : WriterState) (event same : Event) (kind : CollectionKind) → event ≡ same
+    → GaveEvent (with_collection before kind) event None after → Moved before (same ∷ []) [] (kind ∷ []) after
+moved_start before after event same kind is gave = subst (λ (e : Event). Moved before (e ∷ []) [] (kind ∷ []) after) is (record {
+  adds = gave.adds;
+  canonical = gave.canonical;
+  levels = λ outer levels. gave.levels ∙ ap (λ (ks : List CollectionKind). ks ++ kind ∷ []) (levels ∙ append-nil outer);
+  bare = (gave.no_anchor, gave.no_tag);
+})
+
+-- the end of one
+pub moved_end : (before after : WriterState) (outer : List CollectionKind) (kind : CollectionKind) → before.levels ≡ outer ++ kind ∷ [] → IsBare before
+    → EndsInnermost before (Ok tt) after → Moved before (end_event kind ∷ []) (kind ∷ []) [] after
+moved_end before after outer kind levels bare ends =
+    let all = ended outer kind before after levels bare ends in
+    record {
+      adds = all.0;
+      canonical = all.1;
+      levels = λ others is. (ended others kind before after is bare ends).2 ∙ sym (append-nil others);
+      bare = all.3;
+    }
+
+-- within others that are open
+pub moved_within : (before after : WriterState) (events : List Event) (opened these those : List CollectionKind) → Moved before events these those after
+    → Moved before events (opened ++ these) (opened ++ those) after
+moved_within before after events opened these those moved =
+    record {
+      adds = moved.adds;
+      canonical = moved.canonical;
+      levels = λ outer is. moved.levels (outer ++ opened) (is ∙ sym (append_assoc outer opened these)) ∙ append_assoc outer opened those;
+      bare = moved.bare;
+    }
+
+pub moved_then : (before between after : WriterState) (first second : List Event) (these middle those : List CollectionKind)
+    → Moved before first these middle between → Moved between second middle those after → Moved before (first ++ second) these those after
+moved_then before between after first second these middle those one other =
+    record {
+      adds = adds_then before.emitter between.emitter after.emitter first second one.adds other.adds;
+      canonical = other.canonical ∙ one.canonical;
+      levels = λ outer is. other.levels outer (one.levels outer is);
+      bare = other.bare;
+    }
+
+pub on_end : (before after : WriterState) (answer : Result (Unit {0}) yaml_error_t) (outer : List CollectionKind) (kind : CollectionKind)
+    → before.levels ≡ outer ++ kind ∷ [] → IsBare before → EndsInnermost before answer after
+    → OnOk answer (Moved before (end_event kind ∷ []) (kind ∷ []) [] after)
+on_end before after (Ok done) outer kind levels bare ends = moved_end before after outer kind levels bare ends
+on_end before after (Err error) outer kind levels bare ends = tt
+
+-- ---- timestamps
+
+abbrev timestamp_by : Bool → Text → Option Text → Option Text → Event
+timestamp_by tagged text anchor tag =
+    let own = tag_or_default tag tagged timestamp_tag in
+    scalar (record { anchor = anchor; tag = own; value = text; plain_implicit = is_none own; quoted_implicit = is_none own; style = plain })
+
+pub timestamp_is : (writer : WriterState) (moment : Moment) → IsBare writer → timestamp_event writer moment ≡ scalar (moment_content writer.canonical moment)
+timestamp_is writer moment bare =
+    ap₂ (λ (anchor tag : Option Text). timestamp_by (writer.canonical || is_some moment.time) (timestamp_text moment) anchor tag) bare.0 bare.1
+
+-- two clauses of one answer
+pub on_both : {A E : Type 0} (P Q : Type 0) (answer : Result A E) → OnOk answer P → OnOk answer Q → OnOk answer (P × Q)
+on_both P Q (Ok value) one other = (one, other)
+on_both P Q (Err error) one other = tt

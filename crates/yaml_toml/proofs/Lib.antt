@@ -1,0 +1,10 @@
+pub mod Answering
+pub mod Pending
+pub mod TomlTrees
+pub mod Moments
+pub mod Integers
+pub mod TomlMeanings
+pub mod YamlOf
+pub mod Running
+pub mod Views
+pub mod Refusing

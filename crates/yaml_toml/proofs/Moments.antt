@@ -1,0 +1,158 @@
+-- The moments of dates of TOML, and dates by the core schema.
+use Rattle.yaml_json.proofs.Common.{ℕ, ◌<◌, ◌==◌, Option, None, Some, codes, length, Bool, false, not, true, ◌&&◌, ◌||◌, List, [], ◌++◌, ◌∷◌, refl, ◌≡◌, arith, ap, ap₂, sym, ◌∙◌, subst}
+use Rattle.yaml_json.proofs.Common.{and_parts, and_from, false≢true, cond, list_all, option_and_then, Text, are_digits, resolved_by_core, if◌then◌else◌}
+use Rattle.yaml_base.proofs.Common.{is_decimal, is_point, is_exponent_letter, past_sign, is_negative, first_reading, core_integer, core_based, core_mantissa, core_decimal, Resolved, meant_text, slice_split}
+use Rattle.yaml_base.proofs.Common.{decimal_of_digits, scientific, exponent_read, or_from, nat_tests}
+use Rattle.yaml_base.proofs.NumberCuts.{digit_unlike, no_word_of_core}
+use Rattle.yaml_base.specs.Words.{named}
+use Rattle.yaml_base.specs.values.Resolved.{words_of_core, some_if}
+use Rattle.std.proofs.lemmas.List.{Splits.slice_split_none, Sums.AllPass-from_list_all}
+use Rattle.std.specs.List.{All}
+use Rattle.std.proofs.Common.{get_or}
+use Rattle.std.specs.Prelude.{◌+◌, ◌/◌, ◌%◌, nat_lt, nat_le, ℤ, pos, negsuc, unwrap_or, option_map}
+use Rattle.yaml_writer.specs.Dates.{CalendarDate, calendar_date, date_text, is_calendar_date, two_digits}
+use Rattle.yaml_writer.specs.Times.{ClockOffset, ClockTime, Moment, clock_time, is_clock_offset, is_clock_reading, is_clock_time, is_zone_offset, is_moment, is_time_or_none}
+use Rattle.yaml_writer.proofs.DateLemmas.{DateSays, date_says, date_passes, behind_first, first_digit}
+use Rattle.toml_datetime.specs.Valid.{magnitude}
+use Rattle.toml_datetime.specs.declared.datetime.{Date.Date, Time.Time, Offset.Offset, Datetime.Datetime}
+use Rattle.toml_datetime.specs.declared.datetime.Offset.TheVariants.{Z, Custom}
+use Rattle.yaml_toml.specs.Dates.{date_of, is_west, offset_of, time_by, time_of, moment_by, moment_of}
+
+-- ---- dates by the core schema
+
+-- a hyphen is no digit
+no_digits : (a b c d : ℕ) (rest : Text) → list_all is_decimal (a ∷ b ∷ c ∷ d ∷ 0x2D ∷ rest) ≡ false
+no_digits a b c d rest = by (is_decimal a) (is_decimal b) (is_decimal c) (is_decimal d)
+  where
+    by : (w x y z : Bool) → (w && (x && (y && (z && false)))) ≡ false
+    by true true true true = refl
+    by true true true false = refl
+    by true true false z = refl
+    by true false y z = refl
+    by false x y z = refl
+
+no_number : (date : CalendarDate) → list_all is_decimal (date_text date) ≡ false
+no_number date =
+    no_digits (0x30 + date.year / 1000 % 10) (0x30 + date.year / 100 % 10) (0x30 + date.year / 10 % 10) (0x30 + date.year % 10)
+    (two_digits date.month ++ codes "-" ++ two_digits date.day)
+
+-- whatever stands for the first character
+not_based : (x y : Bool) (meant : Resolved) → some_if ((x && false) && y) meant ≡ None
+not_based true y meant = refl
+not_based false y meant = refl
+
+none_of : (sign : ℕ → Bool) (text : Text) → list_all (λ c. not (sign c)) text ≡ true → All (λ c. sign c ≡ false) text
+none_of sign text h k d within = not_true (sign (get_or text k d)) (AllPass-from_list_all (λ c. not (sign c)) text h k d within)
+  where
+    not_true : (x : Bool) → not x ≡ true → x ≡ false
+    not_true true e = absurd (false≢true e)
+    not_true false e = refl
+
+free : (sign : ℕ → Bool) → ((c : ℕ) → is_decimal c ≡ true → sign c ≡ false) → sign 0x2D ≡ false → (date : CalendarDate) → DateSays date
+    → slice_split sign (date_text date) ≡ date_text date ∷ []
+free sign other hyphen date parts =
+    slice_split_none sign (date_text date)
+    (none_of sign (date_text date) (date_passes (λ c. not (sign c)) (λ c digit. ap not (other c digit)) (ap not hyphen) date parts))
+
+digit_no_sign : (c : ℕ) → is_decimal c ≡ true → ((c == 0x2B) || (c == 0x2D)) ≡ false
+digit_no_sign c digit = or_from (c == 0x2B) (c == 0x2D) (digit_unlike c 0x2B refl digit) (digit_unlike c 0x2D refl digit)
+
+all_none : (a b c d e : Option Resolved) → a ≡ None → b ≡ None → c ≡ None → d ≡ None → e ≡ None → first_reading (a ∷ b ∷ c ∷ d ∷ e ∷ []) ≡ meant_text
+all_none a b c d e one two three four five = rw (one, two, three, four, five)
+
+module _ (date : CalendarDate) (valid : is_calendar_date date ≡ true) where
+  parts : DateSays date
+  parts = date_says date valid
+
+  unsigned : past_sign (date_text date) ≡ date_text date
+  unsigned = ap (λ x. if x then behind_first date else date_text date) (digit_no_sign (0x30 + date.year / 1000 % 10) (first_digit date parts))
+
+  second_digit : is_decimal (0x30 + date.year / 100 % 10) ≡ true
+  second_digit = (and_parts (is_decimal (0x30 + date.year / 100 % 10)) _ (and_parts (is_decimal (0x30 + date.year / 1000 % 10)) _ parts.year.decimal).1).0
+
+  no_digits_at_all : are_digits 10 (date_text date) ≡ false
+  no_digits_at_all = no_number date
+
+  integer_none : core_integer (date_text date) ≡ None
+  integer_none = rw (unsigned, no_digits_at_all)
+
+  based_none : (letter base : ℕ) → is_decimal letter ≡ false → core_based letter base (date_text date) ≡ None
+  based_none letter base other =
+      rw (digit_unlike (0x30 + date.year / 100 % 10) letter other second_digit) (not_based _ _ _)
+
+  decimal_none : core_decimal (date_text date) ≡ None
+  decimal_none =
+      rw (
+        unsigned,
+        free is_exponent_letter (λ c digit. or_from (c == 0x65) (c == 0x45) (digit_unlike c 0x65 refl digit) (digit_unlike c 0x45 refl digit)) refl date parts,
+        free is_point (λ c digit. digit_unlike c 0x2E refl digit) refl date parts,
+        no_digits_at_all,
+      )
+
+  pub core_date : resolved_by_core (date_text date) ≡ meant_text
+  core_date =
+      all_none _ _ _ _ _ (no_word_of_core false (0x30 + date.year / 1000 % 10) (behind_first date) (first_digit date parts)) integer_none
+      (based_none 0x6F 8 refl) (based_none 0x78 16 refl) decimal_none
+
+-- ---- moments
+
+some_is : {A : Type 0} (x : A) (y : A) → Some x ≡ Some y → x ≡ y
+some_is x y e = ap (λ o. unwrap_or o x) e
+
+no_some : {A : Type 0} {x : A} → None ≡ Some x → ⊥
+no_some e = cc
+
+kept : {A : Type 0} (b : Bool) (x y : A) → cond b (Some x) None ≡ Some y → (b ≡ true) × (x ≡ y)
+kept true x y e = (refl, some_is x y e)
+kept false x y e = absurd (no_some e)
+
+valid_offset : (minutes : ℤ) (offset : ClockOffset) → offset_of minutes ≡ Some offset → is_zone_offset (Some offset) ≡ true
+valid_offset minutes offset e =
+    let both = kept (nat_lt (magnitude minutes) 1440) (record { west = is_west minutes; hours = magnitude minutes / 60; minutes = magnitude minutes % 60 }) offset e in
+    let small = both.0 in
+    subst (λ (o : ClockOffset). is_zone_offset (Some o) ≡ true) both.1
+    (and_from (nat_le (magnitude minutes / 60) 23) (nat_le (magnitude minutes % 60) 59) (grind (arith, nat_tests, small)) (grind (arith, nat_tests)))
+
+valid_time_by : (time : Time) (offset : Option ClockOffset) (clock : ClockTime) → is_zone_offset offset ≡ true → time_by time offset ≡ Some clock
+    → is_clock_time clock ≡ true
+valid_time_by time offset clock zone e =
+    let second = unwrap_or time.second 0 in
+    let nanosecond = unwrap_or time.nanosecond 0 in
+    let both = kept (is_clock_reading time.hour time.minute second nanosecond) (clock_time time.hour time.minute second nanosecond offset) clock e in
+    subst (λ (t : ClockTime). is_clock_time t ≡ true) both.1
+    (and_from (is_clock_reading time.hour time.minute second nanosecond) (is_zone_offset offset) both.0 zone)
+
+valid_time : (time : Time) (offset : Offset) (clock : ClockTime) → time_of time offset ≡ Some clock → is_clock_time clock ≡ true
+valid_time time Z clock e = valid_time_by time None clock refl e
+valid_time time (Custom minutes) clock e = by (offset_of minutes) refl e
+  where
+    by : (o : Option ClockOffset) → offset_of minutes ≡ o → option_and_then (λ offset. time_by time (Some offset)) o ≡ Some clock → is_clock_time clock ≡ true
+    by None is e = absurd (no_some e)
+    by (Some offset) is e = valid_time_by time (Some offset) clock (valid_offset minutes offset is) e
+
+valid_by : (date : CalendarDate) (time : Option Time) (offset : Option Offset) (moment : Moment) → is_calendar_date date ≡ true
+    → moment_by date time offset ≡ Some moment → is_moment moment ≡ true
+valid_by date None None moment valid e =
+    subst (λ (m : Moment). is_moment m ≡ true) (some_is (record { date = date; time = None }) moment e) (and_from (is_calendar_date date) true valid refl)
+valid_by date None (Some offset) moment valid e = absurd (no_some e)
+valid_by date (Some time) None moment valid e = absurd (no_some e)
+valid_by date (Some time) (Some offset) moment valid e = by (time_of time offset) refl e
+  where
+    by : (o : Option ClockTime) → time_of time offset ≡ o → option_map (λ clock. record { date = date; time = Some clock }) o ≡ Some moment → is_moment moment ≡ true
+    by None is e = absurd (no_some e)
+    by (Some clock) is e =
+        subst (λ (m : Moment). is_moment m ≡ true) (some_is (record { date = date; time = Some clock }) moment e)
+        (and_from (is_calendar_date date) (is_clock_time clock) valid (valid_time time offset clock is))
+
+valid_dated : (date : Option Date) (time : Option Time) (offset : Option Offset) (moment : Moment)
+    → option_and_then (λ day. moment_by day time offset) (option_and_then date_of date) ≡ Some moment → is_moment moment ≡ true
+valid_dated None time offset moment e = absurd (no_some e)
+valid_dated (Some date) time offset moment e = by (is_calendar_date (calendar_date date.year date.month date.day)) refl e
+  where
+    by : (b : Bool) → is_calendar_date (calendar_date date.year date.month date.day) ≡ b
+        → option_and_then (λ day. moment_by day time offset) (cond b (Some (calendar_date date.year date.month date.day)) None) ≡ Some moment → is_moment moment ≡ true
+    by true is e = valid_by (calendar_date date.year date.month date.day) time offset moment is e
+    by false is e = absurd (no_some e)
+
+pub valid_moment : (d : Datetime) (moment : Moment) → moment_of d ≡ Some moment → is_moment moment ≡ true
+valid_moment d moment e = valid_dated d.date d.time d.offset moment e

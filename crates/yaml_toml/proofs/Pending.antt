@@ -1,0 +1,226 @@
+-- What is pending, as collections are begun and go on.
+use Rattle.yaml_json.proofs.Common.{◌≡◌, ℕ, ◌+◌, ◌<◌, ◌≤◌, arith, ◌∷◌, ◌++◌, [], List, Bool, map, refl, ap, subst, sym, ◌∙◌, append-nil, append_assoc}
+use Rattle.std.specs.Prelude.{String, string_bytes}
+use Rattle.std.specs.declared.alloc.Global.{Global}
+use Rattle.yaml_json.proofs.Common.{Event, WriterState, WroteEvent, start_event, scalar, text_content, chars, sequence_end, mapping_end, mapping_start, collection_in}
+use Rattle.yaml_emitter.specs.declared.place.CollectionKind.{CollectionKind}
+use Rattle.yaml_emitter.specs.declared.place.CollectionKind.TheVariants.{Mapping, Sequence}
+use Rattle.toml_ordered.specs.Data as toml
+use Rattle.toml_ordered.specs.Data.{Node, items_view, entries_view, node_view, table}
+use Rattle.toml_ordered.specs.declared.tree.Node.{Node as CodeNode}
+use Rattle.toml_ordered.specs.declared.tree.Origin.{Origin}
+use Rattle.yaml_toml.specs.Events.{toml_events, items_events, keys_events}
+use Rattle.yaml_toml.specs.Walk.{Moved, Steps, HasNumbers, ItemsHaveNumbers, KeysHaveNumbers, PendingHaveNumbers, RestHasNumbers, items_left, keys_left, kind_of, kinds_of, pending, rest_events, rest_size, pending_size, node_size, items_size, keys_size}
+use Rattle.yaml_toml.specs.declared.walk.Rest.{Rest}
+use Rattle.yaml_toml.specs.declared.walk.Rest.TheVariants as rest
+use Rattle.yaml_toml.proofs.Answering.{moved_event, moved_within, moved_then}
+
+module _ (canonical in_flow : Bool) where
+  -- one more that is open
+  pub pending-push : (opened : List Rest) (r : Rest) → pending canonical in_flow (opened ++ r ∷ []) ≡ rest_events canonical in_flow r ++ pending canonical in_flow opened
+  pending-push [] r = sym (append-nil (rest_events canonical in_flow r))
+  pending-push (outer ∷ inner) r =
+      ap (λ (events : List Event). events ++ rest_events canonical in_flow outer) (pending-push inner r)
+      ∙ append_assoc (rest_events canonical in_flow r) (pending canonical in_flow inner) (rest_events canonical in_flow outer)
+
+  -- an item, and those after it
+  pub items_left-more : (x : CodeNode) (xs : List CodeNode) → items_left canonical in_flow (x ∷ xs) ≡ toml_events canonical in_flow (node_view x) ++ items_left canonical in_flow xs
+  items_left-more x xs = append_assoc (toml_events canonical in_flow (node_view x)) (items_events canonical in_flow (items_view xs)) (sequence_end ∷ [])
+
+  pub keys_left-more : (m : String Global × CodeNode × ℕ) (ms : List (String Global × CodeNode × ℕ))
+      → keys_left canonical in_flow (m ∷ ms)
+      ≡ scalar (text_content (chars (string_bytes m.0))) ∷ (toml_events canonical in_flow (node_view m.1) ++ keys_left canonical in_flow ms)
+  keys_left-more m ms =
+      ap (λ (events : List Event). scalar (text_content (chars (string_bytes m.0))) ∷ events)
+      (append_assoc (toml_events canonical in_flow (node_view m.1)) (keys_events canonical in_flow (entries_view ms)) (mapping_end ∷ []))
+
+pub kinds-push : (opened : List Rest) (r : Rest) → kinds_of (opened ++ r ∷ []) ≡ kinds_of opened ++ kind_of r ∷ []
+kinds-push [] r = refl
+kinds-push (outer ∷ inner) r = ap (λ (ks : List CollectionKind). kind_of outer ∷ ks) (kinds-push inner r)
+
+pub numbers-push : (opened : List Rest) (r : Rest) → PendingHaveNumbers (opened ++ r ∷ []) → RestHasNumbers r × PendingHaveNumbers opened
+numbers-push [] r have = (have.0, tt)
+numbers-push (outer ∷ inner) r have = let more = numbers-push inner r have.1 in (more.0, (have.0, more.1))
+
+pub size-push : (opened : List Rest) (r : Rest) → pending_size (opened ++ r ∷ []) ≡ rest_size r + pending_size opened
+size-push [] r = refl
+size-push (outer ∷ inner) r = ap (λ n. rest_size outer + n) (size-push inner r) ∙ omega arith
+
+-- ---- steps
+
+module _ (in_flow : Bool) (was now : WriterState) where
+  -- a scalar was written
+  pub steps_leaf : (event : Event) (numbers : Type 0) (opened : List Rest) → numbers → WroteEvent was event now
+      → Steps in_flow was (event ∷ pending was.canonical in_flow opened) (kinds_of opened) (numbers × PendingHaveNumbers opened)
+      (1 + pending_size opened) now opened
+  steps_leaf event numbers opened have wrote = record {
+    given = event ∷ [];
+    moved = moved_event was now event (kinds_of opened) wrote;
+    parts = refl;
+    numbers_in = λ pending. (have, pending);
+    less = omega arith;
+  }
+
+  -- a collection was begun, of which this is left
+  pub steps_enter : (r : Rest) (opened after : List Rest) → after ≡ opened ++ r ∷ [] → Moved was (start_event in_flow (kind_of r) ∷ []) [] (kind_of r ∷ []) now
+      → Steps in_flow was (start_event in_flow (kind_of r) ∷ (rest_events was.canonical in_flow r ++ pending was.canonical in_flow opened)) (kinds_of opened)
+      (RestHasNumbers r × PendingHaveNumbers opened) (1 + (rest_size r + pending_size opened)) now after
+  steps_enter r opened after is moved = subst (λ (all : List Rest). Steps in_flow was (start_event in_flow (kind_of r)
+      ∷ (rest_events was.canonical in_flow r ++ pending was.canonical in_flow opened)) (kinds_of opened) (RestHasNumbers r × PendingHaveNumbers opened) (1 + (rest_size r + pending_size opened)) now all) (sym is)
+      (record {
+        given = start_event in_flow (kind_of r) ∷ [];
+        moved =
+            subst (λ (ks : List CollectionKind). Moved was (start_event in_flow (kind_of r) ∷ []) (kinds_of opened) ks now) (sym (kinds-push opened r))
+            (subst (λ (ks : List CollectionKind). Moved was (start_event in_flow (kind_of r) ∷ []) ks (kinds_of opened ++ kind_of r ∷ []) now) (append-nil (kinds_of opened))
+            (moved_within was now (start_event in_flow (kind_of r) ∷ []) (kinds_of opened) [] (kind_of r ∷ []) moved));
+        parts = ap (λ (events : List Event). start_event in_flow (kind_of r) ∷ events) (pending-push was.canonical in_flow opened r);
+        numbers_in = numbers-push opened r;
+        less = omega (arith, size-push opened r);
+      })
+
+  -- the innermost was ended, of which nothing was left
+  pub steps_end : (event : Event) (kind : CollectionKind) (numbers : Type 0) (opened : List Rest) → numbers → Moved was (event ∷ []) (kind ∷ []) [] now
+      → Steps in_flow was (event ∷ pending was.canonical in_flow opened) (kinds_of opened ++ kind ∷ []) (numbers × PendingHaveNumbers opened)
+      (1 + pending_size opened) now opened
+  steps_end event kind numbers opened have moved = record {
+    given = event ∷ [];
+    moved =
+        subst (λ (ks : List CollectionKind). Moved was (event ∷ []) (kinds_of opened ++ kind ∷ []) ks now) (append-nil (kinds_of opened))
+        (moved_within was now (event ∷ []) (kinds_of opened) (kind ∷ []) [] moved);
+    parts = refl;
+    numbers_in = λ pending. (have, pending);
+    less = omega arith;
+  }
+
+  -- the same events were due, by other words
+  pub steps_same : (due same : List Event) (before these : List CollectionKind) (numbers others : Type 0) (size most : ℕ) (opened : List Rest)
+      → due ≡ same → before ≡ these → (numbers → others) → size ≤ most → Steps in_flow was due before numbers size now opened
+      → Steps in_flow was same these others most now opened
+  steps_same due same before these numbers others size most opened is kinds follows within steps = record {
+    given = steps.given;
+    moved = subst (λ (ks : List CollectionKind). Moved was steps.given ks (kinds_of opened) now) kinds steps.moved;
+    parts = steps.parts ∙ is;
+    numbers_in = λ pending. follows (steps.numbers_in pending);
+    less = omega (arith, steps.less, within);
+  }
+
+-- an event, and then steps
+pub steps_after : (in_flow : Bool) (was between now : WriterState) (event : Event) (due : List Event) (kinds : List CollectionKind) (numbers : Type 0)
+    (size : ℕ) (opened : List Rest) → WroteEvent was event between → Steps in_flow between due kinds numbers size now opened
+    → Steps in_flow was (event ∷ due) kinds numbers size now opened
+steps_after in_flow was between now event due kinds numbers size opened wrote steps = record {
+  given = event ∷ steps.given;
+  moved = moved_then was between now (event ∷ []) steps.given kinds kinds (kinds_of opened) (moved_event was between event kinds wrote) steps.moved;
+  parts =
+      ap (λ (events : List Event). event ∷ events)
+      (ap (λ (canonical : Bool). steps.given ++ pending canonical in_flow opened) (sym wrote.canonical) ∙ steps.parts);
+  numbers_in = steps.numbers_in;
+  less = steps.less;
+}
+
+-- a value that is next, of a collection of which this is left behind it
+module _ (in_flow : Bool) (was now : WriterState) (r : Rest) (opened kept after : List Rest) (is : kept ≡ opened ++ r ∷ []) where
+  pub steps_next : (x : Node) (due : List Event) (numbers : Type 0) (size : ℕ) → toml_events was.canonical in_flow x ++ rest_events was.canonical in_flow r ≡ due
+      → (HasNumbers x → RestHasNumbers r → numbers) → node_size x + rest_size r ≤ size
+      → Steps in_flow was (toml_events was.canonical in_flow x ++ pending was.canonical in_flow kept) (kinds_of kept) (HasNumbers x × PendingHaveNumbers kept)
+      (node_size x + pending_size kept) now after
+      → Steps in_flow was (due ++ pending was.canonical in_flow opened) (kinds_of opened ++ kind_of r ∷ []) (numbers × PendingHaveNumbers opened)
+      (size + pending_size opened) now after
+  steps_next x due numbers size parts follows within steps =
+      let c = was.canonical in
+      let pushed = subst (λ (all : List Rest). Steps in_flow was (toml_events c in_flow x ++ pending c in_flow all) (kinds_of all)
+      (HasNumbers x × PendingHaveNumbers all) (node_size x + pending_size all) now after) is steps in
+      steps_same in_flow was now (toml_events c in_flow x ++ pending c in_flow (opened ++ r ∷ [])) (due ++ pending c in_flow opened)
+      (kinds_of (opened ++ r ∷ [])) (kinds_of opened ++ kind_of r ∷ []) (HasNumbers x × PendingHaveNumbers (opened ++ r ∷ []))
+      (numbers × PendingHaveNumbers opened) (node_size x + pending_size (opened ++ r ∷ [])) (size + pending_size opened) after
+      (ap (λ (events : List Event). toml_events c in_flow x ++ events) (pending-push c in_flow opened r)
+      ∙ sym (append_assoc (toml_events c in_flow x) (rest_events c in_flow r) (pending c in_flow opened))
+      ∙ ap (λ (events : List Event). events ++ pending c in_flow opened) parts)
+      (kinds-push opened r)
+      (λ have. let more = numbers-push opened r have.1 in (follows have.0 more.0, more.1))
+      (omega (arith, size-push opened r, within)) pushed
+
+-- the same, behind a key
+pub steps_named : (in_flow : Bool) (was between now : WriterState) (event : Event) (due : (canonical : Bool) → List Event) (kinds : List CollectionKind)
+    (numbers : Type 0) (size : ℕ) (opened after : List Rest) → WroteEvent was event between
+    → Steps in_flow between (due between.canonical ++ pending between.canonical in_flow opened) kinds numbers size now after
+    → Steps in_flow was (event ∷ (due was.canonical ++ pending was.canonical in_flow opened)) kinds numbers size now after
+steps_named in_flow was between now event due kinds numbers size opened after wrote steps =
+    subst (λ (c : Bool). Steps in_flow was (event ∷ (due c ++ pending c in_flow opened)) kinds numbers size now after) wrote.canonical
+    (steps_after in_flow was between now event (due between.canonical ++ pending between.canonical in_flow opened) kinds numbers size after wrote steps)
+
+-- the last table of an array is begun, behind which nothing is left
+module _ (in_flow : Bool) (was now : WriterState) (empty last : Rest) (opened kept after : List Rest) (is : kept ≡ opened ++ empty ∷ []) where
+  pub steps_last : (keys : toml.Nodes) (due : List Event) (numbers : Type 0) (size : ℕ) → kind_of last ≡ Mapping
+      → rest_events was.canonical in_flow last ≡ keys_events was.canonical in_flow keys ++ mapping_end ∷ []
+      → rest_events was.canonical in_flow empty ≡ sequence_end ∷ []
+      → mapping_start (collection_in in_flow) ∷ (keys_events was.canonical in_flow keys ++ mapping_end ∷ sequence_end ∷ []) ≡ due
+      → (RestHasNumbers last → numbers) → 1 + (rest_size last + rest_size empty) ≤ size
+      → Steps in_flow was (start_event in_flow (kind_of last) ∷ (rest_events was.canonical in_flow last ++ pending was.canonical in_flow kept)) (kinds_of kept)
+      (RestHasNumbers last × PendingHaveNumbers kept) (1 + (rest_size last + pending_size kept)) now after
+      → Steps in_flow was (due ++ pending was.canonical in_flow opened) (kinds_of opened ++ kind_of empty ∷ []) (numbers × PendingHaveNumbers opened)
+      (size + pending_size opened) now after
+  steps_last keys due numbers size mapping lasts empties parts follows within steps =
+      let c = was.canonical in
+      let all = pending c in_flow opened in
+      let pushed = subst (λ (open_now : List Rest). Steps in_flow was (start_event in_flow (kind_of last) ∷ (rest_events c in_flow last ++ pending c in_flow open_now))
+      (kinds_of open_now) (RestHasNumbers last × PendingHaveNumbers open_now) (1 + (rest_size last + pending_size open_now)) now after) is steps in
+      steps_same in_flow was now (start_event in_flow (kind_of last) ∷ (rest_events c in_flow last ++ pending c in_flow (opened ++ empty ∷ []))) (due ++ all)
+      (kinds_of (opened ++ empty ∷ [])) (kinds_of opened ++ kind_of empty ∷ []) (RestHasNumbers last × PendingHaveNumbers (opened ++ empty ∷ []))
+      (numbers × PendingHaveNumbers opened) (1 + (rest_size last + pending_size (opened ++ empty ∷ []))) (size + pending_size opened) after
+      (ap (λ (kind : CollectionKind). start_event in_flow kind ∷ (rest_events c in_flow last ++ pending c in_flow (opened ++ empty ∷ []))) mapping
+      ∙ ap (λ (events : List Event). mapping_start (collection_in in_flow) ∷ (rest_events c in_flow last ++ events)) (pending-push c in_flow opened empty)
+      ∙ ap (λ (events : List Event). mapping_start (collection_in in_flow) ∷ (rest_events c in_flow last ++ (events ++ all))) empties
+      ∙ ap (λ (events : List Event). mapping_start (collection_in in_flow) ∷ (events ++ (sequence_end ∷ all))) lasts
+      ∙ ap (λ (events : List Event). mapping_start (collection_in in_flow) ∷ events)
+      (append_assoc (keys_events c in_flow keys) (mapping_end ∷ []) (sequence_end ∷ all)
+      ∙ sym (append_assoc (keys_events c in_flow keys) (mapping_end ∷ sequence_end ∷ []) all))
+      ∙ ap (λ (events : List Event). events ++ all) parts)
+      (kinds-push opened empty)
+      (λ have. let more = numbers-push opened empty have.1 in (follows have.0, more.1))
+      (omega (arith, size-push opened empty, within)) pushed
+
+-- a table is begun; an array of tables is
+abbrev Entry : Type 0
+Entry = String Global × CodeNode × ℕ
+
+module _ (in_flow : Bool) (was now : WriterState) (opened after : List Rest) where
+  pub begun_table : (origin : Origin) (ms keys : List Entry) → ms ≡ keys
+      → Steps in_flow was (start_event in_flow Mapping ∷ (keys_left was.canonical in_flow ms ++ pending was.canonical in_flow opened)) (kinds_of opened)
+      (KeysHaveNumbers (entries_view ms) × PendingHaveNumbers opened) (1 + (1 + keys_size (entries_view ms) + pending_size opened)) now after
+      → Steps in_flow was (toml_events was.canonical in_flow (table origin (entries_view keys)) ++ pending was.canonical in_flow opened) (kinds_of opened)
+      (KeysHaveNumbers (entries_view keys) × PendingHaveNumbers opened) (2 + keys_size (entries_view keys) + pending_size opened) now after
+  begun_table origin ms keys is steps =
+      subst (λ (es : List Entry). Steps in_flow was (toml_events was.canonical in_flow (table origin (entries_view es)) ++ pending was.canonical in_flow opened)
+      (kinds_of opened) (KeysHaveNumbers (entries_view es) × PendingHaveNumbers opened) (2 + keys_size (entries_view es) + pending_size opened) now after) is
+      (steps_same in_flow was now (start_event in_flow Mapping ∷ (keys_left was.canonical in_flow ms ++ pending was.canonical in_flow opened))
+      (start_event in_flow Mapping ∷ (keys_left was.canonical in_flow ms ++ pending was.canonical in_flow opened)) (kinds_of opened) (kinds_of opened)
+      (KeysHaveNumbers (entries_view ms) × PendingHaveNumbers opened) (KeysHaveNumbers (entries_view ms) × PendingHaveNumbers opened)
+      (1 + (1 + keys_size (entries_view ms) + pending_size opened)) (2 + keys_size (entries_view ms) + pending_size opened) after refl refl (λ have. have)
+      (omega arith) steps)
+
+  abbrev tables_left : List CodeNode → List Entry → List Event
+  tables_left done last =
+      items_events was.canonical in_flow (items_view done)
+      ++ mapping_start (collection_in in_flow) ∷ (keys_events was.canonical in_flow (entries_view last) ++ mapping_end ∷ sequence_end ∷ [])
+
+  pub begun_tables : (ds : List CodeNode) (ms : List Entry) (done : List CodeNode) (last : List Entry) → ds ≡ done → ms ≡ last
+      → Steps in_flow was (start_event in_flow Sequence ∷ (tables_left ds ms ++ pending was.canonical in_flow opened)) (kinds_of opened)
+      ((ItemsHaveNumbers (items_view ds) × KeysHaveNumbers (entries_view ms)) × PendingHaveNumbers opened)
+      (1 + (4 + (items_size (items_view ds) + keys_size (entries_view ms)) + pending_size opened)) now after
+      → Steps in_flow was (toml_events was.canonical in_flow (toml.tables (items_view done) (entries_view last)) ++ pending was.canonical in_flow opened)
+      (kinds_of opened) ((ItemsHaveNumbers (items_view done) × KeysHaveNumbers (entries_view last)) × PendingHaveNumbers opened)
+      (5 + (items_size (items_view done) + keys_size (entries_view last)) + pending_size opened) now after
+  begun_tables ds ms done last first second steps =
+      subst (λ (es : List Entry). Steps in_flow was (toml_events was.canonical in_flow (toml.tables (items_view done) (entries_view es))
+      ++ pending was.canonical in_flow opened) (kinds_of opened) ((ItemsHaveNumbers (items_view done) × KeysHaveNumbers (entries_view es)) × PendingHaveNumbers opened)
+      (5 + (items_size (items_view done) + keys_size (entries_view es)) + pending_size opened) now after) second
+      (subst (λ (xs : List CodeNode). Steps in_flow was (toml_events was.canonical in_flow (toml.tables (items_view xs) (entries_view ms))
+      ++ pending was.canonical in_flow opened) (kinds_of opened) ((ItemsHaveNumbers (items_view xs) × KeysHaveNumbers (entries_view ms)) × PendingHaveNumbers opened)
+      (5 + (items_size (items_view xs) + keys_size (entries_view ms)) + pending_size opened) now after) first
+      (steps_same in_flow was now (start_event in_flow Sequence ∷ (tables_left ds ms ++ pending was.canonical in_flow opened))
+      (start_event in_flow Sequence ∷ (tables_left ds ms ++ pending was.canonical in_flow opened)) (kinds_of opened) (kinds_of opened)
+      ((ItemsHaveNumbers (items_view ds) × KeysHaveNumbers (entries_view ms)) × PendingHaveNumbers opened)
+      ((ItemsHaveNumbers (items_view ds) × KeysHaveNumbers (entries_view ms)) × PendingHaveNumbers opened)
+      (1 + (4 + (items_size (items_view ds) + keys_size (entries_view ms)) + pending_size opened))
+      (5 + (items_size (items_view ds) + keys_size (entries_view ms)) + pending_size opened) after refl refl (λ have. have) (omega arith) steps))

@@ -1,0 +1,37 @@
+-- What an error says of the text and of the writer.
+use Rattle.yaml_json.proofs.Common.{◌≡◌, List, ℕ, Option, None, Some, refl, ap, subst, sym, ◌∙◌, WriterState}
+use Rattle.yaml_base.specs.declared.errors.{yaml_error_t.yaml_error_t, yaml_error_t.TheVariants.Memory}
+use Rattle.yaml_json.proofs.Common.{inl}
+use Rattle.yaml_json.specs.Failing.{HasErrorSaid}
+use Rattle.toml_ordered.specs.Reading.{IsMemory}
+use Rattle.toml_ordered.specs.declared.fault.Fault.{Fault}
+use Rattle.toml_ordered.specs.declared.fault.Fault.TheVariants as fault
+use Rattle.yaml_toml.specs.Walk.{DeniesToml, fault_error, writers_error}
+use Rattle.yaml_toml.specs.declared.error.TomlError.{TomlError}
+use Rattle.yaml_toml.specs.declared.error.TomlError.TheVariants as errors
+
+said_memory : (was : WriterState) → HasErrorSaid was (Some Memory) was
+said_memory was = inl (refl, λ none. none)
+
+said_fault : (was : WriterState) (found : Fault) → HasErrorSaid was (fault_error found) was
+said_fault was fault.Memory = said_memory was
+said_fault was (fault.NotToml left) = λ none. none
+said_fault was (fault.DefinedAgain key first second) = λ none. none
+
+-- nothing was given
+pub said_of : (was : WriterState) (found : Fault) (error : TomlError) → writers_error error ≡ fault_error found → HasErrorSaid was (writers_error error) was
+said_of was found error is = subst (λ (said : Option yaml_error_t). HasErrorSaid was said was) (sym is) (said_fault was found)
+
+writers_none : (error : TomlError) → DeniesToml error → writers_error error ≡ None
+writers_none (errors.NotToml line column) denies = refl
+writers_none (errors.DefinedAgain key first_line first_column line column) denies = refl
+writers_none errors.TooDeep denies = absurd denies
+writers_none (errors.Emitter error) denies = absurd denies
+
+abbrev IsNothing : Option yaml_error_t → Type 0
+IsNothing None = Unit {0}
+IsNothing (Some error) = ⊥
+
+-- an error that denies the text isn't of memory
+pub denied : (found : Fault) (error : TomlError) → writers_error error ≡ fault_error found → DeniesToml error → IsMemory found → ⊥
+denied found error is denies memory = subst IsNothing (sym (writers_none error denies) ∙ is ∙ ap fault_error memory) tt

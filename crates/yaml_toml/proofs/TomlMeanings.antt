@@ -1,0 +1,277 @@
+-- What the tree of a TOML value means, wherever each scalar stands.
+use Rattle.yaml_json.proofs.Common.{ℕ, Option, None, Some, codes, Bool, false, true, ◌&&◌, ◌||◌, List, [], ◌++◌, ◌∷◌, refl, ◌≡◌, if◌then◌else◌, is_some, length}
+use Rattle.yaml_json.proofs.Common.{append-nil, append_assoc, ap, subst, sym, ◌∙◌, and_parts, false≢true, chars, node_tree, Text}
+use Rattle.yaml_json.proofs.Common.{ScalarStyle, plain, Scalar, scalar_tag, collection_tag, scalar_node, Nodes, Pairs, no_nodes, nodes_and, no_pairs}
+use Rattle.yaml_json.proofs.Common.{pairs_and, Effective, is_empty, is_plain, Tree, JsonNumber, is_json_number, is_json_integer, number_in, IsNumber, fraction_or_default}
+use Rattle.yaml_json.proofs.Common.{yaml_number, resolved_by_core, resolved_by_11, int_tag, word_content, number_content, text_content, collection_in, Schema, float_tag, number_tag}
+use Rattle.yaml_base.proofs.Common.{TagDirective, as_item, as_key, as_value, Place, has_no_nodes, has_no_pairs, is_simple, is_simple_at, charset_of, style_asked_at, choice_of}
+use Rattle.yaml_base.proofs.Common.{is_written_in_flow, entry_place, allowances, chosen, Stood, stood_plain, stood_quoted, Tagging, with_tag, without_tag, sequence_tree, mapping_tree}
+use Rattle.yaml_base.proofs.Common.{mapping_node, json_value, number_meant, means_number, Resolved, meant_integer, meant_decimal, meant_text, signed, not, digits_value}
+use Rattle.yaml_base.{proofs.JsonSpelling.spelling_keeps_value, specs.Settings.escapes_separators, specs.values.JsonNumbers.value_with}
+use Rattle.yaml_base.proofs.stream_nodes.StreamAgrees.{standing_in, tagging_in, nodes_tree, pairs_tree}
+use Rattle.json.specs.Json as json
+use Rattle.yaml_json.proofs.Meanings.{ReadsScalars, reads_by_11, reads_by_core, word_means, text_means, node_means as json_means}
+use Rattle.yaml_json.specs.Means.{canonical_tag, scalar_meant, in_order, pairs_in_order, MeansText, MeansNumber}
+use Rattle.yaml_writer.proofs.{PlainNumbers.written_numbers, DateLemmas.dates_read, DateLemmas.dates_plain, TimeLemmas.timestamps_read}
+use Rattle.yaml_writer.specs.Dates.{CalendarDate, date_text, is_calendar_date}
+use Rattle.yaml_writer.specs.Times.{Moment, ClockTime, is_moment, moment_in, timestamp_text}
+use Rattle.yaml_writer.specs.Writing.{timestamp_tag}
+use Rattle.yaml_writer.specs.Floats.{special_text, special_meaning}
+use Rattle.yaml_writer.specs.declared.floats.SpecialFloat.{SpecialFloat}
+use Rattle.yaml_writer.specs.declared.floats.SpecialFloat.TheVariants.{Infinity, NegativeInfinity, NotANumber}
+use Rattle.std.specs.Fmt.{signed_decimal}
+use Rattle.yaml_base.specs.values.Resolved.{meant_infinity}
+use Rattle.toml_datetime.specs.Text.{datetime_text}
+use Rattle.toml_datetime.specs.declared.datetime.Datetime.{Datetime}
+use Rattle.toml_ordered.specs.Data as toml
+use Rattle.toml_ordered.specs.declared.tree.Origin.TheVariants.{Header}
+use Rattle.yaml_toml.specs.Dates.{moment_of}
+use Rattle.yaml_toml.specs.Events.{json_word, integer_content, decimal_content, infinite, special_content, moment_content, date_content}
+use Rattle.yaml_toml.specs.Means.{Reader, by_11, by_core, IsDated, MeansMoment, MeansDate, Means, ItemsMean, KeysMean}
+use Rattle.yaml_toml.specs.Walk.{IsJsonWord, HasNumbers, ItemsHaveNumbers, KeysHaveNumbers}
+use Rattle.yaml_toml.proofs.Moments.{valid_moment, core_date}
+use Rattle.yaml_toml.proofs.Integers.{integer_read, integer_plain}
+use Rattle.yaml_toml.proofs.TomlTrees.{toml_node, items_nodes, keys_pairs}
+
+-- what a reader takes the scalars of TOML for
+pub record ReadsToml (reader : Reader) : Type 0 where
+  pub reads : ReadsScalars reader.schema
+  pub specials : (value : SpecialFloat) → reader.schema (special_text value) ≡ special_meaning value
+  pub dates : (date : CalendarDate) → is_calendar_date date ≡ true → reader.schema (date_text date) ≡ reader.date
+
+specials_11 : (value : SpecialFloat) → resolved_by_11 (special_text value) ≡ special_meaning value
+specials_11 Infinity = refl
+specials_11 NegativeInfinity = refl
+specials_11 NotANumber = refl
+
+specials_core : (value : SpecialFloat) → resolved_by_core (special_text value) ≡ special_meaning value
+specials_core Infinity = refl
+specials_core NegativeInfinity = refl
+specials_core NotANumber = refl
+
+pub toml_by_11 : ReadsToml by_11
+toml_by_11 = record { reads = reads_by_11; specials = specials_11; dates = λ date valid. (dates_read date valid).0 }
+
+pub toml_by_core : ReadsToml by_core
+toml_by_core = record { reads = reads_by_core; specials = specials_core; dates = core_date }
+
+-- ---- words that stand plain
+
+abbrev stands : Text → (unicode breaks12 flow simple : Bool) → Bool
+stands word unicode breaks12 flow simple =
+    is_plain (chosen (allowances (record { unicode = unicode; breaks12 = breaks12 }) word) plain (is_empty word) false true true flow simple false).style
+
+special_plain : (value : SpecialFloat) (unicode breaks12 flow simple : Bool) → stands (special_text value) unicode breaks12 flow simple ≡ true
+special_plain Infinity true true true true = refl
+special_plain Infinity true true true false = refl
+special_plain Infinity true true false true = refl
+special_plain Infinity true true false false = refl
+special_plain Infinity true false true true = refl
+special_plain Infinity true false true false = refl
+special_plain Infinity true false false true = refl
+special_plain Infinity true false false false = refl
+special_plain Infinity false true true true = refl
+special_plain Infinity false true true false = refl
+special_plain Infinity false true false true = refl
+special_plain Infinity false true false false = refl
+special_plain Infinity false false true true = refl
+special_plain Infinity false false true false = refl
+special_plain Infinity false false false true = refl
+special_plain Infinity false false false false = refl
+special_plain NegativeInfinity true true true true = refl
+special_plain NegativeInfinity true true true false = refl
+special_plain NegativeInfinity true true false true = refl
+special_plain NegativeInfinity true true false false = refl
+special_plain NegativeInfinity true false true true = refl
+special_plain NegativeInfinity true false true false = refl
+special_plain NegativeInfinity true false false true = refl
+special_plain NegativeInfinity true false false false = refl
+special_plain NegativeInfinity false true true true = refl
+special_plain NegativeInfinity false true true false = refl
+special_plain NegativeInfinity false true false true = refl
+special_plain NegativeInfinity false true false false = refl
+special_plain NegativeInfinity false false true true = refl
+special_plain NegativeInfinity false false true false = refl
+special_plain NegativeInfinity false false false true = refl
+special_plain NegativeInfinity false false false false = refl
+special_plain NotANumber true true true true = refl
+special_plain NotANumber true true true false = refl
+special_plain NotANumber true true false true = refl
+special_plain NotANumber true true false false = refl
+special_plain NotANumber true false true true = refl
+special_plain NotANumber true false true false = refl
+special_plain NotANumber true false false true = refl
+special_plain NotANumber true false false false = refl
+special_plain NotANumber false true true true = refl
+special_plain NotANumber false true true false = refl
+special_plain NotANumber false true false true = refl
+special_plain NotANumber false true false false = refl
+special_plain NotANumber false false true true = refl
+special_plain NotANumber false false true false = refl
+special_plain NotANumber false false false true = refl
+special_plain NotANumber false false false false = refl
+
+special_tagged : (value : SpecialFloat) → float_tag ≡ canonical_tag (special_meaning value)
+special_tagged Infinity = refl
+special_tagged NegativeInfinity = refl
+special_tagged NotANumber = refl
+
+number_plain : (parts : JsonNumber) → is_json_number parts ≡ true → (unicode breaks12 flow simple : Bool) → stands (yaml_number parts) unicode breaks12 flow simple ≡ true
+number_plain parts valid unicode breaks12 flow simple =
+    ap is_plain (written_numbers parts (record { unicode = unicode; breaks12 = breaks12 }) false true true flow simple valid refl).0
+
+number_tagged : (parts : JsonNumber) → number_tag parts ≡ canonical_tag (number_meant parts)
+number_tagged parts = by (is_json_integer parts)
+  where
+    by : (x : Bool) → (if x then int_tag else float_tag)
+        ≡ canonical_tag (if x then meant_integer (signed parts.negative (digits_value 10 parts.whole)) else meant_decimal
+        (value_with parts (fraction_or_default (codes "0") parts)))
+    by true = refl
+    by false = refl
+
+infinite_meant : (negative : Bool) → special_meaning (infinite negative) ≡ meant_infinity negative
+infinite_meant true = refl
+infinite_meant false = refl
+
+-- a collection has no tag in any form
+untagged : (canonical in_flow : Bool) → collection_tag canonical (collection_in in_flow) ≡ None
+untagged true in_flow = refl
+untagged false in_flow = refl
+
+-- ---- dates
+
+module _ (reader : Reader) (reads : ReadsToml reader) (s : Effective) (place : Place) (simple : Bool) where
+  abbrev tagging_for : (canonical : Bool) → Scalar → Tagging
+  tagging_for canonical content =
+      tagging_in (scalar_tag canonical content)
+      (chosen (allowances (charset_of s) content.value) (style_asked_at s place content) (is_empty content.value)
+      (is_some (scalar_tag canonical content)) content.plain_implicit content.quoted_implicit place.in_flow simple canonical)
+
+  dated : (date : CalendarDate) (time : Option ClockTime) (canonical : Bool) → is_moment (record { date = date; time = time }) ≡ true
+      → IsDated reader (record { date = date; time = time }) (tagging_for canonical (moment_content canonical (record { date = date; time = time })))
+      (timestamp_text (record { date = date; time = time }))
+  dated date None true valid = refl
+  dated date (Some time) true valid = refl
+  dated date (Some time) false valid = refl
+  dated date None false valid =
+      subst (λ (x : Bool). IsDated reader (record { date = date; time = None }) (without_tag (if x then stood_plain else stood_quoted)) (date_text date))
+      (sym (ap is_plain (dates_plain date (charset_of s) false true true place.in_flow simple is refl))) (refl, reads.dates date is)
+    where
+      is : is_calendar_date date ≡ true
+      is = (and_parts (is_calendar_date date) true valid).0
+
+  moment_means : (moment : Moment) → is_moment moment ≡ true
+      → IsDated reader moment (tagging_in (scalar_tag s.canonical (moment_content s.canonical moment)) (choice_of s place simple (moment_content s.canonical moment)))
+      (timestamp_text moment) × (moment_in (timestamp_text moment) ≡ Some moment)
+  moment_means moment valid = (dated moment.date moment.time s.canonical valid, (timestamps_read moment valid).1)
+
+-- ---- values
+
+module _ (reader : Reader) (reads : ReadsToml reader) (s : Effective) (directives : List TagDirective) (in_flow : Bool) where
+  abbrev simple_at : Place → Scalar → Bool
+  simple_at place content = is_simple_at place s.canonical directives (scalar_node content)
+
+  abbrev ItemsAfter : toml.Items → Nodes → (flow : Bool) → Type 0
+  ItemsAfter items before flow =
+      (trees : List Tree)
+      × (in_order (nodes_tree (items_nodes items s.canonical in_flow before) s directives flow) ≡ in_order (nodes_tree before s directives flow) ++ trees)
+      × ItemsMean reader items trees
+
+  abbrev KeysAfter : toml.Nodes → Pairs → (flow : Bool) → Type 0
+  KeysAfter keys before flow =
+      (trees : List (Tree × Tree))
+      × (pairs_in_order (pairs_tree (keys_pairs keys s.canonical in_flow before) s directives flow) ≡ pairs_in_order
+      (pairs_tree before s directives flow) ++ trees)
+      × KeysMean reader keys trees
+
+  text_at : (text : List ℕ) (place : Place) → MeansText reader.schema text (node_tree (scalar_node (text_content (chars text))) s directives place)
+  text_at text place = json_means reader.schema reads.reads s directives in_flow (json.string text) tt place
+
+  date_at : (date : Datetime) (place : Place) (found : Option Moment) → moment_of date ≡ found
+      → MeansDate reader date found (node_tree (scalar_node (date_content s.canonical date found)) s directives place)
+  date_at date place None is = text_at (datetime_text date) place
+  date_at date place (Some moment) is =
+      moment_means reader reads s place (simple_at place (moment_content s.canonical moment)) moment (valid_moment date moment is)
+
+  mutual
+    pub node_means : (x : toml.Node) → HasNumbers x → (place : Place) → Means reader x (node_tree (toml_node x s.canonical in_flow) s directives place)
+    node_means (toml.string text) numbers place = text_at text place
+    node_means (toml.integer z) fits place =
+        word_means reader.schema s place (simple_at place (integer_content s.canonical z)) int_tag (signed_decimal z) (meant_integer z)
+        (integer_read reader.schema reads.reads z fits) refl (integer_plain z fits)
+    node_means (toml.decimal word) is place =
+        let parts = number_in (json_word word) in
+        record {
+          parts = parts;
+          is_number = is;
+          means =
+              ap (means_number (json_value parts))
+              (word_means reader.schema s place (simple_at place (decimal_content s.canonical word)) (number_tag parts) (yaml_number parts) (number_meant parts)
+              (reads.reads.numbers parts is.valid) (number_tagged parts) (number_plain parts is.valid))
+              ∙ spelling_keeps_value parts;
+        }
+    node_means (toml.infinity negative) numbers place =
+        word_means reader.schema s place (simple_at place (special_content s.canonical (infinite negative))) float_tag (special_text (infinite negative))
+        (special_meaning (infinite negative)) (reads.specials (infinite negative)) (special_tagged (infinite negative)) (special_plain (infinite negative))
+        ∙ infinite_meant negative
+    node_means toml.not_a_number numbers place =
+        word_means reader.schema s place (simple_at place (special_content s.canonical NotANumber)) float_tag (special_text NotANumber)
+        (special_meaning NotANumber) (reads.specials NotANumber) refl (special_plain NotANumber)
+    node_means (toml.boolean flag) numbers place = json_means reader.schema reads.reads s directives in_flow (json.boolean flag) tt place
+    node_means (toml.datetime date) numbers place = date_at date place (moment_of date) refl
+    node_means (toml.array items) numbers place =
+        let flow = is_written_in_flow s place (collection_in in_flow) (has_no_nodes (items_nodes items s.canonical in_flow no_nodes)) in
+        let after = items_mean items numbers no_nodes flow in
+        subst (λ (tag : Option Text). Means reader (toml.array items) (sequence_tree None tag
+        (nodes_tree (items_nodes items s.canonical in_flow no_nodes) s directives flow)))
+        (sym (untagged s.canonical in_flow)) (subst (ItemsMean reader items) (sym after.1) after.2)
+    node_means (toml.table origin keys) numbers place =
+        let flow = is_written_in_flow s place (collection_in in_flow) (has_no_pairs (keys_pairs keys s.canonical in_flow no_pairs)) in
+        let after = keys_mean keys numbers no_pairs flow in
+        subst (λ (tag : Option Text). Means reader (toml.table origin keys) (mapping_tree None tag
+        (pairs_tree (keys_pairs keys s.canonical in_flow no_pairs) s directives flow)))
+        (sym (untagged s.canonical in_flow)) (subst (KeysMean reader keys) (sym after.1) after.2)
+    node_means (toml.tables done last) numbers place =
+        let table = mapping_node (collection_in in_flow) (keys_pairs last s.canonical in_flow no_pairs) in
+        let before = items_nodes done s.canonical in_flow no_nodes in
+        let flow = is_written_in_flow s place (collection_in in_flow) false in
+        let after = items_mean done numbers.0 no_nodes flow in
+        let inner = entry_place flow (as_item (has_no_nodes before)) 0 in
+        let inner_flow = is_written_in_flow s inner (collection_in in_flow) (has_no_pairs (keys_pairs last s.canonical in_flow no_pairs)) in
+        let keys = keys_mean last numbers.1 no_pairs inner_flow in
+        let pairs = pairs_tree (keys_pairs last s.canonical in_flow no_pairs) s directives inner_flow in
+        subst (λ (tag : Option Text). Means reader (toml.tables done last) (sequence_tree None tag (nodes_tree (nodes_and before table) s directives flow)))
+        (sym (untagged s.canonical in_flow)) (
+          after.0,
+          pairs,
+          ap (λ (tag : Option Text). in_order (nodes_tree before s directives flow) ++ mapping_tree None tag pairs ∷ []) (untagged s.canonical in_flow)
+              ∙ ap (λ (trees : List Tree). trees ++ mapping_tree None None pairs ∷ []) after.1,
+          after.2,
+          subst (KeysMean reader last) (sym keys.1) keys.2,
+        )
+
+    items_mean : (items : toml.Items) → ItemsHaveNumbers items → (before : Nodes) (flow : Bool) → ItemsAfter items before flow
+    items_mean toml.no_items numbers before flow = ([], sym (append-nil (in_order (nodes_tree before s directives flow))), tt)
+    items_mean (toml.item x items) numbers before flow =
+        let node = toml_node x s.canonical in_flow in
+        let place = entry_place flow (as_item (has_no_nodes before)) 0 in
+        let tree = node_tree node s directives place in
+        let after = items_mean items numbers.1 (nodes_and before node) flow in (
+          tree ∷ after.0,
+          after.1 ∙ append_assoc (in_order (nodes_tree before s directives flow)) (tree ∷ []) after.0,
+          (node_means x numbers.0 place, after.2),
+        )
+
+    keys_mean : (keys : toml.Nodes) → KeysHaveNumbers keys → (before : Pairs) (flow : Bool) → KeysAfter keys before flow
+    keys_mean toml.no_nodes numbers before flow = ([], sym (append-nil (pairs_in_order (pairs_tree before s directives flow))), tt)
+    keys_mean (toml.node key x keys) numbers before flow =
+        let named = scalar_node (text_content (chars key)) in
+        let node = toml_node x s.canonical in_flow in
+        let key_place = entry_place flow (as_key (has_no_pairs before)) 0 in
+        let place = entry_place flow (as_value (is_simple s.canonical directives named)) 0 in
+        let pair : Tree × Tree = (node_tree named s directives key_place, node_tree node s directives place) in
+        let after = keys_mean keys numbers.1 (pairs_and before named node) flow in (
+          pair ∷ after.0,
+          after.1 ∙ append_assoc (pairs_in_order (pairs_tree before s directives flow)) (pair ∷ []) after.0,
+          (text_at key key_place, node_means x numbers.0 place, after.2),
+        )

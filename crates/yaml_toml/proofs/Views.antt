@@ -1,0 +1,40 @@
+-- A value of the reader beside what it stands for, and a step seen so.
+use Rattle.yaml_json.proofs.Common.{◌≡◌, ◌+◌, ◌++◌, List, Bool, ap, sym, subst, ◌∙◌}
+use Rattle.std.proofs.Common.{ℕ, ℤ, String, Vec, Global, string_bytes, rules}
+use Rattle.toml_datetime.specs.declared.datetime.Datetime.{Datetime as DatetimeValue}
+use Rattle.toml_ordered.specs.Data as toml
+use Rattle.toml_ordered.specs.Data.{node_view}
+use Rattle.toml_ordered.specs.declared.tree.Node.{Node as CodeNode, Text, Integer, Decimal, Infinity, NotANumber, Boolean, Datetime, the_lemmas}
+use Rattle.yaml_emitter.specs.declared.place.CollectionKind.{CollectionKind}
+use Rattle.yaml_json.proofs.Common.{Event, WriterState}
+use Rattle.yaml_toml.specs.Events.{toml_events}
+use Rattle.yaml_toml.specs.Walk.{HasNumbers, Steps, node_size}
+use Rattle.yaml_toml.specs.declared.walk.Rest.{Rest}
+
+pub node_view-Text : (s : String Global) → node_view (Text s) ≡ toml.string (string_bytes s)
+node_view-Text s = search (rules, the_lemmas)
+
+pub node_view-Integer : (z : ℤ) → node_view (Integer z) ≡ toml.integer z
+node_view-Integer z = search (rules, the_lemmas)
+
+pub node_view-Decimal : (s : String Global) → node_view (Decimal s) ≡ toml.decimal (string_bytes s)
+node_view-Decimal s = search (rules, the_lemmas)
+
+pub node_view-Infinity : (negative : Bool) → node_view (Infinity negative) ≡ toml.infinity negative
+node_view-Infinity negative = search (rules, the_lemmas)
+
+pub node_view-NotANumber : node_view NotANumber ≡ toml.not_a_number
+node_view-NotANumber = search (rules, the_lemmas)
+
+pub node_view-Boolean : (flag : Bool) → node_view (Boolean flag) ≡ toml.boolean flag
+node_view-Boolean flag = search (rules, the_lemmas)
+
+pub node_view-Datetime : (d : DatetimeValue) → node_view (Datetime d) ≡ toml.datetime d
+node_view-Datetime d = search (rules, the_lemmas)
+
+-- a step of a value, by what the value stands for
+pub steps_seen : (in_flow : Bool) (was now : WriterState) (x y : toml.Node) (rest : List Event) (kinds : List CollectionKind) (P : Type 0) (size : ℕ) (opened : List Rest)
+    → x ≡ y → Steps in_flow was (toml_events was.canonical in_flow y ++ rest) kinds (HasNumbers y × P) (node_size y + size) now opened
+    → Steps in_flow was (toml_events was.canonical in_flow x ++ rest) kinds (HasNumbers x × P) (node_size x + size) now opened
+steps_seen in_flow was now x y rest kinds P size opened is =
+    subst (λ (z : toml.Node). Steps in_flow was (toml_events was.canonical in_flow z ++ rest) kinds (HasNumbers z × P) (node_size z + size) now opened) (sym is)

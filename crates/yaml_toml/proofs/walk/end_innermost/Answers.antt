@@ -1,0 +1,13 @@
+use Rattle.yaml_json.proofs.WroteLemmas.{bare_awaits_none}
+use Rattle.yaml_toml.proofs.Answering.{answers_end, on_end}
+use Rattle.yaml_toml.proofs.walk.end_innermost.Goals as goal
+
+pub returns : goal.returns
+returns g c =
+    let writer = c.args.writer.now in
+    let after = c.end.new.self in
+    let ends = c.end.ensures.ended (bare_awaits_none writer c.requires) in
+    record {
+      ended = λ outer kind levels. on_end writer after c.end.result outer kind levels c.requires ends;
+      kept = λ outer kind levels. answers_end writer after c.end.result outer kind levels ends;
+    }

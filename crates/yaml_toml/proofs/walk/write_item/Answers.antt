@@ -1,0 +1,55 @@
+use Rattle.yaml_json.proofs.Common.{◌≡◌, ◌∷◌, ◌++◌, [], ℕ, ◌+◌, ◌<◌, List, Bool, refl, ap, subst, sym, ◌∙◌, append_assoc, sequence_end, arith}
+use Rattle.std.proofs.lemmas.Grind.{common_steps}
+use Rattle.toml_ordered.specs.Data.{items_view, node_view}
+use Rattle.toml_ordered.specs.declared.tree.Node.{Node as CodeNode}
+use Rattle.yaml_emitter.specs.declared.place.CollectionKind.TheVariants.{Sequence}
+use Rattle.yaml_json.proofs.WroteLemmas.{on_ok}
+use Rattle.yaml_toml.specs.Walk.{ItemsHaveNumbers, PendingHaveNumbers, Steps, items_left, items_size, kinds_of, node_size, pending, pending_size}
+use Rattle.yaml_toml.specs.declared.walk.Rest.TheVariants as rest
+use Rattle.yaml_toml.proofs.Answering.{kept_memory, kept_of, ok_of}
+use Rattle.yaml_toml.proofs.Pending.{items_left-more, steps_end, steps_next, steps_same}
+use Rattle.yaml_toml.proofs.walk.write_item.Goals as goal
+
+pub returns-in-None : goal.returns-in-None
+returns-in-None g c =
+    let writer = c.args.writer.now in
+    let after = c.end_innermost.new.writer in
+    let flow = c.args.settings.now.flow in
+    let opened = c.args.opened.now.items in
+    let none : c.args.items.now ≡ [] = grind (arith, common_steps) in
+    let (outer, levels) = c.requires.innermost in
+    let within = levels ∙ sym (append_assoc outer (kinds_of opened) (Sequence ∷ [])) in
+    record {
+      written = ok_of _ c.end_innermost.result c.stop_of.result c.stop_of.ensures (on_ok c.end_innermost.result (λ moved.
+          subst (λ (xs : List CodeNode). Steps flow writer (items_left writer.canonical flow xs ++ pending writer.canonical flow opened)
+          (kinds_of opened ++ Sequence ∷ []) (ItemsHaveNumbers (items_view xs) × PendingHaveNumbers opened)
+          (1 + items_size (items_view xs) + pending_size opened) after opened) (sym none)
+          (steps_same flow writer after (sequence_end ∷ pending writer.canonical flow opened) (sequence_end ∷ pending writer.canonical flow opened)
+          (kinds_of opened ++ Sequence ∷ []) (kinds_of opened ++ Sequence ∷ []) (Unit {0} × PendingHaveNumbers opened) (Unit {0} × PendingHaveNumbers opened)
+          (1 + pending_size opened) (1 + 0 + pending_size opened) opened refl refl (λ have. have) (omega arith)
+          (steps_end flow writer after sequence_end Sequence (Unit {0}) opened tt moved)))
+          (c.end_innermost.ensures.ended (outer ++ kinds_of opened) Sequence within));
+      kept = kept_of writer after c.end_innermost.result c.stop_of.result c.stop_of.ensures
+          (c.end_innermost.ensures.kept (outer ++ kinds_of opened) Sequence within);
+    }
+
+pub returns-in-Err-clause-kept : goal.returns-in-Err-clause-kept
+returns-in-Err-clause-kept g c = kept_memory c.args.writer.now c.in-Err.stop c.in-Err.ensures.failed
+
+pub returns-in_default-clause-written : goal.returns-in_default-clause-written
+returns-in_default-clause-written g c =
+    let writer = c.args.writer.now in
+    let after = c.write_node.new.writer in
+    let flow = c.args.settings.now.flow in
+    let opened = c.args.opened.now.items in
+    let x = c.in-Some.item.now in
+    let xs = c.in-Some.others.now in
+    let all : c.args.items.now ≡ x ∷ xs = grind (arith, common_steps) in
+    on_ok c.write_node.result (λ steps.
+    subst (λ (items : List CodeNode). Steps flow writer (items_left writer.canonical flow items ++ pending writer.canonical flow opened)
+    (kinds_of opened ++ Sequence ∷ []) (ItemsHaveNumbers (items_view items) × PendingHaveNumbers opened)
+    (1 + items_size (items_view items) + pending_size opened) after c.write_node.new.opened.items) (sym all)
+    (steps_next flow writer after (rest.Items c.in-Some.others) opened c.keep.new.opened.items c.write_node.new.opened.items c.in_default.ensures.kept (node_view x)
+    (items_left writer.canonical flow (x ∷ xs)) (ItemsHaveNumbers (items_view (x ∷ xs))) (1 + items_size (items_view (x ∷ xs)))
+    (sym (items_left-more writer.canonical flow x xs)) (λ one more. (one, more)) (omega arith) steps))
+    c.write_node.ensures.written

@@ -1,0 +1,61 @@
+use Rattle.yaml_json.proofs.Common.{◌≡◌, ◌∷◌, ◌++◌, [], ℕ, ◌+◌, ◌≤◌, List, Bool, Event, refl, ap, subst, sym, ◌∙◌, append_assoc, mapping_start, mapping_end, sequence_end, collection_in, length, arith}
+use Rattle.std.proofs.lemmas.Grind.{common_steps}
+use Rattle.std.proofs.lemmas.List.{nil_from_length}
+use Rattle.toml_ordered.specs.Data.{items_view, entries_view, node_view}
+use Rattle.toml_ordered.specs.declared.tree.Node.{Node as CodeNode}
+use Rattle.yaml_json.proofs.WroteLemmas.{on_ok}
+use Rattle.yaml_toml.specs.Events.{toml_events, items_events, keys_events}
+use Rattle.yaml_toml.specs.Walk.{ItemsHaveNumbers, PendingHaveNumbers, RestHasNumbers, Steps, items_size, kind_of, kinds_of, node_size, pending, pending_size, rest_events, rest_size}
+use Rattle.yaml_toml.specs.declared.walk.Rest.{Rest}
+use Rattle.yaml_toml.specs.declared.walk.Rest.TheVariants as rest
+use Rattle.yaml_toml.proofs.Pending.{steps_last, steps_next}
+use Rattle.yaml_toml.proofs.walk.write_rest.Goals as goal
+
+pub returns-in_default-clause-written : goal.returns-in_default-clause-written
+returns-in_default-clause-written g c =
+    let writer = c.args.writer.now in
+    let canonical = writer.canonical in
+    let flow = c.args.settings.now.flow in
+    let opened = c.args.opened.now.items in
+    let after = c.enter.new.writer in
+    let left = c.enter.new.opened.items in
+    let done = c.in-Tables.done in
+    let last = c.in-Tables.last in
+    let whole : Rest = rest.Tables done last in
+    let keys = entries_view last.now in
+    let none : done.now ≡ [] = nil_from_length done.now c.in-None.ensures.cases in
+    let behind = mapping_start (collection_in flow) ∷ (keys_events canonical flow keys ++ mapping_end ∷ sequence_end ∷ []) in
+    on_ok c.enter.result (λ steps.
+    subst (λ (r : Rest). Steps flow writer (rest_events canonical flow r ++ pending canonical flow opened) (kinds_of opened ++ kind_of r ∷ [])
+    (RestHasNumbers r × PendingHaveNumbers opened) (rest_size r + pending_size opened) after left) (sym c.in-Tables.is)
+    (steps_last flow writer after _ (rest.Members last) opened c.keep.new.opened.items left c.in_default.ensures.kept keys
+    (rest_events canonical flow whole) (RestHasNumbers whole) (rest_size whole) refl refl refl
+    (ap (λ (ds : List CodeNode). items_events canonical flow (items_view ds) ++ behind) (sym none))
+    (λ have. (subst (λ (ds : List CodeNode). ItemsHaveNumbers (items_view ds)) (sym none) tt, have)) (omega arith) steps))
+    c.enter.ensures.entered
+
+pub returns-in_default-keep-clause-written : goal.returns-in_default-keep-clause-written
+returns-in_default-keep-clause-written g c =
+    let writer = c.args.writer.now in
+    let canonical = writer.canonical in
+    let flow = c.args.settings.now.flow in
+    let opened = c.args.opened.now.items in
+    let after = c.write_node.new.writer in
+    let left = c.write_node.new.opened.items in
+    let done = c.in-Tables.done in
+    let last = c.in-Tables.last in
+    let whole : Rest = rest.Tables done last in
+    let x = c.in-Some.table.now in
+    let xs = c.in-Some.others.now in
+    let all : done.now ≡ x ∷ xs = c.in-Some.ensures.cases.0 in
+    let behind = mapping_start (collection_in flow) ∷ (keys_events canonical flow (entries_view last.now) ++ mapping_end ∷ sequence_end ∷ []) in
+    let sizes = ap (λ (ds : List CodeNode). items_size (items_view ds)) all in
+    on_ok c.write_node.result (λ steps.
+    subst (λ (r : Rest). Steps flow writer (rest_events canonical flow r ++ pending canonical flow opened) (kinds_of opened ++ kind_of r ∷ [])
+    (RestHasNumbers r × PendingHaveNumbers opened) (rest_size r + pending_size opened) after left) (sym c.in-Tables.is)
+    (steps_next flow writer after (rest.Tables c.in-Some.others last) opened c.keep-in-Some.new.opened.items left c.in_default-keep.ensures.kept (node_view x)
+    (rest_events canonical flow whole) (RestHasNumbers whole) (rest_size whole)
+    (sym (append_assoc (toml_events canonical flow (node_view x)) (items_events canonical flow (items_view xs)) behind)
+    ∙ ap (λ (ds : List CodeNode). items_events canonical flow (items_view ds) ++ behind) (sym all))
+    (λ one more. (subst (λ (ds : List CodeNode). ItemsHaveNumbers (items_view ds)) (sym all) (one, more.0), more.1)) (omega (arith, sizes)) steps))
+    c.write_node.ensures.written

@@ -1,0 +1,4 @@
+pub mod Dates
+pub mod Events
+pub mod Means
+pub mod Walk

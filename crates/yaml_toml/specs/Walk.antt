@@ -1,0 +1,203 @@
+-- What a writer is given of a document, and what is left of it.
+use Rattle.std.specs.Prelude.{◌≡◌, ◌⊎◌, ℕ, ℤ, ◌<◌, ◌+◌, ◌^◌, Bool, Option, None, Some, Result, Ok, Err, List, [], ◌∷◌, ◌++◌, map, String}
+use Rattle.std.specs.declared.alloc.Global.{Global}
+use Rattle.std.specs.Int.Signed.{mag}
+use Rattle.toml_ordered.specs.Data.{Node, integer, decimal, array, table, tables, Items, no_items, item, Nodes, no_nodes, node, items_view, entries_view, node_view}
+use Rattle.toml_ordered.specs.Grammar.{ordered_document}
+use Rattle.toml_ordered.specs.declared.tree.Node.{Node as CodeNode}
+use Rattle.toml_ordered.specs.declared.tree.Origin.TheVariants.{Header}
+use Rattle.yaml_base.specs.Event.{Event, sequence_end, mapping_start, mapping_end}
+use Rattle.yaml_base.specs.declared.errors.yaml_error_t.{yaml_error_t}
+use Rattle.yaml_base.specs.declared.errors.yaml_error_t.TheVariants.{Memory}
+use Rattle.yaml_pen.specs.Wrote.{Grows}
+use Rattle.yaml_emitter.specs.declared.place.CollectionKind.{CollectionKind}
+use Rattle.yaml_emitter.specs.declared.place.CollectionKind.TheVariants.{Mapping, Sequence}
+use Rattle.yaml_json.specs.Failing.{HasErrorSaid, StaysSound}
+use Rattle.yaml_json.specs.JsonEvents.{collection_in}
+use Rattle.yaml_json.specs.Wrote.{IsBare, Wrote}
+use Rattle.yaml_writer.specs.NumberParts.{IsNumber, number_in}
+use Rattle.yaml_writer.specs.Writing.{AddsEvents, WriterState}
+use Rattle.yaml_toml.specs.Events.{toml_events, items_events, keys_events, json_word}
+use Rattle.yaml_toml.specs.declared.walk.Rest.{Rest}
+use Rattle.yaml_toml.specs.declared.walk.Rest.TheVariants as rest
+use Rattle.yaml_toml.specs.declared.walk.Stop.{Stop}
+use Rattle.yaml_toml.specs.declared.walk.Stop.TheVariants as stop
+use Rattle.yaml_toml.specs.declared.error.TomlError.{TomlError}
+use Rattle.toml_ordered.specs.declared.fault.Fault.{Fault}
+use Rattle.toml_ordered.specs.declared.fault.Fault.TheVariants as fault
+use Rattle.yaml_toml.specs.declared.error.TomlError.TheVariants as errors
+
+-- the characters of a decimal are a number of JSON
+abbrev pub IsJsonWord : List ℕ → Type 0
+IsJsonWord word = IsNumber (json_word word) (number_in (json_word word))
+
+-- few enough digits for std's definition of decimals, which an integer of 64 bits has
+abbrev pub FewDigits : ℤ → Type 0
+FewDigits z = mag z + 1 < 10 ^ 64
+
+-- each decimal in a value is a number, and each integer has few digits
+abbrev mutual
+  pub HasNumbers : Node → Type 0
+  HasNumbers (integer z) = FewDigits z
+  HasNumbers (decimal word) = IsJsonWord word
+  HasNumbers (array items) = ItemsHaveNumbers items
+  HasNumbers (table origin keys) = KeysHaveNumbers keys
+  HasNumbers (tables done last) = ItemsHaveNumbers done × KeysHaveNumbers last
+  HasNumbers _ = Unit {0}
+
+  pub ItemsHaveNumbers : Items → Type 0
+  ItemsHaveNumbers no_items = Unit {0}
+  ItemsHaveNumbers (item x items) = HasNumbers x × ItemsHaveNumbers items
+
+  pub KeysHaveNumbers : Nodes → Type 0
+  KeysHaveNumbers no_nodes = Unit {0}
+  KeysHaveNumbers (node key x keys) = HasNumbers x × KeysHaveNumbers keys
+
+-- ---- what is left of a collection that was begun
+
+abbrev pub kind_of : Rest → CollectionKind
+kind_of (rest.Items items) = Sequence
+kind_of (rest.Tables done last) = Sequence
+kind_of (rest.Members keys) = Mapping
+
+abbrev pub items_left : (canonical in_flow : Bool) → List CodeNode → List Event
+items_left canonical in_flow items = items_events canonical in_flow (items_view items) ++ sequence_end ∷ []
+
+abbrev pub keys_left : (canonical in_flow : Bool) → List (String Global × CodeNode × ℕ) → List Event
+keys_left canonical in_flow keys = keys_events canonical in_flow (entries_view keys) ++ mapping_end ∷ []
+
+abbrev pub rest_events : (canonical in_flow : Bool) → Rest → List Event
+rest_events canonical in_flow (rest.Items items) = items_left canonical in_flow items.now
+rest_events canonical in_flow (rest.Tables done last) =
+    items_events canonical in_flow (items_view done.now)
+    ++ mapping_start (collection_in in_flow) ∷ (keys_events canonical in_flow (entries_view last.now) ++ mapping_end ∷ sequence_end ∷ [])
+rest_events canonical in_flow (rest.Members keys) = keys_left canonical in_flow keys.now
+
+abbrev pub RestHasNumbers : Rest → Type 0
+RestHasNumbers (rest.Items items) = ItemsHaveNumbers (items_view items.now)
+RestHasNumbers (rest.Tables done last) = ItemsHaveNumbers (items_view done.now) × KeysHaveNumbers (entries_view last.now)
+RestHasNumbers (rest.Members keys) = KeysHaveNumbers (entries_view keys.now)
+
+-- of all that are open, the innermost last
+abbrev pub kinds_of : List Rest → List CollectionKind
+kinds_of opened = map kind_of opened
+
+abbrev pub pending : (canonical in_flow : Bool) → List Rest → List Event
+pending canonical in_flow [] = []
+pending canonical in_flow (outer ∷ inner) = pending canonical in_flow inner ++ rest_events canonical in_flow outer
+
+abbrev pub PendingHaveNumbers : List Rest → Type 0
+PendingHaveNumbers [] = Unit {0}
+PendingHaveNumbers (outer ∷ inner) = RestHasNumbers outer × PendingHaveNumbers inner
+
+-- ---- how much is left, which each step lessens
+
+abbrev mutual
+  pub node_size : Node → ℕ
+  node_size (array items) = 2 + items_size items
+  node_size (table origin keys) = 2 + keys_size keys
+  node_size (tables done last) = 5 + (items_size done + keys_size last)
+  node_size x = 1
+
+  pub items_size : Items → ℕ
+  items_size no_items = 0
+  items_size (item x items) = node_size x + items_size items
+
+  pub keys_size : Nodes → ℕ
+  keys_size no_nodes = 0
+  keys_size (node key x keys) = node_size x + keys_size keys
+
+abbrev pub rest_size : Rest → ℕ
+rest_size (rest.Items items) = 1 + items_size (items_view items.now)
+rest_size (rest.Tables done last) = 4 + (items_size (items_view done.now) + keys_size (entries_view last.now))
+rest_size (rest.Members keys) = 1 + keys_size (entries_view keys.now)
+
+abbrev pub pending_size : List Rest → ℕ
+pending_size [] = 0
+pending_size (outer ∷ inner) = rest_size outer + pending_size inner
+
+-- the innermost collection that is open is of this kind, within those of these kinds
+abbrev pub HasInnermost : WriterState → List CollectionKind → CollectionKind → Type 0
+HasInnermost writer kinds kind = (outer : List CollectionKind) × (writer.levels ≡ outer ++ (kinds ++ kind ∷ []))
+
+-- ---- what was given
+
+-- these events were given, and these collections are open in place of those
+pub record Moved (was : WriterState) (events : List Event) (before after : List CollectionKind) (now : WriterState) : Type 0 where
+  pub adds : AddsEvents was.emitter events now.emitter
+  pub canonical : now.canonical ≡ was.canonical
+  pub levels : (outer : List CollectionKind) → was.levels ≡ outer ++ before → now.levels ≡ outer ++ after
+  pub bare : IsBare now
+
+-- some of the events that were due were given, and the others are pending; where all decimals that are pending are numbers, all that
+-- were due are; less than this is left
+pub record Steps (in_flow : Bool) (was : WriterState) (due : List Event) (before : List CollectionKind) (numbers : Type 0) (size : ℕ) (now : WriterState)
+    (opened : List Rest) : Type 0 where
+  pub given : List Event
+  pub moved : Moved was given before (kinds_of opened) now
+  pub parts : given ++ pending was.canonical in_flow opened ≡ due
+  pub numbers_in : PendingHaveNumbers opened → numbers
+  pub less : pending_size opened < size
+
+-- ---- what a call returned
+
+-- the emitter has no error after a success, and after an error the one that is returned, unless an allocation of the call's own failed
+abbrev pub SoundAfter : WriterState → Result (Unit {0}) yaml_error_t → WriterState → Type 0
+SoundAfter was (Ok done) now = now.emitter.error ≡ None
+SoundAfter was (Err error) now = HasErrorSaid was (Some error) now
+
+-- and its text and its output only grow
+pub record Answers (was : WriterState) (result : Result (Unit {0}) yaml_error_t) (now : WriterState) : Type 0 where
+  pub grows : Grows was.emitter.page now.emitter.page
+  pub sound : SoundAfter was result now
+
+abbrev pub stop_error : Stop → Option yaml_error_t
+stop_error stop.TooDeep = None
+stop_error (stop.Failed error) = Some error
+
+-- an allocation of the call's own failed
+abbrev pub IsMemory : Stop → Type 0
+IsMemory stopped = stopped ≡ stop.Failed Memory
+
+-- the writer's answer
+abbrev pub IsStopOf : Result (Unit {0}) yaml_error_t → Result (Unit {0}) Stop → Type 0
+IsStopOf (Ok done) (Ok same) = Unit {0}
+IsStopOf (Err error) (Err stopped) = stopped ≡ stop.Failed error
+IsStopOf _ _ = ⊥
+
+abbrev pub SoundAfterStop : WriterState → Result (Unit {0}) Stop → WriterState → Type 0
+SoundAfterStop was (Ok done) now = StaysSound was now
+SoundAfterStop was (Err stopped) now = HasErrorSaid was (stop_error stopped) now
+
+pub record Kept (was : WriterState) (result : Result (Unit {0}) Stop) (now : WriterState) : Type 0 where
+  pub grows : Grows was.emitter.page now.emitter.page
+  pub sound : SoundAfterStop was result now
+
+abbrev pub writers_error : TomlError → Option yaml_error_t
+writers_error (errors.Emitter error) = Some error
+writers_error _ = None
+
+-- the emitter has no error that it hadn't before after a success, and after an error the one that is returned, if any
+abbrev pub IsSound : WriterState → Result (Unit {0}) TomlError → WriterState → Type 0
+IsSound was (Ok done) now = StaysSound was now
+IsSound was (Err error) now = HasErrorSaid was (writers_error error) now
+
+-- ---- documents
+
+-- the text is a document of TOML; its events were given
+pub record WroteToml (in_flow : Bool) (text : List ℕ) (was now : WriterState) : Type 0 where
+  pub root : Nodes
+  pub read : ordered_document text ≡ Some root
+  pub numbers : KeysHaveNumbers root
+  pub wrote : Wrote was (toml_events was.canonical in_flow (table Header root)) now
+
+-- an error that says that the text is no document of TOML
+abbrev pub DeniesToml : TomlError → Type 0
+DeniesToml (errors.NotToml line column) = Unit {0}
+DeniesToml (errors.DefinedAgain key first_line first_column line column) = Unit {0}
+DeniesToml _ = ⊥
+
+-- the writer's error that a fault is
+abbrev pub fault_error : Fault → Option yaml_error_t
+fault_error fault.Memory = Some Memory
+fault_error _ = None

@@ -1,0 +1,76 @@
+//! Dates and times of TOML that YAML has as timestamps.
+ghost use Rattle.std.specs.Prelude.{◌≡◌, option_map};
+ghost use Rattle.yaml_toml.specs.Dates as spec;
+ghost use Rattle.yaml_writer.specs.SeenDates.{seen_date};
+ghost use Rattle.yaml_writer.specs.SeenTimes.{seen_offset, seen_time, seen_timestamp};
+
+use toml_datetime::Datetime;
+use yaml_writer::{Date, Offset, Sign, Time, Timestamp};
+
+fn date_of(date: toml_datetime::Date) -> Option<Date>
+    ensures { option_map seen_date result ≡ spec.date_of date }
+{
+    Date::new(date.year, date.month, date.day)
+}
+
+/// How far a clock is from that of UTC.
+fn offset_of(minutes: i16) -> Option<Offset>
+    ensures { option_map seen_offset result ≡ spec.offset_of minutes }
+{
+    let far = minutes.unsigned_abs();
+    let sign = if minutes < 0 { Sign::Minus } else { Sign::Plus };
+    if far < 1440 {
+        Offset::new(sign, (far / 60) as u8, (far % 60) as u8)
+    } else {
+        None
+    }
+}
+
+fn time_by(time: toml_datetime::Time, offset: Option<Offset>) -> Option<Time>
+    ensures { option_map seen_time result ≡ spec.time_by time (option_map seen_offset offset) }
+{
+    Time::new(
+        time.hour,
+        time.minute,
+        time.second.unwrap_or(0),
+        time.nanosecond.unwrap_or(0),
+        offset,
+    )
+}
+
+fn time_of(time: toml_datetime::Time, offset: toml_datetime::Offset) -> Option<Time>
+    ensures { option_map seen_time result ≡ spec.time_of time offset }
+{
+    match offset {
+        toml_datetime::Offset::Z => time_by(time, None),
+        toml_datetime::Offset::Custom { minutes } => match offset_of(minutes) {
+            Some(offset) => time_by(time, Some(offset)),
+            None => None,
+        },
+    }
+}
+
+/// A date, or a date and a time with its offset, as a timestamp of YAML; `None` for a time that has no offset or no date, and for
+/// what YAML 1.1 has no timestamp of: the year 0, and a second 60.
+pub(crate) fn timestamp_of(datetime: &Datetime) -> Option<Timestamp>
+    ensures { option_map seen_timestamp result ≡ spec.moment_of datetime.now }
+{
+    let date = match datetime.date {
+        Some(date) => match date_of(date) {
+            Some(date) => date,
+            None => return None,
+        },
+        None => return None,
+    };
+    match (datetime.time, datetime.offset) {
+        (None, None) => Some(Timestamp { date, time: None }),
+        (Some(time), Some(offset)) => match time_of(time, offset) {
+            Some(time) => Some(Timestamp {
+                date,
+                time: Some(time),
+            }),
+            None => None,
+        },
+        _ => None,
+    }
+}

@@ -1,0 +1,19 @@
+//! TOML documents (TOML 1.1), written as YAML that both schemas of YAML read as the same values, with the keys of each table in
+//! the order in which the document first defines them. Comments are dropped.
+#![tactic(auto)]
+
+mod dates;
+mod error;
+mod scalars;
+mod settings;
+mod texts;
+mod walk;
+
+pub use error::TomlError;
+pub use settings::TomlSettings;
+pub use texts::{write_toml, yaml_from_toml};
+pub use yaml_writer::{
+    Settings, Writer, YAML_ANY_BREAK, YAML_ANY_ENCODING, YAML_CR_BREAK, YAML_CRLN_BREAK,
+    YAML_LN_BREAK, YAML_UTF8_ENCODING, YAML_UTF16BE_ENCODING, YAML_UTF16LE_ENCODING,
+    value_settings, yaml_break_t, yaml_encoding_t, yaml_error_t,
+};

@@ -1,0 +1,24 @@
+//! How TOML is written as YAML.
+use yaml_writer::{Settings, value_settings};
+
+/// How TOML is written as YAML.
+#[derive(Clone, Copy, PartialEq, Eq, Debug)]
+pub struct TomlSettings {
+    /// How the writer writes.
+    pub writer: Settings,
+    /// Arrays and tables stand in flow; else in blocks, where they aren't empty.
+    pub flow: bool,
+    /// Maximum nesting depth of arrays and tables. The root table counts.
+    pub depth: usize,
+}
+
+/// The settings for values, blocks, and a depth of 1,000.
+impl Default for TomlSettings {
+    fn default() -> Self {
+        TomlSettings {
+            writer: value_settings(),
+            flow: false,
+            depth: 1_000,
+        }
+    }
+}

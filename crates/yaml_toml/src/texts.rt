@@ -1,0 +1,114 @@
+//! TOML documents as YAML.
+ghost use Rattle.std.specs.Prelude.{◌≡◌, IfErr, IfOk, None, OnOk};
+ghost use Rattle.toml_ordered.specs.Grammar.{ordered_document};
+ghost use Rattle.yaml_emitter.specs.Given.{seen_settings};
+ghost use Rattle.yaml_json.specs.Wrote.{IsBare};
+ghost use Rattle.yaml_pen.specs.Wrote.{Grows};
+ghost use Rattle.yaml_toml.specs.Means.{IsYamlOf};
+ghost use Rattle.yaml_toml.specs.Walk.{DeniesToml, IsSound, WroteToml, fault_error, stop_error, writers_error};
+
+use crate::error::TomlError;
+use crate::settings::TomlSettings;
+use crate::walk::{Stop, write_root};
+use std::alloc::{Allocator, Global};
+use toml_ordered::{Fault, read_document};
+use yaml_json::place_of;
+use yaml_writer::{Writer, yaml_error_t};
+
+/// The line and the column at which this much of a text is left.
+fn place_before(text: &str, left: usize) -> (usize, usize) {
+    place_of(text.as_bytes(), text.len().saturating_sub(left))
+}
+
+/// The error that tells a caller of a fault of a text.
+fn error_of(text: &str, fault: Fault) -> TomlError
+    ensures { writers_error result ≡ fault_error fault }
+{
+    match fault {
+        Fault::Memory => TomlError::Emitter(yaml_error_t::Memory),
+        Fault::NotToml { left } => {
+            let (line, column) = place_before(text, left);
+            TomlError::NotToml { line, column }
+        }
+        Fault::DefinedAgain { key, first, second } => {
+            let (first_line, first_column) = place_before(text, first);
+            let (line, column) = place_before(text, second);
+            TomlError::DefinedAgain {
+                key,
+                first_line,
+                first_column,
+                line,
+                column,
+            }
+        }
+    }
+}
+
+/// The error that tells a caller why a document isn't written.
+fn error_of_stop(stop: Stop) -> TomlError
+    ensures error { writers_error result ≡ stop_error stop }
+    ensures text { DeniesToml result → ⊥ }
+{
+    match stop {
+        Stop::TooDeep => TomlError::TooDeep,
+        Stop::Failed(error) => TomlError::Emitter(error),
+    }
+}
+
+/// Gives a writer the events of a TOML document, by all of these settings but those of a writer. Arrays and tables may nest
+/// `settings.depth` deep, the root table among them. Each of them stands in flow if `settings.flow` is set, else in a block, where it
+/// isn't empty. The keys of each table come in the order in which the document first defines them. Comments are dropped.
+///
+/// The writer must have no anchor and no tag for the next node.
+///
+/// # Errors
+///
+/// `NotToml` and `DefinedAgain` where the text is no document of TOML 1.1: nothing is written then. `TooDeep` where arrays and tables
+/// nest too deep. `Emitter` with the error of the writer's emitter, which has it now, or with `Memory` where an allocation fails.
+pub fn write_toml<A: Allocator + Copy>(
+    alloc: Global,
+    writer: &mut Writer<A>,
+    text: &str,
+    settings: TomlSettings,
+) -> Result<(), TomlError>
+    requires { IsBare writer.old }
+    ensures grows { Grows writer.old.emitter.page writer.new.emitter.page }
+    ensures sound { IsSound writer.old result writer.new }
+    ensures written { OnOk result (WroteToml settings.flow text.now writer.old writer.new) }
+    ensures refused { IfErr result (λ error. DeniesToml error → ordered_document text.now ≡ None) }
+{
+    let root = match read_document(alloc, text) {
+        Ok(root) => root,
+        Err(fault) => return Err(error_of(text, fault)),
+    };
+    match write_root(alloc, writer, &root, &settings) {
+        Ok(()) => Ok(()),
+        Err(stop) => Err(error_of_stop(stop)),
+    }
+}
+
+/// The YAML of a TOML document: a stream of one document.
+///
+/// # Errors
+///
+/// `NotToml`, `DefinedAgain` and `TooDeep` as by `write_toml`. `Emitter` with `WriteError` where the bytes pass the limit, and with
+/// `Memory` where an allocation fails.
+pub fn yaml_from_toml(
+    alloc: Global,
+    text: &str,
+    settings: TomlSettings,
+) -> Result<Vec<u8>, TomlError>
+    ensures stream { IfOk result (λ bytes. IsYamlOf (seen_settings settings.writer) settings.flow text.now bytes.items) }
+    ensures refused { IfErr result (λ error. DeniesToml error → ordered_document text.now ≡ None) }
+{
+    let Ok(mut writer) = Writer::new(alloc, settings.writer) else {
+        return Err(TomlError::Emitter(yaml_error_t::Memory));
+    };
+    if let Err(error) = write_toml(alloc, &mut writer, text, settings) {
+        return Err(error);
+    }
+    match writer.finish() {
+        Ok(bytes) => Ok(bytes),
+        Err(error) => Err(TomlError::Emitter(error)),
+    }
+}

@@ -1,0 +1,319 @@
+//! A walk over a document, depth first, from its tree to a writer. What is left of each array and table that is open stands in a
+//! list.
+ghost use Rattle.std.specs.Prelude.{◌≡◌, ◌+◌, List, [], ◌∷◌, ◌++◌, IfErr, MatchOption, OnOk};
+ghost use Rattle.toml_ordered.specs.Data.{entries_view, items_view, node_view, table};
+ghost use Rattle.toml_ordered.specs.declared.tree.Origin.TheVariants.{Header};
+ghost use Rattle.yaml_emitter.specs.declared.place.CollectionKind.TheVariants.{Mapping, Sequence};
+ghost use Rattle.yaml_base.specs.Seen.{seen_mapping_style, seen_sequence_style};
+ghost use Rattle.yaml_emitter.specs.declared.place.CollectionKind.{CollectionKind};
+ghost use Rattle.yaml_json.specs.JsonEvents.{style_of};
+ghost use Rattle.yaml_json.specs.Wrote.{IsBare, Wrote, start_event};
+ghost use Rattle.yaml_toml.specs.Events.{infinite, toml_events};
+ghost use Rattle.yaml_toml.specs.Walk.{Answers, HasInnermost, HasNumbers, IsMemory, IsStopOf, ItemsHaveNumbers, Kept, KeysHaveNumbers, Moved};
+ghost use Rattle.yaml_toml.specs.Walk.{PendingHaveNumbers, RestHasNumbers, Steps, items_left, keys_left, items_size, keys_size, kind_of, kinds_of, node_size, pending, pending_size, rest_events, rest_size};
+ghost use Rattle.yaml_writer.specs.Writing.{end_event};
+
+use crate::scalars::{
+    write_bool, write_datetime, write_decimal, write_integer, write_special, write_text,
+};
+use crate::settings::TomlSettings;
+use std::alloc::{Allocator, Global};
+use toml_ordered::{Node, Nodes};
+use yaml_writer::{
+    CollectionKind, SpecialFloat, Writer, YAML_BLOCK_MAPPING_STYLE, YAML_BLOCK_SEQUENCE_STYLE,
+    YAML_FLOW_MAPPING_STYLE, YAML_FLOW_SEQUENCE_STYLE, yaml_error_t, yaml_mapping_style_t,
+    yaml_sequence_style_t,
+};
+
+/// Why a document isn't written.
+#[derive(Clone, Copy)]
+pub(crate) enum Stop {
+    /// Arrays and tables nest too deep.
+    TooDeep,
+    /// The writer failed, or an allocation.
+    Failed(yaml_error_t),
+}
+
+/// What is left of an array or a table that is open.
+#[derive(Clone, Copy)]
+pub(crate) enum Rest<'a> {
+    Items(&'a [Node]),
+    /// Of an array of tables, with its last.
+    Tables(&'a [Node], &'a [(String, Node, usize)]),
+    Members(&'a [(String, Node, usize)]),
+}
+
+impl Rest<'_> {
+    fn kind(&self) -> CollectionKind
+        ensures { result ≡ kind_of self.now }
+    {
+        match self {
+            Rest::Items(_) | Rest::Tables(..) => CollectionKind::Sequence,
+            Rest::Members(_) => CollectionKind::Mapping,
+        }
+    }
+}
+
+/// Why a walk stops by a writer's answer.
+fn stop_of(answer: Result<(), yaml_error_t>) -> Result<(), Stop>
+    ensures { IsStopOf answer result }
+{
+    match answer {
+        Ok(()) => Ok(()),
+        Err(error) => Err(Stop::Failed(error)),
+    }
+}
+
+/// Adds what is left of a collection to what is open.
+fn keep<'a>(opened: &mut Vec<Rest<'a>>, rest: Rest<'a>) -> Result<(), Stop>
+    ensures kept { OnOk result (opened.new.items ≡ opened.old.items ++ rest.entry ∷ []) }
+    ensures failed { IfErr result IsMemory }
+{
+    match opened.push(rest) {
+        Ok(()) => Ok(()),
+        Err(_) => Err(Stop::Failed(yaml_error_t::Memory)),
+    }
+}
+
+/// Takes away what is left of the innermost collection.
+fn take_innermost<'a>(opened: &mut Vec<Rest<'a>>) -> Option<Rest<'a>>
+    ensures { MatchOption result ((opened.old.items ≡ []) × (opened.new.items ≡ [])) (λ rest. opened.old.items ≡ opened.new.items ++ rest ∷ []) }
+{
+    opened.pop()
+}
+
+fn sequence_style(in_flow: bool) -> yaml_sequence_style_t
+    ensures { seen_sequence_style result ≡ style_of in_flow }
+{
+    if in_flow {
+        YAML_FLOW_SEQUENCE_STYLE
+    } else {
+        YAML_BLOCK_SEQUENCE_STYLE
+    }
+}
+
+fn mapping_style(in_flow: bool) -> yaml_mapping_style_t
+    ensures { seen_mapping_style result ≡ style_of in_flow }
+{
+    if in_flow {
+        YAML_FLOW_MAPPING_STYLE
+    } else {
+        YAML_BLOCK_MAPPING_STYLE
+    }
+}
+
+/// Begins a collection.
+fn begin<A: Allocator + Copy>(
+    writer: &mut Writer<A>,
+    kind: CollectionKind,
+    in_flow: bool,
+) -> Result<(), yaml_error_t>
+    requires { IsBare writer.old }
+    ensures begun { OnOk result (Moved writer.old (start_event in_flow kind ∷ []) [] (kind ∷ []) writer.new) }
+    ensures kept { Answers writer.old result writer.new }
+{
+    match kind {
+        CollectionKind::Sequence => writer.begin_sequence(sequence_style(in_flow)),
+        CollectionKind::Mapping => writer.begin_mapping(mapping_style(in_flow)),
+    }
+}
+
+/// Ends the innermost collection.
+fn end_innermost<A: Allocator + Copy>(writer: &mut Writer<A>) -> Result<(), yaml_error_t>
+    requires { IsBare writer.old }
+    ensures ended { (outer : List CollectionKind) (kind : CollectionKind) → writer.old.levels ≡ outer ++ kind ∷ []
+        → OnOk result (Moved writer.old (end_event kind ∷ []) (kind ∷ []) [] writer.new) }
+    ensures kept { (outer : List CollectionKind) (kind : CollectionKind) → writer.old.levels ≡ outer ++ kind ∷ []
+        → Answers writer.old result writer.new }
+{
+    writer.end()
+}
+
+/// Begins a collection, of which this is left.
+fn enter<'a, A: Allocator + Copy>(
+    writer: &mut Writer<A>,
+    opened: &mut Vec<Rest<'a>>,
+    rest: Rest<'a>,
+    settings: &TomlSettings,
+) -> Result<(), Stop>
+    requires { IsBare writer.old }
+    ensures entered { OnOk result (Steps settings.now.flow writer.old
+        (start_event settings.now.flow (kind_of rest.entry) ∷ (rest_events writer.old.canonical settings.now.flow rest.entry
+        ++ pending writer.old.canonical settings.now.flow opened.old.items))
+        (kinds_of opened.old.items) (RestHasNumbers rest.entry × PendingHaveNumbers opened.old.items)
+        (1 + (rest_size rest.entry + pending_size opened.old.items)) writer.new opened.new.items) }
+    ensures kept { Kept writer.old result writer.new }
+{
+    if opened.len() >= settings.depth {
+        return Err(Stop::TooDeep);
+    }
+    if let Err(stop) = keep(opened, rest) {
+        return Err(stop);
+    }
+    stop_of(begin(writer, rest.kind(), settings.flow))
+}
+
+/// Writes a value; of an array or a table the beginning alone.
+fn write_node<'a, A: Allocator + Copy>(
+    alloc: Global,
+    writer: &mut Writer<A>,
+    opened: &mut Vec<Rest<'a>>,
+    node: &'a Node,
+    settings: &TomlSettings,
+) -> Result<(), Stop>
+    requires { IsBare writer.old }
+    ensures written { OnOk result (Steps settings.now.flow writer.old
+        (toml_events writer.old.canonical settings.now.flow (node_view node.now) ++ pending writer.old.canonical settings.now.flow opened.old.items)
+        (kinds_of opened.old.items) (HasNumbers (node_view node.now) × PendingHaveNumbers opened.old.items)
+        (node_size (node_view node.now) + pending_size opened.old.items) writer.new opened.new.items) }
+    ensures kept { Kept writer.old result writer.new }
+{
+    match node {
+        Node::Text(text) => stop_of(write_text(writer, text.as_str())),
+        Node::Integer(integer) => stop_of(write_integer(writer, *integer)),
+        Node::Decimal(word) => stop_of(write_decimal(writer, word.as_str())),
+        Node::Infinity { negative } => stop_of(write_special(writer, infinity(*negative))),
+        Node::NotANumber => stop_of(write_special(writer, SpecialFloat::NotANumber)),
+        Node::Boolean(flag) => stop_of(write_bool(writer, *flag)),
+        Node::Datetime(datetime) => stop_of(write_datetime(alloc, writer, datetime)),
+        Node::Array(items) => enter(writer, opened, Rest::Items(items.as_slice()), settings),
+        Node::Table(_, keys) => enter(writer, opened, Rest::Members(keys.as_slice()), settings),
+        Node::Tables(done, last) => {
+            let rest = Rest::Tables(done.as_slice(), last.as_slice());
+            enter(writer, opened, rest, settings)
+        }
+    }
+}
+
+fn infinity(negative: bool) -> SpecialFloat
+    ensures { result ≡ infinite negative }
+{
+    if negative {
+        SpecialFloat::NegativeInfinity
+    } else {
+        SpecialFloat::Infinity
+    }
+}
+
+/// Writes the next of what is left of the innermost collection, or ends it.
+fn write_rest<'a, A: Allocator + Copy>(
+    alloc: Global,
+    writer: &mut Writer<A>,
+    opened: &mut Vec<Rest<'a>>,
+    rest: Rest<'a>,
+    settings: &TomlSettings,
+) -> Result<(), Stop>
+    requires bare { IsBare writer.old }
+    requires innermost { HasInnermost writer.old (kinds_of opened.old.items) (kind_of rest) }
+    ensures written { OnOk result (Steps settings.now.flow writer.old
+        (rest_events writer.old.canonical settings.now.flow rest.entry ++ pending writer.old.canonical settings.now.flow opened.old.items)
+        (kinds_of opened.old.items ++ kind_of rest.entry ∷ []) (RestHasNumbers rest.entry × PendingHaveNumbers opened.old.items)
+        (rest_size rest.entry + pending_size opened.old.items) writer.new opened.new.items) }
+    ensures kept { Kept writer.old result writer.new }
+{
+    match rest {
+        Rest::Items(items) => write_item(alloc, writer, opened, items, settings),
+        Rest::Tables(done, last) => match done.split_first() {
+            None => {
+                if let Err(stop) = keep(opened, Rest::Items(&[])) {
+                    return Err(stop);
+                }
+                enter(writer, opened, Rest::Members(last), settings)
+            }
+            Some((table, others)) => {
+                if let Err(stop) = keep(opened, Rest::Tables(others, last)) {
+                    return Err(stop);
+                }
+                write_node(alloc, writer, opened, table, settings)
+            }
+        },
+        Rest::Members(keys) => write_member(alloc, writer, opened, keys, settings),
+    }
+}
+
+/// Writes the next item of an array, or ends it.
+fn write_item<'a, A: Allocator + Copy>(
+    alloc: Global,
+    writer: &mut Writer<A>,
+    opened: &mut Vec<Rest<'a>>,
+    items: &'a [Node],
+    settings: &TomlSettings,
+) -> Result<(), Stop>
+    requires bare { IsBare writer.old }
+    requires innermost { HasInnermost writer.old (kinds_of opened.old.items) Sequence }
+    ensures written { OnOk result (Steps settings.now.flow writer.old
+        (items_left writer.old.canonical settings.now.flow items.now ++ pending writer.old.canonical settings.now.flow opened.old.items)
+        (kinds_of opened.old.items ++ Sequence ∷ []) (ItemsHaveNumbers (items_view items.now) × PendingHaveNumbers opened.old.items)
+        (1 + items_size (items_view items.now) + pending_size opened.old.items) writer.new opened.new.items) }
+    ensures kept { Kept writer.old result writer.new }
+{
+    match items.split_first() {
+        None => stop_of(end_innermost(writer)),
+        Some((item, others)) => {
+            if let Err(stop) = keep(opened, Rest::Items(others)) {
+                return Err(stop);
+            }
+            write_node(alloc, writer, opened, item, settings)
+        }
+    }
+}
+
+/// Writes the next key of a table and its value, or ends it.
+fn write_member<'a, A: Allocator + Copy>(
+    alloc: Global,
+    writer: &mut Writer<A>,
+    opened: &mut Vec<Rest<'a>>,
+    keys: &'a [(String, Node, usize)],
+    settings: &TomlSettings,
+) -> Result<(), Stop>
+    requires bare { IsBare writer.old }
+    requires innermost { HasInnermost writer.old (kinds_of opened.old.items) Mapping }
+    ensures written { OnOk result (Steps settings.now.flow writer.old
+        (keys_left writer.old.canonical settings.now.flow keys.now ++ pending writer.old.canonical settings.now.flow opened.old.items)
+        (kinds_of opened.old.items ++ Mapping ∷ []) (KeysHaveNumbers (entries_view keys.now) × PendingHaveNumbers opened.old.items)
+        (1 + keys_size (entries_view keys.now) + pending_size opened.old.items) writer.new opened.new.items) }
+    ensures kept { Kept writer.old result writer.new }
+{
+    match keys.split_first() {
+        None => stop_of(end_innermost(writer)),
+        Some(((key, node, _), others)) => {
+            if let Err(stop) = keep(opened, Rest::Members(others)) {
+                return Err(stop);
+            }
+            if let Err(stop) = stop_of(write_text(writer, key.as_str())) {
+                return Err(stop);
+            }
+            write_node(alloc, writer, opened, node, settings)
+        }
+    }
+}
+
+/// Gives a writer the events of a document's root table.
+pub(crate) fn write_root<A: Allocator + Copy>(
+    alloc: Global,
+    writer: &mut Writer<A>,
+    root: &Nodes,
+    settings: &TomlSettings,
+) -> Result<(), Stop>
+    requires { IsBare writer.old }
+    ensures written { OnOk result (Wrote writer.old (toml_events writer.old.canonical settings.now.flow (table Header (entries_view root.now.items)))
+        writer.new) }
+    ensures numbers { OnOk result (KeysHaveNumbers (entries_view root.now.items)) }
+    ensures kept { Kept writer.old result writer.new }
+{
+    let mut opened: Vec<Rest<'_>> = Vec::new(alloc);
+    if let Err(stop) = enter(
+        writer,
+        &mut opened,
+        Rest::Members(root.as_slice()),
+        settings,
+    ) {
+        return Err(stop);
+    }
+    'rests: while let Some(rest) = take_innermost(&mut opened) {
+        if let Err(stop) = write_rest(alloc, writer, &mut opened, rest, settings) {
+            return Err(stop);
+        }
+    }
+    Ok(())
+}

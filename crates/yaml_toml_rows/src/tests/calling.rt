@@ -1,0 +1,3 @@
+//! The examples of the documents.
+mod ordered;
+mod toml;

@@ -1,0 +1,21 @@
+//! TOML, written as YAML.
+use super::super::equal;
+use std::alloc::Global;
+use yaml_toml::{TomlError, TomlSettings, yaml_from_toml};
+
+/// The YAML of a TOML document.
+fn yaml_of_toml(alloc: Global, text: &str) -> Result<Vec<u8>, TomlError> {
+    yaml_from_toml(alloc, text, TomlSettings::default())
+}
+
+#[test]
+fn a_document_is_written(rt: HostRuntime) {
+    match yaml_of_toml(rt.alloc(), "name = \"no\"\n[size]\nwidth = 0x10\n") {
+        Ok(bytes) => equal(
+            &rt,
+            &bytes.as_slice(),
+            &b"---\nname: 'no'\nsize:\n  width: 16\n".as_slice(),
+        ),
+        Err(_) => equal(&rt, &false, &true),
+    }
+}

@@ -1,0 +1,6 @@
+use Rattle.yaml_writer.proofs.Common.{◌∙◌}
+use Rattle.yaml_writer.proofs.PlainTagLemmas.{same_bytes}
+use Rattle.yaml_writer.proofs.plain_tags.are_same.Goals as goal
+
+pub returns : goal.returns
+returns c = c.eq.ensures ∙ same_bytes c.args.a.now c.args.b.now c.utf8.a c.utf8.b

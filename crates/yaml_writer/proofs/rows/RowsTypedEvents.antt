@@ -1,0 +1,39 @@
+-- Texts and their plain tags, and scalars with the flags that keep their tags, worked by hand.
+use Rattle.yaml_writer.proofs.Common.{codes, None, Some, Bool, false, true, refl, ◌≡◌, Option, Text, plain, float_tag, int_tag}
+use Rattle.yaml_base.specs.Event.{Scalar, ScalarStyle, any_style}
+use Rattle.yaml_base.specs.graphs.Meetings.{string_tag}
+use Rattle.yaml_base.specs.values.TypedValues.{null_tag, bool_tag}
+use Rattle.yaml_writer.specs.PlainTags.{plain_tag}
+use Rattle.yaml_writer.specs.TypedEvents.{typed_scalar}
+
+words : (plain_tag (codes "~") ≡ Some null_tag) × (plain_tag (codes "Null") ≡ Some null_tag) × (plain_tag (codes "TRUE") ≡ Some bool_tag)
+    × (plain_tag (codes "false") ≡ Some bool_tag) × (plain_tag (codes "-.inf") ≡ Some float_tag) × (plain_tag (codes ".NaN") ≡ Some float_tag)
+words = (refl, refl, refl, refl, refl, refl)
+
+numbers : (plain_tag (codes "3") ≡ Some int_tag) × (plain_tag (codes "-12") ≡ Some int_tag) × (plain_tag (codes "1.50") ≡ Some float_tag)
+    × (plain_tag (codes "-0.0") ≡ Some float_tag) × (plain_tag (codes "1.5e+3") ≡ Some float_tag)
+numbers = (refl, refl, refl, refl, refl)
+
+-- what the schemas read in two ways, or what has another spelling
+others : (plain_tag (codes "") ≡ None) × (plain_tag (codes "no") ≡ None) × (plain_tag (codes "nUll") ≡ None) × (plain_tag (codes "007") ≡ None)
+    × (plain_tag (codes "0o17") ≡ None) × (plain_tag (codes "1:30") ≡ None) × (plain_tag (codes "1e5") ≡ None) × (plain_tag (codes "-0") ≡ None)
+    × (plain_tag (codes "2001-12-14") ≡ None) × (plain_tag (codes "a: b") ≡ None)
+others = (refl, refl, refl, refl, refl, refl, refl, refl, refl, refl)
+
+-- a scalar without an anchor, with these flags
+abbrev a_scalar : Text → Text → Bool → Bool → ScalarStyle → Scalar
+a_scalar tag value plain_flag quoted_flag style =
+    record { anchor = None; tag = Some tag; value = value; plain_implicit = plain_flag; quoted_implicit = quoted_flag; style = style }
+
+abbrev any_scalar : Text → Text → Scalar
+any_scalar tag value = a_scalar tag value true true any_style
+
+texts : (typed_scalar (any_scalar string_tag (codes "no")) ≡ a_scalar string_tag (codes "no") false true any_style)
+    × (typed_scalar (any_scalar string_tag (codes "3")) ≡ a_scalar string_tag (codes "3") false true any_style)
+    × (typed_scalar (any_scalar string_tag (codes "Norway")) ≡ a_scalar string_tag (codes "Norway") true true any_style)
+texts = (refl, refl, refl)
+
+integers : (typed_scalar (any_scalar int_tag (codes "3")) ≡ a_scalar int_tag (codes "3") true false plain)
+    × (typed_scalar (any_scalar int_tag (codes "three")) ≡ a_scalar int_tag (codes "three") false false any_style)
+    × (typed_scalar (any_scalar int_tag (codes "3.0")) ≡ a_scalar int_tag (codes "3.0") false false any_style)
+integers = (refl, refl, refl)
