@@ -9,6 +9,7 @@ mod errors;
 mod events;
 mod laws;
 mod nodes;
+mod places;
 mod styles;
 
 pub use characters::{
@@ -36,6 +37,7 @@ pub use laws::{
     whole_stream_is_ready,
 };
 pub use nodes::{yaml_node_data_t, yaml_node_pair_t, yaml_node_t};
+pub use places::place_of;
 pub use styles::yaml_mapping_style_t::{
     YAML_ANY_MAPPING_STYLE, YAML_BLOCK_MAPPING_STYLE, YAML_FLOW_MAPPING_STYLE,
 };

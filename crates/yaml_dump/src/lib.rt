@@ -107,6 +107,7 @@ pub use yaml_emitter::meaning_is_kept;
 pub use yaml_emitter::moves_tell;
 pub use yaml_emitter::output_tells_content;
 pub use yaml_emitter::pieces_stand;
+pub use yaml_emitter::place_of;
 pub use yaml_emitter::plain_holds_no_indicator;
 pub use yaml_emitter::portable_streams_read_back;
 pub use yaml_emitter::portable_suffix_holds_no_flow_indicator;

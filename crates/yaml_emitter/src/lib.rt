@@ -106,6 +106,7 @@ pub use yaml_base::layout_has_one_piece_each;
 pub use yaml_base::limit_cuts_the_output;
 pub use yaml_base::list_has_one_tree;
 pub use yaml_base::pieces_stand;
+pub use yaml_base::place_of;
 pub use yaml_base::plain_holds_no_indicator;
 pub use yaml_base::ready_events_stay_ready;
 pub use yaml_base::refused_exactly;

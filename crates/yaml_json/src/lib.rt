@@ -21,11 +21,11 @@ mod words;
 pub use cuts::text_around;
 pub use error::{JsonError, StreamError};
 pub use laws::faults_differ;
-pub use places::place_of;
 pub use settings::JsonSettings;
 pub use several::write_json_texts;
 pub use stream::send_json_texts;
 pub use texts::{write_json, yaml_from_json};
+pub use yaml_base::place_of;
 pub use yaml_writer::{
     Settings, Writer, YAML_ANY_BREAK, YAML_ANY_ENCODING, YAML_CR_BREAK, YAML_CRLN_BREAK,
     YAML_LN_BREAK, YAML_UTF8_ENCODING, YAML_UTF16BE_ENCODING, YAML_UTF16LE_ENCODING,

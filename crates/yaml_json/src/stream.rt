@@ -15,13 +15,14 @@ ghost use Rattle.yaml_json.specs.Wrote.{IsBare, WroteText};
 
 use crate::cuts::{Cut, find_end, new_cut};
 use crate::error::{JsonError, StreamError};
-use crate::places::{Place, place_of};
+use crate::places::Place;
 use crate::settings::JsonSettings;
 use crate::texts::{Room, error_of, write_text_in};
 use bumpalo::Bump;
 use std::alloc::Allocator;
 use std::io::{ErrorKind, Read, Write};
 use std::{io, str};
+use yaml_base::place_of;
 use yaml_writer::{Writer, yaml_error_t};
 
 /// How many bytes are read at once.

@@ -14,12 +14,13 @@ ghost use Rattle.yaml_json.specs.Walk.{MatchesStop, StopsText};
 ghost use Rattle.yaml_json.specs.Wrote.{IsBare, IsYamlOf, WroteText};
 
 use crate::error::JsonError;
-use crate::places::{offset_of, place_of};
+use crate::places::offset_of;
 use crate::settings::JsonSettings;
 use crate::tokens::Tokens;
 use crate::values::{Nesting, Stop, write_only_value};
 use bumpalo::Bump;
 use std::alloc::Allocator;
+use yaml_base::place_of;
 use yaml_writer::{Writer, yaml_error_t};
 
 /// The byte order mark in UTF-8. No JSON text begins with it.

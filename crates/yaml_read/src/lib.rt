@@ -5,7 +5,6 @@ mod cuts;
 mod errors;
 mod heads;
 mod levels;
-mod places;
 mod quoted;
 mod reading;
 

@@ -17,8 +17,8 @@ use crate::cuts::after;
 use crate::errors::{ReadError, Stop};
 use crate::heads::{Head, read_head};
 use crate::levels::{Level, Next, enter_list, enter_map, settle};
-use crate::places::line_and_column;
 use std::alloc::Allocator;
+use yaml_base::place_of;
 use yaml_value::Value;
 
 /// The maximum nesting depth of lists and maps.
@@ -91,7 +91,7 @@ fn read_text<A: Allocator + Copy>(alloc: A, text: &str) -> Result<Value<A>, Stop
 }
 
 fn not_canonical(bytes: &[u8], offset: usize) -> ReadError {
-    let (line, column) = line_and_column(bytes, offset);
+    let (line, column) = place_of(bytes, offset);
     ReadError::NotCanonical { line, column }
 }
 
@@ -101,7 +101,7 @@ fn error_of(bytes: &[u8], stop: Stop) -> ReadError
     match stop {
         Stop::Refused(left) => not_canonical(bytes, bytes.len().saturating_sub(left)),
         Stop::TooDeep(left) => {
-            let (line, column) = line_and_column(bytes, bytes.len().saturating_sub(left));
+            let (line, column) = place_of(bytes, bytes.len().saturating_sub(left));
             ReadError::TooDeep { line, column }
         }
         Stop::Memory => ReadError::Memory,

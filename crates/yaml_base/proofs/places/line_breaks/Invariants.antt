@@ -1,7 +1,7 @@
 use Rattle.std.proofs.Common.{◌≡◌, ◌+◌}
 use Rattle.std.specs.List.{count_by}
 use Rattle.yaml_base.specs.values.LinesAndColumns.{is_line_feed}
-use Rattle.yaml_json.proofs.places.line_breaks.Given as goal
+use Rattle.yaml_base.proofs.places.line_breaks.Given as goal
 
 abbrev pub invariant-loop-block : goal.invariant-loop-block
 invariant-loop-block l =

@@ -2,7 +2,7 @@ use Rattle.std.proofs.Common.{◌≡◌, ℕ, ◌+◌, cond, List, ◌++◌, ap,
 use Rattle.std.proofs.lemmas.List.Sums.{count_by-le-length, sum_by-append}
 use Rattle.std.specs.List.{count_by}
 use Rattle.yaml_base.specs.values.LinesAndColumns.{is_line_feed}
-use Rattle.yaml_json.proofs.places.line_breaks.Goals as goal
+use Rattle.yaml_base.proofs.places.line_breaks.Goals as goal
 
 -- those of a block more are counted
 block_counted : (count found : ℕ) (rest block later all : List ℕ) → count + count_by is_line_feed rest ≡ count_by is_line_feed all

@@ -5,7 +5,7 @@ use Rattle.std.proofs.lemmas.List.{take_all}
 use Rattle.std.specs.Fmt.{is_char_start}
 use Rattle.std.specs.List.{after_last, count_by}
 use Rattle.yaml_base.specs.values.LinesAndColumns.{is_line_feed}
-use Rattle.yaml_json.proofs.places.place_of.Goals as goal
+use Rattle.yaml_base.proofs.places.place_of.Goals as goal
 
 -- an offset past the end is the end
 up_to : (text : List ℕ) (offset end : ℕ) → end ≡ min offset (length text) → take end text ≡ take offset text
