@@ -10,9 +10,10 @@ use Rattle.yaml_writer.specs.Writing.{StandsTaken, WriterState, opening}
 use Rattle.yaml_json.specs.Failing.{between}
 use Rattle.yaml_json.specs.JsonEvents.{json_events}
 use Rattle.yaml_json.specs.Refused.{HaveNamesOnce}
-use Rattle.yaml_json.specs.Sent.{BeginsNext, WroteTaking}
+use Rattle.yaml_json.specs.Sent.{BeginsNext, Sends, WroteTaking}
 use Rattle.yaml_json.specs.Texts.{texts_in}
 use Rattle.yaml_json.specs.Wrote.{AreJson, parts_events}
+use Rattle.yaml_json.specs.declared.error.StreamError.{StreamError}
 use Rattle.yaml_json.specs.declared.settings.JsonSettings.{JsonSettings}
 use Rattle.yaml_json.proofs.GivenAndTaken.{appends_then, taking_then}
 use Rattle.yaml_json.proofs.TextsInTurn.{some_text}
@@ -46,13 +47,13 @@ both_events canonical in_flow first (second ∷ rest) next more =
 -- ---- what the calls say
 
 -- what is known of a reader's bytes is known of a file's
-pub file_known : {E : Type 0} (answer : Result (Unit {0}) E) (known left : Option (List ℕ)) (P Q : List ℕ → Type 0)
-    → IfSome known (λ bytes. left ≡ Some bytes) → OnOk answer (IfSome left (λ text. P text × Q text))
-    → OnOk answer ((file : List ℕ) → known ≡ Some file → P file)
-file_known (Err error) known left P Q opened sent = tt
-file_known (Ok done) known left P Q opened sent = λ file is.
+pub file_known : (settings : JsonSettings) (answer : Result (Unit {0}) StreamError) (known left : Option (List ℕ)) (was now : WriterState)
+    (before after : Option (List ℕ)) → IfSome known (λ bytes. left ≡ Some bytes) → IfSome left (λ text. Sends settings text was before answer now after)
+    → OnOk answer ((file : List ℕ) → known ≡ Some file → SentFile settings file was before now after)
+file_known settings (Err error) known left was now before after opened sends = tt
+file_known settings (Ok done) known left was now before after opened sends = λ file is.
     let at : left ≡ Some file = subst (λ (k : Option (List ℕ)). IfSome k (λ bytes. left ≡ Some bytes)) is opened in
-    (subst (λ (bytes : Option (List ℕ)). IfSome bytes (λ text. P text × Q text)) at sent).0
+    subst (λ (bytes : Option (List ℕ)). IfSome bytes (λ text. SentFile settings text was before now after)) at sends
 
 module _ (settings : JsonSettings) where
   -- a file

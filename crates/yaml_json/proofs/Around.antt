@@ -3,7 +3,7 @@ use Rattle.yaml_json.proofs.Common.{ℕ, ◌+◌, ◌-◌, ◌<◌, ◌≤◌, L
 use Rattle.yaml_json.proofs.Common.{arith, flat_map, texts_in, HasScanned, CutsAt}
 use Rattle.yaml_json.proofs.Common.{flat_map-append, length-take-le, take-append-drop}
 use Rattle.yaml_json.proofs.Cutting.{whole_text}
-use Rattle.yaml_json.proofs.Sending.{suffix_on}
+use Rattle.yaml_json.proofs.SendingSteps.{suffix_on}
 use Rattle.yaml_json.specs.Places.{HasInText}
 use Rattle.yaml_json.specs.declared.cuts.Cut.{Cut}
 

@@ -32,7 +32,7 @@ pub use Rattle.yaml_json.specs.Refused.{RefusesText, BreaksOff, OpensTooDeep, Na
 pub use Rattle.yaml_json.specs.Sent.{Advances, StopsWithin, IsScanned}
 pub use Rattle.yaml_json.specs.Walk.{unwind, Stands, IsScalar, opener, closer, KeepsNames, FitsNames, Keeps, HasUniqueNames, BeganValue, BeginFailed}
 pub use Rattle.yaml_json.specs.Walk.{RefusesToken, BeganFirstValue, FirstFailed, RefusesFirst, WhyStopped, Refuses, WalkProgress}
-pub use Rattle.yaml_json.specs.Wrote.{IsBare, Wrote, WroteEvent, start_event, StartsCollection, Ends, WroteText, AreJson, parts_events, ReadsTexts}
+pub use Rattle.yaml_json.specs.Wrote.{IsBare, Wrote, WroteEvent, start_event, WroteText, AreJson, parts_events, ReadsTexts}
 pub use Rattle.yaml_writer.{proofs.PartLemmas.number_found, specs.NumberParts.number_in, specs.NumberParts.IsNumber}
 pub use Rattle.yaml_writer.specs.Writing.{WriterState, opening, closing, float_tag, number_tag, number_event, text_style, text_event, mapping_event}
 pub use Rattle.yaml_writer.specs.Writing.{sequence_event, end_event, with_collection, StandsTaken, AddsEvents, PassedEvents, GaveEvent, EndsInnermost}

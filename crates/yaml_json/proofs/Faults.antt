@@ -4,7 +4,8 @@ use Rattle.std.proofs.Common.{append_assoc, append-nil, take-append-drop}
 use Rattle.std.proofs.lemmas.Bool.{cases_lt, true≢false}
 use Rattle.std.proofs.lemmas.List.{append_cancel_right, drop_all}
 use Rattle.json.specs.Json.{Json}
-use Rattle.json.specs.Lex.{Lexeme, Place, after_key, after_value, begins_colon, between, colon, comma, fresh, if_allowed, in_word, lex, place_token, may_begin, punctuate, token, tokens}
+use Rattle.json.specs.Lex.{Lexeme, Place, after_key, after_value, begins_colon, between, colon, comma, fresh, if_allowed, in_word, lex, place_token}
+use Rattle.json.specs.Lex.{may_begin, punctuate, token, tokens}
 use Rattle.json.specs.Strict.{HasUniqueKeys}
 use Rattle.json.specs.Token.{Token, bad, key, string}
 use Rattle.json.specs.Tree.{json_tokens}
@@ -25,7 +26,8 @@ use Rattle.yaml_json.proofs.ModeSteps.{goes_on}
 use Rattle.yaml_json.proofs.PunctuateSteps.{as_placed, lex-stray, put-key, put-string}
 use Rattle.yaml_json.proofs.Reaching.{is_placed, no_key_place}
 use Rattle.yaml_json.proofs.Refusing.{nothing_past}
-use Rattle.yaml_json.proofs.Spelling.{AllGood, AreSpelled, are_spelled, due_at, goes_on_at, good_back, good_front, json_ends, json_good, last_same, nothing_left, spelled, spelled_colon}
+use Rattle.yaml_json.proofs.Spelling.{AllGood, AreSpelled, are_spelled, due_at, goes_on_at, good_back, good_front, json_ends, json_good, last_same}
+use Rattle.yaml_json.proofs.Spelling.{nothing_left, spelled, spelled_colon}
 
 -- ---- where a lexeme begins
 
@@ -83,7 +85,8 @@ colon_alone colon one other = refl
 follows_first : (rest : List ℕ) (l : Lexeme) (ls more : List Lexeme) → lex between rest ≡ l ∷ ls → FollowsAs (l ∷ more) rest
 follows_first rest l ls more is e = ap begins_colon is ∙ colon_alone l ls more ∙ e
 
-pub some_append : (front : List Token) (x : Token) (u : List Token) (json : Json) → front ++ x ∷ u ≡ json_tokens json → IsPrefix (front ++ x ∷ []) (json_tokens json)
+pub some_append : (front : List Token) (x : Token) (u : List Token) (json : Json) → front ++ x ∷ u ≡ json_tokens json
+    → IsPrefix (front ++ x ∷ []) (json_tokens json)
 some_append front x u json is = record { rest = u; parts = append_assoc front (x ∷ []) u ∙ is }
 
 -- ---- the reader where the writing stops
@@ -133,7 +136,8 @@ module _ (allowed : Json → Type 0) (text : List ℕ) (taken left : List Token)
   rest = drop at text
 
   -- some allowed value goes on with a value or a name
-  begins_here : (json : Json) → allowed json → (x : Token) → IsBeginner x → IsPrefix (taken ++ x ∷ []) (json_tokens json) → BeginLexemes allowed here.have.passed
+  begins_here : (json : Json) → allowed json → (x : Token) → IsBeginner x → IsPrefix (taken ++ x ∷ []) (json_tokens json)
+      → BeginLexemes allowed here.have.passed
   begins_here json is x beginner begins =
       let tokens_are : taken ++ x ∷ begins.rest ≡ json_tokens json = sym (append_assoc taken (x ∷ []) begins.rest) ∙ begins.parts in
       let good = good_back taken (x ∷ begins.rest) (subst AllGood (sym tokens_are) (json_good json)) in
@@ -265,7 +269,8 @@ module _ (text : List ℕ) (taken left : List Token) (last at : ℕ) (here : Sta
             → others.others ≡ ls → NoneGoOn IsAny (here.have.passed ++ token (string s) ∷ []) ls
         none_as [] found same = λ json allow e.
             never json after
-            (ap (λ (l : List Token). taken ++ l) (sym is ∙ here.left_is ∙ ap (punctuate (place_of here.stage)) (found.are ∙ ap (λ (l : List Lexeme). token (string s) ∷ l) same))
+            (ap (λ (l : List Token). taken ++ l) (sym is ∙ here.left_is ∙ ap (punctuate (place_of here.stage))
+            (found.are ∙ ap (λ (l : List Lexeme). token (string s) ∷ l) same))
             ∙ sym (read_as []) ∙ e)
         none_as (l ∷ ls) found same = λ so.
             let json = so.0 in

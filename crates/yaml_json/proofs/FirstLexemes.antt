@@ -2,7 +2,8 @@
 use Rattle.std.proofs.Common.{◌≡◌, ℕ, Bool, true, false, cond, ◌==◌, List, [], ◌∷◌, refl, sym, subst, ap, ◌∙◌}
 use Rattle.std.proofs.lemmas.Bool.{true≢false, false_from_ne_true}
 use Rattle.json.specs.Ascii as ascii
-use Rattle.json.specs.Lex.{Lexeme, Mode, Place, after_comma, after_key, after_value, backslash, begins_colon, between, colon, comma, fresh, if_allowed, in_string}
+use Rattle.json.specs.Lex.{Lexeme, Mode, Place, after_comma, after_key, after_value, backslash, begins_colon, between, colon, comma, fresh, if_allowed}
+use Rattle.json.specs.Lex.{in_string}
 use Rattle.json.specs.Lex.{in_word, lex, lex_byte, may_begin, may_close, operator, other, place_token, punctuate, quote, space, string_token, token}
 use Rattle.json.specs.Text.{content, plain}
 use Rattle.json.specs.Token.{Token, begin_object, end_object, begin_array, end_array, key, string, number, boolean, null, bad}

@@ -1,5 +1,5 @@
 -- What a call gave to a writer and took from it.
-use Rattle.yaml_json.proofs.Common.{ℕ, OnOk, Option, None, Some, Result, Err, Ok, length, Bool, List, []}
+use Rattle.yaml_json.proofs.Common.{ℕ, Option, None, Some, Err, Ok, length, Bool, List, []}
 use Rattle.yaml_json.proofs.Common.{◌++◌, ◌∷◌, refl, ◌≡◌, append-nil, append_assoc, ap, subst, sym, ◌∙◌}
 use Rattle.yaml_json.proofs.Common.{flat_map-append, Appends, Json, Event, between, events_with_separators}
 use Rattle.yaml_json.proofs.Common.{json_events, IsBare, Wrote}
@@ -16,12 +16,6 @@ use Rattle.yaml_json.specs.Places.{HasPlaceWithin}
 use Rattle.yaml_json.specs.Sent.{AddsTaking, WroteTaking, BeginsNext, BeginsUnsent, GivesSink, StopsInPart, StopsPartAt}
 use Rattle.yaml_json.specs.declared.error.StreamError.{StreamError}
 use Rattle.yaml_json.specs.declared.error.StreamError.TheVariants as faults
-
--- ---- what follows where a call succeeds, or fails
-
-pub on_all : {A E P Q R S : Type 0} (answer : Result A E) → (P → Q → R → S) → OnOk answer P → OnOk answer Q → OnOk answer R → OnOk answer S
-on_all (Ok value) follows held also more = follows held also more
-on_all (Err error) follows held also more = tt
 
 -- ---- known bytes that grow
 

@@ -1,5 +1,6 @@
 -- A writer's text and output only grow, and its emitter has no error but the one that is said.
-use Rattle.yaml_json.proofs.Common.{[], append-nil, subst, sym, Option, None, Some, Result, Ok, Err, List, ◌≡◌, inl, inr, some_from_result, Event, failure_of, WriterState, PassedEvents}
+use Rattle.yaml_json.proofs.Common.{[], append-nil, subst, sym, Option, None, Some, Result, Ok, Err, List, ◌≡◌, inl, inr, some_from_result, Event, failure_of}
+use Rattle.yaml_json.proofs.Common.{WriterState, PassedEvents}
 use Rattle.yaml_base.specs.declared.errors.yaml_error_t.{yaml_error_t}
 use Rattle.yaml_json.proofs.Common.{refl, OnOk, IfErr}
 use Rattle.yaml_json.specs.{Failing.writers_error, Sent.IsByReader, Sent.IsSoundSending, Sent.emitter_error, declared.error.JsonError.JsonError}

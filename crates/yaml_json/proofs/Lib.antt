@@ -12,6 +12,9 @@ pub mod Stops
 pub mod TextStops
 pub mod Growing
 pub mod Taking
+pub mod WholeWalk
+pub mod WalkCalls
+pub mod Closing
 pub mod NumberBridge
 pub mod Trees
 pub mod Meanings
@@ -21,6 +24,8 @@ pub mod YamlOf
 pub mod TextsInTurn
 pub mod GivenAndTaken
 pub mod Sending
+pub mod SendingSteps
+pub mod Coming
 pub mod Accepting
 pub mod OnlyDepth
 pub mod Unfailed

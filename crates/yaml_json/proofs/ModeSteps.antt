@@ -1,5 +1,6 @@
 -- The lexer's mode, byte by byte.
-use Rattle.std.proofs.Common.{◌≡◌, ℕ, zero, suc, ◌+◌, ◌-◌, ◌<◌, ◌≤◌, Bool, true, false, cond, ◌||◌, ◌==◌, List, [], ◌∷◌, ◌++◌, drop, get_or, length, refl, sym, ap, ◌∙◌}
+use Rattle.std.proofs.Common.{◌≡◌, ℕ, zero, suc, ◌+◌, ◌-◌, ◌<◌, ◌≤◌, Bool, true, false, cond, ◌||◌, ◌==◌, List, [], ◌∷◌, ◌++◌, drop, get_or, length, refl}
+use Rattle.std.proofs.Common.{sym, ap, ◌∙◌}
 use Rattle.std.proofs.Common.{subst, arith, append_assoc, inl, inr}
 use Rattle.std.proofs.lemmas.Bool.{true≢false, or_parts}
 use Rattle.std.proofs.lemmas.List.{drop_all, drop_more}
@@ -46,8 +47,10 @@ or_case false b f g e = g e
 
 parts_class : (x : ℕ) → (is_operator x || is_space x) ≡ true → (mode_after between (class x) ≡ between) × (mode_after in_word (class x) ≡ between)
 parts_class x e = or_case (is_operator x) (is_space x)
-    (each_operator (λ y. (mode_after between (class y) ≡ between) × (mode_after in_word (class y) ≡ between)) (refl, refl) (refl, refl) (refl, refl) (refl, refl) (refl, refl) (refl, refl) x)
-    (each_space (λ y. (mode_after between (class y) ≡ between) × (mode_after in_word (class y) ≡ between)) (refl, refl) (refl, refl) (refl, refl) (refl, refl) x) e
+    (each_operator (λ y. (mode_after between (class y) ≡ between) × (mode_after in_word (class y) ≡ between)) (refl, refl) (refl, refl) (refl, refl)
+    (refl, refl) (refl, refl) (refl, refl) x)
+    (each_space (λ y. (mode_after between (class y) ≡ between) × (mode_after in_word (class y) ≡ between)) (refl, refl) (refl, refl) (refl, refl)
+    (refl, refl) x) e
 
 past_delimiter : (from : Mode) (x : ℕ) (xs : List ℕ) → (is_operator x || is_space x) ≡ true → EndsBefore from (x ∷ xs) → mode_after from (class x) ≡ between
 past_delimiter between x xs e may = (parts_class x e).0

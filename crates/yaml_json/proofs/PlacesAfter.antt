@@ -1,6 +1,7 @@
 -- The line and the column of an offset in a text that follows others.
 use Prim.Native.Nat.{min}
-use Rattle.std.proofs.Common.{◌≡◌, ◌⊎◌, ℕ, ◌+◌, ◌-◌, ◌<◌, ◌≤◌, Bool, true, false, cond, not, ◌==◌, List, [], ◌∷◌, ◌++◌, drop, take, length, refl, sym, subst, ap, ◌∙◌, arith, inl, inr}
+use Rattle.std.proofs.Common.{◌≡◌, ◌⊎◌, ℕ, ◌+◌, ◌-◌, ◌<◌, ◌≤◌, Bool, true, false, cond, not, ◌==◌, List, [], ◌∷◌, ◌++◌, drop, take, length, refl, sym, subst}
+use Rattle.std.proofs.Common.{ap, ◌∙◌, arith, inl, inr}
 use Rattle.std.proofs.Math.Seq.{drop-append-add, take-append-add, take-length}
 use Rattle.std.proofs.lemmas.Bool.{cases_lt, ne_eqb}
 use Rattle.std.proofs.lemmas.List.{drop-append-le, length-append, length-drop, length-reverse, length-take-le, reverse-append}
@@ -125,7 +126,8 @@ module _ (front part : List ℕ) (at : ℕ) where
   pub same_line : line_of part at ≤ 1 → column_of (front ++ part) (length front + at) + 1 ≡ column_of front (length front) + column_of part at
   same_line few =
       let none : count_by is_line_feed (take at part) ≡ 0 = omega (arith, few) in
-      let last = ap (λ (t : List ℕ). count_by is_char_start (after_last is_line_feed t)) there ∙ ap (count_by is_char_start) (last_none is_line_feed front (take at part) none)
+      let last = ap (λ (t : List ℕ). count_by is_char_start (after_last is_line_feed t)) there
+      ∙ ap (count_by is_char_start) (last_none is_line_feed front (take at part) none)
       ∙ count_more is_char_start (after_last is_line_feed front) (take at part) in
       let first = ap (λ (t : List ℕ). count_by is_char_start (after_last is_line_feed t)) whole in
       let rest = ap (count_by is_char_start) (last_none is_line_feed [] (take at part) none) in

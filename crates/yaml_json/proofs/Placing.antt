@@ -55,7 +55,8 @@ module _ (depth : ℕ) (unique in_flow : Bool) (text : List ℕ) (before : List 
       → json_tokens json ≡ taken → (left ≡ [] → ⊥) → IsPast text last at → CannotStandAt IsAny text at
   past_whole taken left front t is were parts json whole some past =
       let here = stands_here text front (t ∷ left) last (subst (λ (l : List Token). AreFrom text l last) were from)
-      (sym (append_assoc front (t ∷ []) left) ∙ ap (λ (l : List Token). l ++ left) (sym is) ∙ parts) json (record { rest = t ∷ []; parts = sym (whole ∙ is) }) in
+      (sym (append_assoc front (t ∷ []) left) ∙ ap (λ (l : List Token). l ++ left) (sym is) ∙ parts) json
+      (record { rest = t ∷ []; parts = sym (whole ∙ is) }) in
       past_value text front t left last at here past json (whole ∙ is) some
 
   too_deep : (taken left : List Token) → before ≡ left → taken ++ left ≡ tokens text → OpensTooDeepAt depth unique taken left

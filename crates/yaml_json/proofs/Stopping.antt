@@ -1,6 +1,6 @@
 -- What a writer was given when it failed.
 use Rattle.yaml_json.proofs.Common.{IfSome, IfErr, OnOk, Option, None, Some, Result, Ok, Err, List, [], ◌++◌, ◌∷◌, ◌⊎◌, ◌≡◌, inl, inr, subst, sym, ◌∙◌}
-use Rattle.yaml_json.proofs.Common.{unwrap_or, Event, some_from_result, failure_of, emitter_error_of, RefusesText, Ends}
+use Rattle.yaml_json.proofs.Common.{unwrap_or, Event, some_from_result, failure_of, emitter_error_of, RefusesText}
 use Rattle.yaml_json.specs.{Failing.FailedAtEnd, Failing.IsAnswer, Failing.Kept, Failing.SoundAfter, Failing.TellsOf, Refused.IsByText}
 use Rattle.yaml_json.specs.{Walk.ReadsNone, declared.values.Stop.Stop}
 use Rattle.yaml_json.proofs.Common.{Token, refl, ap, State}
@@ -21,17 +21,6 @@ if_some (Some value) follows held = follows value held
 whatever : {A : Type 0} {P : A → Type 0} (found : Option A) → ((value : A) → P value) → IfSome found P
 whatever None held = tt
 whatever (Some value) held = held value
-
--- what follows where the text is refused
-pub if_err : {P : Stop → Type 0} (answer : Result (Unit {0}) Stop) → ((stop : Stop) → ⊥ → P stop) → (RefusesText answer → ⊥)
-    → IfErr answer (λ stop. IsByText stop → P stop)
-if_err (Ok done) follows never = tt
-if_err (Err stop) follows never = λ by_text. follows stop (never by_text)
-
-pub err_by_text : {P Q : Stop → Type 0} {S : Type 0} (answer : Result (Unit {0}) Stop) → ((stop : Stop) → S → P stop → Q stop)
-    → (RefusesText answer → S) → IfErr answer P → IfErr answer (λ stop. IsByText stop → Q stop)
-err_by_text (Ok done) follows same refused = tt
-err_by_text (Err stop) follows same refused = λ by_text. follows stop (same by_text) refused
 
 -- ---- answers
 
@@ -78,7 +67,8 @@ answered_at P before after event answer result is held failed =
 -- so of a collection's end
 pub answered_end : (before after : WriterState) (answer : Result (Unit {0}) yaml_error_t) (result : Result (Unit {0}) Stop) → IsAnswer answer result
     → EndsInnermost before answer after
-    → OnOk result (Ends before after) × (RefusesText result → ⊥) × IfSome (emitter_error_of after result) (λ error. FailedAtEnd before error after)
+    → OnOk result (EndsInnermost before (Ok tt) after) × (RefusesText result → ⊥)
+    × IfSome (emitter_error_of after result) (λ error. FailedAtEnd before error after)
 answered_end before after (Ok done) (Ok same) is ends = (ends, (λ refused. refused), tt)
 answered_end before after (Ok done) (Err stop) is ends = absurd is
 answered_end before after (Err error) (Ok same) is ends = absurd is

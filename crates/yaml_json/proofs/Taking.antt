@@ -1,18 +1,21 @@
 -- What the writer was given while the tokens of a value are walked over.
-use Rattle.yaml_json.proofs.Common.{ℕ, ◌-◌, ◌<◌, length, take, Bool, List, [], ◌++◌, ◌∷◌, refl, ◌≡◌, append-nil, append_assoc, inl, inr, ap, subst}
-use Rattle.yaml_json.proofs.Common.{sym, ◌∙◌, arith, append_cancel_right, left_some, value, skip_value, Token, json_tokens, Event, BeginsValue, FailedWith}
-use Rattle.yaml_json.proofs.Common.{FailedAt, token_events, tokens_events, Stands, IsScalar, opener, closer, KeepsNames, BeganValue, BeginFailed}
-use Rattle.yaml_json.proofs.Common.{BeganFirstValue, FirstFailed, Refuses, WalkProgress, IsBare, WroteEvent, start_event, StartsCollection, Ends}
-use Rattle.yaml_json.proofs.Common.{IfSome, failure_of, WriterState, end_event, StandsTaken, AddsEvents}
+use Rattle.yaml_json.proofs.Common.{ℕ, ◌-◌, ◌<◌, length, take, Bool, List, [], ◌++◌, ◌∷◌, refl, ◌≡◌, append-nil, append_assoc, inl, inr, ap, subst, sym, ◌∙◌}
+use Rattle.yaml_json.proofs.Common.{arith, value, Token, Event, BeginsValue, FailedWith, FailedAt, token_events, tokens_events, Stands, IsScalar, opener}
+use Rattle.yaml_json.proofs.Common.{closer, BeganValue, BeginFailed, BeganFirstValue, FirstFailed, IsBare, WroteEvent, start_event, IfSome, failure_of}
+use Rattle.yaml_json.proofs.Common.{WriterState, end_event, StandsTaken, AddsEvents, GaveEvent, with_collection, None, Ok, EndsInnermost}
 use Rattle.std.proofs.Math.Seq.{take-append_seam}
-use Rattle.yaml_base.specs.declared.errors.{yaml_error_t.yaml_error_t, yaml_error_t.TheVariants.Memory}
-use Rattle.yaml_json.{proofs.KeepingNames.NamesSoFar, proofs.Stopping.end_failed, proofs.Stopping.if_some, proofs.Stops.unread_memory, proofs.Stops.adds_none}
-use Rattle.yaml_json.proofs.{TokenLemmas.value_spelled, TokenLemmas.some_then, TokenLemmas.value_given, WroteLemmas.adds_then, WroteLemmas.ended}
-use Rattle.yaml_json.specs.{Failing.FailedAtEnd, Failing.FailedInValue, Wrote.WroteValue, declared.names.Names.Names, declared.values.Stop.Stop}
-use Rattle.yaml_json.proofs.Walking.{longer, closed_stands, closes_value, value_begins, awaiting_whole, awaiting_item, awaiting_named, next_stands}
-use Rattle.yaml_json.proofs.Stops.{all_left}
-use Rattle.yaml_json.specs.Walk.{ReadsNone, Stood, StopsWriting, Gives, FailsGiving, Stepped, StepFailed}
-use Rattle.yaml_emitter.specs.declared.place.{CollectionKind.CollectionKind, CollectionKind.TheVariants.Mapping, CollectionKind.TheVariants.Sequence}
+use Rattle.yaml_base.specs.declared.errors.yaml_error_t.{yaml_error_t}
+use Rattle.yaml_base.specs.declared.errors.yaml_error_t.TheVariants.{Memory}
+use Rattle.yaml_json.proofs.Stopping.{end_failed, if_some}
+use Rattle.yaml_json.proofs.Stops.{unread_memory, adds_none}
+use Rattle.yaml_json.proofs.TokenLemmas.{some_then}
+use Rattle.yaml_json.proofs.WroteLemmas.{adds_then, ended}
+use Rattle.yaml_json.specs.Failing.{FailedAtEnd}
+use Rattle.yaml_json.specs.declared.values.Stop.{Stop}
+use Rattle.yaml_json.proofs.Walking.{longer, closed_stands, closes_value, value_begins, awaiting_item, awaiting_named, next_stands}
+use Rattle.yaml_json.specs.Walk.{ReadsNone, Stood, Gives, FailsGiving, Stepped, StepFailed}
+use Rattle.yaml_emitter.specs.declared.place.CollectionKind.{CollectionKind}
+use Rattle.yaml_emitter.specs.declared.place.CollectionKind.TheVariants.{Mapping, Sequence}
 
 -- ---- the writer
 
@@ -55,7 +58,7 @@ opener_events Sequence canonical in_flow = refl
 opener_events Mapping canonical in_flow = refl
 
 pub gives_start : (in_flow : Bool) (levels : List CollectionKind) (before after : WriterState) (kind : CollectionKind)
-    → StartsCollection in_flow kind before after → Gives in_flow levels before (opener kind ∷ []) (levels ++ kind ∷ []) after
+    → GaveEvent (with_collection before kind) (start_event in_flow kind) None after → Gives in_flow levels before (opener kind ∷ []) (levels ++ kind ∷ []) after
 gives_start in_flow levels before after kind gave was so stood =
     record {
       adds = given_on in_flow was before after so (opener kind) (start_event in_flow kind) stood.adds (opener_events kind was.canonical in_flow)
@@ -71,7 +74,7 @@ closer_events Sequence canonical in_flow = refl
 closer_events Mapping canonical in_flow = refl
 
 pub gives_end : (in_flow : Bool) (outer : List CollectionKind) (before after : WriterState) (kind : CollectionKind)
-    → Ends before after → Gives in_flow (outer ++ kind ∷ []) before (closer kind ∷ []) outer after
+    → EndsInnermost before (Ok tt) after → Gives in_flow (outer ++ kind ∷ []) before (closer kind ∷ []) outer after
 gives_end in_flow outer before after kind ends was so stood =
     let end = ended (was.levels ++ outer) kind before after (stood.levels_are ∙ sym (append_assoc was.levels outer (kind ∷ []))) stood.bare ends in
     record {
@@ -133,7 +136,7 @@ module _ (depth : ℕ) (in_flow : Bool) (levels : List CollectionKind) (before a
 
   -- a collection begins
   pub opener_began : (opened : List CollectionKind) (kind : CollectionKind) → length levels < depth → opened ≡ levels ++ kind ∷ []
-      → StartsCollection in_flow kind before after → BeganValue depth in_flow (opener kind) levels before opened after
+      → GaveEvent (with_collection before kind) (start_event in_flow kind) None after → BeganValue depth in_flow (opener kind) levels before opened after
   opener_began opened kind fits is starts =
       record {
         begins = inr (kind, refl, fits, is);
@@ -168,7 +171,7 @@ module _ (depth : ℕ) (in_flow : Bool) (ahead : List Token) (levels outer : Lis
     (is : levels ≡ outer ++ kind ∷ []) (before : WriterState) where
   -- a collection is closed
   pub step_closes : (after : List Token) (opened : List CollectionKind) (now : WriterState) → ahead ≡ closer kind ∷ after
-      → opened ≡ take (length levels - 1) levels → Ends before now → Stepped depth in_flow ahead levels before after opened now
+      → opened ≡ take (length levels - 1) levels → EndsInnermost before (Ok tt) now → Stepped depth in_flow ahead levels before after opened now
   step_closes after opened now first rest ends =
       let same = innermost_gone levels outer opened kind is rest in
       record {
@@ -319,106 +322,3 @@ module _ (depth : ℕ) (in_flow : Bool) (levels outer : List CollectionKind) (is
         (λ so stands. value_begins depth ((so ++ Token.key key ∷ []) ++ failed.token ∷ []) failed.failed.opened
         (next_stands depth (so ++ Token.key key ∷ []) levels failed.failed.opened failed.token failed.after
         (awaiting_named depth so levels outer key is stands (failed.token ∷ failed.after)) failed.failed.begins))
-
--- ---- the whole walk
-
-module _ (depth : ℕ) (in_flow : Bool) (start : List Token) (was : WriterState) where
-  -- the first token of the value was given
-  pub first_so_far : (after : List Token) (opened : List CollectionKind) (now : WriterState) → IsBare was
-      → BeganFirstValue depth in_flow start [] was after opened now → WalkProgress depth in_flow start was after opened now
-  first_so_far after opened now bare began =
-      record {
-        taken = began.token ∷ [];
-        parts = sym began.first;
-        stood = began.began.gives was [] (stood_nothing in_flow was bare);
-        stands = next_stands depth [] [] opened began.token after (awaiting_whole depth (began.token ∷ after)) began.began.begins;
-      }
-
-  -- or the writer failed
-  nothing_given : (error : yaml_error_t) (now : WriterState) → IsBare was → error ≡ Memory → now ≡ was → FailedInValue depth in_flow start was error now
-  nothing_given error now bare memory same = (
-    [],
-    (
-      record {
-        left = start;
-        parts = refl;
-        gave = record { adds = adds_none in_flow [] was now same was [] (stood_nothing in_flow was bare); is_error = inl memory };
-      },
-      closes_value depth [] (awaiting_whole depth start).begins,
-    ),
-  )
-
-  first_given : (error : yaml_error_t) (now : WriterState) → IsBare was → (token : Token) (after : List Token) → start ≡ token ∷ after
-      → FailsGiving in_flow [] was (token ∷ []) error now → BeginsValue depth (token ∷ []) → FailedInValue depth in_flow start was error now
-  first_given error now bare token after first (inl memory) begins = nothing_given error now bare memory.0 memory.1
-  first_given error now bare token after first (inr fails) begins =
-      (token ∷ [], (record { left = after; parts = sym first; gave = fails was [] (stood_nothing in_flow was bare) }, begins))
-
-  pub first_failed : (error : yaml_error_t) (now : WriterState) → IsBare was → FirstFailed depth in_flow start [] was error now
-      → FailedInValue depth in_flow start was error now
-  first_failed error now bare (inl memory) = nothing_given error now bare memory.0 memory.1
-  first_failed error now bare (inr failed) =
-      first_given error now bare failed.token failed.after failed.first failed.failed.fails
-      (value_begins depth (failed.token ∷ []) failed.failed.opened
-      (next_stands depth [] [] failed.failed.opened failed.token failed.after (awaiting_whole depth (failed.token ∷ failed.after)) failed.failed.begins))
-
-  module _ (ahead : List Token) (levels : List CollectionKind) (now : WriterState) (so_far : WalkProgress depth in_flow start was ahead levels now) where
-    -- a step was made
-    pub steps_on : (after : List Token) (opened : List CollectionKind) (later : WriterState)
-        → Stepped depth in_flow ahead levels now after opened later → WalkProgress depth in_flow start was after opened later
-    steps_on after opened later step =
-        record {
-          taken = so_far.taken ++ step.taken;
-          parts = append_assoc so_far.taken step.taken after ∙ ap (λ (all : List Token). so_far.taken ++ all) (sym step.parts) ∙ so_far.parts;
-          stood = step.gives was so_far.taken so_far.stood;
-          stands = step.moves so_far.taken so_far.stands;
-        }
-
-    pub step_failed : (error : yaml_error_t) (later : WriterState) → StepFailed depth in_flow ahead levels now error later
-        → FailedInValue depth in_flow start was error later
-    step_failed error later failed = (
-      so_far.taken ++ failed.taken,
-      (
-        record {
-          left = failed.left;
-          parts = append_assoc so_far.taken failed.taken failed.left ∙ ap (λ (all : List Token). so_far.taken ++ all) failed.parts ∙ so_far.parts;
-          gave = failed.fails was so_far.taken so_far.stood;
-        },
-        failed.begins so_far.taken so_far.stands,
-      ),
-    )
-
-    -- or the text stops it
-    pub step_stopped : {A : Type 0} (unique : Bool) (held : Names A) → NamesSoFar start ahead held → (stop : Stop) (later : WriterState)
-        → (left : List Token) → Refuses depth unique in_flow levels held ahead left now stop later
-        → StopsWriting depth unique in_flow start left was stop later
-    step_stopped unique held names stop later left refuses =
-        let same = append_cancel_right names.taken so_far.taken ahead (names.parts ∙ sym so_far.parts) in
-        record {
-          taken = so_far.taken ++ refuses.taken;
-          left = left;
-          parts = append_assoc so_far.taken refuses.taken left ∙ ap (λ (all : List Token). so_far.taken ++ all) refuses.parts ∙ so_far.parts;
-          why = refuses.why so_far.taken so_far.stands (subst (λ (all : List Token). KeepsNames all held) same names.kept);
-          place = refuses.place so_far.taken so_far.stands (subst (λ (all : List Token). KeepsNames all held) same names.kept);
-          were = all_left stop (so_far.taken ++ refuses.taken) left refuses.inside;
-          adds = refuses.adds was so_far.taken so_far.stood;
-        }
-
-    -- nothing is open: the value was given
-    pub all_written : levels ≡ [] → WroteValue depth in_flow start was ahead now
-    all_written none =
-        let stood = subst (λ (all : List CollectionKind). Stood in_flow was so_far.taken all now) none so_far.stood in
-        let stands = subst (Stands depth so_far.taken) none so_far.stands in
-        let found = left_some (value depth start) ahead (ap (skip_value depth) (sym so_far.parts) ∙ (stands depth (omega arith)).1 ahead) in
-        let same = append_cancel_right so_far.taken (json_tokens found.0) ahead (so_far.parts ∙ value_spelled depth start ahead found.0 found.1) in
-        record {
-          json = found.0;
-          read = found.1;
-          wrote = record {
-            adds = subst (λ (events : List Event). AddsEvents was.emitter events now.emitter)
-                (ap (tokens_events was.canonical in_flow) same ∙ value_given found.0 was.canonical in_flow) stood.adds;
-            canonical = stood.canonical;
-            levels = stood.levels_are ∙ append-nil was.levels;
-            bare = stood.bare;
-          };
-        }

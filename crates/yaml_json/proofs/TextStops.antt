@@ -1,5 +1,6 @@
 -- What an error says of a text, and of the writer that was given its first tokens.
-use Rattle.yaml_json.proofs.Common.{ℕ, IfSome, Option, None, Some, Err, Bool, List, ◌≡◌, refl, inl, inr, subst, sym, unwrap_or, failure_of, FailedInText, ap, ◌∙◌, ◌++◌, ◌⊎◌}
+use Rattle.yaml_json.proofs.Common.{ℕ, IfSome, Option, None, Some, Err, Bool, List, ◌≡◌, refl, inl, inr, subst, sym, unwrap_or, failure_of, FailedInText, ap}
+use Rattle.yaml_json.proofs.Common.{◌∙◌, ◌++◌, ◌⊎◌}
 use Rattle.yaml_json.proofs.Common.{WriterState, Token, ExplainsError, WhyStopped}
 use Rattle.yaml_base.specs.declared.errors.{yaml_error_t.yaml_error_t, yaml_error_t.TheVariants.Memory}
 use Rattle.yaml_json.specs.{Failing.HasErrorSaid, Failing.Kept, Failing.SoundAfter, Failing.writers_error, Refused.IsByText}

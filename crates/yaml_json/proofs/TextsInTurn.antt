@@ -10,8 +10,10 @@ use Rattle.yaml_json.{proofs.NameLemmas.once_is_unique, proofs.TokenLemmas.value
 use Rattle.yaml_json.specs.Texts.{texts_after, onto_first, cut_before, scan_first_byte}
 use Rattle.yaml_json.specs.declared.cuts.{Mode.TheVariants.Before, Scan.Scan}
 use Rattle.yaml_json.specs.declared.error.JsonError.TheVariants as errors
-use Rattle.yaml_json.{proofs.WroteLemmas.adds_then, proofs.WroteLemmas.wrote_nothing, proofs.WroteLemmas.wrote_then, proofs.WroteLemmas.wrote_same, proofs.YamlOf.last_reads}
-use Rattle.yaml_json.{specs.Refused.HasNamesOnce, specs.Stopped.StopsInText, specs.Stopped.StopsInTexts, specs.Places.HasPlaceAfter, specs.Wrote.WroteTexts, specs.declared.error.JsonError.JsonError}
+use Rattle.yaml_json.{proofs.WroteLemmas.adds_then, proofs.WroteLemmas.wrote_nothing, proofs.WroteLemmas.wrote_then, proofs.WroteLemmas.wrote_same}
+use Rattle.yaml_json.{proofs.YamlOf.last_reads}
+use Rattle.yaml_json.{specs.Refused.HasNamesOnce, specs.Stopped.StopsInText, specs.Stopped.StopsInTexts, specs.Places.HasPlaceAfter, specs.Wrote.WroteTexts}
+use Rattle.yaml_json.{specs.declared.error.JsonError.JsonError}
 
 -- the events of some texts, after each of which a document begins, and then those of one more, the last
 pub ends_with : (canonical in_flow : Bool) (parts : List (List ℕ × Json)) (last : List ℕ × Json)

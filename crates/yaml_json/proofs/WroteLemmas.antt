@@ -2,12 +2,12 @@
 use Rattle.yaml_json.proofs.Common.{ℕ, is_none, IfErr, OnOk, Option, None, Result, Err, Ok, Bool, false, List, [], ◌++◌, ◌∷◌, refl, ◌≡◌, append-nil}
 use Rattle.yaml_json.proofs.Common.{append_assoc, inl, inr, ap, ap₂, subst, sym, ◌∙◌, Text, ScalarStyle, plain, Event, scalar, sequence_start, mapping_start}
 use Rattle.yaml_json.proofs.Common.{JsonNumber, yaml_number, State, word_content, number_content, text_content, collection_in, IsBare, Wrote, WroteEvent}
-use Rattle.yaml_json.proofs.Common.{start_event, StartsCollection, Ends, number_found, number_in, IsNumber, WriterState, number_tag, number_event, text_style}
-use Rattle.yaml_json.proofs.Common.{text_event, mapping_event, sequence_event, end_event, with_collection, StandsTaken, AddsEvents, GaveEvent}
+use Rattle.yaml_json.proofs.Common.{start_event, number_found, number_in, IsNumber, WriterState, number_tag, number_event, text_style, text_event}
+use Rattle.yaml_json.proofs.Common.{mapping_event, sequence_event, end_event, with_collection, StandsTaken, AddsEvents, GaveEvent, EndsInnermost}
 use Rattle.yaml_base.specs.Event.{CollectionStyle}
 use Rattle.yaml_json.specs.JsonEvents.{style_of}
 use Rattle.yaml_writer.proofs.Finishing.{nothing_awaited}
-use Rattle.yaml_writer.specs.{Writing.tag_or_default, Writing.word_event, Writing.awaits_node}
+use Rattle.yaml_writer.specs.Writing.{tag_or_default, word_event, awaits_node}
 use Rattle.yaml_emitter.specs.declared.place.CollectionKind.{CollectionKind}
 
 -- no node is awaited
@@ -129,7 +129,8 @@ same_last (first ∷ outer) (next ∷ others) kind other is =
 
 -- a collection that was begun is the innermost, and its end is of its kind
 pub ended : (outer : List CollectionKind) (kind : CollectionKind) (before after : WriterState) → before.levels ≡ outer ++ kind ∷ [] → IsBare before
-    → Ends before after → (AddsEvents before.emitter (end_event kind ∷ []) after.emitter) × (after.canonical ≡ before.canonical) × (after.levels ≡ outer)
+    → EndsInnermost before (Ok tt) after → (AddsEvents before.emitter (end_event kind ∷ []) after.emitter) × (after.canonical ≡ before.canonical)
+    × (after.levels ≡ outer)
     × IsBare after
 ended outer kind before after levels bare (inl none) = absurd (none_more outer kind (sym levels ∙ none.0))
 ended outer kind before after levels bare (inr end) =
@@ -143,5 +144,5 @@ ended outer kind before after levels bare (inr end) =
 
 -- a collection was begun
 pub starts_with : (in_flow : Bool) (kind : CollectionKind) (before after : WriterState) (event : Event) → event ≡ start_event in_flow kind
-    → GaveEvent (with_collection before kind) event None after → StartsCollection in_flow kind before after
+    → GaveEvent (with_collection before kind) event None after → GaveEvent (with_collection before kind) (start_event in_flow kind) None after
 starts_with in_flow kind before after event is = subst (λ (e : Event). GaveEvent (with_collection before kind) e None after) is

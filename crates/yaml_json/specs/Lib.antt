@@ -20,3 +20,4 @@ pub mod Walk
 pub mod Nests
 pub mod Sent
 pub mod Offsets
+pub mod WalkSteps

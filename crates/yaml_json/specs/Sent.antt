@@ -26,6 +26,7 @@ use Rattle.yaml_json.specs.declared.error.JsonError.TheVariants as errors
 use Rattle.yaml_json.specs.declared.error.StreamError.{StreamError}
 use Rattle.yaml_json.specs.declared.error.StreamError.TheVariants as faults
 use Rattle.yaml_json.specs.declared.places.Place.{Place}
+use Rattle.yaml_json.specs.declared.settings.JsonSettings.{JsonSettings}
 
 -- wherever the emitter stood, it stands after these events more, and these bytes are taken more
 abbrev pub AddsTaking : State → List Event → List ℕ → State → Type 0
@@ -45,7 +46,8 @@ AreUtf8 [] = Unit {0}
 AreUtf8 (part ∷ parts) = IsUtf8 part.0 × AreUtf8 parts
 
 -- the text is UTF-8, one JSON text after another, where each ends; their events were given, a document each, and the sink was given
--- the bytes that were taken; where names are to come once, they do
+-- the bytes that were taken; where names are to come once, they do. Where the writer was at the start of its first document, what was
+-- taken of it before, what the sink was given, and what then finishes the stream, is read as the values of the text
 pub record SentTexts (depth : ℕ) (unique in_flow : Bool) (text : List ℕ) (was : WriterState) (before : Option (List ℕ)) (now : WriterState)
     (after : Option (List ℕ)) : Type 0 where
   pub parts : List (List ℕ × Json)
@@ -57,13 +59,6 @@ pub record SentTexts (depth : ℕ) (unique in_flow : Bool) (text : List ℕ) (wa
   pub handed : List ℕ
   pub sends : Appends before after handed
   pub wrote : WroteTaking was (parts_events was.canonical in_flow parts) handed now
-
--- where the writer was at the start of its first document, what was taken of it before, what the sink was given, and what then
--- finishes the stream, is read as the values of the text
-pub record ReadsSent (depth : ℕ) (in_flow : Bool) (text : List ℕ) (was : WriterState) (before : Option (List ℕ)) (now : WriterState)
-    (after : Option (List ℕ)) : Type 0 where
-  pub handed : List ℕ
-  pub sends : Appends before after handed
   pub reads : (given : Settings) (sent bytes : List ℕ) → StandsTaken given opening sent was.emitter → was.canonical ≡ given.canonical
       → Finishes now.emitter bytes → IsYamlOfTexts given in_flow depth text ((sent ++ handed) ++ bytes)
 
@@ -201,6 +196,12 @@ pub record StopsSending (depth : ℕ) (unique in_flow : Bool) (text : List ℕ) 
   pub adds :
       AddsTaking was.emitter (events_with_separators was.canonical in_flow parts ++ tokens_events was.canonical in_flow taken) handed now.emitter
   pub documents : SentDocuments in_flow parts was before error handed after
+
+-- the texts in a text were sent, all of them, or those before an error
+abbrev pub Sends : JsonSettings → (text : List ℕ) → WriterState → Option (List ℕ) → Result (Unit {0}) StreamError → WriterState → Option (List ℕ)
+    → Type 0
+Sends settings text was before (Ok done) now after = SentTexts settings.depth settings.unique_names settings.flow text was before now after
+Sends settings text was before (Err error) now after = StopsSending settings.depth settings.unique_names settings.flow text was before error now after
 
 -- wherever the sending was, with these bytes ahead, which begin at this place, it stops
 abbrev pub StopsWithin : (depth : ℕ) → (in_flow unique : Bool) → List ℕ → Place → WriterState → Option (List ℕ) → StreamError → WriterState

@@ -1,5 +1,5 @@
 -- The walk over the tokens of a value: which arrays and objects are open after some of them, and what was given until there.
-use Rattle.std.specs.Prelude.{◌≡◌, ◌≢◌, ◌⊎◌, ℕ, ◌-◌, ◌<◌, ◌≤◌, Bool, true, false, Option, Some, option_and_then, List, [], ◌∷◌, ◌++◌, length}
+use Rattle.std.specs.Prelude.{◌≡◌, ◌≢◌, ◌⊎◌, ℕ, ◌-◌, ◌<◌, ◌≤◌, Bool, true, false, not, Option, Some, option_and_then, List, [], ◌∷◌, ◌++◌, length}
 use Rattle.json.specs.Token.{Token}
 use Rattle.json.specs.Json.{Json, skip_value}
 use Rattle.json.specs.Reads.{skip_items, skip_members}
@@ -66,6 +66,23 @@ opener Mapping = Token.begin_object
 abbrev pub closer : CollectionKind → Token
 closer Sequence = Token.end_array
 closer Mapping = Token.end_object
+
+abbrev is_sequence : CollectionKind → Bool
+is_sequence Sequence = true
+is_sequence Mapping = false
+
+-- the token closes a collection of this kind
+abbrev pub closes : Token → CollectionKind → Bool
+closes Token.begin_object kind = false
+closes Token.end_object kind = not (is_sequence kind)
+closes Token.begin_array kind = false
+closes Token.end_array kind = is_sequence kind
+closes (Token.key text) kind = false
+closes (Token.string text) kind = false
+closes (Token.number text) kind = false
+closes (Token.boolean flag) kind = false
+closes Token.null kind = false
+closes Token.bad kind = false
 
 -- the token opens a collection
 abbrev pub IsOpener : Token → Type 0

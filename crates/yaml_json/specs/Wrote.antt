@@ -1,12 +1,11 @@
 -- What a value of JSON comes to for the writer that it is given to, and what is left of the reader's tokens.
-use Rattle.std.specs.Prelude.{◌≡◌, ℕ, Bool, None, Some, Ok, List, [], ◌∷◌, ◌++◌, flat_map, map, true}
+use Rattle.std.specs.Prelude.{◌≡◌, ℕ, Bool, None, Some, List, [], ◌∷◌, ◌++◌, flat_map, map, true}
 use Rattle.json.specs.Token.{Token}
 use Rattle.json.specs.Lex.{tokens}
 use Rattle.json.specs.Json.{Json, value}
 use Rattle.yaml_base.specs.Event.{Event, document_end, mapping_start, sequence_start}
 use Rattle.yaml_base.specs.Settings.{Settings}
-use Rattle.yaml_writer.specs.Writing.{AddsEvents, EndsInnermost, Finishes, GaveEvent, IsStream, StandsTaken, WriterState, closing, with_collection, opening}
-use Rattle.yaml_writer.specs.Writing.{plain_start}
+use Rattle.yaml_writer.specs.Writing.{AddsEvents, Finishes, IsStream, StandsTaken, WriterState, closing, opening, plain_start}
 use Rattle.yaml_emitter.specs.declared.place.CollectionKind.{CollectionKind}
 use Rattle.yaml_emitter.specs.declared.place.CollectionKind.TheVariants.{Mapping, Sequence}
 use Rattle.yaml_json.specs.JsonEvents.{collection_in, json_events}
@@ -32,14 +31,6 @@ WroteEvent before event after = Wrote before (event ∷ []) after
 abbrev pub start_event : (in_flow : Bool) → CollectionKind → Event
 start_event in_flow Sequence = sequence_start (collection_in in_flow)
 start_event in_flow Mapping = mapping_start (collection_in in_flow)
-
--- a collection was begun
-abbrev pub StartsCollection : (in_flow : Bool) → CollectionKind → WriterState → WriterState → Type 0
-StartsCollection in_flow kind before after = GaveEvent (with_collection before kind) (start_event in_flow kind) None after
-
--- the innermost collection was ended
-abbrev pub Ends : WriterState → WriterState → Type 0
-Ends before after = EndsInnermost before (Ok tt) after
 
 -- the first of these tokens are a value nested at most `depth` deep; its events were given
 pub record WroteValue (depth : ℕ) (in_flow : Bool) (before : List Token) (was : WriterState) (after : List Token) (now : WriterState) : Type 0 where

@@ -9,7 +9,6 @@ mod laws;
 mod lexemes;
 mod names;
 mod places;
-mod scalars;
 mod settings;
 mod several;
 mod stream;

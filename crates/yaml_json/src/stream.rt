@@ -10,7 +10,7 @@ ghost use Rattle.yaml_json.specs.Nests.{AwaitsText};
 ghost use Rattle.yaml_json.specs.Cuts.{HasScanned};
 ghost use Rattle.yaml_json.specs.Places.{HasPlaceWithin, IsPlaceAfter, MovesPlace};
 ghost use Rattle.yaml_json.specs.Sent.{Advances, BeginsNext, FailsNext, HasCome, IsByReader, IsIncoming, IsScanned, IsSoundSending, LeavesLast};
-ghost use Rattle.yaml_json.specs.Sent.{ReadsSent, SentTexts, StopsInPart, StopsPartAt, StopsSending, StopsWithin, emitter_error};
+ghost use Rattle.yaml_json.specs.Sent.{Sends, StopsInPart, StopsPartAt, StopsWithin, emitter_error};
 ghost use Rattle.yaml_json.specs.Wrote.{IsBare, WroteText};
 
 use crate::cuts::{Cut, find_end, new_cut};
@@ -331,11 +331,8 @@ pub fn send_json_texts<A: Allocator + Copy, R: Read, W: Write>(
     ensures grows { Grows writer.old.emitter.page writer.new.emitter.page }
     ensures sound { IsSoundSending writer.old result writer.new }
     ensures ended { OnOk result (IsAtEnd (R.remaining reader.new) × IsBare writer.new) }
-    ensures written { OnOk result (IfSome (R.remaining reader.old) (λ text.
-        SentTexts settings.depth settings.unique_names settings.flow text writer.old (W.contents sink.old) writer.new (W.contents sink.new)
-        × ReadsSent settings.depth settings.flow text writer.old (W.contents sink.old) writer.new (W.contents sink.new))) }
-    ensures stopped { IfErr result (λ error. IfSome (R.remaining reader.old) (λ text. StopsSending settings.depth settings.unique_names settings.flow text
-        writer.old (W.contents sink.old) error writer.new (W.contents sink.new))) }
+    ensures sends { IfSome (R.remaining reader.old) (λ text.
+        Sends settings text writer.old (W.contents sink.old) result writer.new (W.contents sink.new)) }
 {
     let mut incoming = Incoming::new(alloc);
     // No reader promises to end, so the reads are counted.

@@ -1,16 +1,14 @@
 //! JSON texts as YAML.
-ghost use Rattle.std.specs.Prelude.{◌≡◌, ◌≤◌, [], length, true, Ok, Err, OnOk, IfOk, IfErr, IfSome};
+ghost use Rattle.std.specs.Prelude.{◌≡◌, OnOk, IfOk, IfErr, IfSome};
 ghost use Rattle.yaml_emitter.specs.Given.{seen_settings};
-ghost use Rattle.yaml_json.specs.Failing.{FailedInText, FailsBy, IsSound, Kept, failure_of, writers_error};
-ghost use Rattle.json.specs.Lex.{tokens};
+ghost use Rattle.yaml_json.specs.Failing.{FailsBy, IsSound, failure_of, writers_error};
 ghost use Rattle.yaml_pen.specs.Wrote.{Grows};
-ghost use Rattle.yaml_json.specs.Names.{NamesOnce};
 ghost use Rattle.yaml_json.specs.Nests.{AwaitsText};
-ghost use Rattle.yaml_json.specs.Offsets.{StopsAtLexeme};
 ghost use Rattle.yaml_json.specs.Places.{HasPlace, IsAt};
-ghost use Rattle.yaml_json.specs.Refused.{DeniesJson, HasNamesOnce, IsByText, IsNotJson, ExplainsError, is_marked};
+ghost use Rattle.yaml_json.specs.Refused.{DeniesJson, HasNamesOnce, IsNotJson, ExplainsError, is_marked};
 ghost use Rattle.yaml_json.specs.Stopped.{StopsInText};
-ghost use Rattle.yaml_json.specs.Walk.{MatchesStop, StopsText};
+ghost use Rattle.yaml_json.specs.Walk.{MatchesStop};
+ghost use Rattle.yaml_json.specs.WalkSteps.{TextStep};
 ghost use Rattle.yaml_json.specs.Wrote.{IsBare, IsYamlOf, WroteText};
 
 use crate::error::JsonError;
@@ -99,15 +97,7 @@ pub(crate) fn write_text_in<'a, A: Allocator + Copy>(
     requires bare { IsBare writer.old }
     requires ready { AwaitsText settings.now.unique_names room.old }
     ensures ready { OnOk result (AwaitsText settings.now.unique_names room.new) }
-    ensures names { OnOk result (settings.now.unique_names ≡ true → NamesOnce [] (tokens text.now)) }
-    ensures written { OnOk result (WroteText settings.now.depth settings.now.flow text.now writer.old writer.new) }
-    ensures kept { OnOk result (Kept writer.old (Ok tt) writer.new) }
-    ensures refused { IfErr result (λ failed. IsByText failed.0 → StopsText settings.now.depth settings.now.unique_names settings.now.flow
-        text.now writer.old failed.0 writer.new) }
-    ensures kept_after { IfErr result (λ failed. Kept writer.old (Err failed.0) writer.new) }
-    ensures stopped { IfErr result (λ failed. IfSome (failure_of writer.new failed.0)
-        (λ error. FailedInText settings.now.depth settings.now.flow text.now writer.old error writer.new)) }
-    ensures place { IfErr result (λ failed. IsByText failed.0 → StopsAtLexeme settings.now.depth text.now failed.1 failed.0) }
+    ensures gives { TextStep settings.now text.now writer.old result writer.new }
 {
     let mut tokens = Tokens::new(room.alloc, room.arena, text);
     match write_only_value(&mut room.nest, writer, &mut tokens, settings) {
@@ -127,15 +117,7 @@ pub(crate) fn write_text_by<A: Allocator + Copy>(
     settings: &JsonSettings,
 ) -> Result<(), (Stop, usize)>
     requires { IsBare writer.old }
-    ensures names { OnOk result (settings.now.unique_names ≡ true → NamesOnce [] (tokens text.now)) }
-    ensures written { OnOk result (WroteText settings.now.depth settings.now.flow text.now writer.old writer.new) }
-    ensures kept { OnOk result (Kept writer.old (Ok tt) writer.new) }
-    ensures refused { IfErr result (λ failed. IsByText failed.0 → StopsText settings.now.depth settings.now.unique_names settings.now.flow
-        text.now writer.old failed.0 writer.new) }
-    ensures kept_after { IfErr result (λ failed. Kept writer.old (Err failed.0) writer.new) }
-    ensures stopped { IfErr result (λ failed. IfSome (failure_of writer.new failed.0)
-        (λ error. FailedInText settings.now.depth settings.now.flow text.now writer.old error writer.new)) }
-    ensures place { IfErr result (λ failed. IsByText failed.0 → StopsAtLexeme settings.now.depth text.now failed.1 failed.0) }
+    ensures { TextStep settings.now text.now writer.old result writer.new }
 {
     let arena = Bump::new(alloc);
     let mut room = Room::new(alloc, &arena, settings.unique_names);

@@ -1,24 +1,26 @@
 //! Values of JSON, token by token from a reader to a writer. The arrays and objects that are open stand in a list.
-ghost use Rattle.std.specs.Prelude.{◌≡◌, ◌≢◌, [], ◌∷◌, ◌-◌, length, take, IfErr, IfOk, IfSome, MatchOption, OnOk, true};
+ghost use Rattle.std.specs.Prelude.{◌≡◌, ◌≢◌, [], ◌∷◌, ◌-◌, length, take, IfErr, IfOk, MatchOption};
 ghost use Rattle.json.specs.Print.{IsPrintable};
 ghost use Rattle.json.specs.Reads.{token_of};
-ghost use Rattle.yaml_json.specs.Failing.{FailedAtEnd, FailedInValue, Kept, emitter_error_of};
-ghost use Rattle.yaml_json.specs.Refused.{IsByText, RefusesText};
-ghost use Rattle.yaml_json.specs.Walk.{BeganFirstValue, BeginFailed, BeganValue, FirstFailed, IsInnermost, Refuses, RefusesFirst, RefusesToken};
-ghost use Rattle.yaml_json.specs.Walk.{StepFailed, Stepped};
-ghost use Rattle.yaml_json.specs.Reached.{LastRead};
-ghost use Rattle.yaml_json.specs.Names.{NamesOnce};
+ghost use Rattle.yaml_base.specs.Seen.{seen_mapping_style, seen_sequence_style};
+ghost use Rattle.yaml_json.specs.Failing.{IsAnswer};
+ghost use Rattle.yaml_json.specs.JsonEvents.{style_of};
 ghost use Rattle.yaml_json.specs.Nests.{HasNoneOpen, IsNesting};
-ghost use Rattle.yaml_json.specs.Walk.{HasUniqueNames, Keeps, KeepsTo, LeavesNames, ReadsNone, StopsWriting, opener};
-ghost use Rattle.yaml_json.specs.Wrote.{Ends, IsBare, WroteDocument, WroteValue};
+ghost use Rattle.yaml_json.specs.Walk.{IsInnermost, LeavesNames, ReadsNone, closes, opener};
+ghost use Rattle.yaml_json.specs.WalkSteps.{FirstStep, OnlyStep, TokenStep, ValueStep, WalkStep, at};
+ghost use Rattle.yaml_json.specs.Wrote.{IsBare, start_event};
+ghost use Rattle.yaml_writer.specs.Writing.{Begins, EndsInnermost};
 
 use crate::names::Names;
-use crate::scalars::{end, start, write_bool, write_null, write_number, write_text};
 use crate::settings::JsonSettings;
 use crate::tokens::Tokens;
 use json::Token;
 use std::alloc::Allocator;
-use yaml_writer::{CollectionKind, Writer};
+use yaml_writer::{
+    CollectionKind, Number, Writer, YAML_BLOCK_MAPPING_STYLE, YAML_BLOCK_SEQUENCE_STYLE,
+    YAML_FLOW_MAPPING_STYLE, YAML_FLOW_SEQUENCE_STYLE, yaml_error_t, yaml_mapping_style_t,
+    yaml_sequence_style_t,
+};
 
 /// Where a token is that can't stand there, by where the last token that was read begins.
 #[derive(Clone, Copy)]
@@ -66,6 +68,52 @@ impl<'a, A: Allocator + Copy> Nesting<'a, A> {
     }
 }
 
+/// Returns the answer of a writer without its error, which its emitter has.
+fn answer_of(answer: Result<(), yaml_error_t>) -> Result<(), Stop>
+    ensures { IsAnswer answer result }
+{
+    match answer {
+        Ok(()) => Ok(()),
+        Err(yaml_error_t::Memory) => Err(Stop::Memory),
+        Err(_) => Err(Stop::Failed),
+    }
+}
+
+fn sequence_style(in_flow: bool) -> yaml_sequence_style_t
+    ensures { seen_sequence_style result ≡ style_of in_flow }
+{
+    if in_flow {
+        YAML_FLOW_SEQUENCE_STYLE
+    } else {
+        YAML_BLOCK_SEQUENCE_STYLE
+    }
+}
+
+fn mapping_style(in_flow: bool) -> yaml_mapping_style_t
+    ensures { seen_mapping_style result ≡ style_of in_flow }
+{
+    if in_flow {
+        YAML_FLOW_MAPPING_STYLE
+    } else {
+        YAML_BLOCK_MAPPING_STYLE
+    }
+}
+
+/// Gives a writer the start of a collection.
+fn start<A: Allocator + Copy>(
+    writer: &mut Writer<A>,
+    kind: CollectionKind,
+    in_flow: bool,
+) -> Result<(), yaml_error_t>
+    requires { IsBare writer.old }
+    ensures { Begins kind writer.old (start_event in_flow kind) result writer.new }
+{
+    match kind {
+        CollectionKind::Sequence => writer.begin_sequence(sequence_style(in_flow)),
+        CollectionKind::Mapping => writer.begin_mapping(mapping_style(in_flow)),
+    }
+}
+
 /// Begins a collection, unless it is too deep.
 fn begin<'a, A: Allocator + Copy>(
     writer: &mut Writer<A>,
@@ -75,15 +123,7 @@ fn begin<'a, A: Allocator + Copy>(
 ) -> Result<(), Stop>
     requires bare { IsBare writer.old }
     requires fits { IsNesting settings.now.depth settings.now.unique_names nest.old }
-    ensures began { OnOk result (BeganValue settings.now.depth settings.now.flow (opener kind) nest.old.kinds.items writer.old
-        nest.new.kinds.items writer.new) }
-    ensures fits { OnOk result (IsNesting settings.now.depth settings.now.unique_names nest.new) }
-    ensures names { OnOk result (Keeps nest.old.names (opener kind ∷ []) nest.new.names) }
-    ensures refused { IfErr result (RefusesToken settings.now.depth nest.old.kinds.items (opener kind)) }
-    ensures same { RefusesText result → writer.new ≡ writer.old }
-    ensures kept { Kept writer.old result writer.new }
-    ensures stopped { IfSome (emitter_error_of writer.new result) (λ error. BeginFailed settings.now.depth settings.now.flow (opener kind) nest.old.kinds.items
-        writer.old error writer.new) }
+    ensures { TokenStep settings.now (opener kind) (at nest.old writer.old) result (at nest.new writer.new) }
 {
     if nest.kinds.len() == settings.depth {
         return Err(Stop::TooDeep);
@@ -92,12 +132,12 @@ fn begin<'a, A: Allocator + Copy>(
         return Err(Stop::Memory);
     }
     match nest.kinds.push(kind) {
-        Ok(()) => start(writer, kind, settings.flow),
+        Ok(()) => answer_of(start(writer, kind, settings.flow)),
         Err(_) => Err(Stop::Memory),
     }
 }
 
-/// A token with which a value is to begin.
+/// Writes a token with which a value is to begin.
 #[inline(always)]
 fn write_token<'a, A: Allocator + Copy>(
     writer: &mut Writer<A>,
@@ -108,29 +148,21 @@ fn write_token<'a, A: Allocator + Copy>(
     requires bare { IsBare writer.old }
     requires fits { IsNesting settings.now.depth settings.now.unique_names nest.old }
     requires good { token ≢ Token.Bad → IsPrintable (token_of token) }
-    ensures began { OnOk result (BeganValue settings.now.depth settings.now.flow (token_of token.entry) nest.old.kinds.items writer.old
-        nest.new.kinds.items writer.new) }
-    ensures fits { OnOk result (IsNesting settings.now.depth settings.now.unique_names nest.new) }
-    ensures names { OnOk result (Keeps nest.old.names (token_of token.entry ∷ []) nest.new.names) }
-    ensures refused { IfErr result (RefusesToken settings.now.depth nest.old.kinds.items (token_of token.entry)) }
-    ensures same { RefusesText result → writer.new ≡ writer.old }
-    ensures kept { Kept writer.old result writer.new }
-    ensures stopped { IfSome (emitter_error_of writer.new result) (λ error. BeginFailed settings.now.depth settings.now.flow (token_of token.entry)
-        nest.old.kinds.items writer.old error writer.new) }
+    ensures { TokenStep settings.now (token_of token.entry) (at nest.old writer.old) result (at nest.new writer.new) }
 {
     match token {
-        Token::Null => write_null(writer),
-        Token::Bool(flag) => write_bool(writer, flag),
-        Token::Number(text) => write_number(writer, text),
-        Token::String(text) => write_text(writer, text),
+        Token::Null => answer_of(writer.null()),
+        Token::Bool(flag) => answer_of(writer.bool(flag)),
+        Token::Number(text) => answer_of(writer.number(&Number::of_text(text))),
+        Token::String(text) => answer_of(writer.text(text)),
         Token::BeginArray => begin(writer, nest, CollectionKind::Sequence, settings),
         Token::BeginObject => begin(writer, nest, CollectionKind::Mapping, settings),
         Token::Key(_) => Err(Stop::NotJson(Spot::PastString)),
-        Token::EndObject | Token::EndArray | Token::Bad => Err(Stop::NotJson(Spot::At)),
+        _ => Err(Stop::NotJson(Spot::At)),
     }
 }
 
-/// The next token.
+/// Returns the next token.
 #[inline(always)]
 fn next_token<'a, A: Allocator + Copy>(reader: &mut Tokens<'a, A>) -> Result<Token<'a>, Stop>
     ensures first { IfOk result (λ token. reader.old.ahead ≡ token_of token ∷ reader.new.ahead) }
@@ -146,7 +178,7 @@ fn next_token<'a, A: Allocator + Copy>(reader: &mut Tokens<'a, A>) -> Result<Tok
     }
 }
 
-/// The first token of a value.
+/// Writes the first token of a value.
 #[inline(always)]
 fn write_first<'a, A: Allocator + Copy>(
     writer: &mut Writer<A>,
@@ -156,17 +188,9 @@ fn write_first<'a, A: Allocator + Copy>(
 ) -> Result<(), Stop>
     requires bare { IsBare writer.old }
     requires fits { IsNesting settings.now.depth settings.now.unique_names nest.old }
-    ensures began { OnOk result (BeganFirstValue settings.now.depth settings.now.flow reader.old.ahead nest.old.kinds.items writer.old reader.new.ahead nest.new.kinds.items
-        writer.new) }
-    ensures fits { OnOk result (IsNesting settings.now.depth settings.now.unique_names nest.new) }
-    ensures names { OnOk result (KeepsTo nest.old.names reader.old.ahead reader.new.ahead nest.new.names) }
-    ensures refused { IfErr result (RefusesFirst settings.now.depth nest.old.kinds.items reader.old.ahead) }
+    ensures steps { FirstStep settings.now reader.old (at nest.old writer.old) result reader.new (at nest.new writer.new) }
     ensures before { reader.new.before ≡ reader.old.ahead }
     ensures text { reader.new.text ≡ reader.old.text }
-    ensures same { RefusesText result → writer.new ≡ writer.old }
-    ensures kept { Kept writer.old result writer.new }
-    ensures stopped { IfSome (emitter_error_of writer.new result) (λ error. FirstFailed settings.now.depth settings.now.flow reader.old.ahead
-        nest.old.kinds.items writer.old error writer.new) }
 {
     let token = match next_token(reader) {
         Ok(token) => token,
@@ -175,22 +199,30 @@ fn write_first<'a, A: Allocator + Copy>(
     write_token(writer, nest, token, settings)
 }
 
-/// Ends the innermost collection, of this kind.
+/// Returns whether a token closes a collection of this kind.
+fn closes(token: Token<'_>, kind: CollectionKind) -> bool
+    ensures { result ≡ closes (token_of token.entry) kind }
+{
+    match token {
+        Token::EndArray => matches!(kind, CollectionKind::Sequence),
+        Token::EndObject => matches!(kind, CollectionKind::Mapping),
+        _ => false,
+    }
+}
+
+/// Ends the innermost collection.
 fn leave<'a, A: Allocator + Copy>(
     writer: &mut Writer<A>,
     nest: &mut Nesting<'a, A>,
-) -> Result<(), Stop>
+) -> Result<(), yaml_error_t>
     requires bare { IsBare writer.old }
     ensures left { nest.new.kinds.items ≡ take (length nest.old.kinds.items - 1) nest.old.kinds.items }
     ensures names { LeavesNames nest.old.names nest.new.names }
-    ensures ended { OnOk result (Ends writer.old writer.new) }
-    ensures failed { RefusesText result → ⊥ }
-    ensures kept { Kept writer.old result writer.new }
-    ensures stopped { IfSome (emitter_error_of writer.new result) (λ error. FailedAtEnd writer.old error writer.new) }
+    ensures ends { EndsInnermost writer.old result writer.new }
 {
     nest.names.leave();
     let _ = nest.kinds.pop();
-    end(writer)
+    writer.end()
 }
 
 /// Writes the next item or member of the innermost collection, which is of this kind, or ends it.
@@ -204,36 +236,26 @@ fn write_next<'a, A: Allocator + Copy>(
     requires bare { IsBare writer.old }
     requires fits { IsNesting settings.now.depth settings.now.unique_names nest.old }
     requires innermost { IsInnermost kind nest.old.kinds.items }
-    ensures stepped { OnOk result (Stepped settings.now.depth settings.now.flow reader.old.ahead nest.old.kinds.items writer.old reader.new.ahead nest.new.kinds.items
-        writer.new) }
-    ensures fits { OnOk result (IsNesting settings.now.depth settings.now.unique_names nest.new) }
-    ensures names { OnOk result (KeepsTo nest.old.names reader.old.ahead reader.new.ahead nest.new.names) }
-    ensures refused { IfErr result (λ stop. IsByText stop → Refuses settings.now.depth settings.now.unique_names settings.now.flow nest.old.kinds.items
-        nest.old.names reader.old.ahead reader.new.before writer.old stop writer.new) }
+    ensures steps { WalkStep settings.now reader.old (at nest.old writer.old) result reader.new (at nest.new writer.new) }
     ensures text { reader.new.text ≡ reader.old.text }
-    ensures last { OnOk result (LastRead reader.old reader.new) }
-    ensures kept { Kept writer.old result writer.new }
-    ensures stopped { IfSome (emitter_error_of writer.new result) (λ error. StepFailed settings.now.depth settings.now.flow reader.old.ahead
-        nest.old.kinds.items writer.old error writer.new) }
 {
     let token = match next_token(reader) {
         Ok(token) => token,
         Err(stop) => return Err(stop),
     };
+    if closes(token, kind) {
+        return answer_of(leave(writer, nest));
+    }
     match kind {
-        CollectionKind::Sequence => match token {
-            Token::EndArray => leave(writer, nest),
-            _ => write_token(writer, nest, token, settings),
-        },
+        CollectionKind::Sequence => write_token(writer, nest, token, settings),
         CollectionKind::Mapping => match token {
-            Token::EndObject => leave(writer, nest),
             Token::Key(key) => match nest.names.add(key) {
                 Err(_) => Err(Stop::Memory),
                 Ok(new) => {
                     if !new {
                         return Err(Stop::NameAgain);
                     }
-                    if let Err(stop) = write_text(writer, key) {
+                    if let Err(stop) = answer_of(writer.text(key)) {
                         return Err(stop);
                     }
                     write_first(writer, reader, nest, settings)
@@ -245,14 +267,14 @@ fn write_next<'a, A: Allocator + Copy>(
     }
 }
 
-/// The kind of the innermost collection that is open.
+/// Returns the kind of the innermost collection that is open.
 fn innermost<A: Allocator>(levels: &Vec<CollectionKind, A>) -> Option<CollectionKind>
     ensures { MatchOption result (levels.now.items ≡ []) (λ kind. IsInnermost kind levels.now.items) }
 {
     levels.last().copied()
 }
 
-/// The next value of the reader.
+/// Writes the next value of the reader.
 fn write_value<'a, A: Allocator + Copy>(
     nest: &mut Nesting<'a, A>,
     writer: &mut Writer<A>,
@@ -261,16 +283,8 @@ fn write_value<'a, A: Allocator + Copy>(
 ) -> Result<(), Stop>
     requires bare { IsBare writer.old }
     requires none { HasNoneOpen settings.now.unique_names nest.old }
-    ensures none { OnOk result (HasNoneOpen settings.now.unique_names nest.new) }
-    ensures written { OnOk result (WroteValue settings.now.depth settings.now.flow reader.old.ahead writer.old reader.new.ahead writer.new) }
-    ensures names { OnOk result (HasUniqueNames settings.now.unique_names reader.old.ahead reader.new.ahead) }
-    ensures refused { IfErr result (λ stop. IsByText stop → StopsWriting settings.now.depth settings.now.unique_names settings.now.flow reader.old.ahead
-        reader.new.before writer.old stop writer.new) }
+    ensures steps { ValueStep settings.now reader.old (at nest.old writer.old) result reader.new (at nest.new writer.new) }
     ensures text { reader.new.text ≡ reader.old.text }
-    ensures last { OnOk result (LastRead reader.old reader.new) }
-    ensures kept { Kept writer.old result writer.new }
-    ensures stopped { IfSome (emitter_error_of writer.new result) (λ error. FailedInValue settings.now.depth settings.now.flow reader.old.ahead writer.old error
-        writer.new) }
 {
     if let Err(stop) = write_first(writer, reader, nest, settings) {
         return Err(stop);
@@ -283,7 +297,7 @@ fn write_value<'a, A: Allocator + Copy>(
     Ok(())
 }
 
-/// The one value of the reader.
+/// Writes the one value of the reader.
 pub(crate) fn write_only_value<'a, A: Allocator + Copy>(
     nest: &mut Nesting<'a, A>,
     writer: &mut Writer<A>,
@@ -292,15 +306,8 @@ pub(crate) fn write_only_value<'a, A: Allocator + Copy>(
 ) -> Result<(), Stop>
     requires bare { IsBare writer.old }
     requires none { HasNoneOpen settings.now.unique_names nest.old }
-    ensures none { OnOk result (HasNoneOpen settings.now.unique_names nest.new) }
-    ensures written { OnOk result (WroteDocument settings.now.depth settings.now.flow reader.old.ahead writer.old writer.new) }
-    ensures names { OnOk result (settings.now.unique_names ≡ true → NamesOnce [] reader.old.ahead) }
-    ensures refused { IfErr result (λ stop. IsByText stop → StopsWriting settings.now.depth settings.now.unique_names settings.now.flow reader.old.ahead
-        reader.new.before writer.old stop writer.new) }
+    ensures steps { OnlyStep settings.now reader.old (at nest.old writer.old) result reader.new (at nest.new writer.new) }
     ensures text { reader.new.text ≡ reader.old.text }
-    ensures kept { Kept writer.old result writer.new }
-    ensures stopped { IfSome (emitter_error_of writer.new result) (λ error. FailedInValue settings.now.depth settings.now.flow reader.old.ahead writer.old error
-        writer.new) }
 {
     if let Err(stop) = write_value(nest, writer, reader, settings) {
         return Err(stop);

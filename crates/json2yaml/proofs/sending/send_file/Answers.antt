@@ -3,4 +3,4 @@ use Rattle.json2yaml.proofs.sending.send_file.Goals as goal
 
 pub returns-in-Ok-clause-sent : goal.returns-in-Ok-clause-sent
 returns-in-Ok-clause-sent g c =
-    file_known c.send_json_texts.result _ _ _ _ c.in-Ok.ensures.known c.send_json_texts.ensures.written
+    file_known c.args.settings.now c.send_json_texts.result _ _ _ _ _ _ c.in-Ok.ensures.known c.send_json_texts.ensures.sends

@@ -59,7 +59,7 @@ returns-in-Err g c =
     let error = c.error_of.result in
     let failed = c.in-Err.ensures in
     let grew = grew_then c.args.writer.now c.texts.writer now (writers_error error) c.texts.invariant.2
-    (grew_said c.texts.writer now c.in-Err.stop (writers_error error) c.error_of.ensures.by_writer failed.kept_after) in
+    (grew_said c.texts.writer now c.in-Err.stop (writers_error error) c.error_of.ensures.by_writer failed.kept) in
     let so_far = c.texts.invariant.1 in
     let before = flat_map (λ (part : List ℕ × Json). part.0) so_far.parts in
     let joined : length before + length c.texts.rest.now ≡ length c.args.text.now =
@@ -74,7 +74,7 @@ returns-in-Err g c =
       names = tt;
       stopped = texts_stopped s.depth s.flow s.unique_names c.args.text.now c.args.writer.now c.texts.rest.now first c.first_cut.result.1.now
           c.texts.writer now c.first_cut.ensures c.texts.invariant.1 error
-          (text_stopped s.depth s.unique_names s.flow first c.texts.writer now c.in-Err.stop error c.error_of.ensures.says failed.refused failed.stopped)
+          (text_stopped s.depth s.unique_names s.flow first c.texts.writer now c.in-Err.stop error c.error_of.ensures.says failed.refused failed.failed)
           (placed_after s.depth c.args.text.now first before c.in-Err.at c.saturating_add.result c.in-Err.stop error c.error_of.ensures.says failed.place
           c.error_of.ensures.place (λ within. grind (arith, joined, cut)));
     }

@@ -1,9 +1,8 @@
 use Rattle.yaml_json.proofs.Common.{None, refl, subst, sym, IsScanned}
-use Rattle.yaml_json.{proofs.WroteLemmas.on_err, proofs.WroteLemmas.on_ok}
-use Rattle.yaml_json.{proofs.GivenAndTaken.on_all, specs.declared.stream.Incoming.Incoming}
+use Rattle.yaml_json.{proofs.WroteLemmas.on_ok, specs.declared.stream.Incoming.Incoming}
 use Rattle.yaml_json.proofs.Growing.{grew_itself, grew_then, reader_sound, ends_grown, ends_sound}
-use Rattle.yaml_json.proofs.Sending.{comes_first, more_came, complete_given, comes_kept, complete_stopped, comes_stopped, nowhere_by_reader, stops_by_reader}
-use Rattle.yaml_json.proofs.Sending.{last_given, last_stopped}
+use Rattle.yaml_json.proofs.Coming.{comes_first, more_came, complete_given, comes_kept, complete_stopped, comes_stopped, last_sends}
+use Rattle.yaml_json.proofs.SendingSteps.{nowhere_by_reader, stops_by_reader}
 use Rattle.yaml_json.specs.Sent.{emitter_error}
 use Rattle.yaml_json.specs.declared.error.StreamError.TheVariants as faults
 use Rattle.yaml_json.proofs.stream.send_json_texts.Goals as goal
@@ -29,9 +28,8 @@ returns-in-Err g c =
       grows = l.invariant.3.grows;
       sound = reader_sound a.writer.now l.writer c.in-Err.error c.in-Err.ensures.refused l.invariant.3;
       ended = tt;
-      written = tt;
-      stopped = comes_stopped s.depth s.flow s.unique_names a.writer.now start first l.incoming.held.items l.incoming.reading.place (g.R.Read.remaining l.reader)
-          l.writer (g.W.Write.contents l.sink) c.in-Err.error
+      sends = comes_stopped s.depth s.flow s.unique_names a.writer.now start first l.incoming.held.items l.incoming.reading.place
+          (g.R.Read.remaining l.reader) l.writer (g.W.Write.contents l.sink) c.in-Err.error
           (λ next left. stops_by_reader s.depth s.unique_names next left c.in-Err.error c.in-Err.ensures.refused)
           (nowhere_by_reader s.depth c.in-Err.error c.in-Err.ensures.refused) l.invariant.2;
     }
@@ -47,12 +45,14 @@ parts-preserved g c =
     let comes = more_came s.depth s.flow s.unique_names a.writer.now start first l.incoming c.read_more.new.incoming (g.R.Read.remaining l.reader) later
     l.writer (g.W.Write.contents l.sink) c.in-Ok-true.ensures.come c.in-Ok-true.ensures.place l.invariant.2 in
     let done = complete_given s.depth s.flow s.unique_names a.writer.now start first c.read_more.new.incoming.held.items
-    c.write_complete.new.incoming.held.items c.read_more.new.incoming.reading.place c.write_complete.new.incoming.reading.place later l.writer c.write_complete.new.writer (g.W.Write.contents l.sink)
-    (g.W.Write.contents c.write_complete.new.sink) c.in_default.ensures.gives c.in_default.ensures.place comes in (
+    c.write_complete.new.incoming.held.items c.read_more.new.incoming.reading.place c.write_complete.new.incoming.reading.place later l.writer
+    c.write_complete.new.writer (g.W.Write.contents l.sink) (g.W.Write.contents c.write_complete.new.sink) c.in_default.ensures.gives
+    c.in_default.ensures.place comes in (
       c.in_default.ensures.bare,
       c.in_default.ensures.scanned,
-      comes_kept s.depth s.flow s.unique_names a.writer.now start first c.write_complete.new.incoming.held.items c.write_complete.new.incoming.reading.place later
-          c.write_complete.new.writer (g.W.Write.contents c.write_complete.new.sink) (g.W.Write.contents c.flush.new.self) c.flush.ensures.bytes done,
+      comes_kept s.depth s.flow s.unique_names a.writer.now start first c.write_complete.new.incoming.held.items
+          c.write_complete.new.incoming.reading.place later c.write_complete.new.writer (g.W.Write.contents c.write_complete.new.sink)
+          (g.W.Write.contents c.flush.new.self) c.flush.ensures.bytes done,
       grew_then a.writer.now l.writer c.write_complete.new.writer None l.invariant.3 c.in_default.ensures.grew,
     )
 
@@ -69,21 +69,15 @@ returns-in-Ok-false g c =
     let scanned = subst (λ (i : Incoming g.row.A.Denot). IsScanned i) (sym end.1) l.invariant.1 in
     let comes = more_came s.depth s.flow s.unique_names a.writer.now start first l.incoming c.read_more.new.incoming (g.R.Read.remaining l.reader) later
     l.writer (g.W.Write.contents l.sink) c.in-Ok-false.ensures.come c.in-Ok-false.ensures.place l.invariant.2 in
-    let given = on_all c.write_last.result
-    (λ named readable wrote. last_given s.depth s.flow s.unique_names a.writer.now start held c.read_more.new.incoming.reading.place later l.writer (g.W.Write.contents l.sink) end.0
-    c.read_more.new.incoming.reading.cut scanned.0 scanned.1 c.write_last.new.writer first named readable wrote comes)
-    c.write_last.ensures.names c.write_last.ensures.utf8 c.write_last.ensures.written in
     record {
       grows = ends_grown a.writer.now l.writer c.write_last.new.writer c.write_last.result l.invariant.3 c.write_last.ensures.kept
           c.write_last.ensures.grew;
       sound = ends_sound a.writer.now l.writer c.write_last.new.writer c.write_last.result l.invariant.3 c.write_last.ensures.kept
           c.write_last.ensures.grew;
       ended = on_ok c.write_last.result (λ bare. (end.0, bare)) c.write_last.ensures.bare;
-      written = given;
-      stopped = on_err c.write_last.result
-          (λ error stops. last_stopped s.depth s.flow s.unique_names a.writer.now start held c.read_more.new.incoming.reading.place later l.writer (g.W.Write.contents l.sink) end.0
-          c.read_more.new.incoming.reading.cut scanned.0 scanned.1 first error c.write_last.new.writer stops comes)
-          c.write_last.ensures.stopped;
+      sends = last_sends s a.writer.now start held c.read_more.new.incoming.reading.place later l.writer (g.W.Write.contents l.sink) end.0
+          c.read_more.new.incoming.reading.cut scanned.0 scanned.1 c.write_last.result c.write_last.new.writer first c.write_last.ensures.names
+          c.write_last.ensures.utf8 c.write_last.ensures.written c.write_last.ensures.stopped comes;
     }
 
 pub returns-in-Err-write_complete : goal.returns-in-Err-write_complete
@@ -102,8 +96,7 @@ returns-in-Err-write_complete g c =
       grows = grew.grows;
       sound = grew.sound;
       ended = tt;
-      written = tt;
-      stopped = complete_stopped s.depth s.flow s.unique_names a.writer.now start first c.read_more.new.incoming.held.items
+      sends = complete_stopped s.depth s.flow s.unique_names a.writer.now start first c.read_more.new.incoming.held.items
           c.read_more.new.incoming.reading.place later l.writer
           (g.W.Write.contents l.sink) (g.W.Write.contents c.write_complete.new.sink) error c.write_complete.new.writer
           c.in-Err-write_complete.ensures.stops comes;
@@ -129,11 +122,10 @@ returns-in-Err-flush g c =
       grows = grew.grows;
       sound = grew.sound;
       ended = tt;
-      written = tt;
-      stopped = comes_stopped s.depth s.flow s.unique_names a.writer.now start first held c.write_complete.new.incoming.reading.place later writer
+      sends = comes_stopped s.depth s.flow s.unique_names a.writer.now start first held c.write_complete.new.incoming.reading.place later writer
           (g.W.Write.contents c.flush.new.self) (faults.WriteFailed c.in-Err-flush.error) (λ next left. refl) (λ front part. tt)
-          (comes_kept s.depth s.flow s.unique_names a.writer.now start first held c.write_complete.new.incoming.reading.place later writer (g.W.Write.contents c.write_complete.new.sink)
-          (g.W.Write.contents c.flush.new.self) c.flush.ensures.bytes done);
+          (comes_kept s.depth s.flow s.unique_names a.writer.now start first held c.write_complete.new.incoming.reading.place later writer
+          (g.W.Write.contents c.write_complete.new.sink) (g.W.Write.contents c.flush.new.self) c.flush.ensures.bytes done);
     }
 
 pub returns : goal.returns
@@ -145,8 +137,7 @@ returns g c =
       grows = l.invariant.3.grows;
       sound = l.invariant.3.sound;
       ended = tt;
-      written = tt;
-      stopped = comes_stopped s.depth s.flow s.unique_names a.writer.now (g.W.Write.contents a.sink.now) (g.R.Read.remaining a.reader.now)
+      sends = comes_stopped s.depth s.flow s.unique_names a.writer.now (g.W.Write.contents a.sink.now) (g.R.Read.remaining a.reader.now)
           l.incoming.held.items l.incoming.reading.place (g.R.Read.remaining l.reader) l.writer (g.W.Write.contents l.sink)
           (faults.ReadFailed c.from.result) (λ next left. refl) (λ front part. tt) l.invariant.2;
     }

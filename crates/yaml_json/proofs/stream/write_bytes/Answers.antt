@@ -1,5 +1,6 @@
-use Rattle.yaml_json.proofs.Common.{List, ℕ, [], refl, subst, sym, tokens}
-use Rattle.yaml_json.proofs.{Growing.grew_itself, Growing.grew_said, GivenAndTaken.part_stopped, TextStops.placed_as, TextStops.placed_first, TextStops.placed_no_text, TextStops.text_stopped, WroteLemmas.wrote_nothing}
+use Rattle.yaml_json.proofs.Common.{◌≡◌, List, ℕ, [], true, refl, subst, sym, tokens, NamesOnce, WroteText}
+use Rattle.yaml_json.proofs.{Growing.grew_itself, Growing.grew_said, GivenAndTaken.part_stopped, TextStops.placed_as, TextStops.placed_first}
+use Rattle.yaml_json.proofs.{TextStops.placed_no_text, TextStops.text_stopped, WroteLemmas.wrote_nothing}
 use Rattle.std.specs.Prelude.{IsUtf8}
 use Rattle.std.specs.Str.{IsValidUpTo}
 use Rattle.yaml_json.specs.{Failing.writers_error, Sent.StopsInPart}
@@ -28,17 +29,20 @@ returns-in-Err g c =
       grew = grew_itself writer;
     }
 
-pub returns-in-Ok-write_text_in-clause-utf8 : goal.returns-in-Ok-write_text_in-clause-utf8
-returns-in-Ok-write_text_in-clause-utf8 g c = c.in-Ok.ensures.cases.1
-
-pub returns-in-Ok-write_text_in-clause-kept : goal.returns-in-Ok-write_text_in-clause-kept
-returns-in-Ok-write_text_in-clause-kept g c = c.in-Ok-write_text_in.ensures.kept
-
-pub returns-in-Ok-write_text_in-clause-stopped : goal.returns-in-Ok-write_text_in-clause-stopped
-returns-in-Ok-write_text_in-clause-stopped g c = tt
-
-pub returns-in-Ok-write_text_in-clause-grew : goal.returns-in-Ok-write_text_in-clause-grew
-returns-in-Ok-write_text_in-clause-grew g c = tt
+pub returns-in-Ok-write_text_in : goal.returns-in-Ok-write_text_in
+returns-in-Ok-write_text_in g c =
+    let s = c.args.settings.now in
+    let given = c.in-Ok-write_text_in.ensures.gives in
+    let same = c.in-Ok.ensures.cases.0 in
+    record {
+      ready = c.in-Ok-write_text_in.ensures.ready;
+      names = subst (λ (t : List ℕ). s.unique_names ≡ true → NamesOnce [] (tokens t)) same given.names;
+      utf8 = c.in-Ok.ensures.cases.1;
+      written = subst (λ (t : List ℕ). WroteText s.depth s.flow t c.args.writer.now c.write_text_in.new.writer) same given.written;
+      kept = given.kept;
+      stopped = tt;
+      grew = tt;
+    }
 
 pub returns-in-Err-write_text_in : goal.returns-in-Err-write_text_in
 returns-in-Err-write_text_in g c =
@@ -46,7 +50,7 @@ returns-in-Err-write_text_in g c =
     let was = c.args.writer.now in
     let now = c.write_text_in.new.writer in
     let error = c.error_of.result in
-    let failed = c.in-Err-write_text_in.ensures in
+    let failed = c.in-Err-write_text_in.ensures.gives in
     record {
       ready = tt;
       names = tt;
@@ -57,9 +61,9 @@ returns-in-Err-write_text_in g c =
           (part_stopped s.depth s.unique_names s.flow c.in-Ok.text.now was error now
           (subst IsUtf8 (sym c.in-Ok.ensures.cases.0) c.in-Ok.ensures.cases.1)
           (text_stopped s.depth s.unique_names s.flow c.in-Ok.text.now was now c.in-Err-write_text_in.stop error c.error_of.ensures.says failed.refused
-          failed.stopped)
+          failed.failed)
           (placed_first s.depth c.in-Ok.text.now c.in-Err-write_text_in.at error c.error_of.ensures.place
           (placed_as s.depth c.in-Ok.text.now c.in-Ok.text.now c.in-Err-write_text_in.at c.in-Err-write_text_in.stop error c.error_of.ensures.says
           failed.place)));
-      grew = grew_said was now c.in-Err-write_text_in.stop (writers_error error) c.error_of.ensures.by_writer failed.kept_after;
+      grew = grew_said was now c.in-Err-write_text_in.stop (writers_error error) c.error_of.ensures.by_writer failed.kept;
     }

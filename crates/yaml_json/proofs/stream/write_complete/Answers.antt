@@ -1,5 +1,5 @@
 use Rattle.yaml_json.proofs.Common.{ℕ, ◌-◌, drop, length, List, refl, subst, sym, HasScanned, StopsWithin}
-use Rattle.yaml_json.proofs.Sending.{left_scanned, left_within, advances_left}
+use Rattle.yaml_json.proofs.SendingSteps.{left_scanned, left_within, advances_left}
 use Rattle.yaml_json.specs.Places.{MovesPlace}
 use Rattle.yaml_json.specs.declared.places.Place.{Place}
 use Rattle.yaml_json.proofs.stream.write_complete.Goals as goal
@@ -40,4 +40,5 @@ pub returns-in-Err-clause-stops : goal.returns-in-Err-clause-stops
 returns-in-Err-clause-stops g c =
     let a = c.args in
     subst (λ (t : List ℕ). StopsWithin a.settings.now.depth a.settings.now.flow a.settings.now.unique_names t a.incoming.now.reading.place a.writer.now
-    (g.W.Write.contents a.sink.now) c.in-Err.error c.write_texts.new.writer (g.W.Write.contents c.write_texts.new.sink)) c.as_slice-held.ensures.value c.in-Err.ensures.stops
+    (g.W.Write.contents a.sink.now) c.in-Err.error c.write_texts.new.writer (g.W.Write.contents c.write_texts.new.sink))
+    c.as_slice-held.ensures.value c.in-Err.ensures.stops

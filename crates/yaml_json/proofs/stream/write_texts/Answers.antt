@@ -1,10 +1,11 @@
-use Rattle.yaml_json.proofs.Common.{ℕ, ◌-◌, Option, None, drop, length, take, true, List, [], refl, ◌≡◌, ◌++◌, length-drop, take-append-drop, ap, subst, sym, ◌∙◌, arith, tokens}
+use Rattle.yaml_json.proofs.Common.{ℕ, ◌-◌, Option, None, drop, length, take, true, List, [], refl, ◌≡◌, ◌++◌, length-drop, take-append-drop, ap, subst, sym}
+use Rattle.yaml_json.proofs.Common.{◌∙◌, arith, tokens}
 use Rattle.yaml_json.proofs.Common.{NamesOnce, HasScanned, WroteText}
 use Rattle.std.specs.Prelude.{IsUtf8}
 use Rattle.yaml_base.specs.declared.errors.yaml_error_t.{yaml_error_t}
 use Rattle.yaml_json.{proofs.GivenAndTaken.part_placed, specs.Failing.Grew, specs.Sent.StopsInPart, specs.Sent.emitter_error}
 use Rattle.yaml_json.proofs.Growing.{grew_itself, grew_then, grew_kept}
-use Rattle.yaml_json.proofs.Sending.{whole_suffix, suffix_on, advances_none, advances_same, stops_at_first, advances_on, stops_next}
+use Rattle.yaml_json.proofs.SendingSteps.{whole_suffix, suffix_on, advances_none, advances_same, stops_at_first, advances_on, stops_next}
 use Rattle.yaml_json.specs.Places.{IsPlaceAfter}
 use Rattle.yaml_json.proofs.stream.write_texts.Goals as goal
 

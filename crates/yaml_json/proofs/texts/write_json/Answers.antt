@@ -9,10 +9,10 @@ returns-in-Err g c =
     let error = c.error_of.result in
     let failed = c.in-Err.ensures in
     let stopped = text_stopped s.depth s.unique_names s.flow text c.args.writer.now c.write_text_by.new.writer c.in-Err.stop error c.error_of.ensures.says
-    failed.refused failed.stopped in
+    failed.refused failed.failed in
     record {
-      grows = failed.kept_after.grows;
-      sound = said_as c.args.writer.now c.write_text_by.new.writer c.in-Err.stop (writers_error error) c.error_of.ensures.by_writer failed.kept_after;
+      grows = failed.kept.grows;
+      sound = said_as c.args.writer.now c.write_text_by.new.writer c.in-Err.stop (writers_error error) c.error_of.ensures.by_writer failed.kept;
       written = tt;
       names = tt;
       refused = why_no_json s.depth s.unique_names text error

@@ -32,7 +32,8 @@ pub closing-requires : goal.closing-requires
 closing-requires g c = (ap head (sym c.as_bytes.ensures.value) ∙ sym c.byte_at-byte.ensures, grind arith)
 
 pub returns-then-may_close-clause-reads : goal.returns-then-may_close-clause-reads
-returns-then-may_close-clause-reads g c = closed_here c.args.stage c.args.text.now c.closing.result (sym c.may_close.ensures ∙ c.if-may_close.true) c.closing.ensures.steps
+returns-then-may_close-clause-reads g c =
+    closed_here c.args.stage c.args.text.now c.closing.result (sym c.may_close.ensures ∙ c.if-may_close.true) c.closing.ensures.steps
 
 pub beginning-requires-clause-opens : goal.beginning-requires-clause-opens
 beginning-requires-clause-opens g c =

@@ -8,7 +8,8 @@ use Rattle.yaml_json.proofs.WordModes.{word_leads}
 use Rattle.yaml_json.proofs.tokens.word_step.Goals as goal
 
 pub returns-in-None-clause-steps : goal.returns-in-None-clause-steps
-returns-in-None-clause-steps c = bad_word c.args.text.now c.bad.result c.requires.other c.in-None.ensures.reads c.bad.ensures.token c.bad.ensures.over c.bad.ensures.tidy
+returns-in-None-clause-steps c =
+    bad_word c.args.text.now c.bad.result c.requires.other c.in-None.ensures.reads c.bad.ensures.token c.bad.ensures.over c.bad.ensures.tidy
 
 pub returns-in-Some-clause-steps : goal.returns-in-Some-clause-steps
 returns-in-Some-clause-steps c =

@@ -1,48 +1,32 @@
-use Rattle.yaml_json.proofs.Common.{◌<◌, ◌+◌, ◌≡◌, [], ◌∷◌, true, length, length-append, ap, sym, ◌∙◌, arith, refl, emitter_error_of}
-use Rattle.yaml_json.proofs.{KeepingNames.keeps_opener, Stopping.if_some, Stopping.kept_same, Stopping.kept_memory, Taking.opener_began, Taking.opener_failed, Taking.opener_without_memory}
-use Rattle.yaml_json.proofs.{WroteLemmas.on_ok, WroteLemmas.always}
+use Rattle.yaml_json.proofs.Common.{◌<◌, ◌+◌, ◌≡◌, [], ◌∷◌, true, length, length-append, ap, sym, ◌∙◌, arith, refl}
+use Rattle.yaml_json.proofs.{KeepingNames.keeps_opener, Stopping.kept_same, WalkCalls.opener_step, WalkCalls.opener_without_room}
+use Rattle.yaml_json.specs.WalkSteps.{at}
 use Rattle.yaml_json.specs.declared.values.Stop.TheVariants as stops
 use Rattle.yaml_json.proofs.values.begin.Goals as goal
 
-pub returns-in-Err-clause-stopped : goal.returns-in-Err-clause-stopped
-returns-in-Err-clause-stopped g c =
+pub returns-then-len-settings : goal.returns-then-len-settings
+returns-then-len-settings g c =
+    record {
+      refused = ((c.args.kind, refl), grind arith);
+      same = λ by_text. refl;
+      kept = kept_same c.args.writer.now c.args.writer.now stops.TooDeep refl tt;
+      failed = tt;
+    }
+
+pub returns-in-Err : goal.returns-in-Err
+returns-in-Err g c =
     let a = c.args in
-    let fits : length a.nest.now.kinds.items < a.settings.now.depth = grind (arith, c.requires.fits.0) in
-    opener_without_memory a.settings.now.depth a.settings.now.flow a.nest.now.kinds.items a.writer.now a.writer.now a.kind fits refl
+    let room : length a.nest.now.kinds.items < a.settings.now.depth = grind (arith, c.requires.fits.0) in
+    opener_without_room a.settings.now a.kind a.nest.now _ a.writer.now room
 
-pub returns-in-Err-push-clause-stopped : goal.returns-in-Err-push-clause-stopped
-returns-in-Err-push-clause-stopped g c =
+pub returns-in-Err-push : goal.returns-in-Err-push
+returns-in-Err-push g c =
     let a = c.args in
-    let fits : length a.nest.now.kinds.items < a.settings.now.depth = grind (arith, c.requires.fits.0) in
-    opener_without_memory a.settings.now.depth a.settings.now.flow a.nest.now.kinds.items a.writer.now a.writer.now a.kind fits refl
+    let room : length a.nest.now.kinds.items < a.settings.now.depth = grind (arith, c.requires.fits.0) in
+    opener_without_room a.settings.now a.kind a.nest.now _ a.writer.now room
 
-pub returns-in-Ok-clause-began : goal.returns-in-Ok-clause-began
-returns-in-Ok-clause-began g c =
-    let a = c.args in
-    let fits : length a.nest.now.kinds.items < a.settings.now.depth = grind (arith, c.requires.fits.0) in
-    on_ok c.start.result
-    (opener_began a.settings.now.depth a.settings.now.flow a.nest.now.kinds.items a.writer.now c.start.new.writer c.push.new.self.items a.kind fits
-    c.in-Ok.ensures.items)
-    c.start.ensures.started
-
-pub returns-in-Ok-clause-names : goal.returns-in-Ok-clause-names
-returns-in-Ok-clause-names g c =
-    always c.start.result
-    (keeps_opener c.args.kind c.args.nest.now.names c.enter.new.self c.in_default.ensures.kept c.in_default.ensures.holds)
-
-pub returns-in-Ok-clause-stopped : goal.returns-in-Ok-clause-stopped
-returns-in-Ok-clause-stopped g c =
-    let a = c.args in
-    let fits : length a.nest.now.kinds.items < a.settings.now.depth = grind (arith, c.requires.fits.0) in
-    if_some (emitter_error_of c.start.new.writer c.start.result)
-    (opener_failed a.settings.now.depth a.settings.now.flow a.nest.now.kinds.items a.writer.now c.start.new.writer a.kind fits)
-    c.start.ensures.stopped
-
-pub returns-then-len-settings-clause-refused : goal.returns-then-len-settings-clause-refused
-returns-then-len-settings-clause-refused g c = ((c.args.kind, refl), grind arith)
-
-pub returns-in-Ok-clause-fits : goal.returns-in-Ok-clause-fits
-returns-in-Ok-clause-fits g c =
+pub returns-in-Ok : goal.returns-in-Ok
+returns-in-Ok g c =
     let a = c.args in
     let fits = c.requires.fits in
     let entered = c.in_default.ensures in
@@ -51,16 +35,7 @@ returns-in-Ok-clause-fits g c =
     ap length c.in-Ok.ensures.items ∙ length-append a.nest.now.kinds.items (a.kind ∷ []) in
     let as_many = λ (kept : c.enter.new.self.are_kept ≡ true). let was = sym entered.kept ∙ kept in
     entered.longer was ∙ ap (λ n. n + 1) (fits.1.1 was) ∙ sym more in
-    always c.start.result (omega (arith, room, more), (entered.kept ∙ fits.1.0, as_many))
-
-pub returns-then-len-settings-clause-kept : goal.returns-then-len-settings-clause-kept
-returns-then-len-settings-clause-kept g c = kept_same c.args.writer.now c.args.writer.now stops.TooDeep refl tt
-
-pub returns-in-Err-clause-kept : goal.returns-in-Err-clause-kept
-returns-in-Err-clause-kept g c = kept_memory c.args.writer.now
-
-pub returns-in-Err-push-clause-kept : goal.returns-in-Err-push-clause-kept
-returns-in-Err-push-clause-kept g c = kept_memory c.args.writer.now
-
-pub returns-in-Ok-clause-same : goal.returns-in-Ok-clause-same
-returns-in-Ok-clause-same g c refused = absurd (c.start.ensures.failed refused)
+    opener_step a.settings.now a.kind (at a.nest.now a.writer.now) _ room c.in-Ok.ensures.items
+    (omega (arith, room, more), (entered.kept ∙ fits.1.0, as_many))
+    (keeps_opener a.kind a.nest.now.names c.enter.new.self entered.kept entered.holds) c.start.result c.answer_of.result c.answer_of.ensures
+    c.start.ensures

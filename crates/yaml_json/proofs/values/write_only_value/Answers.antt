@@ -2,7 +2,9 @@ use Rattle.yaml_json.proofs.Common.{ℕ, Bool, true, Err, List, [], ◌∷◌, �
 use Rattle.yaml_json.proofs.Common.{Event, AddsEvents, NamesOnce, Token, WriterState}
 use Rattle.yaml_json.proofs.{Refusing.past_refused, Refusing.value_names, Stopping.kept_same, Stopping.kept_then}
 use Rattle.yaml_json.proofs.{TokenLemmas.value_given, TokenLemmas.value_spelled}
+use Rattle.yaml_json.proofs.WalkCalls.{only_value}
 use Rattle.yaml_json.specs.Walk.{StopsWriting}
+use Rattle.yaml_json.specs.WalkSteps.{at}
 use Rattle.yaml_json.specs.Wrote.{WroteValue}
 use Rattle.yaml_json.specs.declared.values.Spot.TheVariants.{PastValue}
 use Rattle.yaml_json.specs.declared.values.Stop.TheVariants as stops
@@ -36,24 +38,27 @@ past_stopped (token ∷ after) depth unique flow start before front last was now
           (sym (value_given wrote.json was.canonical flow)) wrote.wrote.adds;
     }
 
-pub returns-else-is_at_end-clause-refused : goal.returns-else-is_at_end-clause-refused
-returns-else-is_at_end-clause-refused g c by_text =
+pub returns-else-is_at_end-clause-steps : goal.returns-else-is_at_end-clause-steps
+returns-else-is_at_end-clause-steps g c =
     let a = c.args in
-    let last = c.in_default.ensures.last in
-    past_stopped c.write_value.new.reader.ahead a.settings.now.depth a.settings.now.unique_names a.settings.now.flow a.reader.now.ahead
-    c.write_value.new.reader.before last.front last.last a.writer.now c.write_value.new.writer c.in_default.ensures.written
-    (value_names a.settings.now.depth a.settings.now.unique_names a.reader.now.ahead c.write_value.new.reader.ahead c.in_default.ensures.written.json
-    c.in_default.ensures.written.read c.in_default.ensures.names)
-    last.parts last.were (c.is_at_end.ensures.more c.if-is_at_end.false)
+    let s = a.settings.now in
+    let now = c.write_value.new.writer in
+    let step = c.in_default.ensures.steps in
+    let last = step.last in
+    record {
+      refused = λ by_text. past_stopped c.write_value.new.reader.ahead s.depth s.unique_names s.flow a.reader.now.ahead
+          c.write_value.new.reader.before last.front last.last a.writer.now now step.written
+          (value_names s.depth s.unique_names a.reader.now.ahead c.write_value.new.reader.ahead step.written.json step.written.read step.names)
+          last.parts last.were (c.is_at_end.ensures.more c.if-is_at_end.false);
+      kept = kept_then a.writer.now now now (Err (stops.NotJson PastValue)) step.kept (kept_same now now (stops.NotJson PastValue) refl tt);
+      failed = tt;
+    }
 
-pub returns-else-is_at_end-clause-kept : goal.returns-else-is_at_end-clause-kept
-returns-else-is_at_end-clause-kept g c =
+pub returns-then-is_at_end-clause-steps : goal.returns-then-is_at_end-clause-steps
+returns-then-is_at_end-clause-steps g c =
     let a = c.args in
-    kept_then a.writer.now c.write_value.new.writer c.write_value.new.writer (Err (stops.NotJson PastValue)) c.in_default.ensures.kept
-    (kept_same c.write_value.new.writer c.write_value.new.writer (stops.NotJson PastValue) refl tt)
-
-pub returns-then-is_at_end-clause-kept : goal.returns-then-is_at_end-clause-kept
-returns-then-is_at_end-clause-kept g c = c.in_default.ensures.kept
+    only_value a.settings.now a.reader.now c.write_value.new.reader (at a.nest.now a.writer.now) (at c.write_value.new.nest c.write_value.new.writer)
+    (c.is_at_end.ensures.end c.if-is_at_end.true) c.in_default.ensures.steps
 
 pub write_value-requires-clause-bare : goal.write_value-requires-clause-bare
 write_value-requires-clause-bare g c = c.requires.bare
@@ -62,6 +67,4 @@ pub write_value-requires-clause-none : goal.write_value-requires-clause-none
 write_value-requires-clause-none g c = c.requires.none
 
 pub returns-in-Err : goal.returns-in-Err
-returns-in-Err g c =
-    let failed = c.in-Err.ensures in
-    record { none = tt; written = tt; names = tt; refused = failed.refused; kept = failed.kept; text = failed.text; stopped = failed.stopped }
+returns-in-Err g c = record { steps = c.in-Err.ensures.steps; text = c.in-Err.ensures.text }

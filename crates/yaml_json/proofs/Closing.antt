@@ -1,0 +1,99 @@
+-- Which tokens close a collection, which are names or strings, and with which no value begins.
+use Rattle.yaml_json.proofs.Common.{ℕ, Bool, false, true, List, ◌∷◌, refl, ◌≡◌, Bor, ap, sym, ◌∙◌, closer, opener, token_of, RefusesToken, Token}
+use Rattle.std.proofs.lemmas.Bool.{true≢false}
+use Rattle.yaml_emitter.specs.declared.place.CollectionKind.{CollectionKind}
+use Rattle.yaml_emitter.specs.declared.place.CollectionKind.TheVariants.{Mapping, Sequence}
+use Rattle.yaml_json.specs.Walk.{IsOpener, NoStringNext, closes}
+use Rattle.yaml_json.specs.declared.values.Spot.TheVariants.{At, PastString}
+use Rattle.yaml_json.specs.declared.values.Stop.TheVariants as stops
+use Rattle.json.specs.declared.token.Token as read
+use Rattle.json.specs.declared.token.Token.TheVariants as variants
+
+-- ---- tokens
+
+pub closes_is : (token : Token) (kind : CollectionKind) → closes token kind ≡ true → token ≡ closer kind
+closes_is Token.begin_object kind is = absurd (true≢false (sym is))
+closes_is Token.end_object Sequence is = absurd (true≢false (sym is))
+closes_is Token.end_object Mapping is = refl
+closes_is Token.begin_array kind is = absurd (true≢false (sym is))
+closes_is Token.end_array Sequence is = refl
+closes_is Token.end_array Mapping is = absurd (true≢false (sym is))
+closes_is (Token.key text) kind is = absurd (true≢false (sym is))
+closes_is (Token.string text) kind is = absurd (true≢false (sym is))
+closes_is (Token.number text) kind is = absurd (true≢false (sym is))
+closes_is (Token.boolean flag) kind is = absurd (true≢false (sym is))
+closes_is Token.null kind is = absurd (true≢false (sym is))
+closes_is Token.bad kind is = absurd (true≢false (sym is))
+
+pub closes_not : (token : Token) (kind : CollectionKind) → closes token kind ≡ false → token ≡ closer kind → ⊥
+closes_not token Sequence isn't is = true≢false (sym (ap (λ (t : Token). closes t Sequence) is) ∙ isn't)
+closes_not token Mapping isn't is = true≢false (sym (ap (λ (t : Token). closes t Mapping) is) ∙ isn't)
+
+opens_none : (token : Token) → (token ≡ opener Sequence → ⊥) → (token ≡ opener Mapping → ⊥) → IsOpener token → ⊥
+opens_none token array object (Sequence, is) = array is
+opens_none token array object (Mapping, is) = object is
+
+pub name_refused : (depth : ℕ) (levels : List CollectionKind) (text : List ℕ) → RefusesToken depth levels (Token.key text) (stops.NotJson PastString)
+name_refused depth levels text = (((λ scalar. scalar), opens_none (Token.key text) (λ is. cc) (λ is. cc)), refl)
+
+-- ---- tokens as they are read
+
+-- neither end
+pub no_closer : (token : read.Token) (kind : CollectionKind) → (token ≡ variants.EndArray → ⊥) → (token ≡ variants.EndObject → ⊥)
+    → closes (token_of token) kind ≡ false
+no_closer variants.BeginObject kind isn't none = refl
+no_closer variants.EndObject kind isn't none = absurd (none refl)
+no_closer variants.BeginArray kind isn't none = refl
+no_closer variants.EndArray kind isn't none = absurd (isn't refl)
+no_closer (variants.Key text) kind isn't none = refl
+no_closer (variants.String text) kind isn't none = refl
+no_closer (variants.Number text) kind isn't none = refl
+no_closer (variants.Bool flag) kind isn't none = refl
+no_closer variants.Null kind isn't none = refl
+no_closer variants.Bad kind isn't none = refl
+
+-- no name
+pub no_name : (token : read.Token) → ((text : Bor (List ℕ)) → token ≡ variants.Key text → ⊥) → (text : List ℕ) → token_of token ≡ Token.key text → ⊥
+no_name variants.BeginObject isn't text is = cc
+no_name variants.EndObject isn't text is = cc
+no_name variants.BeginArray isn't text is = cc
+no_name variants.EndArray isn't text is = cc
+no_name (variants.Key name) isn't text is = isn't name refl
+no_name (variants.String name) isn't text is = cc
+no_name (variants.Number name) isn't text is = cc
+no_name (variants.Bool flag) isn't text is = cc
+no_name variants.Null isn't text is = cc
+no_name variants.Bad isn't text is = cc
+
+-- nor a string
+pub no_string : (token : read.Token) (after : List Token) → ((text : Bor (List ℕ)) → token ≡ variants.Key text → ⊥)
+    → ((text : Bor (List ℕ)) → token ≡ variants.String text → ⊥) → NoStringNext (token_of token ∷ after)
+no_string variants.BeginObject after isn't none = tt
+no_string variants.EndObject after isn't none = tt
+no_string variants.BeginArray after isn't none = tt
+no_string variants.EndArray after isn't none = tt
+no_string (variants.Key text) after isn't none = absurd (isn't text refl)
+no_string (variants.String text) after isn't none = absurd (none text refl)
+no_string (variants.Number text) after isn't none = tt
+no_string (variants.Bool flag) after isn't none = tt
+no_string variants.Null after isn't none = tt
+no_string variants.Bad after isn't none = tt
+
+-- no token with which a value begins, and no name
+pub token_refused : (depth : ℕ) (levels : List CollectionKind) (token : read.Token) → (token ≡ variants.Null → ⊥)
+    → ((flag : Bool) → token ≡ variants.Bool flag → ⊥) → ((text : Bor (List ℕ)) → token ≡ variants.Number text → ⊥)
+    → ((text : Bor (List ℕ)) → token ≡ variants.String text → ⊥) → (token ≡ variants.BeginArray → ⊥) → (token ≡ variants.BeginObject → ⊥)
+    → ((text : Bor (List ℕ)) → token ≡ variants.Key text → ⊥) → RefusesToken depth levels (token_of token) (stops.NotJson At)
+token_refused depth levels variants.BeginObject null bool number string array object name = absurd (object refl)
+token_refused depth levels variants.EndObject null bool number string array object name =
+    (((λ scalar. scalar), opens_none Token.end_object (λ is. cc) (λ is. cc)), refl)
+token_refused depth levels variants.BeginArray null bool number string array object name = absurd (array refl)
+token_refused depth levels variants.EndArray null bool number string array object name =
+    (((λ scalar. scalar), opens_none Token.end_array (λ is. cc) (λ is. cc)), refl)
+token_refused depth levels (variants.Key text) null bool number string array object name = absurd (name text refl)
+token_refused depth levels (variants.String text) null bool number string array object name = absurd (string text refl)
+token_refused depth levels (variants.Number text) null bool number string array object name = absurd (number text refl)
+token_refused depth levels (variants.Bool flag) null bool number string array object name = absurd (bool flag refl)
+token_refused depth levels variants.Null null bool number string array object name = absurd (null refl)
+token_refused depth levels variants.Bad null bool number string array object name =
+    (((λ scalar. scalar), opens_none Token.bad (λ is. cc) (λ is. cc)), refl)

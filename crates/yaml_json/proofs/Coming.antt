@@ -1,0 +1,193 @@
+-- The parts of JSON texts as they come, and the last of the texts.
+use Rattle.yaml_json.proofs.Sending.{sending_begins, sending_same, all_given}
+use Rattle.yaml_json.proofs.SendingSteps.{stops_here, stops_next_text}
+use Rattle.yaml_json.proofs.Common.{ℕ, IfSome, Option, None, Some, length, Bool, true, List, [], ◌++◌, refl, ◌≡◌, append-nil, append_assoc, ap}
+use Rattle.yaml_json.proofs.Common.{subst, sym, ◌∙◌, Appends, Token, tokens, HasScanned, NamesOnce, Advances, StopsWithin, IsBare, WroteText, WriterState, Ok}
+use Rattle.yaml_json.proofs.Common.{Err, Result, OnOk, IfErr}
+use Rattle.std.specs.Io.KnownBytes.{Keeps, Consumes, IsAtEnd}
+use Rattle.std.specs.Prelude.{IsUtf8}
+use Rattle.yaml_json.proofs.Cutting.{whole_text}
+use Rattle.yaml_json.specs.declared.cuts.Cut.{Cut}
+use Rattle.yaml_json.specs.declared.error.StreamError.{StreamError}
+use Rattle.yaml_json.specs.Sent.{SentTexts, SentSoFar, StopsInPart, StopsPartAt, StopsSending, HasCome, Sends}
+use Rattle.yaml_json.proofs.Stopping.{if_some}
+use Rattle.yaml_json.specs.Places.{HasPlaceWithin, IsPlaceAfter, MovesPlace}
+use Rattle.yaml_json.specs.declared.places.Place.{Place}
+use Rattle.yaml_json.specs.declared.stream.Incoming.{Incoming}
+use Rattle.yaml_json.specs.declared.settings.JsonSettings.{JsonSettings}
+
+-- ---- parts
+
+-- these bytes are held, and those that are left come yet
+pub record Comes (depth : ℕ) (in_flow unique : Bool) (text : List ℕ) (was : WriterState) (start : Option (List ℕ)) (held : List ℕ) (place : Place)
+    (ahead : Option (List ℕ)) (now : WriterState) (holds : Option (List ℕ)) : Type 0 where
+  pub left : List ℕ
+  pub known : ahead ≡ Some left
+  pub sending : SentSoFar depth in_flow unique text was start (held ++ left) now holds
+  pub front : List ℕ
+  pub follows : IsPlaceAfter front place
+  pub whole : front ++ (held ++ left) ≡ text
+
+pub comes_first : (depth : ℕ) (in_flow unique : Bool) (was : WriterState) (start ahead : Option (List ℕ)) (held : List ℕ) (place : Place) → held ≡ []
+    → IsPlaceAfter [] place → IsBare was → IfSome ahead (λ text. Comes depth in_flow unique text was start held place ahead was start)
+comes_first depth in_flow unique was start None held place none first bare = tt
+comes_first depth in_flow unique was start (Some text) held place none first bare =
+    record {
+      left = text;
+      known = refl;
+      front = [];
+      follows = first;
+      whole = ap (λ (all : List ℕ). all ++ text) none;
+      sending = sending_same depth in_flow unique text was start text (held ++ text) was start (ap (λ (all : List ℕ). all ++ text) (sym none))
+          (sending_begins depth in_flow unique text was start bare);
+    }
+
+-- a flush keeps them
+kept_appends : (start holds later : Option (List ℕ)) (handed : List ℕ) → Appends start holds handed → Keeps holds later → Appends start later handed
+kept_appends None holds later handed appends keeps = tt
+kept_appends (Some bytes) None later handed appends keeps = absurd appends
+kept_appends (Some bytes) (Some more) None handed appends keeps = absurd keeps
+kept_appends (Some bytes) (Some more) (Some same) handed appends keeps = keeps ∙ appends
+
+sending_kept : (depth : ℕ) (in_flow unique : Bool) (text : List ℕ) (was : WriterState) (start : Option (List ℕ)) (rest : List ℕ) (now : WriterState)
+    (holds later : Option (List ℕ)) → Keeps holds later → SentSoFar depth in_flow unique text was start rest now holds
+    → SentSoFar depth in_flow unique text was start rest now later
+sending_kept depth in_flow unique text was start rest now holds later keeps sending =
+    record {
+      parts = sending.parts;
+      joined = sending.joined;
+      cut = sending.cut;
+      each = sending.each;
+      utf8 = sending.utf8;
+      names = sending.names;
+      handed = sending.handed;
+      sends = kept_appends start holds later sending.handed sending.sends keeps;
+      wrote = sending.wrote;
+      whole = sending.whole;
+    }
+
+consumed_some : (bytes left : List ℕ) (later : Option (List ℕ)) → Consumes (Some left) later bytes
+    → (more : List ℕ) × (later ≡ Some more) × (left ≡ bytes ++ more)
+consumed_some bytes left None consumes = absurd consumes
+consumed_some bytes left (Some more) consumes = (more, refl, consumes)
+
+module _ (depth : ℕ) (in_flow unique : Bool) (was : WriterState) (start : Option (List ℕ)) where
+  -- more came
+  pub more_came : {A : Type 0} (first : Option (List ℕ)) (before after : Incoming A) (ahead later : Option (List ℕ)) (now : WriterState)
+      (holds : Option (List ℕ)) → HasCome before ahead after later
+      → after.reading.place ≡ before.reading.place
+      → IfSome first (λ text. Comes depth in_flow unique text was start before.held.items before.reading.place ahead now holds)
+      → IfSome first (λ text. Comes depth in_flow unique text was start after.held.items after.reading.place later now holds)
+  more_came first before after ahead later now holds (bytes, is, consumes) stays =
+      let held = before.held.items in
+      if_some first
+      (λ text come. let found = consumed_some bytes come.left later (subst (λ (known : Option (List ℕ)). Consumes known later bytes) come.known consumes) in
+      let same : held ++ come.left ≡ after.held.items ++ found.0 =
+      ap (λ (more : List ℕ). held ++ more) found.2 ∙ sym (append_assoc held bytes found.0) ∙ ap (λ (all : List ℕ). all ++ found.0) (sym is) in
+      record {
+        left = found.0;
+        known = found.1;
+        sending = sending_same depth in_flow unique text was start (held ++ come.left) (after.held.items ++ found.0) now holds same come.sending;
+        front = come.front;
+        follows = subst (IsPlaceAfter come.front) (sym stays) come.follows;
+        whole = ap (λ (all : List ℕ). come.front ++ all) (sym same) ∙ come.whole;
+      })
+
+  -- the texts that are complete were given
+  pub complete_given : (first : Option (List ℕ)) (held left : List ℕ) (place moved : Place) (ahead : Option (List ℕ)) (before now : WriterState)
+      (holds later : Option (List ℕ)) → Advances depth in_flow unique held before holds left now later → MovesPlace held left place moved
+      → IfSome first (λ text. Comes depth in_flow unique text was start held place ahead before holds)
+      → IfSome first (λ text. Comes depth in_flow unique text was start left moved ahead now later)
+  complete_given first held left place moved ahead before now holds later advances moves =
+      if_some first
+      (λ text come. record {
+        left = come.left;
+        known = come.known;
+        sending = advances text was start come.left come.sending;
+        front = come.front ++ moves.dropped;
+        follows = moves.follows come.front come.follows;
+        whole = append_assoc come.front moves.dropped (left ++ come.left)
+            ∙ ap (λ (all : List ℕ). come.front ++ all) (sym (append_assoc moves.dropped left come.left))
+            ∙ ap (λ (all : List ℕ). come.front ++ (all ++ come.left)) moves.parts ∙ come.whole;
+      })
+
+  -- the sink was flushed
+  pub comes_kept : (first : Option (List ℕ)) (held : List ℕ) (place : Place) (ahead : Option (List ℕ)) (now : WriterState)
+      (holds later : Option (List ℕ)) → Keeps holds later → IfSome first (λ text. Comes depth in_flow unique text was start held place ahead now holds)
+      → IfSome first (λ text. Comes depth in_flow unique text was start held place ahead now later)
+  comes_kept first held place ahead now holds later keeps =
+      if_some first
+      (λ text come. record {
+        left = come.left;
+        known = come.known;
+        sending = sending_kept depth in_flow unique text was start (held ++ come.left) now holds later keeps come.sending;
+        front = come.front;
+        follows = come.follows;
+        whole = come.whole;
+      })
+
+  -- or not all of them
+  pub complete_stopped : (first : Option (List ℕ)) (held : List ℕ) (place : Place) (ahead : Option (List ℕ)) (before : WriterState)
+      (holds later : Option (List ℕ)) (error : StreamError) (after : WriterState)
+      → StopsWithin depth in_flow unique held place before holds error after later
+      → IfSome first (λ text. Comes depth in_flow unique text was start held place ahead before holds)
+      → IfSome first (λ text. StopsSending depth unique in_flow text was start error after later)
+  complete_stopped first held place ahead before holds later error after stops =
+      if_some first (λ text come. stops text was start come.left come.front come.follows come.whole come.sending)
+
+  -- nothing is taken of what comes next
+  pub comes_stopped : (first : Option (List ℕ)) (held : List ℕ) (place : Place) (ahead : Option (List ℕ)) (now : WriterState)
+      (holds : Option (List ℕ)) (error : StreamError) → ((next : List ℕ) (left : List Token) → StopsPartAt depth unique next [] left error)
+      → ((front part : List ℕ) → HasPlaceWithin depth front part error)
+      → IfSome first (λ text. Comes depth in_flow unique text was start held place ahead now holds)
+      → IfSome first (λ text. StopsSending depth unique in_flow text was start error now holds)
+  comes_stopped first held place ahead now holds error why nowhere =
+      if_some first (λ text come. stops_here depth in_flow unique text was start (held ++ come.left) now holds come.sending error why nowhere)
+
+-- ---- the last text
+
+module _ (depth : ℕ) (in_flow unique : Bool) (was : WriterState) (start : Option (List ℕ)) (held : List ℕ) (place : Place)
+    (ahead : Option (List ℕ)) (now : WriterState) (holds : Option (List ℕ)) (ended : IsAtEnd ahead) (scan : Cut) (scanned : HasScanned held scan)
+    (all : scan.scanned ≡ length held) where
+  no_more_held : (text : List ℕ) → (comes : Comes depth in_flow unique text was start held place ahead now holds) → held ++ comes.left ≡ held
+  no_more_held text comes =
+      let none : comes.left ≡ [] = subst IsAtEnd comes.known ended in
+      ap (λ (more : List ℕ). held ++ more) none ∙ append-nil held
+
+  last_left : (text : List ℕ) → Comes depth in_flow unique text was start held place ahead now holds
+      → SentSoFar depth in_flow unique text was start held now holds
+  last_left text comes =
+      sending_same depth in_flow unique text was start (held ++ comes.left) held now holds (no_more_held text comes) comes.sending
+
+  last_given : (given : WriterState) (first : Option (List ℕ)) → (unique ≡ true → NamesOnce [] (tokens held)) → IsUtf8 held
+      → WroteText depth in_flow held now given → IfSome first (λ text. Comes depth in_flow unique text was start held place ahead now holds)
+      → IfSome first (λ text. SentTexts depth unique in_flow text was start given holds)
+  last_given given first named readable one =
+      if_some first
+      (λ text come. all_given depth in_flow unique text was start held now holds (last_left text come) held [] [] (append-nil held)
+      (whole_text held scan scanned all) given named readable one refl refl)
+
+  last_stopped : (first : Option (List ℕ)) (error : StreamError) (after : WriterState)
+      → ((front : List ℕ) → IsPlaceAfter front place → StopsInPart depth unique in_flow front held now error after)
+      → IfSome first (λ text. Comes depth in_flow unique text was start held place ahead now holds)
+      → IfSome first (λ text. StopsSending depth unique in_flow text was start error after holds)
+  last_stopped first error after stops =
+      if_some first
+      (λ text come. stops_next_text depth in_flow unique text was start held now holds (last_left text come) held [] (whole_text held scan scanned all)
+      error after come.front (ap (λ (all_held : List ℕ). come.front ++ all_held) (sym (no_more_held text come)) ∙ come.whole)
+      (stops come.front come.follows))
+
+-- as the last text's result says
+pub last_sends : (settings : JsonSettings) (was : WriterState) (start : Option (List ℕ)) (held : List ℕ) (place : Place) (ahead : Option (List ℕ))
+    (now : WriterState) (holds : Option (List ℕ)) → IsAtEnd ahead → (scan : Cut) → HasScanned held scan → scan.scanned ≡ length held
+    → (result : Result (Unit {0}) StreamError) (after : WriterState) (first : Option (List ℕ))
+    → OnOk result (settings.unique_names ≡ true → NamesOnce [] (tokens held)) → OnOk result (IsUtf8 held)
+    → OnOk result (WroteText settings.depth settings.flow held now after)
+    → IfErr result (λ error. (front : List ℕ) → IsPlaceAfter front place
+    → StopsInPart settings.depth settings.unique_names settings.flow front held now error after)
+    → IfSome first (λ text. Comes settings.depth settings.flow settings.unique_names text was start held place ahead now holds)
+    → IfSome first (λ text. Sends settings text was start result after holds)
+last_sends settings was start held place ahead now holds ended scan scanned all (Ok done) after first named readable one stops =
+    last_given settings.depth settings.flow settings.unique_names was start held place ahead now holds ended scan scanned all after first named readable one
+last_sends settings was start held place ahead now holds ended scan scanned all (Err error) after first named readable one stops =
+    last_stopped settings.depth settings.flow settings.unique_names was start held place ahead now holds ended scan scanned all first error after stops

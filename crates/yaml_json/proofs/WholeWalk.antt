@@ -1,0 +1,118 @@
+-- The whole walk over the tokens of a value.
+use Rattle.yaml_json.proofs.Taking.{stood_nothing}
+use Rattle.yaml_json.proofs.Common.{ℕ, Bool, List, [], ◌++◌, ◌∷◌, refl, ◌≡◌, append-nil, append_assoc, inl, inr, ap, subst, sym, ◌∙◌, arith}
+use Rattle.yaml_json.proofs.Common.{append_cancel_right, left_some, value, skip_value, Token, json_tokens, Event, BeginsValue, tokens_events, Stands}
+use Rattle.yaml_json.proofs.Common.{KeepsNames, BeganFirstValue, FirstFailed, Refuses, WalkProgress, IsBare, WriterState, AddsEvents}
+use Rattle.yaml_base.specs.declared.errors.yaml_error_t.{yaml_error_t}
+use Rattle.yaml_base.specs.declared.errors.yaml_error_t.TheVariants.{Memory}
+use Rattle.yaml_json.proofs.KeepingNames.{NamesSoFar}
+use Rattle.yaml_json.proofs.Stops.{adds_none, all_left}
+use Rattle.yaml_json.proofs.TokenLemmas.{value_spelled, value_given}
+use Rattle.yaml_json.specs.Failing.{FailedInValue}
+use Rattle.yaml_json.specs.Wrote.{WroteValue}
+use Rattle.yaml_json.specs.declared.names.Names.{Names}
+use Rattle.yaml_json.specs.declared.values.Stop.{Stop}
+use Rattle.yaml_json.proofs.Walking.{closes_value, value_begins, awaiting_whole, next_stands}
+use Rattle.yaml_json.specs.Walk.{Stood, StopsWriting, FailsGiving, Stepped, StepFailed}
+use Rattle.yaml_emitter.specs.declared.place.CollectionKind.{CollectionKind}
+
+module _ (depth : ℕ) (in_flow : Bool) (start : List Token) (was : WriterState) where
+  -- the first token of the value was given
+  pub first_so_far : (after : List Token) (opened : List CollectionKind) (now : WriterState) → IsBare was
+      → BeganFirstValue depth in_flow start [] was after opened now → WalkProgress depth in_flow start was after opened now
+  first_so_far after opened now bare began =
+      record {
+        taken = began.token ∷ [];
+        parts = sym began.first;
+        stood = began.began.gives was [] (stood_nothing in_flow was bare);
+        stands = next_stands depth [] [] opened began.token after (awaiting_whole depth (began.token ∷ after)) began.began.begins;
+      }
+
+  -- or the writer failed
+  nothing_given : (error : yaml_error_t) (now : WriterState) → IsBare was → error ≡ Memory → now ≡ was → FailedInValue depth in_flow start was error now
+  nothing_given error now bare memory same = (
+    [],
+    (
+      record {
+        left = start;
+        parts = refl;
+        gave = record { adds = adds_none in_flow [] was now same was [] (stood_nothing in_flow was bare); is_error = inl memory };
+      },
+      closes_value depth [] (awaiting_whole depth start).begins,
+    ),
+  )
+
+  first_given : (error : yaml_error_t) (now : WriterState) → IsBare was → (token : Token) (after : List Token) → start ≡ token ∷ after
+      → FailsGiving in_flow [] was (token ∷ []) error now → BeginsValue depth (token ∷ []) → FailedInValue depth in_flow start was error now
+  first_given error now bare token after first (inl memory) begins = nothing_given error now bare memory.0 memory.1
+  first_given error now bare token after first (inr fails) begins =
+      (token ∷ [], (record { left = after; parts = sym first; gave = fails was [] (stood_nothing in_flow was bare) }, begins))
+
+  pub first_failed : (error : yaml_error_t) (now : WriterState) → IsBare was → FirstFailed depth in_flow start [] was error now
+      → FailedInValue depth in_flow start was error now
+  first_failed error now bare (inl memory) = nothing_given error now bare memory.0 memory.1
+  first_failed error now bare (inr failed) =
+      first_given error now bare failed.token failed.after failed.first failed.failed.fails
+      (value_begins depth (failed.token ∷ []) failed.failed.opened
+      (next_stands depth [] [] failed.failed.opened failed.token failed.after (awaiting_whole depth (failed.token ∷ failed.after)) failed.failed.begins))
+
+  module _ (ahead : List Token) (levels : List CollectionKind) (now : WriterState) (so_far : WalkProgress depth in_flow start was ahead levels now) where
+    -- a step was made
+    pub steps_on : (after : List Token) (opened : List CollectionKind) (later : WriterState)
+        → Stepped depth in_flow ahead levels now after opened later → WalkProgress depth in_flow start was after opened later
+    steps_on after opened later step =
+        record {
+          taken = so_far.taken ++ step.taken;
+          parts = append_assoc so_far.taken step.taken after ∙ ap (λ (all : List Token). so_far.taken ++ all) (sym step.parts) ∙ so_far.parts;
+          stood = step.gives was so_far.taken so_far.stood;
+          stands = step.moves so_far.taken so_far.stands;
+        }
+
+    pub step_failed : (error : yaml_error_t) (later : WriterState) → StepFailed depth in_flow ahead levels now error later
+        → FailedInValue depth in_flow start was error later
+    step_failed error later failed = (
+      so_far.taken ++ failed.taken,
+      (
+        record {
+          left = failed.left;
+          parts = append_assoc so_far.taken failed.taken failed.left ∙ ap (λ (all : List Token). so_far.taken ++ all) failed.parts ∙ so_far.parts;
+          gave = failed.fails was so_far.taken so_far.stood;
+        },
+        failed.begins so_far.taken so_far.stands,
+      ),
+    )
+
+    -- or the text stops it
+    pub step_stopped : {A : Type 0} (unique : Bool) (held : Names A) → NamesSoFar start ahead held → (stop : Stop) (later : WriterState)
+        → (left : List Token) → Refuses depth unique in_flow levels held ahead left now stop later
+        → StopsWriting depth unique in_flow start left was stop later
+    step_stopped unique held names stop later left refuses =
+        let same = append_cancel_right names.taken so_far.taken ahead (names.parts ∙ sym so_far.parts) in
+        record {
+          taken = so_far.taken ++ refuses.taken;
+          left = left;
+          parts = append_assoc so_far.taken refuses.taken left ∙ ap (λ (all : List Token). so_far.taken ++ all) refuses.parts ∙ so_far.parts;
+          why = refuses.why so_far.taken so_far.stands (subst (λ (all : List Token). KeepsNames all held) same names.kept);
+          place = refuses.place so_far.taken so_far.stands (subst (λ (all : List Token). KeepsNames all held) same names.kept);
+          were = all_left stop (so_far.taken ++ refuses.taken) left refuses.inside;
+          adds = refuses.adds was so_far.taken so_far.stood;
+        }
+
+    -- nothing is open: the value was given
+    pub all_written : levels ≡ [] → WroteValue depth in_flow start was ahead now
+    all_written none =
+        let stood = subst (λ (all : List CollectionKind). Stood in_flow was so_far.taken all now) none so_far.stood in
+        let stands = subst (Stands depth so_far.taken) none so_far.stands in
+        let found = left_some (value depth start) ahead (ap (skip_value depth) (sym so_far.parts) ∙ (stands depth (omega arith)).1 ahead) in
+        let same = append_cancel_right so_far.taken (json_tokens found.0) ahead (so_far.parts ∙ value_spelled depth start ahead found.0 found.1) in
+        record {
+          json = found.0;
+          read = found.1;
+          wrote = record {
+            adds = subst (λ (events : List Event). AddsEvents was.emitter events now.emitter)
+                (ap (tokens_events was.canonical in_flow) same ∙ value_given found.0 was.canonical in_flow) stood.adds;
+            canonical = stood.canonical;
+            levels = stood.levels_are ∙ append-nil was.levels;
+            bare = stood.bare;
+          };
+        }
