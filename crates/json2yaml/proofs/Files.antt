@@ -17,7 +17,8 @@ use Rattle.yaml_json.specs.declared.error.StreamError.{StreamError}
 use Rattle.yaml_json.specs.declared.settings.JsonSettings.{JsonSettings}
 use Rattle.yaml_json.proofs.GivenAndTaken.{appends_then, taking_then}
 use Rattle.yaml_json.proofs.TextsInTurn.{some_text}
-use Rattle.json2yaml.specs.Conversions.{AreBytesOf, HaveYaml, SendsBehind, SentFile, SentFiles, WroteFiles, WroteLast, WroteStream, heading_bytes, names_read}
+use Rattle.json2yaml.specs.Conversions.{IsYamlOfFiles, SendsBehind, SentFile, SentFiles, WroteLast}
+use Rattle.yaml_program.specs.Conversions.{AreBytesOf, WroteStream, names_read}
 
 -- ---- texts behind others
 
@@ -189,7 +190,7 @@ module _ (settings : JsonSettings) where
 
   pub all_wrote : (files : List (List ℕ)) (was now : WriterState) (before middle after : Option (List ℕ))
       → StandsTaken (seen_settings settings.writer) opening [] was.emitter → was.canonical ≡ settings.writer.canonical
-      → SentFiles settings files was before now middle → WroteLast now.emitter middle after → WroteStream settings files before after
+      → SentFiles settings files was before now middle → WroteLast now.emitter middle after → WroteStream (IsYamlOfFiles settings) files before after
   all_wrote files was now before middle after stands canonical sent (bytes, sends, finishes) =
       let given = seen_settings settings.writer in
       let parts = sent.first ∷ sent.rest in
@@ -205,16 +206,3 @@ module _ (settings : JsonSettings) where
           stream = finishes given (opening ++ parts_events settings.writer.canonical settings.flow parts) sent.handed stood;
         },
       )
-
-  -- behind a heading
-  pub behind_heading : (heading : Option (List ℕ)) (files : List (List ℕ)) (start before after : Option (List ℕ))
-      → Appends start before (heading_bytes heading) → WroteStream settings files before after → WroteFiles settings heading files start after
-  behind_heading heading files start before after first (yaml, sends, is) = (
-    heading_bytes heading ++ yaml,
-    appends_then start before after (heading_bytes heading) yaml first sends,
-    (yaml, refl, is),
-  )
-
-  pub has_yaml : (heading : Option (List ℕ)) (files : List (List ℕ)) (before after : Option (List ℕ)) → WroteFiles settings heading files before after
-      → HaveYaml settings files
-  has_yaml heading files before after (bytes, sends, (yaml, is, stream)) = (yaml, stream)

@@ -1,3 +1,1 @@
 mod Files
-mod Doing
-mod Portable

@@ -1,29 +1,26 @@
 //! The program: JSON texts, from files or from standard input, as YAML.
 #![tactic(auto)]
 
-mod arguments;
-mod bounds;
-mod checking;
-mod each;
-mod faults;
-mod names;
-mod options;
-mod output;
-mod program;
+mod conversions;
+mod failures;
+mod formats;
 mod sending;
-mod sources;
-mod version;
+mod words;
 
-use crate::arguments::{conversion_of, read_arguments};
-use crate::program::{refuse_arguments, serve};
+use crate::conversions::conversion_of;
+use crate::words::WORDS;
 use std::io;
 use std::process::ExitCode;
+use yaml_program::{Messages, read_arguments, refuse_arguments, serve};
 
 /// Ends with the run's status, also where what went wrong can't be reported.
 fn main(rt: HostRuntime) -> ExitCode {
     let stdin = rt.stdin();
     let stderr = rt.stderr();
-    let mut faults = io::writer(&stderr);
+    let mut faults = Messages {
+        words: &WORDS,
+        sink: io::writer(&stderr),
+    };
     let status = match read_arguments(&rt) {
         Ok(words) => {
             let asked = conversion_of(rt.alloc(), words.as_slice());

@@ -1,19 +1,14 @@
 //! What is sent on of JSON texts: their YAML, by the settings that are asked for.
-ghost use Rattle.std.specs.Prelude.{◌≡◌, ℕ, List, Some, OnOk, map, option_map};
-ghost use Rattle.std.specs.Io.KnownBytes.{Appends};
+ghost use Rattle.std.specs.Prelude.{◌≡◌, ℕ, List, Some, OnOk, map};
 ghost use Rattle.yaml_json.specs.Sent.{BeginsNext};
 ghost use Rattle.yaml_json.specs.Wrote.{IsBare};
-ghost use Rattle.json2yaml.specs.Conversions.{AreBytesOf, HaveYaml, OfFiles, SendsBehind, SentFile, SentFiles, WroteFiles, WroteLast, heading_bytes, heading_of};
+ghost use Rattle.json2yaml.specs.Conversions.{IsYamlOfFiles, SendsBehind, SentFile, SentFiles, WroteLast};
+ghost use Rattle.yaml_program.specs.Conversions.{AreBytesOf, OfNames, WroteStream};
 
-use crate::arguments::Conversion;
-use crate::sources::{STREAM, Sources};
 use std::alloc::Global;
-use std::io::{BufWriter, Write};
+use std::io::Write;
 use yaml_json::{JsonError, JsonSettings, StreamError, Writer, send_json_texts, yaml_error_t};
-use yaml_writer::comment_lines;
-
-/// How many bytes are written at once.
-const BUFFER_SIZE: usize = 65_536;
+use yaml_program::{STREAM, Sources};
 
 /// What an error of the writer is for the program.
 fn writer_error(error: yaml_error_t) -> StreamError {
@@ -78,19 +73,19 @@ fn send_others<'a, S: Sources + AllocGlobal, W: Write>(
     Ok(())
 }
 
-/// Sends on the YAML of all that is to be converted, but for the last document, which is left to the writer.
+/// Sends on the YAML of the JSON texts of these files, or of standard input where there are none, but for the last document, which is left to the writer.
 fn send_texts<'a, S: Sources + AllocGlobal, W: Write>(
     sources: &S,
     writer: &mut Writer<Global>,
-    conversion: &Conversion<'a>,
+    names: &[&'a str],
     sink: &mut W,
+    settings: &JsonSettings,
 ) -> Result<(), (Option<&'a str>, StreamError)>
     requires { IsBare writer.old }
-    ensures { OnOk result (OfFiles (S.bytes_of sources.now) conversion.now (λ files.
-        SentFiles conversion.now.settings files writer.old (W.contents sink.old) writer.new (W.contents sink.new))) }
+    ensures { OnOk result (OfNames (S.bytes_of sources.now) (map (λ name. name.now) names.now) (λ files.
+        SentFiles settings.now files writer.old (W.contents sink.old) writer.new (W.contents sink.new))) }
 {
-    let settings = &conversion.settings;
-    let Some((first, others)) = conversion.files.split_first() else {
+    let Some((first, others)) = names.split_first() else {
         return match send_file(sources, writer, STREAM, sink, settings) {
             Ok(()) => Ok(()),
             Err(error) => Err((None, error)),
@@ -115,70 +110,26 @@ fn send_last<W: Write>(writer: Writer<Global>, sink: &mut W) -> Result<(), Strea
     }
 }
 
-/// Sends on the lines of a heading, if there is one.
-fn send_heading<S: Sources + AllocGlobal, W: Write>(
-    sources: &S,
-    heading: Option<&str>,
-    sink: &mut W,
-) -> Result<(), StreamError>
-    ensures { OnOk result (Appends (W.contents sink.old) (W.contents sink.new) (heading_bytes (option_map (λ text. text.now) heading.entry))) }
-{
-    let Some(text) = heading else {
-        return Ok(());
-    };
-    let Ok(lines) = comment_lines(sources.alloc(), text) else {
-        return Err(writer_error(yaml_error_t::Memory));
-    };
-    match sink.write_all(lines.as_bytes()) {
-        Ok(()) => Ok(()),
-        Err(error) => Err(StreamError::WriteFailed(error)),
-    }
-}
-
-/// Sends on the heading and the YAML of all that is to be converted.
+/// Sends on the YAML of the JSON texts of these files, or of standard input where there are none. Returns the file at which it failed,
+/// and why.
 pub fn send_all<'a, S: Sources + AllocGlobal, W: Write>(
     sources: &S,
-    conversion: &Conversion<'a>,
+    names: &[&'a str],
+    settings: &JsonSettings,
     sink: &mut W,
 ) -> Result<(), (Option<&'a str>, StreamError)>
-    ensures { OnOk result (OfFiles (S.bytes_of sources.now) conversion.now (λ files.
-        WroteFiles conversion.now.settings (heading_of conversion.now) files (W.contents sink.old) (W.contents sink.new))) }
+    ensures { OnOk result (OfNames (S.bytes_of sources.now) (map (λ name. name.now) names.now) (λ files.
+        WroteStream (IsYamlOfFiles settings.now) files (W.contents sink.old) (W.contents sink.new))) }
 {
-    if let Err(error) = send_heading(sources, conversion.heading, sink) {
-        return Err((None, error));
-    }
-    let mut writer = match Writer::new(sources.alloc(), conversion.settings.writer) {
+    let mut writer = match Writer::new(sources.alloc(), settings.writer) {
         Ok(writer) => writer,
         Err(error) => return Err((None, writer_error(error))),
     };
-    if let Err(stop) = send_texts(sources, &mut writer, conversion, sink) {
+    if let Err(stop) = send_texts(sources, &mut writer, names, sink, settings) {
         return Err(stop);
     }
     match send_last(writer, sink) {
         Ok(()) => Ok(()),
         Err(error) => Err((None, error)),
-    }
-}
-
-/// Sends on all that is to be converted through a buffer, which is flushed at the end, whatever went wrong.
-pub fn send_buffered<'a, S: Sources + AllocGlobal, W: Write + Drop>(
-    sources: &S,
-    conversion: &Conversion<'a>,
-    sink: W,
-) -> Result<(), (Option<&'a str>, StreamError)>
-    ensures { OnOk result (OfFiles (S.bytes_of sources.now) conversion.now (HaveYaml conversion.now.settings)) }
-{
-    let mut buffer = match BufWriter::with_capacity(sources.alloc(), BUFFER_SIZE, sink) {
-        Ok(buffer) => buffer,
-        Err(error) => return Err((None, StreamError::WriteFailed(error))),
-    };
-    let sent = send_all(sources, conversion, &mut buffer);
-    let flushed = buffer.flush();
-    if let Err(stop) = sent {
-        return Err(stop);
-    }
-    match flushed {
-        Ok(()) => Ok(()),
-        Err(error) => Err((None, StreamError::WriteFailed(error))),
     }
 }

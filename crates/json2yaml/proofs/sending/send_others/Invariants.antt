@@ -1,6 +1,7 @@
 use Rattle.std.proofs.Common.{◌≤◌, ◌≡◌, ℕ, List, take, length, map}
 use Rattle.yaml_json.specs.Wrote.{IsBare}
-use Rattle.json2yaml.specs.Conversions.{AreBytesOf, SendsBehind}
+use Rattle.json2yaml.specs.Conversions.{SendsBehind}
+use Rattle.yaml_program.specs.Conversions.{AreBytesOf}
 use Rattle.json2yaml.proofs.sending.send_others.Given as goal
 
 abbrev pub invariant-loop-name : goal.invariant-loop-name

@@ -1,0 +1,14 @@
+-- The program's status for an error of `yaml_json`.
+use Rattle.std.specs.Prelude.{ℕ}
+use Rattle.yaml_json.specs.declared.error.JsonError.TheVariants as errors
+use Rattle.yaml_json.specs.declared.error.StreamError.{StreamError}
+use Rattle.yaml_json.specs.declared.error.StreamError.TheVariants as faults
+use Rattle.yaml_program.specs.Faults.{emitter_status}
+
+-- 1 where a text is refused, 3 where reading, writing or memory failed
+abbrev pub status_of : StreamError → ℕ
+status_of (faults.Refused (errors.Emitter error)) = emitter_status error
+status_of (faults.Refused error) = 1
+status_of (faults.NotText line column) = 1
+status_of (faults.ReadFailed error) = 3
+status_of (faults.WriteFailed error) = 3

@@ -1,0 +1,46 @@
+//! The conversion that the program's arguments ask for.
+ghost use Rattle.std.specs.Prelude.{IfOk};
+ghost use Rattle.json2yaml.specs.Conversions.{AreSettings};
+ghost use Rattle.yaml_program.specs.Conversions.{IsAskedBy};
+
+use crate::formats::JsonFormat;
+use crate::words::WORDS;
+use clap::{ArgMatches, Error};
+use std::alloc::{AllocError, Global};
+use yaml_json::JsonSettings;
+use yaml_program::{Conversion, common_settings_of, conversion_with, matches_of};
+
+/// The settings that the options ask for.
+fn settings_of(matches: &ArgMatches<'_>) -> JsonSettings
+    ensures { AreSettings matches.now result }
+{
+    let common = common_settings_of(matches);
+    JsonSettings {
+        writer: common.writer,
+        flow: common.flow,
+        depth: common.depth,
+        unique_names: !matches.get_flag("allow-duplicates"),
+    }
+}
+
+/// The conversion that the options ask for.
+fn conversion_by<'a>(
+    alloc: Global,
+    matches: &ArgMatches<'a>,
+) -> Result<Conversion<'a, JsonFormat>, AllocError>
+    ensures asked { IfOk result (λ conversion. IsAskedBy matches.now conversion) }
+    ensures settings { IfOk result (λ conversion. AreSettings matches.now conversion.format.settings) }
+{
+    let format = JsonFormat {
+        settings: settings_of(matches),
+    };
+    conversion_with(alloc, format, matches)
+}
+
+/// What the arguments after the program's name ask for, or the text that tells why they ask for no conversion.
+pub fn conversion_of<'a>(
+    alloc: Global,
+    arguments: &'a [String],
+) -> Result<Conversion<'a, JsonFormat>, Error> {
+    Ok(conversion_by(alloc, &matches_of(alloc, &WORDS, arguments)?)?)
+}

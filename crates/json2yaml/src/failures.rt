@@ -1,0 +1,41 @@
+//! What an error of `yaml_json` is for the program.
+ghost use Rattle.std.specs.Prelude.{◌≡◌};
+ghost use Rattle.json2yaml.specs.Statuses as statuses;
+ghost use Rattle.yaml_program.specs.Faults as faults;
+
+use yaml_json::{JsonError, StreamError};
+use yaml_program::{Failure, Reason};
+
+/// A text that is refused at this place, since it is this.
+fn refused(line: usize, column: usize, words: &'static str) -> Failure
+    ensures { faults.status_of result ≡ 1 }
+{
+    Failure::Refused {
+        place: Some((line, column)),
+        reason: Reason::Words(words),
+    }
+}
+
+/// What an error is for the program.
+pub fn failure_of(error: StreamError) -> Failure
+    ensures { faults.status_of result ≡ statuses.status_of error }
+{
+    match error {
+        StreamError::Refused(JsonError::NotJson { line, column }) => {
+            refused(line, column, "not JSON")
+        }
+        StreamError::Refused(JsonError::Marked { line, column }) => {
+            refused(line, column, "a byte order mark")
+        }
+        StreamError::Refused(JsonError::TooDeep { line, column }) => {
+            refused(line, column, "arrays and objects nest too deep")
+        }
+        StreamError::Refused(JsonError::DuplicateName { line, column }) => {
+            refused(line, column, "a name that comes twice in its object")
+        }
+        StreamError::Refused(JsonError::Emitter(error)) => Failure::Unwritten(error),
+        StreamError::NotText { line, column } => refused(line, column, "not UTF-8"),
+        StreamError::ReadFailed(error) => Failure::ReadFailed(error),
+        StreamError::WriteFailed(error) => Failure::WriteFailed(error),
+    }
+}

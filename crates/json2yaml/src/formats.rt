@@ -1,0 +1,59 @@
+//! JSON, as the format of the program.
+ghost use Rattle.std.specs.Prelude.{codes};
+ghost use Rattle.json2yaml.specs.Conversions.{IsYamlOfFiles};
+ghost use Rattle.yaml_program.specs.Bounds.{is_allowed};
+
+use crate::failures::failure_of;
+use crate::sending::send_all;
+use crate::words::WORDS;
+use std::io::Write;
+use yaml_json::JsonSettings;
+use yaml_program::{CommonSettings, Failure, Format, Sources, Wording};
+
+/// JSON texts, which are written by these settings.
+#[derive(Clone, Copy)]
+pub struct JsonFormat {
+    pub settings: JsonSettings,
+}
+
+impl Format for JsonFormat {
+    ghost is_yaml = { λ format. IsYamlOfFiles format.settings };
+
+    ghost is_bounded = { λ format. is_allowed format.settings.writer format.settings.flow format.settings.depth };
+
+    ghost ending = { codes ".json" };
+
+    fn words(&self) -> &'static Wording {
+        &WORDS
+    }
+
+    fn ending(&self) -> &'static str {
+        ".json"
+    }
+
+    fn is_bounded(&self) -> bool {
+        let JsonSettings {
+            writer,
+            flow,
+            depth,
+            ..
+        } = self.settings;
+        yaml_program::is_allowed(&CommonSettings {
+            writer,
+            flow,
+            depth,
+        })
+    }
+
+    fn send_files<'a, S: Sources + AllocGlobal, W: Write>(
+        &self,
+        sources: &S,
+        names: &[&'a str],
+        sink: &mut W,
+    ) -> Result<(), (Option<&'a str>, Failure)> {
+        match send_all(sources, names, &self.settings, sink) {
+            Ok(()) => Ok(()),
+            Err((name, error)) => Err((name, failure_of(error))),
+        }
+    }
+}

@@ -1,0 +1,19 @@
+//! What the program is called, and what its help says.
+use yaml_program::{Wording, wording};
+
+/// What the program is called, and what its help says.
+pub static WORDS: Wording = wording!(
+    "json2yaml",
+    "JSON",
+    ".json",
+    "arrays and objects",
+    "Files of JSON texts; - is standard input",
+    "Files of JSON texts, which are written one after another. The name - means standard input, which is also read where there is \
+    no name.{n}Example: json2yaml first.json - last.json",
+    &[(
+        "allow-duplicates",
+        "Lets a name come several times in one object",
+        "Lets a name come several times in one object, which is refused otherwise. Many readers refuse such YAML.\
+        {n}Example: json2yaml --allow-duplicates in.json",
+    )]
+);

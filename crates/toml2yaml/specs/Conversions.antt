@@ -1,0 +1,73 @@
+-- What the options ask for, and what is sent on of several files of TOML.
+use Rattle.std.specs.Prelude.{◌≡◌, ℕ, Option, Some, List, [], ◌∷◌, ◌++◌, codes, map, Bool, IsUtf8}
+use Rattle.std.specs.Io.KnownBytes.{Appends}
+use Rattle.clap.specs.declared.parser.matches.ArgMatches.{ArgMatches}
+use Rattle.toml_ordered.specs.Data.{Nodes, table}
+use Rattle.toml_ordered.specs.Grammar.{ordered_document}
+use Rattle.toml_ordered.specs.declared.tree.Origin.TheVariants.{Header}
+use Rattle.yaml_base.specs.Event.{Event}
+use Rattle.yaml_emitter.specs.Given.{seen_settings}
+use Rattle.yaml_emitter.specs.State.{State}
+use Rattle.yaml_writer.specs.Writing.{Finishes, IsStream, WriterState, closing, opening}
+use Rattle.yaml_json.specs.Failing.{between}
+use Rattle.yaml_json.specs.Sent.{WroteTaking}
+use Rattle.yaml_toml.specs.Events.{toml_events}
+use Rattle.yaml_toml.specs.Walk.{WroteToml}
+use Rattle.yaml_toml.specs.declared.settings.TomlSettings.{TomlSettings}
+use Rattle.yaml_program.specs.Options.{AreWriterSettings, IsCountOf, IsOn, value_of}
+
+-- the settings are those that the options ask for
+pub record AreSettings (matches : ArgMatches) (settings : TomlSettings) : Type 0 where
+  pub writer : AreWriterSettings matches settings.writer
+  pub flow : IsOn (value_of matches (codes "flow")) settings.flow
+  pub depth : IsCountOf (value_of matches (codes "depth")) 1000 settings.depth
+
+-- ---- what is sent on
+
+-- each of some texts is UTF-8 and a document of TOML, with its root table
+abbrev pub AreToml : List (List ℕ × Nodes) → Type 0
+AreToml [] = Unit {0}
+AreToml (part ∷ parts) = (IsUtf8 part.0 × (ordered_document part.0 ≡ Some part.1)) × AreToml parts
+
+abbrev pub root_events : (canonical in_flow : Bool) → Nodes → List Event
+root_events canonical in_flow root = toml_events canonical in_flow (table Header root)
+
+-- the events of their tables, a document each, within the start of the first document and the end of the last
+abbrev pub parts_events : (canonical in_flow : Bool) → List (List ℕ × Nodes) → List Event
+parts_events canonical in_flow [] = []
+parts_events canonical in_flow (part ∷ []) = root_events canonical in_flow part.1
+parts_events canonical in_flow (part ∷ next ∷ rest) = root_events canonical in_flow part.1 ++ (between ++ parts_events canonical in_flow (next ∷ rest))
+
+-- the file is UTF-8 and a document of TOML, whose events were given
+abbrev pub WroteFile : (in_flow : Bool) → List ℕ → WriterState → WriterState → Type 0
+WroteFile in_flow file was now = IsUtf8 file × WroteToml in_flow file was now
+
+-- these files, one at least, are documents of TOML; their events were given, a document each, and the sink was given the bytes that were
+-- taken
+pub record SentFiles (settings : TomlSettings) (files : List (List ℕ)) (was : WriterState) (before : Option (List ℕ)) (now : WriterState)
+    (after : Option (List ℕ)) : Type 0 where
+  pub first : List ℕ × Nodes
+  pub rest : List (List ℕ × Nodes)
+  pub are : map (λ part. part.0) (first ∷ rest) ≡ files
+  pub each : AreToml (first ∷ rest)
+  pub handed : List ℕ
+  pub sends : Appends before after handed
+  pub wrote : WroteTaking was (parts_events was.canonical settings.flow (first ∷ rest)) handed now
+
+-- the stream was finished, and the sink was given the rest of it
+abbrev pub WroteLast : State → Option (List ℕ) → Option (List ℕ) → Type 0
+WroteLast emitter before after = (bytes : List ℕ) × Appends before after bytes × Finishes emitter bytes
+
+-- whichever files were sent, these are sent behind them
+abbrev pub SendsBehind : TomlSettings → List (List ℕ) → WriterState → Option (List ℕ) → WriterState → Option (List ℕ) → Type 0
+SendsBehind settings more before held after holds =
+    (files : List (List ℕ)) (was : WriterState) (start : Option (List ℕ)) → SentFiles settings files was start before held
+    → SentFiles settings (files ++ more) was start after holds
+
+-- the bytes are the stream of these files, a document each, under these settings
+pub record IsYamlOfFiles (settings : TomlSettings) (files : List (List ℕ)) (bytes : List ℕ) : Type 0 where
+  pub parts : List (List ℕ × Nodes)
+  pub are : map (λ part. part.0) parts ≡ files
+  pub each : AreToml parts
+  pub stream : IsStream (seen_settings settings.writer)
+      (opening ++ parts_events settings.writer.canonical settings.flow parts ++ closing) bytes

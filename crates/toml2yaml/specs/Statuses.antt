@@ -1,0 +1,10 @@
+-- The program's status for an error of `yaml_toml`.
+use Rattle.std.specs.Prelude.{ℕ}
+use Rattle.yaml_toml.specs.declared.error.TomlError.{TomlError}
+use Rattle.yaml_toml.specs.declared.error.TomlError.TheVariants as errors
+use Rattle.yaml_program.specs.Faults.{emitter_status}
+
+-- 3 where memory failed, 1 where a text is refused
+abbrev pub status_of : TomlError → ℕ
+status_of (errors.Emitter error) = emitter_status error
+status_of error = 1

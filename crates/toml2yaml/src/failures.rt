@@ -1,0 +1,45 @@
+//! What an error of `yaml_toml` is for the program.
+ghost use Rattle.std.specs.Prelude.{◌≡◌};
+ghost use Rattle.toml2yaml.specs.Statuses as statuses;
+ghost use Rattle.yaml_program.specs.Faults as faults;
+
+use yaml_program::{Failure, Reason};
+use yaml_toml::TomlError;
+
+/// A text that is refused at this place, since it is this.
+pub fn refused(line: usize, column: usize, words: &'static str) -> Failure
+    ensures { faults.status_of result ≡ 1 }
+{
+    Failure::Refused {
+        place: Some((line, column)),
+        reason: Reason::Words(words),
+    }
+}
+
+/// What an error is for the program.
+pub fn failure_of(error: TomlError) -> Failure
+    ensures { faults.status_of result ≡ statuses.status_of error }
+{
+    match error {
+        TomlError::NotToml { line, column } => refused(line, column, "not TOML"),
+        TomlError::DefinedAgain {
+            key,
+            first_line,
+            first_column,
+            line,
+            column,
+        } => Failure::Refused {
+            place: Some((line, column)),
+            reason: Reason::Twice {
+                name: key,
+                line: first_line,
+                column: first_column,
+            },
+        },
+        TomlError::TooDeep => Failure::Refused {
+            place: None,
+            reason: Reason::Words("arrays and tables nest too deep"),
+        },
+        TomlError::Emitter(error) => Failure::Unwritten(error),
+    }
+}

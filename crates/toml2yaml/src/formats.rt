@@ -1,0 +1,54 @@
+//! TOML, as the format of the program.
+ghost use Rattle.std.specs.Prelude.{codes};
+ghost use Rattle.toml2yaml.specs.Conversions.{IsYamlOfFiles};
+ghost use Rattle.yaml_program.specs.Bounds.{is_allowed};
+
+use crate::sending::send_all;
+use crate::words::WORDS;
+use std::io::Write;
+use yaml_program::{CommonSettings, Failure, Format, Sources, Wording};
+use yaml_toml::TomlSettings;
+
+/// TOML documents, which are written by these settings.
+#[derive(Clone, Copy)]
+pub struct TomlFormat {
+    pub settings: TomlSettings,
+}
+
+impl Format for TomlFormat {
+    ghost is_yaml = { λ format. IsYamlOfFiles format.settings };
+
+    ghost is_bounded = { λ format. is_allowed format.settings.writer format.settings.flow format.settings.depth };
+
+    ghost ending = { codes ".toml" };
+
+    fn words(&self) -> &'static Wording {
+        &WORDS
+    }
+
+    fn ending(&self) -> &'static str {
+        ".toml"
+    }
+
+    fn is_bounded(&self) -> bool {
+        let TomlSettings {
+            writer,
+            flow,
+            depth,
+        } = self.settings;
+        yaml_program::is_allowed(&CommonSettings {
+            writer,
+            flow,
+            depth,
+        })
+    }
+
+    fn send_files<'a, S: Sources + AllocGlobal, W: Write>(
+        &self,
+        sources: &S,
+        names: &[&'a str],
+        sink: &mut W,
+    ) -> Result<(), (Option<&'a str>, Failure)> {
+        send_all(sources, names, &self.settings, sink)
+    }
+}

@@ -1,0 +1,14 @@
+//! What the program is called, and what its help says.
+use yaml_program::{Wording, wording};
+
+/// What the program is called, and what its help says.
+pub static WORDS: Wording = wording!(
+    "toml2yaml",
+    "TOML",
+    ".toml",
+    "arrays and tables",
+    "Files of TOML, a text each; - is standard input",
+    "Files of TOML, a text each, which are written one after another. The name - means standard input, which is also read where there is \
+    no name.{n}Example: toml2yaml first.toml - last.toml",
+    &[]
+);

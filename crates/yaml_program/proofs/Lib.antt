@@ -1,0 +1,3 @@
+mod Doing
+mod Headings
+mod Portable

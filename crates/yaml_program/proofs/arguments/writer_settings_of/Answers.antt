@@ -1,0 +1,17 @@
+use Rattle.std.proofs.Common.{rules, codes}
+use Rattle.yaml_program.specs.Options.{value_of}
+use Rattle.yaml_program.proofs.Portable.{portable_left, portable_unless}
+use Rattle.yaml_program.proofs.arguments.writer_settings_of.Goals as goal
+
+pub returns : goal.returns
+returns c = record {
+  canonical = search rules;
+  breaks = search rules;
+  portable = λ none. portable_unless (value_of c.args.matches.now (codes "no-portable")) c.get_flag-3.result c.get_flag-2.result
+      c.is_portable.result (search rules) c.is_portable.ensures none;
+  left = λ given. portable_left c.get_flag-3.result c.get_flag-2.result c.is_portable.result c.is_portable.ensures given;
+  sequences = search rules;
+  indent = search rules;
+  width = search rules;
+  others = search rules;
+}

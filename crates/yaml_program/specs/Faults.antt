@@ -1,0 +1,32 @@
+-- The program's status.
+use Rattle.std.specs.Prelude.{◌≡◌, ◌⊎◌, ℕ, Result, Ok, Err}
+use Rattle.clap.specs.declared.error.kind.ErrorKind.{ErrorKind}
+use Rattle.clap.specs.declared.error.kind.ErrorKind.TheVariants as kinds
+use Rattle.yaml_base.specs.declared.errors.yaml_error_t.{yaml_error_t}
+use Rattle.yaml_base.specs.declared.errors.yaml_error_t.TheVariants.{Memory}
+use Rattle.yaml_program.specs.declared.faults.Failure.{Failure}
+use Rattle.yaml_program.specs.declared.faults.Failure.TheVariants as failures
+
+-- of an error of the emitter: 3 where memory failed, else 1
+abbrev pub emitter_status : yaml_error_t → ℕ
+emitter_status Memory = 3
+emitter_status error = 1
+
+-- 1 where a text is refused, 3 where reading, writing or memory failed
+abbrev pub status_of : Failure → ℕ
+status_of (failures.Refused place reason) = 1
+status_of (failures.Unwritten error) = emitter_status error
+status_of (failures.ReadFailed error) = 3
+status_of (failures.WriteFailed error) = 3
+
+-- 0 where all was written; `stop` has the error behind the name of a file
+abbrev pub status_of_run : {N : Type 0} → Result (Unit {0}) (N × Failure) → ℕ
+status_of_run (Ok done) = 0
+status_of_run (Err stop) = status_of stop.1
+
+-- where nothing is to be converted: 0 or 3 where help or the version was to be written, 3 where memory failed, else 2
+abbrev pub IsStatusOfUsage : ErrorKind → ℕ → Type 0
+IsStatusOfUsage kinds.OutOfMemory status = status ≡ 3
+IsStatusOfUsage kinds.DisplayHelp status = (status ≡ 0) ⊎ (status ≡ 3)
+IsStatusOfUsage kinds.DisplayVersion status = (status ≡ 0) ⊎ (status ≡ 3)
+IsStatusOfUsage kind status = status ≡ 2

@@ -1,0 +1,4 @@
+pub mod Faults
+pub mod Options
+pub mod Conversions
+pub mod Bounds

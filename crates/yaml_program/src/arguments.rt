@@ -1,0 +1,139 @@
+//! What a program's arguments ask for.
+ghost use Rattle.std.specs.Prelude.{◌≡◌, ◌&&◌, IfOk, map, not};
+ghost use Rattle.yaml_program.specs.Options.{AreCommonSettings, AreWriterSettings, files_named};
+ghost use Rattle.yaml_program.specs.Conversions.{IsAskedBy};
+
+use crate::options::command_of;
+use crate::words::Wording;
+use clap::{ArgMatches, Error};
+use std::alloc::{AllocError, Global};
+use std::rt::Runtime;
+use std::{env, io};
+use yaml_writer::{Settings, value_settings};
+
+/// How deep collections may nest where no option says it.
+const DEFAULT_DEPTH: usize = 1_000;
+
+/// The settings that every format has.
+#[derive(Clone, Copy)]
+pub struct CommonSettings {
+    /// How the writer writes.
+    pub writer: Settings,
+    /// Collections stand in flow.
+    pub flow: bool,
+    /// How deep collections may nest.
+    pub depth: usize,
+}
+
+/// What is written, where and how.
+#[derive(Drop)]
+pub struct Conversion<'a, F> {
+    /// What the files hold, with the settings by which it is written.
+    pub format: F,
+    /// What stands in comments before the stream.
+    pub heading: Option<&'a str>,
+    /// Nothing is written: what is there is compared.
+    pub checks: bool,
+    /// Each file is written to one beside it.
+    pub each: bool,
+    /// Standard output where there is none.
+    pub output: Option<&'a str>,
+    /// Standard input where there are none.
+    pub files: Vec<&'a str>,
+}
+
+/// Whether portable mode is on, where no option turns it off, and none leaves it.
+fn is_portable(is_off: bool, is_left: bool) -> bool
+    ensures { result ≡ (not is_off && not is_left) }
+{
+    !is_off && !is_left
+}
+
+/// The settings of the writer that the options ask for.
+fn writer_settings_of(matches: &ArgMatches<'_>) -> Settings
+    ensures { AreWriterSettings matches.now result }
+{
+    let mut settings = value_settings();
+    settings.canonical = matches.get_flag("canonical");
+    settings.line_breaks_1_2 = matches.get_flag("no-document-start");
+    settings.portable = is_portable(matches.get_flag("no-portable"), settings.line_breaks_1_2);
+    settings.indented_sequences = !matches.get_flag("no-indented-sequences");
+    settings.indent = matches.get_one::<i32>("indent");
+    settings.width = matches.get_one::<i32>("width").or(settings.width);
+    settings
+}
+
+/// Returns the settings of every format that the options ask for.
+pub fn common_settings_of(matches: &ArgMatches<'_>) -> CommonSettings
+    ensures { AreCommonSettings matches.now result }
+{
+    CommonSettings {
+        writer: writer_settings_of(matches),
+        flow: matches.get_flag("flow"),
+        depth: matches.get_one::<usize>("depth").unwrap_or(DEFAULT_DEPTH),
+    }
+}
+
+/// The files that are named.
+fn files_of<'a>(alloc: Global, matches: &ArgMatches<'a>) -> Result<Vec<&'a str>, AllocError>
+    ensures { IfOk result (λ files. map (λ name. name.now) files.items ≡ files_named matches.now) }
+{
+    match matches.get_strs("files") {
+        Some(names) => Vec::from_slice(alloc, names),
+        None => Ok(Vec::new(alloc)),
+    }
+}
+
+/// Returns the conversion of texts in this format that the options ask for.
+///
+/// # Errors
+///
+/// An allocation failed.
+pub fn conversion_with<'a, F: Drop>(
+    alloc: Global,
+    format: F,
+    matches: &ArgMatches<'a>,
+) -> Result<Conversion<'a, F>, AllocError>
+    ensures asked { IfOk result (λ conversion. IsAskedBy matches.now conversion) }
+    ensures format { IfOk result (λ conversion. conversion.format ≡ format) }
+{
+    match files_of(alloc, matches) {
+        Ok(files) => Ok(Conversion {
+            format,
+            heading: matches.get_str("heading"),
+            checks: matches.get_flag("check"),
+            each: matches.get_flag("each"),
+            output: matches.get_str("output"),
+            files,
+        }),
+        Err(error) => Err(error),
+    }
+}
+
+/// Returns what the options of a program are found to be in the arguments after its name.
+///
+/// # Errors
+///
+/// Why they ask for no conversion, which may be that they ask for help.
+pub fn matches_of<'a>(
+    alloc: Global,
+    words: &Wording,
+    arguments: &'a [String],
+) -> Result<ArgMatches<'a>, Error> {
+    command_of(alloc, words)?.try_get_matches_from(arguments)
+}
+
+/// Returns the arguments after the program's name.
+///
+/// # Errors
+///
+/// One isn't UTF-8 (`InvalidData`), or an allocation failed (`OutOfMemory`).
+pub fn read_arguments<R: Runtime + AllocGlobal>(rt: &R) -> io::Result<Vec<String>> {
+    let mut words = env::args(rt)?;
+    let _program = words.next();
+    let mut arguments = Vec::new(rt.alloc());
+    for word in words {
+        arguments.push(word)?;
+    }
+    Ok(arguments)
+}

@@ -1,0 +1,62 @@
+//! What is there, compared with what would be written.
+ghost use Rattle.std.specs.Prelude.{◌≡◌, ◌≤◌, ℕ, List, Some};
+ghost use Rattle.yaml_program.specs.Conversions.{HaveYaml, IsThere, OfFiles, heading_of, names_of};
+
+use crate::arguments::Conversion;
+use crate::faults::{Failure, Messages, give_up, report};
+use crate::formats::Format;
+use crate::sending::send_all;
+use crate::sources::{Sources, read_file};
+use std::io::{ErrorKind, Write};
+
+/// Says that a file differs from what would be written, or is missing.
+fn tell_difference<W: Write>(name: &str, faults: &mut Messages<W>) -> u8
+    ensures { result ≡ 1 }
+{
+    let program = faults.words.name;
+    let _reported = writeln!(&mut faults.sink, "{program}: {name} would be changed");
+    1
+}
+
+/// Compares a file with some bytes, says where it differs, and returns the status.
+fn compare<S: Sources + AllocGlobal, W: Write>(
+    sources: &S,
+    yaml: &[u8],
+    name: &str,
+    faults: &mut Messages<W>,
+) -> u8
+    ensures known { result ≤ 3 }
+    ensures same { result ≡ 0 → (there : List ℕ) → S.bytes_of sources.now name.now ≡ Some there → yaml.now ≡ there }
+{
+    match read_file(sources, name) {
+        Ok(there) => {
+            if yaml == there.as_slice() {
+                0
+            } else {
+                tell_difference(name, faults)
+            }
+        }
+        Err(error) if error.kind() == ErrorKind::NotFound => tell_difference(name, faults),
+        Err(error) => give_up(&Failure::ReadFailed(error), Some(name), faults),
+    }
+}
+
+/// Compares a file with what would be written to it, says what went wrong or where it differs, and returns the status.
+pub fn check<F: Format, S: Sources + AllocGlobal, W: Write>(
+    sources: &S,
+    conversion: &Conversion<'_, F>,
+    name: &str,
+    faults: &mut Messages<W>,
+) -> u8
+    ensures known { result ≤ 3 }
+    ensures stream { result ≡ 0 → OfFiles (S.bytes_of sources.now) conversion.now (HaveYaml (F.is_yaml conversion.now.format)) }
+    ensures there { result ≡ 0 → IsThere (S.bytes_of sources.now) (F.is_yaml conversion.now.format) (heading_of conversion.now) (names_of conversion.now)
+        name.now }
+{
+    let mut yaml = Vec::new(sources.alloc());
+    let sent = send_all(sources, conversion, &mut yaml);
+    if sent.is_err() {
+        return report(&sent, None, faults);
+    }
+    compare(sources, yaml.as_slice(), name, faults)
+}

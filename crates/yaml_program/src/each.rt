@@ -1,0 +1,138 @@
+//! Each file, converted by itself to one beside it.
+ghost use Rattle.std.specs.Prelude.{◌≡◌, ◌≤◌, ◌++◌, IfOk, map};
+ghost use Rattle.yaml_program.specs.Conversions.{ConvertsOne, EachIsDone, IsDoneBeside, names_of};
+
+use crate::arguments::Conversion;
+use crate::faults::{Messages, NO_MEMORY, give_up};
+use crate::formats::Format;
+use crate::names::{stem_of, yaml_name};
+use crate::program::perform;
+use crate::sources::Sources;
+use std::alloc::{AllocError, Global};
+use std::io::{IsTerminal, Write};
+
+/// From so many files on a line tells how far the program is.
+const MANY: usize = 20;
+
+/// The conversion of one file, as another conversion says.
+fn conversion_of_one<'a, F: Copy>(
+    alloc: Global,
+    conversion: &Conversion<'a, F>,
+    name: &'a str,
+) -> Result<Conversion<'a, F>, AllocError>
+    ensures { IfOk result (λ one. ConvertsOne conversion.now name.now one) }
+{
+    let mut files = Vec::new(alloc);
+    files.push(name)?;
+    Ok(Conversion {
+        format: conversion.format,
+        heading: conversion.heading,
+        checks: conversion.checks,
+        each: false,
+        output: None,
+        files,
+    })
+}
+
+/// Converts a file, whose name is a stem and the format's ending, to the one beside it.
+fn convert_stem<'a, F: Format + Copy + Drop, S: Sources + AllocGlobal, W: Write>(
+    rt: &HostRuntime,
+    sources: &S,
+    conversion: &Conversion<'a, F>,
+    names: (&'a str, &'a str),
+    faults: &mut Messages<W>,
+) -> u8
+    requires { names.0.now ≡ names.1.now ++ F.ending }
+    ensures known { result ≤ 3 }
+    ensures done { result ≡ 0 → IsDoneBeside F.is_yaml F.ending (S.bytes_of sources.now) conversion.now names.entry.0.now }
+{
+    let (name, stem) = names;
+    let Ok(target) = yaml_name(sources.alloc(), stem) else {
+        return give_up(&NO_MEMORY, None, faults);
+    };
+    let Ok(one) = conversion_of_one(sources.alloc(), conversion, name) else {
+        return give_up(&NO_MEMORY, None, faults);
+    };
+    perform(rt, sources, &one, Some(target.as_str()), faults)
+}
+
+/// Converts a file to the one beside it, if its name says which.
+fn convert_beside<'a, F: Format + Copy + Drop, S: Sources + AllocGlobal, W: Write>(
+    rt: &HostRuntime,
+    sources: &S,
+    conversion: &Conversion<'a, F>,
+    name: &'a str,
+    faults: &mut Messages<W>,
+) -> u8
+    ensures known { result ≤ 3 }
+    ensures done { result ≡ 0 → IsDoneBeside F.is_yaml F.ending (S.bytes_of sources.now) conversion.now name.now }
+{
+    let ending = conversion.format.ending();
+    match stem_of(name, ending) {
+        Some(stem) => convert_stem(rt, sources, conversion, (name, stem), faults),
+        None => {
+            let program = faults.words.name;
+            let _reported = writeln!(
+                &mut faults.sink,
+                "{program}: {name}: --each wants names that end in {ending}"
+            );
+            2
+        }
+    }
+}
+
+/// The worse of two statuses.
+fn worse(first: u8, second: u8) -> u8
+    requires low { first ≤ 3 }
+    requires known { second ≤ 3 }
+    ensures known { result ≤ 3 }
+    ensures first { result ≡ 0 → first ≡ 0 }
+    ensures second { result ≡ 0 → second ≡ 0 }
+{
+    if first < second { second } else { first }
+}
+
+/// Tells in the last line of a terminal how many files are done.
+fn tell_progress<W: Write>(done: usize, all: usize, faults: &mut Messages<W>) {
+    let program = faults.words.name;
+    let end = if done < all { "" } else { "\n" };
+    let _reported = write!(&mut faults.sink, "\r{program}: {done} of {all}{end}");
+}
+
+/// Converts these files, each to the one beside it.
+fn convert_names<'a, F: Format + Copy + Drop, S: Sources + AllocGlobal, W: Write>(
+    rt: &HostRuntime,
+    sources: &S,
+    conversion: &Conversion<'a, F>,
+    names: &[&'a str],
+    faults: &mut Messages<W>,
+) -> u8
+    ensures known { result ≤ 3 }
+    ensures done { result ≡ 0 → EachIsDone F.is_yaml F.ending (S.bytes_of sources.now) conversion.now (map (λ name. name.now) names.now) }
+{
+    let tells = names.len() >= MANY && rt.stderr().is_terminal();
+    let mut status = 0;
+    let mut done = 0usize;
+    for name in names {
+        let one = convert_beside(rt, sources, conversion, name, faults);
+        status = worse(status, one);
+        done = done.saturating_add(1);
+        if tells {
+            tell_progress(done, names.len(), faults);
+        }
+    }
+    status
+}
+
+/// Converts each file to the one beside it, says what went wrong, and returns the worst status.
+pub fn convert_each<F: Format + Copy + Drop, S: Sources + AllocGlobal, W: Write>(
+    rt: &HostRuntime,
+    sources: &S,
+    conversion: &Conversion<'_, F>,
+    faults: &mut Messages<W>,
+) -> u8
+    ensures known { result ≤ 3 }
+    ensures done { result ≡ 0 → EachIsDone F.is_yaml F.ending (S.bytes_of sources.now) conversion.now (names_of conversion.now) }
+{
+    convert_names(rt, sources, conversion, conversion.files.as_slice(), faults)
+}

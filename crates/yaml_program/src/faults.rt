@@ -1,0 +1,157 @@
+//! What goes wrong, what the program says of it, and its status.
+ghost use Rattle.std.specs.Prelude.{◌≡◌, ◌≤◌, IsOk};
+ghost use Rattle.yaml_program.specs.Faults as statuses;
+
+use crate::sources::STREAM;
+use crate::words::Wording;
+use std::io::{ErrorKind, Write};
+use std::{fmt, io};
+use yaml_writer::yaml_error_t;
+
+/// What is wrong with a text.
+#[derive(Drop)]
+pub enum Reason {
+    /// It is this.
+    Words(&'static str),
+    /// What has this name is there a second time; for the first time it is at this line and column.
+    Twice {
+        name: String,
+        line: usize,
+        column: usize,
+    },
+}
+
+impl fmt::Display for Reason {
+    fn fmt<W: fmt::Write>(&self, f: &mut fmt::Formatter<W>) -> fmt::Result {
+        match self {
+            Reason::Words(words) => f.write_str(words),
+            Reason::Twice { name, line, column } => {
+                write!(
+                    f,
+                    "{name} is defined at line {line}, column {column}, and takes no more"
+                )
+            }
+        }
+    }
+}
+
+/// Why files aren't written as YAML to their end.
+#[derive(Drop)]
+pub enum Failure {
+    /// A text is refused, at this line and column, or as a whole.
+    Refused {
+        place: Option<(usize, usize)>,
+        reason: Reason,
+    },
+    /// A document can't be written, or an allocation failed (`Memory`).
+    Unwritten(yaml_error_t),
+    /// Reading failed.
+    ReadFailed(io::Error),
+    /// Writing failed.
+    WriteFailed(io::Error),
+}
+
+/// What is reported where no memory is left.
+pub const NO_MEMORY: Failure = Failure::Unwritten(yaml_error_t::Memory);
+
+/// Where a program says what goes wrong.
+#[derive(Drop)]
+pub struct Messages<W> {
+    pub words: &'static Wording,
+    pub sink: W,
+}
+
+/// The program's status: 1 where a text isn't written as YAML, 3 where reading, writing or memory failed.
+fn status_of(error: &Failure) -> u8
+    ensures status { result ≡ statuses.status_of error.now }
+    ensures some { 1 ≤ result }
+    ensures known { result ≤ 3 }
+{
+    match error {
+        Failure::Unwritten(yaml_error_t::Memory) => 3,
+        Failure::Refused { .. } | Failure::Unwritten(_) => 1,
+        Failure::ReadFailed(_) | Failure::WriteFailed(_) => 3,
+    }
+}
+
+/// Whether no memory was left.
+fn is_out_of_memory(error: &Failure) -> bool {
+    match error {
+        Failure::Unwritten(yaml_error_t::Memory) => true,
+        Failure::ReadFailed(error) | Failure::WriteFailed(error) => {
+            error.kind() == ErrorKind::OutOfMemory
+        }
+        _ => false,
+    }
+}
+
+/// A file's name as a message shows it, where `stream` is what the program reads or writes without a name.
+fn shown<'a>(name: Option<&'a str>, stream: &'a str) -> &'a str {
+    match name {
+        Some(name) if name != STREAM => name,
+        _ => stream,
+    }
+}
+
+/// Says in a line what went wrong, with the name of the file that can't be read or written, or whose text is refused.
+fn write_error<W: Write>(
+    error: &Failure,
+    name: Option<&str>,
+    faults: &mut Messages<W>,
+) -> io::Result<()> {
+    let program = faults.words.name;
+    let sink = &mut faults.sink;
+    if is_out_of_memory(error) {
+        return writeln!(sink, "{program}: out of memory");
+    }
+    match error {
+        Failure::ReadFailed(error) => {
+            let name = shown(name, "standard input");
+            writeln!(sink, "{program}: cannot read {name}: {error}")
+        }
+        Failure::WriteFailed(error) => {
+            let name = shown(name, "standard output");
+            writeln!(sink, "{program}: cannot write {name}: {error}")
+        }
+        Failure::Refused { place, reason } => {
+            let name = shown(name, "standard input");
+            match place {
+                Some((line, column)) => writeln!(sink, "{name}:{line}:{column}: {reason}"),
+                None => writeln!(sink, "{program}: {name}: {reason}"),
+            }
+        }
+        Failure::Unwritten(error) => {
+            let name = shown(name, "standard input");
+            writeln!(sink, "{program}: {name}: {error}")
+        }
+    }
+}
+
+/// Says what went wrong, unless it is that nobody reads what is written, and returns the status.
+pub fn give_up<W: Write>(error: &Failure, name: Option<&str>, faults: &mut Messages<W>) -> u8
+    ensures status { result ≡ statuses.status_of error.now }
+    ensures some { 1 ≤ result }
+    ensures known { result ≤ 3 }
+{
+    if !matches!(error, Failure::WriteFailed(error) if error.kind() == ErrorKind::BrokenPipe) {
+        let _reported = write_error(error, name, faults);
+    }
+    status_of(error)
+}
+
+/// Says what went wrong, if anything did, and returns the status.
+pub fn report<W: Write>(
+    sent: &Result<(), (Option<&str>, Failure)>,
+    output: Option<&str>,
+    faults: &mut Messages<W>,
+) -> u8
+    ensures status { result ≡ statuses.status_of_run sent.now }
+    ensures done { result ≡ 0 → IsOk sent.now }
+    ensures known { result ≤ 3 }
+{
+    match sent {
+        Ok(()) => 0,
+        Err((_, error @ Failure::WriteFailed(_))) => give_up(error, output, faults),
+        Err((name, error)) => give_up(error, *name, faults),
+    }
+}

@@ -1,0 +1,29 @@
+//! Programs that write files of texts as YAML, whatever the texts are: their options, the files that they read and write, their messages
+//! and statuses. A program brings its format (`Format`), and what it is called (`Wording`).
+#![tactic(auto)]
+
+mod arguments;
+mod bounds;
+mod checking;
+mod each;
+mod faults;
+mod formats;
+mod names;
+mod options;
+mod output;
+mod program;
+mod sending;
+mod sources;
+mod version;
+mod words;
+
+pub use arguments::{
+    CommonSettings, Conversion, common_settings_of, conversion_with, matches_of, read_arguments,
+};
+pub use bounds::is_allowed;
+pub use faults::{Failure, Messages, NO_MEMORY, Reason};
+pub use formats::Format;
+pub use program::{refuse_arguments, serve};
+pub use sources::{STREAM, Sources, read_file};
+pub use version::VERSION;
+pub use words::Wording;

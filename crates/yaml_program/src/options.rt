@@ -1,0 +1,177 @@
+//! The options of a program, and what its help says of them.
+use crate::version::VERSION;
+use crate::words::Wording;
+use clap::{Arg, ArgAction, Command};
+use std::alloc::{AllocError, Global};
+
+const AFTER_HELP: &str =
+    "Status: 0 done, 1 a text is refused, 2 the arguments aren't understood, 3 reading, writing or memory failed.";
+
+const OUTPUT_HELP: &str = "The file to write in place of standard output";
+
+const INDENT_HELP: &str = "Columns for each level, 2 to 9 [default: 2]";
+
+const WIDTH_HELP: &str = "Folds texts of several words past this column [default: never]";
+
+const HEADING_HELP: &str = "Writes a text as comments before all else";
+
+/// The options without a value, each with a line of help and a longer one, of a program whose files have this ending, and whose texts hold
+/// such collections.
+#[macro_export]
+macro_rules! flags {
+    ($program:literal, $ending:literal, $collections:literal) => { &[
+    (
+        "check",
+        "Writes nothing; status 1 where --output or --each would change a file",
+        concat!(
+        "Writes nothing, and compares what would be written with what is there: by --output, or by --each. Where a file differs or is missing, \
+        a line names it, and the status is 1.{n}Example: ", $program, " --check --output=out.yaml in", $ending),
+    ),
+    (
+        "flow",
+        concat!("Writes ", $collections, " between brackets, as in JSON"),
+        concat!(
+        "Writes ", $collections, " between brackets, as in JSON, and not a line for each item.{n}Example: ", $program, " --flow in", $ending),
+    ),
+    (
+        "canonical",
+        "The canonical form: brackets, double quotes and all tags",
+        concat!(
+        "Writes the canonical form: brackets, double quotes and all tags.{n}Example: ", $program, " --canonical in", $ending),
+    ),
+    (
+        "no-portable",
+        "Portable mode off: no --- where none is needed",
+        concat!(
+        "Leaves portable mode: no --- before the first document where none is needed, and U+2028 and U+2029 as themselves.\
+        {n}Example: ", $program, " --no-portable in", $ending),
+    ),
+    (
+        "no-document-start",
+        "No --- before the first document",
+        concat!(
+        "Writes no --- before the first document. U+2028 and U+2029 are escaped as in portable mode, which this leaves.\
+        {n}Example: ", $program, " --no-document-start in", $ending),
+    ),
+    (
+        "no-indented-sequences",
+        "Leaves a list's items in the column of the name that it belongs to",
+        concat!(
+        "Leaves the items of a list in the column of the name that the list belongs to, as libyaml does, and doesn't indent them.\
+        {n}Example: ", $program, " --no-indented-sequences in", $ending),
+    ),
+]
+    };
+}
+
+/// An option without a value.
+fn flag<'a>(alloc: Global, name: &'a str, help: &'a str, long_help: &'a str) -> Arg<'a> {
+    Arg::new(alloc, name)
+        .long(name)
+        .help(help)
+        .long_help(long_help)
+        .action(ArgAction::SetTrue)
+}
+
+/// An option with a value.
+fn option_with_value<'a>(
+    alloc: Global,
+    name: &'a str,
+    value: &'a str,
+    help: &'a str,
+    long_help: &'a str,
+) -> Arg<'a> {
+    Arg::new(alloc, name)
+        .long(name)
+        .value_name(value)
+        .help(help)
+        .long_help(long_help)
+        .action(ArgAction::Set)
+}
+
+/// The option that names the file to write.
+fn output_option<'a>(alloc: Global, words: &Wording) -> Arg<'a> {
+    option_with_value(alloc, "output", "FILE", OUTPUT_HELP, words.output).short('o')
+}
+
+fn heading_option<'a>(alloc: Global, words: &Wording) -> Arg<'a> {
+    option_with_value(alloc, "heading", "TEXT", HEADING_HELP, words.heading)
+}
+
+/// The option that converts each file by itself.
+fn each_flag<'a>(alloc: Global, words: &Wording) -> Result<Arg<'a>, AllocError> {
+    flag(alloc, "each", words.each, words.each_long)
+        .conflicts_with("output")?
+        .requires_arg("files")
+}
+
+fn indent_option<'a>(alloc: Global, words: &Wording) -> Arg<'a> {
+    let option = option_with_value(alloc, "indent", "COLUMNS", INDENT_HELP, words.indent);
+    option.value_parser(clap::value_parser!(i32).range(2..=9))
+}
+
+fn width_option<'a>(alloc: Global, words: &Wording) -> Arg<'a> {
+    let option = option_with_value(alloc, "width", "COLUMN", WIDTH_HELP, words.width);
+    option
+        .allow_negative_numbers(true)
+        .value_parser(clap::value_parser!(i32))
+}
+
+fn depth_option<'a>(alloc: Global, words: &Wording) -> Arg<'a> {
+    let option = option_with_value(alloc, "depth", "LEVELS", words.depth, words.depth_long);
+    option.value_parser(clap::value_parser!(usize).range(0..=1_000_000))
+}
+
+/// Adds the options that have a value.
+fn with_settings<'a>(
+    alloc: Global,
+    words: &Wording,
+    command: Command<'a>,
+) -> Result<Command<'a>, AllocError> {
+    command
+        .arg(output_option(alloc, words))?
+        .arg(each_flag(alloc, words)?)?
+        .arg(heading_option(alloc, words))?
+        .arg(indent_option(alloc, words))?
+        .arg(width_option(alloc, words))?
+        .arg(depth_option(alloc, words))
+}
+
+/// Adds options that have none.
+fn with_flags<'a>(
+    alloc: Global,
+    flags: &[(&'static str, &'static str, &'static str)],
+    command: Command<'a>,
+) -> Result<Command<'a>, AllocError> {
+    let mut command = command;
+    for (name, help, long_help) in flags {
+        command = command.arg(flag(alloc, name, help, long_help))?;
+    }
+    Ok(command)
+}
+
+/// The files that are read.
+fn files_argument<'a>(alloc: Global, words: &Wording) -> Arg<'a> {
+    Arg::new(alloc, "files")
+        .value_name("FILE")
+        .help(words.files)
+        .long_help(words.files_long)
+        .num_args(0..)
+        .action(ArgAction::Append)
+}
+
+/// The command line without its arguments. Its words come without the program's name.
+fn bare_command<'a>(alloc: Global, words: &Wording) -> Command<'a> {
+    Command::new(alloc, words.name)
+        .version(VERSION)
+        .about(words.about)
+        .after_help(AFTER_HELP)
+        .no_binary_name(true)
+}
+
+/// The command line of a program, whose words come without the program's name.
+pub fn command_of<'a>(alloc: Global, words: &Wording) -> Result<Command<'a>, AllocError> {
+    let command = with_settings(alloc, words, bare_command(alloc, words))?;
+    let command = with_flags(alloc, words.flags, command)?;
+    with_flags(alloc, words.own_flags, command)?.arg(files_argument(alloc, words))
+}

@@ -1,0 +1,239 @@
+//! The program: what its arguments ask for is done with files and the standard streams.
+ghost use Rattle.std.specs.Prelude.{◌≡◌, ◌≤◌, IfErr, IfOk, OnOk, false, option_map};
+ghost use Rattle.clap.specs.Values.{kind_of};
+ghost use Rattle.yaml_program.specs.Conversions.{AllDone, HaveYaml, IsDone, OfFiles};
+ghost use Rattle.yaml_program.specs.Faults as statuses;
+
+use crate::arguments::Conversion;
+use crate::bounds::MOST_INDENTED;
+use crate::checking::check;
+use crate::each::convert_each;
+use crate::faults::{Failure, Messages, NO_MEMORY, give_up, report};
+use crate::formats::Format;
+use crate::output::{Beside, is_written_in_place};
+use crate::sending::send_buffered;
+use crate::sources::{STREAM, Sources};
+use crate::words::Wording;
+use clap::Error as UsageError;
+use clap::error::ErrorKind as UsageKind;
+use std::io::{ErrorKind, IsTerminal, Write};
+use std::os::fd::AsFd;
+use std::rt::Runtime;
+use std::{fs, io};
+
+/// Writes what is to be converted to a device or a pipe, say, where it lies. (Not inlined, as what names files in `output`.)
+#[inline(never)]
+fn send_in_place<'a, F: Format, S: Sources + AllocGlobal>(
+    rt: &HostRuntime,
+    sources: &S,
+    conversion: &Conversion<'a, F>,
+    name: &str,
+) -> Result<(), (Option<&'a str>, Failure)>
+    ensures { OnOk result (OfFiles (S.bytes_of sources.now) conversion.now (HaveYaml (F.is_yaml conversion.now.format))) }
+{
+    match fs::create(rt, name) {
+        Ok(file) => send_buffered(sources, conversion, file),
+        Err(error) => Err((None, Failure::WriteFailed(error))),
+    }
+}
+
+/// Writes what is to be converted to a file, which appears whole or not at all.
+#[inline(never)]
+fn send_to_file<'a, F: Format, S: Sources + AllocGlobal>(
+    rt: &HostRuntime,
+    sources: &S,
+    conversion: &Conversion<'a, F>,
+    name: &str,
+) -> Result<(), (Option<&'a str>, Failure)>
+    ensures { OnOk result (OfFiles (S.bytes_of sources.now) conversion.now (HaveYaml (F.is_yaml conversion.now.format))) }
+{
+    let beside = match Beside::create(rt, conversion.format.words().name, name) {
+        Ok(made) => made,
+        Err(error) => return Err((None, Failure::WriteFailed(error))),
+    };
+    match send_buffered(sources, conversion, beside.file()) {
+        Ok(()) => match beside.replace(rt) {
+            Ok(()) => Ok(()),
+            Err(error) => Err((None, Failure::WriteFailed(error))),
+        },
+        Err(stop) => {
+            beside.remove(rt);
+            Err(stop)
+        }
+    }
+}
+
+/// Writes what is to be converted to a file, or to standard output.
+fn send<'a, F: Format, S: Sources + AllocGlobal>(
+    rt: &HostRuntime,
+    sources: &S,
+    conversion: &Conversion<'a, F>,
+    target: Option<&str>,
+) -> Result<(), (Option<&'a str>, Failure)>
+    ensures { OnOk result (OfFiles (S.bytes_of sources.now) conversion.now (HaveYaml (F.is_yaml conversion.now.format))) }
+{
+    match target {
+        Some(name) if name != STREAM => {
+            if is_written_in_place(rt, name) {
+                send_in_place(rt, sources, conversion, name)
+            } else {
+                send_to_file(rt, sources, conversion, name)
+            }
+        }
+        _ => send_buffered(sources, conversion, io::writer(rt)),
+    }
+}
+
+/// Whether standard input is read.
+fn reads_stream<F>(conversion: &Conversion<'_, F>) -> bool {
+    conversion.files.is_empty() || conversion.files.contains(&STREAM)
+}
+
+/// Says that the program waits for what is typed.
+fn hint<F, I: IsTerminal, W: Write>(
+    conversion: &Conversion<'_, F>,
+    stdin: &I,
+    faults: &mut Messages<W>,
+) {
+    if reads_stream(conversion) && stdin.is_terminal() {
+        let Wording { name, format, .. } = *faults.words;
+        let _reported = writeln!(
+            &mut faults.sink,
+            "{name}: reading {format} from the terminal, up to Ctrl-D; {name} --help tells more"
+        );
+    }
+}
+
+/// Returns the system's error where standard input is to be read and is closed. (A file that is opened before that is noticed has the
+/// number of standard input, and would be read in its place.)
+fn check_stream<F, I: AsFd>(conversion: &Conversion<'_, F>, stdin: &I) -> io::Result<()> {
+    if reads_stream(conversion) {
+        let _open = stdin.as_fd().try_clone_to_owned()?;
+    }
+    Ok(())
+}
+
+/// Writes what is to be converted to a file, or to standard output, or compares it with what is there; says what went wrong, and returns the status.
+pub fn perform<F: Format, S: Sources + AllocGlobal, W: Write>(
+    rt: &HostRuntime,
+    sources: &S,
+    conversion: &Conversion<'_, F>,
+    target: Option<&str>,
+    faults: &mut Messages<W>,
+) -> u8
+    ensures known { result ≤ 3 }
+    ensures done { result ≡ 0 → IsDone F.is_yaml (S.bytes_of sources.now) conversion.now (option_map (λ name. name.now) target.entry) }
+{
+    match target {
+        Some(name) if conversion.checks => check(sources, conversion, name, faults),
+        _ => {
+            let sent = send(rt, sources, conversion, target);
+            report(&sent, target, faults)
+        }
+    }
+}
+
+/// Converts each file by itself or all together, says what went wrong, and returns the status.
+fn convert<F: Format + Copy + Drop, S: Sources + AllocGlobal, I: IsTerminal + AsFd, W: Write>(
+    rt: &HostRuntime,
+    sources: &S,
+    conversion: &Conversion<'_, F>,
+    stdin: &I,
+    faults: &mut Messages<W>,
+) -> u8
+    ensures known { result ≤ 3 }
+    ensures done { result ≡ 0 → AllDone F.is_yaml F.ending (S.bytes_of sources.now) conversion.now conversion.now.each }
+{
+    hint(conversion, stdin, faults);
+    if let Err(error) = check_stream(conversion, stdin) {
+        return give_up(&Failure::ReadFailed(error), None, faults);
+    }
+    if conversion.each {
+        convert_each(rt, sources, conversion, faults)
+    } else {
+        perform(rt, sources, conversion, conversion.output, faults)
+    }
+}
+
+/// Says why the arguments can't be read, and returns the program's status.
+pub fn refuse_arguments<W: Write>(error: &io::Error, faults: &mut Messages<W>) -> u8
+    ensures { result ≤ 3 }
+{
+    if error.kind() == ErrorKind::OutOfMemory {
+        return give_up(&NO_MEMORY, None, faults);
+    }
+    let program = faults.words.name;
+    let _reported = writeln!(&mut faults.sink, "{program}: an argument isn't UTF-8");
+    2
+}
+
+/// Says why the arguments ask for no conversion, which may be that they ask for help, and returns the program's status.
+fn answer<R: Runtime, W: Write>(rt: &R, error: &UsageError, faults: &mut Messages<W>) -> u8
+    ensures known { result ≤ 3 }
+    ensures status { statuses.IsStatusOfUsage (kind_of error.now) result }
+{
+    match error.kind() {
+        UsageKind::OutOfMemory => give_up(&NO_MEMORY, None, faults),
+        UsageKind::DisplayHelp | UsageKind::DisplayVersion => match print!(rt; "{error}") {
+            Ok(()) => 0,
+            Err(error) => give_up(&Failure::WriteFailed(error), None, faults),
+        },
+        _ => {
+            let _reported = write!(&mut faults.sink, "{error}");
+            2
+        }
+    }
+}
+
+/// Says that collections can't nest as deep as is asked for, and returns the program's status.
+fn refuse_depth<W: Write>(faults: &mut Messages<W>) -> u8
+    ensures { result ≡ 2 }
+{
+    let program = faults.words.name;
+    let _reported = writeln!(
+        &mut faults.sink,
+        "{program}: --depth past {MOST_INDENTED} needs --flow, and neither --width nor --canonical: else the output grows with the \
+        square of the depth"
+    );
+    2
+}
+
+/// Whether there is no file that what would be written can be compared with.
+fn lacks_target<F>(conversion: &Conversion<'_, F>) -> bool {
+    conversion.checks
+        && !conversion.each
+        && !matches!(conversion.output, Some(name) if name != STREAM)
+}
+
+/// Says that there is nothing to compare with, and returns the program's status.
+fn refuse_check<W: Write>(faults: &mut Messages<W>) -> u8
+    ensures { result ≡ 2 }
+{
+    let program = faults.words.name;
+    let _reported = writeln!(
+        &mut faults.sink,
+        "{program}: --check needs --each, or --output with a file"
+    );
+    2
+}
+
+/// Does what the arguments ask for, says on `faults` what went wrong, and returns the program's status.
+pub fn serve<F: Format + Copy + Drop, S: Sources + AllocGlobal, I: IsTerminal + AsFd, W: Write>(
+    rt: &HostRuntime,
+    sources: &S,
+    asked: &Result<Conversion<'_, F>, UsageError>,
+    stdin: &I,
+    faults: &mut Messages<W>,
+) -> u8
+    ensures known { result ≤ 3 }
+    ensures done { result ≡ 0 → IfOk asked.now (λ conversion. AllDone F.is_yaml F.ending (S.bytes_of sources.now) conversion conversion.each) }
+    ensures bounded { IfOk asked.now (λ conversion. F.is_bounded conversion.format ≡ false → result ≡ 2) }
+    ensures refused { IfErr asked.now (λ error. statuses.IsStatusOfUsage (kind_of error) result) }
+{
+    match asked {
+        Ok(conversion) if !conversion.format.is_bounded() => refuse_depth(faults),
+        Ok(conversion) if lacks_target(conversion) => refuse_check(faults),
+        Ok(conversion) => convert(rt, sources, conversion, stdin, faults),
+        Err(error) => answer(rt, error, faults),
+    }
+}

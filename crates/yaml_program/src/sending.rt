@@ -1,0 +1,76 @@
+//! What is sent on of files: a heading, and their YAML.
+ghost use Rattle.std.specs.Prelude.{OnOk, option_map};
+ghost use Rattle.std.specs.Io.KnownBytes.{Appends};
+ghost use Rattle.yaml_program.specs.Conversions.{HaveYaml, OfFiles, WroteFiles, heading_bytes, heading_of};
+
+use crate::arguments::Conversion;
+use crate::faults::{Failure, NO_MEMORY};
+use crate::formats::Format;
+use crate::sources::Sources;
+use std::io::{BufWriter, Write};
+use yaml_writer::comment_lines;
+
+/// How many bytes are written at once.
+const BUFFER_SIZE: usize = 65_536;
+
+/// Sends on the lines of a heading, if there is one.
+fn send_heading<S: Sources + AllocGlobal, W: Write>(
+    sources: &S,
+    heading: Option<&str>,
+    sink: &mut W,
+) -> Result<(), Failure>
+    ensures { OnOk result (Appends (W.contents sink.old) (W.contents sink.new) (heading_bytes (option_map (λ text. text.now) heading.entry))) }
+{
+    let Some(text) = heading else {
+        return Ok(());
+    };
+    let Ok(lines) = comment_lines(sources.alloc(), text) else {
+        return Err(NO_MEMORY);
+    };
+    match sink.write_all(lines.as_bytes()) {
+        Ok(()) => Ok(()),
+        Err(error) => Err(Failure::WriteFailed(error)),
+    }
+}
+
+/// Sends on the heading and the YAML of all that is to be converted. Returns the file at which it failed, and why.
+pub fn send_all<'a, F: Format, S: Sources + AllocGlobal, W: Write>(
+    sources: &S,
+    conversion: &Conversion<'a, F>,
+    sink: &mut W,
+) -> Result<(), (Option<&'a str>, Failure)>
+    ensures { OnOk result (OfFiles (S.bytes_of sources.now) conversion.now (λ files.
+        WroteFiles (F.is_yaml conversion.now.format) (heading_of conversion.now) files (W.contents sink.old) (W.contents sink.new))) }
+{
+    if let Err(error) = send_heading(sources, conversion.heading, sink) {
+        return Err((None, error));
+    }
+    let names = conversion.files.as_slice();
+    match conversion.format.send_files(sources, names, sink) {
+        Ok(()) => Ok(()),
+        Err(stop) => Err(stop),
+    }
+}
+
+/// Sends on all that is to be converted through a buffer, which is flushed at the end, whatever went wrong.
+pub fn send_buffered<'a, F: Format, S: Sources + AllocGlobal, W: Write + Drop>(
+    sources: &S,
+    conversion: &Conversion<'a, F>,
+    sink: W,
+) -> Result<(), (Option<&'a str>, Failure)>
+    ensures { OnOk result (OfFiles (S.bytes_of sources.now) conversion.now (HaveYaml (F.is_yaml conversion.now.format))) }
+{
+    let mut buffer = match BufWriter::with_capacity(sources.alloc(), BUFFER_SIZE, sink) {
+        Ok(buffer) => buffer,
+        Err(error) => return Err((None, Failure::WriteFailed(error))),
+    };
+    let sent = send_all(sources, conversion, &mut buffer);
+    let flushed = buffer.flush();
+    if let Err(stop) = sent {
+        return Err(stop);
+    }
+    match flushed {
+        Ok(()) => Ok(()),
+        Err(error) => Err((None, Failure::WriteFailed(error))),
+    }
+}

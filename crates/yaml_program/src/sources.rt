@@ -1,0 +1,72 @@
+//! What the program reads.
+ghost use Rattle.std.specs.Prelude.{◌≡◌, ℕ, List, Option, None, Some, IfOk, IfSome};
+
+use std::fs::File;
+use std::io;
+use std::io::{Read, Stdin};
+
+/// The name that means standard input, or standard output for the file that is written.
+pub const STREAM: &str = "-";
+
+/// Where files are, by name.
+pub trait Sources {
+    // The bytes that a name stands for, where they are known.
+    ghost bytes_of: { Self → List ℕ → Option (List ℕ) } = { λ _ _. None };
+
+    type Reader: Read + Drop;
+
+    /// A reader of what has this name.
+    fn open(&self, name: &str) -> io::Result<Self::Reader>
+        ensures known { IfOk result (λ reader. IfSome (bytes_of self.now name.now) (λ bytes. Self.Reader.remaining reader ≡ Some bytes)) };
+}
+
+/// A file, or standard input.
+#[derive(Drop)]
+pub enum Source {
+    Stream(Stdin),
+    File(File),
+}
+
+impl Read for Source {
+    fn read(&mut self, buf: &mut [u8]) -> io::Result<usize> {
+        match self {
+            Source::Stream(stream) => stream.read(buf),
+            Source::File(file) => file.read(buf),
+        }
+    }
+}
+
+/// The files of the system, and standard input for its name.
+impl Sources for HostRuntime {
+    type Reader = Source;
+
+    // (Not inlined: a name takes 4 KB of stack in a call of the system, which is free again before texts are read.)
+    #[inline(never)]
+    fn open(&self, name: &str) -> io::Result<Source> {
+        if name == STREAM {
+            return Ok(Source::Stream(self.stdin()));
+        }
+        match File::open(self, name) {
+            Ok(file) => Ok(Source::File(file)),
+            Err(error) => Err(error),
+        }
+    }
+}
+
+/// Returns all bytes of what has this name.
+///
+/// # Errors
+///
+/// That of opening or reading it.
+pub fn read_file<S: Sources + AllocGlobal>(sources: &S, name: &str) -> io::Result<Vec<u8>>
+    ensures { IfOk result (λ bytes. (there : List ℕ) → S.bytes_of sources.now name.now ≡ Some there → bytes.items ≡ there) }
+{
+    let mut bytes = Vec::new(sources.alloc());
+    match sources.open(name) {
+        Ok(mut reader) => match reader.read_to_end(&mut bytes) {
+            Ok(_) => Ok(bytes),
+            Err(error) => Err(error),
+        },
+        Err(error) => Err(error),
+    }
+}

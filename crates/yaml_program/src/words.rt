@@ -1,0 +1,68 @@
+//! What a program is called, and what its help says.
+
+/// What a program is called, what it reads, and what its help says of its arguments, in a line and at length. The macro `wording` makes
+/// one.
+#[derive(Clone, Copy)]
+pub struct Wording {
+    /// The program's name.
+    pub name: &'static str,
+    /// What its texts are, as `JSON`.
+    pub format: &'static str,
+    pub about: &'static str,
+    pub files: &'static str,
+    pub files_long: &'static str,
+    pub output: &'static str,
+    pub indent: &'static str,
+    pub width: &'static str,
+    pub heading: &'static str,
+    pub each: &'static str,
+    pub each_long: &'static str,
+    pub depth: &'static str,
+    pub depth_long: &'static str,
+    /// The options without a value.
+    pub flags: &'static [(&'static str, &'static str, &'static str)],
+    /// Those that only this program has.
+    pub own_flags: &'static [(&'static str, &'static str, &'static str)],
+}
+
+/// Makes the wording of a program by its name, its format, the ending of its files, what its texts hold, and what only it says.
+#[macro_export]
+macro_rules! wording {
+    ($program:literal, $format:literal, $ending:literal, $collections:literal, $files:literal, $files_long:literal, $own_flags:expr) => {
+        $crate::Wording {
+            name: $program,
+            format: $format,
+            about: concat!("Writes ", $format, " texts as YAML, a document each"),
+            files: $files,
+            files_long: $files_long,
+            output: concat!(
+                "The file to write in place of standard output. It is made or replaced once all texts are written.{n}Example: ",
+                $program, " -o out.yaml in", $ending
+            ),
+            indent: concat!("Columns for each level, 2 to 9; 2 by default.{n}Example: ", $program, " --indent=4 in", $ending),
+            width: concat!(
+                "Folds a text of several words at the first space past this column, so a line may be longer; never, if it is negative. A \
+                column up to twice the indent is taken for 80. Never by default.{n}Example: ",
+                $program, " --width=80 in", $ending
+            ),
+            heading: concat!(
+                "Writes a text before all else, each line of it as a comment: behind # and a space.{n}Example: ",
+                $program, " --heading=Generated in", $ending
+            ),
+            each: concat!("Writes each FILE", $ending, " to FILE.yaml beside it"),
+            each_long: concat!(
+                "Writes each file to one beside it, whose name ends in .yaml in place of ", $ending, ". Each appears whole or not at all, \
+                and one that is refused leaves the others as they are.{n}Example: ",
+                $program, " --each first", $ending, " last", $ending
+            ),
+            depth: concat!("How deep ", $collections, " may nest, up to 10000 [default: 1000]"),
+            depth_long: concat!(
+                "How deep ", $collections, " may nest: up to 10000, and up to 1000000 with --flow and neither --width nor --canonical, \
+                where all of a document stands in one line; 1000 by default.{n}Example: ",
+                $program, " --depth=5000 deep", $ending
+            ),
+            flags: $crate::flags!($program, $ending, $collections),
+            own_flags: $own_flags,
+        }
+    };
+}
