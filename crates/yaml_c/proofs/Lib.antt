@@ -8,4 +8,5 @@ pub mod JsonLemmas
 pub mod KeptLemmas
 pub mod MovingLemmas
 pub mod Pointers
+pub mod TomlLemmas
 pub mod rows

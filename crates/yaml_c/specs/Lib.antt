@@ -5,6 +5,7 @@ pub mod EventRecords
 pub mod GivenSettings
 pub mod Giving
 pub mod Handle
+pub mod TomlAnswers
 pub mod JsonAnswers
 pub mod Kept
 pub mod JsonEvents

@@ -16,4 +16,5 @@ mod scripts;
 mod settings;
 mod statuses;
 mod styles;
+mod toml_texts;
 mod version;

@@ -12,6 +12,8 @@ pub(crate) const TOO_SMALL: i32 = 4;
 
 pub(crate) const NOT_JSON: i32 = 5;
 
+pub(crate) const NOT_TOML: i32 = 11;
+
 pub(crate) const TOO_DEEP: i32 = 6;
 
 pub(crate) const DUPLICATE_NAME: i32 = 7;
