@@ -7,3 +7,4 @@ pub mod CycleFits
 pub mod GraphsCompared
 pub mod PairReads
 pub mod ReadBack
+pub mod Opened

@@ -1,2 +1,3 @@
 //! The examples of the documents.
+mod store;
 mod typed;

@@ -1,0 +1,105 @@
+//! A caller that keeps a store: an entry is the canonical bytes of a value and their SHA-256.
+ghost use Rattle.std.specs.Prelude.{◌≡◌, ◌≢◌, ◌↔◌, ◌⊎◌, ◌<◌, Decides, Err, IfErr, IfOk, List, ℕ};
+ghost use Rattle.sha2.specs.Sha256.{sha256};
+ghost use Rattle.yaml_base.specs.values.TypedValues.{TypedValue, most_nested, nesting};
+ghost use Rattle.yaml_read.specs.Readable.{CanBeRead};
+ghost use Rattle.yaml_value.specs.SeenValues.{seen_value};
+ghost use Rattle.yaml_caller.specs.Store.{IsEntryOf};
+
+use sha2::{Digest, Sha256};
+use std::alloc::Allocator;
+use thiserror::Error;
+use yaml_base::yaml_error_t;
+use yaml_read::{ReadError, read_canonical};
+use yaml_value::{Value, write_canonical};
+
+/// A value as a store keeps it.
+#[derive(Drop)]
+pub struct Entry<A: Allocator> {
+    /// The canonical bytes of the value.
+    pub bytes: Vec<u8, A>,
+    /// The SHA-256 of these bytes.
+    pub digest: [u8; 32],
+}
+
+/// Why an entry isn't opened.
+#[derive(Clone, Copy, Debug, Drop, Error, PartialEq, Eq)]
+pub enum OpenError {
+    /// The digest isn't the SHA-256 of the bytes.
+    #[error("the digest isn't the SHA-256 of the bytes")]
+    DigestDiffers,
+    /// The bytes aren't read as a value.
+    #[error("{0}")]
+    NotRead(ReadError),
+}
+
+/// Returns the entry of a value.
+///
+/// # Errors
+/// `TooDeep` where more than 1,000 lists and maps lie within one another. `Memory` where an allocation fails.
+pub fn seal<A: Allocator + Copy>(alloc: A, value: &Value<A>) -> Result<Entry<A>, yaml_error_t>
+    ensures sealed { IfOk result (λ entry. IsEntryOf (seen_value value.now) entry.bytes.items entry.digest) }
+    ensures too_deep { (result ≡ Err yaml_error_t.TooDeep) ↔ (most_nested < nesting (seen_value value.now)) }
+    ensures failed { IfErr result (λ error. (error ≡ yaml_error_t.TooDeep) ⊎ (error ≡ yaml_error_t.Memory)) }
+{
+    match write_canonical(alloc, value) {
+        Ok(bytes) => {
+            let digest = Sha256::digest(bytes.as_slice());
+            Ok(Entry { bytes, digest })
+        }
+        Err(error) => Err(error),
+    }
+}
+
+/// Whether the bytes have this digest.
+fn has_digest(bytes: &[u8], digest: &[u8; 32]) -> bool
+    ensures { Decides result (digest.now ≡ sha256 bytes.now) }
+{
+    Sha256::digest(bytes).as_slice() == digest.as_slice()
+}
+
+/// Returns the value of an entry. The entry is the one that `seal` makes of this value: neither other bytes nor another
+/// digest are accepted.
+///
+/// # Errors
+/// `DigestDiffers` exactly where the digest isn't the SHA-256 of the bytes. `NotRead` where the bytes aren't the canonical
+/// bytes of a value, or an allocation fails.
+pub fn open<A: Allocator + Copy>(alloc: A, entry: &Entry<A>) -> Result<Value<A>, OpenError>
+    ensures opened { IfOk result (λ value. IsEntryOf (seen_value value) entry.now.bytes.items entry.now.digest) }
+    ensures differs { (result ≡ Err OpenError.DigestDiffers) ↔ (entry.now.digest ≢ sha256 entry.now.bytes.items) }
+    ensures complete { IfErr result (λ error. (error ≡ OpenError.NotRead ReadError.Memory)
+        ⊎ ((value : TypedValue) → CanBeRead value → IsEntryOf value entry.now.bytes.items entry.now.digest → ⊥)) }
+{
+    if !has_digest(entry.bytes.as_slice(), &entry.digest) {
+        return Err(OpenError::DigestDiffers);
+    }
+    match read_canonical(alloc, entry.bytes.as_slice()) {
+        Ok(value) => Ok(value),
+        Err(error) => Err(OpenError::NotRead(error)),
+    }
+}
+
+/// Seals a value and opens the entry. What is opened is the value; only want of memory keeps it from being opened.
+///
+/// # Errors
+/// `TooDeep` where more than 1,000 lists and maps of the value lie within one another, and `Memory` where an allocation
+/// fails while it is sealed. The inner error is that of opening: `NotRead(ReadError::Memory)`, where an allocation fails.
+pub fn sealed_and_opened<A: Allocator + Copy>(
+    alloc: A,
+    value: &Value<A>,
+) -> Result<Result<Value<A>, OpenError>, yaml_error_t>
+    ensures same { IfOk result (λ opened. IfOk opened (λ found. seen_value found ≡ seen_value value.now)) }
+    ensures opened { IfOk result (λ opened. IfErr opened (λ error. error ≡ OpenError.NotRead ReadError.Memory)) }
+    ensures failed { IfErr result (λ error. (error ≡ yaml_error_t.TooDeep) ⊎ (error ≡ yaml_error_t.Memory)) }
+{
+    let entry = seal(alloc, value)?;
+    Ok(open(alloc, &entry))
+}
+
+/// A law, the contract of a function that does nothing: a value has one entry, and an entry one value.
+pub fn entries_are_values()
+    ensures entries { (value : TypedValue) (bytes digest other_bytes other_digest : List ℕ) → IsEntryOf value bytes digest
+        → IsEntryOf value other_bytes other_digest → (bytes ≡ other_bytes) × (digest ≡ other_digest) }
+    ensures values { (first second : TypedValue) (bytes digest : List ℕ) → IsEntryOf first bytes digest → IsEntryOf second bytes digest
+        → first ≡ second }
+{}
