@@ -127,7 +127,7 @@ static int32_t run(size_t capacity) {
 }
 
 static int32_t from_json(size_t capacity) {
-    static const struct yaml_c_json_settings settings = {0, 0, 0, 0, 0, 0, 0};
+    static const struct yaml_c_json_settings settings = {0, 0, 0, 0, 0, 0, 0, 0};
     static const char text[] = "{\"first\": [1, {\"a\\tb\": \"" LETTERS "\"}], \"second\": \"" LETTERS LETTERS "\"}";
     return yaml_from_json((const uint8_t *)text, sizeof text - 1, &settings, out, capacity, &result);
 }

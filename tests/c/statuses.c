@@ -254,6 +254,10 @@ static void json_settings(void) {
     given.flow = 1;
     expect_json("and in flow", text, given, YAML_DONE, 0, 0, "{a: [1, {b: 2}]}\n");
     memset(&given, 0, sizeof given);
+    expect_json("single quotes", "[\"no\", \"a: b\"]", given, YAML_DONE, 0, 0, "---\n- 'no'\n- 'a: b'\n");
+    given.double_quotes = 1;
+    expect_json("double quotes", "[\"no\", \"a: b\"]", given, YAML_DONE, 0, 0, "---\n- \"no\"\n- \"a: b\"\n");
+    given.double_quotes = 0;
     given.width = 20;
     expect_json("a width of 20", words, given, YAML_DONE, 0, 0, "--- aaaa bbbb cccc dddd\n  eeee ffff\n");
     given.allow_duplicates = 1;

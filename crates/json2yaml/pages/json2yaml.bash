@@ -6,7 +6,7 @@ _json2yaml() {
         --heading|--indent|--width|--depth) COMPREPLY=(); return ;;
     esac
     case $word in
-        -*) mapfile -t COMPREPLY < <(compgen -W '--output --each --heading --indent --width --depth --check --flow --canonical --no-portable --no-document-start --no-indented-sequences --allow-duplicates --help --version' -- "$word") ;;
+        -*) mapfile -t COMPREPLY < <(compgen -W '--output --each --heading --indent --width --depth --check --flow --canonical --no-portable --no-document-start --no-indented-sequences --double-quotes --allow-duplicates --help --version' -- "$word") ;;
         *) mapfile -t COMPREPLY < <(compgen -f -X '!*.json' -- "$word"; compgen -d -- "$word") ;;
     esac
 }

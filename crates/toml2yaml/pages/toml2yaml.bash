@@ -6,7 +6,7 @@ _toml2yaml() {
         --heading|--indent|--width|--depth) COMPREPLY=(); return ;;
     esac
     case $word in
-        -*) mapfile -t COMPREPLY < <(compgen -W '--output --each --heading --indent --width --depth --check --flow --canonical --no-portable --no-document-start --no-indented-sequences --help --version' -- "$word") ;;
+        -*) mapfile -t COMPREPLY < <(compgen -W '--output --each --heading --indent --width --depth --check --flow --canonical --no-portable --no-document-start --no-indented-sequences --double-quotes --help --version' -- "$word") ;;
         *) mapfile -t COMPREPLY < <(compgen -f -X '!*.toml' -- "$word"; compgen -d -- "$word") ;;
     esac
 }

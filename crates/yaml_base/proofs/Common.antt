@@ -46,7 +46,7 @@ pub use Rattle.yaml_base.specs.Layout.{is_simple_scalar, render_document_start, 
 pub use Rattle.yaml_base.specs.Layout.{is_simple, document_end_piece, render_properties, root_place, render_alias, render_document, is_simple_at, flow_break}
 pub use Rattle.yaml_base.specs.Layout.{render_separation, has_no_documents, opening_or_comma, render_body, render_documents, key_indicator, render_flow_place}
 pub use Rattle.yaml_base.specs.Layout.{first_standing, stream_end_piece, open_ended_after, charset_of, style_asked_at, choice_of, layout, body_at, render_place}
-pub use Rattle.yaml_base.specs.Layout.{start_piece}
+pub use Rattle.yaml_base.specs.Layout.{start_piece, allowed_by_quotes, allowed_under}
 pub use Rattle.yaml_base.specs.Layout.{asks_flow, is_written_in_flow, Brackets, square, curly, empty_or_comma, render_end, entry_place, render_node}
 pub use Rattle.yaml_base.specs.Layout.{render_nodes, render_pairs}
 pub use Rattle.yaml_base.specs.LineBreaks.{break_text, with_breaks_written, with_line_breaks_read, is_read_break, is_rendered_text, is_indented_text}

@@ -33,6 +33,7 @@ pub mod ContentsUnfold
 pub mod Twins
 pub mod SameShapes
 pub mod Unstyled
+pub mod PlainUnderQuotes
 pub mod SameWalks
 pub mod SameEvents
 pub mod GraphRefusals

@@ -28,6 +28,7 @@ pub mod RowsTidy
 pub mod RowsStreamLaw
 pub mod RowsPortable
 mod RowsIndentedSequences
+mod RowsQuotes
 mod RowsWrittenTexts
 mod RowsSchema
 mod RowsSurelyText

@@ -9,7 +9,7 @@ use Rattle.yaml_base.specs.Indicators as indicators
 use Rattle.yaml_base.specs.Event.{ScalarStyle, plain, single_quoted, double_quoted, literal, folded, CollectionStyle, flow, TagDirective, Scalar, Collection}
 use Rattle.yaml_base.specs.Percent.{percent_escaped, suffix_escaped}
 use Rattle.yaml_base.specs.Tags.{Spelling, shorthand, verbatim, spelling}
-use Rattle.yaml_base.specs.scalars.Analysis.{Charset, is_empty, allowances}
+use Rattle.yaml_base.specs.scalars.Analysis.{Allowances, Charset, is_empty, allowances}
 use Rattle.yaml_base.specs.scalars.Style.{Choice, is_block, chosen}
 use Rattle.yaml_base.specs.scalars.Plain.{plain_body}
 use Rattle.yaml_base.specs.scalars.SingleQuoted.{single_quoted_body}
@@ -159,6 +159,13 @@ open_ended_after _ value open_ended = open_ended
 abbrev pub charset_of : Effective → Charset
 charset_of s = record { unicode = s.unicode; breaks12 = escapes_separators s }
 
+-- the styles that a value allows: no single quotes where double ones are asked for in their place (this project)
+abbrev pub allowed_by_quotes : (double_quotes : Bool) → Allowances → Allowances
+allowed_by_quotes double_quotes allowed = record allowed { single_quoted = not double_quotes && allowed.single_quoted }
+
+abbrev pub allowed_under : Effective → Text → Allowances
+allowed_under s value = allowed_by_quotes s.double_quotes (allowances (charset_of s) value)
+
 -- the style that is asked for at a place: in portable mode a root asks for double quotes in place of a block style whose
 -- header would have a digit, since readers of YAML 1.2 count that digit in two ways (this project)
 abbrev pub style_asked_at : Effective → Place → Scalar → ScalarStyle
@@ -170,7 +177,7 @@ style_asked_at s place content =
 abbrev pub choice_of : Effective → Place → (simple : Bool) → Scalar → Choice
 choice_of s place simple content =
     chosen
-    (allowances (charset_of s) content.value)
+    (allowed_under s content.value)
     (style_asked_at s place content) (is_empty content.value) (is_some (scalar_tag s.canonical content))
     content.plain_implicit content.quoted_implicit (place.in_flow) simple s.canonical
 

@@ -26,6 +26,7 @@ pub record Settings : Type 0 where
   pub encoding : Option Encoding
   pub canonical : Bool
   pub unicode : Bool
+  pub double_quotes : Bool
   pub indent : Option ℤ
   pub width : Option ℤ
   pub line_break : Option LineBreak
@@ -41,6 +42,7 @@ nothing_given =
       encoding = None;
       canonical = false;
       unicode = false;
+      double_quotes = false;
       indent = None;
       width = None;
       line_break = None;
@@ -55,6 +57,7 @@ pub record Effective : Type 0 where
   pub encoding : Encoding
   pub canonical : Bool
   pub unicode : Bool
+  pub double_quotes : Bool
   pub indent : ℕ
   pub width : Option ℕ
   pub line_break : LineBreak
@@ -88,6 +91,7 @@ effective given of_stream =
       encoding = effective_encoding given.encoding of_stream;
       canonical = given.canonical;
       unicode = given.unicode;
+      double_quotes = given.double_quotes;
       indent = indent;
       width = effective_width given.width indent;
       line_break = unwrap_or given.line_break line_feed_break;

@@ -17,6 +17,7 @@ settings_from given (Some encoding) (Some line_break) =
       encoding = encoding;
       canonical = is_on given.canonical;
       unicode = is_on given.unicode;
+      double_quotes = is_on given.double_quotes;
       indent = Some given.indent;
       width = Some given.width;
       line_break = line_break;

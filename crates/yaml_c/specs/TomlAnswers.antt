@@ -24,6 +24,7 @@ as_json given =
       no_indented_sequences = given.no_indented_sequences;
       no_portable = given.no_portable;
       allow_duplicates = 0;
+      double_quotes = given.double_quotes;
       indent = given.indent;
       width = given.width;
       depth = given.depth;

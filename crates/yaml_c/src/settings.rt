@@ -1,10 +1,11 @@
 //! The settings of an emitter as a C program gives them.
 ghost use Rattle.std.specs.Prelude.{◌≡◌, option_map};
-ghost use Rattle.yaml_emitter.specs.Given.{seen_settings};
+ghost use Rattle.yaml_emitter.specs.Given.{is_double, seen_settings};
+ghost use Rattle.yaml_c.specs.Arena.{is_on};
 ghost use Rattle.yaml_c.specs.GivenSettings.{limit_given, settings_given};
 
 use crate::styles::{encoding, line_break};
-use yaml_emitter::Settings;
+use yaml_emitter::{Quotes, Settings};
 
 /// The settings of an emitter, and how many bytes of its output the caller has. Zeros are what a new emitter has. See the header.
 #[repr(C)]
@@ -17,10 +18,22 @@ pub struct EmitterSettings {
     pub line_breaks_1_2: u32,
     pub portable: u32,
     pub indented_sequences: u32,
+    pub double_quotes: u32,
     pub indent: i32,
     pub width: i32,
     pub limit: usize,
     pub skip: usize,
+}
+
+/// Returns double quotes where they are asked for.
+pub(crate) fn quotes_from(double_quotes: u32) -> Quotes
+    ensures { is_double result ≡ is_on double_quotes }
+{
+    if double_quotes == 0 {
+        Quotes::Single
+    } else {
+        Quotes::Double
+    }
 }
 
 fn limit_from(limit: usize) -> usize
@@ -40,6 +53,7 @@ pub(crate) fn settings_from(given: &EmitterSettings) -> Option<Settings>
         indent: Some(given.indent),
         width: Some(given.width),
         unicode: given.unicode != 0,
+        quotes: quotes_from(given.double_quotes),
         line_break: line_break(given.line_break)?,
         line_breaks_1_2: given.line_breaks_1_2 != 0,
         encoding: encoding(given.encoding)?,

@@ -7,3 +7,4 @@ pub mod AtomsWritten
 pub mod WritingDirectives
 pub mod WritingTags
 pub mod SimpleAsciiChoices
+pub mod QuotesAllowed

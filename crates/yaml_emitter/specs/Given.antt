@@ -1,10 +1,17 @@
 -- The settings of an emitter, as the definitions see them.
-use Rattle.std.specs.Prelude.{ℕ, ℤ, pos, negsuc, Option, None, Some, ◌==◌, if◌then◌else◌, unwrap_or}
+use Rattle.std.specs.Prelude.{ℕ, ℤ, pos, negsuc, Bool, true, false, Option, None, Some, ◌==◌, if◌then◌else◌, unwrap_or}
 use Rattle.yaml_base.specs.Settings as base
 use Rattle.yaml_base.specs.Settings.{largest_i32, Effective, utf8, line_feed_break}
 use Rattle.yaml_base.specs.Seen.{seen_encoding, seen_break}
+use Rattle.yaml_emitter.specs.declared.settings.Quotes.{Quotes}
+use Rattle.yaml_emitter.specs.declared.settings.Quotes.TheVariants.{Single, Double}
 use Rattle.yaml_emitter.specs.declared.settings.Settings.{Settings}
 use Rattle.yaml_emitter.specs.declared.effective.EffectiveSettings.{EffectiveSettings}
+
+-- whether quotes are double
+abbrev pub is_double : Quotes → Bool
+is_double Single = false
+is_double Double = true
 
 -- what was given to each setter
 abbrev pub seen_settings : Settings → base.Settings
@@ -13,6 +20,7 @@ seen_settings settings =
       encoding = seen_encoding settings.encoding;
       canonical = settings.canonical;
       unicode = settings.unicode;
+      double_quotes = is_double settings.quotes;
       indent = settings.indent;
       width = settings.width;
       line_break = seen_break settings.line_break;
@@ -34,6 +42,7 @@ seen_effective settings =
       encoding = unwrap_or (seen_encoding settings.encoding) utf8;
       canonical = settings.canonical;
       unicode = settings.unicode;
+      double_quotes = settings.double_quotes;
       indent = settings.indent;
       width = seen_width settings.width;
       line_break = unwrap_or (seen_break settings.line_break) line_feed_break;

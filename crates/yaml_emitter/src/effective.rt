@@ -10,6 +10,8 @@ pub(crate) struct EffectiveSettings {
     pub encoding: yaml_encoding_t,
     pub canonical: bool,
     pub unicode: bool,
+    /// No scalar is written in single quotes.
+    pub double_quotes: bool,
     /// In columns, 2 to 9.
     pub indent: u32,
     /// In characters; `i32::MAX` for no limit.

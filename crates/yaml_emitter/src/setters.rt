@@ -5,11 +5,13 @@ ghost use Rattle.yaml_base.specs.Event.{Event};
 ghost use Rattle.yaml_base.specs.Seen.{seen_break, seen_encoding};
 ghost use Rattle.yaml_base.specs.Settings.{Settings};
 ghost use Rattle.yaml_pen.specs.Page.{output_left};
+ghost use Rattle.yaml_emitter.specs.Given.{is_double};
 ghost use Rattle.yaml_emitter.specs.Promises.{Promised};
 ghost use Rattle.yaml_emitter.specs.StandsAfter.{StandsAfter};
 ghost use Rattle.yaml_emitter.specs.State.{knows_encoding};
 
 use crate::emitter::yaml_emitter_t;
+use crate::settings::Quotes;
 use std::alloc::Allocator;
 use yaml_base::{yaml_break_t, yaml_encoding_t, yaml_error_t};
 
@@ -85,6 +87,15 @@ pub fn yaml_emitter_set_unicode<A: Allocator>(emitter: &mut yaml_emitter_t<A>, u
     ensures stands { StandsAfter emitter.old.given [] emitter.old → StandsAfter emitter.new.given [] emitter.new }
 {
     emitter.machine.given.unicode = unicode;
+}
+
+/// Sets the quotes of a scalar that isn't plain and that both can hold.
+pub fn yaml_emitter_set_quotes<A: Allocator>(emitter: &mut yaml_emitter_t<A>, quotes: Quotes)
+    requires { emitter.old.started ≡ false }
+    ensures set { emitter.new ≡ record emitter.old { given = record emitter.old.given { double_quotes = is_double quotes } } }
+    ensures stands { StandsAfter emitter.old.given [] emitter.old → StandsAfter emitter.new.given [] emitter.new }
+{
+    emitter.machine.given.quotes = quotes;
 }
 
 /// Sets the line break; ANY is LF.

@@ -4,12 +4,20 @@ ghost use Rattle.std.specs.Prelude.{◌≡◌, ◌≤◌, pos, ◌≤ℤ◌, IsS
 ghost use Rattle.yaml_base.specs.Settings.{effective, effective_encoding, effective_indent, effective_width, line_feed_break, nothing_given};
 ghost use Rattle.yaml_base.specs.Seen.{seen_encoding, seen_break};
 ghost use Rattle.yaml_emitter.specs.Given.{seen_width, seen_settings, seen_effective};
+ghost use Rattle.yaml_emitter.specs.Given as spec;
 
 use crate::effective::EffectiveSettings;
 use yaml_base::{
     YAML_ANY_BREAK, YAML_ANY_ENCODING, YAML_LN_BREAK, YAML_UTF8_ENCODING, yaml_break_t,
     yaml_encoding_t,
 };
+
+/// The quotes that a scalar is written in where it isn't plain and both can hold it.
+#[derive(Clone, Copy, PartialEq, Eq, Debug)]
+pub enum Quotes {
+    Single,
+    Double,
+}
 
 /// What an emitter is set to before its stream. The default is what a new emitter has, as in libyaml.
 #[derive(Clone, Copy, PartialEq, Eq, Debug)]
@@ -20,6 +28,8 @@ pub struct Settings {
     pub canonical: bool,
     /// Printable characters past ASCII stand as themselves.
     pub unicode: bool,
+    /// The quotes of a scalar that both can hold.
+    pub quotes: Quotes,
     /// Columns a level, 2 to 9; any other number, and `None`, is taken for 2.
     pub indent: Option<i32>,
     /// Lines are folded past this column, counted in characters; a negative one is no limit. Up to twice the indent it is
@@ -46,6 +56,7 @@ impl Default for Settings {
             encoding: YAML_ANY_ENCODING,
             canonical: false,
             unicode: false,
+            quotes: Quotes::Single,
             indent: None,
             width: None,
             line_break: YAML_ANY_BREAK,
@@ -84,6 +95,12 @@ fn width_of(given: Option<i32>, indent: u32) -> i32
     }
 }
 
+fn is_double(quotes: Quotes) -> bool
+    ensures { result ≡ spec.is_double quotes }
+{
+    matches!(quotes, Quotes::Double)
+}
+
 /// ANY is taken for LF.
 fn break_of(given: yaml_break_t) -> yaml_break_t
     ensures { seen_break result ≡ Some (unwrap_or (seen_break given) line_feed_break) }
@@ -119,6 +136,7 @@ impl Settings {
             encoding: encoding_of(self.encoding, of_stream),
             canonical: self.canonical,
             unicode: self.unicode,
+            double_quotes: is_double(self.quotes),
             indent,
             width: width_of(self.width, indent),
             line_break: break_of(self.line_break),

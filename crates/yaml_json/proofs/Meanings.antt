@@ -8,11 +8,12 @@ use Rattle.yaml_json.proofs.Common.{yaml_number, resolved_by_core, resolved_by_1
 use Rattle.yaml_json.proofs.Common.{bool_content, number_content, text_content, collection_in, Schema, number_in, float_tag, number_tag, text_style}
 use Rattle.yaml_base.proofs.Common.{not, digits_value, any_style, single_quoted, double_quoted, literal, folded, TagDirective, as_item, as_key, as_value, Place}
 use Rattle.yaml_base.proofs.Common.{has_no_nodes, has_no_pairs, is_simple, is_simple_at, charset_of, style_asked_at, choice_of, is_written_in_flow, entry_place}
-use Rattle.yaml_base.proofs.Common.{Allowances, allowances, is_block, requested_style, fitting_style, fits_plain, Choice, chosen, Stood, stood_plain}
+use Rattle.yaml_base.proofs.Common.{Allowances, allowances, allowed_under, is_block, requested_style, fitting_style, fits_plain, Choice, chosen, Stood, stood_plain}
 use Rattle.yaml_base.proofs.Common.{stood_quoted, Tagging, with_tag, without_tag, sequence_tree, mapping_tree}
 use Rattle.yaml_base.proofs.Common.{json_value, number_meant, means_number, Resolved, meant_integer, meant_decimal, meant_text, signed}
 use Rattle.json.specs.Tree.{ItemsHaveNumbers, MembersHaveNumbers}
 use Rattle.yaml_base.{proofs.JsonSpelling.spelling_keeps_value, proofs.NumbersRead.spelling_read, specs.Settings.escapes_separators}
+use Rattle.yaml_base.proofs.PlainUnderQuotes.{still_plain}
 use Rattle.yaml_base.{specs.Places.is_root, specs.scalars.BlockHeader.begins_blank}
 use Rattle.yaml_base.{specs.values.JsonNumbers.value_with, specs.values.Resolved.meant_null, specs.values.Resolved.meant_boolean}
 use Rattle.yaml_base.{specs.values.Resolved.meant_by_nobody}
@@ -105,7 +106,7 @@ module _ (schema : Schema) (s : Effective) (place : Place) (simple : Bool) where
   -- the style of a scalar, and how it is tagged, by whether the form is canonical
   abbrev style_by : Scalar → Bool → Choice
   style_by content canonical =
-      chosen (allowances (charset_of s) content.value) (style_asked_at s place content) (is_empty content.value)
+      chosen (allowed_under s content.value) (style_asked_at s place content) (is_empty content.value)
       (is_some (scalar_tag canonical content)) content.plain_implicit content.quoted_implicit place.in_flow simple canonical
 
   abbrev tagging_by : Scalar → Bool → Tagging
@@ -121,7 +122,10 @@ module _ (schema : Schema) (s : Effective) (place : Place) (simple : Bool) where
       → scalar_meant schema (tagging_by (word_content canonical own word) canonical) word ≡ meant
   word_by own word meant reads is plain_there true = with_own_tag own word meant reads is
   word_by own word meant reads is plain_there false =
-      ap (λ (x : Bool). scalar_meant schema (without_tag (standing_by x)) word) (plain_there s.unicode (escapes_separators s) place.in_flow simple) ∙ reads
+      ap (λ (x : Bool). scalar_meant schema (without_tag (standing_by x)) word)
+      (still_plain s.double_quotes (allowances (charset_of s) word) plain (is_empty word) false true true place.in_flow simple false
+      (plain_there s.unicode (escapes_separators s) place.in_flow simple))
+      ∙ reads
     where
       standing_by : Bool → Stood
       standing_by x = if x then stood_plain else stood_quoted
@@ -173,9 +177,9 @@ module _ (schema : Schema) (s : Effective) (place : Place) (simple : Bool) where
 
   text_by : (text : Text) → TextsOf schema → (canonical : Bool) → scalar_meant schema (tagging_by (text_content text) canonical) text ≡ meant_text
   text_by text texts true = as_it_stands text (style_by (text_content text) true).style
-      (text_asked text texts (instead text) (allowances (charset_of s) text) (is_empty text) false true true place.in_flow simple true)
+      (text_asked text texts (instead text) (allowed_under s text) (is_empty text) false true true place.in_flow simple true)
   text_by text texts false = as_it_stands text (style_by (text_content text) false).style
-      (text_asked text texts (instead text) (allowances (charset_of s) text) (is_empty text) false true true place.in_flow simple false)
+      (text_asked text texts (instead text) (allowed_under s text) (is_empty text) false true true place.in_flow simple false)
 
   pub text_means : (text : Text) → TextsOf schema
       → scalar_meant schema (tagging_in (scalar_tag s.canonical (text_content text)) (choice_of s place simple (text_content text))) text ≡ meant_text

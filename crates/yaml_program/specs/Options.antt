@@ -4,7 +4,7 @@ use mir.Syntax.{w32}
 use Rattle.std.specs.Str.Parse.{IsNumeral, digits_value, signed_digits_value, without_leading_plus, without_leading_sign}
 use Rattle.clap.specs.Words.{found_of, matched_of, one_text, raw_values}
 use Rattle.clap.specs.declared.parser.matches.ArgMatches.{ArgMatches}
-use Rattle.yaml_emitter.specs.Given.{seen_settings}
+use Rattle.yaml_emitter.specs.Given.{is_double, seen_settings}
 use Rattle.yaml_emitter.specs.declared.settings.Settings.{Settings}
 use Rattle.yaml_writer.specs.Given.{given_for_values}
 use Rattle.yaml_program.specs.declared.arguments.CommonSettings.{CommonSettings}
@@ -44,6 +44,7 @@ pub record AreWriterSettings (matches : ArgMatches) (settings : Settings) : Type
   pub portable : settings.line_breaks_1_2 ≡ false → IsOff (value_of matches (codes "no-portable")) settings.portable
   pub left : settings.line_breaks_1_2 ≡ true → settings.portable ≡ false
   pub sequences : IsOff (value_of matches (codes "no-indented-sequences")) settings.indented_sequences
+  pub quotes : IsOn (value_of matches (codes "double-quotes")) (is_double settings.quotes)
   pub indent : IsNumberOf (value_of matches (codes "indent")) None settings.indent
   pub width : IsNumberOf (value_of matches (codes "width")) given_for_values.width settings.width
   pub others : seen_settings settings ≡ record given_for_values {
@@ -51,6 +52,7 @@ pub record AreWriterSettings (matches : ArgMatches) (settings : Settings) : Type
     portable = settings.portable;
     breaks12 = settings.line_breaks_1_2;
     indented_sequences = settings.indented_sequences;
+    double_quotes = is_double settings.quotes;
     indent = settings.indent;
     width = settings.width;
   }

@@ -1,5 +1,6 @@
 //! What a program's arguments ask for.
 ghost use Rattle.std.specs.Prelude.{◌≡◌, ◌&&◌, IfOk, map, not};
+ghost use Rattle.yaml_emitter.specs.Given.{is_double};
 ghost use Rattle.yaml_program.specs.Options.{AreCommonSettings, AreWriterSettings, files_named};
 ghost use Rattle.yaml_program.specs.Conversions.{IsAskedBy};
 
@@ -9,7 +10,7 @@ use clap::{ArgMatches, Error};
 use std::alloc::{AllocError, Global};
 use std::rt::Runtime;
 use std::{env, io};
-use yaml_writer::{Settings, value_settings};
+use yaml_writer::{Quotes, Settings, value_settings};
 
 /// How deep collections may nest where no option says it.
 const DEFAULT_DEPTH: usize = 1_000;
@@ -49,6 +50,16 @@ fn is_portable(is_off: bool, is_left: bool) -> bool
     !is_off && !is_left
 }
 
+fn quotes_of(are_double: bool) -> Quotes
+    ensures { is_double result ≡ are_double }
+{
+    if are_double {
+        Quotes::Double
+    } else {
+        Quotes::Single
+    }
+}
+
 /// The settings of the writer that the options ask for.
 fn writer_settings_of(matches: &ArgMatches<'_>) -> Settings
     ensures { AreWriterSettings matches.now result }
@@ -58,6 +69,7 @@ fn writer_settings_of(matches: &ArgMatches<'_>) -> Settings
     settings.line_breaks_1_2 = matches.get_flag("no-document-start");
     settings.portable = is_portable(matches.get_flag("no-portable"), settings.line_breaks_1_2);
     settings.indented_sequences = !matches.get_flag("no-indented-sequences");
+    settings.quotes = quotes_of(matches.get_flag("double-quotes"));
     settings.indent = matches.get_one::<i32>("indent");
     settings.width = matches.get_one::<i32>("width").or(settings.width);
     settings

@@ -60,6 +60,12 @@ macro_rules! flags {
         "Leaves the items of a list in the column of the name that the list belongs to, as libyaml does, and doesn't indent them.\
         {n}Example: ", $program, " --no-indented-sequences in", $ending),
     ),
+    (
+        "double-quotes",
+        "Double quotes in place of single ones",
+        concat!(
+        "Writes texts that must be quoted in double quotes, not in single ones.{n}Example: ", $program, " --double-quotes in", $ending),
+    ),
 ]
     };
 }

@@ -5,9 +5,10 @@ use Rattle.yaml_json.proofs.Common.{ScalarStyle, plain, Scalar, scalar_tag, coll
 use Rattle.yaml_json.proofs.Common.{pairs_and, Effective, is_empty, is_plain, Tree, JsonNumber, is_json_number, is_json_integer, number_in, IsNumber, fraction_or_default}
 use Rattle.yaml_json.proofs.Common.{yaml_number, resolved_by_core, resolved_by_11, int_tag, word_content, number_content, text_content, collection_in, Schema, float_tag, number_tag}
 use Rattle.yaml_base.proofs.Common.{TagDirective, as_item, as_key, as_value, Place, has_no_nodes, has_no_pairs, is_simple, is_simple_at, charset_of, style_asked_at, choice_of}
-use Rattle.yaml_base.proofs.Common.{is_written_in_flow, entry_place, allowances, chosen, Stood, stood_plain, stood_quoted, Tagging, with_tag, without_tag, sequence_tree, mapping_tree}
+use Rattle.yaml_base.proofs.Common.{allowed_under, is_written_in_flow, entry_place, allowances, chosen, Stood, stood_plain, stood_quoted, Tagging, with_tag, without_tag, sequence_tree, mapping_tree}
 use Rattle.yaml_base.proofs.Common.{mapping_node, json_value, number_meant, means_number, Resolved, meant_integer, meant_decimal, meant_text, signed, not, digits_value}
 use Rattle.yaml_base.{proofs.JsonSpelling.spelling_keeps_value, specs.Settings.escapes_separators, specs.values.JsonNumbers.value_with}
+use Rattle.yaml_base.proofs.PlainUnderQuotes.{plain_under}
 use Rattle.yaml_base.proofs.stream_nodes.StreamAgrees.{standing_in, tagging_in, nodes_tree, pairs_tree}
 use Rattle.json.specs.Json as json
 use Rattle.yaml_json.proofs.Meanings.{ReadsScalars, reads_by_11, reads_by_core, word_means, text_means, node_means as json_means}
@@ -144,7 +145,7 @@ module _ (reader : Reader) (reads : ReadsToml reader) (s : Effective) (place : P
   abbrev tagging_for : (canonical : Bool) → Scalar → Tagging
   tagging_for canonical content =
       tagging_in (scalar_tag canonical content)
-      (chosen (allowances (charset_of s) content.value) (style_asked_at s place content) (is_empty content.value)
+      (chosen (allowed_under s content.value) (style_asked_at s place content) (is_empty content.value)
       (is_some (scalar_tag canonical content)) content.plain_implicit content.quoted_implicit place.in_flow simple canonical)
 
   dated : (date : CalendarDate) (time : Option ClockTime) (canonical : Bool) → is_moment (record { date = date; time = time }) ≡ true
@@ -155,7 +156,10 @@ module _ (reader : Reader) (reads : ReadsToml reader) (s : Effective) (place : P
   dated date (Some time) false valid = refl
   dated date None false valid =
       subst (λ (x : Bool). IsDated reader (record { date = date; time = None }) (without_tag (if x then stood_plain else stood_quoted)) (date_text date))
-      (sym (ap is_plain (dates_plain date (charset_of s) false true true place.in_flow simple is refl))) (refl, reads.dates date is)
+      (sym (ap is_plain
+      (plain_under s.double_quotes (allowances (charset_of s) (date_text date)) plain (is_empty (date_text date)) false true true place.in_flow simple false
+      (dates_plain date (charset_of s) false true true place.in_flow simple is refl))))
+      (refl, reads.dates date is)
     where
       is : is_calendar_date date ≡ true
       is = (and_parts (is_calendar_date date) true valid).0

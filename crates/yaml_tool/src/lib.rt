@@ -18,4 +18,4 @@ mod words;
 pub use answers::{run_answer_t, status, write_line};
 pub use runs::run;
 pub use scripts::{NumberedEvent, Script, ScriptError, read_script};
-pub use yaml_emitter::Settings;
+pub use yaml_emitter::{Quotes, Settings};

@@ -17,4 +17,4 @@ pub use yaml_base::{
     YAML_UTF8_ENCODING, YAML_UTF16BE_ENCODING, YAML_UTF16LE_ENCODING, yaml_break_t,
     yaml_encoding_t, yaml_error_t,
 };
-pub use yaml_emitter::Settings;
+pub use yaml_emitter::{Quotes, Settings};

@@ -6,10 +6,11 @@ use Rattle.yaml_base.proofs.Common.{bytes_eq, bytes_eq-Decides, false≢true, ma
 use Rattle.yaml_base.proofs.Common.{Scalar, TagDirective, scalar_tag, collection_tag, Node, alias_node, scalar_node, Nodes, sequence_node, Pairs, mapping_node}
 use Rattle.yaml_base.proofs.Common.{no_nodes, nodes_and, no_pairs, pairs_and, Document, Documents, no_documents, documents_and, Stream, node_events, nodes_events}
 use Rattle.yaml_base.proofs.Common.{pairs_events, document_events, documents_events, stream_events, tree_of, Place, Choice, charset_of, style_asked_at, choice_of}
-use Rattle.yaml_base.proofs.Common.{allowances, is_empty, chosen, is_simple_at, is_simple, entry_place, as_item, as_key, as_value, has_no_nodes, has_no_pairs}
+use Rattle.yaml_base.proofs.Common.{allowed_under, allowances, is_empty, chosen, is_simple_at, is_simple, entry_place, as_item, as_key, as_value, has_no_nodes, has_no_pairs}
 use Rattle.yaml_base.proofs.Common.{is_written_in_flow, is_plain, Stood, stood_plain, stood_quoted, stood_bare, Tagging, with_tag, without_tag, Tree, Trees, TreePairs}
 use Rattle.yaml_base.proofs.Common.{DocumentTree, document_agrees, documents_in_order, agrees, stream_trees, resolved_by_core, resolved_by_11, meant_text}
 use Rattle.yaml_base.proofs.Common.{Collection, Encoding, effective, bytes_written, directives_in_force, root_place, reads_alike, has_scalar_texts}
+use Rattle.yaml_base.proofs.PlainUnderQuotes.{plain_under}
 use Rattle.yaml_base.proofs.Trees.{tree_of-stream_events, one_tree}
 use Rattle.yaml_base.proofs.stream_documents.{StreamLawStands.agree_more, StreamWholeReads.document_trees}
 use Rattle.yaml_base.proofs.stream_nodes.StreamAgrees.{standing_in, tagging_in, node_tree, nodes_tree, pairs_tree, document_tree, node_agrees, node_is_tagged}
@@ -208,14 +209,15 @@ module _ (schema : Schema) (reads : ReadsPlain schema) (s : Effective) (directiv
 
         choice_by : Bool → Choice
         choice_by canonical =
-            chosen (allowances (charset_of s) now.value) (style_asked_at s place now) (is_empty now.value) (is_some (scalar_tag canonical now)) true false
+            chosen (allowed_under s now.value) (style_asked_at s place now) (is_empty now.value) (is_some (scalar_tag canonical now)) true false
             place.in_flow (simple_at now) canonical
 
         by : (x : Bool) → tag_meant schema (tagging_in (scalar_tag x now) (choice_by x)) content.value ≡ tag
         by true = ap (λ (o : Option Text). tag_meant schema (tagging_in o (choice_by true)) content.value) has
         by false =
             ap (λ (style : ScalarStyle). tag_meant schema (without_tag (standing_in style (not (is_plain style)))) content.value)
-            (plainly (charset_of s) place.in_flow (simple_at now))
+            (plain_under s.double_quotes (allowances (charset_of s) now.value) (style_asked_at s place now) (is_empty now.value)
+            (is_some (scalar_tag false now)) true false place.in_flow (simple_at now) false (plainly (charset_of s) place.in_flow (simple_at now)))
             ∙ read
 
     -- any scalar

@@ -51,4 +51,4 @@ pub use yaml_base::{
     YAML_UTF16BE_ENCODING, YAML_UTF16LE_ENCODING, yaml_break_t, yaml_encoding_t, yaml_error_t,
     yaml_mapping_style_t, yaml_scalar_style_t, yaml_sequence_style_t,
 };
-pub use yaml_emitter::{CollectionKind, Settings};
+pub use yaml_emitter::{CollectionKind, Quotes, Settings};

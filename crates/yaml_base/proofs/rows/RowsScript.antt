@@ -27,6 +27,7 @@ every_setting : script_of (codes "limit 007\n# c \"x\nencoding utf16be\n\ncanoni
       encoding = Some utf16_big;
       canonical = true;
       unicode = true;
+      double_quotes = false;
       indent = Some (negsuc 6);
       width = Some (pos 2147483647);
       line_break = Some both_break;

@@ -33,6 +33,7 @@ nothing_set : effective plain_settings None
       encoding = utf8;
       canonical = false;
       unicode = false;
+      double_quotes = false;
       indent = 2;
       width = Some 80;
       line_break = line_feed_break;

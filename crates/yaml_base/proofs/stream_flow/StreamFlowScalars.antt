@@ -2,9 +2,9 @@
 use Rattle.yaml_base.proofs.Common.{nat_tests, arith, ℕ, is_some, Option, None, Some, Bool, false, not, true, ◌&&◌, ◌||◌, List, [], ◌++◌, ◌∷◌, refl, ◌≡◌}
 use Rattle.yaml_base.proofs.Common.{true≢false, append_assoc, and_parts, false≢true, Text, Cursor, Rendered, space_if, ScalarStyle, any_style, plain}
 use Rattle.yaml_base.proofs.Common.{single_quoted, double_quoted, literal, folded, TagDirective, Scalar, scalar_tag, render_properties, render_separation}
-use Rattle.yaml_base.proofs.Common.{render_body, charset_of, style_asked_at, choice_of, entry_place, Role, read_in_style, Effective, read_plain, is_tidy}
+use Rattle.yaml_base.proofs.Common.{render_body, allowed_under, style_asked_at, choice_of, entry_place, Role, read_in_style, Effective, read_plain, is_tidy}
 use Rattle.yaml_base.proofs.Common.{Allowances, is_empty, and-false}
-use Rattle.yaml_base.proofs.Common.{allowances, double_inside, render_quote, runs, render_runs, quotes_doubled, single_quote, is_plain, requested_style}
+use Rattle.yaml_base.proofs.Common.{double_inside, render_quote, runs, render_runs, quotes_doubled, single_quote, is_plain, requested_style}
 use Rattle.yaml_base.proofs.Common.{quoted_style, fitting_style, fits_plain, Rules}
 use Rattle.yaml_base.proofs.{stream_flow.StreamPropertyWords.lead, stream_lines.StreamCuts.none_not_some}
 use Rattle.yaml_base.proofs.stream_nodes.StreamLeads.{EndedCollection, lead_rendered}
@@ -33,7 +33,7 @@ style_in_flow allowed fits x asked = grind (arith, nat_tests, quotes_in_flow)
 pub chosen_in_flow : (s : Effective) (role : Role) (column : ℕ) (simple : Bool) (content : Scalar)
     → is_flow_style (choice_of s (entry_place true role column) simple content).style ≡ true
 chosen_in_flow s role column simple content =
-    let allowed = allowances (charset_of s) content.value in
+    let allowed = allowed_under s content.value in
     style_in_flow allowed
     (fits_plain allowed (is_empty content.value) (is_some (scalar_tag s.canonical content)) content.plain_implicit true simple) simple
     (requested_style (s.canonical || (simple && allowed.multiline)) (style_asked_at s (entry_place true role column) content))

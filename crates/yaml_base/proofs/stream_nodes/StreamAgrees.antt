@@ -3,9 +3,9 @@ use Rattle.yaml_base.proofs.Common.{arith, if◌then◌else◌, is_some, bytes_e
 use Rattle.yaml_base.proofs.Common.{ap, ◌∙◌, and_parts, and_from, false≢true, Decides-int_eq, Text, ScalarStyle}
 use Rattle.yaml_base.proofs.Common.{Version, TagDirective, Scalar, scalar_tag, collection_tag, Node, alias_node}
 use Rattle.yaml_base.proofs.Common.{scalar_node, Nodes, sequence_node, Pairs, mapping_node, no_nodes, nodes_and, no_pairs, pairs_and, Document, root_place}
-use Rattle.yaml_base.proofs.Common.{charset_of, style_asked_at, choice_of, is_written_in_flow, entry_place, as_item, as_key, as_value, Place, has_no_nodes}
+use Rattle.yaml_base.proofs.Common.{allowed_under, style_asked_at, choice_of, is_written_in_flow, entry_place, as_item, as_key, as_value, Place, has_no_nodes}
 use Rattle.yaml_base.proofs.Common.{has_no_pairs}
-use Rattle.yaml_base.proofs.Common.{is_simple, is_simple_at, Effective, directives_in_force, Allowances, is_empty, allowances, Choice, lacks_tag_and_flags}
+use Rattle.yaml_base.proofs.Common.{is_simple, is_simple_at, Effective, directives_in_force, Allowances, is_empty, Choice, lacks_tag_and_flags}
 use Rattle.yaml_base.proofs.Common.{is_plain, requested_style, fitting_style, fits_plain, Stood, stood_plain, stood_quoted, stood_bare, Tagging}
 use Rattle.yaml_base.proofs.Common.{with_tag, without_tag, Tree, alias_tree, scalar_tree, Trees, sequence_tree, TreePairs, mapping_tree, no_trees, trees_and}
 use Rattle.yaml_base.proofs.Common.{no_tree_pairs, tree_pairs_and, DocumentTree, document_agrees}
@@ -103,7 +103,7 @@ tagging_is s place simple content None e flags =
     ∙ stands content (style None) fits flags
   where
     allowed : Allowances
-    allowed = allowances (charset_of s) content.value
+    allowed = allowed_under s content.value
 
     fit : Option Text → Bool
     fit t = fits_plain allowed (is_empty content.value) (is_some t) content.plain_implicit place.in_flow simple

@@ -1,9 +1,9 @@
 -- Each scalar in a block fits where its names and its body stand.
 use Rattle.yaml_base.proofs.Common.{ℕ, ◌≤◌, if◌then◌else◌, is_some, Option, None, Some, Bool, false, not, true, ◌&&◌, ◌||◌, List, [], refl, ◌≡◌}
 use Rattle.yaml_base.proofs.Common.{true≢false, and_parts, Text, Cursor, ScalarStyle, plain}
-use Rattle.yaml_base.proofs.Common.{TagDirective, scalar_tag, scalar_node, render_body, charset_of, style_asked_at, choice_of, Place, deeper, is_simple_at}
+use Rattle.yaml_base.proofs.Common.{TagDirective, scalar_tag, scalar_node, render_body, allowed_under, style_asked_at, choice_of, Place, deeper, is_simple_at}
 use Rattle.yaml_base.proofs.Common.{read_in_style}
-use Rattle.yaml_base.proofs.Common.{Effective, is_tidy, Allowances, is_empty, allows_block, allowances, is_plain, is_block, requested_style, fits_plain}
+use Rattle.yaml_base.proofs.Common.{Effective, is_tidy, Allowances, is_empty, allows_block, is_plain, is_block, requested_style, fits_plain}
 use Rattle.yaml_base.proofs.{Charsets.block_still, stream_flow.StreamFlowScalars.rules_of, stream_flow.StreamFlowScalars.bare_not_plain}
 use Rattle.yaml_base.proofs.{stream_flow.StreamFlowWords.scalar_in, stream_lines.StreamBlockEnds.block_fitting}
 use Rattle.yaml_base.proofs.{stream_nodes.StreamEmptyFits.empty_fits, stream_nodes.StreamFits.Fits, stream_nodes.StreamLeaves.block_place}
@@ -34,7 +34,7 @@ scalars_fit s own directives low high content role column cursor complex stands 
     let simple = is_simple_at place s.canonical directives (scalar_node content) in
     let choice = choice_of s place simple content in
     let tag = scalar_tag s.canonical content in
-    let allowed : Allowances = allowances (charset_of s) content.value in
+    let allowed : Allowances = allowed_under s content.value in
     scalar_fits s own directives content.anchor tag choice.bare choice.style (if simple then None else s.width)
     (deeper s.indent column) content.value place cursor low high
     names.0 names.1

@@ -189,6 +189,7 @@ typed_settings =
       encoding = Some utf8;
       canonical = true;
       unicode = true;
+      double_quotes = false;
       indent = Some (pos 2);
       width = Some (negsuc 0);
       line_break = Some line_feed_break;

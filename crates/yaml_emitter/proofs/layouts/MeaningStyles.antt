@@ -1,5 +1,5 @@
 -- The style that is chosen for a scalar is one that its value allows where it stands.
-use Rattle.yaml_emitter.proofs.Common.{if◌then◌else◌, Bool, false, not, true, ◌&&◌, ◌||◌, refl, ◌≡◌, and_parts, ScalarStyle, any_style, plain, single_quoted}
+use Rattle.yaml_emitter.proofs.Common.{allowed_by_quotes, if◌then◌else◌, Bool, false, not, true, ◌&&◌, ◌||◌, refl, ◌≡◌, and_parts, ScalarStyle, any_style, plain, single_quoted}
 use Rattle.yaml_emitter.proofs.Common.{double_quoted, literal, folded, Allowances, requested_style, quoted_style, fitting_style, fits_plain, chosen}
 
 -- what a style needs of a value
@@ -48,3 +48,13 @@ chosen_allowed allowed asked empty tag_written plain_implicit quoted_implicit fl
     (requested_style (canonical || (simple && allowed.multiline)) asked)
     (λ e. (and_parts _ _ (and_parts _ _ e).0).0)
     (λ e. (and_parts _ _ (and_parts _ _ e).0).0)
+
+-- What a value allows without single quotes it allows with them.
+pub allowed_with_single : (double_quotes : Bool) (allowed : Allowances) (flow : Bool) (style : ScalarStyle)
+    → Allows (allowed_by_quotes double_quotes allowed) flow style → Allows allowed flow style
+allowed_with_single double_quotes allowed flow any_style h = h
+allowed_with_single double_quotes allowed flow plain h = h
+allowed_with_single double_quotes allowed flow single_quoted h = (and_parts (not double_quotes) allowed.single_quoted h).1
+allowed_with_single double_quotes allowed flow double_quoted h = h
+allowed_with_single double_quotes allowed flow literal h = h
+allowed_with_single double_quotes allowed flow folded h = h

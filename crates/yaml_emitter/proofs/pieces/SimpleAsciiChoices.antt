@@ -3,6 +3,7 @@ use Rattle.yaml_emitter.proofs.Common.{ℕ, ◌+◌, if◌then◌else◌, is_som
 use Rattle.yaml_emitter.proofs.Common.{◌∷◌, refl, ◌≡◌, ap, subst, sym, ◌∙◌}
 use Rattle.yaml_emitter.proofs.Common.{and_parts, false≢true, Text, Cursor, Rendered, render_then, ScalarStyle, any_style}
 use Rattle.yaml_emitter.proofs.Common.{plain, single_quoted, double_quoted, literal, folded, TagDirective, scalar_tag, render_anchor, charset_of, choice_of}
+use Rattle.yaml_emitter.proofs.Common.{allowed_by_quotes, allowed_under}
 use Rattle.yaml_emitter.proofs.Common.{scalar_piece, Place, deeper, byte_count, name_count, tag_count, is_short, is_simple_scalar, render_place}
 use Rattle.yaml_emitter.proofs.Common.{seen_scalar_style, Effective, Spelling, spelling, Charset, Allowances, allowances, is_empty, allows_plain, Choice}
 use Rattle.yaml_emitter.proofs.Common.{lacks_tag_and_flags, is_plain, requested_style, quoted_style, fitting_style, fits_plain, chosen, seen_name}
@@ -59,14 +60,18 @@ not_bare : (quoted_implicit : Bool) → (not false && not quoted_implicit && not
 not_bare true = refl
 not_bare false = refl
 
-chosen_plain : (asked : ScalarStyle) (quoted_implicit flow simple : Bool) → requested_style false asked ≡ plain
-    → chosen all_allowed asked false false true quoted_implicit flow simple false ≡ record { style = plain; bare = false }
-chosen_plain asked quoted_implicit flow simple h =
+-- whichever quotes would stand in its place
+abbrev allowed_but : (double_quotes : Bool) → Allowances
+allowed_but double_quotes = allowed_by_quotes double_quotes all_allowed
+
+chosen_plain : (double_quotes : Bool) (asked : ScalarStyle) (quoted_implicit flow simple : Bool) → requested_style false asked ≡ plain
+    → chosen (allowed_but double_quotes) asked false false true quoted_implicit flow simple false ≡ record { style = plain; bare = false }
+chosen_plain double_quotes asked quoted_implicit flow simple h =
     let whole : ScalarStyle → Choice = λ style. record { style = style; bare = not false && not quoted_implicit && not (is_plain style) } in
     let style : ScalarStyle → ScalarStyle =
-    fitting_style all_allowed (fits_plain all_allowed false false true flow simple) (true && not flow && not simple) in
+    fitting_style (allowed_but double_quotes) (fits_plain all_allowed false false true flow simple) (true && not flow && not simple) in
     ap (λ (s : ScalarStyle). whole (style s)) (asked_still simple asked h)
-    ∙ ap (λ (b : Bool). whole (if b then plain else quoted_style all_allowed)) (fits flow simple)
+    ∙ ap (λ (b : Bool). whole (if b then plain else quoted_style (allowed_but double_quotes))) (fits flow simple)
     ∙ ap (λ (b : Bool). let c : Choice = record { style = plain; bare = b } in c) (not_bare quoted_implicit)
 
 -- no block style is asked for, so its header is no matter
@@ -91,16 +96,19 @@ simple_ascii_choice s place simple {content} is =
     let by : Allowances → (empty tag implicit canonical : Bool) → Choice =
     λ a empty tag implicit canonical. chosen a seen.style empty tag implicit seen.quoted_implicit place.in_flow simple canonical in
     let allowed = is.simple_ascii.allows charset in
-    ap (λ (style : ScalarStyle). chosen (allowances charset seen.value) style (is_empty seen.value) (is_some (scalar_tag s.canonical seen))
+    let others : Allowances = allowed_but s.double_quotes in
+    ap (λ (style : ScalarStyle). chosen (allowed_under s seen.value) style (is_empty seen.value) (is_some (scalar_tag s.canonical seen))
     seen.plain_implicit seen.quoted_implicit place.in_flow simple s.canonical)
     (never_block seen.style (is_root place) s.portable (begins_blank seen.value) is.asked)
-    ∙ ap (λ (a : Allowances). by a (is_empty seen.value) (is_some (scalar_tag s.canonical seen)) seen.plain_implicit s.canonical) allowed
-    ∙ ap (λ (e : Bool). by all_allowed e (is_some (scalar_tag s.canonical seen)) seen.plain_implicit s.canonical)
+    ∙ ap (λ (a : Allowances). by (allowed_by_quotes s.double_quotes a) (is_empty seen.value) (is_some (scalar_tag s.canonical seen))
+    seen.plain_implicit s.canonical)
+    allowed
+    ∙ ap (λ (e : Bool). by others e (is_some (scalar_tag s.canonical seen)) seen.plain_implicit s.canonical)
     (filled seen.value charset (ap (λ (a : Allowances). a.flow_plain) allowed))
-    ∙ ap (λ (t : Option Text). by all_allowed false (is_some t) seen.plain_implicit s.canonical) (no_tag is)
-    ∙ ap (λ (i : Bool). by all_allowed false false i s.canonical) is.implicit
-    ∙ ap (λ (b : Bool). by all_allowed false false true b) is.readable
-    ∙ chosen_plain seen.style seen.quoted_implicit place.in_flow simple is.asked
+    ∙ ap (λ (t : Option Text). by others false (is_some t) seen.plain_implicit s.canonical) (no_tag is)
+    ∙ ap (λ (i : Bool). by others false false i s.canonical) is.implicit
+    ∙ ap (λ (b : Bool). by others false false true b) is.readable
+    ∙ chosen_plain s.double_quotes seen.style seen.quoted_implicit place.in_flow simple is.asked
 
 -- what is written of a value that stands plain, at its place behind an anchor, where there is one
 abbrev pub render_plain_at : Effective → Place → (simple : Bool) → (anchor : Option Text) → (value : List ℕ) → Cursor → Rendered

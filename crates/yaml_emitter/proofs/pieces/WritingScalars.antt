@@ -4,8 +4,8 @@ use Rattle.yaml_emitter.proofs.Common.{ℕ, if◌then◌else◌, ◌==◌, optio
 use Rattle.yaml_emitter.proofs.Common.{false, not, true, ◌&&◌, ◌||◌, List, refl, ◌≡◌, append_assoc, inl, inr, ap, subst, sym, ◌∙◌, arith, and_parts, ints}
 use Rattle.yaml_emitter.proofs.Common.{chars, Text, Cursor, Rendered, render_then, ScalarStyle, any_style, plain, single_quoted}
 use Rattle.yaml_emitter.proofs.Common.{double_quoted, literal, folded, TagDirective, Scalar, scalar_tag, render_anchor, render_properties, render_separation}
-use Rattle.yaml_emitter.proofs.Common.{render_body, charset_of, choice_of, scalar_piece, Place, deeper, render_place, Effective, Spelling, spelling, Charset}
-use Rattle.yaml_emitter.proofs.Common.{Allowances, is_empty, allowances, Choice, is_plain, requested_style, quoted_style, fitting_style, fits_plain, chosen}
+use Rattle.yaml_emitter.proofs.Common.{render_body, allowed_under, charset_of, choice_of, scalar_piece, Place, deeper, render_place, Effective, Spelling, spelling, Charset}
+use Rattle.yaml_emitter.proofs.Common.{Allowances, is_empty, Choice, is_plain, requested_style, quoted_style, fitting_style, fits_plain, chosen}
 use Rattle.yaml_emitter.proofs.Common.{seen_effective, render_scalar_text, style_fits, render_spelled_tag, piece_at, wrote_as, Page, Wrote}
 use Rattle.yaml_base.proofs.Common.{somewhere, bars_block, allows_block}
 use Rattle.yaml_scalar.proofs.Common.{limit_of, limit_where}
@@ -175,7 +175,7 @@ pub chosen_fits : (s : Effective) (place : Place) (simple : Bool) (content : Sca
     → style_fits (choice_of s place simple content).style content.value simple ≡ true
 chosen_fits s place simple content =
     let charset : Charset = charset_of s in
-    fitting_fits (allowances charset content.value) _ _ _ content.value simple
+    fitting_fits (allowed_under s content.value) _ _ _ content.value simple
     (λ fits. both (allows_block charset content.value) (not place.in_flow) (not simple) (not (is_empty content.value)) fits
     (not_either (is_empty content.value) (somewhere (bars_block charset) content.value)))
 

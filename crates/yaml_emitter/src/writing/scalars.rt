@@ -1,9 +1,9 @@
 //! Scalars: their style, what stands before them, and their text (YAML 1.1, chapter 9).
 
 ghost use Rattle.std.specs.Prelude.{◌≡◌, ◌&&◌, false, true, not, IfOk, IsOk, chars, is_some};
-ghost use Rattle.yaml_base.specs.scalars.Analysis.{is_empty};
+ghost use Rattle.yaml_base.specs.scalars.Analysis.{allowances, is_empty};
 ghost use Rattle.yaml_base.specs.Event.{double_quoted};
-ghost use Rattle.yaml_base.specs.Layout.{choice_of, style_asked_at};
+ghost use Rattle.yaml_base.specs.Layout.{allowed_by_quotes, allowed_under, charset_of, choice_of, style_asked_at};
 ghost use Rattle.yaml_base.specs.Event.{scalar_tag};
 ghost use Rattle.yaml_base.specs.Seen.{seen_scalar_style};
 ghost use Rattle.yaml_base.specs.Settings as in_force;
@@ -11,7 +11,7 @@ ghost use Rattle.yaml_base.specs.Places.{is_root};
 ghost use Rattle.yaml_base.specs.scalars.BlockHeader as layout;
 ghost use Rattle.yaml_base.specs.scalars.Style.{lacks_tag_and_flags, requested_style};
 ghost use Rattle.yaml_pen.specs.Page.{IsReady};
-ghost use Rattle.yaml_scalar.specs.ScalarData.{seen_choice};
+ghost use Rattle.yaml_scalar.specs.ScalarData.{ChooseAlike, seen_choice, seen_data};
 ghost use Rattle.yaml_emitter.specs.BorrowedTexts.{seen_scalar};
 ghost use Rattle.yaml_emitter.specs.Given.{seen_effective};
 ghost use Rattle.yaml_emitter.specs.Places.{seen_place};
@@ -31,7 +31,9 @@ use yaml_base::{
     yaml_error_t, yaml_scalar_style_t,
 };
 use yaml_pen::Pen;
-use yaml_scalar::{analyze_for_style, begins_blank, select_scalar_style};
+use yaml_scalar::{
+    analyze_for_style, analyze_scalar, begins_blank, scalar_data_t, select_scalar_style,
+};
 
 /// Writes a scalar at its place, its tag spelled so, and notes the open-ended state that it leaves.
 #[inline(always)]
@@ -71,11 +73,7 @@ fn choose(
         let bare = needs_bare_tag(tag_written, content.quoted_implicit);
         return Ok((YAML_DOUBLE_QUOTED_SCALAR_STYLE, bare));
     }
-    let data = analyze_for_style(
-        content.value,
-        settings.unicode,
-        escapes_separators(settings),
-    );
+    let data = allowed_styles(settings, content.value);
     select_scalar_style(
         asked,
         &data,
@@ -87,6 +85,26 @@ fn choose(
         site.simple,
         settings.canonical,
     )
+}
+
+/// Returns the styles that a value allows, but for single quotes where double ones are asked for in their place.
+#[inline(always)]
+fn allowed_styles(settings: &EffectiveSettings, value: &str) -> scalar_data_t
+    ensures { ChooseAlike (seen_data result) (allowed_under (seen_effective settings.now) (chars value.now)) }
+{
+    if settings.double_quotes {
+        return without_single_quotes(settings, value);
+    }
+    analyze_for_style(value, settings.unicode, escapes_separators(settings))
+}
+
+/// Returns the styles that a value allows, but for single quotes.
+fn without_single_quotes(settings: &EffectiveSettings, value: &str) -> scalar_data_t
+    ensures { seen_data result ≡ allowed_by_quotes true (allowances (charset_of (seen_effective settings.now)) (chars value.now)) }
+{
+    let mut allowed = analyze_scalar(value, settings.unicode, escapes_separators(settings));
+    allowed.single_quoted_allowed = false;
+    allowed
 }
 
 /// The style that is asked for: in portable mode a root asks for double quotes in place of a block style whose header would

@@ -13,11 +13,11 @@ use yaml_base::{
     YAML_ANY_BREAK, YAML_ANY_ENCODING, YAML_STREAM_END_EVENT, yaml_error_t, yaml_event_t,
 };
 use yaml_emitter::{
-    Settings, yaml_emitter_emit, yaml_emitter_flush, yaml_emitter_initialize,
+    Quotes, Settings, yaml_emitter_emit, yaml_emitter_flush, yaml_emitter_initialize,
     yaml_emitter_set_break, yaml_emitter_set_canonical, yaml_emitter_set_encoding,
     yaml_emitter_set_indent, yaml_emitter_set_indented_sequences, yaml_emitter_set_line_breaks_1_2,
-    yaml_emitter_set_output_string, yaml_emitter_set_portable, yaml_emitter_set_unicode,
-    yaml_emitter_set_width, yaml_emitter_t,
+    yaml_emitter_set_output_string, yaml_emitter_set_portable, yaml_emitter_set_quotes,
+    yaml_emitter_set_unicode, yaml_emitter_set_width, yaml_emitter_t,
 };
 use yaml_test_allocator::Refusing;
 
@@ -28,6 +28,7 @@ pub(super) const UNSET: Settings = Settings {
     encoding: YAML_ANY_ENCODING,
     canonical: false,
     unicode: false,
+    quotes: Quotes::Single,
     indent: None,
     width: Some(80),
     line_break: YAML_ANY_BREAK,
@@ -47,6 +48,7 @@ pub(super) fn begun<A: Allocator + Copy>(
     yaml_emitter_set_encoding(&mut emitter, settings.encoding);
     yaml_emitter_set_canonical(&mut emitter, settings.canonical);
     yaml_emitter_set_unicode(&mut emitter, settings.unicode);
+    yaml_emitter_set_quotes(&mut emitter, settings.quotes);
     yaml_emitter_set_break(&mut emitter, settings.line_break);
     yaml_emitter_set_line_breaks_1_2(&mut emitter, settings.line_breaks_1_2);
     yaml_emitter_set_portable(&mut emitter, settings.portable);

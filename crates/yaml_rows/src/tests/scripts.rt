@@ -4,13 +4,14 @@ use crate::tests::{equal, same};
 use std::alloc::Global;
 use std::process::Abort;
 use yaml_base::{YAML_ANY_BREAK, YAML_ANY_ENCODING, yaml_error_t, yaml_event_t};
-use yaml_tool::{Script, ScriptError, Settings, read_script, run_answer_t, status};
+use yaml_tool::{Quotes, Script, ScriptError, Settings, read_script, run_answer_t, status};
 
 const SETTINGS: Settings = Settings {
     limit: 1_000_000_000,
     encoding: YAML_ANY_ENCODING,
     canonical: true,
     unicode: false,
+    quotes: Quotes::Single,
     indent: None,
     width: Some(-1),
     line_break: YAML_ANY_BREAK,

@@ -15,7 +15,7 @@ use std::alloc::Global;
 use std::mem::replace;
 use std::process::Abort;
 use yaml_writer::{
-    Date, DocumentEnd, Settings, Time, Timestamp, Writer, YAML_BLOCK_MAPPING_STYLE,
+    Date, DocumentEnd, Quotes, Settings, Time, Timestamp, Writer, YAML_BLOCK_MAPPING_STYLE,
     YAML_BLOCK_SEQUENCE_STYLE, YAML_FLOW_SEQUENCE_STYLE, number_of, value_settings, yaml_error_t,
     yaml_scalar_style_t,
 };
@@ -183,6 +183,15 @@ fn values_are_written(rt: HostRuntime) {
     for table in WRITTEN {
         check_table(&rt, rt.alloc(), value_settings(), table);
     }
+}
+
+#[test]
+fn values_are_written_in_double_quotes(rt: HostRuntime) {
+    let settings = Settings {
+        quotes: Quotes::Double,
+        ..value_settings()
+    };
+    check_table(&rt, rt.alloc(), settings, &("styles", styles::DOUBLE));
 }
 
 #[test]

@@ -1,5 +1,5 @@
-use Rattle.std.proofs.Common.{rules, codes}
-use Rattle.yaml_program.specs.Options.{value_of}
+use Rattle.std.proofs.Common.{rules, codes, subst, sym}
+use Rattle.yaml_program.specs.Options.{IsOn, value_of}
 use Rattle.yaml_program.proofs.Portable.{portable_left, portable_unless}
 use Rattle.yaml_program.proofs.arguments.writer_settings_of.Goals as goal
 
@@ -11,6 +11,7 @@ returns c = record {
       c.is_portable.result (search rules) c.is_portable.ensures none;
   left = λ given. portable_left c.get_flag-3.result c.get_flag-2.result c.is_portable.result c.is_portable.ensures given;
   sequences = search rules;
+  quotes = subst (IsOn (value_of c.args.matches.now (codes "double-quotes"))) (sym c.quotes_of-settings.ensures) (search rules);
   indent = search rules;
   width = search rules;
   others = search rules;

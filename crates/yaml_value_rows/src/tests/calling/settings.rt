@@ -3,11 +3,12 @@ use crate::tests::equal;
 use std::alloc::Global;
 use std::process::Abort;
 use yaml_dump::{
-    Settings, YAML_CRLN_BREAK, YAML_UTF16LE_ENCODING, yaml_emitter_delete, yaml_emitter_initialize,
-    yaml_emitter_set_break, yaml_emitter_set_canonical, yaml_emitter_set_encoding,
-    yaml_emitter_set_indent, yaml_emitter_set_indented_sequences, yaml_emitter_set_line_breaks_1_2,
-    yaml_emitter_set_output_string, yaml_emitter_set_portable, yaml_emitter_set_unicode,
-    yaml_emitter_set_width, yaml_emitter_t, yaml_error_t,
+    Quotes, Settings, YAML_CRLN_BREAK, YAML_UTF16LE_ENCODING, yaml_emitter_delete,
+    yaml_emitter_initialize, yaml_emitter_set_break, yaml_emitter_set_canonical,
+    yaml_emitter_set_encoding, yaml_emitter_set_indent, yaml_emitter_set_indented_sequences,
+    yaml_emitter_set_line_breaks_1_2, yaml_emitter_set_output_string, yaml_emitter_set_portable,
+    yaml_emitter_set_quotes, yaml_emitter_set_unicode, yaml_emitter_set_width, yaml_emitter_t,
+    yaml_error_t,
 };
 
 /// An emitter for a stream of at most `limit` bytes in UTF-16, with lines of at most 120 characters.
@@ -28,6 +29,7 @@ fn emitter_set(alloc: Global, limit: usize) -> Result<yaml_emitter_t<Global>, ya
     yaml_emitter_set_encoding(&mut emitter, YAML_UTF16LE_ENCODING);
     yaml_emitter_set_canonical(&mut emitter, false);
     yaml_emitter_set_unicode(&mut emitter, true);
+    yaml_emitter_set_quotes(&mut emitter, Quotes::Double);
     yaml_emitter_set_indent(&mut emitter, 4);
     yaml_emitter_set_width(&mut emitter, 120);
     yaml_emitter_set_break(&mut emitter, YAML_CRLN_BREAK);

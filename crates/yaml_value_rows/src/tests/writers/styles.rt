@@ -54,6 +54,28 @@ pub(super) const CALLS: &[Call] = &[
     Call::FinishAfterEnd("---\n- a\n...\n--- b\n...\n"),
 ];
 
+/// Where double quotes are asked for, none are single.
+pub(super) const DOUBLE: &[Call] = &[
+    Call::Mapping,
+    Call::Text("country"),
+    Call::Text("no"),
+    Call::Text("it's"),
+    Call::Text("a: b"),
+    Call::Text(""),
+    Call::Text("a\nb"),
+    Call::Text("list"),
+    Call::Flow,
+    Call::Text("a, b"),
+    Call::Styled(YAML_SINGLE_QUOTED_SCALAR_STYLE, "c"),
+    Call::Styled(YAML_PLAIN_SCALAR_STYLE, "\"d\""),
+    Call::Int(5),
+    Call::End,
+    Call::End,
+    Call::Finish(Ok(
+        "---\ncountry: \"no\"\nit's: \"a: b\"\n\"\": |-\n  a\n  b\nlist: [\"a, b\", \"c\", \"\\\"d\\\"\", 5]\n",
+    )),
+];
+
 /// Canonical form asks for double quotes.
 pub(super) const CANONICAL: &[Call] = &[
     Call::Styled(YAML_LITERAL_SCALAR_STYLE, "a"),
