@@ -7,7 +7,8 @@ pub use Rattle.std.specs.Prelude.{Err, Ok, Result, Vec, IfOk, OnOk}
 pub use mathlib.Core.Logic.{∥∥₁_map}
 pub use mir.Syntax.{w128}
 pub use Rattle.yaml_pen.{proofs.Composing.grows_itself, specs.Wrote.Grows}
-pub use Rattle.yaml_serde.specs.{Numbers.HasNumber, Outlets.is_kept, Outlets.HandsOn}
+pub use Rattle.yaml_serde.specs.{Outlets.is_kept, Outlets.HandsOn}
+pub use Rattle.yaml_writer.specs.NumberParts.{HasNumber}
 pub use Rattle.yaml_serde.specs.Documents.{IsWriterEvent, int_call, IsDocument, AppendsDocument, GivesEvents}
 pub use Rattle.yaml_emitter.specs.Given.{seen_settings}
 pub use Rattle.yaml_writer.specs.Given.{given_for_values}

@@ -16,7 +16,11 @@ use Rattle.yaml_emitter.{proofs.standing.Promising.promised, specs.declared.plac
 use Rattle.yaml_pen.{proofs.Composing.grows_then, specs.Page.output_left, specs.Sinks.AppendsFirst}
 use Rattle.std.proofs.KnownBytes.{Appends-nil, Appends-trans}
 use Rattle.yaml_serde.proofs.Handing.{appends_first, failed_is_sent, grows_taken, left_begins}
-use Rattle.yaml_serde.specs.Documents.{AppendsBeginning, GaveEvents, IsPartial, end_call}
+use Rattle.std.specs.Float.Ieee.{Float, Format, nan, inf, fin}
+use Rattle.std.specs.Prelude.{if◌then◌else◌}
+use Rattle.yaml_writer.specs.Floats.{GivesFloat}
+use Rattle.yaml_writer.specs.declared.floats.SpecialFloat.TheVariants.{Infinity, NegativeInfinity, NotANumber}
+use Rattle.yaml_serde.specs.Documents.{AppendsBeginning, GaveEvents, IsPartial, end_call, number_call, special_call}
 use Rattle.yaml_serde.specs.Outlets.{Gave, HandsAll, HandsFirst, HandsNone, HasGiven, Stands, has_failed}
 use Rattle.yaml_serde.specs.declared.error.Error.{Error}
 use Rattle.yaml_serde.specs.declared.outlet.Handing.{Handing}
@@ -217,6 +221,16 @@ module _ {W : Type 0} (contents : W → Option (List ℕ)) (held : Option (List 
   stands_given (Err error) outlet base before after {event} call (inl failed) stands =
       gave_one outlet base before before after event (Some error) call refl refl stands.above failed stands
   stands_given (Err error) outlet base before after {event} call (inr none) stands = stands_same outlet base before after none.1 stands
+
+  -- a float was given, or there was no memory for it
+  pub stands_float : (format : Format) (float : Float) (answer : Result (Unit {0}) yaml_error_t) (outlet : Outlet W) (base : ℕ) (before after : WriterState)
+      → GivesFloat format before float answer after → StandsIn outlet base before → StandsIn outlet base after
+  stands_float format nan answer outlet base before after gave stands =
+      stands_given answer outlet base before after (special_call before NotANumber) gave stands
+  stands_float format (inf negative) answer outlet base before after gave stands =
+      stands_given answer outlet base before after (special_call before (if negative then NegativeInfinity else Infinity)) gave stands
+  stands_float format (fin negative significand exponent) answer outlet base before after gave stands =
+      stands_given answer outlet base before after (number_call before gave.0 gave.1.is_number.valid) gave.2 stands
 
   -- the start of a collection was given, or there was no memory for it
   pub stands_begun : (answer : Result (Unit {0}) yaml_error_t) (outlet : Outlet W) (base : ℕ) (before after : WriterState) (kind : CollectionKind)

@@ -2,4 +2,3 @@ pub mod Common
 pub mod Handing
 pub mod Giving
 pub mod Bytes
-pub mod NumberTexts

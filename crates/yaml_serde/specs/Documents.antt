@@ -11,6 +11,7 @@ use Rattle.yaml_pen.specs.Wrote.{Grows}
 use Rattle.yaml_emitter.specs.Promises.{Promised}
 use Rattle.yaml_emitter.specs.StandsAfter.{StandsAfter}
 use Rattle.yaml_emitter.specs.State.{State}
+use Rattle.yaml_writer.specs.Binary.{bytes_event}
 use Rattle.yaml_writer.specs.Floats.{special_event}
 use Rattle.yaml_writer.specs.Writing.{WriterState, IsStream, StandsTaken, bool_event, closing, end_event, int_event, mapping_event, null_event, number_event}
 use Rattle.yaml_writer.specs.Writing.{opening, sequence_event, text_event}
@@ -25,6 +26,7 @@ pub data IsWriterEvent : Event → Type 0 where
   int_call : (writer : WriterState) (value : ℤ) → IsWriterEvent (int_event writer value)
   number_call : (writer : WriterState) (number : JsonNumber) → is_json_number number ≡ true → IsWriterEvent (number_event writer number)
   special_call : (writer : WriterState) (value : SpecialFloat) → IsWriterEvent (special_event writer value)
+  bytes_call : (writer : WriterState) (value : List ℕ) → IsWriterEvent (bytes_event writer value)
   text_call : (writer : WriterState) (text : Text) → IsWriterEvent (text_event writer text)
   mapping_call : (writer : WriterState) → IsWriterEvent (mapping_event writer block)
   sequence_call : (writer : WriterState) → IsWriterEvent (sequence_event writer block)

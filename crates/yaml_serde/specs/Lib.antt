@@ -1,3 +1,2 @@
 pub mod Documents
-pub mod Numbers
 pub mod Outlets

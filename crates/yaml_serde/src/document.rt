@@ -7,7 +7,7 @@ ghost use Rattle.yaml_pen.specs.Sinks.{AppendsFirst};
 ghost use Rattle.yaml_pen.specs.Wrote.{Grows};
 ghost use Rattle.yaml_writer.specs.Writing.{StandsTaken, WriterState, awaits_node, opening};
 ghost use Rattle.yaml_serde.specs.Documents.{AppendsBeginning, AppendsDocument, GivesEvents, IsDocument};
-ghost use Rattle.yaml_serde.specs.Numbers.{HasNumber};
+ghost use Rattle.yaml_writer.specs.NumberParts.{HasNumber};
 ghost use Rattle.yaml_serde.specs.Outlets.{HandsOn, Stands, some_writer};
 
 use crate::error::Error;
@@ -17,9 +17,7 @@ use std::alloc::Global;
 use std::io::Write;
 use std::marker::{Brand, PhantomData};
 use yaml_pen::write_to_sink;
-use yaml_writer::{
-    SpecialFloat, Writer, YAML_BLOCK_MAPPING_STYLE, YAML_BLOCK_SEQUENCE_STYLE, yaml_error_t,
-};
+use yaml_writer::{Writer, YAML_BLOCK_MAPPING_STYLE, YAML_BLOCK_SEQUENCE_STYLE, yaml_error_t};
 
 /// What stood before a document, which its type names: its writer, the bytes of its sink where they are known, the name of the
 /// reference to it, and whether the document's bytes stay with the writer.
@@ -130,8 +128,18 @@ impl<'a, G: Given, W: Write> Document<'a, G, W> {
         self.settle(given)
     }
 
-    pub(crate) fn special_float(&mut self, value: SpecialFloat) -> Result<(), Error> {
-        let given = self.writer.special_float(value);
+    pub(crate) fn single(&mut self, value: f32) -> Result<(), Error> {
+        let given = self.writer.single(value);
+        self.settle(given)
+    }
+
+    pub(crate) fn float(&mut self, value: f64) -> Result<(), Error> {
+        let given = self.writer.float(value);
+        self.settle(given)
+    }
+
+    pub(crate) fn bytes(&mut self, value: &[u8]) -> Result<(), Error> {
+        let given = self.writer.bytes(value);
         self.settle(given)
     }
 

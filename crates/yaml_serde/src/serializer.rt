@@ -1,15 +1,11 @@
 //! The serializer over a document.
 use crate::document::{Document, Given};
 use crate::error::Error;
-use crate::numbers::{give_double, give_signed, give_single, give_unsigned};
-use base64::engine::general_purpose::STANDARD;
+use crate::numbers::{give_signed, give_unsigned};
 use serde::{Case, NameKind, Serializer};
 use std::alloc::Global;
 use std::fmt::Display;
 use std::io::Write;
-
-/// The tag of bytes, which stand as base64.
-const BINARY_TAG: &str = "tag:yaml.org,2002:binary";
 
 /// What the next call is about.
 #[derive(Clone, Copy)]
@@ -142,12 +138,12 @@ impl<G: Given, W: Write> Serializer for ValueSerializer<'_, G, W> {
 
     fn f32(&mut self, v: f32) -> Result<(), Error> {
         self.ready()?;
-        give_single(&mut self.document, v)
+        self.document.single(v)
     }
 
     fn f64(&mut self, v: f64) -> Result<(), Error> {
         self.ready()?;
-        give_double(&mut self.document, v)
+        self.document.float(v)
     }
 
     fn char(&mut self, v: char) -> Result<(), Error> {
@@ -165,9 +161,7 @@ impl<G: Given, W: Write> Serializer for ValueSerializer<'_, G, W> {
             return Err(Error::TwoTags);
         }
         self.ready()?;
-        let text = STANDARD.encode(self.alloc, v)?;
-        self.document.tagged(BINARY_TAG)?;
-        self.document.text(text.as_str())
+        self.document.bytes(v)
     }
 
     fn unit(&mut self) -> Result<(), Error> {

@@ -16,7 +16,7 @@ use Rattle.yaml_writer.proofs.DateLemmas.{DateSays, date_says, date_passes, behi
 use Rattle.toml_datetime.specs.Valid.{magnitude}
 use Rattle.toml_datetime.specs.declared.datetime.{Date.Date, Time.Time, Offset.Offset, Datetime.Datetime}
 use Rattle.toml_datetime.specs.declared.datetime.Offset.TheVariants.{Z, Custom}
-use Rattle.yaml_toml.specs.Dates.{date_of, is_west, offset_of, time_by, time_of, moment_by, moment_of}
+use Rattle.yaml_writer.specs.TomlDates.{date_of, is_west, offset_of, time_by, time_of, moment_by, moment_of}
 
 -- ---- dates by the core schema
 

@@ -17,7 +17,7 @@ use Rattle.toml_datetime.specs.Text.{datetime_text}
 use Rattle.toml_datetime.specs.declared.datetime.Datetime.{Datetime}
 use Rattle.toml_ordered.specs.Data as toml
 use Rattle.toml_ordered.specs.declared.tree.Origin.TheVariants.{Header}
-use Rattle.yaml_toml.specs.Dates.{moment_of}
+use Rattle.yaml_writer.specs.TomlDates.{moment_of}
 use Rattle.yaml_toml.specs.Events.{json_word, integer_content, decimal_content, infinite, special_content, moment_content, date_content, toml_events, items_events, keys_events}
 
 -- a value as a node; items, and keys with their values, after others

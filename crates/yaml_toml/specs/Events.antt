@@ -17,7 +17,7 @@ use Rattle.yaml_writer.specs.Times.{Moment, timestamp_text}
 use Rattle.yaml_writer.specs.Writing.{float_tag, timestamp_tag}
 use Rattle.yaml_writer.specs.declared.floats.SpecialFloat.{SpecialFloat}
 use Rattle.yaml_writer.specs.declared.floats.SpecialFloat.TheVariants.{Infinity, NegativeInfinity, NotANumber}
-use Rattle.yaml_toml.specs.Dates.{moment_of}
+use Rattle.yaml_writer.specs.TomlDates.{moment_of}
 
 -- a decimal as JSON spells numbers: without the `+` that may begin it
 abbrev pub json_word : List ℕ → List ℕ

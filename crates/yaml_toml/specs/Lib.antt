@@ -1,4 +1,3 @@
-pub mod Dates
 pub mod Events
 pub mod Means
 pub mod Walk

@@ -17,7 +17,7 @@ use Rattle.yaml_base.specs.values.SchemaOf11.{resolved_by_11}
 use Rattle.yaml_json.specs.Means.{Schema, scalar_meant, in_order, pairs_in_order, MeansNumber, MeansText, plain_document}
 use Rattle.yaml_writer.specs.Times.{Moment, moment_in}
 use Rattle.yaml_writer.specs.Writing.{IsStream, opening, closing, timestamp_tag}
-use Rattle.yaml_toml.specs.Dates.{moment_of}
+use Rattle.yaml_writer.specs.TomlDates.{moment_of}
 use Rattle.yaml_toml.specs.Events.{json_word, toml_events}
 
 -- a schema, and what it takes a date for that stands plain: a timestamp by YAML 1.1, a text by the core schema

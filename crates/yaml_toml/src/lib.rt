@@ -2,7 +2,6 @@
 //! the order in which the document first defines them. Comments are dropped.
 #![tactic(auto)]
 
-mod dates;
 mod error;
 mod scalars;
 mod settings;

@@ -1,18 +1,18 @@
 //! Scalars of TOML, given to a writer.
-ghost use Rattle.std.specs.Prelude.{◌≡◌, OnOk, chars};
+ghost use Rattle.std.specs.Prelude.{◌≡◌, OnOk, chars, option_map};
 ghost use Rattle.toml_datetime.specs.Text.{datetime_text};
 ghost use Rattle.yaml_base.specs.Event.{scalar};
 ghost use Rattle.yaml_json.specs.JsonEvents.{bool_content, number_content, text_content};
 ghost use Rattle.yaml_json.specs.Wrote.{IsBare, WroteEvent};
-ghost use Rattle.yaml_toml.specs.Dates.{moment_of};
 ghost use Rattle.yaml_toml.specs.Events.{date_content, decimal_content, integer_content, json_word, special_content};
 ghost use Rattle.yaml_toml.specs.Walk.{Answers, IsJsonWord};
+ghost use Rattle.yaml_writer.specs.SeenTimes.{seen_timestamp};
+ghost use Rattle.yaml_writer.specs.TomlDates.{moment_of};
 
-use crate::dates::timestamp_of;
 use std::alloc::{Allocator, Global};
 use toml_datetime::Datetime;
 use toml_parser::text::{first, skip};
-use yaml_writer::{Number, SpecialFloat, Writer, number_of, yaml_error_t};
+use yaml_writer::{Number, SpecialFloat, Timestamp, Writer, number_of, yaml_error_t};
 
 pub(crate) fn write_bool<A: Allocator + Copy>(
     writer: &mut Writer<A>,
@@ -95,6 +95,13 @@ pub(crate) fn write_decimal<A: Allocator + Copy>(
         // The characters of a float are a number of JSON, so this isn't reached.
         None => Err(yaml_error_t::Memory),
     }
+}
+
+/// A date, or a date and a time with its offset, as a timestamp of YAML 1.1, where it has one.
+fn timestamp_of(datetime: &Datetime) -> Option<Timestamp>
+    ensures { option_map seen_timestamp result ≡ moment_of datetime.now }
+{
+    Timestamp::try_from(*datetime).ok()
 }
 
 /// Writes a date or a time: a timestamp, where YAML 1.1 has it, else a text.

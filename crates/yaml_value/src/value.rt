@@ -21,7 +21,8 @@ pub enum Value<A: Allocator> {
     Text(String<A>),
     /// Values in order.
     List(Vec<Value<A>, A>),
-    /// Pairs of a key and its value in order; equal keys may stand more than once.
+    /// Pairs of a key and its value in order; equal keys may stand more than once. The order counts: the same pairs in another are
+    /// another value, with other canonical bytes and another digest.
     Map(Vec<(Value<A>, Value<A>), A>),
 }
 

@@ -4,6 +4,8 @@ pub mod DoubtfulStarts
 pub mod TextBytes
 pub mod ValidNumbers
 pub mod PartLemmas
+pub mod NumberTexts
+pub mod FloatLemmas
 pub mod PlaceCuts
 pub mod SpellingLemmas
 pub mod UnchangedSpellings

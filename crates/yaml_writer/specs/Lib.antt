@@ -6,6 +6,7 @@ pub mod Given
 pub mod Writing
 pub mod Unfinished
 pub mod Floats
+pub mod Binary
 pub mod Inside
 pub mod PlainTexts
 pub mod ReadNumbers
@@ -13,6 +14,8 @@ pub mod Dates
 pub mod SeenDates
 pub mod Times
 pub mod SeenTimes
+pub mod TomlDates
+pub mod CivilDates
 pub mod PlainTags
 pub mod TypedEvents
 pub mod Headings

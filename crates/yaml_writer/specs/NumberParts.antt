@@ -53,6 +53,10 @@ pub record IsNumber (text : Text) (number : JsonNumber) : Type 0 where
   pub valid : is_json_number number ≡ true
   pub text_is : text ≡ json_text number
 
+-- a text is some number of JSON
+abbrev pub HasNumber : Text → Type 0
+HasNumber text = (number : JsonNumber) × IsNumber text number
+
 -- a text is none
 abbrev pub IsNoNumber : Text → Type 0
 IsNoNumber text = (number : JsonNumber) → IsNumber text number → ⊥

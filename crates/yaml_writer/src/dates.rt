@@ -5,6 +5,8 @@ ghost use Rattle.yaml_writer.specs.Dates.{calendar_date, is_calendar_date};
 
 use crate::digits::{push_four_digits, push_two_digits};
 use std::alloc::{AllocError, Allocator};
+use std::error::Error;
+use std::fmt;
 
 /// A date of the Gregorian calendar, of the years 1 to 9999.
 #[derive(Clone, Copy, PartialEq, Eq, Debug)]
@@ -16,6 +18,18 @@ pub struct Date {
     pub day: u8,
     pub ghost is_date: { is_calendar_date (calendar_date year month day) ≡ true },
 }
+
+/// A date or a time that YAML 1.1 has no timestamp of.
+#[derive(Clone, Copy, PartialEq, Eq, Debug)]
+pub struct NoTimestamp;
+
+impl fmt::Display for NoTimestamp {
+    fn fmt<W: fmt::Write>(&self, f: &mut fmt::Formatter<W>) -> fmt::Result {
+        f.write_str("YAML 1.1 has no such timestamp")
+    }
+}
+
+impl Error for NoTimestamp {}
 
 fn is_leap(year: u16) -> bool
     ensures { result ≡ dates.is_leap year }

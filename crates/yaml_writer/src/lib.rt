@@ -1,6 +1,8 @@
 //! Values, written as YAML, each by one call; which texts may stand plain, and how numbers are spelled.
 #![tactic(auto)]
 
+mod binary;
+mod civil_dates;
 mod collections;
 mod dates;
 mod digits;
@@ -19,11 +21,12 @@ mod tags;
 mod texts;
 mod times;
 mod timestamps;
+mod toml_dates;
 mod typed;
 mod words;
 mod writer;
 
-pub use dates::Date;
+pub use dates::{Date, NoTimestamp};
 pub use ends::DocumentEnd;
 pub use floats::SpecialFloat;
 pub use headings::comment_lines;

@@ -44,7 +44,7 @@ pub(crate) fn tag_of_number(number: &Number<'_>) -> &'static str
 }
 
 /// How a text is to stand.
-fn style_of(text: &str) -> yaml_scalar_style_t
+pub(crate) fn style_of(text: &str) -> yaml_scalar_style_t
     ensures { seen_scalar_style result ≡ text_style (chars text.now) }
 {
     if holds_break(text) {

@@ -11,3 +11,5 @@ pub(crate) const YAML_INT_TAG: &str = "tag:yaml.org,2002:int";
 pub(crate) const YAML_FLOAT_TAG: &str = "tag:yaml.org,2002:float";
 
 pub(crate) const YAML_TIMESTAMP_TAG: &str = "tag:yaml.org,2002:timestamp";
+
+pub(crate) const YAML_BINARY_TAG: &str = "tag:yaml.org,2002:binary";

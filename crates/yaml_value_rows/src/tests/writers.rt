@@ -44,6 +44,9 @@ enum Call {
     Styled(yaml_scalar_style_t, &'static str),
     /// The number of JSON that a text is.
     Number(&'static str),
+    Float(f64),
+    Single(f32),
+    Bytes(&'static [u8]),
     /// A year, a month and a day.
     Date(u16, u8, u8),
     /// 14 December 2001 at this hour, minute and second of UTC.
@@ -97,6 +100,9 @@ fn give(writer: &mut Writer<Global>, call: &Call) -> Result<(), yaml_error_t> {
         Call::Text(text) => writer.text(text),
         Call::Styled(style, text) => writer.text_styled(*style, text),
         Call::Number(text) => give_number(writer, text),
+        Call::Float(value) => writer.float(*value),
+        Call::Single(value) => writer.single(*value),
+        Call::Bytes(value) => writer.bytes(value),
         Call::Date(year, month, day) => {
             give_timestamp(writer, Date::new(*year, *month, *day), None)
         }

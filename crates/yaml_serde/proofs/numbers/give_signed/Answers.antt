@@ -1,6 +1,6 @@
 use Rattle.yaml_serde.proofs.Common.{ap, subst, sym, ◌∙◌, signed_decimal, w128, HasNumber}
 use Rattle.std.proofs.lemmas.Int.{to_z-of_z}
-use Rattle.yaml_serde.proofs.NumberTexts.{has_signed, signed_fits}
+use Rattle.yaml_writer.proofs.NumberTexts.{has_signed, signed_fits}
 use Rattle.yaml_serde.proofs.numbers.give_signed.Goals as goal
 
 pub number-requires : goal.number-requires

@@ -1,5 +1,5 @@
 use Rattle.yaml_serde.proofs.Common.{subst, sym, arith, HasNumber}
-use Rattle.yaml_serde.proofs.NumberTexts.{has_decimal}
+use Rattle.yaml_writer.proofs.NumberTexts.{has_decimal}
 use Rattle.yaml_serde.proofs.numbers.give_unsigned.Goals as goal
 
 pub number-requires : goal.number-requires

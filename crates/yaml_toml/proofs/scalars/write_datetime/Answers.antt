@@ -3,7 +3,7 @@ use Rattle.std.proofs.lemmas.Grind.{common_steps}
 use Rattle.toml_datetime.specs.Text.{datetime_text}
 use Rattle.yaml_json.proofs.WroteLemmas.{on_ok, wrote_event, text_is}
 use Rattle.yaml_toml.proofs.Answering.{answers_event, timestamp_is}
-use Rattle.yaml_toml.specs.Dates.{moment_of}
+use Rattle.yaml_writer.specs.TomlDates.{moment_of}
 use Rattle.yaml_toml.specs.Events.{date_content}
 use Rattle.yaml_writer.specs.SeenTimes.{seen_timestamp}
 use Rattle.yaml_writer.specs.Times.{Moment}

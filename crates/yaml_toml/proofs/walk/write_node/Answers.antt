@@ -11,7 +11,7 @@ use Rattle.toml_ordered.proofs.Trees.{node_view-Array, node_view-Table, node_vie
 use Rattle.yaml_json.proofs.WroteLemmas.{on_ok}
 use Rattle.yaml_writer.specs.declared.floats.SpecialFloat.{SpecialFloat}
 use Rattle.yaml_writer.specs.declared.floats.SpecialFloat.TheVariants.{NotANumber}
-use Rattle.yaml_toml.specs.Dates.{moment_of}
+use Rattle.yaml_writer.specs.TomlDates.{moment_of}
 use Rattle.yaml_toml.specs.Events.{date_content, decimal_content, infinite, integer_content, special_content}
 use Rattle.yaml_toml.specs.Walk.{HasNumbers, PendingHaveNumbers, Steps, kinds_of, pending, pending_size, IsJsonWord, FewDigits}
 use Rattle.yaml_toml.proofs.Integers.{few_digits}

@@ -221,3 +221,71 @@ pub(super) const CANONICAL: &[Call] = &[
         "---\n[\n  !!timestamp \"2002-12-14\",\n  !!timestamp \"2001-12-14T12:00:00Z\",\n]\n",
     )),
 ];
+
+/// A year, a month and a day, and whether it is a date of the years 1 to 9999.
+type PartsRow = (i16, i8, i8, bool);
+
+/// A date of `jiff` is the same date.
+fn check_civil_date(rt: &impl Abort, row: &PartsRow) {
+    let civil = jiff::civil::Date::new(row.0, row.1, row.2).expect(rt, "there is such a date");
+    let wanted = if row.3 {
+        Date::new(
+            row.0.unsigned_abs(),
+            row.1.unsigned_abs(),
+            row.2.unsigned_abs(),
+        )
+    } else {
+        None
+    };
+    equal(rt, &Date::try_from(civil).ok(), &wanted);
+}
+
+const CIVIL_DATES: &[PartsRow] = &[
+    (2001, 12, 14, true),
+    (1, 1, 1, true),
+    (9999, 12, 31, true),
+    (2000, 2, 29, true),
+    (0, 12, 31, false),
+    (-1, 1, 1, false),
+];
+
+/// A date of TOML is the same date, where there is one.
+fn check_toml_date(rt: &impl Abort, year: u16, month: u8, day: u8) {
+    let date = toml_datetime::Date { year, month, day };
+    equal(rt, &Date::try_from(date).ok(), &Date::new(year, month, day));
+}
+
+/// A text of a date or a time of TOML, and that of its timestamp; it is empty where there is none.
+type TomlRow = (&'static str, &'static str);
+
+fn check_toml_datetime(rt: &impl Abort, alloc: Global, row: &TomlRow) {
+    let datetime = row.0.parse::<toml_datetime::Datetime>();
+    let datetime = datetime.expect(rt, "there is such a date");
+    match Timestamp::try_from(datetime) {
+        Ok(timestamp) => check_text(rt, alloc, &timestamp, row.1),
+        Err(_) => equal(rt, &"", &row.1),
+    }
+}
+
+const TOML_DATETIMES: &[TomlRow] = &[
+    ("2001-12-14", "2001-12-14"),
+    ("2001-12-14T21:59:43.1Z", "2001-12-14T21:59:43.100Z"),
+    ("2001-12-14 21:59:43-05:30", "2001-12-14T21:59:43-05:30"),
+    ("2001-12-14T21:59:43", ""),
+    ("21:59:43", ""),
+    ("0000-12-14", ""),
+    ("2001-12-31T23:59:60Z", ""),
+];
+
+#[test]
+fn dates_of_other_crates_are_dates(rt: HostRuntime) {
+    for row in CIVIL_DATES {
+        check_civil_date(&rt, row);
+    }
+    check_toml_date(&rt, 2001, 12, 14);
+    check_toml_date(&rt, 2001, 2, 29);
+    check_toml_date(&rt, 0, 1, 1);
+    for row in TOML_DATETIMES {
+        check_toml_datetime(&rt, rt.alloc(), row);
+    }
+}

@@ -1,13 +1,13 @@
-use Rattle.yaml_serde.{proofs.Giving.stands_given, specs.Documents.special_call}
-use Rattle.yaml_serde.proofs.document.Document.special_float.Goals as goal
+use Rattle.yaml_serde.{proofs.Giving.stands_given, specs.Documents.bytes_call}
+use Rattle.yaml_serde.proofs.document.Document.bytes.Goals as goal
 
 pub invariant_of-self : goal.invariant_of-self
 invariant_of-self g c =
     let self = c.args.self.now in
-    let answer = c.special_float-given in
+    let answer = c.bytes-given in
     record {
       stands =
           stands_given g.W.Write.contents g.G.Given.held g.G.Given.name g.G.Given.keeps g.G.Given.start
           answer.result self.outlet self.base self.writer answer.new.self
-          (special_call self.writer c.args.value) answer.ensures self.stands;
+          (bytes_call self.writer c.args.value.now) answer.ensures self.stands;
     }

@@ -1,11 +1,14 @@
-//! Dates and times of TOML that YAML has as timestamps.
+//! Dates and times of TOML, as timestamps.
 ghost use Rattle.std.specs.Prelude.{◌≡◌, option_map};
-ghost use Rattle.yaml_toml.specs.Dates as spec;
+ghost use Rattle.yaml_writer.specs.TomlDates as spec;
 ghost use Rattle.yaml_writer.specs.SeenDates.{seen_date};
 ghost use Rattle.yaml_writer.specs.SeenTimes.{seen_offset, seen_time, seen_timestamp};
 
+use crate::dates::{Date, NoTimestamp};
+use crate::numbers::Sign;
+use crate::times::{Offset, Time};
+use crate::timestamps::Timestamp;
 use toml_datetime::Datetime;
-use yaml_writer::{Date, Offset, Sign, Time, Timestamp};
 
 fn date_of(date: toml_datetime::Date) -> Option<Date>
     ensures { option_map seen_date result ≡ spec.date_of date }
@@ -50,9 +53,7 @@ fn time_of(time: toml_datetime::Time, offset: toml_datetime::Offset) -> Option<T
     }
 }
 
-/// A date, or a date and a time with its offset, as a timestamp of YAML; `None` for a time that has no offset or no date, and for
-/// what YAML 1.1 has no timestamp of: the year 0, and a second 60.
-pub(crate) fn timestamp_of(datetime: &Datetime) -> Option<Timestamp>
+fn timestamp_of(datetime: &Datetime) -> Option<Timestamp>
     ensures { option_map seen_timestamp result ≡ spec.moment_of datetime.now }
 {
     let date = match datetime.date {
@@ -72,5 +73,43 @@ pub(crate) fn timestamp_of(datetime: &Datetime) -> Option<Timestamp>
             None => None,
         },
         _ => None,
+    }
+}
+
+impl TryFrom<toml_datetime::Date> for Date {
+    type Error = NoTimestamp;
+
+    ghost use Rattle.std.specs.Prelude.{◌≡◌, option_map};
+    ghost use Rattle.std.specs.Result.{result_ok};
+    ghost use Rattle.yaml_writer.specs.SeenDates.{seen_date};
+    ghost use Rattle.yaml_writer.specs.TomlDates.{date_of};
+
+    ghost try_from_gives = { λ date made. option_map seen_date (result_ok made) ≡ date_of date };
+
+    /// The same date.
+    ///
+    /// # Errors
+    /// `NoTimestamp` where the calendar has no such day, or the year isn't one of 1 to 9999.
+    fn try_from(date: toml_datetime::Date) -> Result<Date, NoTimestamp> {
+        date_of(date).ok_or(NoTimestamp)
+    }
+}
+
+impl TryFrom<Datetime> for Timestamp {
+    type Error = NoTimestamp;
+
+    ghost use Rattle.std.specs.Prelude.{◌≡◌, option_map};
+    ghost use Rattle.std.specs.Result.{result_ok};
+    ghost use Rattle.yaml_writer.specs.SeenTimes.{seen_timestamp};
+    ghost use Rattle.yaml_writer.specs.TomlDates.{moment_of};
+
+    ghost try_from_gives = { λ datetime made. option_map seen_timestamp (result_ok made) ≡ moment_of datetime };
+
+    /// The same date, or the same date and time with its offset.
+    ///
+    /// # Errors
+    /// `NoTimestamp` for a time that has no offset or no date, and for what YAML 1.1 has no timestamp of: the year 0, and a second 60.
+    fn try_from(datetime: Datetime) -> Result<Timestamp, NoTimestamp> {
+        timestamp_of(&datetime).ok_or(NoTimestamp)
     }
 }

@@ -1,9 +1,11 @@
 -- Texts that are numbers of JSON: what is printed of integers and of finite floats.
-use Rattle.yaml_serde.proofs.Common.{ℕ, ◌<◌, ◌≤◌, Option, None, Some, pos, length, Bool, false, true, [], ◌++◌, ◌∷◌, refl, ◌≡◌, append-nil, append_assoc, ap}
-use Rattle.yaml_serde.proofs.Common.{sym, ◌∙◌, arith, signed_decimal, w128, Text, HasNumber}
+use Rattle.yaml_base.proofs.Common.{ℕ, ◌<◌, ◌≤◌, Option, None, Some, pos, length, Bool, false, true, [], ◌++◌, ◌∷◌, refl, ◌≡◌, append-nil, append_assoc, ap}
+use Rattle.yaml_base.proofs.Common.{sym, ◌∙◌, arith, Text}
+use mir.Syntax.{w128}
+use Rattle.yaml_writer.specs.NumberParts.{HasNumber}
 use Rattle.std.{proofs.Common.FitsSigned, proofs.Common.ap₂, proofs.Common.get_or, proofs.lemmas.Fmt.decimal_by_steps_wide}
 use Rattle.std.{proofs.lemmas.Fmt.decimal_is_IsNumeral_wide, proofs.lemmas.Fmt.decimal_digit, proofs.lemmas.List.nil_from_length, specs.Char.digit_value}
-use Rattle.std.{specs.Fmt.decimal, specs.Fmt.sign_text, specs.Int.Signed.mag, specs.List.list_all, specs.Str.Parse.AllDigits}
+use Rattle.std.{specs.Fmt.decimal, specs.Fmt.sign_text, specs.Fmt.signed_decimal, specs.Int.Signed.mag, specs.List.list_all, specs.Str.Parse.AllDigits}
 use Rattle.std.proofs.lemmas.Bool.{eqb-true, lt-ltb, and_from, or_right, not_from_false}
 use Rattle.std.specs.Prelude.{codes, negsuc, not, suc, zero, ℤ, ◌%◌, ◌&&◌, ◌+◌, ◌/◌, ◌^◌, ◌||◌, if◌then◌else◌, slice_index, ◌==◌}
 use Rattle.fast_float.specs.Text.{Parts, exponent_text as printed_exponent}

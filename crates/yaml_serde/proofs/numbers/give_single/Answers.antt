@@ -1,5 +1,0 @@
-use Rattle.yaml_serde.proofs.NumberTexts.{has_plain}
-use Rattle.yaml_serde.proofs.numbers.give_single.Goals as goal
-
-pub number-requires : goal.number-requires
-number-requires g c = has_plain c.format_finite.result.now c.format_finite.ensures.plain
