@@ -1,5 +1,6 @@
 pub mod Answers
 pub mod Arena
+pub mod CanonicalAnswers
 pub mod Emission
 pub mod EventRecords
 pub mod GivenSettings

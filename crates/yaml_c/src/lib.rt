@@ -3,6 +3,7 @@
 
 mod arena;
 mod buffers;
+mod canonical;
 mod emitters;
 mod events;
 mod giving;

@@ -21,3 +21,5 @@ pub(crate) const DUPLICATE_NAME: i32 = 7;
 pub(crate) const BAD_EVENT: i32 = 8;
 
 pub(crate) const BAD_SETTINGS: i32 = 9;
+
+pub(crate) const NOT_CANONICAL: i32 = 10;
