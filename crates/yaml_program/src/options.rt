@@ -35,9 +35,11 @@ macro_rules! flags {
     ),
     (
         "canonical",
-        "The canonical form: brackets, double quotes and all tags",
+        "Canonical mode: brackets, double quotes, a tag for each scalar but texts",
         concat!(
-        "Writes the canonical form: brackets, double quotes and all tags.{n}Example: ", $program, " --canonical in", $ending),
+        "Writes in canonical mode: brackets, double quotes, and a tag for each scalar but texts. Texts and ", $collections, " have no tag, so \
+        these aren't the canonical bytes of a typed value, in which each node has its own: those are what write_canonical of the crate \
+        yaml_value gives, and what yaml_is_canonical of the library yaml_c takes.{n}Example: ", $program, " --canonical in", $ending),
     ),
     (
         "no-portable",
