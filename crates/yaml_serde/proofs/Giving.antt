@@ -1,5 +1,5 @@
 -- A document goes on with each call of its writer.
-use Rattle.yaml_serde.proofs.Common.{ℕ, ◌<◌, ◌≤◌, IfOk, OnOk, Option, None, Some, Result, Err, Ok, Vec, length, take, Bool, false, true, List, [], ◌++◌, ◌∷◌}
+use Rattle.yaml_serde.proofs.Common.{ℕ, ◌<◌, ◌≤◌, OnOk, Option, None, Some, Result, Err, Ok, length, take, Bool, false, true, List, [], ◌++◌, ◌∷◌}
 use Rattle.yaml_serde.proofs.Common.{refl, ◌≡◌, append-nil, append_assoc, ap, subst, sym, ◌∙◌, arith, Appends, All, ∥∥₁_map, Text, Event, Settings, State}
 use Rattle.yaml_serde.proofs.Common.{grows_itself, Grows, IsWriterEvent, IsDocument, AppendsDocument, GivesEvents, is_kept, HandsOn, WriterState}
 use Rattle.yaml_serde.proofs.Common.{opening, closing, with_collection, awaits_node, StandsTaken, TakesBytes, IsStream, Finishes}
@@ -20,7 +20,7 @@ use Rattle.std.specs.Float.Ieee.{Float, Format, nan, inf, fin}
 use Rattle.std.specs.Prelude.{if◌then◌else◌}
 use Rattle.yaml_writer.specs.Floats.{GivesFloat}
 use Rattle.yaml_writer.specs.declared.floats.SpecialFloat.TheVariants.{Infinity, NegativeInfinity, NotANumber}
-use Rattle.yaml_serde.specs.Documents.{AppendsBeginning, GaveEvents, IsPartial, end_call, number_call, special_call}
+use Rattle.yaml_serde.specs.Documents.{AppendsBeginning, GaveEvents, IsPartial, SendsEvents, end_call, number_call, special_call}
 use Rattle.yaml_serde.specs.Outlets.{Gave, HandsAll, HandsFirst, HandsNone, HasGiven, Stands, has_failed}
 use Rattle.yaml_serde.specs.declared.error.Error.{Error}
 use Rattle.yaml_serde.specs.declared.outlet.Handing.{Handing}
@@ -75,25 +75,55 @@ gave_document given start emitter bytes rest stands gave finishes =
     (gave.events, gave.are, finishes given (opening ++ gave.events) bytes (gave.stands given opening [] stands))
 
 -- the document that was asked for
-pub finished_by : {A E : Type 0} (given : Settings) (start : State) (answer : Result (Vec ℕ A) E) → StandsTaken given opening [] start
-    → IfOk answer (λ bytes. (any : Settings) → StandsTaken any opening [] start → IsDocument any bytes.items)
-    → IfOk answer (λ bytes. IsDocument given bytes.items)
-finished_by given start (Ok bytes) stands whole = whole given stands
-finished_by given start (Err error) stands whole = tt
+pub finished_document : (given : Settings) (start emitter : State) (bytes : List ℕ) → StandsTaken given opening [] start → GivesEvents start emitter
+    → Finishes emitter bytes → IsDocument given bytes
+finished_document given start emitter bytes began gives finishes =
+    ∥∥₁_map gives (λ gave. gave_document given start emitter [] bytes began gave finishes)
 
--- the document that was asked for, handed on
-pub sent_by : {E : Type 0} (held now : Option (List ℕ)) (given : Settings) (start : State) (answer : Result (Unit {0}) E)
-    → StandsTaken given opening [] start → OnOk answer ((any : Settings) → StandsTaken any opening [] start → AppendsDocument any held now)
+-- what is left was handed on, too
+sent_document : (given : Settings) (held mid now : Option (List ℕ)) (start emitter : State) (rest : List ℕ) → StandsTaken given opening [] start
+    → SendsEvents held start mid emitter → Finishes emitter rest → Appends mid now rest → AppendsDocument given held now
+sent_document given held mid now start emitter rest began sends finishes appends = ∥∥₁_map sends whole
+  where
+    whole : (bytes : List ℕ) × Appends held mid bytes × GaveEvents start bytes emitter → (bytes : List ℕ) × Appends held now bytes × IsDocument given bytes
+    whole sent = (
+      sent.0 ++ rest,
+      Appends-trans held mid now sent.0 rest sent.1 appends,
+      ∣ gave_document given start emitter sent.0 rest began sent.2 finishes ∣₁,
+    )
+
+-- or a beginning of it was
+sent_beginning : (given : Settings) (held mid now : Option (List ℕ)) (start emitter : State) (rest : List ℕ) → StandsTaken given opening [] start
+    → SendsEvents held start mid emitter → Finishes emitter rest → AppendsFirst mid now rest → AppendsBeginning given held now
+sent_beginning given held mid now start emitter rest began sends finishes first = ∥∥₁_map sends part
+  where
+    part : (bytes : List ℕ) × Appends held mid bytes × GaveEvents start bytes emitter
+        → (bytes : List ℕ) × AppendsFirst held now bytes × ((bytes ≡ []) ⊎ (IsPartial given bytes ⊎ IsDocument given bytes))
+    part sent = (
+      sent.0 ++ rest,
+      appends_first held mid now sent.0 rest sent.1 first,
+      inr (inr ∣ gave_document given start emitter sent.0 rest began sent.2 finishes ∣₁),
+    )
+
+-- what an answer tells of both
+pub written_by : {E : Type 0} (answer : Result (Unit {0}) E) (given : Settings) (held mid now : Option (List ℕ)) (start emitter : State) (rest : List ℕ)
+    → StandsTaken given opening [] start → SendsEvents held start mid emitter → Finishes emitter rest → OnOk answer (Appends mid now rest)
     → OnOk answer (AppendsDocument given held now)
-sent_by held now given start (Ok done) stands whole = whole given stands
-sent_by held now given start (Err error) stands whole = tt
+written_by (Ok done) given held mid now start emitter rest began sends finishes appends =
+    sent_document given held mid now start emitter rest began sends finishes appends
+written_by (Err error) given held mid now start emitter rest began sends finishes appends = tt
 
--- or a beginning of it
-pub begun_by : {E : Type 0} (held now : Option (List ℕ)) (given : Settings) (start : State) (answer : Result (Unit {0}) E)
-    → StandsTaken given opening [] start → OnErr answer ((any : Settings) → StandsTaken any opening [] start → AppendsBeginning any held now)
+pub begun_by : {E : Type 0} (answer : Result (Unit {0}) E) (given : Settings) (held mid now : Option (List ℕ)) (start emitter : State) (rest : List ℕ)
+    → StandsTaken given opening [] start → SendsEvents held start mid emitter → Finishes emitter rest → OnErr answer (AppendsFirst mid now rest)
     → OnErr answer (AppendsBeginning given held now)
-begun_by held now given start (Ok done) stands part = tt
-begun_by held now given start (Err error) stands part = part given stands
+begun_by (Ok done) given held mid now start emitter rest began sends finishes first = tt
+begun_by (Err error) given held mid now start emitter rest began sends finishes first =
+    sent_beginning given held mid now start emitter rest began sends finishes first
+
+-- what holds after any error
+pub fails_with : {E P : Type 0} (answer : Result (Unit {0}) E) → P → OnErr answer P
+fails_with (Ok done) holds = tt
+fails_with (Err error) holds = holds
 
 -- nothing of it
 pub begins_nothing : (given : Settings) (held : Option (List ℕ)) → AppendsBeginning given held held
@@ -386,11 +416,6 @@ module _ {W : Type 0} (contents : W → Option (List ℕ)) (held : Option (List 
         output = prefix_had start.emitter.page.output writer.emitter.page.output (∥∥₁_map stands.given (λ given. given.gave.grows.output));
       }
 
-  pub kept_document : (given : Settings) (outlet : Outlet W) (base : ℕ) (writer : WriterState) (rest : List ℕ) → keeps ≡ true
-      → StandsTaken given opening [] start.emitter → StandsIn outlet base writer → Finishes writer.emitter rest → IsDocument given rest
-  kept_document given outlet base writer rest kept began stands finishes =
-      ∥∥₁_map (kept_gives outlet base writer kept stands) (λ gave. gave_document given start.emitter writer.emitter [] rest began gave finishes)
-
   -- where the sink didn't fail it has what was taken
   sends_taken : (outlet : Outlet W) (emitter : State) → has_failed outlet.handing ≡ false → (gave : Given outlet emitter)
       → Appends held (contents outlet.sink.now) gave.taken
@@ -398,48 +423,10 @@ module _ {W : Type 0} (contents : W → Option (List ℕ)) (held : Option (List 
       subst (Appends held (contents outlet.sink.now))
       (ap (λ (l : List ℕ). gave.taken ++ l) (gave.handed.none unfailed) ∙ append-nil gave.taken) gave.handed.sends
 
-  -- what is left was handed on, too
-  pub sent_document : (given : Settings) (outlet : Outlet W) (now : W) (base : ℕ) (writer : WriterState) (rest : List ℕ)
-      → has_failed outlet.handing ≡ false → StandsTaken given opening [] start.emitter → StandsIn outlet base writer → Finishes writer.emitter rest
-      → Appends (contents outlet.sink.now) (contents now) rest → AppendsDocument given held (contents now)
-  sent_document given outlet now base writer rest unfailed began stands finishes appends = ∥∥₁_map stands.given whole
-    where
-      whole : Given outlet writer.emitter → (bytes : List ℕ) × Appends held (contents now) bytes × IsDocument given bytes
-      whole gave = (
-        gave.taken ++ rest,
-        Appends-trans held (contents outlet.sink.now) (contents now) gave.taken rest (sends_taken outlet writer.emitter unfailed gave) appends,
-        ∣ gave_document given start.emitter writer.emitter gave.taken rest began gave.gave finishes ∣₁,
-      )
-
-  -- or a beginning of it was
-  pub sent_beginning : (given : Settings) (outlet : Outlet W) (now : W) (base : ℕ) (writer : WriterState) (rest : List ℕ)
-      → has_failed outlet.handing ≡ false → StandsTaken given opening [] start.emitter → StandsIn outlet base writer → Finishes writer.emitter rest
-      → AppendsFirst (contents outlet.sink.now) (contents now) rest → AppendsBeginning given held (contents now)
-  sent_beginning given outlet now base writer rest unfailed began stands finishes first = ∥∥₁_map stands.given part
-    where
-      part : Given outlet writer.emitter
-          → (bytes : List ℕ) × AppendsFirst held (contents now) bytes × ((bytes ≡ []) ⊎ (IsPartial given bytes ⊎ IsDocument given bytes))
-      part gave = (
-        gave.taken ++ rest,
-        appends_first held (contents outlet.sink.now) (contents now) gave.taken rest (sends_taken outlet writer.emitter unfailed gave) first,
-        inr (inr ∣ gave_document given start.emitter writer.emitter gave.taken rest began gave.gave finishes ∣₁),
-      )
-
-  pub answers_written : {E : Type 0} (answer : Result (Unit {0}) E) (outlet : Outlet W) (now : W) (base : ℕ) (writer : WriterState) (rest : List ℕ)
-      → has_failed outlet.handing ≡ false → StandsIn outlet base writer → Finishes writer.emitter rest
-      → OnOk answer (Appends (contents outlet.sink.now) (contents now) rest)
-      → OnOk answer ((given : Settings) → StandsTaken given opening [] start.emitter → AppendsDocument given held (contents now))
-  answers_written (Ok done) outlet now base writer rest unfailed stands finishes appends =
-      λ given began. sent_document given outlet now base writer rest unfailed began stands finishes appends
-  answers_written (Err error) outlet now base writer rest unfailed stands finishes appends = tt
-
-  pub answers_first : {E : Type 0} (answer : Result (Unit {0}) E) (outlet : Outlet W) (now : W) (base : ℕ) (writer : WriterState) (rest : List ℕ)
-      → has_failed outlet.handing ≡ false → StandsIn outlet base writer → Finishes writer.emitter rest
-      → OnErr answer (AppendsFirst (contents outlet.sink.now) (contents now) rest)
-      → OnErr answer ((given : Settings) → StandsTaken given opening [] start.emitter → AppendsBeginning given held (contents now))
-  answers_first (Ok done) outlet now base writer rest unfailed stands finishes first = tt
-  answers_first (Err error) outlet now base writer rest unfailed stands finishes first =
-      λ given began. sent_beginning given outlet now base writer rest unfailed began stands finishes first
+  pub sent_events : (outlet : Outlet W) (base : ℕ) (writer : WriterState) → has_failed outlet.handing ≡ false → StandsIn outlet base writer
+      → SendsEvents held start.emitter (contents outlet.sink.now) writer.emitter
+  sent_events outlet base writer unfailed stands =
+      ∥∥₁_map stands.given (λ gave. (gave.taken, sends_taken outlet writer.emitter unfailed gave, gave.gave))
 
   -- nothing more was handed on
   pub sent_part : (given : Settings) (outlet : Outlet W) (base : ℕ) (writer : WriterState) → StandsTaken given opening [] start.emitter

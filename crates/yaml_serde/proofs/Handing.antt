@@ -1,12 +1,17 @@
 -- What is handed on of a document's bytes.
 use Rattle.yaml_serde.proofs.Common.{ℕ, Option, None, Some, Bool, true, false, List, [], ◌++◌, refl, ◌≡◌, append-nil, append_assoc, ap, subst, sym, ◌∙◌}
-use Rattle.yaml_serde.proofs.Common.{Appends, Ok, Event, Settings, State, grows_itself, Grows, is_kept, WriterState, StandsTaken}
+use Rattle.yaml_serde.proofs.Common.{Appends, Err, Ok, OnOk, Result, Event, Settings, State, grows_itself, Grows, is_kept, WriterState, StandsTaken}
 use Rattle.yaml_base.specs.Prefix.{IsPrefix}
 use Rattle.yaml_base.proofs.Prefixes.{prefix_itself, prefix_same}
 use Rattle.yaml_emitter.proofs.Common.{with_all_taken}
 use Rattle.yaml_pen.specs.Page.{output_left}
 use Rattle.yaml_pen.specs.Sinks.{AppendsFirst}
 use Rattle.yaml_serde.specs.Outlets.{HandsOn, has_failed}
+use Rattle.yaml_serde.specs.Variants.{GivesAndSends}
+use Rattle.yaml_serde.specs.declared.error.Error.{Error}
+use Rattle.yaml_base.proofs.Common.{inl, inr, ◌⊎◌}
+use Rattle.yaml_base.specs.declared.errors.yaml_error_t.{yaml_error_t}
+use Rattle.yaml_writer.proofs.Common.{GaveEvent}
 use Rattle.yaml_serde.specs.declared.outlet.Outlet.{Outlet}
 use Rattle.std.specs.declared.io.Error as io
 use Rattle.yaml_serde.specs.declared.outlet.Handing.{Handing}
@@ -66,3 +71,20 @@ module _ {W : Type 0} (contents : W → Option (List ℕ)) (old : Outlet W) (bef
   hands_kept is =
       subst (λ (handing : Handing). HandsOn contents handing old before (Ok tt) old before) (sym is)
       (refl, record { outlet = refl; writer = refl })
+
+-- what was handed on is taken; or nothing was
+taken_or_not : {W : Type 0} (contents : W → Option (List ℕ)) (handing : Handing) (old : Outlet W) (before : WriterState) (new : Outlet W)
+    (after : WriterState) → HandsOn contents handing old before (Ok tt) new after
+    → (after ≡ before) ⊎ (after ≡ record before { emitter = with_all_taken before.emitter })
+taken_or_not contents Kept old before new after hands = inl hands.1.writer
+taken_or_not contents (Failed error) old before new after hands = inl hands.1.writer
+taken_or_not contents Open old before new after hands = inr hands.writer
+
+-- an event was given, and some bytes were handed on
+pub gives_and_sends : {W : Type 0} (contents : W → Option (List ℕ)) (old new : Outlet W) (before given after : WriterState) (event : Event)
+    (called : Result (Unit {0}) yaml_error_t) (answer : Result (Unit {0}) Error) → (called ≡ Ok tt → GaveEvent before event None given)
+    → OnOk answer (called ≡ Ok tt) → (called ≡ Ok tt → HandsOn contents old.handing old given answer new after)
+    → OnOk answer (GivesAndSends before event after)
+gives_and_sends contents old new before given after event called (Err error) gave ok hands = tt
+gives_and_sends contents old new before given after event called (Ok done) gave ok hands =
+    (given, gave ok, taken_or_not contents old.handing old given new after (hands ok))

@@ -67,3 +67,7 @@ pub record GaveEvents (before : State) (bytes : List ℕ) (after : State) : Type
 -- an emitter was given the events of some calls more, and nothing more was taken
 abbrev pub GivesEvents : State → State → Type 0
 GivesEvents before after = ∥ GaveEvents before [] after ∥₁
+
+-- the known bytes of a sink grow by these of an emitter, which was given the events of some calls more
+abbrev pub SendsEvents : Option (List ℕ) → State → Option (List ℕ) → State → Type 0
+SendsEvents held before now after = ∥ ((bytes : List ℕ) × Appends held now bytes × GaveEvents before bytes after) ∥₁

@@ -1,2 +1,3 @@
 pub mod Documents
 pub mod Outlets
+pub mod Variants

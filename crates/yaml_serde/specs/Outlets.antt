@@ -11,10 +11,15 @@ use Rattle.yaml_emitter.specs.State.{State, new_state, with_all_taken}
 use Rattle.yaml_writer.specs.Writing.{StandsTaken, WriterState, TakesBytes}
 use Rattle.yaml_serde.specs.Documents.{GaveEvents}
 use Rattle.yaml_serde.specs.declared.error.Error.{Error}
-use Rattle.yaml_serde.specs.declared.error.Error.TheVariants as errors
+use Rattle.yaml_serde.specs.declared.error.Cause.{Cause}
+use Rattle.yaml_serde.specs.declared.error.Cause.TheVariants as causes
 use Rattle.yaml_serde.specs.declared.outlet.Handing.{Handing}
 use Rattle.yaml_serde.specs.declared.outlet.Handing.TheVariants.{Kept, Open, Failed}
 use Rattle.yaml_serde.specs.declared.outlet.Outlet.{Outlet}
+
+-- an error by this cause, of which no path is known
+abbrev pub without_path : Cause → Error
+without_path cause = record { cause = cause; path = None }
 
 -- whether the bytes stay with the writer
 abbrev pub is_kept : Handing → Bool
@@ -55,7 +60,7 @@ pub record HandsNone {W : Type 0} (old : Outlet W) (before : WriterState) (new :
 abbrev pub HandsOn :
     {W : Type 0} → (W → Option (List ℕ)) → Handing → Outlet W → WriterState → Result (Unit {0}) Error → Outlet W → WriterState → Type 0
 HandsOn contents Kept old before answer new after = (answer ≡ Ok tt) × HandsNone old before new after
-HandsOn contents (Failed error) old before answer new after = (answer ≡ Err (errors.Sink error)) × HandsNone old before new after
+HandsOn contents (Failed error) old before answer new after = (answer ≡ Err (without_path (causes.Sink error))) × HandsNone old before new after
 HandsOn contents Open old before (Ok done) new after = HandsAll contents old before new after
 HandsOn contents Open old before (Err error) new after = HandsFirst contents old before new after
 

@@ -1,17 +1,33 @@
-//! Why a value isn't written.
+//! Why a value isn't written, and where in it.
+ghost use Rattle.std.specs.Prelude.{◌≡◌};
+ghost use Rattle.yaml_serde.specs.Outlets.{without_path};
+
 use std::alloc::{AllocError, AllocFailed};
 use std::{fmt, io};
 use yaml_writer::yaml_error_t;
 
+/// Why a value isn't written, and where in it. `Display` prints the path, a colon and the cause; where there is no path, the
+/// cause alone.
+#[derive(Debug, Drop)]
+pub struct Error {
+    pub cause: Cause,
+    /// The keys and indices that lead to where the value's own `serialize` failed, as `jobs.build.steps[2].with`. A key that is
+    /// neither a text nor an integer is `?`; a tag and a flattened value add nothing.
+    ///
+    /// `None` where it failed outside of any key and item, where only the end of the value showed the error, and where the path
+    /// itself could not be allocated.
+    pub path: Option<String>,
+}
+
 /// Why a value isn't written.
 #[derive(Debug, Drop)]
-pub enum Error {
+pub enum Cause {
     /// The emitter's error: `TooDeep`, `WriteError`, that of a `Serialize` by hand that writes no value, several, or a
     /// variant's name without its data, or an error that the writer had before.
     Emitter(yaml_error_t),
     /// What the value's own `serialize` says.
     Custom(String),
-    /// A node would have two tags: the data of a variant is a variant with data, or bytes.
+    /// A node would have two tags: the data of a variant with a tag is a variant with data, or bytes.
     TwoTags,
     /// A flattened value is neither a struct nor a map.
     Flattened,
@@ -21,38 +37,62 @@ pub enum Error {
     Memory,
 }
 
-impl fmt::Display for Error {
+impl fmt::Display for Cause {
     fn fmt<W: fmt::Write>(&self, f: &mut fmt::Formatter<W>) -> fmt::Result {
         match self {
-            Error::Emitter(error) => write!(f, "{error}"),
-            Error::Custom(message) => f.write_str(message.as_str()),
-            Error::TwoTags => f.write_str("the data of a variant has a tag of its own"),
-            Error::Flattened => f.write_str("a flattened value is neither a struct nor a map"),
-            Error::Sink(error) => write!(f, "cannot write: {error}"),
-            Error::Memory => f.write_str("out of memory"),
+            Cause::Emitter(error) => write!(f, "{error}"),
+            Cause::Custom(message) => f.write_str(message.as_str()),
+            Cause::TwoTags => f.write_str("the data of a variant has a tag of its own"),
+            Cause::Flattened => f.write_str("a flattened value is neither a struct nor a map"),
+            Cause::Sink(error) => write!(f, "cannot write: {error}"),
+            Cause::Memory => f.write_str("out of memory"),
+        }
+    }
+}
+
+impl fmt::Display for Error {
+    fn fmt<W: fmt::Write>(&self, f: &mut fmt::Formatter<W>) -> fmt::Result {
+        let cause = &self.cause;
+        match &self.path {
+            Some(path) => write!(f, "{path}: {cause}"),
+            None => write!(f, "{cause}"),
         }
     }
 }
 
 impl std::error::Error for Error {}
 
+impl From<Cause> for Error {
+    ghost from_gives = { λ cause error. error ≡ without_path cause };
+
+    fn from(cause: Cause) -> Error {
+        Error { cause, path: None }
+    }
+}
+
 impl From<yaml_error_t> for Error {
     fn from(error: yaml_error_t) -> Error {
         match error {
-            yaml_error_t::Memory => Error::Memory,
-            error => Error::Emitter(error),
+            yaml_error_t::Memory => Error::from(Cause::Memory),
+            error => Error::from(Cause::Emitter(error)),
         }
+    }
+}
+
+impl From<io::Error> for Error {
+    fn from(error: io::Error) -> Error {
+        Error::from(Cause::Sink(error))
     }
 }
 
 impl From<AllocError> for Error {
     fn from(_error: AllocError) -> Error {
-        Error::Memory
+        Error::from(Cause::Memory)
     }
 }
 
 impl<T: Drop> From<AllocFailed<T>> for Error {
     fn from(_error: AllocFailed<T>) -> Error {
-        Error::Memory
+        Error::from(Cause::Memory)
     }
 }

@@ -18,14 +18,14 @@ pub(crate) fn number_in(text: &str) -> Number<'_>
 }
 
 pub(crate) fn give_signed<G: Given, W: Write>(
-    document: &mut Document<'_, G, W>,
+    document: &mut Document<'_, '_, G, W>,
     value: i128,
 ) -> Result<(), Error> {
     document.number(itoa::Buffer::new().format(value))
 }
 
 pub(crate) fn give_unsigned<G: Given, W: Write>(
-    document: &mut Document<'_, G, W>,
+    document: &mut Document<'_, '_, G, W>,
     value: u128,
 ) -> Result<(), Error> {
     document.number(itoa::Buffer::new().format(value))

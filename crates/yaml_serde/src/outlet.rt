@@ -2,7 +2,7 @@
 ghost use Rattle.std.specs.Prelude.{◌≡◌};
 ghost use Rattle.yaml_serde.specs.Outlets.{HandsOn};
 
-use crate::error::Error;
+use crate::error::{Cause, Error};
 use std::alloc::Global;
 use std::io;
 use std::io::Write;
@@ -36,14 +36,14 @@ pub(crate) fn hand_on<W: Write>(
 {
     match &outlet.handing {
         Handing::Kept => return Ok(()),
-        Handing::Failed(error) => return Err(Error::Sink(*error)),
+        Handing::Failed(error) => return Err(Error::from(Cause::Sink(*error))),
         Handing::Open => {}
     }
     match writer.send(outlet.sink) {
         Ok(()) => Ok(()),
         Err(error) => {
             outlet.handing = Handing::Failed(error);
-            Err(Error::Sink(error))
+            Err(Error::from(Cause::Sink(error)))
         }
     }
 }

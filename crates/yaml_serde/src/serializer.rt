@@ -1,7 +1,15 @@
 //! The serializer over a document.
+ghost use Rattle.std.specs.Prelude.{◌≡◌, OnOk};
+ghost use Rattle.serde.specs.Spelling.{spelled};
+ghost use Rattle.serde.specs.declared.name.NameKind.TheVariants as kind;
+ghost use Rattle.yaml_serde.specs.Variants.{BeginsVariant, GivesMapping};
+ghost use Rattle.yaml_serde.specs.declared.settings.Variants.TheVariants as variants;
+
 use crate::document::{Document, Given};
-use crate::error::Error;
+use crate::error::{Cause, Error};
 use crate::numbers::{give_signed, give_unsigned};
+use crate::path::{LevelKind, Path};
+use crate::settings::Variants;
 use serde::{Case, NameKind, Serializer};
 use std::alloc::Global;
 use std::fmt::Display;
@@ -22,43 +30,51 @@ enum Next {
     Members,
 }
 
-/// Whether a map has a start and an end of its own.
-#[derive(Clone, Copy)]
-enum MapKind {
-    Written,
-    /// A variant with its data, or a flattened map.
-    Unwritten,
-}
-
 /// Writes what a value sends.
 #[derive(Drop)]
-pub(crate) struct ValueSerializer<'a, G: Given, W: Write> {
+pub(crate) struct ValueSerializer<'w, 'a, G: Given, W: Write> {
     alloc: Global,
-    document: Document<'a, G, W>,
+    document: Document<'w, 'a, G, W>,
+    variants: Variants,
     next: Next,
-    /// The maps that are open, the innermost last.
-    maps: Vec<MapKind>,
+    path: Path,
 }
 
-impl<'a, G: Given, W: Write> ValueSerializer<'a, G, W> {
-    pub(crate) fn new(alloc: Global, document: Document<'a, G, W>) -> ValueSerializer<'a, G, W> {
+impl<'w, 'a, G: Given, W: Write> ValueSerializer<'w, 'a, G, W> {
+    pub(crate) fn new(
+        alloc: Global,
+        variants: Variants,
+        document: Document<'w, 'a, G, W>,
+    ) -> ValueSerializer<'w, 'a, G, W> {
         ValueSerializer {
             alloc,
             document,
+            variants,
             next: Next::Node,
-            maps: Vec::new(alloc),
+            path: Path::new(alloc),
         }
     }
 
-    pub(crate) fn into_document(self) -> Document<'a, G, W> {
-        let ValueSerializer { document, .. } = self;
-        document
+    /// The document, and what the value's own `serialize` answered, with the path to where it did.
+    pub(crate) fn finish(
+        self,
+        answer: Result<(), Error>,
+    ) -> (Document<'w, 'a, G, W>, Result<(), Error>) {
+        let ValueSerializer { document, path, .. } = self;
+        match answer {
+            Ok(()) => (document, Ok(())),
+            Err(error) => {
+                let path = path.to_text();
+                let Error { cause, .. } = error;
+                (document, Err(Error { cause, path }))
+            }
+        }
     }
 
     /// Makes ready for a node that is no map.
     fn ready(&mut self) -> Result<(), Error> {
         if matches!(self.next, Next::Members) {
-            return Err(Error::Flattened);
+            return Err(Error::from(Cause::Flattened));
         }
         self.open_entry()?;
         self.next = Next::Node;
@@ -73,29 +89,70 @@ impl<'a, G: Given, W: Write> ValueSerializer<'a, G, W> {
         }
     }
 
-    fn open_map(&mut self) -> Result<(), Error> {
-        self.maps.push(MapKind::Written)?;
+    fn open_map(&mut self) -> Result<(), Error>
+        ensures { OnOk result (GivesMapping self.old.document.writer.now self.new.document.writer.now) }
+    {
+        self.path.enter(LevelKind::Map)?;
         self.next = Next::Node;
         self.document.begin_mapping()
     }
 
-    fn enter_unwritten(&mut self, next: Next) -> Result<(), Error> {
-        self.maps.push(MapKind::Unwritten)?;
+    fn enter_unwritten(&mut self, next: Next) -> Result<(), Error>
+        ensures { self.new.document.writer.now ≡ self.old.document.writer.now }
+    {
+        self.path.enter(LevelKind::Unwritten)?;
         self.next = next;
         Ok(())
     }
 
+    /// Begins a variant with data, in place of a map of one entry.
+    fn begin_variant(&mut self, name: &str, case: Case) -> Result<(), Error>
+        ensures { OnOk result (BeginsVariant self.old.variants (spelled case kind.Variant name.now)
+            self.old.document.writer.now self.new.document.writer.now) }
+    {
+        match self.variants {
+            Variants::Tags => self.begin_tagged(name, case),
+            Variants::OneKeyMap => self.begin_keyed(name, case),
+        }
+    }
+
     /// Gives the next node the tag of a variant.
-    fn begin_variant(&mut self, name: &str, case: Case) -> Result<(), Error> {
+    fn begin_tagged(&mut self, name: &str, case: Case) -> Result<(), Error>
+        ensures { OnOk result (BeginsVariant variants.Tags (spelled case kind.Variant name.now)
+            self.old.document.writer.now self.new.document.writer.now) }
+    {
         let mut tag = String::from_str(self.alloc, "!")?;
         case.append(NameKind::Variant, name, &mut tag)?;
         self.document.tagged(tag.as_str())?;
         self.enter_unwritten(Next::Data)
     }
 
+    /// Begins a map, whose first key is the name of a variant.
+    fn begin_keyed(&mut self, name: &str, case: Case) -> Result<(), Error>
+        ensures { OnOk result (BeginsVariant variants.OneKeyMap (spelled case kind.Variant name.now)
+            self.old.document.writer.now self.new.document.writer.now) }
+    {
+        let mut key = String::new(self.alloc);
+        case.append(NameKind::Variant, name, &mut key)?;
+        self.open_map()?;
+        self.path.begin_key();
+        self.document.text(key.as_str())?;
+        self.path.pass_text(key.as_str())?;
+        Ok(())
+    }
+
     fn text(&mut self, value: &str) -> Result<(), Error> {
         self.ready()?;
-        self.document.text(value)
+        self.document.text(value)?;
+        self.path.pass_text(value)?;
+        Ok(())
+    }
+
+    /// Passes a node that is no text, no integer and no collection, once it was given.
+    fn passed(&mut self, given: Result<(), Error>) -> Result<(), Error> {
+        given?;
+        self.path.pass();
+        Ok(())
     }
 
     fn name(&mut self, kind: NameKind, name: &str, case: Case) -> Result<(), Error> {
@@ -108,42 +165,53 @@ impl<'a, G: Given, W: Write> ValueSerializer<'a, G, W> {
     }
 }
 
-impl<G: Given, W: Write> Serializer for ValueSerializer<'_, G, W> {
+impl<G: Given, W: Write> Serializer for ValueSerializer<'_, '_, G, W> {
     type Error = Error;
 
     fn bool(&mut self, v: bool) -> Result<(), Error> {
         self.ready()?;
-        self.document.bool(v)
+        let given = self.document.bool(v);
+        self.passed(given)
     }
 
     fn i64(&mut self, v: i64) -> Result<(), Error> {
         self.ready()?;
-        self.document.int(v)
+        self.document.int(v)?;
+        self.path.pass_integer(&v)?;
+        Ok(())
     }
 
     fn u64(&mut self, v: u64) -> Result<(), Error> {
         self.ready()?;
-        self.document.unsigned(v)
+        self.document.unsigned(v)?;
+        self.path.pass_integer(&v)?;
+        Ok(())
     }
 
     fn i128(&mut self, v: i128) -> Result<(), Error> {
         self.ready()?;
-        give_signed(&mut self.document, v)
+        give_signed(&mut self.document, v)?;
+        self.path.pass_integer(&v)?;
+        Ok(())
     }
 
     fn u128(&mut self, v: u128) -> Result<(), Error> {
         self.ready()?;
-        give_unsigned(&mut self.document, v)
+        give_unsigned(&mut self.document, v)?;
+        self.path.pass_integer(&v)?;
+        Ok(())
     }
 
     fn f32(&mut self, v: f32) -> Result<(), Error> {
         self.ready()?;
-        self.document.single(v)
+        let given = self.document.single(v);
+        self.passed(given)
     }
 
     fn f64(&mut self, v: f64) -> Result<(), Error> {
         self.ready()?;
-        self.document.float(v)
+        let given = self.document.float(v);
+        self.passed(given)
     }
 
     fn char(&mut self, v: char) -> Result<(), Error> {
@@ -158,10 +226,11 @@ impl<G: Given, W: Write> Serializer for ValueSerializer<'_, G, W> {
     /// The tag says that the text is base64; it can't stand beside the tag of a variant.
     fn bytes(&mut self, v: &[u8]) -> Result<(), Error> {
         if matches!(self.next, Next::Data) {
-            return Err(Error::TwoTags);
+            return Err(Error::from(Cause::TwoTags));
         }
         self.ready()?;
-        self.document.bytes(v)
+        let given = self.document.bytes(v);
+        self.passed(given)
     }
 
     fn unit(&mut self) -> Result<(), Error> {
@@ -170,7 +239,8 @@ impl<G: Given, W: Write> Serializer for ValueSerializer<'_, G, W> {
             return Ok(());
         }
         self.ready()?;
-        self.document.null()
+        let given = self.document.null();
+        self.passed(given)
     }
 
     fn str_cased(&mut self, name: &str, case: Case) -> Result<(), Error> {
@@ -179,12 +249,16 @@ impl<G: Given, W: Write> Serializer for ValueSerializer<'_, G, W> {
 
     fn begin_seq(&mut self, _len: Option<usize>) -> Result<(), Error> {
         self.ready()?;
-        self.document.begin_sequence()
+        self.document.begin_sequence()?;
+        self.path.enter(LevelKind::Sequence)?;
+        Ok(())
     }
 
     fn end_seq(&mut self) -> Result<(), Error> {
         self.open_entry()?;
-        self.document.end()
+        self.path.leave();
+        let ended = self.document.end();
+        self.passed(ended)
     }
 
     /// A map of one entry waits for its key, which may be the name of a variant.
@@ -206,13 +280,15 @@ impl<G: Given, W: Write> Serializer for ValueSerializer<'_, G, W> {
 
     fn end_map(&mut self) -> Result<(), Error> {
         self.open_entry()?;
-        match self.maps.pop() {
-            Some(MapKind::Unwritten) => Ok(()),
-            Some(MapKind::Written) | None => self.document.end(),
-        }
+        let ended = match self.path.leave() {
+            Some(LevelKind::Unwritten) => Ok(()),
+            Some(LevelKind::Map | LevelKind::Sequence) | None => self.document.end(),
+        };
+        self.passed(ended)
     }
 
     fn key_cased(&mut self, name: &str, case: Case) -> Result<(), Error> {
+        self.begin_key()?;
         self.name(NameKind::Field, name, case)
     }
 
@@ -220,13 +296,18 @@ impl<G: Given, W: Write> Serializer for ValueSerializer<'_, G, W> {
     fn variant_key(&mut self, name: &str, case: Case) -> Result<(), Error> {
         match self.next {
             Next::Entry => self.begin_variant(name, case),
-            Next::EntryOfData => Err(Error::TwoTags),
-            Next::Node | Next::Data | Next::Members => self.name(NameKind::Variant, name, case),
+            Next::EntryOfData => Err(Error::from(Cause::TwoTags)),
+            Next::Node | Next::Data | Next::Members => {
+                self.path.begin_key();
+                self.name(NameKind::Variant, name, case)
+            }
         }
     }
 
     fn begin_key(&mut self) -> Result<(), Error> {
-        self.open_entry()
+        self.open_entry()?;
+        self.path.begin_key();
+        Ok(())
     }
 
     fn end_key(&mut self) -> Result<(), Error> {
@@ -241,8 +322,8 @@ impl<G: Given, W: Write> Serializer for ValueSerializer<'_, G, W> {
 
     fn custom(&self, message: &str) -> Error {
         match String::from_str(self.alloc, message) {
-            Ok(message) => Error::Custom(message),
-            Err(_) => Error::Memory,
+            Ok(message) => Error::from(Cause::Custom(message)),
+            Err(_) => Error::from(Cause::Memory),
         }
     }
 

@@ -1,21 +1,25 @@
 //! A value as YAML.
+ghost use Rattle.std.specs.Io.KnownBytes.{Appends};
 ghost use Rattle.std.specs.Prelude.{◌≡◌, [], IfOk, IsUtf8, None, OnErr, OnOk, false, length, string_bytes, take, true};
 ghost use Rattle.yaml_base.specs.Settings as base;
 ghost use Rattle.yaml_emitter.specs.Given.{seen_settings};
+ghost use Rattle.yaml_pen.specs.Sinks.{AppendsFirst};
 ghost use Rattle.yaml_pen.specs.Wrote.{Grows};
 ghost use Rattle.yaml_writer.specs.Given.{given_for_values};
 ghost use Rattle.yaml_writer.specs.Writing.{StandsTaken, awaits_node, opening};
-ghost use Rattle.yaml_serde.specs.Documents.{AppendsBeginning, AppendsDocument, GivesEvents, IsDocument};
+ghost use Rattle.yaml_serde.specs.Documents.{AppendsBeginning, AppendsDocument, GivesEvents, IsDocument, SendsEvents};
 
 use crate::document::{Document, Given};
 use crate::error::Error;
 use crate::serializer::ValueSerializer;
+use crate::settings::{SerdeSettings, Variants};
 use serde::Serialize;
 use std::alloc::Global;
+use std::io;
 use std::io::Write;
 use std::marker::Brand;
-use std::{io, mem};
-use yaml_writer::{Settings, Writer, value_settings};
+use yaml_pen::write_to_sink;
+use yaml_writer::Writer;
 
 /// The sink of a document whose bytes stay with the writer.
 type NoSink = io::Sink;
@@ -25,25 +29,24 @@ type NoSink = io::Sink;
 /// Structs and maps are block mappings in the order in which they give their entries, whose keys may be any values; sequences
 /// and tuples are block sequences. A text stands plain only where both schemas of YAML read it as a text, and a float is
 /// spelled so that both read exactly that number (or `.inf`, `-.inf`, `.nan`). `None` and `()` are `null`; bytes are `!!binary`
-/// in base64. A variant without data is its name, a text; one with data is its data with the local tag `!Variant`, as
-/// serde_yaml 0.9 writes it.
+/// in base64. A variant without data is its name, a text. One with data is by `Variants::Tags` its data with the local tag
+/// `!Variant`, as serde_yaml 0.9 writes it, and by `Variants::OneKeyMap` a mapping of its name to its data, as serde_json does.
 ///
 /// # Errors
-/// `Custom` where the value's own `serialize` says so; `TwoTags` where the data of a variant is a variant with data, or
+/// `Custom` where the value's own `serialize` says so; `TwoTags` where the data of a variant with a tag is a variant with data, or
 /// bytes; `Flattened` where a flattened value is neither a struct nor a map; `Emitter` where more than 1,000,000
 /// collections are within one another, where the bytes pass the limit, and where a `Serialize` by hand writes no value,
 /// several, a key alone, or a variant's name alone where data must follow; `Memory` where an allocation fails.
 pub fn to_vec_with<T: Serialize>(
     alloc: Global,
-    settings: Settings,
+    settings: SerdeSettings,
     value: &T,
 ) -> Result<Vec<u8>, Error>
-    ensures { IfOk result (λ bytes. IsDocument (seen_settings settings) bytes.items) }
+    ensures { IfOk result (λ bytes. IsDocument (seen_settings settings.writer) bytes.items) }
 {
-    let Ok(writer) = Writer::new(alloc, settings) else {
-        return Err(Error::Memory);
-    };
-    finished::<T, Brand>(alloc, writer, value)
+    let mut writer = Writer::new(alloc, settings.writer)?;
+    write_with(alloc, settings, &mut writer, value)?;
+    Ok(writer.finish()?)
 }
 
 /// A value as a stream of one document, by the settings for values: in portable mode, so it begins with `---`; in UTF-8,
@@ -55,7 +58,7 @@ pub fn to_vec<T: Serialize>(alloc: Global, value: &T) -> Result<Vec<u8>, Error>
     ensures document { IfOk result (λ bytes. IsDocument given_for_values bytes.items) }
     ensures utf8 { IfOk result (λ bytes. IsUtf8 bytes.items) }
 {
-    to_vec_with(alloc, value_settings(), value)
+    to_vec_with(alloc, SerdeSettings::default(), value)
 }
 
 /// A value as a stream of one document, by the settings for values, as a text.
@@ -77,20 +80,17 @@ pub fn to_string<T: Serialize>(alloc: Global, value: &T) -> Result<String, Error
 /// may be empty.
 pub fn to_writer_with<T: Serialize, W: Write>(
     alloc: Global,
-    settings: Settings,
+    settings: SerdeSettings,
     sink: &mut W,
     value: &T,
 ) -> Result<(), Error>
-    ensures written { OnOk result (AppendsDocument (seen_settings settings) (W.contents sink.old) (W.contents sink.new)) }
-    ensures first { OnErr result (AppendsBeginning (seen_settings settings) (W.contents sink.old) (W.contents sink.new)) }
+    ensures written { OnOk result (AppendsDocument (seen_settings settings.writer) (W.contents sink.old) (W.contents sink.new)) }
+    ensures first { OnErr result (AppendsBeginning (seen_settings settings.writer) (W.contents sink.old) (W.contents sink.new)) }
 {
-    let Ok(writer) = Writer::new(alloc, settings) else {
-        return Err(Error::Memory);
-    };
-    let (sink, answer) = sent::<T, W, Brand>(alloc, writer, sink, value);
-    // For the proof, which reads here what the sink has.
-    let _ = &*sink;
-    answer
+    let mut writer = Writer::new(alloc, settings.writer)?;
+    write_and_send(alloc, settings.variants, &mut writer, sink, value)?;
+    let rest = writer.finish()?;
+    finish_sink(sink, rest.as_slice())
 }
 
 /// Writes a value to a sink as `to_writer_with` does, by the settings for values.
@@ -105,7 +105,7 @@ pub fn to_writer<T: Serialize, W: Write>(
     ensures written { OnOk result (AppendsDocument given_for_values (W.contents sink.old) (W.contents sink.new)) }
     ensures first { OnErr result (AppendsBeginning given_for_values (W.contents sink.old) (W.contents sink.new)) }
 {
-    to_writer_with(alloc, value_settings(), sink, value)
+    to_writer_with(alloc, SerdeSettings::default(), sink, value)
 }
 
 /// Gives a value to a writer as its next node, with the anchor and the tag that await it. It doesn't notice that a `Serialize` by
@@ -126,94 +126,135 @@ pub fn write<T: Serialize>(
     ensures whole { OnOk result ((writer.new.levels ≡ writer.old.levels) × (awaits_node writer.new ≡ false)) }
     ensures sound { OnOk result (writer.new.emitter.error ≡ None) }
 {
-    let Ok(spare) = Writer::new(alloc, value_settings()) else {
-        return Err(Error::Memory);
-    };
-    let lent = mem::replace(writer, spare);
-    let (lent, answer) = given::<T, Brand>(alloc, lent, value);
-    *writer = lent;
+    write_with(alloc, SerdeSettings::default(), writer, value)
+}
+
+/// Gives a value to a writer as `write` does, by all of the settings but those of a writer.
+///
+/// # Errors
+/// Those of `write`.
+pub fn write_with<T: Serialize>(
+    alloc: Global,
+    settings: SerdeSettings,
+    writer: &mut Writer<Global>,
+    value: &T,
+) -> Result<(), Error>
+    ensures gives { GivesEvents writer.old.emitter writer.new.emitter }
+    ensures grows { Grows writer.old.emitter.page writer.new.emitter.page }
+    ensures canonical { writer.new.canonical ≡ writer.old.canonical }
+    ensures above { take (length writer.old.levels) writer.new.levels ≡ writer.old.levels }
+    ensures whole { OnOk result ((writer.new.levels ≡ writer.old.levels) × (awaits_node writer.new ≡ false)) }
+    ensures sound { OnOk result (writer.new.emitter.error ≡ None) }
+{
+    let mut nowhere = io::sink();
+    let (lent, _nowhere, answer) = given::<T, Brand>(
+        alloc,
+        settings.variants,
+        writer,
+        &mut nowhere,
+        value,
+    );
+    // For the proof, which reads here what the writer has.
+    let _ = &*lent;
     answer
 }
 
 /// A document with a value more, and what the value's own `serialize` answered.
-fn with_value<'a, T: Serialize, W: Write, G: Given>(
+fn with_value<'w, 'a, T: Serialize, W: Write, G: Given>(
     alloc: Global,
-    document: Document<'a, G, W>,
+    variants: Variants,
+    document: Document<'w, 'a, G, W>,
     value: &T,
-) -> (Document<'a, G, W>, Result<(), Error>) {
-    let mut serializer = ValueSerializer::new(alloc, document);
+) -> (Document<'w, 'a, G, W>, Result<(), Error>) {
+    let mut serializer = ValueSerializer::new(alloc, variants, document);
     let answer = value.serialize(&mut serializer);
-    (serializer.into_document(), answer)
+    serializer.finish(answer)
 }
 
-/// The document of a value, whose bytes stay with the writer.
-fn finished<T: Serialize, G: Given>(
+/// Gives a value to a writer, and hands on to a sink what is flushed.
+fn write_and_send<T: Serialize, W: Write>(
     alloc: Global,
-    writer: Writer<Global>,
+    variants: Variants,
+    writer: &mut Writer<Global>,
+    sink: &mut W,
     value: &T,
-) -> Result<Vec<u8>, Error>
-    requires start { writer ≡ G.start }
-    requires held { G.held ≡ None }
-    requires keeps { G.keeps ≡ true }
-    ensures { IfOk result (λ bytes. (given : base.Settings) → StandsTaken given opening [] G.start.emitter → IsDocument given bytes.items) }
+) -> Result<(), Error>
+    ensures whole { OnOk result (SendsEvents (W.contents sink.old) writer.old.emitter (W.contents sink.new) writer.new.emitter) }
+    ensures first { (given : base.Settings) → StandsTaken given opening [] writer.old.emitter
+        → AppendsBeginning given (W.contents sink.old) (W.contents sink.new) }
 {
-    let mut nowhere = io::sink();
-    let document: Document<'_, G, NoSink> = Document::kept(writer, &mut nowhere);
-    let (document, answer) = with_value(alloc, document, value);
-    match answer {
-        Ok(()) => document.finish(),
-        Err(error) => Err(error),
-    }
+    let (lent, sent, answer) = handed::<T, W, Brand>(alloc, variants, writer, sink, value);
+    // For the proof, which reads here what the writer and the sink have.
+    let _ = &*lent;
+    let _ = &*sent;
+    answer
 }
 
-/// The sink that the document of a value was handed on to, and the answer.
-fn sent<'a, T: Serialize, W: Write, G: Given>(
+/// A writer with a value more, of which some was handed on to a sink.
+fn handed<'w, 'a, T: Serialize, W: Write, G: Given>(
     alloc: Global,
-    writer: Writer<Global>,
+    variants: Variants,
+    writer: &'w mut Writer<Global>,
     sink: &'a mut W,
     value: &T,
-) -> (&'a mut W, Result<(), Error>)
-    requires start { writer ≡ G.start }
+) -> (&'w mut Writer<Global>, &'a mut W, Result<(), Error>)
+    requires start { writer.now ≡ G.start }
+    requires lent { writer.ghost_name ≡ G.lent }
     requires held { G.held ≡ W.contents sink.now }
     requires name { G.name ≡ sink.ghost_name }
     requires keeps { G.keeps ≡ false }
-    ensures same { result.0.ghost_name ≡ G.name }
-    ensures written { OnOk result.1 ((given : base.Settings) → StandsTaken given opening [] G.start.emitter
-        → AppendsDocument given G.held (W.contents result.0.now)) }
-    ensures first { OnErr result.1 ((given : base.Settings) → StandsTaken given opening [] G.start.emitter
-        → AppendsBeginning given G.held (W.contents result.0.now)) }
+    ensures lent { result.0.ghost_name ≡ G.lent }
+    ensures same { result.1.ghost_name ≡ G.name }
+    ensures whole { OnOk result.2 (SendsEvents G.held G.start.emitter (W.contents result.1.now) result.0.now.emitter) }
+    ensures first { (given : base.Settings) → StandsTaken given opening [] G.start.emitter
+        → AppendsBeginning given G.held (W.contents result.1.now) }
 {
-    let document: Document<'a, G, W> = Document::sent(writer, sink);
-    let (document, answer) = with_value(alloc, document, value);
+    let document: Document<'w, 'a, G, W> = Document::sent(writer, sink);
+    let (document, answer) = with_value(alloc, variants, document, value);
+    let (writer, sink, whole) = document.into_parts();
     match answer {
-        Ok(()) => document.finish_sent(),
-        Err(error) => (document.into_sink(), Err(error)),
+        Ok(()) => (writer, sink, whole),
+        Err(error) => (writer, sink, Err(error)),
     }
 }
 
 /// A writer with a value more.
-fn given<T: Serialize, G: Given>(
+fn given<'w, 'a, T: Serialize, G: Given>(
     alloc: Global,
-    writer: Writer<Global>,
+    variants: Variants,
+    writer: &'w mut Writer<Global>,
+    nowhere: &'a mut NoSink,
     value: &T,
-) -> (Writer<Global>, Result<(), Error>)
-    requires start { writer ≡ G.start }
+) -> (&'w mut Writer<Global>, &'a mut NoSink, Result<(), Error>)
+    requires start { writer.now ≡ G.start }
+    requires lent { writer.ghost_name ≡ G.lent }
     requires held { G.held ≡ None }
     requires keeps { G.keeps ≡ true }
-    ensures gives { GivesEvents G.start.emitter result.0.emitter }
-    ensures grows { Grows G.start.emitter.page result.0.emitter.page }
-    ensures canonical { result.0.canonical ≡ G.start.canonical }
-    ensures above { take (length G.start.levels) result.0.levels ≡ G.start.levels }
-    ensures whole { OnOk result.1 ((result.0.levels ≡ G.start.levels) × (awaits_node result.0 ≡ false)) }
-    ensures sound { OnOk result.1 (result.0.emitter.error ≡ None) }
+    ensures lent { result.0.ghost_name ≡ G.lent }
+    ensures gives { GivesEvents G.start.emitter result.0.now.emitter }
+    ensures grows { Grows G.start.emitter.page result.0.now.emitter.page }
+    ensures canonical { result.0.now.canonical ≡ G.start.canonical }
+    ensures above { take (length G.start.levels) result.0.now.levels ≡ G.start.levels }
+    ensures whole { OnOk result.2 ((result.0.now.levels ≡ G.start.levels) × (awaits_node result.0.now ≡ false)) }
+    ensures sound { OnOk result.2 (result.0.now.emitter.error ≡ None) }
 {
-    let mut nowhere = io::sink();
-    let document: Document<'_, G, NoSink> = Document::kept(writer, &mut nowhere);
-    let (document, answer) = with_value(alloc, document, value);
-    let (writer, whole) = document.into_writer();
+    let document: Document<'w, 'a, G, NoSink> = Document::kept(writer, nowhere);
+    let (document, answer) = with_value(alloc, variants, document, value);
+    let (writer, nowhere, whole) = document.into_writer();
     match answer {
-        Ok(()) => (writer, whole),
-        Err(error) => (writer, Err(error)),
+        Ok(()) => (writer, nowhere, whole),
+        Err(error) => (writer, nowhere, Err(error)),
+    }
+}
+
+/// Writes the last bytes to a sink.
+fn finish_sink<W: Write>(sink: &mut W, rest: &[u8]) -> Result<(), Error>
+    ensures written { OnOk result (Appends (W.contents sink.old) (W.contents sink.new) rest.now) }
+    ensures first { OnErr result (AppendsFirst (W.contents sink.old) (W.contents sink.new) rest.now) }
+{
+    match write_to_sink(sink, rest) {
+        Ok(()) => Ok(()),
+        Err(error) => Err(Error::from(error)),
     }
 }
 

@@ -4,8 +4,10 @@ mod callers;
 mod calling;
 mod handed;
 mod numbers;
+mod paths;
 mod serialized;
 mod values;
+mod variants;
 mod writers;
 
 use std::alloc::{Allocator, Global};

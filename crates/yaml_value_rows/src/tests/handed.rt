@@ -5,13 +5,18 @@ use serde::Serialize;
 use std::alloc::Global;
 use std::io;
 use std::process::Abort;
-use yaml_serde::{Error, Writer, to_writer, value_settings, write, yaml_error_t};
+use yaml_serde::{Cause, Error, Writer, to_writer, value_settings, write, yaml_error_t};
 use yaml_writer::YAML_BLOCK_SEQUENCE_STYLE;
 
 /// The kind of a sink's error; nothing where it fails otherwise, or the value is written.
 fn sink_failure<T: Serialize>(alloc: Global, room: usize, value: &T) -> Option<io::ErrorKind> {
     match sink_of(alloc, room, value) {
-        Err(Error::Sink(error)) => Some(error.kind()),
+        Err(
+            Error {
+                cause: Cause::Sink(error),
+                ..
+            },
+        ) => Some(error.kind()),
         _ => None,
     }
 }
@@ -36,7 +41,10 @@ fn bytes_are_handed_on_while_a_value_is_written(rt: HostRuntime) {
     };
     let is_custom = matches!(
         to_writer(alloc, &mut sink, &ByHand::Lines(10_000)),
-        Err(Error::Custom(_))
+        Err(Error {
+            cause: Cause::Custom(_),
+            ..
+        })
     );
     equal(&rt, &(is_custom, sink.taken.len() >= 60_000), &(true, true));
 }

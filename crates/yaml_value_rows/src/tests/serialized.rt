@@ -35,7 +35,7 @@ fn check_text<T: Serialize>(rt: &impl Abort, alloc: Global, value: &T, expected:
 }
 
 /// The value is refused with these words.
-fn check_refused<T: Serialize>(rt: &impl Abort, alloc: Global, value: &T, wanted: &str) {
+pub(super) fn check_refused<T: Serialize>(rt: &impl Abort, alloc: Global, value: &T, wanted: &str) {
     let error = yaml_of(alloc, value).err().expect(rt, "an error");
     let words = error.to_string(alloc).expect(rt, "no memory");
     equal(rt, &words.as_str(), &wanted);
@@ -189,31 +189,31 @@ impl Serialize for ByHand<'_> {
 }
 
 #[derive(Drop, Serialize)]
-enum Shape {
+pub(super) enum Shape {
     Empty,
     Rectangle(u32, u32),
 }
 
 #[derive(Drop, Serialize)]
-enum Label {
+pub(super) enum Label {
     Named { id: u8 },
 }
 
 /// A variant that holds a value.
 #[derive(Drop, Serialize)]
-enum Holder<T> {
+pub(super) enum Holder<T> {
     Of(T),
 }
 
 #[derive(Drop, Serialize)]
 #[serde(rename_all = "kebab-case")]
-enum Color {
+pub(super) enum Color {
     DarkRed,
     Grey(u8),
 }
 
 /// A map of these pairs.
-fn map_of<K: Ord + Drop, V: Drop, const N: usize>(
+pub(super) fn map_of<K: Ord + Drop, V: Drop, const N: usize>(
     rt: &impl Abort,
     alloc: Global,
     pairs: [(K, V); N],
@@ -274,9 +274,9 @@ struct Outer {
 }
 
 #[derive(Drop, Serialize)]
-struct Wrong {
+pub(super) struct Wrong {
     #[serde(flatten)]
-    number: u8,
+    pub(super) number: u8,
 }
 
 #[test]

@@ -1,27 +1,35 @@
-use Rattle.yaml_serde.proofs.Common.{subst, sym, OnOk, seen_settings, AppendsDocument}
-use Rattle.std.specs.Prelude.{OnErr}
-use Rattle.std.proofs.Common.{rules}
-use Rattle.yaml_serde.proofs.Giving.{begins_nothing, begun_by, sent_by}
-use Rattle.yaml_serde.specs.Documents.{AppendsBeginning}
+use Rattle.yaml_serde.proofs.Common.{seen_settings, subst, sym, Finishes}
+use Rattle.yaml_serde.proofs.Giving.{begins_nothing, begun_by, fails_with, written_by}
 use Rattle.yaml_serde.proofs.serializing.to_writer_with.Goals as goal
 
-pub returns-in_default-clause-first : goal.returns-in_default-clause-first
-returns-in_default-clause-first g c = begins_nothing (seen_settings c.args.settings) (g.W.Write.contents c.args.sink.now)
+pub returns-in_err-writer-clause-first : goal.returns-in_err-writer-clause-first
+returns-in_err-writer-clause-first g c =
+    fails_with c.from_residual.result (begins_nothing (seen_settings c.args.settings.writer) (g.W.Write.contents c.args.sink.now))
+
+pub returns-in_err-write_and_send-clause-first : goal.returns-in_err-write_and_send-clause-first
+returns-in_err-write_and_send-clause-first g c =
+    fails_with c.from_residual-in_err-write_and_send.result
+    (c.write_and_send.ensures.first (seen_settings c.args.settings.writer) c.in_ok-writer.ensures.stands)
+
+pub returns-in_err-rest-clause-first : goal.returns-in_err-rest-clause-first
+returns-in_err-rest-clause-first g c =
+    fails_with c.from_residual-in_err-rest.result
+    (c.write_and_send.ensures.first (seen_settings c.args.settings.writer) c.in_ok-writer.ensures.stands)
 
 pub returns-clause-written : goal.returns-clause-written
 returns-clause-written g c =
     let held = g.W.Write.contents in
-    let sent = c.sent-sink in
-    let settings = seen_settings c.args.settings in
-    let same = sym sent.ensures.same in
-    subst (λ now. OnOk sent.result.1 (AppendsDocument settings (held c.args.sink.now) now)) (search rules)
-    (sent_by (held c.args.sink.now) (held sent.result.0.now) settings c.in-Ok.writer.emitter sent.result.1 c.in-Ok.ensures.stands sent.ensures.written)
+    let sent = c.write_and_send in
+    let emitter = sent.new.writer.emitter in
+    written_by c.finish_sink.result (seen_settings c.args.settings.writer) (held c.args.sink.now) (held sent.new.sink) (held c.finish_sink.new.sink)
+    c.in_ok-writer.writer.emitter emitter c.as_slice.result.now c.in_ok-writer.ensures.stands c.in_ok-write_and_send.ensures.whole
+    (subst (Finishes emitter) (sym c.as_slice.ensures.value) c.in_ok-rest.ensures.finishes) c.finish_sink.ensures.written
 
 pub returns-clause-first : goal.returns-clause-first
 returns-clause-first g c =
     let held = g.W.Write.contents in
-    let sent = c.sent-sink in
-    let settings = seen_settings c.args.settings in
-    let same = sym sent.ensures.same in
-    subst (λ now. OnErr sent.result.1 (AppendsBeginning settings (held c.args.sink.now) now)) (search rules)
-    (begun_by (held c.args.sink.now) (held sent.result.0.now) settings c.in-Ok.writer.emitter sent.result.1 c.in-Ok.ensures.stands sent.ensures.first)
+    let sent = c.write_and_send in
+    let emitter = sent.new.writer.emitter in
+    begun_by c.finish_sink.result (seen_settings c.args.settings.writer) (held c.args.sink.now) (held sent.new.sink) (held c.finish_sink.new.sink)
+    c.in_ok-writer.writer.emitter emitter c.as_slice.result.now c.in_ok-writer.ensures.stands c.in_ok-write_and_send.ensures.whole
+    (subst (Finishes emitter) (sym c.as_slice.ensures.value) c.in_ok-rest.ensures.finishes) c.finish_sink.ensures.first

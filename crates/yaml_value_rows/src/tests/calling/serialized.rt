@@ -58,13 +58,13 @@ fn send_each<W: Write>(
     for (index, value) in values.iter().enumerate() {
         if index > 0 {
             writer.next_document()?;
-            writer.send(sink).map_err(yaml_serde::Error::Sink)?;
+            writer.send(sink)?;
         }
         yaml_serde::write(alloc, &mut writer, value)?;
     }
     let rest = writer.finish()?;
-    sink.write_all(rest.as_slice())
-        .map_err(yaml_serde::Error::Sink)
+    sink.write_all(rest.as_slice())?;
+    Ok(())
 }
 
 /// The value of a JSON text.

@@ -10,6 +10,7 @@ invariant_of-self g c =
     record {
       stands =
           stands_begun g.W.Write.contents g.G.Given.held g.G.Given.name g.G.Given.keeps g.G.Given.start
-          answer.result self.outlet self.base self.writer answer.new.self
-          Sequence (sequence_call (with_collection self.writer Sequence)) answer.ensures self.stands;
+          answer.result self.outlet self.base self.writer.now answer.new.self
+          Sequence (sequence_call (with_collection self.writer.now Sequence)) answer.ensures self.stands;
+      lent = self.lent;
     }

@@ -8,6 +8,7 @@ invariant_of-self g c =
     record {
       stands =
           stands_given g.W.Write.contents g.G.Given.held g.G.Given.name g.G.Given.keeps g.G.Given.start
-          answer.result self.outlet self.base self.writer answer.new.self
-          (bytes_call self.writer c.args.value.now) answer.ensures self.stands;
+          answer.result self.outlet self.base self.writer.now answer.new.self
+          (bytes_call self.writer.now c.args.value.now) answer.ensures self.stands;
+      lent = self.lent;
     }

@@ -2,14 +2,15 @@ use Rattle.yaml_serde.proofs.Common.{◌<◌, length, arith}
 use Rattle.yaml_serde.proofs.Giving.{stands_ended}
 use Rattle.yaml_serde.proofs.document.Document.end.Goals as goal
 
-pub invariant_of-self : goal.invariant_of-self
-invariant_of-self g c =
+pub invariant_of-self-2 : goal.invariant_of-self-2
+invariant_of-self-2 g c =
     let self = c.args.self.now in
     let answer = c.end-ended in
-    let inner : self.base < length self.writer.levels = omega arith in
+    let inner : self.base < length self.writer.now.levels = omega arith in
     record {
       stands =
           stands_ended g.W.Write.contents g.G.Given.held g.G.Given.name g.G.Given.keeps g.G.Given.start
-          answer.result self.outlet self.base self.writer answer.new.self
+          answer.result self.outlet self.base self.writer.now answer.new.self
           inner answer.ensures.awaited answer.ensures.ended self.stands;
+      lent = self.lent;
     }

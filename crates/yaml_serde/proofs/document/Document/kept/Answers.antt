@@ -9,7 +9,8 @@ invariant_of-result g c =
     record {
       stands =
           stands_new g.W.Write.contents g.G.Given.held g.G.Given.name g.G.Given.keeps g.G.Given.start
-          (record { sink = c.args.nowhere; handing = Kept }) c.depth-base.result c.args.writer c.requires.start
+          (record { sink = c.args.nowhere; handing = Kept }) c.depth-base.result c.args.writer.now c.requires.start
           (subst (λ (held : Option (List ℕ)). Appends held now []) (sym c.requires.held) tt) (sym c.requires.keeps)
           (λ sent. cc) c.depth-base.ensures;
+      lent = c.requires.lent;
     }

@@ -10,7 +10,8 @@ invariant_of-result g c =
     record {
       stands =
           stands_new g.W.Write.contents g.G.Given.held g.G.Given.name g.G.Given.keeps g.G.Given.start
-          (record { sink = c.args.sink; handing = Open }) c.depth-base.result c.args.writer c.requires.start
+          (record { sink = c.args.sink; handing = Open }) c.depth-base.result c.args.writer.now c.requires.start
           (subst (λ (held : Option (List ℕ)). Appends held now []) (sym c.requires.held) (Appends-nil now)) (sym c.requires.keeps)
           (λ sent. sym c.requires.name) c.depth-base.ensures;
+      lent = c.requires.lent;
     }

@@ -7,5 +7,6 @@ invariant_of-self g c =
     record {
       stands =
           stands_handed g.W.Write.contents g.G.Given.held g.G.Given.name g.G.Given.keeps g.G.Given.start self.outlet c.hand_on.new.outlet self.base
-          self.writer c.hand_on.new.writer c.hand_on.result c.hand_on.ensures.hands c.hand_on.ensures.same self.stands;
+          self.writer.now c.hand_on.new.writer c.hand_on.result c.hand_on.ensures.hands c.hand_on.ensures.same self.stands;
+      lent = self.lent;
     }

@@ -9,5 +9,6 @@ invariant_of-self g c =
     record {
       stands =
           stands_float g.W.Write.contents g.G.Given.held g.G.Given.name g.G.Given.keeps g.G.Given.start
-          binary32 c.args.value answer.result self.outlet self.base self.writer answer.new.self answer.ensures self.stands;
+          binary32 c.args.value answer.result self.outlet self.base self.writer.now answer.new.self answer.ensures self.stands;
+      lent = self.lent;
     }

@@ -1,5 +1,9 @@
 use Rattle.yaml_serde.proofs.Common.{chars}
 use Rattle.yaml_serde.{proofs.Giving.stands_given, specs.Documents.text_call}
+use Rattle.yaml_serde.proofs.Common.{Result, subst}
+use Rattle.yaml_serde.proofs.Handing.{gives_and_sends}
+use Rattle.yaml_base.specs.declared.errors.yaml_error_t.{yaml_error_t}
+use Rattle.yaml_writer.specs.Writing.{Gives, text_event}
 use Rattle.yaml_serde.proofs.document.Document.text.Goals as goal
 
 pub invariant_of-self : goal.invariant_of-self
@@ -9,6 +13,17 @@ invariant_of-self g c =
     record {
       stands =
           stands_given g.W.Write.contents g.G.Given.held g.G.Given.name g.G.Given.keeps g.G.Given.start
-          answer.result self.outlet self.base self.writer answer.new.self
-          (text_call self.writer (chars c.args.value.now)) answer.ensures self.stands;
+          answer.result self.outlet self.base self.writer.now answer.new.self
+          (text_call self.writer.now (chars c.args.value.now)) answer.ensures self.stands;
+      lent = self.lent;
     }
+
+pub returns : goal.returns
+returns g c =
+    let self = c.args.self.now in
+    let called = c.text-given in
+    let settled = c.settle in
+    gives_and_sends g.W.Write.contents self.outlet settled.new.self.outlet self.writer.now called.new.self settled.new.self.writer.now
+    (text_event self.writer.now (chars c.args.value.now)) called.result settled.result
+    (λ ok. subst (λ (answer : Result (Unit {0}) yaml_error_t). Gives self.writer.now (text_event self.writer.now (chars c.args.value.now)) answer called.new.self) ok called.ensures)
+    settled.ensures.given settled.ensures.hands

@@ -1,0 +1,24 @@
+-- How a variant with data begins.
+use Rattle.std.specs.Prelude.{◌≡◌, ◌⊎◌, ℕ, None, Some, List, ◌++◌, chars, codes}
+use Rattle.yaml_base.specs.Event.{Event, block}
+use Rattle.yaml_emitter.specs.State.{with_all_taken}
+use Rattle.yaml_emitter.specs.declared.place.CollectionKind.TheVariants.{Mapping}
+use Rattle.yaml_writer.specs.Writing.{WriterState, GaveEvent, mapping_event, text_event, with_collection}
+use Rattle.yaml_serde.specs.declared.settings.Variants.{Variants}
+use Rattle.yaml_serde.specs.declared.settings.Variants.TheVariants.{Tags, OneKeyMap}
+
+-- a writer was given this event without an error, and then all that it had flushed was taken, or nothing
+abbrev pub GivesAndSends : WriterState → Event → WriterState → Type 0
+GivesAndSends before event after =
+    (given : WriterState) × GaveEvent before event None given × ((after ≡ given) ⊎ (after ≡ record given { emitter = with_all_taken given.emitter }))
+
+-- so with the start of a block mapping, which is open then
+abbrev pub GivesMapping : WriterState → WriterState → Type 0
+GivesMapping before after = GivesAndSends (with_collection before Mapping) (mapping_event before block) after
+
+-- a variant of this name, in UTF-8, begins: its data is the next node, whose tag is the name after a `!`; or it is the value of a
+-- block mapping's first key, which is the name
+abbrev pub BeginsVariant : Variants → List ℕ → WriterState → WriterState → Type 0
+BeginsVariant Tags name before after = after ≡ record before { tag = Some (chars (codes "!" ++ name)) }
+BeginsVariant OneKeyMap name before after =
+    (inside : WriterState) × GivesMapping before inside × GivesAndSends inside (text_event inside (chars name)) after

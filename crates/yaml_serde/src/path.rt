@@ -1,0 +1,158 @@
+//! The path to where a serializer is within its value.
+use std::alloc::{AllocError, Global};
+use std::fmt::{Display, Write};
+use std::str;
+
+/// What a level of the path is.
+#[derive(Clone, Copy)]
+pub(crate) enum LevelKind {
+    Sequence,
+    Map,
+    /// A variant with a tag, or a flattened map: it has neither a start nor an end of its own.
+    Unwritten,
+}
+
+/// What leads from a level to the node that is written next.
+#[derive(Clone, Copy)]
+enum Step {
+    /// Nothing: it has no entry, or the entry is whole.
+    Between,
+    /// The next node is a key.
+    InKey,
+    /// A key, whose text ends at this byte of the keys.
+    Key(usize),
+    /// A key that is neither a text nor an integer.
+    OtherKey,
+    /// The item of this index.
+    Item(usize),
+}
+
+#[derive(Clone, Copy)]
+struct Level {
+    kind: LevelKind,
+    step: Step,
+    /// Where its key begins among the bytes of all keys.
+    start: usize,
+}
+
+/// The path to where a serializer is within its value.
+#[derive(Drop)]
+pub(crate) struct Path {
+    alloc: Global,
+    /// The innermost last.
+    levels: Vec<Level>,
+    /// The keys of all levels, in UTF-8, one after another.
+    keys: Vec<u8>,
+}
+
+impl Path {
+    pub(crate) fn new(alloc: Global) -> Path {
+        Path {
+            alloc,
+            levels: Vec::new(alloc),
+            keys: Vec::new(alloc),
+        }
+    }
+
+    pub(crate) fn enter(&mut self, kind: LevelKind) -> Result<(), AllocError> {
+        let step = match kind {
+            LevelKind::Sequence => Step::Item(0),
+            LevelKind::Map | LevelKind::Unwritten => Step::Between,
+        };
+        let start = self.keys.len();
+        self.levels.push(Level { kind, step, start })?;
+        Ok(())
+    }
+
+    /// Leaves the innermost level, if there is one, and returns what it was.
+    pub(crate) fn leave(&mut self) -> Option<LevelKind> {
+        let level = self.levels.pop()?;
+        self.keys.truncate(level.start);
+        Some(level.kind)
+    }
+
+    /// Says that the next node is a key.
+    pub(crate) fn begin_key(&mut self) {
+        if let Some(level) = self.levels.last_mut() {
+            level.step = Step::InKey;
+            self.keys.truncate(level.start);
+        }
+    }
+
+    /// Passes a node that is whole.
+    pub(crate) fn pass(&mut self) {
+        if let Some(level) = self.levels.last_mut() {
+            level.step = match level.step {
+                Step::InKey => Step::OtherKey,
+                Step::Item(index) => Step::Item(index.saturating_add(1)),
+                Step::Between | Step::Key(_) | Step::OtherKey => Step::Between,
+            };
+        }
+    }
+
+    /// Passes a text, which is kept where it is a key.
+    pub(crate) fn pass_text(&mut self, text: &str) -> Result<(), AllocError> {
+        if self.is_in_key() {
+            self.keys.extend_from_slice(text.as_bytes())?;
+            self.keep_key();
+        } else {
+            self.pass();
+        }
+        Ok(())
+    }
+
+    /// Passes an integer, which is kept where it is a key.
+    pub(crate) fn pass_integer<T: Display>(&mut self, value: &T) -> Result<(), AllocError> {
+        if self.is_in_key() {
+            let text = format!(in self.alloc; "{value}")?;
+            return self.pass_text(text.as_str());
+        }
+        self.pass();
+        Ok(())
+    }
+
+    fn is_in_key(&self) -> bool {
+        match self.levels.last() {
+            Some(level) => matches!(level.step, Step::InKey),
+            None => false,
+        }
+    }
+
+    fn keep_key(&mut self) {
+        let end = self.keys.len();
+        if let Some(level) = self.levels.last_mut() {
+            level.step = Step::Key(end);
+        }
+    }
+
+    /// The path as a text; `None` where it is empty, or there is no memory for it.
+    pub(crate) fn to_text(&self) -> Option<String> {
+        let mut text = String::new(self.alloc);
+        for level in &self.levels {
+            self.append(level, &mut text).ok()?;
+        }
+        if text.is_empty() { None } else { Some(text) }
+    }
+
+    /// Appends the step from a level.
+    fn append(&self, level: &Level, text: &mut String) -> Result<(), AllocError> {
+        match level.step {
+            Step::Between | Step::InKey => Ok(()),
+            Step::Item(index) => write!(text, "[{index}]"),
+            Step::Key(end) => append_key(self.keys.get(level.start..end), text),
+            Step::OtherKey => append_key(None, text),
+        }
+    }
+}
+
+/// Appends a key; `?` where it is unknown.
+fn append_key(key: Option<&[u8]>, text: &mut String) -> Result<(), AllocError> {
+    if !text.is_empty() {
+        text.push('.')?;
+    }
+    let key = match key {
+        Some(key) => str::from_utf8(key).unwrap_or("?"),
+        None => "?",
+    };
+    text.push_str(key)
+}

@@ -1,0 +1,36 @@
+//! How values are serialized.
+ghost use Rattle.std.specs.Prelude.{◌≡◌};
+ghost use Rattle.yaml_emitter.specs.Given.{seen_settings};
+ghost use Rattle.yaml_writer.specs.Given.{given_for_values};
+
+use yaml_writer::{Settings, value_settings};
+
+/// How a variant with data is written. One without data is its name, a text.
+#[derive(Clone, Copy, PartialEq, Eq, Debug)]
+pub enum Variants {
+    /// Its data, with its name as a local tag: `!Circle 2`.
+    Tags,
+    /// A mapping of one key, its name, to its data: `Circle: 2`.
+    OneKeyMap,
+}
+
+/// How values are serialized.
+#[derive(Clone, Copy, PartialEq, Eq, Debug)]
+pub struct SerdeSettings {
+    /// How the writer writes.
+    pub writer: Settings,
+    /// How a variant with data is written.
+    pub variants: Variants,
+}
+
+/// The settings for values, and tags for variants.
+impl Default for SerdeSettings {
+    fn default() -> Self
+        ensures { seen_settings result.writer ≡ given_for_values }
+    {
+        SerdeSettings {
+            writer: value_settings(),
+            variants: Variants::Tags,
+        }
+    }
+}
