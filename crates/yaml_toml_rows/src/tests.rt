@@ -1,5 +1,6 @@
 //! What the tests share: a document in one line.
 mod calling;
+mod grammar;
 mod order;
 mod refused;
 mod values;

@@ -64,7 +64,7 @@ const ROWS: &[(&str, &str)] = &[
     ("\"1\" = true\n", "---\n'1': true\n"),
 ];
 
-fn check(rt: &impl Abort, alloc: Global, text: &str, wanted: &str) {
+pub(super) fn check(rt: &impl Abort, alloc: Global, text: &str, wanted: &str) {
     match yaml_from_toml(alloc, text, TomlSettings::default()) {
         Ok(bytes) => equal(rt, &(text, bytes.as_slice()), &(text, wanted.as_bytes())),
         Err(_) => equal(rt, &(text, "an error"), &(text, wanted)),
