@@ -1,22 +1,24 @@
 -- The loops of the grammar, a turn at a time.
 use Rattle.std.proofs.Common.{◌≡◌, ℕ, zero, suc, ◌-◌, ◌<◌, true, false, ◌||◌, ◌==◌, List, [], ◌∷◌, length, drop, Option, Some, None, Result, Ok, Err, refl, ap, ◌∙◌, arith}
-use Rattle.std.proofs.Common.{take, take_all, length-drop, option_map, cond, Bool, sym, inl, inr, ◌⊎◌, ◌≤◌}
-use Rattle.std.proofs.lemmas.Bool.{cases_lt}
+use Rattle.std.proofs.Common.{take, take_all, length-drop, option_map, cond, Bool, sym, subst, inl, inr, ◌⊎◌, ◌≤◌, bytes_eq, codes}
+use Rattle.std.proofs.lemmas.Bool.{cases_Bool, cases_lt}
 use Rattle.std.specs.Result.{IsErrAnd}
 use Rattle.toml_parser.specs.Numbers.{unquoted, word_len, word_value}
-use Rattle.toml_parser.specs.Strings.{starts_string}
+use Rattle.toml_parser.specs.Strings.{starts_string, quoted}
 use Rattle.toml_parser.specs.declared.scalar.Scalar.{Scalar}
+use Rattle.toml_parser.specs.declared.scalar.Scalar.TheVariants as scalar
 use Rattle.toml_parser.specs.declared.error.ParseError.{ParseError}
 use Rattle.toml_parser.specs.declared.error.ParseError.TheVariants as parse
 use Rattle.toml_parser.specs.Lexical.{Read, first, skip_blank}
 use Rattle.toml_parser.specs.Strings.{Key}
 use Rattle.toml.specs.Parse.{read_map, after_element, key_equals, skip_bom}
-use Rattle.toml_ordered.specs.Data.{Node, Items, no_items, array, table, push_item, Nodes, no_nodes}
+use Rattle.toml_ordered.specs.Data.{Node, string, decimal, infinity, not_a_number, Items, no_items, array, table, push_item, Nodes, no_nodes}
+use Rattle.toml_ordered.specs.Drafts.{sealed}
 use Rattle.toml_ordered.specs.Tables.{put, Document, Expression, define, Edit, along, passed, get_node, replace, append, made_by, Definition, redefine, new_node, at_key}
 use Rattle.toml_ordered.specs.Reading.{Gives, IsMemory, fault_of}
 use Rattle.toml_ordered.specs.declared.fault.Fault.{Fault}
 use Rattle.toml_ordered.specs.declared.route.Way.{Way}
-use Rattle.toml_ordered.specs.Grammar.{scalar_node, atom, val, keyval, items, members, line, lines, ordered_document}
+use Rattle.toml_ordered.specs.Grammar.{plain_word, past_sign, float_node, scalar_node, atom, val, keyval, items, members, line, lines, ordered_document}
 use Rattle.toml_ordered.specs.declared.tree.Origin.TheVariants.{Closed}
 
 module _ (val : List ℕ → Read Node) where
@@ -237,3 +239,64 @@ pub atom_scalar : (s : List ℕ) (d : Scalar) (rest : List ℕ) (x : Node) → s
     → x ≡ scalar_node (take (length s - length rest) s) d → atom s ≡ Some (x, rest)
 atom_scalar s d rest x other read is =
     rw (other, read) (ap (λ y. Some (y, rest)) (sym (is ∙ ap (λ w. scalar_node w d) (word_taken s rest (word_len s) (rest_is s d rest read)))))
+
+-- ---- values that were read take no more
+
+abbrev value_or : Node → Option (Node × List ℕ) → Node
+value_or d None = d
+value_or d (Some r) = r.0
+
+read_sealed : {A : Type 0} (f : A → Node) → ((a : A) → sealed (f a) ≡ f a) → (o : Read A) (x : Node) (rest : List ℕ) → read_map f o ≡ Some (x, rest)
+    → sealed x ≡ x
+read_sealed f all None x rest read = absurd (cc)
+read_sealed f all (Some r) x rest read = subst (λ (y : Node). sealed y ≡ y) (ap (value_or x) read) (all r.0)
+
+float_sealed : (word : List ℕ) → sealed (float_node word) ≡ float_node word
+float_sealed word = by (bytes_eq (past_sign word) (codes "inf")) (bytes_eq (past_sign word) (codes "nan"))
+  where
+    by : (a b : Bool) → sealed (cond a (infinity (first word == 45)) (cond b not_a_number (decimal word))) ≡ cond a (infinity (first word == 45)) (cond b not_a_number (decimal word))
+    by true b = refl
+    by false true = refl
+    by false false = refl
+
+scalar_sealed : (word : List ℕ) (s : Scalar) → sealed (scalar_node word s) ≡ scalar_node word s
+scalar_sealed word (scalar.Boolean b) = refl
+scalar_sealed word (scalar.Integer z) = refl
+scalar_sealed word (scalar.Float x) = float_sealed (plain_word word)
+scalar_sealed word (scalar.Datetime d) = refl
+
+atom_sealed : (text : List ℕ) (x : Node) (rest : List ℕ) → atom text ≡ Some (x, rest) → sealed x ≡ x
+atom_sealed text x rest = by (starts_string text)
+  where
+    word : List ℕ
+    word = take (word_len text) text
+
+    by : (b : Bool) → cond {A = Option (Node × List ℕ)} b (read_map string (quoted text)) (read_map (scalar_node word) (unquoted text)) ≡ Some (x, rest) → sealed x ≡ x
+    by true read = read_sealed string (λ s. refl) (quoted text) x rest read
+    by false read = read_sealed (scalar_node word) (scalar_sealed word) (unquoted text) x rest read
+
+pub val_sealed : (depth : ℕ) (text : List ℕ) (x : Node) (rest : List ℕ) → val depth text ≡ Some (x, rest) → sealed x ≡ x
+val_sealed depth text x rest read = elim (cases_Bool (first text == 91)) [
+  | inl a ↦ elim (cases_lt 0 depth) [
+    | inl some ↦ read_sealed array (λ xs. refl) (items (val (depth - 1)) (length text) no_items (drop 1 text)) x rest (sym (val_array depth text some a) ∙ read)
+    | inr none ↦
+        let zero : depth ≡ 0 = omega (arith, none) in
+        let deep : (first text == 91 || first text == 123) ≡ true = rw a in
+        absurd (some_none (sym read ∙ ap (λ (d : ℕ). val d text) zero ∙ val_deep text deep))
+  ]
+  | inr a ↦ elim (cases_Bool (first text == 123)) [
+    | inl b ↦ elim (cases_lt 0 depth) [
+      | inl some ↦
+          read_sealed (table Closed) (λ ns. refl) (members (val (depth - 1)) (length text) no_nodes (drop 1 text)) x rest
+          (sym (val_table depth text some a b) ∙ read)
+      | inr none ↦
+          let zero : depth ≡ 0 = omega (arith, none) in
+          let deep : (first text == 91 || first text == 123) ≡ true = rw (a, b) in
+          absurd (some_none (sym read ∙ ap (λ (d : ℕ). val d text) zero ∙ val_deep text deep))
+    ]
+    | inr b ↦ atom_sealed text x rest (sym (val_atom depth text a b) ∙ read)
+  ]
+]
+  where
+    some_none : ◌≡◌ {A = Option (Node × List ℕ)} (Some (x, rest)) None → ⊥
+    some_none e = cc

@@ -1,13 +1,13 @@
 -- How a result stands to what the grammar gives.
-use Rattle.std.specs.Prelude.{◌≡◌, ℕ, zero, suc, ◌<◌, true, false, bytes_eq, string_bytes, List, [], ◌∷◌, length, String, Result, MatchResult, IfOk, Option, Some, None}
+use Rattle.std.specs.Prelude.{◌≡◌, ℕ, ◌<◌, string_bytes, List, length, Result, MatchResult, IfOk, Option, Some, None}
 use Rattle.std.specs.Borrow.{Bor}
-use Rattle.std.specs.declared.alloc.Global.{Global}
 use Rattle.toml_parser.specs.Lexical.{Read}
 use Rattle.toml_parser.specs.Reading.{path_view, key_view}
 use Rattle.toml_parser.specs.declared.error.ParseError.{ParseError}
 use Rattle.toml_parser.specs.declared.error.ParseError.TheVariants as parse
 use Rattle.toml_parser.specs.declared.key.Key as code_key
-use Rattle.toml_ordered.specs.Data.{entries_view, node_view}
+use Rattle.toml_ordered.specs.Data.{node_view}
+use Rattle.toml_ordered.specs.Drafts.{sealed, table_view}
 use Rattle.toml_ordered.specs.Tables.{Definition, Document, Edit, Expression, key_value, std_table, array_table, steps, along, at_key}
 use Rattle.toml_ordered.specs.declared.route.Way.{Way}
 use Rattle.toml_ordered.specs.declared.document.Document.{Document as CodeDocument}
@@ -17,7 +17,6 @@ use Rattle.toml_ordered.specs.declared.route.Route.{Route}
 use Rattle.toml_ordered.specs.declared.tables.Definition as code_definition
 use Rattle.toml_ordered.specs.declared.tables.Entry.{Entry}
 use Rattle.toml_ordered.specs.declared.tables.Definition.TheVariants.{Value, Table, Tables}
-use Rattle.toml_ordered.specs.declared.tree.Node.{Node as CodeNode}
 
 -- an allocation failed
 abbrev pub IsMemory : Fault → Type 0
@@ -41,7 +40,7 @@ abbrev pub Shortens : {A : Type 0} → List ℕ → Result (A × Bor (List ℕ))
 Shortens text r = IfOk r (λ p. length p.1.now < length text)
 
 abbrev pub definition_view : code_definition.Definition → Definition
-definition_view (Value x) = key_value (node_view x)
+definition_view (Value x) = key_value (sealed (node_view x))
 definition_view Table = std_table
 definition_view Tables = array_table
 
@@ -58,10 +57,4 @@ along_route route entry = along (steps_of route) (at_key (string_bytes entry.key
 
 -- what was read of a document
 abbrev pub document_view : CodeDocument → Document
-document_view document = (entries_view document.root.items, path_view document.section.items)
-
--- a key stands at this place, and at none before it
-abbrev pub HasFirst : List ℕ → ℕ → List (String Global × CodeNode × ℕ) → Type 0
-HasFirst k at [] = ⊥
-HasFirst k zero (m ∷ ms) = bytes_eq k (string_bytes m.0) ≡ true
-HasFirst k (suc at) (m ∷ ms) = (bytes_eq k (string_bytes m.0) ≡ false) × HasFirst k at ms
+document_view document = (table_view document.root, path_view document.section.items)

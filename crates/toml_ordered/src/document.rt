@@ -1,12 +1,15 @@
 //! Documents, expression by expression.
-ghost use Rattle.std.specs.Prelude.{◌≡◌, ◌≤◌, length};
+ghost use Rattle.std.specs.Prelude.{◌≡◌, ◌≤◌, IfErr, length};
 ghost use Rattle.toml_parser.specs.Reading.{key_view};
 ghost use Rattle.toml.specs.Parse.{header_key, skip_bom};
 ghost use Rattle.toml_ordered.specs.Data.{entries_view, node_view};
+ghost use Rattle.toml_ordered.specs.Drafts.{sealed};
 ghost use Rattle.toml_ordered.specs.Grammar as spec;
+ghost use Rattle.toml_ordered.specs.Places.{IsPlaced};
 ghost use Rattle.toml_ordered.specs.Reading.{Gives, Reads, Shortens, definition_view, document_view, expression_view};
 ghost use Rattle.toml_ordered.specs.Tables.{define, defined_header, defined_pair};
 
+use crate::drafts::OpenTable;
 use crate::fault::{Fault, not_toml};
 use crate::route::Route;
 use crate::tables::{Definition, Entry, define_at};
@@ -19,7 +22,7 @@ use toml_parser::{Key, RECURSION_LIMIT, dotted_key};
 /// What was read of a document: its root table, and the key of the last header.
 #[derive(Drop)]
 struct Document {
-    root: Nodes,
+    root: OpenTable,
     section: Vec<String>,
 }
 
@@ -42,7 +45,7 @@ impl Document {
 
     /// Defines a pair, in the table of the last header.
     fn define_pair(&mut self, alloc: Global, key: Key, node: Node, left: usize) -> Result<(), Fault>
-        ensures { Gives (λ _. document_view self.new) result (defined_pair (document_view self.old) (key_view key) (node_view node)) }
+        ensures { Gives (λ _. document_view self.new) result (defined_pair (document_view self.old) (key_view key) (sealed (node_view node))) }
     {
         let Key { path, last } = key;
         let route = Route {
@@ -54,7 +57,13 @@ impl Document {
             what: Definition::Value(node),
             left,
         };
-        define_at(alloc, &mut self.root, route, entry)
+        define_at(
+            alloc,
+            &mut self.root.keys,
+            &mut self.root.index,
+            route,
+            entry,
+        )
     }
 
     /// Defines the table of a header.
@@ -77,7 +86,13 @@ impl Document {
             what,
             left,
         };
-        define_at(alloc, &mut self.root, route, entry)?;
+        define_at(
+            alloc,
+            &mut self.root.keys,
+            &mut self.root.index,
+            route,
+            entry,
+        )?;
         path.push(last)?;
         self.section = path;
         Ok(())
@@ -91,20 +106,26 @@ impl Document {
 /// `NotToml` where the text isn't TOML 1.1, or a key has more than 80 parts, or arrays and tables in braces nest more than 80 deep;
 /// `DefinedAgain` where a key is defined twice; `Memory` where an allocation fails.
 pub fn read_document(alloc: Global, text: &str) -> Result<Nodes, Fault>
-    ensures { Gives (λ root. entries_view root.items) result (spec.ordered_document text.now) }
+    ensures value { Gives (λ root. entries_view root.items) result (spec.ordered_document text.now) }
+    ensures placed { IfErr result (IsPlaced text.now) }
 {
     let mut read = Document {
-        root: Vec::new(alloc),
+        root: OpenTable::new(alloc),
         section: Vec::new(alloc),
     };
     let mut rest = past_mark(text);
     'lines: loop {
         let start = skip_blank(rest, true);
         if start.is_empty() {
-            return Ok(read.root);
+            return Ok(read.root.finish(alloc)?);
         }
-        let (expression, after) = line(alloc, start)?;
-        read.define(alloc, expression, start.len())?;
+        let (expression, after) = match line(alloc, start) {
+            Ok(found) => found,
+            Err(fault) => return Err(fault.here_or_behind(start)),
+        };
+        if let Err(fault) = read.define(alloc, expression, start.len()) {
+            return Err(fault.here_or_behind(start));
+        }
         rest = after;
     }
 }

@@ -1,5 +1,7 @@
 //! Why a text isn't read.
-ghost use Rattle.toml_ordered.specs.Reading.{fault_of};
+ghost use Rattle.std.specs.Prelude.{◌≤◌, IfSome, length};
+ghost use Rattle.toml_ordered.specs.Places.{place_left};
+ghost use Rattle.toml_ordered.specs.Reading.{IsMemory, fault_of};
 
 use std::alloc::{AllocError, AllocFailed};
 use toml_parser::{ErrorKind, ParseError};
@@ -19,6 +21,27 @@ pub enum Fault {
         first: usize,
         second: usize,
     },
+}
+
+impl Fault {
+    /// The fault, with its place here or behind. (No contract of `toml_parser` tells where its errors are.)
+    pub(crate) fn here_or_behind(self, start: &str) -> Fault
+        ensures memory { IsMemory self → IsMemory result }
+        ensures place { IfSome (place_left result) (λ left. left ≤ length start.now) }
+    {
+        let most = start.len();
+        match self {
+            Fault::Memory => Fault::Memory,
+            Fault::NotToml { left } => Fault::NotToml {
+                left: left.min(most),
+            },
+            Fault::DefinedAgain { key, first, second } => Fault::DefinedAgain {
+                key,
+                first,
+                second: second.min(most),
+            },
+        }
+    }
 }
 
 impl From<ParseError> for Fault {

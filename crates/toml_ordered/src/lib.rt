@@ -3,6 +3,7 @@
 #![tactic(auto)]
 
 mod document;
+mod drafts;
 mod fault;
 mod laws;
 mod route;

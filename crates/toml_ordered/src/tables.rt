@@ -1,13 +1,15 @@
 //! The rules by which keys and headers define tables.
-ghost use Rattle.std.specs.Prelude.{◌≡◌, ◌<◌, IfOk, IfSome, MatchOption, None, Some, length, option_map, string_bytes};
-ghost use Rattle.toml_ordered.specs.Data.{entries_view, node_view};
-ghost use Rattle.toml_ordered.specs.Reading.{Gives, HasFirst, along_route, definition_view};
+ghost use Rattle.std.specs.Prelude.{◌≡◌, IfOk, option_map, string_bytes};
+ghost use Rattle.toml_ordered.specs.Drafts.{draft_view, keys_view};
+ghost use Rattle.toml_ordered.specs.Reading.{Gives, along_route, definition_view};
 ghost use Rattle.toml_ordered.specs.Tables as spec;
 
+use crate::drafts::{Draft, Index, Keys, append, find, finish};
 use crate::fault::Fault;
 use crate::route::{Route, Way};
-use crate::tree::{Node, Nodes, Origin};
+use crate::tree::{Node, Origin};
 use std::alloc::{AllocError, Global};
+use std::collections::BTreeMap;
 use std::mem;
 
 /// What stands with a key on a line.
@@ -53,29 +55,31 @@ impl Passed<'_> {
 #[cycle(define_at)]
 pub(crate) fn define_at(
     alloc: Global,
-    nodes: &mut Nodes,
+    keys: &mut Keys,
+    index: &mut Index,
     route: Route<'_>,
     entry: Entry,
 ) -> Result<(), Fault>
-    ensures { Gives (λ _. entries_view nodes.new.items) result
-        (along_route route.entry entry (entries_view nodes.old.items)) }
+    ensures { Gives (λ _. keys_view keys.new.items index.new) result (along_route route.entry entry (keys_view keys.old.items index.old)) }
 {
     let Some((way, key, rest)) = route.split() else {
-        return at_key(alloc, nodes, entry);
+        return at_key(alloc, keys, index, entry);
     };
-    match find(nodes, key.as_str()) {
+    match find(keys, index, key.as_str()) {
         Some(at) => {
-            let (name, node, first) = mem::replace(&mut nodes[at], nothing(alloc));
+            let (name, draft, first) = mem::replace(&mut keys[at], nothing(alloc));
             let key = key.as_str();
-            let node = pass(alloc, Passed { way, key, first }, node, rest, entry)?;
-            nodes[at] = (name, node, first);
+            let draft = pass(alloc, Passed { way, key, first }, draft, rest, entry)?;
+            keys[at] = (name, draft, first);
             Ok(())
         }
         None => {
             let left = entry.left;
             let mut inner = Vec::new(alloc);
-            define_at(alloc, &mut inner, rest, entry)?;
-            append(nodes, key.clone()?, Node::Table(way.origin(), inner), left)
+            let mut places = BTreeMap::new(alloc);
+            define_at(alloc, &mut inner, &mut places, rest, entry)?;
+            let table = Draft::Table(way.origin(), inner, places);
+            append(keys, index, key.clone()?, table, left)
         }
     }
 }
@@ -85,101 +89,82 @@ pub(crate) fn define_at(
 fn pass(
     alloc: Global,
     passed: Passed<'_>,
-    node: Node,
+    draft: Draft,
     route: Route<'_>,
     entry: Entry,
-) -> Result<Node, Fault>
-    ensures { Gives node_view result (spec.passed passed.entry.way (along_route route.entry entry) (node_view node)) }
+) -> Result<Draft, Fault>
+    ensures { Gives draft_view result (spec.passed passed.entry.way (along_route route.entry entry) (draft_view draft)) }
 {
-    match node {
-        Node::Table(origin, mut inner) => {
+    match draft {
+        Draft::Table(origin, mut inner, mut index) => {
             let Some(origin) = passed.way.origin_after(origin) else {
                 return Err(passed.defined_again(alloc, entry.left));
             };
-            define_at(alloc, &mut inner, route, entry)?;
-            Ok(Node::Table(origin, inner))
+            define_at(alloc, &mut inner, &mut index, route, entry)?;
+            Ok(Draft::Table(origin, inner, index))
         }
-        Node::Tables(done, mut last) => {
+        Draft::Tables(done, mut last, mut index) => {
             if let Way::Dots = passed.way {
                 return Err(passed.defined_again(alloc, entry.left));
             }
-            define_at(alloc, &mut last, route, entry)?;
-            Ok(Node::Tables(done, last))
+            define_at(alloc, &mut last, &mut index, route, entry)?;
+            Ok(Draft::Tables(done, last, index))
         }
-        _ => Err(passed.defined_again(alloc, entry.left)),
+        Draft::Value(_) => Err(passed.defined_again(alloc, entry.left)),
     }
 }
 
-fn at_key(alloc: Global, nodes: &mut Nodes, entry: Entry) -> Result<(), Fault>
-    ensures { Gives (λ _. entries_view nodes.new.items) result
-        (spec.at_key (string_bytes entry.key) (definition_view entry.what) (entries_view nodes.old.items)) }
+fn at_key(alloc: Global, keys: &mut Keys, index: &mut Index, entry: Entry) -> Result<(), Fault>
+    ensures { Gives (λ _. keys_view keys.new.items index.new) result
+        (spec.at_key (string_bytes entry.key) (definition_view entry.what) (keys_view keys.old.items index.old)) }
 {
     let Entry { key, what, left } = entry;
-    match find(nodes, key.as_str()) {
+    match find(keys, index, key.as_str()) {
         Some(at) => {
-            let (name, node, first) = mem::replace(&mut nodes[at], nothing(alloc));
-            let Some(node) = redefine(alloc, what, node)? else {
+            let (name, draft, first) = mem::replace(&mut keys[at], nothing(alloc));
+            let Some(draft) = redefine(alloc, what, draft)? else {
                 let way = Way::Dots;
                 let key = key.as_str();
                 return Err(Passed { way, key, first }.defined_again(alloc, left));
             };
-            nodes[at] = (name, node, first);
+            keys[at] = (name, draft, first);
             Ok(())
         }
-        None => append(nodes, key, new_node(alloc, what), left),
+        None => append(keys, index, key, new_draft(alloc, what), left),
     }
 }
 
 /// A value that a header defines once more; `None` where it can't.
-fn redefine(alloc: Global, what: Definition, node: Node) -> Result<Option<Node>, AllocError>
-    ensures { IfOk result (λ new. spec.redefine (definition_view what) (node_view node) ≡ option_map node_view new) }
+fn redefine(alloc: Global, what: Definition, draft: Draft) -> Result<Option<Draft>, AllocError>
+    ensures { IfOk result (λ new. spec.redefine (definition_view what) (draft_view draft) ≡ option_map draft_view new) }
 {
-    match (what, node) {
-        (Definition::Table, Node::Table(Origin::Implicit, inner)) => {
-            Ok(Some(Node::Table(Origin::Header, inner)))
+    match (what, draft) {
+        (Definition::Table, Draft::Table(Origin::Implicit, inner, index)) => {
+            Ok(Some(Draft::Table(Origin::Header, inner, index)))
         }
-        (Definition::Tables, Node::Tables(mut done, last)) => {
+        (Definition::Tables, Draft::Tables(mut done, last, index)) => {
+            let last = finish(alloc, last, &index)?;
             done.push(Node::Table(Origin::Closed, last))?;
-            Ok(Some(Node::Tables(done, Vec::new(alloc))))
+            Ok(Some(Draft::Tables(done, Vec::new(alloc), BTreeMap::new(alloc))))
         }
         _ => Ok(None),
     }
 }
 
 /// What a key holds that was not there.
-fn new_node(alloc: Global, what: Definition) -> Node
-    ensures { node_view result ≡ spec.new_node (definition_view what) }
+fn new_draft(alloc: Global, what: Definition) -> Draft
+    ensures { draft_view result ≡ spec.new_node (definition_view what) }
 {
     match what {
-        Definition::Value(node) => node,
-        Definition::Table => Node::Table(Origin::Header, Vec::new(alloc)),
-        Definition::Tables => Node::Tables(Vec::new(alloc), Vec::new(alloc)),
+        Definition::Value(node) => Draft::Value(node),
+        Definition::Table => { Draft::Table(Origin::Header, Vec::new(alloc), BTreeMap::new(alloc)) }
+        Definition::Tables => {
+            Draft::Tables(Vec::new(alloc), Vec::new(alloc), BTreeMap::new(alloc))
+        }
     }
 }
 
 /// What stands where a value was moved out, to be changed and put back.
-fn nothing(alloc: Global) -> (String, Node, usize) {
-    (String::new(alloc), Node::NotANumber, 0)
-}
-
-/// Where a key is.
-fn find(nodes: &Nodes, key: &str) -> Option<usize>
-    ensures found { MatchOption result (spec.get_node key.now (entries_view nodes.now.items) ≡ None) (λ at. HasFirst key.now at nodes.now.items) }
-    ensures within { IfSome result (λ at. at < length nodes.now.items) }
-{
-    'keys: for at in 0..nodes.len() {
-        if key == nodes[at].0.as_str() {
-            return Some(at);
-        }
-    }
-    None
-}
-
-/// Puts a key behind those that are there.
-fn append(nodes: &mut Nodes, key: String, node: Node, left: usize) -> Result<(), Fault>
-    ensures { Gives (λ _. entries_view nodes.new.items) result
-        (Some (spec.append (entries_view nodes.old.items) (string_bytes key) (node_view node))) }
-{
-    nodes.push((key, node, left))?;
-    Ok(())
+fn nothing(alloc: Global) -> (String, Draft, usize) {
+    (String::new(alloc), Draft::Value(Node::NotANumber), 0)
 }

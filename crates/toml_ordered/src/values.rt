@@ -3,10 +3,12 @@ ghost use Rattle.std.specs.Prelude.{◌≡◌, ℕ, ◌<◌, ◌≤◌, [], ◌�
 ghost use Rattle.toml_parser.specs.Reading.{key_view};
 ghost use Rattle.toml.specs.Parse.{after_element, key_equals};
 ghost use Rattle.toml_ordered.specs.Data.{entries_view, items_view, no_items, no_nodes, node_view};
+ghost use Rattle.toml_ordered.specs.Drafts.{sealed, table_view};
 ghost use Rattle.toml_ordered.specs.Grammar as spec;
 ghost use Rattle.toml_ordered.specs.Reading.{Gives, Reads, Shortens};
 ghost use Rattle.toml_ordered.specs.Tables as tables;
 
+use crate::drafts::OpenTable;
 use crate::fault::{Fault, not_toml};
 use crate::route::Route;
 use crate::tables::{Definition, Entry, define_at};
@@ -62,12 +64,12 @@ fn braces(alloc: Global, s: &str, depth: usize) -> Result<(Nodes, &str), Fault>
     ensures value { (n : ℕ) → length s.now < n → Reads (λ found. entries_view found.items) result (spec.members (spec.val depth) n no_nodes s.now) }
     ensures shorter { Shortens s.now result }
 {
-    let mut found = Vec::new(alloc);
+    let mut found = OpenTable::new(alloc);
     let mut rest = s;
     'members: loop {
         let start = skip_blank(rest, true);
         if first(start) == b'}' {
-            return Ok((found, skip(start, 1)));
+            return Ok((found.finish(alloc)?, skip(start, 1)));
         }
         let (key, at_value) = key_and_equals(alloc, start)?;
         let (member, after) = value(alloc, at_value, depth)?;
@@ -77,8 +79,14 @@ fn braces(alloc: Global, s: &str, depth: usize) -> Result<(Nodes, &str), Fault>
 }
 
 /// Defines a pair of a table in braces.
-fn put(alloc: Global, nodes: &mut Nodes, key: Key, value: Node, left: usize) -> Result<(), Fault>
-    ensures { Gives (λ _. entries_view nodes.new.items) result (tables.put (key_view key) (node_view value) (entries_view nodes.old.items)) }
+fn put(
+    alloc: Global,
+    table: &mut OpenTable,
+    key: Key,
+    value: Node,
+    left: usize,
+) -> Result<(), Fault>
+    ensures { Gives (λ _. table_view table.new) result (tables.put (key_view key) (sealed (node_view value)) (table_view table.old)) }
 {
     let Key { path, last } = key;
     let route = Route {
@@ -91,7 +99,7 @@ fn put(alloc: Global, nodes: &mut Nodes, key: Key, value: Node, left: usize) -> 
         what,
         left,
     };
-    define_at(alloc, nodes, route, entry)
+    define_at(alloc, &mut table.keys, &mut table.index, route, entry)
 }
 
 /// What follows a comma, or the closing bracket.

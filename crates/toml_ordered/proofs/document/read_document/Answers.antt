@@ -1,8 +1,9 @@
-use Rattle.std.proofs.Common.{◌≡◌, ◌==◌, ◌-◌, suc, length, false, ◌∙◌, rules, arith}
+use Rattle.std.proofs.Common.{◌≡◌, ◌==◌, ◌-◌, suc, length, false, inl, inr, ◌∙◌, rules, arith}
 use Rattle.std.proofs.lemmas.Grind.{common_steps}
 use Rattle.toml_parser.specs.Lexical.{skip_blank}
-use Rattle.toml_ordered.proofs.Turns.{document_none, document_some, lines_end, lines_more, lines_bad, lines_again, gives_err}
-use Rattle.toml_ordered.specs.Reading.{document_view}
+use Rattle.toml_ordered.proofs.Stopping.{placed}
+use Rattle.toml_ordered.proofs.Turns.{document_none, document_some, lines_end, lines_more, lines_bad, lines_again}
+use Rattle.toml_ordered.specs.Reading.{IsMemory, document_view}
 use Rattle.toml_ordered.specs.Tables.{Document}
 use Rattle.toml_ordered.proofs.document.read_document.Goals as goal
 
@@ -12,11 +13,11 @@ lines-init c = (
   c.past_mark-rest.ensures.within,
   suc (length c.args.text.now),
   omega (arith, c.past_mark-rest.ensures.within),
-  rw (c.past_mark-rest.ensures.rest, c.new.ensures.items, c.new-2.ensures.items),
+  rw (c.past_mark-rest.ensures.rest, c.new.ensures, c.new-2.ensures.items),
 )
 
-pub returns-then-is_empty : goal.returns-then-is_empty
-returns-then-is_empty c =
+pub returns-then-is_empty-clause-value : goal.returns-then-is_empty-clause-value
+returns-then-is_empty-clause-value c =
     let l = c.lines in
     let doc : Document = document_view l.read in
     let m = l.invariant.2 in
@@ -24,10 +25,10 @@ returns-then-is_empty c =
     let loop = l.invariant.4 in
     let start_is = c.skip_blank-start.ensures.rest in
     let none : length (skip_blank l.rest.now) ≡ 0 = grind (arith, common_steps) in
-    document_some c.args.text.now doc (loop ∙ lines_end m doc l.rest.now (omega arith) none)
+    document_some c.args.text.now doc (loop ∙ lines_end m doc l.rest.now (omega arith) none) ∙ rw c.in_ok-finish.ensures
 
-pub returns-in_err-expression : goal.returns-in_err-expression
-returns-in_err-expression c =
+pub returns-in-Err-clause-value : goal.returns-in-Err-clause-value
+returns-in-Err-clause-value c refused =
     let l = c.lines in
     let doc : Document = document_view l.read in
     let m = l.invariant.2 in
@@ -35,11 +36,24 @@ returns-in_err-expression c =
     let loop = l.invariant.4 in
     let start_is = c.skip_blank-start.ensures.rest in
     let other : (length (skip_blank l.rest.now) == 0) ≡ false = grind (arith, common_steps) in
-    gives_err _ c.from_residual.result _ c.in_err-expression.field-0.0 _ c.from_residual.ensures.1 (λ y p. p) λ refused.
-    document_none c.args.text.now (loop ∙ lines_bad m doc l.rest.now (omega arith) other (rw start_is at (c.in_err-expression.ensures.value refused)))
+    let real : IsMemory c.in-Err.fault → ⊥ = λ memory. refused (c.here_or_behind.ensures.memory memory) in
+    document_none c.args.text.now (loop ∙ lines_bad m doc l.rest.now (omega arith) other (rw start_is at (c.in-Err.ensures.value real)))
 
-pub returns-in_err-define : goal.returns-in_err-define
-returns-in_err-define c =
+pub returns-in-Err-clause-placed : goal.returns-in-Err-clause-placed
+returns-in-Err-clause-placed c =
+    let l = c.lines in
+    let start_is = c.skip_blank-start.ensures.rest in
+    placed c.args.text.now c.skip_blank-start.result.now c.in-Err.fault c.here_or_behind.result c.here_or_behind.ensures.memory
+    c.here_or_behind.ensures.place λ real left within. record {
+      doc = document_view l.read;
+      rest = l.rest.now;
+      read = record { most = l.invariant.2; room = l.invariant.3; goes_on = l.invariant.4 };
+      refused = inl (rw start_is at (c.in-Err.ensures.value real));
+      within = rw start_is at within;
+    }
+
+pub returns-in-Err-define-clause-value : goal.returns-in-Err-define-clause-value
+returns-in-Err-define-clause-value c refused =
     let l = c.lines in
     let doc : Document = document_view l.read in
     let m = l.invariant.2 in
@@ -47,9 +61,23 @@ returns-in_err-define c =
     let loop = l.invariant.4 in
     let start_is = c.skip_blank-start.ensures.rest in
     let other : (length (skip_blank l.rest.now) == 0) ≡ false = grind (arith, common_steps) in
-    let read = rw start_is at c.in_ok-expression.ensures.value in
-    gives_err _ c.from_residual-in_err-define.result _ c.in_err-define.field-0.0 _ c.from_residual-in_err-define.ensures.1 (λ y p. p) λ refused.
-    document_none c.args.text.now (loop ∙ lines_again m doc l.rest.now _ _ (omega arith) other read (c.in_err-define.ensures refused))
+    let read = rw start_is at c.in-Ok.ensures.value in
+    let real : IsMemory c.in-Err-define.fault → ⊥ = λ memory. refused (c.here_or_behind-in-Err-define.ensures.memory memory) in
+    document_none c.args.text.now (loop ∙ lines_again m doc l.rest.now _ _ (omega arith) other read (c.in-Err-define.ensures real))
+
+pub returns-in-Err-define-clause-placed : goal.returns-in-Err-define-clause-placed
+returns-in-Err-define-clause-placed c =
+    let l = c.lines in
+    let start_is = c.skip_blank-start.ensures.rest in
+    let read = rw start_is at c.in-Ok.ensures.value in
+    placed c.args.text.now c.skip_blank-start.result.now c.in-Err-define.fault c.here_or_behind-in-Err-define.result
+    c.here_or_behind-in-Err-define.ensures.memory c.here_or_behind-in-Err-define.ensures.place λ real left within. record {
+      doc = document_view l.read;
+      rest = l.rest.now;
+      read = record { most = l.invariant.2; room = l.invariant.3; goes_on = l.invariant.4 };
+      refused = inr (_, _, read, c.in-Err-define.ensures real);
+      within = rw start_is at within;
+    }
 
 pub lines-preserved : goal.lines-preserved
 lines-preserved c =
@@ -60,7 +88,7 @@ lines-preserved c =
     let loop = l.invariant.4 in
     let start_is = c.skip_blank-start.ensures.rest in
     let other : (length (skip_blank l.rest.now) == 0) ≡ false = grind (arith, common_steps) in
-    let read = rw start_is at c.in_ok-expression.ensures.value in
-    let shorter = c.in_ok-expression.ensures.shorter in
+    let read = rw start_is at c.in-Ok.ensures.value in
+    let shorter = c.in-Ok.ensures.shorter in
     let before = c.skip_blank-start.ensures.within in
-    (search rules, omega (arith, l.invariant.1), m - 1, omega arith, loop ∙ lines_more m doc _ l.rest.now _ _ (omega arith) other read c.in_ok-define.ensures)
+    (search rules, omega (arith, l.invariant.1), m - 1, omega arith, loop ∙ lines_more m doc _ l.rest.now _ _ (omega arith) other read c.in_default.ensures)

@@ -6,7 +6,9 @@ use Rattle.toml_parser.specs.Strings.{Key}
 use Rattle.toml.specs.Parse.{key_equals}
 use Rattle.toml_ordered.proofs.Trees.{items_view-push, node_view-Array, node_view-Table}
 use Rattle.toml_ordered.proofs.Turns.{items_end, items_more, items_bad, items_unended, keyval_is, keyval_nameless, keyval_bad}
-use Rattle.toml_ordered.proofs.Turns.{members_end, members_more, members_bad, members_again, members_unended, val_atom, val_deep, val_array, val_table, gives_err}
+use Rattle.toml_ordered.proofs.Turns.{members_end, members_more, members_bad, members_again, members_unended, val_atom, val_deep, val_array, val_table, val_sealed, gives_err}
+use Rattle.toml_ordered.specs.Data.{node_view}
+use Rattle.toml_ordered.specs.Drafts.{sealed}
 use Rattle.toml_ordered.specs.Grammar.{val}
 use Rattle.toml_ordered.specs.declared.tree.Origin.TheVariants.{Closed}
 use Rattle.toml_ordered.proofs.values.+value.Goals as goal
@@ -67,14 +69,15 @@ array-items-preserved c c' =
 -- ---- tables in braces
 
 pub braces-members-init : goal.braces-members-init
-braces-members-init c c' = (search rules, le_refl _, λ n h. (n, h, rw c'.new-found.ensures.items))
+braces-members-init c c' = (search rules, le_refl _, λ n h. (n, h, rw c'.new-found.ensures))
 
 pub braces-returns-then-first-eq125-clause-value : goal.braces-returns-then-first-eq125-clause-value
 braces-returns-then-first-eq125-clause-value c c' n h =
     let l = c'.members in
     let (m, room, loop) = l.invariant.2 n h in
     let closing : (first (skip_blank l.rest.now) == 125) ≡ true = grind (arith, common_steps) in
-    loop ∙ members_end (val c'.args.depth) m _ l.rest.now (omega arith) closing ∙ rw (c'.skip.ensures.rest, c'.skip_blank-start.ensures.rest)
+    loop ∙ members_end (val c'.args.depth) m _ l.rest.now (omega arith) closing
+    ∙ rw (c'.skip.ensures.rest, c'.skip_blank-start.ensures.rest, c'.in_ok-finish.ensures)
 
 pub braces-returns-in_err-key-clause-value : goal.braces-returns-in_err-key-clause-value
 braces-returns-in_err-key-clause-value c c' n h =
@@ -82,7 +85,7 @@ braces-returns-in_err-key-clause-value c c' n h =
     let start_is = c'.skip_blank-start.ensures.rest in
     let other : (first (skip_blank l.rest.now) == 125) ≡ false = grind (arith, common_steps) in
     let (m, room, loop) = l.invariant.2 n h in
-    gives_err _ c'.from_residual.result _ c'.in_err-key.field-0.0 _ c'.from_residual.ensures.1 (λ y p. p) λ refused.
+    gives_err _ c'.from_residual-in_err-key.result _ c'.in_err-key.field-0.0 _ c'.from_residual-in_err-key.ensures.1 (λ y p. p) λ refused.
     loop
     ∙ members_bad (val c'.args.depth) m _ l.rest.now (omega arith) other
     (keyval_nameless (val c'.args.depth) _ (rw start_is at (c'.in_err-key.ensures.value refused)))
@@ -105,10 +108,11 @@ braces-returns-in_err-put-clause-value c c' n h =
     let other : (first (skip_blank l.rest.now) == 125) ≡ false = grind (arith, common_steps) in
     let key : Key = key_view c'.in_ok-key.key in
     let named : key_equals (skip_blank l.rest.now) ≡ Some (key, c'.in_ok-key.at_value.now) = rw c'.skip_blank-start.ensures.rest at c'.in_ok-key.ensures.value in
+    let sealed_member : sealed (node_view c'.in_ok-member.member) ≡ node_view c'.in_ok-member.member = val_sealed c'.args.depth c'.in_ok-key.at_value.now _ _ c'.in_ok-member.ensures.value in
     let read = keyval_is (val c'.args.depth) (skip_blank l.rest.now) key _ _ _ named c'.in_ok-member.ensures.value in
     let (m, room, loop) = l.invariant.2 n h in
     gives_err _ c'.from_residual-in_err-put.result _ c'.in_err-put.field-0.0 _ c'.from_residual-in_err-put.ensures.1 (λ y p. p) λ refused.
-    loop ∙ members_again (val c'.args.depth) m _ l.rest.now key _ _ (omega arith) other read (c'.in_err-put.ensures refused)
+    loop ∙ members_again (val c'.args.depth) m _ l.rest.now key _ _ (omega arith) other read (rw sealed_member at (c'.in_err-put.ensures refused))
 
 pub braces-returns-in_err-rest-clause-value : goal.braces-returns-in_err-rest-clause-value
 braces-returns-in_err-rest-clause-value c c' n h =
@@ -116,11 +120,12 @@ braces-returns-in_err-rest-clause-value c c' n h =
     let other : (first (skip_blank l.rest.now) == 125) ≡ false = grind (arith, common_steps) in
     let key : Key = key_view c'.in_ok-key.key in
     let named : key_equals (skip_blank l.rest.now) ≡ Some (key, c'.in_ok-key.at_value.now) = rw c'.skip_blank-start.ensures.rest at c'.in_ok-key.ensures.value in
+    let sealed_member : sealed (node_view c'.in_ok-member.member) ≡ node_view c'.in_ok-member.member = val_sealed c'.args.depth c'.in_ok-key.at_value.now _ _ c'.in_ok-member.ensures.value in
     let read = keyval_is (val c'.args.depth) (skip_blank l.rest.now) key _ _ _ named c'.in_ok-member.ensures.value in
     let (m, room, loop) = l.invariant.2 n h in
     gives_err _ c'.from_residual-in_err-rest.result _ c'.in_err-rest.field-0.0 _ c'.from_residual-in_err-rest.ensures.1 (λ y p. p) λ refused.
     loop
-    ∙ members_unended (val c'.args.depth) m _ _ l.rest.now key _ _ (omega arith) other read c'.in_ok-put.ensures (c'.in_err-rest.ensures.value refused)
+    ∙ members_unended (val c'.args.depth) m _ _ l.rest.now key _ _ (omega arith) other read (rw sealed_member at c'.in_ok-put.ensures) (c'.in_err-rest.ensures.value refused)
 
 pub braces-members-preserved : goal.braces-members-preserved
 braces-members-preserved c c' =
@@ -128,6 +133,7 @@ braces-members-preserved c c' =
     let other : (first (skip_blank l.rest.now) == 125) ≡ false = grind (arith, common_steps) in
     let key : Key = key_view c'.in_ok-key.key in
     let named : key_equals (skip_blank l.rest.now) ≡ Some (key, c'.in_ok-key.at_value.now) = rw c'.skip_blank-start.ensures.rest at c'.in_ok-key.ensures.value in
+    let sealed_member : sealed (node_view c'.in_ok-member.member) ≡ node_view c'.in_ok-member.member = val_sealed c'.args.depth c'.in_ok-key.at_value.now _ _ c'.in_ok-member.ensures.value in
     let read = keyval_is (val c'.args.depth) (skip_blank l.rest.now) key _ _ _ named c'.in_ok-member.ensures.value in
     let shorter = c'.in_ok-key.ensures.shorter in
     let shorter_again = c'.in_ok-member.ensures.shorter in
@@ -139,7 +145,7 @@ braces-members-preserved c c' =
           let (m, room, loop) = l.invariant.2 n h in (
             m - 1,
             omega arith,
-            loop ∙ members_more (val c'.args.depth) m _ _ l.rest.now key _ _ _ (omega arith) other read c'.in_ok-put.ensures c'.in_ok-rest.ensures.value,
+            loop ∙ members_more (val c'.args.depth) m _ _ l.rest.now key _ _ _ (omega arith) other read (rw sealed_member at c'.in_ok-put.ensures) c'.in_ok-rest.ensures.value,
           ),
     )
 

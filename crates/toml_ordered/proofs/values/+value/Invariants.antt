@@ -1,7 +1,8 @@
 use Rattle.std.proofs.Common.{◌≡◌, ℕ, ◌+◌, ◌*◌, ◌<◌, ◌≤◌, length}
 use denote.Text.{Utf8}
 use denote.Shadow.{shadow}
-use Rattle.toml_ordered.specs.Data.{no_items, no_nodes, items_view, entries_view}
+use Rattle.toml_ordered.specs.Data.{no_items, no_nodes, items_view}
+use Rattle.toml_ordered.specs.Drafts.{table_view}
 use Rattle.toml_ordered.specs.Grammar.{val, items, members}
 use Rattle.toml_ordered.proofs.values.+value.Given as goal
 
@@ -28,7 +29,7 @@ abbrev pub invariant-braces-members : goal.invariant-braces-members
 invariant-braces-members l =
     shadow (Utf8 l.rest) × (length l.rest ≤ length l.fn.s)
     × ((n : ℕ) → length l.fn.s < n → (m : ℕ) × (length l.rest < m)
-    × (members (val l.fn.depth) n no_nodes l.fn.s ≡ members (val l.fn.depth) m (entries_view l.found.items) l.rest))
+    × (members (val l.fn.depth) n no_nodes l.fn.s ≡ members (val l.fn.depth) m (table_view l.found) l.rest))
 
 abbrev pub decreases-braces-members : goal.decreases-braces-members
 decreases-braces-members l = length l.rest

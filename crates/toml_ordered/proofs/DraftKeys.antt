@@ -1,0 +1,372 @@
+-- A table while it is read beside the keys and values that it stands for.
+use Rattle.std.proofs.Common.{◌≡◌, ◌⊎◌, ℕ, zero, suc, ◌+◌, ◌<◌, ◌≤◌, ◌==◌, true, false, Bool, List, [], ◌∷◌, ◌++◌, map, length, Option, Some, None, cond, String, Vec, BTreeMap, Global, string_bytes, bytes_eq, refl, sym, ap, subst, ◌∙◌, inl, inr, rules, arith, set, get_or}
+use Rattle.std.proofs.lemmas.List.{length-append, append_assoc}
+use Rattle.std.proofs.lemmas.Bool.{cases_Bool, eq-eqb, eqb-true, false≢true}
+use Rattle.std.proofs.lemmas.Slice.Eq.{bytes_eq-Decides}
+use Rattle.std.specs.BTreeMap.{get_by_text}
+use Rattle.std.specs.Map.{update}
+use Rattle.toml_ordered.specs.declared.drafts.Draft.{Draft as CodeDraft, Table as DraftTable, Tables as DraftTables, Value as DraftValue, fold-Draft, the_lemmas}
+use Rattle.toml_ordered.specs.declared.drafts.Draft.TheOpen.{Draft-F}
+use Rattle.toml_ordered.specs.declared.tree.Node.{Node as CodeNode}
+use Rattle.toml_ordered.specs.declared.tree.Origin.{Origin}
+use Rattle.toml_ordered.specs.declared.route.Way.{Way}
+use Rattle.toml_ordered.specs.declared.route.Way.TheVariants as way
+use Rattle.toml_ordered.specs.Data.{Node, string, integer, decimal, infinity, not_a_number, boolean, datetime, array, table, tables, Nodes, no_nodes, node, items_view, node_view}
+use Rattle.toml_ordered.specs.Drafts.{sealed, is_place, kept, nodes_from, draft_view, drafts_view, keys_view, HasKey, IsAt}
+use Rattle.toml_ordered.specs.Tables.{Definition, key_value, std_table, array_table, Edit, passed, redefine, get_node, append, replace}
+
+abbrev pub Draft : Type 0
+Draft = String Global × CodeDraft × ℕ
+
+abbrev pub Places : Type 0
+Places = BTreeMap (String Global) ℕ
+
+-- ---- a key that doesn't count, or is another
+
+same_bytes : (k l : List ℕ) → bytes_eq k l ≡ true → k ≡ l
+same_bytes k l e = (bytes_eq-Decides k l).0 e
+
+bytes_same : (k : List ℕ) → bytes_eq k k ≡ true
+bytes_same k = (bytes_eq-Decides k k).1 refl
+
+passed_over : (b : Bool) (k l : List ℕ) (x : Node) (ns : Nodes) → (b ≡ true → bytes_eq k l ≡ false) → get_node k (kept b l x ns) ≡ get_node k ns
+passed_over false k l x ns other = refl
+passed_over true k l x ns other = rw (other refl)
+
+replaced_over : (b : Bool) (k l : List ℕ) (x y : Node) (ns : Nodes) → (b ≡ true → bytes_eq k l ≡ false)
+    → replace k y (kept b l x ns) ≡ kept b l x (replace k y ns)
+replaced_over false k l x y ns other = refl
+replaced_over true k l x y ns other = rw (other refl)
+
+appended_over : (b : Bool) (k l : List ℕ) (x y : Node) (ns : Nodes) → append (kept b l x ns) k y ≡ kept b l x (append ns k y)
+appended_over false k l x y ns = refl
+appended_over true k l x y ns = refl
+
+none_here : (b : Bool) (k l : List ℕ) (x : Node) (ns : Nodes) → get_node k (kept b l x ns) ≡ None → b ≡ true → bytes_eq k l ≡ false
+none_here false k l x ns none live = absurd (false≢true live)
+none_here true k l x ns none live = elim (cases_Bool (bytes_eq k l)) [
+  | inl same ↦ absurd (some_none x (sym (ap (λ (b : Bool). cond b (Some x) (get_node k ns)) same) ∙ none))
+  | inr other ↦ other
+]
+  where
+    some_none : (y : Node) → Some y ≡ None → ⊥
+    some_none y e = cc
+
+none_behind : (b : Bool) (k l : List ℕ) (x : Node) (ns : Nodes) → get_node k (kept b l x ns) ≡ None → get_node k ns ≡ None
+none_behind b k l x ns none = sym (passed_over b k l x ns (none_here b k l x ns none)) ∙ none
+
+-- the place of one key is not that of another
+apart : (o : Option ℕ) (n : ℕ) (at : ℕ) → o ≡ Some (n + suc at) → is_place o n ≡ false
+apart o n at is =
+    let past : (n + suc at == n) ≡ false = not_later n at in
+    ap (λ (p : Option ℕ). is_place p n) is ∙ past
+  where
+    not_later : (n at : ℕ) → (n + suc at == n) ≡ false
+    not_later n at = elim (cases_Bool (n + suc at == n)) [
+      | inl same ↦ let e : n + suc at ≡ n = eqb-true (n + suc at) n same in absurd (omega (arith, e))
+      | inr other ↦ other
+    ]
+
+-- a key that counts here isn't one that the index puts elsewhere
+elsewhere : (index : Places) (n : ℕ) (k l : List ℕ) → is_place (get_by_text index k) n ≡ false → is_place (get_by_text index l) n ≡ true → bytes_eq k l ≡ false
+elsewhere index n k l away live = elim (cases_Bool (bytes_eq k l)) [
+  | inl same ↦ absurd (false≢true (sym away ∙ ap (λ (j : List ℕ). is_place (get_by_text index j) n) (same_bytes k l same) ∙ live))
+  | inr other ↦ other
+]
+
+-- ---- a key that is there
+
+module _ (index : Places) (k : List ℕ) where
+  live_here : (n : ℕ) (e : Draft) → get_by_text index k ≡ Some (n + 0) → bytes_eq k (string_bytes e.0) ≡ true
+      → is_place (get_by_text index (string_bytes e.0)) n ≡ true
+  live_here n e is same =
+      let here : (n + 0 == n) ≡ true = eq-eqb (n + 0) n (omega arith) in
+      ap (λ (j : List ℕ). is_place (get_by_text index j) n) (sym (same_bytes k (string_bytes e.0) same)) ∙ ap (λ (o : Option ℕ). is_place o n) is ∙ here
+
+  found_from : (n at : ℕ) (es : List Draft) (d : Draft) → get_by_text index k ≡ Some (n + at) → HasKey k at es
+      → get_node k (nodes_from index n (drafts_view es)) ≡ Some (draft_view (get_or es at d).1)
+  found_from n at [] d is has = absurd has
+  found_from n zero (e ∷ es) d is has =
+      let here : is_place (get_by_text index (string_bytes e.0)) n ≡ true = live_here n e is has in
+      rw (here, has)
+  found_from n (suc at) (e ∷ es) d is has =
+      let next : n + suc at ≡ suc n + at = omega arith in
+      passed_over (is_place (get_by_text index (string_bytes e.0)) n) k (string_bytes e.0) (draft_view e.1) (nodes_from index (suc n) (drafts_view es))
+      (elsewhere index n k (string_bytes e.0) (apart (get_by_text index k) n at is))
+      ∙ found_from (suc n) at es d (is ∙ ap (λ (m : ℕ). Some m) next) has
+
+  written_from : (n at : ℕ) (es : List Draft) (d u w : Draft) → get_by_text index k ≡ Some (n + at) → HasKey k at es → w.0 ≡ (get_or es at d).0
+      → nodes_from index n (drafts_view (set (set es at u) at w)) ≡ replace k (draft_view w.1) (nodes_from index n (drafts_view es))
+  written_from n at [] d u w is has same = absurd has
+  written_from n zero (e ∷ es) d u w is has same =
+      let here : is_place (get_by_text index (string_bytes e.0)) n ≡ true = live_here n e is has in
+      rw (same, here, has)
+  written_from n (suc at) (e ∷ es) d u w is has same =
+      let next : n + suc at ≡ suc n + at = omega arith in
+      let b = is_place (get_by_text index (string_bytes e.0)) n in
+      let ns = nodes_from index (suc n) (drafts_view es) in
+      ap (kept b (string_bytes e.0) (draft_view e.1)) (written_from (suc n) at es d u w (is ∙ ap (λ (m : ℕ). Some m) next) has same)
+      ∙ sym (replaced_over b k (string_bytes e.0) (draft_view e.1) (draft_view w.1) ns
+      (elsewhere index n k (string_bytes e.0) (apart (get_by_text index k) n at is)))
+
+  -- ---- a key that isn't there
+
+  absent_from : (n : ℕ) (es : List Draft) → ((at : ℕ) → HasKey k at es → is_place (get_by_text index k) (n + at) ≡ false)
+      → get_node k (nodes_from index n (drafts_view es)) ≡ None
+  absent_from n [] none = refl
+  absent_from n (e ∷ es) none =
+      passed_over (is_place (get_by_text index (string_bytes e.0)) n) k (string_bytes e.0) (draft_view e.1) (nodes_from index (suc n) (drafts_view es)) not_here ∙ absent_from (suc n) es later
+    where
+      not_here : is_place (get_by_text index (string_bytes e.0)) n ≡ true → bytes_eq k (string_bytes e.0) ≡ false
+      not_here live = elim (cases_Bool (bytes_eq k (string_bytes e.0))) [
+        | inl same ↦
+            let zeroth : n + 0 ≡ n = omega arith in
+            let away : is_place (get_by_text index k) n ≡ false = sym (ap (is_place (get_by_text index k)) zeroth) ∙ none 0 same in
+            elsewhere index n k (string_bytes e.0) away live
+        | inr other ↦ other
+      ]
+
+      later : (at : ℕ) → HasKey k at es → is_place (get_by_text index k) (suc n + at) ≡ false
+      later at has =
+          let next : suc n + at ≡ n + suc at = omega arith in
+          ap (is_place (get_by_text index k)) next ∙ none (suc at) has
+
+-- the value at the place of a key
+pub found_at : (k : List ℕ) (at : ℕ) (es : List Draft) (d : Draft) (index : Places) → IsAt k at es index
+    → get_node k (keys_view es index) ≡ Some (draft_view (get_or es at d).1)
+found_at k at es d index has =
+    let start : at ≡ 0 + at = omega arith in
+    found_from index k 0 at es d (has.0 ∙ ap (λ (m : ℕ). Some m) start) has.1
+
+-- what is left where it was moved out, and another written in its place
+pub written_at : (k : List ℕ) (at : ℕ) (es : List Draft) (d u w : Draft) (index : Places) → IsAt k at es index → w.0 ≡ (get_or es at d).0
+    → keys_view (set (set es at u) at w) index ≡ replace k (draft_view w.1) (keys_view es index)
+written_at k at es d u w index has same =
+    let start : at ≡ 0 + at = omega arith in
+    written_from index k 0 at es d u w (has.0 ∙ ap (λ (m : ℕ). Some m) start) has.1 same
+
+-- a key without a place
+pub absent : (k : List ℕ) (es : List Draft) (index : Places) → get_by_text index k ≡ None → get_node k (keys_view es index) ≡ None
+absent k es index none = absent_from index k 0 es (λ at has. ap (λ (o : Option ℕ). is_place o (0 + at)) none)
+
+has_within : (k : List ℕ) (at : ℕ) (es : List Draft) → HasKey k at es → at < length es
+has_within k at [] has = absurd has
+has_within k zero (e ∷ es) has = omega arith
+has_within k (suc at) (e ∷ es) has = let less = has_within k at es has in omega (arith, less)
+
+has_here : (k : List ℕ) (at : ℕ) (es : List Draft) (d : Draft) → HasKey k at es → bytes_eq k (string_bytes (get_or es at d).0) ≡ true
+has_here k at [] d has = absurd has
+has_here k zero (e ∷ es) d has = has
+has_here k (suc at) (e ∷ es) d has = has_here k at es d has
+
+pub key_here : (k : List ℕ) (at : ℕ) (es : List Draft) (d : Draft) → at < length es → bytes_eq k (string_bytes (get_or es at d).0) ≡ true → HasKey k at es
+key_here k at [] d within same = absurd (omega (arith, within))
+key_here k zero (e ∷ es) d within same = same
+key_here k (suc at) (e ∷ es) d within same = key_here k at es d (omega (arith, within)) same
+
+-- a key whose place is past all, or has another key
+is_place_only : (o : Option ℕ) (place at : ℕ) → o ≡ Some place → (at ≡ place → ⊥) → is_place o at ≡ false
+is_place_only o place at is other = elim (cases_Bool (is_place o at)) [
+  | inl same ↦ absurd (other (sym (eqb-true place at (sym (ap (λ (p : Option ℕ). is_place p at) is) ∙ same))))
+  | inr differs ↦ differs
+]
+
+pub absent_past : (k : List ℕ) (place : ℕ) (es : List Draft) (index : Places) → get_by_text index k ≡ Some place → length es ≤ place
+    → get_node k (keys_view es index) ≡ None
+absent_past k place es index is past =
+    absent_from index k 0 es λ at has.
+    let less = has_within k at es has in
+    is_place_only (get_by_text index k) place (0 + at) is (λ same. omega (arith, less, past, same))
+
+pub absent_other : (k : List ℕ) (place : ℕ) (es : List Draft) (d : Draft) (index : Places) → get_by_text index k ≡ Some place
+    → bytes_eq k (string_bytes (get_or es place d).0) ≡ false → get_node k (keys_view es index) ≡ None
+absent_other k place es d index is other =
+    absent_from index k 0 es λ at has.
+    is_place_only (get_by_text index k) place (0 + at) is λ same.
+    let here : at ≡ place = omega (arith, same) in
+    false≢true (sym other ∙ subst (λ (p : ℕ). bytes_eq k (string_bytes (get_or es p d).0) ≡ true) here (has_here k at es d has))
+
+-- ---- a key that goes last
+
+module _ (index after : Places) (w : Draft) where
+  as_before : (n : ℕ) (e : Draft) (more : ℕ) → (is_place (get_by_text index (string_bytes e.0)) n ≡ true → bytes_eq (string_bytes w.0) (string_bytes e.0) ≡ false)
+      → get_by_text after (string_bytes e.0) ≡ update bytes_eq (get_by_text index) (string_bytes w.0) (Some (n + suc more)) (string_bytes e.0)
+      → is_place (get_by_text after (string_bytes e.0)) n ≡ is_place (get_by_text index (string_bytes e.0)) n
+  as_before n e more other noted = elim (cases_Bool (bytes_eq (string_bytes w.0) (string_bytes e.0))) [
+    | inl same ↦
+        let now : get_by_text after (string_bytes e.0) ≡ Some (n + suc more) =
+        noted ∙ ap (λ (b : Bool). cond b (Some (n + suc more)) (get_by_text index (string_bytes e.0))) same in
+        let before : is_place (get_by_text index (string_bytes e.0)) n ≡ false = elim (cases_Bool (is_place (get_by_text index (string_bytes e.0)) n)) [
+          | inl live ↦ absurd (false≢true (sym (other live) ∙ same))
+          | inr gone ↦ gone
+        ] in
+        apart (get_by_text after (string_bytes e.0)) n more now ∙ sym before
+    | inr differs ↦ ap (λ (o : Option ℕ). is_place o n) (noted ∙ ap (λ (b : Bool). cond b (Some (n + suc more)) (get_by_text index (string_bytes e.0))) differs)
+  ]
+
+  appended_from : (n : ℕ) (es : List Draft) → get_node (string_bytes w.0) (nodes_from index n (drafts_view es)) ≡ None
+      → ((k : List ℕ) → get_by_text after k ≡ update bytes_eq (get_by_text index) (string_bytes w.0) (Some (n + length es)) k)
+      → nodes_from after n (drafts_view (es ++ w ∷ [])) ≡ append (nodes_from index n (drafts_view es)) (string_bytes w.0) (draft_view w.1)
+  appended_from n [] none noted =
+      let itself : bytes_eq (string_bytes w.0) (string_bytes w.0) ≡ true = bytes_same (string_bytes w.0) in
+      let zeroth : (n + 0 == n) ≡ true = eq-eqb (n + 0) n (omega arith) in
+      let here : is_place (get_by_text after (string_bytes w.0)) n ≡ true =
+      ap (λ (o : Option ℕ). is_place o n) (noted (string_bytes w.0) ∙ ap (λ (b : Bool). cond b (Some (n + 0)) (get_by_text index (string_bytes w.0))) itself) ∙ zeroth in
+      rw here
+  appended_from n (e ∷ es) none noted =
+      let k = string_bytes w.0 in
+      let l = string_bytes e.0 in
+      let b = is_place (get_by_text index l) n in
+      let ns = nodes_from index (suc n) (drafts_view es) in
+      let next : n + suc (length es) ≡ suc n + length es = omega arith in
+      let same : is_place (get_by_text after l) n ≡ b = as_before n e (length es) (none_here b k l (draft_view e.1) ns none) (noted l) in
+      ap (λ (c : Bool). kept c l (draft_view e.1) (nodes_from after (suc n) (drafts_view (es ++ w ∷ [])))) same
+      ∙ ap (kept b l (draft_view e.1)) (appended_from (suc n) es (none_behind b k l (draft_view e.1) ns none)
+      (λ j. noted j ∙ ap (λ (m : ℕ). update bytes_eq (get_by_text index) k (Some m) j) next))
+      ∙ sym (appended_over b k l (draft_view e.1) (draft_view w.1) ns)
+
+pub appended : (index after : Places) (es : List Draft) (w : Draft) → get_node (string_bytes w.0) (keys_view es index) ≡ None
+    → ((k : List ℕ) → get_by_text after k ≡ update bytes_eq (get_by_text index) (string_bytes w.0) (Some (length es)) k)
+    → keys_view (es ++ w ∷ []) after ≡ append (keys_view es index) (string_bytes w.0) (draft_view w.1)
+appended index after es w none noted =
+    let start : length es ≡ 0 + length es = omega arith in
+    appended_from index after w 0 es none (λ k. noted k ∙ ap (λ (m : ℕ). update bytes_eq (get_by_text index) (string_bytes w.0) (Some m) k) start)
+
+-- ---- what was kept of the keys so far
+
+kept_last : (index : Places) (n : ℕ) (es : List Draft) (e : Draft) → is_place (get_by_text index (string_bytes e.0)) (n + length es) ≡ true
+    → nodes_from index n (drafts_view (es ++ e ∷ [])) ≡ append (nodes_from index n (drafts_view es)) (string_bytes e.0) (draft_view e.1)
+kept_last index n [] e live =
+    let zeroth : n + 0 ≡ n = omega arith in
+    let here : is_place (get_by_text index (string_bytes e.0)) n ≡ true = subst (λ (m : ℕ). is_place (get_by_text index (string_bytes e.0)) m ≡ true) zeroth live in
+    rw here
+kept_last index n (x ∷ es) e live =
+    let next : n + suc (length es) ≡ suc n + length es = omega arith in
+    let b = is_place (get_by_text index (string_bytes x.0)) n in
+    ap (kept b (string_bytes x.0) (draft_view x.1))
+    (kept_last index (suc n) es e (subst (λ (m : ℕ). is_place (get_by_text index (string_bytes e.0)) m ≡ true) next live))
+    ∙ sym (appended_over b (string_bytes e.0) (string_bytes x.0) (draft_view x.1) (draft_view e.1) (nodes_from index (suc n) (drafts_view es)))
+
+dropped_last : (index : Places) (n : ℕ) (es : List Draft) (e : Draft) → is_place (get_by_text index (string_bytes e.0)) (n + length es) ≡ false
+    → nodes_from index n (drafts_view (es ++ e ∷ [])) ≡ nodes_from index n (drafts_view es)
+dropped_last index n [] e away =
+    let zeroth : n + 0 ≡ n = omega arith in
+    let here : is_place (get_by_text index (string_bytes e.0)) n ≡ false = subst (λ (m : ℕ). is_place (get_by_text index (string_bytes e.0)) m ≡ false) zeroth away in
+    rw here
+dropped_last index n (x ∷ es) e away =
+    let next : n + suc (length es) ≡ suc n + length es = omega arith in
+    ap (kept (is_place (get_by_text index (string_bytes x.0)) n) (string_bytes x.0) (draft_view x.1))
+    (dropped_last index (suc n) es e (subst (λ (m : ℕ). is_place (get_by_text index (string_bytes e.0)) m ≡ false) next away))
+
+pub keys_view-kept : (index : Places) (es : List Draft) (e : Draft) (at : ℕ) → at ≡ length es → is_place (get_by_text index (string_bytes e.0)) at ≡ true
+    → keys_view (es ++ e ∷ []) index ≡ append (keys_view es index) (string_bytes e.0) (draft_view e.1)
+keys_view-kept index es e at is live =
+    let start : at ≡ 0 + length es = omega (arith, is) in
+    kept_last index 0 es e (subst (λ (m : ℕ). is_place (get_by_text index (string_bytes e.0)) m ≡ true) start live)
+
+pub keys_view-dropped : (index : Places) (es : List Draft) (e : Draft) (at : ℕ) → at ≡ length es → is_place (get_by_text index (string_bytes e.0)) at ≡ false
+    → keys_view (es ++ e ∷ []) index ≡ keys_view es index
+keys_view-dropped index es e at is away =
+    let start : at ≡ 0 + length es = omega (arith, is) in
+    dropped_last index 0 es e (subst (λ (m : ℕ). is_place (get_by_text index (string_bytes e.0)) m ≡ false) start away)
+
+-- ---- how much a table holds
+
+abbrev entries_size : List (String Global × ℕ × ℕ) → ℕ
+entries_size [] = 0
+entries_size (m ∷ ms) = m.1 + entries_size ms
+
+abbrev size_step : Draft-F ℕ → ℕ
+size_step (Draft-F.Value x) = 1
+size_step (Draft-F.Table origin keys index) = suc (entries_size keys.items)
+size_step (Draft-F.Tables done keys index) = suc (entries_size keys.items)
+
+abbrev pub draft_size : CodeDraft → ℕ
+draft_size = fold-Draft ℕ size_step
+
+abbrev pub keys_size : List Draft → ℕ
+keys_size es = entries_size (map (λ m. (m.0, draft_size m.1, m.2)) es)
+
+pub draft_size-Table : (origin : Origin) (keys : Vec Draft Global) (index : Places) → draft_size (DraftTable origin keys index) ≡ suc (keys_size keys.items)
+draft_size-Table origin keys index = search (rules, the_lemmas)
+
+pub draft_size-Tables : (done : Vec CodeNode Global) (keys : Vec Draft Global) (index : Places) → draft_size (DraftTables done keys index) ≡ suc (keys_size keys.items)
+draft_size-Tables done keys index = search (rules, the_lemmas)
+
+pub size-within : (before later : List Draft) (e : Draft) → draft_size e.1 ≤ keys_size (before ++ e ∷ later)
+size-within [] later e = omega arith
+size-within (x ∷ before) later e = let less = size-within before later e in omega (arith, less)
+
+-- ---- a turn of a loop over the keys: those that were gone through, and those that are left
+
+pub turn_whole : (gone left rest all : List Draft) (e : Draft) → left ≡ e ∷ rest → gone ++ left ≡ all → gone ++ e ∷ [] ++ rest ≡ all
+turn_whole gone left rest all e steps whole = append_assoc gone (e ∷ []) rest ∙ ap (λ (es : List Draft). gone ++ es) (sym steps) ∙ whole
+
+turn_parts : (gone left rest all : List Draft) (e : Draft) → left ≡ e ∷ rest → gone ++ left ≡ all → gone ++ (e ∷ rest) ≡ all
+turn_parts gone left rest all e steps whole = ap (λ (es : List Draft). gone ++ es) (sym steps) ∙ whole
+
+pub turn_size : (gone left rest all : List Draft) (e : Draft) → left ≡ e ∷ rest → gone ++ left ≡ all → draft_size e.1 ≤ keys_size all
+turn_size gone left rest all e steps whole =
+    subst (λ (es : List Draft). draft_size e.1 ≤ keys_size es) (turn_parts gone left rest all e steps whole) (size-within gone rest e)
+
+pub turn_room : (gone left rest all : List Draft) (e : Draft) → left ≡ e ∷ rest → gone ++ left ≡ all → length gone < length all
+turn_room gone left rest all e steps whole =
+    let sum = sym (length-append gone (e ∷ rest)) ∙ ap length (turn_parts gone left rest all e steps whole) in
+    omega (arith, sum)
+
+-- ---- values
+
+pub draft_view-Value : (x : CodeNode) → draft_view (DraftValue x) ≡ sealed (node_view x)
+draft_view-Value x = search (rules, the_lemmas)
+
+pub draft_view-Table : (origin : Origin) (keys : Vec Draft Global) (index : Places) → draft_view (DraftTable origin keys index) ≡ table origin (keys_view keys.items index)
+draft_view-Table origin keys index = search (rules, the_lemmas)
+
+pub draft_view-Tables : (done : Vec CodeNode Global) (last : Vec Draft Global) (index : Places)
+    → draft_view (DraftTables done last index) ≡ tables (items_view done.items) (keys_view last.items index)
+draft_view-Tables done last index = search (rules, the_lemmas)
+
+pub sealed_passes : (by : Way) (edit : Edit) (x : Node) → passed by edit (sealed x) ≡ None
+sealed_passes way.Header edit (string text) = refl
+sealed_passes way.Header edit (integer z) = refl
+sealed_passes way.Header edit (decimal word) = refl
+sealed_passes way.Header edit (infinity negative) = refl
+sealed_passes way.Header edit not_a_number = refl
+sealed_passes way.Header edit (boolean flag) = refl
+sealed_passes way.Header edit (datetime date) = refl
+sealed_passes way.Header edit (array items) = refl
+sealed_passes way.Header edit (table origin keys) = refl
+sealed_passes way.Header edit (tables done last) = refl
+sealed_passes way.Dots edit (string text) = refl
+sealed_passes way.Dots edit (integer z) = refl
+sealed_passes way.Dots edit (decimal word) = refl
+sealed_passes way.Dots edit (infinity negative) = refl
+sealed_passes way.Dots edit not_a_number = refl
+sealed_passes way.Dots edit (boolean flag) = refl
+sealed_passes way.Dots edit (datetime date) = refl
+sealed_passes way.Dots edit (array items) = refl
+sealed_passes way.Dots edit (table origin keys) = refl
+sealed_passes way.Dots edit (tables done last) = refl
+
+pub sealed_stays : (what : Definition) (x : Node) → redefine what (sealed x) ≡ None
+sealed_stays (key_value y) x = refl
+sealed_stays std_table (string text) = refl
+sealed_stays std_table (integer z) = refl
+sealed_stays std_table (decimal word) = refl
+sealed_stays std_table (infinity negative) = refl
+sealed_stays std_table not_a_number = refl
+sealed_stays std_table (boolean flag) = refl
+sealed_stays std_table (datetime date) = refl
+sealed_stays std_table (array items) = refl
+sealed_stays std_table (table origin keys) = refl
+sealed_stays std_table (tables done last) = refl
+sealed_stays array_table (string text) = refl
+sealed_stays array_table (integer z) = refl
+sealed_stays array_table (decimal word) = refl
+sealed_stays array_table (infinity negative) = refl
+sealed_stays array_table not_a_number = refl
+sealed_stays array_table (boolean flag) = refl
+sealed_stays array_table (datetime date) = refl
+sealed_stays array_table (array items) = refl
+sealed_stays array_table (table origin keys) = refl
+sealed_stays array_table (tables done last) = refl

@@ -1,0 +1,22 @@
+use Rattle.std.proofs.Common.{◌≡◌, ℕ, List, Some, length, string_bytes, bytes_eq, sym, ap, ◌∙◌, arith}
+use Rattle.std.proofs.lemmas.Grind.{common_steps}
+use Rattle.std.specs.BTreeMap.{get_by_text}
+use Rattle.std.specs.Map.{update}
+use Rattle.toml_ordered.proofs.DraftKeys.{Draft, appended}
+use Rattle.toml_ordered.specs.Data.{Nodes}
+use Rattle.toml_ordered.specs.Drafts.{keys_view}
+use Rattle.toml_ordered.proofs.drafts.append.Goals as goal
+
+pub returns : goal.returns
+returns c =
+    let es = c.args.keys.now.items in
+    let before = c.args.index.now in
+    let after = c.note.new.index in
+    let same : string_bytes c.in_ok-clone.field-0 ≡ string_bytes c.args.key = grind (arith, common_steps) in
+    let count : c.len-at.result ≡ length es = grind (arith, common_steps) in
+    let noted : (k : List ℕ) → get_by_text after k ≡ update bytes_eq (get_by_text before) (string_bytes c.args.key) (Some (length es)) k = λ k.
+    c.in_ok-note.ensures.noted k
+    ∙ ap (λ (l : List ℕ). update bytes_eq (get_by_text before) l (Some c.len-at.result) k) same
+    ∙ ap (λ (n : ℕ). update bytes_eq (get_by_text before) (string_bytes c.args.key) (Some n) k) count in
+    ap (λ (ns : Nodes). Some ns) (sym (appended before after es (c.args.key, c.args.draft, c.args.left) c.requires noted))
+    ∙ ap (λ (ds : List Draft). Some (keys_view ds after)) (sym c.in_ok-push.ensures.items)

@@ -1,0 +1,163 @@
+//! Tables while a document is read. Each has an index of its keys, so that none is searched for one by one.
+ghost use Rattle.std.specs.Prelude.{◌≡◌, ◌<◌, ℕ, IfErr, IfOk, IfSome, List, MatchOption, None, OnOk, Some, bytes_eq, length, string_bytes};
+ghost use Rattle.std.specs.BTreeMap.{get_by_text};
+ghost use Rattle.std.specs.Map.{update};
+ghost use Rattle.toml_ordered.specs.Data.{entries_view, node_view};
+ghost use Rattle.toml_ordered.specs.Drafts as spec;
+ghost use Rattle.toml_ordered.specs.Drafts.{IsAt, draft_view, keys_view};
+ghost use Rattle.toml_ordered.specs.Reading.{Gives, IsMemory};
+ghost use Rattle.toml_ordered.specs.Tables.{append, get_node};
+
+use crate::fault::Fault;
+use crate::tree::{Node, Nodes, Origin};
+use std::alloc::{AllocError, Global};
+use std::collections::BTreeMap;
+
+/// A value in a table that may still grow.
+#[derive(Drop)]
+pub(crate) enum Draft {
+    /// It takes no more.
+    Value(Node),
+    Table(Origin, Keys, Index),
+    /// The tables of an array that headers in double brackets make. The last is apart, since only that one can grow.
+    Tables(Vec<Node>, Keys, Index),
+}
+
+/// The keys of a table that may still grow, as `Nodes` has them.
+pub(crate) type Keys = Vec<(String, Draft, usize)>;
+
+/// The place of each key in its table. What doesn't stand at the place of its key counts for nothing.
+pub(crate) type Index = BTreeMap<String, usize>;
+
+/// A table that may still grow.
+#[derive(Drop)]
+pub(crate) struct OpenTable {
+    pub(crate) keys: Keys,
+    pub(crate) index: Index,
+}
+
+impl OpenTable {
+    /// A table without keys.
+    pub(crate) fn new(alloc: Global) -> OpenTable
+        ensures { spec.table_view result ≡ spec.no_keys }
+    {
+        OpenTable {
+            keys: Vec::new(alloc),
+            index: BTreeMap::new(alloc),
+        }
+    }
+
+    /// Completes the table.
+    pub(crate) fn finish(self, alloc: Global) -> Result<Nodes, AllocError>
+        ensures { IfOk result (λ nodes. entries_view nodes.items ≡ spec.table_view self) }
+    {
+        let OpenTable { keys, index } = self;
+        finish(alloc, keys, &index)
+    }
+}
+
+/// Returns where a key is.
+pub(crate) fn find(keys: &Keys, index: &Index, key: &str) -> Option<usize>
+    ensures found { MatchOption result (get_node key.now (keys_view keys.now.items index.now) ≡ None) (λ at. IsAt key.now at keys.now.items index.now) }
+    ensures within { IfSome result (λ at. at < length keys.now.items) }
+{
+    let at = match index.get(key) {
+        Some(at) => *at,
+        None => return None,
+    };
+    if at >= keys.len() {
+        return None;
+    }
+    if key == keys[at].0.as_str() {
+        Some(at)
+    } else {
+        None
+    }
+}
+
+/// Puts a key behind those that are there.
+pub(crate) fn append(
+    keys: &mut Keys,
+    index: &mut Index,
+    key: String,
+    draft: Draft,
+    left: usize,
+) -> Result<(), Fault>
+    requires { get_node (string_bytes key) (keys_view keys.old.items index.old) ≡ None }
+    ensures { Gives (λ _. keys_view keys.new.items index.new) result
+        (Some (append (keys_view keys.old.items index.old) (string_bytes key) (draft_view draft))) }
+{
+    let at = keys.len();
+    note(index, key.clone()?, at)?;
+    keys.push((key, draft, left))?;
+    Ok(())
+}
+
+/// Notes the place of a key.
+fn note(index: &mut Index, key: String, at: usize) -> Result<(), Fault>
+    ensures noted { OnOk result ((k : List ℕ) → get_by_text index.new k ≡ update bytes_eq (get_by_text index.old) (string_bytes key) (Some at) k) }
+    ensures failed { IfErr result IsMemory }
+{
+    index.insert(key, at)?;
+    Ok(())
+}
+
+/// Whether this is the place of a key.
+fn is_place(index: &Index, key: &str, at: usize) -> bool
+    ensures { result ≡ spec.is_place (get_by_text index.now key.now) at }
+{
+    match index.get(key) {
+        Some(place) => *place == at,
+        None => false,
+    }
+}
+
+/// Completes a table of these keys.
+#[cycle(finish)]
+pub(crate) fn finish(alloc: Global, keys: Keys, index: &Index) -> Result<Nodes, AllocError>
+    ensures { IfOk result (λ nodes. entries_view nodes.items ≡ keys_view keys.items index.now) }
+{
+    let mut nodes = Vec::with_capacity(alloc, keys.len())?;
+    let mut at = 0;
+    'keys: for (key, draft, left) in keys {
+        let place = at;
+        at += 1;
+        if is_place(index, key.as_str(), place) {
+            let node = complete(alloc, draft)?;
+            nodes.push((key, node, left))?;
+        }
+    }
+    Ok(nodes)
+}
+
+/// Completes a value.
+#[cycle(finish)]
+fn complete(alloc: Global, draft: Draft) -> Result<Node, AllocError>
+    ensures { IfOk result (λ node. node_view node ≡ draft_view draft) }
+{
+    match draft {
+        Draft::Value(node) => seal(node),
+        Draft::Table(origin, keys, index) => {
+            let nodes = finish(alloc, keys, &index)?;
+            Ok(Node::Table(origin, nodes))
+        }
+        Draft::Tables(done, last, index) => {
+            let nodes = finish(alloc, last, &index)?;
+            Ok(Node::Tables(done, nodes))
+        }
+    }
+}
+
+/// A value that takes no more.
+fn seal(node: Node) -> Result<Node, AllocError>
+    ensures { IfOk result (λ sealed. node_view sealed ≡ spec.sealed (node_view node)) }
+{
+    match node {
+        Node::Table(_, keys) => Ok(Node::Table(Origin::Closed, keys)),
+        Node::Tables(mut done, last) => {
+            done.push(Node::Table(Origin::Closed, last))?;
+            Ok(Node::Array(done))
+        }
+        other => Ok(other),
+    }
+}
