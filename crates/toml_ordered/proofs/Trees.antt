@@ -1,12 +1,9 @@
 -- A table's list of keys beside the keys and values that it stands for.
-use Rattle.std.proofs.Common.{◌≡◌, ℕ, zero, suc, ◌<◌, true, false, List, [], ◌∷◌, ◌++◌, length, Some, None, String, Vec, Global, subst, ◌≤◌, string_bytes, refl, sym, ap, ◌∙◌, rules, arith, set, get_or, drop, ◌+◌}
-use Rattle.std.proofs.Math.ListN.{drop_of_length-le}
-use Rattle.std.proofs.lemmas.List.{drop_more}
-use Rattle.std.specs.Str.{bytes_eq}
+use Rattle.std.proofs.Common.{◌≡◌, ℕ, List, [], ◌∷◌, ◌++◌, String, Vec, Global, string_bytes, refl, ap, rules}
 use Rattle.toml_ordered.specs.declared.tree.Node.{Node as CodeNode, Tables as CodeTables, Table as CodeTable, Array as CodeArray, the_lemmas}
 use Rattle.toml_ordered.specs.declared.tree.Origin.{Origin}
 use Rattle.toml_ordered.specs.Data.{item, push_item, node, table, tables, array, node_view, items_view, entries_view}
-use Rattle.toml_ordered.specs.Tables.{get_node, append, replace}
+use Rattle.toml_ordered.specs.Tables.{append}
 
 abbrev pub Entry : Type 0
 Entry = String Global × CodeNode × ℕ

@@ -50,9 +50,6 @@ keys_view ms index = nodes_from index 0 (drafts_view ms)
 abbrev pub table_view : OpenTable → Nodes
 table_view t = keys_view t.keys.items t.index
 
-abbrev pub no_keys : Nodes
-no_keys = no_nodes
-
 -- a key stands at this place
 abbrev pub HasKey : List ℕ → ℕ → List (String Global × CodeDraft × ℕ) → Type 0
 HasKey k at [] = ⊥

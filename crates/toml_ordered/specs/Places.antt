@@ -20,17 +20,18 @@ pub record ReadsUpTo (text : List ℕ) (doc : Document) (rest : List ℕ) : Type
   pub room : length rest < most
   pub goes_on : lines (suc (length text)) (no_nodes, []) (skip_bom text) ≡ lines most doc rest
 
--- no expression begins here, or one that defines what takes no more
-abbrev pub RefusesNext : Document → List ℕ → Type 0
-RefusesNext doc start = (line start ≡ None) ⊎ ((e : Expression) × (after : List ℕ) × (line start ≡ Some (e, after)) × (define doc e ≡ None))
+-- no expression has its line here, and the place is here or behind; or one has that defines what takes no more, and the place is here
+abbrev pub RefusesNext : Document → (start : List ℕ) → (left : ℕ) → Type 0
+RefusesNext doc start left =
+    ((line start ≡ None) × (left ≤ length start))
+    ⊎ ((e : Expression) × (after : List ℕ) × (line start ≡ Some (e, after)) × (define doc e ≡ None) × (left ≡ length start))
 
--- the text is read up to an expression that is refused, and its place is there or behind
+-- the text is read up to an expression that is refused, with this much left
 pub record StopsAt (text : List ℕ) (left : ℕ) : Type 0 where
   pub doc : Document
   pub rest : List ℕ
   pub read : ReadsUpTo text doc rest
-  pub refused : RefusesNext doc (skip_blank rest)
-  pub within : left ≤ length (skip_blank rest)
+  pub refused : RefusesNext doc (skip_blank rest) left
 
 -- of a fault that has a place
 abbrev pub IsPlaced : List ℕ → Fault → Type 0

@@ -124,7 +124,7 @@ pub fn read_document(alloc: Global, text: &str) -> Result<Nodes, Fault>
             Err(fault) => return Err(fault.here_or_behind(start)),
         };
         if let Err(fault) = read.define(alloc, expression, start.len()) {
-            return Err(fault.here_or_behind(start));
+            return Err(fault.here(start));
         }
         rest = after;
     }

@@ -2,7 +2,7 @@
 ghost use Rattle.std.specs.Prelude.{◌≡◌, ◌<◌, ℕ, IfErr, IfOk, IfSome, List, MatchOption, None, OnOk, Some, bytes_eq, length, string_bytes};
 ghost use Rattle.std.specs.BTreeMap.{get_by_text};
 ghost use Rattle.std.specs.Map.{update};
-ghost use Rattle.toml_ordered.specs.Data.{entries_view, node_view};
+ghost use Rattle.toml_ordered.specs.Data.{entries_view, no_nodes, node_view};
 ghost use Rattle.toml_ordered.specs.Drafts as spec;
 ghost use Rattle.toml_ordered.specs.Drafts.{IsAt, draft_view, keys_view};
 ghost use Rattle.toml_ordered.specs.Reading.{Gives, IsMemory};
@@ -39,7 +39,7 @@ pub(crate) struct OpenTable {
 impl OpenTable {
     /// A table without keys.
     pub(crate) fn new(alloc: Global) -> OpenTable
-        ensures { spec.table_view result ≡ spec.no_keys }
+        ensures { spec.table_view result ≡ no_nodes }
     {
         OpenTable {
             keys: Vec::new(alloc),

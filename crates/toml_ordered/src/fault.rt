@@ -1,5 +1,5 @@
 //! Why a text isn't read.
-ghost use Rattle.std.specs.Prelude.{◌≤◌, IfSome, length};
+ghost use Rattle.std.specs.Prelude.{◌≡◌, ◌≤◌, IfSome, length};
 ghost use Rattle.toml_ordered.specs.Places.{place_left};
 ghost use Rattle.toml_ordered.specs.Reading.{IsMemory, fault_of};
 
@@ -39,6 +39,23 @@ impl Fault {
                 key,
                 first,
                 second: second.min(most),
+            },
+        }
+    }
+
+    /// The fault, with its place here.
+    pub(crate) fn here(self, start: &str) -> Fault
+        ensures memory { IsMemory self → IsMemory result }
+        ensures place { IfSome (place_left result) (λ left. left ≡ length start.now) }
+    {
+        let left = start.len();
+        match self {
+            Fault::Memory => Fault::Memory,
+            Fault::NotToml { .. } => Fault::NotToml { left },
+            Fault::DefinedAgain { key, first, .. } => Fault::DefinedAgain {
+                key,
+                first,
+                second: left,
             },
         }
     }

@@ -1,4 +1,4 @@
-use Rattle.std.proofs.Common.{◌≡◌, ◌==◌, ◌-◌, suc, length, false, inl, inr, ◌∙◌, rules, arith}
+use Rattle.std.proofs.Common.{◌≡◌, ◌==◌, ◌≤◌, ◌-◌, suc, length, false, inl, inr, ◌∙◌, rules, arith}
 use Rattle.std.proofs.lemmas.Grind.{common_steps}
 use Rattle.toml_parser.specs.Lexical.{skip_blank}
 use Rattle.toml_ordered.proofs.Stopping.{placed}
@@ -43,13 +43,12 @@ pub returns-in-Err-clause-placed : goal.returns-in-Err-clause-placed
 returns-in-Err-clause-placed c =
     let l = c.lines in
     let start_is = c.skip_blank-start.ensures.rest in
-    placed c.args.text.now c.skip_blank-start.result.now c.in-Err.fault c.here_or_behind.result c.here_or_behind.ensures.memory
+    placed c.args.text.now (λ left. left ≤ length c.skip_blank-start.result.now) c.in-Err.fault c.here_or_behind.result c.here_or_behind.ensures.memory
     c.here_or_behind.ensures.place λ real left within. record {
       doc = document_view l.read;
       rest = l.rest.now;
       read = record { most = l.invariant.2; room = l.invariant.3; goes_on = l.invariant.4 };
-      refused = inl (rw start_is at (c.in-Err.ensures.value real));
-      within = rw start_is at within;
+      refused = inl (rw start_is at (c.in-Err.ensures.value real), rw start_is at within);
     }
 
 pub returns-in-Err-define-clause-value : goal.returns-in-Err-define-clause-value
@@ -62,7 +61,7 @@ returns-in-Err-define-clause-value c refused =
     let start_is = c.skip_blank-start.ensures.rest in
     let other : (length (skip_blank l.rest.now) == 0) ≡ false = grind (arith, common_steps) in
     let read = rw start_is at c.in-Ok.ensures.value in
-    let real : IsMemory c.in-Err-define.fault → ⊥ = λ memory. refused (c.here_or_behind-in-Err-define.ensures.memory memory) in
+    let real : IsMemory c.in-Err-define.fault → ⊥ = λ memory. refused (c.here.ensures.memory memory) in
     document_none c.args.text.now (loop ∙ lines_again m doc l.rest.now _ _ (omega arith) other read (c.in-Err-define.ensures real))
 
 pub returns-in-Err-define-clause-placed : goal.returns-in-Err-define-clause-placed
@@ -70,13 +69,12 @@ returns-in-Err-define-clause-placed c =
     let l = c.lines in
     let start_is = c.skip_blank-start.ensures.rest in
     let read = rw start_is at c.in-Ok.ensures.value in
-    placed c.args.text.now c.skip_blank-start.result.now c.in-Err-define.fault c.here_or_behind-in-Err-define.result
-    c.here_or_behind-in-Err-define.ensures.memory c.here_or_behind-in-Err-define.ensures.place λ real left within. record {
+    placed c.args.text.now (λ left. left ≡ length c.skip_blank-start.result.now) c.in-Err-define.fault c.here.result c.here.ensures.memory
+    c.here.ensures.place λ real left here. record {
       doc = document_view l.read;
       rest = l.rest.now;
       read = record { most = l.invariant.2; room = l.invariant.3; goes_on = l.invariant.4 };
-      refused = inr (_, _, read, c.in-Err-define.ensures real);
-      within = rw start_is at within;
+      refused = inr (_, _, read, c.in-Err-define.ensures real, rw start_is at here);
     }
 
 pub lines-preserved : goal.lines-preserved

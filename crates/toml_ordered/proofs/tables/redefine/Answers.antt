@@ -1,5 +1,5 @@
 use Rattle.std.proofs.Common.{Some, sym, ap, ap₂, ◌∙◌}
-use Rattle.toml_ordered.proofs.DraftKeys.{draft_view-Tables, sealed_stays}
+use Rattle.toml_ordered.proofs.DraftKeys.{draft_view-Tables}
 use Rattle.toml_ordered.proofs.Trees.{items_view-push, node_view-Table}
 use Rattle.toml_ordered.specs.Data.{Node, Items, Nodes, table, tables, push_item, items_view}
 use Rattle.toml_ordered.specs.Drafts.{draft_view, keys_view}
