@@ -3,10 +3,13 @@ use Rattle.yaml_json.proofs.Common.{◌≡◌, List, ℕ, Option, None, Some, re
 use Rattle.yaml_base.specs.declared.errors.{yaml_error_t.yaml_error_t, yaml_error_t.TheVariants.Memory}
 use Rattle.yaml_json.proofs.Common.{inl}
 use Rattle.yaml_json.specs.Failing.{HasErrorSaid}
+use Rattle.std.specs.Prelude.{IfSome}
+use Rattle.toml_ordered.specs.Places.{IsPlaced, place_left}
 use Rattle.toml_ordered.specs.Reading.{IsMemory}
 use Rattle.toml_ordered.specs.declared.fault.Fault.{Fault}
 use Rattle.toml_ordered.specs.declared.fault.Fault.TheVariants as fault
 use Rattle.yaml_toml.specs.Walk.{DeniesToml, fault_error, writers_error}
+use Rattle.yaml_toml.specs.Places.{HasPlace, IsAt}
 use Rattle.yaml_toml.specs.declared.error.TomlError.{TomlError}
 use Rattle.yaml_toml.specs.declared.error.TomlError.TheVariants as errors
 
@@ -35,3 +38,10 @@ IsNothing (Some error) = ⊥
 -- an error that denies the text isn't of memory
 pub denied : (found : Fault) (error : TomlError) → writers_error error ≡ fault_error found → DeniesToml error → IsMemory found → ⊥
 denied found error is denies memory = subst IsNothing (sym (writers_none error denies) ∙ is ∙ ap fault_error memory) tt
+
+-- an error of the text has the place of its fault
+pub placed_of : (text : List ℕ) (found : Fault) (error : TomlError) → writers_error error ≡ fault_error found → IsPlaced text found
+    → IfSome (place_left found) (λ left. IsAt text left error) → HasPlace text error
+placed_of text fault.Memory error is stops at = λ denies. absurd (denied fault.Memory error is denies refl)
+placed_of text (fault.NotToml left) error is stops at = λ denies. (left, stops, at)
+placed_of text (fault.DefinedAgain key first second) error is stops at = λ denies. (second, stops, at)

@@ -1,3 +1,4 @@
 pub mod Events
 pub mod Means
+pub mod Places
 pub mod Walk

@@ -1,10 +1,13 @@
 //! TOML documents as YAML.
-ghost use Rattle.std.specs.Prelude.{◌≡◌, IfErr, IfOk, None, OnOk};
+ghost use Rattle.std.specs.Prelude.{◌≡◌, ◌-◌, IfErr, IfOk, IfSome, None, OnOk, length};
 ghost use Rattle.toml_ordered.specs.Grammar.{ordered_document};
+ghost use Rattle.toml_ordered.specs.Places.{place_left};
 ghost use Rattle.yaml_emitter.specs.Given.{seen_settings};
+ghost use Rattle.yaml_json.specs.Places.{AreOf};
 ghost use Rattle.yaml_json.specs.Wrote.{IsBare};
 ghost use Rattle.yaml_pen.specs.Wrote.{Grows};
 ghost use Rattle.yaml_toml.specs.Means.{IsYamlOf};
+ghost use Rattle.yaml_toml.specs.Places.{HasPlace, IsAt};
 ghost use Rattle.yaml_toml.specs.Walk.{DeniesToml, IsSound, WroteToml, fault_error, stop_error, writers_error};
 
 use crate::error::TomlError;
@@ -16,13 +19,16 @@ use yaml_json::place_of;
 use yaml_writer::{Writer, yaml_error_t};
 
 /// The line and the column at which this much of a text is left.
-fn place_before(text: &str, left: usize) -> (usize, usize) {
+fn place_before(text: &str, left: usize) -> (usize, usize)
+    ensures { AreOf text.now (length text.now - left) result.0 result.1 }
+{
     place_of(text.as_bytes(), text.len().saturating_sub(left))
 }
 
 /// The error that tells a caller of a fault of a text.
 fn error_of(text: &str, fault: Fault) -> TomlError
-    ensures { writers_error result ≡ fault_error fault }
+    ensures error { writers_error result ≡ fault_error fault }
+    ensures place { IfSome (place_left fault) (λ left. IsAt text.now left result) }
 {
     match fault {
         Fault::Memory => TomlError::Emitter(yaml_error_t::Memory),
@@ -76,6 +82,7 @@ pub fn write_toml<A: Allocator + Copy>(
     ensures sound { IsSound writer.old result writer.new }
     ensures written { OnOk result (WroteToml settings.flow text.now writer.old writer.new) }
     ensures refused { IfErr result (λ error. DeniesToml error → ordered_document text.now ≡ None) }
+    ensures place { IfErr result (HasPlace text.now) }
 {
     let root = match read_document(alloc, text) {
         Ok(root) => root,
@@ -100,6 +107,7 @@ pub fn yaml_from_toml(
 ) -> Result<Vec<u8>, TomlError>
     ensures stream { IfOk result (λ bytes. IsYamlOf (seen_settings settings.writer) settings.flow text.now bytes.items) }
     ensures refused { IfErr result (λ error. DeniesToml error → ordered_document text.now ≡ None) }
+    ensures place { IfErr result (HasPlace text.now) }
 {
     let Ok(mut writer) = Writer::new(alloc, settings.writer) else {
         return Err(TomlError::Emitter(yaml_error_t::Memory));

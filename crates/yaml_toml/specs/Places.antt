@@ -1,0 +1,18 @@
+-- Where an error says that a text is refused.
+use Rattle.std.specs.Prelude.{ℕ, ◌-◌, List, length}
+use Rattle.toml_ordered.specs.Places.{StopsAt}
+use Rattle.yaml_json.specs.Places.{AreOf}
+use Rattle.yaml_toml.specs.Walk.{DeniesToml}
+use Rattle.yaml_toml.specs.declared.error.TomlError.{TomlError}
+use Rattle.yaml_toml.specs.declared.error.TomlError.TheVariants as errors
+
+-- the line and the column of an error of the text are those at which this much of it is left
+abbrev pub IsAt : (text : List ℕ) → (left : ℕ) → TomlError → Type 0
+IsAt text left (errors.NotToml line column) = AreOf text (length text - left) line column
+IsAt text left (errors.DefinedAgain key first_line first_column line column) = AreOf text (length text - left) line column
+IsAt text left _ = Unit {0}
+
+-- where an error says that the text is no document of TOML, the text is read up to an expression that is refused, and the error's place is
+-- there or behind
+abbrev pub HasPlace : (text : List ℕ) → TomlError → Type 0
+HasPlace text error = DeniesToml error → (left : ℕ) × StopsAt text left × IsAt text left error
