@@ -1,17 +1,20 @@
 -- A table while it is read beside the keys and values that it stands for.
-use Rattle.std.proofs.Common.{◌≡◌, ℕ, zero, suc, ◌+◌, ◌<◌, ◌≤◌, ◌==◌, true, false, Bool, List, [], ◌∷◌, ◌++◌, map, length, Option, Some, None, cond, String, Vec, BTreeMap, Global, string_bytes, bytes_eq, refl, sym, ap, subst, ◌∙◌, inl, inr, rules, arith, set, get_or}
+use Rattle.std.proofs.Common.{◌≡◌, ℕ, zero, suc, ◌+◌, ◌<◌, ◌≤◌, ◌==◌, true, false, Bool, List, [], ◌∷◌, ◌++◌, map, length, Option, Some}
+use Rattle.std.proofs.Common.{None, cond, String, Vec, BTreeMap, Global, string_bytes, bytes_eq, refl, sym, ap, subst, ◌∙◌, inl, inr, rules, arith, set, get_or}
 use Rattle.std.proofs.lemmas.List.{length-append, append_assoc}
 use Rattle.std.proofs.lemmas.Bool.{cases_Bool, eq-eqb, eqb-true, false≢true}
 use Rattle.std.proofs.lemmas.Slice.Eq.{bytes_eq-Decides}
 use Rattle.std.specs.BTreeMap.{get_by_text}
 use Rattle.std.specs.Map.{update}
-use Rattle.toml_ordered.specs.declared.drafts.Draft.{Draft as CodeDraft, Table as DraftTable, Tables as DraftTables, Value as DraftValue, fold-Draft, the_lemmas}
+use Rattle.toml_ordered.specs.declared.drafts.Draft.{Draft as CodeDraft, Table as DraftTable, Tables as DraftTables, Value as DraftValue}
+use Rattle.toml_ordered.specs.declared.drafts.Draft.{fold-Draft, the_lemmas}
 use Rattle.toml_ordered.specs.declared.drafts.Draft.TheOpen.{Draft-F}
 use Rattle.toml_ordered.specs.declared.tree.Node.{Node as CodeNode}
 use Rattle.toml_ordered.specs.declared.tree.Origin.{Origin}
 use Rattle.toml_ordered.specs.declared.route.Way.{Way}
 use Rattle.toml_ordered.specs.declared.route.Way.TheVariants as way
-use Rattle.toml_ordered.specs.Data.{Node, string, integer, decimal, infinity, not_a_number, boolean, datetime, array, table, tables, Nodes, items_view, node_view}
+use Rattle.toml_ordered.specs.Data.{Node, string, integer, decimal, infinity, not_a_number, boolean, datetime, array, table}
+use Rattle.toml_ordered.specs.Data.{tables, Nodes, items_view, node_view}
 use Rattle.toml_ordered.specs.Drafts.{sealed, is_place, kept, nodes_from, draft_view, drafts_view, keys_view, HasKey, IsAt}
 use Rattle.toml_ordered.specs.Tables.{Definition, key_value, std_table, array_table, Edit, passed, redefine, get_node, append, replace}
 
@@ -115,7 +118,8 @@ module _ (index : Places) (k : List ℕ) where
       → get_node k (nodes_from index n (drafts_view es)) ≡ None
   absent_from n [] none = refl
   absent_from n (e ∷ es) none =
-      passed_over (is_place (get_by_text index (string_bytes e.0)) n) k (string_bytes e.0) (draft_view e.1) (nodes_from index (suc n) (drafts_view es)) not_here ∙ absent_from (suc n) es later
+      passed_over (is_place (get_by_text index (string_bytes e.0)) n) k (string_bytes e.0) (draft_view e.1) (nodes_from index (suc n) (drafts_view es)) not_here
+      ∙ absent_from (suc n) es later
     where
       not_here : is_place (get_by_text index (string_bytes e.0)) n ≡ true → bytes_eq k (string_bytes e.0) ≡ false
       not_here live = elim (cases_Bool (bytes_eq k (string_bytes e.0))) [
@@ -238,7 +242,8 @@ kept_last : (index : Places) (n : ℕ) (es : List Draft) (e : Draft) → is_plac
     → nodes_from index n (drafts_view (es ++ e ∷ [])) ≡ append (nodes_from index n (drafts_view es)) (string_bytes e.0) (draft_view e.1)
 kept_last index n [] e live =
     let zeroth : n + 0 ≡ n = omega arith in
-    let here : is_place (get_by_text index (string_bytes e.0)) n ≡ true = subst (λ (m : ℕ). is_place (get_by_text index (string_bytes e.0)) m ≡ true) zeroth live in
+    let here : is_place (get_by_text index (string_bytes e.0)) n ≡ true =
+    subst (λ (m : ℕ). is_place (get_by_text index (string_bytes e.0)) m ≡ true) zeroth live in
     rw here
 kept_last index n (x ∷ es) e live =
     let next : n + suc (length es) ≡ suc n + length es = omega arith in
@@ -251,7 +256,8 @@ dropped_last : (index : Places) (n : ℕ) (es : List Draft) (e : Draft) → is_p
     → nodes_from index n (drafts_view (es ++ e ∷ [])) ≡ nodes_from index n (drafts_view es)
 dropped_last index n [] e away =
     let zeroth : n + 0 ≡ n = omega arith in
-    let here : is_place (get_by_text index (string_bytes e.0)) n ≡ false = subst (λ (m : ℕ). is_place (get_by_text index (string_bytes e.0)) m ≡ false) zeroth away in
+    let here : is_place (get_by_text index (string_bytes e.0)) n ≡ false =
+    subst (λ (m : ℕ). is_place (get_by_text index (string_bytes e.0)) m ≡ false) zeroth away in
     rw here
 dropped_last index n (x ∷ es) e away =
     let next : n + suc (length es) ≡ suc n + length es = omega arith in
@@ -290,7 +296,8 @@ keys_size es = entries_size (map (λ m. (m.0, draft_size m.1, m.2)) es)
 pub draft_size-Table : (origin : Origin) (keys : Vec Draft Global) (index : Places) → draft_size (DraftTable origin keys index) ≡ suc (keys_size keys.items)
 draft_size-Table origin keys index = search (rules, the_lemmas)
 
-pub draft_size-Tables : (done : Vec CodeNode Global) (keys : Vec Draft Global) (index : Places) → draft_size (DraftTables done keys index) ≡ suc (keys_size keys.items)
+pub draft_size-Tables : (done : Vec CodeNode Global) (keys : Vec Draft Global) (index : Places)
+    → draft_size (DraftTables done keys index) ≡ suc (keys_size keys.items)
 draft_size-Tables done keys index = search (rules, the_lemmas)
 
 pub size-within : (before later : List Draft) (e : Draft) → draft_size e.1 ≤ keys_size (before ++ e ∷ later)
@@ -319,7 +326,8 @@ turn_room gone left rest all e steps whole =
 pub draft_view-Value : (x : CodeNode) → draft_view (DraftValue x) ≡ sealed (node_view x)
 draft_view-Value x = search (rules, the_lemmas)
 
-pub draft_view-Table : (origin : Origin) (keys : Vec Draft Global) (index : Places) → draft_view (DraftTable origin keys index) ≡ table origin (keys_view keys.items index)
+pub draft_view-Table : (origin : Origin) (keys : Vec Draft Global) (index : Places)
+    → draft_view (DraftTable origin keys index) ≡ table origin (keys_view keys.items index)
 draft_view-Table origin keys index = search (rules, the_lemmas)
 
 pub draft_view-Tables : (done : Vec CodeNode Global) (last : Vec Draft Global) (index : Places)

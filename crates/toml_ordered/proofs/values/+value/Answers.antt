@@ -108,7 +108,8 @@ braces-returns-in_err-put-clause-value c c' n h =
     let other : (first (skip_blank l.rest.now) == 125) ≡ false = grind (arith, common_steps) in
     let key : Key = key_view c'.in_ok-key.key in
     let named : key_equals (skip_blank l.rest.now) ≡ Some (key, c'.in_ok-key.at_value.now) = rw c'.skip_blank-start.ensures.rest at c'.in_ok-key.ensures.value in
-    let sealed_member : sealed (node_view c'.in_ok-member.member) ≡ node_view c'.in_ok-member.member = val_sealed c'.args.depth c'.in_ok-key.at_value.now _ _ c'.in_ok-member.ensures.value in
+    let sealed_member : sealed (node_view c'.in_ok-member.member) ≡ node_view c'.in_ok-member.member =
+    val_sealed c'.args.depth c'.in_ok-key.at_value.now _ _ c'.in_ok-member.ensures.value in
     let read = keyval_is (val c'.args.depth) (skip_blank l.rest.now) key _ _ _ named c'.in_ok-member.ensures.value in
     let (m, room, loop) = l.invariant.2 n h in
     gives_err _ c'.from_residual-in_err-put.result _ c'.in_err-put.field-0.0 _ c'.from_residual-in_err-put.ensures.1 (λ y p. p) λ refused.
@@ -120,7 +121,8 @@ braces-returns-in_err-rest-clause-value c c' n h =
     let other : (first (skip_blank l.rest.now) == 125) ≡ false = grind (arith, common_steps) in
     let key : Key = key_view c'.in_ok-key.key in
     let named : key_equals (skip_blank l.rest.now) ≡ Some (key, c'.in_ok-key.at_value.now) = rw c'.skip_blank-start.ensures.rest at c'.in_ok-key.ensures.value in
-    let sealed_member : sealed (node_view c'.in_ok-member.member) ≡ node_view c'.in_ok-member.member = val_sealed c'.args.depth c'.in_ok-key.at_value.now _ _ c'.in_ok-member.ensures.value in
+    let sealed_member : sealed (node_view c'.in_ok-member.member) ≡ node_view c'.in_ok-member.member =
+    val_sealed c'.args.depth c'.in_ok-key.at_value.now _ _ c'.in_ok-member.ensures.value in
     let read = keyval_is (val c'.args.depth) (skip_blank l.rest.now) key _ _ _ named c'.in_ok-member.ensures.value in
     let (m, room, loop) = l.invariant.2 n h in
     gives_err _ c'.from_residual-in_err-rest.result _ c'.in_err-rest.field-0.0 _ c'.from_residual-in_err-rest.ensures.1 (λ y p. p) λ refused.
@@ -133,7 +135,8 @@ braces-members-preserved c c' =
     let other : (first (skip_blank l.rest.now) == 125) ≡ false = grind (arith, common_steps) in
     let key : Key = key_view c'.in_ok-key.key in
     let named : key_equals (skip_blank l.rest.now) ≡ Some (key, c'.in_ok-key.at_value.now) = rw c'.skip_blank-start.ensures.rest at c'.in_ok-key.ensures.value in
-    let sealed_member : sealed (node_view c'.in_ok-member.member) ≡ node_view c'.in_ok-member.member = val_sealed c'.args.depth c'.in_ok-key.at_value.now _ _ c'.in_ok-member.ensures.value in
+    let sealed_member : sealed (node_view c'.in_ok-member.member) ≡ node_view c'.in_ok-member.member =
+    val_sealed c'.args.depth c'.in_ok-key.at_value.now _ _ c'.in_ok-member.ensures.value in
     let read = keyval_is (val c'.args.depth) (skip_blank l.rest.now) key _ _ _ named c'.in_ok-member.ensures.value in
     let shorter = c'.in_ok-key.ensures.shorter in
     let shorter_again = c'.in_ok-member.ensures.shorter in
