@@ -1,7 +1,9 @@
 -- A character that was read stood there in its one spelling.
-use Rattle.yaml_base.proofs.Common.{ℕ, ◌+◌, ◌*◌, ◌/◌, ◌%◌, ◌-◌, ◌<◌, ◌≤◌, ◌==◌, Bool, true, false, not, ◌&&◌, ◌||◌, Option, None, Some, List, [], ◌∷◌, ◌++◌, refl, ◌≡◌}
+use Rattle.yaml_base.proofs.Common.{ℕ, ◌+◌, ◌*◌, ◌/◌, ◌%◌, ◌-◌, ◌<◌, ◌≤◌, ◌==◌, Bool, true, false, not, ◌&&◌, ◌||◌, Option, None, Some, List, []}
+use Rattle.yaml_base.proofs.Common.{◌∷◌, ◌++◌, refl, ◌≡◌}
 use Rattle.yaml_base.proofs.Common.{ap, subst, sym, ◌∙◌, arith, nat_tests, append_assoc, append-nil, and_parts, and_from, eqb-true, if◌then◌else◌, nat_le}
-use Rattle.yaml_base.proofs.Common.{Text, encode_utf8_all, encode_utf8, all_scalars, hex_digit, hex_digits, character_text, is_between, flat_map, flat_map-append, codes}
+use Rattle.yaml_base.proofs.Common.{Text, encode_utf8_all, encode_utf8, all_scalars, hex_digit, hex_digits, character_text, is_between, flat_map}
+use Rattle.yaml_base.proofs.Common.{flat_map-append, codes}
 use Rattle.yaml_base.proofs.Common.{chars-encodes, chars}
 use lib.Utf8.{scalar}
 use Rattle.std.specs.Prelude.{String}
@@ -200,7 +202,7 @@ pub record ReadSoFar (whole value bytes : List ℕ) : Type 0 where
   pub value_is : value ≡ encode_utf8_all read
   pub whole_is : whole ≡ codes "\"" ++ (encode_utf8_all (flat_map (character_text true) read) ++ bytes)
 
-scalars_more : (a b : Text) → all_scalars a ≡ true → all_scalars b ≡ true → all_scalars (a ++ b) ≡ true
+pub scalars_more : (a b : Text) → all_scalars a ≡ true → all_scalars b ≡ true → all_scalars (a ++ b) ≡ true
 scalars_more [] b ha hb = hb
 scalars_more (c ∷ a) b ha hb = let parts = and_parts _ (all_scalars a) ha in and_from _ _ parts.0 (scalars_more a b parts.1 hb)
 

@@ -1,6 +1,7 @@
 -- Escapes and digits.
 use Rattle.yaml_base.proofs.Common.{ℕ, ◌<◌, ◌==◌, Bool, true, false, ◌&&◌, Option, None, Some, List, [], ◌∷◌, refl, ◌≡◌}
-use Rattle.yaml_base.proofs.Common.{ap, sym, ◌∙◌, arith, nat_tests, nat_lt, ltb-true, true≢false, and_parts, agree_below_at, eqb-true, if◌then◌else◌, Text, hex_digit}
+use Rattle.yaml_base.proofs.Common.{ap, sym, ◌∙◌, arith, nat_tests, nat_lt, ltb-true, true≢false, and_parts, agree_below_at, eqb-true, if◌then◌else◌}
+use Rattle.yaml_base.proofs.Common.{Text, hex_digit}
 use Rattle.yaml_base.proofs.Common.{scalar_cases, all_scalars, character_text}
 use Rattle.yaml_base.specs.reading.ReadDouble.{letter_meaning, digit_meaning}
 use Rattle.yaml_base.specs.scalars.DoubleQuoted.{ShortEscape, short_escapes, letter_among, needs_escape, escape_after_backslash, escape_text, backslash}

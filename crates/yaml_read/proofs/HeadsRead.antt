@@ -88,21 +88,23 @@ empty_list : (bytes behind rest : List ℕ) → bytes ≡ codes "!!seq " ++ behi
 empty_list bytes behind rest tagged is =
     record {
       readable = λ depth room. (room refl, tt);
-      text = λ column. tagged_text bytes behind rest [] (codes "!!seq ") (codes "[]") refl tagged (is ∙ ap (λ w. w ++ rest) (sym (word_bytes (codes "[]") refl)));
+      text = λ column.
+          tagged_text bytes behind rest [] (codes "!!seq ") (codes "[]") refl tagged (is ∙ ap (λ w. w ++ rest) (sym (word_bytes (codes "[]") refl)));
     }
 
 empty_map : (bytes behind rest : List ℕ) → bytes ≡ codes "!!map " ++ behind → behind ≡ codes "{}" ++ rest → IsValue bytes (map_value no_value_pairs) rest
 empty_map bytes behind rest tagged is =
     record {
       readable = λ depth room. (room refl, tt);
-      text = λ column. tagged_text bytes behind rest [] (codes "!!map ") (codes "{}") refl tagged (is ∙ ap (λ w. w ++ rest) (sym (word_bytes (codes "{}") refl)));
+      text = λ column.
+          tagged_text bytes behind rest [] (codes "!!map ") (codes "{}") refl tagged (is ∙ ap (λ w. w ++ rest) (sym (word_bytes (codes "{}") refl)));
     }
 
 pub list_read : {A : Type 0} (bytes tail : List ℕ) (result : Result (Head A × Bor (List ℕ)) Stop) → bytes ≡ codes "!!seq " ++ tail → ListRead tail result
     → IfOk result (HeadIs bytes)
 list_read bytes tail (Ok (head.Whole found, after)) tagged read =
     subst (λ value. IsValue bytes value after.now) (sym read.0) (empty_list bytes tail after.now tagged read.1)
-list_read bytes tail (Ok (head.Items, inside)) tagged read = tagged ∙ ap (λ t. codes "!!seq " ++ t) read.0
+list_read bytes tail (Ok (head.Items, inside)) tagged read = (tagged ∙ ap (λ t. codes "!!seq " ++ t) read.0, read.1)
 list_read bytes tail (Ok (head.Pairs, inside)) tagged read = absurd read
 list_read bytes tail (Err error) tagged read = tt
 
@@ -111,5 +113,5 @@ pub map_read : {A : Type 0} (bytes tail : List ℕ) (result : Result (Head A × 
 map_read bytes tail (Ok (head.Whole found, after)) tagged read =
     subst (λ value. IsValue bytes value after.now) (sym read.0) (empty_map bytes tail after.now tagged read.1)
 map_read bytes tail (Ok (head.Items, inside)) tagged read = absurd read
-map_read bytes tail (Ok (head.Pairs, inside)) tagged read = tagged ∙ ap (λ t. codes "!!map " ++ t) read.0
+map_read bytes tail (Ok (head.Pairs, inside)) tagged read = (tagged ∙ ap (λ t. codes "!!map " ++ t) read.0, read.1)
 map_read bytes tail (Err error) tagged read = tt

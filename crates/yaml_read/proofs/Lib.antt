@@ -15,3 +15,9 @@ pub mod Opening
 pub mod CharactersRead
 pub mod HeadsRead
 pub mod WrittenValues
+pub mod Breaking
+pub mod BreakingNodes
+pub mod Placing
+pub mod TextWords
+pub mod WordTexts
+pub mod WordsBehind

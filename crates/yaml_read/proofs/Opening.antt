@@ -1,9 +1,9 @@
 -- What was read grows with each word.
-use Rattle.yaml_base.proofs.Common.{ℕ, ◌+◌, ◌*◌, ◌<◌, Bool, true, List, [], ◌∷◌, ◌++◌, refl, ◌≡◌, ap, subst, sym, ◌∙◌}
+use Rattle.yaml_base.proofs.Common.{ℕ, ◌+◌, ◌*◌, ◌<◌, Bool, true, false, true≢false, List, [], ◌∷◌, ◌++◌, refl, ◌≡◌, ap, subst, sym, ◌∙◌}
 use Rattle.yaml_base.proofs.Common.{append_assoc, append-nil, arith, length, codes, line_feed, Text, encode_utf8_all, eqb-true, ◌==◌}
 use Rattle.std.proofs.lemmas.Str.{encodes-append}
-use Rattle.yaml_base.specs.values.TypedValues.{TypedValue, TypedValues, no_values, values_and, TypedPairs, no_value_pairs, value_pairs_and, list_value, map_value}
-use Rattle.yaml_base.specs.values.TypedValues.{most_nested}
+use Rattle.yaml_base.specs.values.TypedValues.{TypedValue, TypedValues, no_values, values_and, TypedPairs, no_value_pairs, value_pairs_and}
+use Rattle.yaml_base.specs.values.TypedValues.{list_value, map_value, most_nested}
 use Rattle.yaml_base.specs.values.ValueText.{line_at, value_text, items_text, pairs_text, entry_lead, has_no_values, has_no_value_pairs, document_text}
 use Rattle.yaml_read.specs.Opened.{opened_text, IsOpen, HasRead}
 use Rattle.yaml_read.specs.Readable.{CanBeReadAt}
@@ -239,6 +239,11 @@ taken before first value text bytes old new level whole goes is read =
 pub nothing_left : (bytes : List ℕ) (empty : Bool) → empty ≡ (length bytes == 0) → empty ≡ true → bytes ≡ []
 nothing_left [] empty is on = refl
 nothing_left (c ∷ bytes) empty is on = absurd (omega (arith, eqb-true (length (c ∷ bytes)) 0 (sym is ∙ on)))
+
+-- and one that isn't
+pub some_left : (bytes : List ℕ) (empty : Bool) → empty ≡ (length bytes == 0) → empty ≡ false → 0 < length bytes
+some_left [] empty is off = absurd (true≢false (sym is ∙ off))
+some_left (c ∷ bytes) empty is off = omega arith
 
 -- a document's text behind its first line
 pub record TextOpen (text : List ℕ) (levels : List OpenLevel) (bytes : List ℕ) : Type 0 where

@@ -1,6 +1,7 @@
 -- A readable value's text consists of Unicode scalar values, so its bytes are UTF-8.
 use Rattle.yaml_base.proofs.Common.{ℕ, ◌+◌, ◌%◌, ◌/◌, ◌<◌, ◌==◌, suc, zero, Bool, true, false, Some, List, [], ◌∷◌, ◌++◌, refl, ◌≡◌, ap, sym, ◌∙◌}
-use Rattle.yaml_base.proofs.Common.{arith, codes, space, line_feed, Text, replicate, all_scalars, encode_utf8_all, and_parts, and_from, agree_below_at, hex_digit, hex_digits}
+use Rattle.yaml_base.proofs.Common.{arith, codes, space, line_feed, Text, replicate, all_scalars, encode_utf8_all, and_parts, and_from}
+use Rattle.yaml_base.proofs.Common.{agree_below_at, hex_digit, hex_digits}
 use Rattle.yaml_base.proofs.Common.{character_text, flat_map, if◌then◌else◌, chars-IsAscii, eqb-true}
 use Rattle.std.specs.Fmt.{signed_decimal}
 use Rattle.std.specs.Int.Signed.{mag}
@@ -20,7 +21,8 @@ use Rattle.yaml_base.specs.reading.ReadDouble.{meaning_among}
 use Rattle.yaml_base.specs.scalars.DoubleQuoted.{quote}
 use Rattle.yaml_base.specs.values.TypedValues.{TypedValue, null_value, bool_value, int_value, text_value, list_value, map_value, TypedValues, no_values}
 use Rattle.yaml_base.specs.values.TypedValues.{values_and, TypedPairs, no_value_pairs, value_pairs_and}
-use Rattle.yaml_base.specs.values.ValueText.{line_at, value_text, items_text, pairs_text, entry_lead, entries_end, has_no_values, has_no_value_pairs, document_text, in_quotes}
+use Rattle.yaml_base.specs.values.ValueText.{line_at, value_text, items_text, pairs_text, entry_lead, entries_end, has_no_values}
+use Rattle.yaml_base.specs.values.ValueText.{has_no_value_pairs, document_text, in_quotes}
 use Rattle.yaml_read.specs.Readable.{CanBeRead, CanBeReadAt, AllCanBeReadAt, PairsCanBeReadAt}
 use Rattle.yaml_read.proofs.Escapes.{Stands, as_itself, as_escape, stands}
 use Rattle.yaml_read.proofs.Firsts.{AfterBackslash, by_letter, by_two, by_four, after_backslash}

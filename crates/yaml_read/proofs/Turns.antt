@@ -73,13 +73,13 @@ pub record EntryEnds (lead end : List ℕ) (Due Read : List ℕ → Type 0) (dep
   pub leads : Leads lead end Due Read tail
 
 -- bytes of a comma, a line and a rest
-comma_line : (levels : List OpenLevel) (rest : Text)
+pub comma_line : (levels : List OpenLevel) (rest : Text)
     → encode_utf8_all (codes "," ++ (line_at (column_of levels) ++ rest)) ≡ codes "," ++ (line_at (length levels * 2) ++ encode_utf8_all rest)
 comma_line levels rest =
     word_encoded (codes ",") (line_at (column_of levels) ++ rest) refl
     ∙ ap (λ t. codes "," ++ t) (line_encoded (column_of levels) rest ∙ ap (λ n. line_at n ++ encode_utf8_all rest) (column_is levels))
 
-comma_deeper : (levels : List OpenLevel) (rest : Text)
+pub comma_deeper : (levels : List OpenLevel) (rest : Text)
     → encode_utf8_all (codes "," ++ (line_at (column_of levels + 2) ++ rest))
     ≡ codes "," ++ (line_at (length levels * 2) ++ (codes "  " ++ encode_utf8_all rest))
 comma_deeper levels rest =
@@ -141,15 +141,19 @@ pub record KeyEnds (root : TypedValue) (levels : List OpenLevel) (pairs : TypedP
   pub bytes_are : bytes ≡ line_at (length levels * 2) ++ (codes "  : " ++ tail)
   pub due : IsDue root (value_due pairs key ∷ levels) tail
 
+pub key_line : (levels : List OpenLevel) (rest : Text)
+    → encode_utf8_all (line_at (column_of levels + 2) ++ (codes ": " ++ rest)) ≡ line_at (length levels * 2) ++ (codes "  : " ++ encode_utf8_all rest)
+key_line levels rest =
+    ap encode_utf8_all (line_deeper (column_of levels) (codes ": " ++ rest)) ∙ line_encoded (column_of levels) (codes "  : " ++ rest)
+    ∙ ap (λ n. line_at n ++ encode_utf8_all (codes "  : " ++ rest)) (column_is levels)
+    ∙ ap (λ t. line_at (length levels * 2) ++ t) (word_encoded (codes "  : ") rest refl)
+
 key_ends_by : (root : TypedValue) (levels : List OpenLevel) (pairs : TypedPairs) (key : TypedValue) (bytes : List ℕ) (text : Text)
     → bytes ≡ encode_utf8_all text → Completes root (pairs_open pairs ∷ levels) key text → KeyEnds root levels pairs key bytes
 key_ends_by root levels pairs key bytes text is (value_follows _ _ _ value rest _ readable text_is completes) =
     record {
       tail = encode_utf8_all (value_text (column_of levels + 2) value ++ rest);
-      bytes_are =
-          is ∙ ap encode_utf8_all (text_is ∙ line_deeper (column_of levels) _) ∙ line_encoded (column_of levels) _
-          ∙ ap (λ n. line_at n ++ encode_utf8_all (codes "  : " ++ (value_text (column_of levels + 2) value ++ rest))) (column_is levels)
-          ∙ ap (λ t. line_at (length levels * 2) ++ t) (word_encoded (codes "  : ") _ refl);
+      bytes_are = is ∙ ap encode_utf8_all text_is ∙ key_line levels (value_text (column_of levels + 2) value ++ rest);
       due = record { value = value; rest = rest; readable = readable; text = refl; completes = completes };
     }
 

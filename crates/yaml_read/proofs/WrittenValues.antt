@@ -67,9 +67,11 @@ mutual
   events_scalars (int_value n) depth readable = ap (λ b. b && true) (int_scalars n readable)
   events_scalars (text_value text) depth readable = ap (λ b. b && true) readable
   events_scalars (list_value items) depth readable =
-      list_all-append has_scalar_texts (nodes_events (value_nodes items)) (sequence_end ∷ []) ∙ ap (λ b. b && true) (all_scalars_of items (suc depth) readable.1)
+      list_all-append has_scalar_texts (nodes_events (value_nodes items)) (sequence_end ∷ [])
+      ∙ ap (λ b. b && true) (all_scalars_of items (suc depth) readable.1)
   events_scalars (map_value pairs) depth readable =
-      list_all-append has_scalar_texts (pairs_events (value_pairs pairs)) (mapping_end ∷ []) ∙ ap (λ b. b && true) (pairs_scalars_of pairs (suc depth) readable.1)
+      list_all-append has_scalar_texts (pairs_events (value_pairs pairs)) (mapping_end ∷ [])
+      ∙ ap (λ b. b && true) (pairs_scalars_of pairs (suc depth) readable.1)
 
   all_scalars_of : (items : TypedValues) (depth : ℕ) → AllCanBeReadAt depth items → list_all has_scalar_texts (nodes_events (value_nodes items)) ≡ true
   all_scalars_of no_values depth readable = refl

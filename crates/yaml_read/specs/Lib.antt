@@ -7,3 +7,5 @@ pub mod Heads
 pub mod Errors
 pub mod Opened
 pub mod Sound
+pub mod Grammar
+pub mod Places

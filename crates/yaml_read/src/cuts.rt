@@ -1,7 +1,8 @@
 //! What follows a word at a text's beginning.
-ghost use Rattle.std.specs.Prelude.{◌≡◌, ◌+◌, ◌*◌, ◌<◌, ◌≤◌, IfOk, IfSome, length, replicate};
+ghost use Rattle.std.specs.Prelude.{◌≡◌, ◌+◌, ◌*◌, ◌<◌, ◌≤◌, IfErr, IfOk, IfSome, length, replicate};
 ghost use Rattle.yaml_base.specs.Characters.{space};
 ghost use Rattle.yaml_base.specs.values.ValueText.{line_at};
+ghost use Rattle.yaml_read.specs.Places.{IsHere, LacksLevel, LacksLine};
 ghost use Rattle.yaml_read.specs.Words.{Cuts, CutsIf};
 
 use crate::errors::{Stop, refused_at};
@@ -20,6 +21,7 @@ pub(crate) fn past<'a>(text: &'a str, word: &str) -> Option<&'a str>
 /// What follows a word.
 pub(crate) fn after<'a>(text: &'a str, word: &str) -> Result<&'a str, Stop>
     ensures cut { Cuts word.now text.now result }
+    ensures placed { IfErr result (IsHere text.now) }
     ensures shorter { IfOk result (λ rest. length rest.now + length word.now ≡ length text.now) }
 {
     match past(text, word) {
@@ -31,6 +33,7 @@ pub(crate) fn after<'a>(text: &'a str, word: &str) -> Result<&'a str, Stop>
 /// What follows the indentation of a depth.
 fn after_spaces(text: &str, depth: usize) -> Result<&str, Stop>
     ensures cut { Cuts (replicate (depth * 2) space) text.now result }
+    ensures lacks { IfErr result (LacksLevel depth text.now) }
     ensures shorter { IfOk result (λ rest. length rest.now ≤ length text.now) }
 {
     let mut rest = text;
@@ -43,6 +46,7 @@ fn after_spaces(text: &str, depth: usize) -> Result<&str, Stop>
 /// What follows a line's end and the indentation of a depth.
 pub(crate) fn after_indent(text: &str, depth: usize) -> Result<&str, Stop>
     ensures cut { Cuts (line_at (depth * 2)) text.now result }
+    ensures lacks { IfErr result (LacksLine depth text.now) }
     ensures shorter { IfOk result (λ rest. length rest.now < length text.now) }
 {
     let line = after(text, "\n")?;

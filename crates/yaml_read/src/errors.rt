@@ -1,5 +1,6 @@
 //! Why bytes aren't read.
 ghost use Rattle.std.specs.Prelude.{◌≡◌};
+ghost use Rattle.yaml_read.specs.Places.{IsHere, IsWholeWord};
 ghost use Rattle.yaml_read.specs.declared.errors.Stop.TheVariants as stop;
 
 use std::alloc::AllocError;
@@ -9,8 +10,9 @@ use thiserror::Error;
 #[derive(Clone, Copy, Debug, Drop, Error, PartialEq, Eq)]
 pub enum ReadError {
     /// They are no value's canonical bytes. The first word that can't stand where it stands begins here: a tag, a bracket,
-    /// a level's two spaces, a character of a text or its escape, an integer with its quotes. Where they end too early, a
-    /// word is missing or cut off here. Where they aren't UTF-8, this is the end of their longest prefix that is.
+    /// a comma, a line's end, a level's two spaces, `? ` or `: ` with the two spaces before it, a character of a text or its
+    /// escape, another scalar with its quotes. Where they end too early, a word is missing or cut off here. Where they aren't
+    /// UTF-8, this is the end of their longest prefix that is.
     #[error("line {line}, column {column}: not canonical")]
     NotCanonical { line: usize, column: usize },
     /// Lists and maps nest more than 1,000 deep. The first that lies too deep begins here.
@@ -40,6 +42,18 @@ impl From<AllocError> for Stop {
 }
 
 /// The first word of the rest can't stand there.
-pub(crate) fn refused_at(rest: &str) -> Stop {
+pub(crate) fn refused_at(rest: &str) -> Stop
+    ensures { IsHere rest.now result }
+{
     Stop::Refused(rest.len())
+}
+
+/// The rest begins with a word that is refused as a whole.
+pub(crate) fn refused_whole(reason: Stop, rest: &str) -> Stop
+    ensures { IsWholeWord rest.now reason result }
+{
+    match reason {
+        Stop::Memory => Stop::Memory,
+        _ => refused_at(rest),
+    }
 }

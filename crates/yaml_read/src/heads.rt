@@ -1,19 +1,22 @@
 //! How a node begins.
-ghost use Rattle.std.specs.Prelude.{◌≡◌, ◌++◌, ◌<◌, ◌^◌, ℕ, ℤ, Bool, IfOk, length};
+ghost use Rattle.std.specs.Prelude.{◌≡◌, ◌++◌, ◌<◌, ◌^◌, ℕ, ℤ, Bool, true, IfErr, IfOk, length};
 ghost use Rattle.std.specs.Fmt.{signed_decimal};
 ghost use Rattle.std.specs.Int.Signed.{mag};
-ghost use Rattle.std.specs.Str.{encode_utf8_all};
+ghost use Rattle.std.specs.Str.{all_scalars, encode_utf8_all};
 ghost use Rattle.yaml_base.specs.Characters.{Text};
 ghost use Rattle.yaml_base.specs.values.TypedValues.{TypedValue, bool_text, bool_value, int_value};
+ghost use Rattle.yaml_base.specs.Seen.{seen_text};
 ghost use Rattle.yaml_base.specs.values.ValueText.{in_quotes, value_text};
+ghost use Rattle.yaml_read.specs.Grammar.{integer, node, truth};
 ghost use Rattle.yaml_read.specs.Heads.{HeadRead, IsWhole, ListRead, MapRead, TagRead};
+ghost use Rattle.yaml_read.specs.Places.{BreaksAt, IsHere, IsHereOrMemory};
 ghost use Rattle.yaml_read.specs.Readable.{CanBeReadAt};
 ghost use Rattle.yaml_read.specs.Sound.{HeadIs, IsInteger, IsTruth};
 ghost use Rattle.yaml_read.specs.Words.{OrMemory};
 ghost use Rattle.yaml_value.specs.SeenValues.{seen_value};
 
 use crate::cuts::{after, past};
-use crate::errors::{Stop, refused_at};
+use crate::errors::{Stop, refused_at, refused_whole};
 use crate::quoted::read_quoted;
 use std::alloc::Allocator;
 use yaml_value::Value;
@@ -29,14 +32,29 @@ pub(crate) enum Head<A: Allocator> {
     Pairs,
 }
 
+/// A text from its opening quote on, and what follows its closing quote. What can't be read is refused as a whole.
+fn read_digits<A: Allocator>(alloc: A, text: &str) -> Result<(String<A>, &str), Stop>
+    ensures reads { (value rest : Text) → all_scalars value ≡ true → text.now ≡ encode_utf8_all (in_quotes value ++ rest)
+        → OrMemory (λ found. (seen_text found.0 ≡ value) × (found.1.now ≡ encode_utf8_all rest)) result }
+    ensures sound { IfOk result (λ found. text.now ≡ encode_utf8_all (in_quotes (seen_text found.0)) ++ found.1.now) }
+    ensures placed { IfErr result (IsHereOrMemory text.now) }
+    ensures shorter { IfOk result (λ found. length found.1.now < length text.now) }
+{
+    match read_quoted(alloc, text) {
+        Ok(found) => Ok(found),
+        Err(reason) => Err(refused_whole(reason, text)),
+    }
+}
+
 /// An integer in its one spelling, between quotes.
 fn read_integer<A: Allocator + Copy>(alloc: A, text: &str) -> Result<(Value<A>, &str), Stop>
     ensures reads { (n : ℤ) (rest : Text) → mag n < 2 ^ 63 → text.now ≡ encode_utf8_all (in_quotes (signed_decimal n) ++ rest)
         → OrMemory (IsWhole (int_value n) rest) result }
     ensures sound { IfOk result (λ found. IsInteger text.now (seen_value found.0) found.1.now) }
+    ensures breaks { IfErr result (BreaksAt integer text.now) }
     ensures shorter { IfOk result (λ found. length found.1.now < length text.now) }
 {
-    let (digits, rest) = read_quoted(alloc, text)?;
+    let (digits, rest) = read_digits(alloc, text)?;
     match digits.as_str().parse::<i64>() {
         Ok(value) => {
             let spelled = format!(in alloc; "{value}")?;
@@ -55,6 +73,7 @@ fn read_truth<A: Allocator>(text: &str) -> Result<(Value<A>, &str), Stop>
     ensures reads { (b : Bool) (rest : Text) → text.now ≡ encode_utf8_all (in_quotes (bool_text b) ++ rest)
         → OrMemory (IsWhole (bool_value b) rest) result }
     ensures sound { IfOk result (λ found. IsTruth text.now (seen_value found.0) found.1.now) }
+    ensures breaks { IfErr result (BreaksAt truth text.now) }
     ensures shorter { IfOk result (λ found. length found.1.now < length text.now) }
 {
     match past(text, "\"true\"") {
@@ -69,6 +88,7 @@ fn read_truth<A: Allocator>(text: &str) -> Result<(Value<A>, &str), Stop>
 /// An empty list, or the opening bracket of one that has items.
 fn read_list<A: Allocator + Copy>(alloc: A, text: &str) -> Result<(Head<A>, &str), Stop>
     ensures reads { ListRead text.now result }
+    ensures placed { IfErr result (IsHere text.now) }
     ensures shorter { IfOk result (λ found. length found.1.now < length text.now) }
 {
     let inside = after(text, "[")?;
@@ -81,6 +101,7 @@ fn read_list<A: Allocator + Copy>(alloc: A, text: &str) -> Result<(Head<A>, &str
 /// An empty map, or the opening bracket of one that has pairs.
 fn read_map<A: Allocator + Copy>(alloc: A, text: &str) -> Result<(Head<A>, &str), Stop>
     ensures reads { MapRead text.now result }
+    ensures placed { IfErr result (IsHere text.now) }
     ensures shorter { IfOk result (λ found. length found.1.now < length text.now) }
 {
     let inside = after(text, "{")?;
@@ -104,6 +125,7 @@ pub(crate) enum Kind {
 /// A tag and the space after it.
 fn read_tag(text: &str) -> Result<(Kind, &str), Stop>
     ensures reads { TagRead text.now result }
+    ensures placed { IfErr result (IsHere text.now) }
     ensures shorter { IfOk result (λ found. length found.1.now < length text.now) }
 {
     if let Some(rest) = past(text, "!!str ") {
@@ -130,6 +152,7 @@ pub(crate) fn read_head<A: Allocator + Copy>(alloc: A, text: &str) -> Result<(He
     ensures reads { (depth column : ℕ) (value : TypedValue) (rest : Text) → CanBeReadAt depth value
         → text.now ≡ encode_utf8_all (value_text column value ++ rest) → HeadRead text.now value rest result }
     ensures sound { IfOk result (HeadIs text.now) }
+    ensures breaks { (depth : ℕ) → IfErr result (BreaksAt (node depth) text.now) }
     ensures shorter { IfOk result (λ found. length found.1.now < length text.now) }
 {
     let (kind, behind) = read_tag(text)?;

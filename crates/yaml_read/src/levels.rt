@@ -1,9 +1,11 @@
 //! The lists and maps that are open.
-ghost use Rattle.std.specs.Prelude.{◌≡◌, ◌++◌, ◌∷◌, ◌+◌, ◌*◌, ◌<◌, [], IfOk, List, OnOk, codes, length, ℕ};
+ghost use Rattle.std.specs.Prelude.{◌≡◌, ◌++◌, ◌∷◌, ◌+◌, ◌*◌, ◌<◌, [], suc, IfErr, IfOk, List, OnOk, codes, length, ℕ};
 ghost use Rattle.yaml_base.specs.values.TypedValues.{TypedPairs, TypedValue, TypedValues, no_value_pairs, no_values};
 ghost use Rattle.yaml_base.specs.values.ValueText.{line_at};
 ghost use Rattle.yaml_read.specs.Entries.{EntryFound};
+ghost use Rattle.yaml_read.specs.Grammar.{behind_in, entry_end, line_then, nothing, word_then};
 ghost use Rattle.yaml_read.specs.Opened.{EntryCut, HasRead, NextRead, TurnRead};
+ghost use Rattle.yaml_read.specs.Places.{BreaksAt, LacksEnd, StopsIn};
 ghost use Rattle.yaml_read.specs.Remaining.{IsRead, OpenLevel, Pushed, Reached, TurnReached, items_open, pairs_open, seen_level, seen_levels, value_due};
 ghost use Rattle.yaml_read.specs.Shorter.{EntryShorter, NextShorter, TurnShorter};
 ghost use Rattle.yaml_read.specs.Words.{OpensAt};
@@ -49,6 +51,7 @@ fn next_entry<'a>(text: &'a str, depth: usize, lead: &str, end: &str) -> Result<
     ensures found { (tail : List ℕ) → text.now ≡ codes "," ++ (line_at (depth * 2) ++ tail)
         → EntryFound lead.now end.now tail result }
     ensures cut { IfOk result (EntryCut depth lead.now end.now text.now) }
+    ensures breaks { IfErr result (BreaksAt (entry_end depth lead.now end.now) text.now) }
     ensures shorter { IfOk result (EntryShorter text.now) }
 {
     let behind = after(text, ",")?;
@@ -73,6 +76,7 @@ fn take_item<'a, A: Allocator>(
         → IsRead root (items_open (seen_values items.items) ∷ levels) (seen_value item) text.now → TurnReached root levels result }
     ensures read { (whole : List ℕ) (levels : List OpenLevel) → depth ≡ length levels
         → HasRead whole (items_open (seen_values items.items) ∷ levels) (seen_value item) text.now → IfOk result (TurnRead whole levels) }
+    ensures breaks { IfErr result (BreaksAt (entry_end depth (codes "  ") (codes "]")) text.now) }
     ensures shorter { IfOk result (TurnShorter text.now) }
 {
     let mut items = items;
@@ -98,7 +102,9 @@ fn take_pair<'a, A: Allocator>(
         → IsRead root (value_due (seen_pairs pairs.items) (seen_value pair.0) ∷ levels) (seen_value pair.1) text.now
         → TurnReached root levels result }
     ensures read { (whole : List ℕ) (levels : List OpenLevel) → depth ≡ length levels
-        → HasRead whole (value_due (seen_pairs pairs.items) (seen_value pair.0) ∷ levels) (seen_value pair.1) text.now → IfOk result (TurnRead whole levels) }
+        → HasRead whole (value_due (seen_pairs pairs.items) (seen_value pair.0) ∷ levels) (seen_value pair.1) text.now
+        → IfOk result (TurnRead whole levels) }
+    ensures breaks { IfErr result (BreaksAt (entry_end depth (codes "  ? ") (codes "}")) text.now) }
     ensures shorter { IfOk result (TurnShorter text.now) }
 {
     let mut pairs = pairs;
@@ -124,6 +130,7 @@ fn take_key<'a, A: Allocator>(
         → IsRead root (pairs_open (seen_pairs pairs.items) ∷ levels) (seen_value key) text.now → TurnReached root levels result }
     ensures read { (whole : List ℕ) (levels : List OpenLevel) → depth ≡ length levels
         → HasRead whole (pairs_open (seen_pairs pairs.items) ∷ levels) (seen_value key) text.now → IfOk result (TurnRead whole levels) }
+    ensures breaks { IfErr result (BreaksAt (line_then depth (word_then (codes "  : ") nothing)) text.now) }
     ensures shorter { IfOk result (TurnShorter text.now) }
 {
     let line = after_indent(text, depth)?;
@@ -142,6 +149,7 @@ fn take_value<'a, A: Allocator>(
         → IsRead root (seen_level level ∷ levels) (seen_value value) text.now → TurnReached root levels result }
     ensures read { (whole : List ℕ) (levels : List OpenLevel) → depth ≡ length levels
         → HasRead whole (seen_level level ∷ levels) (seen_value value) text.now → IfOk result (TurnRead whole levels) }
+    ensures breaks { IfErr result (BreaksAt (behind_in depth (seen_level level)) text.now) }
     ensures shorter { IfOk result (TurnShorter text.now) }
 {
     match level {
@@ -165,6 +173,7 @@ fn push<A: Allocator>(levels: &mut Vec<Level<A>, A>, level: Level<A>) -> Result<
 fn finish<'a, A: Allocator>(value: Value<A>, text: &'a str) -> Result<Next<'a, A>, Stop>
     ensures reached { (root : TypedValue) (levels : List OpenLevel) → IsRead root [] (seen_value value) text.now → Reached root levels result }
     ensures read { (whole : List ℕ) (levels : List OpenLevel) → HasRead whole [] (seen_value value) text.now → IfOk result (NextRead whole levels) }
+    ensures lacks { IfErr result (LacksEnd text.now) }
     ensures shorter { IfOk result (NextShorter text.now) }
 {
     let end = after(text, "\n")?;
@@ -185,6 +194,7 @@ pub(crate) fn settle<'a, A: Allocator>(
         → Reached root (seen_levels levels.new.items) result }
     ensures read { (whole : List ℕ) → HasRead whole (seen_levels levels.old.items) (seen_value value) text.now
         → IfOk result (NextRead whole (seen_levels levels.new.items)) }
+    ensures stops { (whole : List ℕ) → HasRead whole (seen_levels levels.old.items) (seen_value value) text.now → IfErr result (StopsIn whole) }
     ensures shorter { IfOk result (NextShorter text.now) }
 {
     let mut value = value;
@@ -213,6 +223,7 @@ pub(crate) fn enter_list<'a, A: Allocator>(
 ) -> Result<&'a str, Stop>
     ensures opened { OnOk result (seen_levels levels.new.items ≡ items_open no_values ∷ seen_levels levels.old.items) }
     ensures cut { OpensAt (line_at (length levels.old.items * 2 + 2)) text.now result }
+    ensures breaks { IfErr result (BreaksAt (line_then (suc (length levels.old.items)) nothing) text.now) }
     ensures shorter { IfOk result (λ rest. length rest.now < length text.now) }
 {
     push(levels, Level::Items(Vec::new(alloc)))?;
@@ -227,6 +238,7 @@ pub(crate) fn enter_map<'a, A: Allocator>(
 ) -> Result<&'a str, Stop>
     ensures opened { OnOk result (seen_levels levels.new.items ≡ pairs_open no_value_pairs ∷ seen_levels levels.old.items) }
     ensures cut { OpensAt (line_at (length levels.old.items * 2 + 2) ++ codes "? ") text.now result }
+    ensures breaks { IfErr result (BreaksAt (line_then (suc (length levels.old.items)) (word_then (codes "? ") nothing)) text.now) }
     ensures shorter { IfOk result (λ rest. length rest.now < length text.now) }
 {
     push(levels, Level::Pairs(Vec::new(alloc)))?;

@@ -1,12 +1,14 @@
 //! Texts between double quotes, in their one spelling.
-ghost use Rattle.std.specs.Prelude.{ℕ, ◌≡◌, ◌∷◌, ◌++◌, ◌+◌, ◌*◌, ◌<◌, ◌≤◌, [], true, Some, None, IfOk, IfSome, MatchOption, is_some, length};
+ghost use Rattle.std.specs.Prelude.{ℕ, ◌≡◌, ◌∷◌, ◌++◌, ◌+◌, ◌*◌, ◌<◌, ◌≤◌, [], true, Some, None, IfOk, IfSome, IfErr, MatchOption, is_some, length};
 ghost use Rattle.std.specs.Str.{all_scalars, encode_utf8_all};
 ghost use Rattle.yaml_base.specs.Characters.{Text, hex_digit, hex_digits};
 ghost use Rattle.yaml_base.specs.Seen.{seen_text};
 ghost use Rattle.yaml_base.specs.reading.ReadDouble.{digit_meaning, letter_meaning};
 ghost use Rattle.yaml_base.specs.scalars.DoubleQuoted as double;
 ghost use Rattle.yaml_base.specs.values.ValueText.{in_quotes};
+ghost use Rattle.yaml_read.specs.Grammar.{quoted_text};
 ghost use Rattle.yaml_read.specs.Heads.{ReadsCharacter};
+ghost use Rattle.yaml_read.specs.Places.{BreaksAt};
 ghost use Rattle.yaml_read.specs.Sound.{IsByNumber, IsCharacter, IsEscape};
 ghost use Rattle.yaml_read.specs.Words.{OrMemory};
 
@@ -215,6 +217,7 @@ pub(crate) fn read_quoted<A: Allocator>(alloc: A, text: &str) -> Result<(String<
     ensures reads { (value rest : Text) → all_scalars value ≡ true → text.now ≡ encode_utf8_all (in_quotes value ++ rest)
         → OrMemory (λ found. (seen_text found.0 ≡ value) × (found.1.now ≡ encode_utf8_all rest)) result }
     ensures sound { IfOk result (λ found. text.now ≡ encode_utf8_all (in_quotes (seen_text found.0)) ++ found.1.now) }
+    ensures breaks { IfErr result (BreaksAt quoted_text text.now) }
     ensures shorter { IfOk result (λ found. length found.1.now < length text.now) }
 {
     let mut value = String::new(alloc);

@@ -7,6 +7,7 @@ ghost use Rattle.yaml_base.specs.values.TypedValues.{TypedValue, WritesValue, mo
 ghost use Rattle.yaml_base.specs.values.ValueText.{document_text};
 ghost use Rattle.yaml_read.specs.Errors.{Tells};
 ghost use Rattle.yaml_read.specs.Opened.{IsOpen, NextRead};
+ghost use Rattle.yaml_read.specs.Places.{HasPlaceOf, IsDeepHere, IsNotCanonicalAt, IsPlaced, StopsAt, StopsIn};
 ghost use Rattle.yaml_read.specs.Readable.{CanBeRead, CanBeReadAt};
 ghost use Rattle.yaml_read.specs.Remaining.{IsDue, Reached, is_nested, seen_levels};
 ghost use Rattle.yaml_read.specs.Shorter.{NextShorter};
@@ -33,6 +34,7 @@ fn is_collection<A: Allocator>(value: &Value<A>) -> bool
 /// Whether one more list or map may lie within the open ones; it begins here.
 fn check_room<A: Allocator>(levels: &Vec<Level<A>, A>, text: &str) -> Result<(), Stop>
     ensures full { OnErr result (most_nested ≤ length levels.now.items) }
+    ensures placed { IfErr result (IsDeepHere text.now) }
     ensures room { OnOk result (length levels.now.items < most_nested) }
 {
     if levels.len() >= MOST_NESTED {
@@ -50,6 +52,7 @@ fn step<'a, A: Allocator + Copy>(
 ) -> Result<Next<'a, A>, Stop>
     ensures reached { (root : TypedValue) → IsDue root (seen_levels levels.old.items) text.now → Reached root (seen_levels levels.new.items) result }
     ensures read { (whole : List ℕ) → IsOpen whole (seen_levels levels.old.items) text.now → IfOk result (NextRead whole (seen_levels levels.new.items)) }
+    ensures stops { (whole : List ℕ) → IsOpen whole (seen_levels levels.old.items) text.now → IfErr result (StopsIn whole) }
     ensures shorter { IfOk result (NextShorter text.now) }
 {
     let (head, rest) = read_head(alloc, text)?;
@@ -78,6 +81,7 @@ fn read_text<A: Allocator + Copy>(alloc: A, text: &str) -> Result<Value<A>, Stop
     ensures reads { (value : TypedValue) → CanBeRead value → text.now ≡ encode_utf8_all (document_text value)
         → OrMemory (λ found. seen_value found ≡ value) result }
     ensures sound { IfOk result (λ value. (text.now ≡ encode_utf8_all (document_text (seen_value value))) × CanBeReadAt 0 (seen_value value)) }
+    ensures stops { IfErr result (StopsAt text.now) }
 {
     let mut rest = after(text, "---\n")?;
     let mut levels = Vec::new(alloc);
@@ -90,13 +94,16 @@ fn read_text<A: Allocator + Copy>(alloc: A, text: &str) -> Result<Value<A>, Stop
     }
 }
 
-fn not_canonical(bytes: &[u8], offset: usize) -> ReadError {
+fn not_canonical(bytes: &[u8], offset: usize) -> ReadError
+    ensures { IsNotCanonicalAt bytes.now offset result }
+{
     let (line, column) = place_of(bytes, offset);
     ReadError::NotCanonical { line, column }
 }
 
 fn error_of(bytes: &[u8], stop: Stop) -> ReadError
-    ensures { Tells stop result }
+    ensures tells { Tells stop result }
+    ensures place { HasPlaceOf bytes.now stop result }
 {
     match stop {
         Stop::Refused(left) => not_canonical(bytes, bytes.len().saturating_sub(left)),
@@ -111,12 +118,13 @@ fn error_of(bytes: &[u8], stop: Stop) -> ReadError
 /// The value of these canonical bytes. They are exactly those that `write_canonical` writes of it; nothing else is accepted.
 ///
 /// # Errors
-/// `NotCanonical` where the bytes are no value's, `TooDeep` where more than 1,000 lists and maps lie within one another: both
-/// with the line and the column. `Memory` where an allocation fails.
+/// `NotCanonical` where the bytes are no value's, with the line and the column of the first word that can't stand there.
+/// `TooDeep` where a list or a map begins within 1,000 others, with those of its tag. `Memory` where an allocation fails.
 pub fn read_canonical<A: Allocator + Copy>(alloc: A, bytes: &[u8]) -> Result<Value<A>, ReadError>
     ensures read { IfOk result (λ value. WritesValue (seen_value value) bytes.now) }
     ensures complete { IfErr result (λ error. (error ≡ ReadError.Memory)
         ⊎ ((value : TypedValue) → CanBeRead value → encode (Some utf8) (document_text value) ≢ bytes.now)) }
+    ensures placed { IfErr result (IsPlaced bytes.now) }
 {
     match std::str::from_utf8(bytes) {
         Ok(text) => match read_text(alloc, text) {

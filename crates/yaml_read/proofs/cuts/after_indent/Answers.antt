@@ -6,6 +6,8 @@ use Rattle.yaml_base.specs.values.ValueText.{line_at}
 use Rattle.yaml_read.proofs.Words.{at_exit, cuts_behind, first_none}
 use Rattle.yaml_read.specs.Words.{Cuts}
 use Rattle.yaml_read.specs.declared.errors.Stop.{Stop}
+use Rattle.yaml_read.proofs.Breaking.{err_exit, level_behind}
+use Rattle.yaml_read.specs.Places.{LacksLine, no_line}
 use Rattle.yaml_read.proofs.cuts.after_indent.Goals as goal
 
 pub returns-in_err-line-clause-cut : goal.returns-in_err-line-clause-cut
@@ -17,3 +19,12 @@ pub returns-clause-cut : goal.returns-clause-cut
 returns-clause-cut c =
     cuts_behind (codes "\n") (replicate (c.args.depth * 2) space) c.args.text.now c.in_ok-line.line.now c.after_spaces.result c.in_ok-line.ensures.cut
     c.after_spaces.ensures.cut
+
+pub returns-in_err-line-clause-lacks : goal.returns-in_err-line-clause-lacks
+returns-in_err-line-clause-lacks c =
+    err_exit (LacksLine c.args.depth c.args.text.now) c.in_err-line.field-0.0 c.from_residual.result c.from_residual.ensures
+    (no_line c.in_err-line.ensures.cut c.in_err-line.ensures.placed)
+
+pub returns-clause-lacks : goal.returns-clause-lacks
+returns-clause-lacks c =
+    level_behind c.args.depth c.args.text.now c.in_ok-line.line.now c.after_spaces.result c.in_ok-line.ensures.cut c.after_spaces.ensures.lacks

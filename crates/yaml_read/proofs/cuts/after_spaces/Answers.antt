@@ -6,6 +6,8 @@ use Rattle.yaml_base.specs.Characters.{space}
 use Rattle.yaml_read.specs.Words.{Cuts}
 use Rattle.yaml_read.specs.declared.errors.Stop.{Stop}
 use Rattle.yaml_read.proofs.Words.{at_exit, spaces_lack, spaces_more}
+use Rattle.yaml_read.proofs.Breaking.{err_exit}
+use Rattle.yaml_read.specs.Places.{LacksLevel}
 use Rattle.yaml_read.proofs.cuts.after_spaces.Goals as goal
 
 pub returns-in_err-rest-clause-cut : goal.returns-in_err-rest-clause-cut
@@ -20,3 +22,15 @@ loop-level-preserved c = (
   omega (arith, c.loop-level.invariant.1, c.in_ok-rest.ensures.shorter),
   spaces_more c.loop-level._level c.args.text.now c.loop-level.rest.now _ c.loop-level.invariant.2 c.in_ok-rest.ensures.cut,
 )
+
+pub returns-in_err-rest-clause-lacks : goal.returns-in_err-rest-clause-lacks
+returns-in_err-rest-clause-lacks c =
+    err_exit (LacksLevel c.args.depth c.args.text.now) c.in_err-rest.field-0.0 c.from_residual.result c.from_residual.ensures
+    (record {
+      level = c.loop-level._level;
+      below = omega arith;
+      rest = c.loop-level.rest.now;
+      text = c.loop-level.invariant.2;
+      none = c.in_err-rest.ensures.cut;
+      place = c.in_err-rest.ensures.placed;
+    })

@@ -20,6 +20,11 @@ use Rattle.yaml_read.specs.declared.heads.Head.{Head}
 use Rattle.yaml_value.specs.SeenValues.{seen_value}
 use Rattle.yaml_read.proofs.HeadsRead.{integer_read, list_read, map_read, null_read, string_read, truth_read}
 use Rattle.yaml_read.specs.Sound.{IsValue}
+use Rattle.yaml_read.proofs.Breaking.{err_exit, missing}
+use Rattle.yaml_read.proofs.BreakingNodes.{no_list, no_map, no_tag_there, tag_passed}
+use Rattle.yaml_read.specs.Grammar.{node, nothing}
+use Rattle.yaml_read.specs.Places.{BreaksAt}
+use Rattle.std.proofs.Common.{[]}
 use Rattle.yaml_read.proofs.heads.read_head.Goals as goal
 
 -- what follows the tag of a kind
@@ -108,12 +113,14 @@ returns-in_ok-rest-in-Null-clause-sound g c =
 
 pub returns-in_ok-value-in-Bool-clause-sound : goal.returns-in_ok-value-in-Bool-clause-sound
 returns-in_ok-value-in-Bool-clause-sound g c =
-    truth_read c.args.text.now c.in_ok-kind.behind.now c.in_ok-value-in-Bool.rest.now (seen_value c.in_ok-value-in-Bool.value) (subst (λ (k : Kind). c.args.text.now ≡ tag_word k ++ c.in_ok-kind.behind.now) c.in-Bool.is c.in_ok-kind.ensures.reads)
+    truth_read c.args.text.now c.in_ok-kind.behind.now c.in_ok-value-in-Bool.rest.now (seen_value c.in_ok-value-in-Bool.value)
+    (subst (λ (k : Kind). c.args.text.now ≡ tag_word k ++ c.in_ok-kind.behind.now) c.in-Bool.is c.in_ok-kind.ensures.reads)
     c.in_ok-value-in-Bool.ensures.sound
 
 pub returns-in_ok-value-in-Int-clause-sound : goal.returns-in_ok-value-in-Int-clause-sound
 returns-in_ok-value-in-Int-clause-sound g c =
-    integer_read c.args.text.now c.in_ok-kind.behind.now c.in_ok-value-in-Int.rest.now (seen_value c.in_ok-value-in-Int.value) (subst (λ (k : Kind). c.args.text.now ≡ tag_word k ++ c.in_ok-kind.behind.now) c.in-Int.is c.in_ok-kind.ensures.reads)
+    integer_read c.args.text.now c.in_ok-kind.behind.now c.in_ok-value-in-Int.rest.now (seen_value c.in_ok-value-in-Int.value)
+    (subst (λ (k : Kind). c.args.text.now ≡ tag_word k ++ c.in_ok-kind.behind.now) c.in-Int.is c.in_ok-kind.ensures.reads)
     c.in_ok-value-in-Int.ensures.sound
 
 pub returns-in_ok-value-in-Text-clause-sound : goal.returns-in_ok-value-in-Text-clause-sound
@@ -124,8 +131,64 @@ returns-in_ok-value-in-Text-clause-sound g c =
 
 pub returns-in-List-clause-sound : goal.returns-in-List-clause-sound
 returns-in-List-clause-sound g c =
-    list_read c.args.text.now c.in_ok-kind.behind.now c.read_list.result (subst (λ (k : Kind). c.args.text.now ≡ tag_word k ++ c.in_ok-kind.behind.now) c.in-List.is c.in_ok-kind.ensures.reads) c.read_list.ensures.reads
+    list_read c.args.text.now c.in_ok-kind.behind.now c.read_list.result
+    (subst (λ (k : Kind). c.args.text.now ≡ tag_word k ++ c.in_ok-kind.behind.now) c.in-List.is c.in_ok-kind.ensures.reads) c.read_list.ensures.reads
 
 pub returns-in-Map-clause-sound : goal.returns-in-Map-clause-sound
 returns-in-Map-clause-sound g c =
-    map_read c.args.text.now c.in_ok-kind.behind.now c.read_map.result (subst (λ (k : Kind). c.args.text.now ≡ tag_word k ++ c.in_ok-kind.behind.now) c.in-Map.is c.in_ok-kind.ensures.reads) c.read_map.ensures.reads
+    map_read c.args.text.now c.in_ok-kind.behind.now c.read_map.result
+    (subst (λ (k : Kind). c.args.text.now ≡ tag_word k ++ c.in_ok-kind.behind.now) c.in-Map.is c.in_ok-kind.ensures.reads) c.read_map.ensures.reads
+
+pub returns-in_err-kind-clause-breaks : goal.returns-in_err-kind-clause-breaks
+returns-in_err-kind-clause-breaks g c =
+    λ depth.
+    err_exit (BreaksAt (node depth) c.args.text.now) c.in_err-kind.field-0.0 c.from_residual.result c.from_residual.ensures
+    (no_tag_there depth c.args.text.now c.in_err-kind.field-0.0 c.in_err-kind.ensures.reads c.in_err-kind.ensures.placed)
+
+pub returns-in_err-rest-in-Null-clause-breaks : goal.returns-in_err-rest-in-Null-clause-breaks
+returns-in_err-rest-in-Null-clause-breaks g c =
+    λ depth.
+    err_exit (BreaksAt (node depth) c.args.text.now) c.in_err-rest-in-Null.field-0.0 c.from_residual-in_err-rest-in-Null.result
+    c.from_residual-in_err-rest-in-Null.ensures
+    (tag_passed depth kind.Null c.in_ok-kind.kind c.args.text.now c.in_ok-kind.behind.now c.in_err-rest-in-Null.field-0.0 c.in-Null.is
+    c.in_ok-kind.ensures.reads
+    (missing (codes "\"null\"") c.in_ok-kind.behind.now nothing c.in_err-rest-in-Null.field-0.0 [] c.in_err-rest-in-Null.ensures.cut
+    c.in_err-rest-in-Null.ensures.placed tt))
+
+pub returns-in_err-value-in-Bool-clause-breaks : goal.returns-in_err-value-in-Bool-clause-breaks
+returns-in_err-value-in-Bool-clause-breaks g c =
+    λ depth.
+    err_exit (BreaksAt (node depth) c.args.text.now) c.in_err-value-in-Bool.field-0.0 c.from_residual-in_err-value-in-Bool.result
+    c.from_residual-in_err-value-in-Bool.ensures
+    (tag_passed depth kind.Bool c.in_ok-kind.kind c.args.text.now c.in_ok-kind.behind.now c.in_err-value-in-Bool.field-0.0 c.in-Bool.is
+    c.in_ok-kind.ensures.reads c.in_err-value-in-Bool.ensures.breaks)
+
+pub returns-in_err-value-in-Int-clause-breaks : goal.returns-in_err-value-in-Int-clause-breaks
+returns-in_err-value-in-Int-clause-breaks g c =
+    λ depth.
+    err_exit (BreaksAt (node depth) c.args.text.now) c.in_err-value-in-Int.field-0.0 c.from_residual-in_err-value-in-Int.result
+    c.from_residual-in_err-value-in-Int.ensures
+    (tag_passed depth kind.Int c.in_ok-kind.kind c.args.text.now c.in_ok-kind.behind.now c.in_err-value-in-Int.field-0.0 c.in-Int.is
+    c.in_ok-kind.ensures.reads c.in_err-value-in-Int.ensures.breaks)
+
+pub returns-in_err-value-in-Text-clause-breaks : goal.returns-in_err-value-in-Text-clause-breaks
+returns-in_err-value-in-Text-clause-breaks g c =
+    λ depth.
+    err_exit (BreaksAt (node depth) c.args.text.now) c.in_err-value-in-Text.field-0.0 c.from_residual-in_err-value-in-Text.result
+    c.from_residual-in_err-value-in-Text.ensures
+    (tag_passed depth kind.Text c.in_ok-kind.kind c.args.text.now c.in_ok-kind.behind.now c.in_err-value-in-Text.field-0.0 c.in-Text.is
+    c.in_ok-kind.ensures.reads c.in_err-value-in-Text.ensures.breaks)
+
+pub returns-in-List-clause-breaks : goal.returns-in-List-clause-breaks
+returns-in-List-clause-breaks g c =
+    λ depth.
+    no_list depth c.args.text.now c.in_ok-kind.behind.now c.read_list.result
+    (subst (λ (k : Kind). c.args.text.now ≡ tag_word k ++ c.in_ok-kind.behind.now) c.in-List.is c.in_ok-kind.ensures.reads)
+    c.read_list.ensures.reads c.read_list.ensures.placed
+
+pub returns-in-Map-clause-breaks : goal.returns-in-Map-clause-breaks
+returns-in-Map-clause-breaks g c =
+    λ depth.
+    no_map depth c.args.text.now c.in_ok-kind.behind.now c.read_map.result
+    (subst (λ (k : Kind). c.args.text.now ≡ tag_word k ++ c.in_ok-kind.behind.now) c.in-Map.is c.in_ok-kind.ensures.reads)
+    c.read_map.ensures.reads c.read_map.ensures.placed

@@ -15,6 +15,15 @@ use Rattle.yaml_read.specs.declared.errors.Stop.TheVariants as stop
 use Rattle.std.specs.Str.{encode_utf8_all}
 use Rattle.yaml_base.specs.values.ValueText.{in_quotes}
 use Rattle.yaml_read.proofs.HeadsRead.{bits_of_fits, digits_seen, parsed_fits}
+use Rattle.yaml_read.proofs.Breaking.{err_exit}
+use Rattle.yaml_read.proofs.BreakingNodes.{no_integer}
+use Rattle.yaml_read.specs.Grammar.{integer}
+use Rattle.yaml_read.specs.Places.{BreaksAt, IsHereOrMemory}
+use Rattle.std.proofs.Common.{List, ℕ, inr, inl, refl}
+use Rattle.std.specs.Borrow.{Bor}
+use Rattle.std.specs.Prelude.{String}
+use Rattle.yaml_base.specs.Seen.{seen_text}
+use Rattle.yaml_value.specs.declared.value.Value.{Value}
 use Rattle.yaml_read.proofs.heads.read_integer.Goals as goal
 
 pub returns-in_err-digits-clause-reads : goal.returns-in_err-digits-clause-reads
@@ -73,5 +82,28 @@ returns-then-eq-clause-sound g c =
       bits = bits_of_fits c.in-Ok.value fits;
       text =
           c.in_ok-digits.ensures.sound
-          ∙ ap (λ t. encode_utf8_all (in_quotes t) ++ c.in_ok-digits.rest.now) (digits_seen c.in_ok-digits.digits c.in-Ok.value (bits_of_fits c.in-Ok.value fits) digits);
+          ∙ ap (λ t. encode_utf8_all (in_quotes t) ++ c.in_ok-digits.rest.now)
+          (digits_seen c.in_ok-digits.digits c.in-Ok.value (bits_of_fits c.in-Ok.value fits) digits);
     }
+
+pub returns-in_err-digits-clause-breaks : goal.returns-in_err-digits-clause-breaks
+returns-in_err-digits-clause-breaks g c =
+    err_exit (BreaksAt integer c.args.text.now) c.in_err-digits.field-0.0 c.from_residual.result c.from_residual.ensures
+    (no_integer (λ n rest (found : String g.row.A.Denot × Bor (List ℕ)). (seen_text found.0 ≡ signed_decimal n) × (found.1.now ≡ encode_utf8_all rest))
+    c.args.text.now c.in_err-digits.field-0.0 c.utf8.text c.in_err-digits.ensures.placed
+    (λ n rest few is. c.in_err-digits.ensures.reads (signed_decimal n) rest (int_scalars n few) is))
+
+pub returns-in_err-spelled-in-Ok-clause-breaks : goal.returns-in_err-spelled-in-Ok-clause-breaks
+returns-in_err-spelled-in-Ok-clause-breaks g c =
+    err_exit (BreaksAt integer c.args.text.now) stop.Memory c.from_residual-in_err-spelled-in-Ok.result
+    c.from_residual-in_err-spelled-in-Ok.ensures tt
+
+pub returns-in-Ok-clause-breaks : goal.returns-in-Ok-clause-breaks
+returns-in-Ok-clause-breaks g c =
+    no_integer (λ n rest (found : Value g.row.A.Denot × Bor (List ℕ)). IsWhole (int_value n) rest found) c.args.text.now c.refused_at.result
+    c.utf8.text (inr c.refused_at.ensures) (returns-in-Ok-clause-reads g c)
+
+pub returns-clause-breaks : goal.returns-clause-breaks
+returns-clause-breaks g c =
+    no_integer (λ n rest (found : Value g.row.A.Denot × Bor (List ℕ)). IsWhole (int_value n) rest found) c.args.text.now c.refused_at-in-Err.result
+    c.utf8.text (inr c.refused_at-in-Err.ensures) (returns-clause-reads g c)

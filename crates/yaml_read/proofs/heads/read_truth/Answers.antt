@@ -1,6 +1,9 @@
 use Rattle.std.proofs.Common.{◌++◌, true, false, refl, ap, sym, ◌∙◌}
 use Rattle.std.specs.Prelude.{codes}
 use Rattle.yaml_read.proofs.HeadsRead.{seen_truth, word_bytes}
+use Rattle.yaml_read.proofs.Breaking.{err_exit, neither}
+use Rattle.yaml_read.specs.Grammar.{truth}
+use Rattle.yaml_read.specs.Places.{BreaksAt}
 use Rattle.yaml_read.proofs.heads.read_truth.Goals as goal
 
 pub returns-in-Some-clause-sound : goal.returns-in-Some-clause-sound
@@ -18,3 +21,9 @@ returns-in_ok-rest-in-None-clause-sound g c =
       is = seen_truth g.row.A.Denot false;
       text = c.in_ok-rest-in-None.ensures.cut ∙ ap (λ w. w ++ c.in_ok-rest-in-None.rest.now) (sym (word_bytes (codes "\"false\"") refl));
     }
+
+pub returns-in_err-rest-in-None-clause-breaks : goal.returns-in_err-rest-in-None-clause-breaks
+returns-in_err-rest-in-None-clause-breaks g c =
+    err_exit (BreaksAt truth c.args.text.now) c.in_err-rest-in-None.field-0.0 c.from_residual.result c.from_residual.ensures
+    (neither (codes "\"true\"") (codes "\"false\"") c.args.text.now c.in_err-rest-in-None.field-0.0 c.in-None.ensures.cut
+    c.in_err-rest-in-None.ensures.cut c.in_err-rest-in-None.ensures.placed)

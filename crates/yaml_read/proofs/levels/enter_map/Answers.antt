@@ -1,10 +1,13 @@
-use Rattle.std.proofs.Common.{◌≡◌, ◌+◌, ◌*◌, ◌++◌, List, ℕ, None, subst, arith}
+use Rattle.std.proofs.Common.{◌≡◌, ◌+◌, ◌*◌, ◌++◌, ◌∷◌, List, [], ℕ, suc, None, refl, subst, arith}
 use Rattle.std.specs.Borrow.{Bor}
 use Rattle.std.specs.Prelude.{codes, length, Result}
 use Rattle.yaml_base.specs.values.ValueText.{line_at}
 use Rattle.yaml_read.proofs.Words.{at_exit, first_none, opens_cut, opens_error}
 use Rattle.yaml_read.specs.Words.{OpensAt, behind}
 use Rattle.yaml_read.specs.declared.errors.Stop.{Stop}
+use Rattle.yaml_read.proofs.Breaking.{err_exit, line_and_word, line_lacks}
+use Rattle.yaml_read.specs.Grammar.{line_then, nothing, word_then}
+use Rattle.yaml_read.specs.Places.{BreaksAt, LacksLine}
 use Rattle.yaml_read.proofs.levels.enter_map.Goals as goal
 
 pub returns-in_err-line-clause-cut : goal.returns-in_err-line-clause-cut
@@ -23,3 +26,19 @@ returns-clause-cut g c =
     let deeper : c.len.result * 2 ≡ length old * 2 + 2 = omega (arith, c.len.ensures, c.push.new.levels.ok.0, c.in_ok-push.ensures.1) in
     opens_cut (line_at (length old * 2 + 2)) (codes "? ") c.args.text.now c.in_ok-line.line.now c.after.result
     (subst (λ n. c.args.text.now ≡ line_at n ++ c.in_ok-line.line.now) deeper c.in_ok-line.ensures.cut) c.after.ensures.cut
+
+pub returns-in_err-line-clause-breaks : goal.returns-in_err-line-clause-breaks
+returns-in_err-line-clause-breaks g c =
+    let old = c.args.levels.now.items in
+    let deeper : c.len.result ≡ suc (length old) = omega (arith, c.len.ensures, c.push.new.levels.ok.0, c.in_ok-push.ensures.1) in
+    err_exit (BreaksAt (line_then (suc (length old)) (word_then (codes "? ") nothing)) c.args.text.now) c.in_err-line.field-0.0
+    c.from_residual-in_err-line.result c.from_residual-in_err-line.ensures
+    (line_lacks (suc (length old)) c.args.text.now (word_then (codes "? ") nothing) c.in_err-line.field-0.0 (codes "? " ∷ [])
+    (subst (λ n. LacksLine n c.args.text.now c.in_err-line.field-0.0) deeper c.in_err-line.ensures.lacks) (refl, tt))
+
+pub returns-clause-breaks : goal.returns-clause-breaks
+returns-clause-breaks g c =
+    let old = c.args.levels.now.items in
+    let deeper : c.len.result ≡ suc (length old) = omega (arith, c.len.ensures, c.push.new.levels.ok.0, c.in_ok-push.ensures.1) in
+    line_and_word c.len.result (suc (length old)) c.args.text.now c.in_ok-line.line.now (codes "? ") c.after.result deeper c.in_ok-line.ensures.cut
+    c.after.ensures.cut c.after.ensures.placed

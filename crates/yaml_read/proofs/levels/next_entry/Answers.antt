@@ -7,6 +7,9 @@ use Rattle.yaml_read.specs.declared.errors.Stop.{Stop}
 use Rattle.yaml_read.specs.declared.levels.Entry.{Entry}
 use Rattle.yaml_read.proofs.Turns.{cut_is, line_is}
 use Rattle.yaml_read.proofs.Words.{at_exit, no_word}
+use Rattle.yaml_read.proofs.Breaking.{err_exit, no_comma, no_entry, no_line_behind}
+use Rattle.yaml_read.specs.Grammar.{entry_end}
+use Rattle.yaml_read.specs.Places.{BreaksAt}
 use Rattle.yaml_read.proofs.levels.next_entry.Goals as goal
 
 pub returns-in_err-line-clause-found : goal.returns-in_err-line-clause-found
@@ -48,3 +51,25 @@ pub returns-in_ok-rest-in-None-clause-cut : goal.returns-in_ok-rest-in-None-clau
 returns-in_ok-rest-in-None-clause-cut c =
     c.in_ok-behind.ensures.cut
     ∙ ap (λ t. codes "," ++ t) (c.in_ok-line.ensures.cut ∙ ap (λ t. line_at (c.args.depth * 2) ++ t) c.in_ok-rest-in-None.ensures.cut)
+
+pub returns-in_err-behind-clause-breaks : goal.returns-in_err-behind-clause-breaks
+returns-in_err-behind-clause-breaks c =
+    err_exit (BreaksAt (entry_end c.args.depth c.args.lead.now c.args.end.now) c.args.text.now) c.in_err-behind.field-0.0 c.from_residual.result
+    c.from_residual.ensures
+    (no_comma c.args.depth c.args.lead.now c.args.end.now c.args.text.now c.in_err-behind.field-0.0 c.in_err-behind.ensures.cut
+    c.in_err-behind.ensures.placed)
+
+pub returns-in_err-line-clause-breaks : goal.returns-in_err-line-clause-breaks
+returns-in_err-line-clause-breaks c =
+    err_exit (BreaksAt (entry_end c.args.depth c.args.lead.now c.args.end.now) c.args.text.now) c.in_err-line.field-0.0
+    c.from_residual-in_err-line.result c.from_residual-in_err-line.ensures
+    (no_line_behind c.args.depth c.args.lead.now c.args.end.now c.args.text.now c.in_ok-behind.behind.now c.in_err-line.field-0.0
+    c.in_ok-behind.ensures.cut c.in_err-line.ensures.lacks)
+
+pub returns-in_err-rest-in-None-clause-breaks : goal.returns-in_err-rest-in-None-clause-breaks
+returns-in_err-rest-in-None-clause-breaks c =
+    err_exit (BreaksAt (entry_end c.args.depth c.args.lead.now c.args.end.now) c.args.text.now) c.in_err-rest-in-None.field-0.0
+    c.from_residual-in_err-rest-in-None.result c.from_residual-in_err-rest-in-None.ensures
+    (no_entry c.args.depth c.args.lead.now c.args.end.now c.args.text.now c.in_ok-behind.behind.now c.in_ok-line.line.now
+    c.in_err-rest-in-None.field-0.0 c.in_ok-behind.ensures.cut c.in_ok-line.ensures.cut c.in-None.ensures.cut c.in_err-rest-in-None.ensures.cut
+    c.in_err-rest-in-None.ensures.placed)

@@ -1,7 +1,7 @@
 use Rattle.std.proofs.Common.{◌≡◌, List, subst, sym, ◌∙◌, rules, arith}
 use Rattle.std.specs.Prelude.{Result, Ok, length}
 use Rattle.yaml_value.specs.SeenValues.{seen_value}
-use Rattle.yaml_read.specs.Remaining.{IsDue, IsRead, OpenLevel, Reached, TurnReached, seen_levels}
+use Rattle.yaml_read.specs.Remaining.{IsDue, IsRead, OpenLevel, Reached, TurnReached, seen_level, seen_levels}
 use Rattle.yaml_read.specs.declared.errors.Stop.{Stop}
 use Rattle.yaml_read.specs.declared.levels.Next.{Next}
 use Rattle.yaml_read.specs.declared.levels.Turn.{Turn}
@@ -10,6 +10,9 @@ use Rattle.yaml_read.proofs.Turns.{popped, turn_error}
 use Rattle.yaml_read.proofs.Words.{at_exit}
 use Rattle.yaml_read.proofs.Opening.{taken}
 use Rattle.yaml_read.specs.Opened.{HasRead, IsOpen, TurnRead}
+use Rattle.yaml_read.proofs.Breaking.{err_exit}
+use Rattle.yaml_read.proofs.BreakingNodes.{end_stops, push_stops, value_stops}
+use Rattle.yaml_read.specs.Places.{StopsIn}
 use Rattle.yaml_read.proofs.levels.settle.Goals as goal
 
 pub returns-in_err-turn-clause-reached : goal.returns-in_err-turn-clause-reached
@@ -84,3 +87,22 @@ returns-clause-read g c =
     c.finish.ensures.read whole (seen_levels c.pop.new.self.items)
     (subst (λ (levels : List OpenLevel). HasRead whole levels (seen_value c.loop-level.value) c.loop-level.rest.now) none
     (c.loop-level.invariant.3.read whole read))
+
+pub returns-in_err-turn-clause-stops : goal.returns-in_err-turn-clause-stops
+returns-in_err-turn-clause-stops g c =
+    λ whole read.
+    let inner = seen_levels c.pop.new.self.items in
+    let depth : c.len.result ≡ length inner = c.len.ensures ∙ c.pop.new.self.ok.0 ∙ sym (levels_length c.pop.new.self.items) in
+    let before = taken (seen_levels c.args.levels.now.items) (seen_value c.args.value) (seen_value c.loop-level.value) c.args.text.now
+    c.loop-level.rest.now c.loop-level.levels.items c.pop.new.self.items c.in-Some.level whole c.loop-level.invariant.3 c.in-Some.ensures.items read in
+    err_exit (StopsIn whole) c.in_err-turn.field-0.0 c.from_residual.result c.from_residual.ensures
+    (value_stops whole inner (seen_level c.in-Some.level) (seen_value c.loop-level.value) c.loop-level.rest.now c.len.result c.in_err-turn.field-0.0 depth
+    before c.in_err-turn.ensures.breaks)
+
+pub returns-clause-stops : goal.returns-clause-stops
+returns-clause-stops g c =
+    λ whole read.
+    let none = no_levels c.loop-level.levels.items (omega (arith, c.in_default.ensures.cases.0, c.loop-level.levels.ok.0)) in
+    end_stops whole (seen_value c.loop-level.value) c.loop-level.rest.now c.finish.result
+    (subst (λ (levels : List OpenLevel). HasRead whole levels (seen_value c.loop-level.value) c.loop-level.rest.now) none
+    (c.loop-level.invariant.3.read whole read)) c.finish.ensures.lacks

@@ -12,6 +12,9 @@ use Rattle.yaml_base.specs.values.ValueText.{line_at}
 use Rattle.yaml_read.specs.Opened.{EntryCut, HasRead, IsOpen}
 use Rattle.yaml_read.proofs.Opening.{item_on, item_out}
 use Rattle.yaml_read.proofs.SeenLevels.{item_more, seen_list}
+use Rattle.yaml_read.proofs.Breaking.{err_exit}
+use Rattle.yaml_read.specs.Grammar.{entry_end}
+use Rattle.yaml_read.specs.Places.{BreaksAt}
 use Rattle.yaml_read.proofs.levels.take_item.Goals as goal
 
 pub returns-in_err-entry-clause-reached : goal.returns-in_err-entry-clause-reached
@@ -59,3 +62,8 @@ returns-in-End-clause-read g c =
     ∙ ap list_value (ap seen_values c.in-Ok.ensures.items ∙ item_more c.args.items.items c.args.item)))
     (item_out whole levels (seen_values c.args.items.items) (seen_value c.args.item) c.args.text.now c.in-End.rest.now read
     (cut ∙ ap (λ n. codes "," ++ (line_at (n * 2) ++ (codes "]" ++ c.in-End.rest.now))) depth))
+
+pub returns-in_err-entry-clause-breaks : goal.returns-in_err-entry-clause-breaks
+returns-in_err-entry-clause-breaks g c =
+    err_exit (BreaksAt (entry_end c.args.depth (codes "  ") (codes "]")) c.args.text.now) c.in_err-entry.field-0.0 c.from_residual.result
+    c.from_residual.ensures c.in_err-entry.ensures.breaks

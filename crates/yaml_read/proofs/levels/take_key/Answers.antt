@@ -1,4 +1,4 @@
-use Rattle.std.proofs.Common.{◌*◌, ◌++◌, subst, sym}
+use Rattle.std.proofs.Common.{◌*◌, ◌++◌, ◌∷◌, [], refl, subst, sym}
 use Rattle.std.specs.Prelude.{codes}
 use Rattle.yaml_base.specs.values.ValueText.{line_at}
 use Rattle.yaml_value.specs.SeenValues.{seen_pairs, seen_value}
@@ -7,6 +7,9 @@ use Rattle.yaml_read.proofs.Turns.{cut_is, key_bytes, key_ends}
 use Rattle.yaml_read.proofs.Words.{no_word}
 use Rattle.std.proofs.Common.{ap, ◌∙◌}
 use Rattle.yaml_read.proofs.Opening.{key_on}
+use Rattle.yaml_read.proofs.Breaking.{err_exit, line_lacks, line_passed, missing}
+use Rattle.yaml_read.specs.Grammar.{line_then, nothing, word_then}
+use Rattle.yaml_read.specs.Places.{BreaksAt}
 use Rattle.yaml_read.proofs.levels.take_key.Goals as goal
 
 pub returns-in_err-line-clause-reached : goal.returns-in_err-line-clause-reached
@@ -38,3 +41,17 @@ returns-clause-read g c =
     key_on whole levels (seen_pairs c.args.pairs.items) (seen_value c.args.key) c.args.text.now c.in_ok-rest.rest.now read
     (c.in_ok-line.ensures.cut ∙ ap (λ t. line_at (c.args.depth * 2) ++ t) c.in_ok-rest.ensures.cut
     ∙ ap (λ n. line_at (n * 2) ++ (codes "  : " ++ c.in_ok-rest.rest.now)) depth)
+
+pub returns-in_err-line-clause-breaks : goal.returns-in_err-line-clause-breaks
+returns-in_err-line-clause-breaks g c =
+    err_exit (BreaksAt (line_then c.args.depth (word_then (codes "  : ") nothing)) c.args.text.now) c.in_err-line.field-0.0 c.from_residual.result
+    c.from_residual.ensures
+    (line_lacks c.args.depth c.args.text.now (word_then (codes "  : ") nothing) c.in_err-line.field-0.0 (codes "  : " ∷ []) c.in_err-line.ensures.lacks
+    (refl, tt))
+
+pub returns-in_err-rest-clause-breaks : goal.returns-in_err-rest-clause-breaks
+returns-in_err-rest-clause-breaks g c =
+    err_exit (BreaksAt (line_then c.args.depth (word_then (codes "  : ") nothing)) c.args.text.now) c.in_err-rest.field-0.0
+    c.from_residual-in_err-rest.result c.from_residual-in_err-rest.ensures
+    (line_passed c.args.depth c.args.text.now c.in_ok-line.line.now (word_then (codes "  : ") nothing) c.in_err-rest.field-0.0 c.in_ok-line.ensures.cut
+    (missing (codes "  : ") c.in_ok-line.line.now nothing c.in_err-rest.field-0.0 [] c.in_err-rest.ensures.cut c.in_err-rest.ensures.placed tt))

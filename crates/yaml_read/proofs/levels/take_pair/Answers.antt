@@ -12,6 +12,9 @@ use Rattle.yaml_base.specs.values.ValueText.{line_at}
 use Rattle.yaml_read.specs.Opened.{EntryCut, HasRead, IsOpen}
 use Rattle.yaml_read.proofs.Opening.{pair_on, pair_out}
 use Rattle.yaml_read.proofs.SeenLevels.{pair_more, seen_map}
+use Rattle.yaml_read.proofs.Breaking.{err_exit}
+use Rattle.yaml_read.specs.Grammar.{entry_end}
+use Rattle.yaml_read.specs.Places.{BreaksAt}
 use Rattle.yaml_read.proofs.levels.take_pair.Goals as goal
 
 pub returns-in_err-entry-clause-reached : goal.returns-in_err-entry-clause-reached
@@ -59,3 +62,8 @@ returns-in-End-clause-read g c =
     ∙ ap map_value (ap seen_pairs c.in-Ok.ensures.items ∙ pair_more c.args.pairs.items c.args.pair)))
     (pair_out whole levels (seen_pairs c.args.pairs.items) (seen_value c.args.pair.0) (seen_value c.args.pair.1) c.args.text.now c.in-End.rest.now read
     (cut ∙ ap (λ n. codes "," ++ (line_at (n * 2) ++ (codes "}" ++ c.in-End.rest.now))) depth))
+
+pub returns-in_err-entry-clause-breaks : goal.returns-in_err-entry-clause-breaks
+returns-in_err-entry-clause-breaks g c =
+    err_exit (BreaksAt (entry_end c.args.depth (codes "  ? ") (codes "}")) c.args.text.now) c.in_err-entry.field-0.0 c.from_residual.result
+    c.from_residual.ensures c.in_err-entry.ensures.breaks

@@ -3,6 +3,10 @@ use Rattle.yaml_value.specs.SeenValues.{seen_value}
 use Rattle.yaml_read.specs.Remaining.{IsRead, seen_level}
 use Rattle.yaml_read.specs.declared.levels.Level.{Level}
 use Rattle.yaml_read.specs.Opened.{HasRead}
+use Rattle.std.specs.Prelude.{IfErr}
+use Rattle.std.proofs.Common.{sym}
+use Rattle.yaml_read.specs.Grammar.{behind_in}
+use Rattle.yaml_read.specs.Places.{BreaksAt}
 use Rattle.yaml_read.proofs.levels.take_value.Goals as goal
 
 pub returns-in-Items-clause-reached : goal.returns-in-Items-clause-reached
@@ -40,3 +44,18 @@ returns-in-PairsAndKey-clause-read g c =
     λ whole levels depth read.
     c.take_pair.ensures.read whole levels depth
     (subst (λ (level : Level _). HasRead whole (seen_level level ∷ levels) (seen_value c.args.value) c.args.text.now) c.in-PairsAndKey.is read)
+
+pub returns-in-Items-clause-breaks : goal.returns-in-Items-clause-breaks
+returns-in-Items-clause-breaks g c =
+    subst (λ (level : Level _). IfErr c.take_item.result (BreaksAt (behind_in c.args.depth (seen_level level)) c.args.text.now)) (sym c.in-Items.is)
+    c.take_item.ensures.breaks
+
+pub returns-in-Pairs-clause-breaks : goal.returns-in-Pairs-clause-breaks
+returns-in-Pairs-clause-breaks g c =
+    subst (λ (level : Level _). IfErr c.take_key.result (BreaksAt (behind_in c.args.depth (seen_level level)) c.args.text.now)) (sym c.in-Pairs.is)
+    c.take_key.ensures.breaks
+
+pub returns-in-PairsAndKey-clause-breaks : goal.returns-in-PairsAndKey-clause-breaks
+returns-in-PairsAndKey-clause-breaks g c =
+    subst (λ (level : Level _). IfErr c.take_pair.result (BreaksAt (behind_in c.args.depth (seen_level level)) c.args.text.now)) (sym c.in-PairsAndKey.is)
+    c.take_pair.ensures.breaks

@@ -21,7 +21,8 @@ pub returns-clause-reads : goal.returns-clause-reads
 returns-clause-reads c =
     λ d rest scalar needs none many few is.
     let read = c.in_ok-number.ensures.reads d rest few is in
-    let same = same_Some c.in_ok-c.c c.in_ok-number.number (c.in_ok-c.ensures.reads (ap (λ n. all_scalars (n ∷ [])) read.0 ∙ scalar) (omega (arith, read.0, many))
+    let same = same_Some c.in_ok-c.c c.in_ok-number.number
+    (c.in_ok-c.ensures.reads (ap (λ n. all_scalars (n ∷ [])) read.0 ∙ scalar) (omega (arith, read.0, many))
     (ap (needs_escape true) read.0 ∙ needs) (ap (letter_among short_escapes) read.0 ∙ none)) in
     (same ∙ read.0, read.1)
 

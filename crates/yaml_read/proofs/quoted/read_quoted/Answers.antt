@@ -1,4 +1,5 @@
-use Rattle.std.proofs.Common.{◌≡◌, List, ℕ, None, Some, subst, sym, rules, arith}
+use Rattle.std.proofs.Common.{◌≡◌, ◌∷◌, List, [], ℕ, None, Some, inl, refl, subst, sym, rules, arith}
+use Rattle.std.specs.Prelude.{codes}
 use Rattle.std.specs.Borrow.{Bor}
 use Rattle.std.specs.Prelude.{String}
 use Rattle.std.specs.Str.{encode_utf8_all}
@@ -9,6 +10,10 @@ use Rattle.yaml_read.proofs.Words.{at_exit}
 use Rattle.yaml_read.specs.Words.{OrMemory}
 use Rattle.yaml_read.specs.declared.errors.Stop.TheVariants as stop
 use Rattle.yaml_read.proofs.CharactersRead.{ReadSoFar, all_read, none_yet, one_more}
+use Rattle.yaml_read.proofs.Breaking.{err_exit, missing}
+use Rattle.yaml_read.proofs.BreakingNodes.{no_character, passes_character, passes_quote, utf8_left}
+use Rattle.yaml_read.specs.Grammar.{characters, quoted_text}
+use Rattle.yaml_read.specs.Places.{BreaksAt}
 use Rattle.yaml_read.proofs.quoted.read_quoted.Goals as goal
 
 pub returns-in_err-rest-clause-reads : goal.returns-in_err-rest-clause-reads
@@ -39,6 +44,7 @@ characters-init g c = (
       (reads_first c.args.text.now c.in_ok-rest.rest.now c.in_ok-rest.ensures.cut),
   subst (λ (value : List ℕ). ReadSoFar c.args.text.now value c.in_ok-rest.rest.now) (sym c.new-value.ensures.bytes)
       (none_yet c.args.text.now c.in_ok-rest.rest.now c.in_ok-rest.ensures.cut),
+  passes_quote c.args.text.now c.in_ok-rest.rest.now c.in_ok-rest.ensures.cut,
 )
 
 pub characters-preserved : goal.characters-preserved
@@ -54,8 +60,26 @@ characters-preserved g c = (
   subst (λ (value : List ℕ). ReadSoFar c.args.text.now value c.in-Some-read_character.found.1.now) (sym c.in_ok-push.ensures.bytes)
       (one_more c.args.text.now (string_bytes c.characters.value) c.characters.rest.now c.in-Some-read_character.found.1.now
       c.in-Some-read_character.found.0 c.characters.invariant.3 c.in-Some-read_character.ensures.sound),
+  passes_character c.args.text.now c.characters.rest.now c.in-Some-read_character.found.1.now c.in-Some-read_character.found.0
+      c.characters.invariant.4 c.in-None.ensures.cut c.in-Some-read_character.ensures.sound,
 )
 
 pub returns-in-Some-clause-sound : goal.returns-in-Some-clause-sound
 returns-in-Some-clause-sound g c =
     all_read c.args.text.now c.characters.rest.now c.in-Some.end.now c.characters.value c.characters.invariant.3 c.in-Some.ensures.cut
+
+pub returns-in_err-rest-clause-breaks : goal.returns-in_err-rest-clause-breaks
+returns-in_err-rest-clause-breaks g c =
+    err_exit (BreaksAt quoted_text c.args.text.now) c.in_err-rest.field-0.0 c.from_residual.result c.from_residual.ensures
+    (missing (codes "\"") c.args.text.now characters c.in_err-rest.field-0.0 (codes "\"" ∷ []) c.in_err-rest.ensures.cut c.in_err-rest.ensures.placed
+    (inl (refl, tt)))
+
+pub returns-in-None-read_character-clause-breaks : goal.returns-in-None-read_character-clause-breaks
+returns-in-None-read_character-clause-breaks g c =
+    no_character c.args.text.now c.characters.rest.now c.refused_at.result c.characters.invariant.4
+    (utf8_left c.args.text.now (string_bytes c.characters.value) c.characters.rest.now c.utf8.text c.characters.invariant.3) c.in-None.ensures.cut
+    c.in-None-read_character.ensures.reads c.refused_at.ensures
+
+pub returns-in_err-push-clause-breaks : goal.returns-in_err-push-clause-breaks
+returns-in_err-push-clause-breaks g c =
+    err_exit (BreaksAt quoted_text c.args.text.now) stop.Memory c.from_residual-in_err-push.result c.from_residual-in_err-push.ensures tt

@@ -2,13 +2,14 @@ use Rattle.std.proofs.Common.{◌<◌, length}
 use Rattle.std.specs.String.{string_bytes}
 use denote.Text.{Utf8}
 use denote.Shadow.{shadow}
+use Rattle.yaml_read.proofs.BreakingNodes.{PassesCharacters}
 use Rattle.yaml_read.proofs.CharactersRead.{ReadSoFar}
 use Rattle.yaml_read.proofs.QuotedTexts.{ReadsOn}
 use Rattle.yaml_read.proofs.quoted.read_quoted.Given as goal
 
 abbrev pub invariant-characters : goal.invariant-characters
 invariant-characters g l = shadow (Utf8 l.rest) × (length l.rest < length l.fn.text) × ReadsOn l.fn.text (string_bytes l.value) l.rest
-    × ReadSoFar l.fn.text (string_bytes l.value) l.rest
+    × ReadSoFar l.fn.text (string_bytes l.value) l.rest × PassesCharacters l.fn.text l.rest
 
 abbrev pub decreases-characters : goal.decreases-characters
 decreases-characters g l = length l.rest

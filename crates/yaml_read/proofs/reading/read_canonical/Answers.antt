@@ -11,6 +11,10 @@ use Rattle.std.proofs.Common.{◌<◌, rules}
 use Rattle.std.specs.Prelude.{length}
 use Rattle.yaml_base.specs.Settings.{largest_usize}
 use Rattle.yaml_read.proofs.WrittenValues.{written_value}
+use Rattle.std.proofs.Common.{ℕ}
+use Rattle.std.specs.Str.{IsValidUpTo}
+use Rattle.yaml_read.proofs.Placing.{not_text_placed, stops_placed}
+use Rattle.yaml_read.specs.Places.{IsNotCanonicalAt, StopsAt}
 use Rattle.yaml_read.proofs.reading.read_canonical.Goals as goal
 
 pub returns-in-Err-clause-complete : goal.returns-in-Err-clause-complete
@@ -27,4 +31,14 @@ returns-in-Ok-read_text-clause-read g c =
 pub returns-in-Err-read_text-clause-complete : goal.returns-in-Err-read_text-clause-complete
 returns-in-Err-read_text-clause-complete g c =
     stopped (λ (value : TypedValue) (found : Value g.row.A.Denot). seen_value found ≡ value) c.args.bytes.now c.in-Ok.text.now c.in-Err-read_text.stop
-    c.error_of.result c.in-Ok.ensures.cases.0 c.error_of.ensures c.in-Err-read_text.ensures.reads
+    c.error_of.result c.in-Ok.ensures.cases.0 c.error_of.ensures.tells c.in-Err-read_text.ensures.reads
+
+pub returns-in-Err-clause-placed : goal.returns-in-Err-clause-placed
+returns-in-Err-clause-placed g c =
+    not_text_placed c.args.bytes.now c.valid_up_to.result c.not_canonical.result c.in-Err.ensures.cases.0
+    (subst (IsValidUpTo c.args.bytes.now) (sym c.valid_up_to.ensures) c.in-Err.ensures.cases.1) c.not_canonical.ensures
+
+pub returns-in-Err-read_text-clause-placed : goal.returns-in-Err-read_text-clause-placed
+returns-in-Err-read_text-clause-placed g c =
+    stops_placed c.args.bytes.now c.in-Err-read_text.stop c.error_of.result c.in-Ok.ensures.cases.1 c.error_of.ensures.place c.error_of.ensures.tells
+    (subst (λ bytes. StopsAt bytes c.in-Err-read_text.stop) c.in-Ok.ensures.cases.0 c.in-Err-read_text.ensures.stops)

@@ -11,6 +11,9 @@ use Rattle.yaml_read.proofs.Turns.{TextDue, root_due, text_due}
 use Rattle.yaml_read.proofs.Words.{at_exit, no_word}
 use Rattle.yaml_read.proofs.Opening.{TextOpen, text_open, text_read}
 use Rattle.yaml_read.specs.Opened.{NextRead}
+use Rattle.yaml_read.proofs.Breaking.{err_exit}
+use Rattle.yaml_read.proofs.Placing.{marker_stops, text_stops}
+use Rattle.yaml_read.specs.Places.{StopsAt}
 use Rattle.yaml_read.proofs.reading.read_text.Goals as goal
 
 pub nodes-init : goal.nodes-init
@@ -63,3 +66,14 @@ returns-in-Done-clause-sound g c =
     let read = subst (λ (next : Next g.row.A.Denot). NextRead opened.whole (seen_levels c.step.new.levels.items) next) c.in-Done.is
     (c.in_ok-next.ensures.read opened.whole opened.opened) in
     (text_read (seen_value c.in-Done.value) c.args.text.now opened.whole opened.text_is read.0, read.1)
+
+pub returns-in_err-rest-clause-stops : goal.returns-in_err-rest-clause-stops
+returns-in_err-rest-clause-stops g c =
+    err_exit (StopsAt c.args.text.now) c.in_err-rest.field-0.0 c.from_residual.result c.from_residual.ensures
+    (marker_stops c.args.text.now c.in_err-rest.field-0.0 c.in_err-rest.ensures.cut c.in_err-rest.ensures.placed)
+
+pub returns-in_err-next-clause-stops : goal.returns-in_err-next-clause-stops
+returns-in_err-next-clause-stops g c =
+    let opened = c.nodes.invariant.2 in
+    err_exit (StopsAt c.args.text.now) c.in_err-next.field-0.0 c.from_residual-in_err-next.result c.from_residual-in_err-next.ensures
+    (text_stops c.args.text.now opened.whole c.in_err-next.field-0.0 opened.text_is (c.in_err-next.ensures.stops opened.whole opened.opened))

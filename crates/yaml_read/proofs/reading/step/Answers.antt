@@ -23,6 +23,10 @@ use Rattle.yaml_read.proofs.Opening.{list_in, map_in, value_in}
 use Rattle.yaml_read.proofs.reading.step.Goals.{then-is_collection+in_ok-check_room-in-Whole, else-is_collection}
 use Rattle.yaml_read.specs.Opened.{IsOpen}
 use Rattle.yaml_read.specs.Sound.{HeadIs, IsValue}
+use Rattle.yaml_read.proofs.Breaking.{err_exit}
+use Rattle.yaml_read.proofs.BreakingNodes.{list_line_breaks, map_line_breaks, nested_begins, node_stops, opens_deep}
+use Rattle.yaml_read.specs.Places.{StopsIn}
+use Rattle.std.proofs.Common.{inl, inr}
 use Rattle.yaml_read.proofs.reading.step.Goals as goal
 
 -- what a head says where a value is due
@@ -146,7 +150,7 @@ returns-in_ok-next-in-Items-clause-read g c =
     let deep : length levels < most_nested = omega (arith, c.in_ok-check_room-in-Items.ensures.room, levels_length c.args.levels.now.items) in
     subst (λ (inner : List OpenLevel). IsOpen whole inner c.in_ok-next-in-Items.next.now) (sym c.in_ok-next-in-Items.ensures.opened)
     (list_in whole levels c.args.text.now c.in_ok-next-in-Items.next.now opened deep
-    (found ∙ ap (λ t. codes "!!seq [" ++ t) (c.in_ok-next-in-Items.ensures.cut
+    (found.0 ∙ ap (λ t. codes "!!seq [" ++ t) (c.in_ok-next-in-Items.ensures.cut
     ∙ ap (λ w. w ++ c.in_ok-next-in-Items.next.now) (line_word c.args.levels.now.items))))
 
 pub returns-in_ok-next-in-Pairs-clause-read : goal.returns-in_ok-next-in-Pairs-clause-read
@@ -157,5 +161,86 @@ returns-in_ok-next-in-Pairs-clause-read g c =
     let deep : length levels < most_nested = omega (arith, c.in_ok-check_room-in-Pairs.ensures.room, levels_length c.args.levels.now.items) in
     subst (λ (inner : List OpenLevel). IsOpen whole inner c.in_ok-next-in-Pairs.next.now) (sym c.in_ok-next-in-Pairs.ensures.opened)
     (map_in whole levels c.args.text.now c.in_ok-next-in-Pairs.next.now opened deep
-    (found ∙ ap (λ t. codes "!!map {" ++ t) (c.in_ok-next-in-Pairs.ensures.cut
+    (found.0 ∙ ap (λ t. codes "!!map {" ++ t) (c.in_ok-next-in-Pairs.ensures.cut
     ∙ ap (λ w. (w ++ codes "? ") ++ c.in_ok-next-in-Pairs.next.now) (line_word c.args.levels.now.items))))
+
+pub returns-in_err-head-clause-stops : goal.returns-in_err-head-clause-stops
+returns-in_err-head-clause-stops g c =
+    λ whole opened.
+    let levels = seen_levels c.args.levels.now.items in
+    err_exit (StopsIn whole) c.in_err-head.field-0.0 c.from_residual.result c.from_residual.ensures
+    (node_stops whole levels c.args.text.now c.in_err-head.field-0.0 opened (c.in_err-head.ensures.breaks (length levels)))
+
+pub returns-in_err-check_room-in-Whole-clause-stops : goal.returns-in_err-check_room-in-Whole-clause-stops
+returns-in_err-check_room-in-Whole-clause-stops g c =
+    λ whole opened.
+    let levels = seen_levels c.args.levels.now.items in
+    let value = seen_value c.in-Whole.value in
+    let found : IsValue c.args.text.now value c.in_ok-head.rest.now =
+    subst (λ (h : Head g.row.A.Denot). HeadIs c.args.text.now (h, c.in_ok-head.rest)) c.in-Whole.is c.in_ok-head.ensures.sound in
+    let begins = nested_begins value c.args.text.now c.in_ok-head.rest.now (sym c.is_collection.ensures ∙ c.if-is_collection.true) found in
+    err_exit (StopsIn whole) c.in_err-check_room-in-Whole.field-0.0 c.from_residual-in_err-check_room-in-Whole.result
+    c.from_residual-in_err-check_room-in-Whole.ensures
+    (opens_deep whole levels c.args.text.now begins.0 c.in_err-check_room-in-Whole.field-0.0 opened
+    (omega (arith, c.in_err-check_room-in-Whole.ensures.full, levels_length c.args.levels.now.items)) begins.1
+    c.in_err-check_room-in-Whole.ensures.placed)
+
+pub returns-after-is_collection-clause-stops : goal.returns-after-is_collection-clause-stops
+returns-after-is_collection-clause-stops g c =
+    λ whole opened.
+    let levels = seen_levels c.args.levels.now.items in
+    let value = seen_value c.in-Whole.value in
+    let found : IsValue c.args.text.now value c.in_ok-head.rest.now =
+    subst (λ (h : Head g.row.A.Denot). HeadIs c.args.text.now (h, c.in_ok-head.rest)) c.in-Whole.is c.in_ok-head.ensures.sound in
+    let room : is_nested value ≡ true → length levels < most_nested =
+    elim c.if-is_collection.branch as (λ _. is_nested value ≡ true → length levels < most_nested) [
+      | then-is_collection+in_ok-check_room-in-Whole w ↦
+          λ _. omega (arith, w.in_ok-check_room-in-Whole.ensures.room, levels_length c.args.levels.now.items)
+      | else-is_collection w ↦ λ on. absurd (true≢false (sym on ∙ sym c.is_collection.ensures ∙ w.if-is_collection.false))
+    ] in
+    c.settle.ensures.stops whole
+    (value_in whole levels value c.args.text.now c.in_ok-head.rest.now opened (found.text (column_of levels)) (found.readable (length levels) room))
+
+pub returns-in_err-check_room-in-Items-clause-stops : goal.returns-in_err-check_room-in-Items-clause-stops
+returns-in_err-check_room-in-Items-clause-stops g c =
+    λ whole opened.
+    let levels = seen_levels c.args.levels.now.items in
+    let found = subst (λ (h : Head g.row.A.Denot). HeadIs c.args.text.now (h, c.in_ok-head.rest)) c.in-Items.is c.in_ok-head.ensures.sound in
+    err_exit (StopsIn whole) c.in_err-check_room-in-Items.field-0.0 c.from_residual-in_err-check_room-in-Items.result
+    c.from_residual-in_err-check_room-in-Items.ensures
+    (opens_deep whole levels c.args.text.now c.in_ok-head.rest.now c.in_err-check_room-in-Items.field-0.0 opened
+    (omega (arith, c.in_err-check_room-in-Items.ensures.full, levels_length c.args.levels.now.items)) (inl found.0)
+    c.in_err-check_room-in-Items.ensures.placed)
+
+pub returns-in_err-next-in-Items-clause-stops : goal.returns-in_err-next-in-Items-clause-stops
+returns-in_err-next-in-Items-clause-stops g c =
+    λ whole opened.
+    let levels = seen_levels c.args.levels.now.items in
+    let found = subst (λ (h : Head g.row.A.Denot). HeadIs c.args.text.now (h, c.in_ok-head.rest)) c.in-Items.is c.in_ok-head.ensures.sound in
+    err_exit (StopsIn whole) c.in_err-next-in-Items.field-0.0 c.from_residual-in_err-next-in-Items.result c.from_residual-in_err-next-in-Items.ensures
+    (node_stops whole levels c.args.text.now c.in_err-next-in-Items.field-0.0 opened
+    (list_line_breaks (length levels) (length c.args.levels.now.items) c.args.text.now c.in_ok-head.rest.now c.in_err-next-in-Items.field-0.0
+    (sym (levels_length c.args.levels.now.items)) (omega (arith, c.in_ok-check_room-in-Items.ensures.room, levels_length c.args.levels.now.items)) found
+    c.in_err-next-in-Items.ensures.breaks))
+
+pub returns-in_err-check_room-in-Pairs-clause-stops : goal.returns-in_err-check_room-in-Pairs-clause-stops
+returns-in_err-check_room-in-Pairs-clause-stops g c =
+    λ whole opened.
+    let levels = seen_levels c.args.levels.now.items in
+    let found = subst (λ (h : Head g.row.A.Denot). HeadIs c.args.text.now (h, c.in_ok-head.rest)) c.in-Pairs.is c.in_ok-head.ensures.sound in
+    err_exit (StopsIn whole) c.in_err-check_room-in-Pairs.field-0.0 c.from_residual-in_err-check_room-in-Pairs.result
+    c.from_residual-in_err-check_room-in-Pairs.ensures
+    (opens_deep whole levels c.args.text.now c.in_ok-head.rest.now c.in_err-check_room-in-Pairs.field-0.0 opened
+    (omega (arith, c.in_err-check_room-in-Pairs.ensures.full, levels_length c.args.levels.now.items)) (inr found.0)
+    c.in_err-check_room-in-Pairs.ensures.placed)
+
+pub returns-in_err-next-in-Pairs-clause-stops : goal.returns-in_err-next-in-Pairs-clause-stops
+returns-in_err-next-in-Pairs-clause-stops g c =
+    λ whole opened.
+    let levels = seen_levels c.args.levels.now.items in
+    let found = subst (λ (h : Head g.row.A.Denot). HeadIs c.args.text.now (h, c.in_ok-head.rest)) c.in-Pairs.is c.in_ok-head.ensures.sound in
+    err_exit (StopsIn whole) c.in_err-next-in-Pairs.field-0.0 c.from_residual-in_err-next-in-Pairs.result c.from_residual-in_err-next-in-Pairs.ensures
+    (node_stops whole levels c.args.text.now c.in_err-next-in-Pairs.field-0.0 opened
+    (map_line_breaks (length levels) (length c.args.levels.now.items) c.args.text.now c.in_ok-head.rest.now c.in_err-next-in-Pairs.field-0.0
+    (sym (levels_length c.args.levels.now.items)) (omega (arith, c.in_ok-check_room-in-Pairs.ensures.room, levels_length c.args.levels.now.items)) found
+    c.in_err-next-in-Pairs.ensures.breaks))

@@ -1,0 +1,234 @@
+-- Where bytes break off: at a word, behind words, and in a line.
+use Rattle.yaml_base.proofs.Common.{ℕ, ◌+◌, ◌*◌, ◌<◌, zero, suc, None, List, [], ◌∷◌, ◌++◌, refl, ◌≡◌, ap, subst, sym, ◌∙◌, ◌⊎◌, inl, inr}
+use Rattle.yaml_base.proofs.Common.{arith, append_assoc, codes, flat_map, length, replicate, space}
+use Rattle.std.proofs.lemmas.List.{replicate-append-replicate}
+use Rattle.std.specs.Prelude.{Result, Ok, Err, IfErr}
+use Rattle.std.specs.Borrow.{Bor}
+use Rattle.std.specs.Result.{IsErr, IsErrAnd}
+use Rattle.yaml_base.specs.values.ValueText.{line_at}
+use Rattle.yaml_read.specs.Grammar.{either, entry_end, levels_then, line_then, nothing, word_then}
+use Rattle.yaml_read.specs.Places.{BreaksAt, BreaksOff, IsHere, LacksLevel, LacksLine, no_level, no_line}
+use Rattle.yaml_read.specs.Words.{Cuts, behind}
+use Rattle.yaml_read.specs.declared.errors.Stop.{Stop}
+use Rattle.yaml_read.specs.declared.errors.Stop.TheVariants as stop
+use Rattle.yaml_read.proofs.Words.{at_exit, no_word}
+
+-- what a `?` returns
+pub err_exit : {T : Type 0} (P : Stop → Type 0) (error : Stop) (answer : Result T Stop) → IsErr answer × IsErrAnd answer (λ given. given ≡ error)
+    → P error → IfErr answer P
+err_exit {T} P error answer is holds = at_exit (λ (r : Result T Stop). IfErr r P) error answer is holds
+
+-- ---- at a word
+
+-- none of these begins with a word that stands there
+pub here : (These : List (List ℕ) → Type 0) (bytes : List ℕ) (error : Stop) (due : List ℕ) (more : List (List ℕ)) → IsHere bytes error → These (due ∷ more)
+    → ((next : List ℕ) (after : List (List ℕ)) → These (next ∷ after) → behind next bytes ≡ None) → BreaksAt These bytes error
+here These bytes error due more place begins none =
+    subst (BreaksAt These bytes) (sym place)
+    (record { read = []; rest = bytes; parts = refl; place = refl; due = due; more = more; begins = begins; none = none })
+
+-- a word is missing
+pub missing : (word bytes : List ℕ) (More : List (List ℕ) → Type 0) (error : Stop) (more : List (List ℕ)) → behind word bytes ≡ None
+    → IsHere bytes error → More more → BreaksAt (word_then word More) bytes error
+missing word bytes More error more none place begins =
+    here (word_then word More) bytes error word more place (refl, begins)
+    (λ next after is. subst (λ (w : List ℕ). behind w bytes ≡ None) (sym is.0) none)
+
+-- neither of two words stands there
+pub neither : (first second bytes : List ℕ) (error : Stop) → behind first bytes ≡ None → behind second bytes ≡ None → IsHere bytes error
+    → BreaksAt (either (word_then first nothing) (word_then second nothing)) bytes error
+neither first second bytes error none also place =
+    here (either (word_then first nothing) (word_then second nothing)) bytes error first [] place (inl (refl, tt)) lacks
+  where
+    lacks : (next : List ℕ) (after : List (List ℕ)) → either (word_then first nothing) (word_then second nothing) (next ∷ after)
+        → behind next bytes ≡ None
+    lacks next after (inl is) = subst (λ (w : List ℕ). behind w bytes ≡ None) (sym is.0) none
+    lacks next after (inr is) = subst (λ (w : List ℕ). behind w bytes ≡ None) (sym is.0) also
+
+-- ---- behind a word
+
+pub passed : (These More : List (List ℕ) → Type 0) (word bytes rest : List ℕ) (left : ℕ) → bytes ≡ word ++ rest
+    → ((words : List (List ℕ)) → More words → These (word ∷ words)) → ((words : List (List ℕ)) → These (word ∷ words) → More words)
+    → BreaksOff More rest left → BreaksOff These bytes left
+passed These More word bytes rest left is into out breaks =
+    record {
+      read = word ∷ breaks.read;
+      rest = breaks.rest;
+      parts = is ∙ ap (λ t. word ++ t) breaks.parts ∙ sym (append_assoc word (flat_map (λ (w : List ℕ). w) breaks.read) breaks.rest);
+      place = breaks.place;
+      due = breaks.due;
+      more = breaks.more;
+      begins = into (breaks.read ++ breaks.due ∷ breaks.more) breaks.begins;
+      none = λ next after these. breaks.none next after (out (breaks.read ++ next ∷ after) these);
+    }
+
+pub passed_at : (These More : List (List ℕ) → Type 0) (word bytes rest : List ℕ) (error : Stop) → bytes ≡ word ++ rest
+    → ((words : List (List ℕ)) → More words → These (word ∷ words)) → ((words : List (List ℕ)) → These (word ∷ words) → More words)
+    → BreaksAt More rest error → BreaksAt These bytes error
+passed_at These More word bytes rest (stop.Refused left) is into out breaks = passed These More word bytes rest left is into out breaks
+passed_at These More word bytes rest (stop.TooDeep left) is into out breaks = breaks
+passed_at These More word bytes rest stop.Memory is into out breaks = tt
+
+pub behind_word : (More : List (List ℕ) → Type 0) (word bytes rest : List ℕ) (error : Stop) → bytes ≡ word ++ rest → BreaksAt More rest error
+    → BreaksAt (word_then word More) bytes error
+behind_word More word bytes rest error is breaks =
+    passed_at (word_then word More) More word bytes rest error is (λ words more. (refl, more)) (λ words these. these.1) breaks
+
+-- ---- one of two
+
+-- none of the others begins with a word that stands there, before words of the one were read and behind them
+none_at : (These Those : List (List ℕ) → Type 0) (bytes rest : List ℕ) → bytes ≡ rest
+    → ((next : List ℕ) (after : List (List ℕ)) → These (next ∷ after) → behind next bytes ≡ None)
+    → ((next : List ℕ) (after : List (List ℕ)) → Those (next ∷ after) → behind next rest ≡ None)
+    → (next : List ℕ) (after : List (List ℕ)) → either These Those (next ∷ after) → behind next rest ≡ None
+none_at These Those bytes rest is lacks none next after (inl these) = subst (λ (t : List ℕ). behind next t ≡ None) is (lacks next after these)
+none_at These Those bytes rest is lacks none next after (inr those) = none next after those
+
+none_later : (These Those : List (List ℕ) → Type 0) (bytes rest first : List ℕ) (read : List (List ℕ))
+    → bytes ≡ (first ++ flat_map (λ (w : List ℕ). w) read) ++ rest
+    → ((next : List ℕ) (after : List (List ℕ)) → These (next ∷ after) → behind next bytes ≡ None)
+    → ((next : List ℕ) (after : List (List ℕ)) → Those (first ∷ (read ++ next ∷ after)) → behind next rest ≡ None)
+    → (next : List ℕ) (after : List (List ℕ)) → either These Those (first ∷ (read ++ next ∷ after)) → behind next rest ≡ None
+none_later These Those bytes rest first read is lacks none next after (inl these) =
+    absurd (no_word first bytes (flat_map (λ (w : List ℕ). w) read ++ rest) (lacks first (read ++ next ∷ after) these)
+    (is ∙ append_assoc first (flat_map (λ (w : List ℕ). w) read) rest))
+none_later These Those bytes rest first read is lacks none next after (inr those) = none next after those
+
+right_of : (These Those : List (List ℕ) → Type 0) (bytes : List ℕ) (left : ℕ)
+    → ((next : List ℕ) (after : List (List ℕ)) → These (next ∷ after) → behind next bytes ≡ None)
+    → BreaksOff Those bytes left → BreaksOff (either These Those) bytes left
+right_of These Those bytes left lacks breaks = by breaks.read breaks.parts breaks.begins breaks.none
+  where
+    by : (read : List (List ℕ)) → bytes ≡ flat_map (λ (w : List ℕ). w) read ++ breaks.rest → Those (read ++ breaks.due ∷ breaks.more)
+        → ((next : List ℕ) (after : List (List ℕ)) → Those (read ++ next ∷ after) → behind next breaks.rest ≡ None)
+        → BreaksOff (either These Those) bytes left
+    by [] parts begins none =
+        record {
+          read = [];
+          rest = breaks.rest;
+          parts = parts;
+          place = breaks.place;
+          due = breaks.due;
+          more = breaks.more;
+          begins = inr begins;
+          none = none_at These Those bytes breaks.rest parts lacks none;
+        }
+    by (first ∷ read) parts begins none =
+        record {
+          read = first ∷ read;
+          rest = breaks.rest;
+          parts = parts;
+          place = breaks.place;
+          due = breaks.due;
+          more = breaks.more;
+          begins = inr begins;
+          none = none_later These Those bytes breaks.rest first read parts lacks none;
+        }
+
+-- the first of two words doesn't stand there, and the bytes break off behind the beginning of the second
+pub second_of : (first : List ℕ) (Those : List (List ℕ) → Type 0) (bytes : List ℕ) (error : Stop) → behind first bytes ≡ None
+    → BreaksAt Those bytes error → BreaksAt (either (word_then first nothing) Those) bytes error
+second_of first Those bytes (stop.Refused left) none breaks =
+    right_of (word_then first nothing) Those bytes left (λ next after is. subst (λ (w : List ℕ). behind w bytes ≡ None) (sym is.0) none) breaks
+second_of first Those bytes (stop.TooDeep left) none breaks = breaks
+second_of first Those bytes stop.Memory none breaks = tt
+
+-- ---- lines
+
+-- the words of an indentation
+pub levels_go : (depth : ℕ) (More : List (List ℕ) → Type 0) (more : List (List ℕ)) → More more
+    → levels_then depth More (replicate depth (codes "  ") ++ more)
+levels_go zero More more begins = begins
+levels_go (suc depth) More more begins = (refl, levels_go depth More more begins)
+
+-- the spaces of a level, and those of the others
+pub level_first : (level : ℕ) (bytes rest : List ℕ) → bytes ≡ replicate (suc level * 2) space ++ rest
+    → bytes ≡ codes "  " ++ (replicate (level * 2) space ++ rest)
+level_first level bytes rest is =
+    is ∙ ap (λ t. t ++ rest) (ap (λ n. replicate n space) twice ∙ sym (replicate-append-replicate 2 (level * 2) space))
+    ∙ append_assoc (codes "  ") (replicate (level * 2) space) rest
+  where
+    twice : suc level * 2 ≡ 2 + level * 2
+    twice = omega arith
+
+levels_lack : (depth level : ℕ) (bytes rest : List ℕ) (More : List (List ℕ) → Type 0) (error : Stop) (more : List (List ℕ)) → level < depth
+    → bytes ≡ replicate (level * 2) space ++ rest → behind (codes "  ") rest ≡ None → IsHere rest error → More more
+    → BreaksAt (levels_then depth More) bytes error
+levels_lack zero level bytes rest More error more below is none place begins = absurd (omega (arith, below))
+levels_lack (suc depth) zero bytes rest More error more below is none place begins =
+    missing (codes "  ") bytes (levels_then depth More) error (replicate depth (codes "  ") ++ more)
+    (subst (λ (t : List ℕ). behind (codes "  ") t ≡ None) (sym is) none) (subst (λ (t : List ℕ). IsHere t error) (sym is) place)
+    (levels_go depth More more begins)
+levels_lack (suc depth) (suc level) bytes rest More error more below is none place begins =
+    behind_word (levels_then depth More) (codes "  ") bytes (replicate (level * 2) space ++ rest) error (level_first level bytes rest is)
+    (levels_lack depth level (replicate (level * 2) space ++ rest) rest More error more (omega (arith, below)) refl none place begins)
+
+pub line_lacks : (depth : ℕ) (bytes : List ℕ) (More : List (List ℕ) → Type 0) (error : Stop) (more : List (List ℕ)) → LacksLine depth bytes error
+    → More more → BreaksAt (line_then depth More) bytes error
+line_lacks depth bytes More error more (no_line none place) begins =
+    missing (codes "\n") bytes (levels_then depth More) error (replicate depth (codes "  ") ++ more) none place (levels_go depth More more begins)
+line_lacks depth bytes More error more (no_level line is lacks) begins =
+    behind_word (levels_then depth More) (codes "\n") bytes line error is
+    (levels_lack depth lacks.level line lacks.rest More error more lacks.below lacks.text lacks.none lacks.place begins)
+
+levels_passed : (depth : ℕ) (bytes rest : List ℕ) (More : List (List ℕ) → Type 0) (error : Stop) → bytes ≡ replicate (depth * 2) space ++ rest
+    → BreaksAt More rest error → BreaksAt (levels_then depth More) bytes error
+levels_passed zero bytes rest More error is breaks = subst (λ (t : List ℕ). BreaksAt More t error) (sym is) breaks
+levels_passed (suc depth) bytes rest More error is breaks =
+    behind_word (levels_then depth More) (codes "  ") bytes (replicate (depth * 2) space ++ rest) error (level_first depth bytes rest is)
+    (levels_passed depth (replicate (depth * 2) space ++ rest) rest More error refl breaks)
+
+-- behind a line's end and an indentation
+pub line_passed : (depth : ℕ) (bytes rest : List ℕ) (More : List (List ℕ) → Type 0) (error : Stop) → bytes ≡ line_at (depth * 2) ++ rest
+    → BreaksAt More rest error → BreaksAt (line_then depth More) bytes error
+line_passed depth bytes rest More error is breaks =
+    behind_word (levels_then depth More) (codes "\n") bytes (replicate (depth * 2) space ++ rest) error is
+    (levels_passed depth (replicate (depth * 2) space ++ rest) rest More error refl breaks)
+
+-- a line that can't be read
+pub level_behind : {T : Type 0} (depth : ℕ) (text line : List ℕ) (result : Result T Stop) → text ≡ codes "\n" ++ line
+    → IfErr result (LacksLevel depth line) → IfErr result (LacksLine depth text)
+level_behind depth text line (Ok found) is lacks = tt
+level_behind depth text line (Err error) is lacks = no_level line is lacks
+
+pub line_breaks : {T : Type 0} (n m : ℕ) (text : List ℕ) (More : List (List ℕ) → Type 0) (more : List (List ℕ)) (result : Result T Stop) → n ≡ m
+    → More more → IfErr result (LacksLine n text) → IfErr result (BreaksAt (line_then m More) text)
+line_breaks n m text More more (Ok found) same begins lacks = tt
+line_breaks n m text More more (Err error) same begins lacks =
+    line_lacks m text More error more (subst (λ k. LacksLine k text error) same lacks) begins
+
+-- a word that is missing behind a line
+pub line_and_word : (n m : ℕ) (text line word : List ℕ) (result : Result (Bor (List ℕ)) Stop) → n ≡ m → text ≡ line_at (n * 2) ++ line
+    → Cuts word line result → IfErr result (IsHere line) → IfErr result (BreaksAt (line_then m (word_then word nothing)) text)
+line_and_word n m text line word (Ok found) same is lacks place = tt
+line_and_word n m text line word (Err error) same is lacks place =
+    line_passed m text line (word_then word nothing) error (subst (λ k. text ≡ line_at (k * 2) ++ line) same is)
+    (missing word line nothing error [] lacks place tt)
+
+-- ---- entries
+
+-- the words of the end of an entry
+pub entry_goes : (depth : ℕ) (lead end : List ℕ)
+    → line_then depth (either (word_then lead nothing) (word_then end nothing)) (codes "\n" ∷ (replicate depth (codes "  ") ++ lead ∷ []))
+entry_goes depth lead end =
+    (refl, levels_go depth (either (word_then lead nothing) (word_then end nothing)) (lead ∷ []) (inl (refl, tt)))
+
+-- where the words stop
+pub no_comma : (depth : ℕ) (lead end text : List ℕ) (error : Stop) → behind (codes ",") text ≡ None → IsHere text error
+    → BreaksAt (entry_end depth lead end) text error
+no_comma depth lead end text error none place =
+    missing (codes ",") text (line_then depth (either (word_then lead nothing) (word_then end nothing))) error
+    (codes "\n" ∷ (replicate depth (codes "  ") ++ lead ∷ [])) none place (entry_goes depth lead end)
+
+pub no_line_behind : (depth : ℕ) (lead end text tail : List ℕ) (error : Stop) → text ≡ codes "," ++ tail → LacksLine depth tail error
+    → BreaksAt (entry_end depth lead end) text error
+no_line_behind depth lead end text tail error is lacks =
+    behind_word (line_then depth (either (word_then lead nothing) (word_then end nothing))) (codes ",") text tail error is
+    (line_lacks depth tail (either (word_then lead nothing) (word_then end nothing)) error (lead ∷ []) lacks (inl (refl, tt)))
+
+pub no_entry : (depth : ℕ) (lead end text tail line : List ℕ) (error : Stop) → text ≡ codes "," ++ tail → tail ≡ line_at (depth * 2) ++ line
+    → behind lead line ≡ None → behind end line ≡ None → IsHere line error → BreaksAt (entry_end depth lead end) text error
+no_entry depth lead end text tail line error is also none neither_is place =
+    behind_word (line_then depth (either (word_then lead nothing) (word_then end nothing))) (codes ",") text tail error is
+    (line_passed depth tail line (either (word_then lead nothing) (word_then end nothing)) error also
+    (neither lead end line error none neither_is place))

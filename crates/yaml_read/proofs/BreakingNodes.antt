@@ -1,0 +1,321 @@
+-- Where the bytes of a node break off, and those behind a node.
+use Rattle.yaml_base.proofs.Common.{ℕ, ◌-◌, ◌+◌, ◌<◌, ◌≤◌, suc, true, Option, None, Some, List, [], ◌∷◌, ◌++◌, refl, ◌≡◌, ap, subst, sym, ◌∙◌, ◌⊎◌}
+use Rattle.yaml_base.proofs.Common.{inl, inr, pos, arith, append_assoc, append-nil, codes, flat_map, length, encode_utf8_all, encode_utf8}
+use Rattle.yaml_base.proofs.Common.{character_text, Text}
+use Rattle.std.proofs.lemmas.Bool.{cases_lt}
+use Rattle.std.proofs.lemmas.Str.{IsUtf8-past_char, encode_ascii, encodes-append}
+use Rattle.std.specs.Borrow.{Bor}
+use Rattle.std.specs.Fmt.{signed_decimal}
+use Rattle.std.specs.Int.Signed.{mag}
+use Rattle.std.specs.Prelude.{Result, Ok, Err, IfErr, ℤ, ◌^◌}
+use Rattle.std.specs.Str.{IsUtf8}
+use Rattle.yaml_base.specs.scalars.DoubleQuoted.{quote}
+use Rattle.yaml_base.specs.values.TypedValues.{TypedValue, TypedValues, TypedPairs, null_value, bool_value, int_value, text_value, list_value, map_value}
+use Rattle.yaml_base.specs.values.TypedValues.{most_nested, no_value_pairs, no_values, value_pairs_and, values_and}
+use Rattle.yaml_base.specs.values.ValueText.{in_quotes, line_at, value_text}
+use Rattle.yaml_read.specs.Grammar.{behind_in, behind_tag, characters, either, integer, line_then, node, nothing, quoted_text}
+use Rattle.yaml_read.specs.Grammar.{unless_deep, word_then}
+use Rattle.yaml_read.specs.Heads.{ListRead, MapRead, ReadsCharacter, tag_word}
+use Rattle.yaml_read.specs.Opened.{HasRead, IsOpen, OpenCanBeRead}
+use Rattle.yaml_read.specs.Places.{BreaksAt, BreaksOff, IsHere, IsHereOrMemory, IsWholeWord, LacksEnd, StopsIn, behind_all}
+use Rattle.yaml_read.specs.Places.{behind_node, in_node, more_follows, no_end}
+use Rattle.yaml_read.specs.Remaining.{OpenLevel, Pushed, is_nested, items_open, pairs_open, value_due}
+use Rattle.yaml_read.specs.Sound.{IsCharacter, IsValue}
+use Rattle.yaml_read.specs.Words.{OrMemory, behind}
+use Rattle.yaml_read.specs.declared.errors.Stop.{Stop}
+use Rattle.yaml_read.specs.declared.errors.Stop.TheVariants as stop
+use Rattle.yaml_read.specs.declared.heads.Head.{Head}
+use Rattle.yaml_read.specs.declared.heads.Kind.{Kind}
+use Rattle.yaml_read.specs.declared.heads.Kind.TheVariants as kind
+use Rattle.yaml_read.specs.declared.levels.Level.{Level}
+use Rattle.yaml_read.proofs.Breaking.{here, missing, passed, passed_at, second_of}
+use Rattle.yaml_read.proofs.CharactersRead.{ReadSoFar}
+use Rattle.yaml_read.proofs.Encoded.{word_encoded}
+use Rattle.yaml_read.proofs.HeadTexts.{list_tail, map_tail, value_bytes}
+use Rattle.yaml_read.proofs.Remaining.{items_behind, pairs_behind}
+use Rattle.yaml_read.proofs.Words.{absent, behind_word as behind_itself, no_word}
+
+-- ---- what follows words in UTF-8 is UTF-8
+
+utf8_behind : (word : Text) (bytes rest : List ℕ) → IsUtf8 bytes → bytes ≡ encode_utf8_all word ++ rest → IsUtf8 rest
+utf8_behind [] bytes rest utf8 is = subst IsUtf8 is utf8
+utf8_behind (c ∷ word) bytes rest utf8 is =
+    utf8_behind word (encode_utf8_all word ++ rest) rest
+    (IsUtf8-past_char bytes (encode_utf8_all word ++ rest) c utf8 (is ∙ append_assoc (encode_utf8 c) (encode_utf8_all word) rest)) refl
+
+-- no text goes on with a word
+unread : (word : Text) (bytes : List ℕ) → IsUtf8 bytes → ((rest : Text) → bytes ≡ encode_utf8_all (word ++ rest) → ⊥)
+    → behind (encode_utf8_all word) bytes ≡ None
+unread word bytes utf8 lacks =
+    absent (encode_utf8_all word) bytes (λ rest is.
+    let after = utf8_behind word bytes rest utf8 is in
+    lacks after.0 (is ∙ ap (λ t. encode_utf8_all word ++ t) (sym after.1.1) ∙ sym (encodes-append word after.0)))
+
+-- ---- texts between quotes
+
+-- what follows the characters that were read
+pub utf8_left : (whole value bytes : List ℕ) → IsUtf8 whole → ReadSoFar whole value bytes → IsUtf8 bytes
+utf8_left whole value bytes utf8 so_far =
+    let inside = flat_map (character_text true) so_far.read in
+    utf8_behind inside (encode_utf8_all inside ++ bytes) bytes
+    (IsUtf8-past_char whole (encode_utf8_all inside ++ bytes) quote utf8
+    (so_far.whole_is ∙ ap (λ b. b ++ (encode_utf8_all inside ++ bytes)) (sym (encode_ascii quote (omega arith))))) refl
+
+-- the bytes of a text break off where those behind its characters do
+pub record PassesCharacters (whole bytes : List ℕ) : Type 0 where
+  pub passes : (left : ℕ) → BreaksOff characters bytes left → BreaksOff quoted_text whole left
+
+pub passes_quote : (whole bytes : List ℕ) → whole ≡ codes "\"" ++ bytes → PassesCharacters whole bytes
+passes_quote whole bytes is =
+    record {
+      passes = λ left breaks.
+          passed quoted_text characters (codes "\"") whole bytes left is (λ words more. (refl, more)) (λ words these. these.1) breaks;
+    }
+
+pub passes_character : (whole bytes rest : List ℕ) (c : ℕ) → PassesCharacters whole bytes → behind (codes "\"") bytes ≡ None
+    → IsCharacter bytes c rest → PassesCharacters whole rest
+passes_character whole bytes rest c passes none character =
+    record {
+      passes = λ left breaks.
+          passes.passes left (passed characters characters (encode_utf8_all (character_text true c)) bytes rest left character.text
+          (λ words more. inr (c, character.scalar, refl, more)) out breaks);
+    }
+  where
+    out : (words : List (List ℕ)) → characters (encode_utf8_all (character_text true c) ∷ words) → characters words
+    out words (inl ends) = absurd (no_word (codes "\"") bytes rest none (character.text ∙ ap (λ w. w ++ rest) ends.0))
+    out words (inr goes) = goes.3
+
+-- no character stands there
+pub no_character : (whole bytes : List ℕ) (error : Stop) → PassesCharacters whole bytes → IsUtf8 bytes → behind (codes "\"") bytes ≡ None
+    → ReadsCharacter bytes None → IsHere bytes error → BreaksAt quoted_text whole error
+no_character whole bytes error passes utf8 none reads place =
+    subst (BreaksAt quoted_text whole) (sym place)
+    (passes.passes (length bytes)
+    (record { read = []; rest = bytes; parts = refl; place = refl; due = codes "\""; more = []; begins = inl (refl, tt); none = lacks }))
+  where
+    lacks : (next : List ℕ) (after : List (List ℕ)) → characters (next ∷ after) → behind next bytes ≡ None
+    lacks next after (inl ends) = subst (λ (w : List ℕ). behind w bytes ≡ None) (sym ends.0) none
+    lacks next after (inr goes) =
+        subst (λ (w : List ℕ). behind w bytes ≡ None) (sym goes.2)
+        (unread (character_text true goes.0) bytes utf8 (λ rest is. reads goes.0 rest goes.1 is))
+
+-- a text that is refused as a whole
+pub whole_refused : {T : Type 0} (Holds : T → Type 0) (bytes : List ℕ) (reason error : Stop) → IsWholeWord bytes reason error
+    → OrMemory Holds (Err reason) → OrMemory Holds (Err error)
+whole_refused Holds bytes stop.Memory error is reads = subst (λ (e : Stop). OrMemory Holds (Err e)) (sym is) tt
+whole_refused Holds bytes (stop.Refused left) error is reads = absurd reads
+whole_refused Holds bytes (stop.TooDeep left) error is reads = absurd reads
+
+pub whole_placed : (bytes : List ℕ) (reason error : Stop) → IsWholeWord bytes reason error → IsHereOrMemory bytes error
+whole_placed bytes stop.Memory error is = inl is
+whole_placed bytes (stop.Refused left) error is = inr is
+whole_placed bytes (stop.TooDeep left) error is = inr is
+
+-- no integer stands there
+pub no_integer : {T : Type 0} (Holds : ℤ → Text → T → Type 0) (bytes : List ℕ) (error : Stop) → IsUtf8 bytes → IsHereOrMemory bytes error
+    → ((n : ℤ) (rest : Text) → mag n < 2 ^ 63 → bytes ≡ encode_utf8_all (in_quotes (signed_decimal n) ++ rest) → OrMemory (Holds n rest) (Err error))
+    → BreaksAt integer bytes error
+no_integer Holds bytes error utf8 (inl memory) reads = subst (BreaksAt integer bytes) (sym memory) tt
+no_integer Holds bytes error utf8 (inr place) reads =
+    here integer bytes error (encode_utf8_all (in_quotes (signed_decimal (pos 0)))) [] place (pos 0, few, (refl, tt))
+    (λ next after is. subst (λ (w : List ℕ). behind w bytes ≡ None) (sym is.2.0)
+    (unread (in_quotes (signed_decimal is.0)) bytes utf8 (λ rest starts.
+    subst (λ (e : Stop). OrMemory (Holds is.0 rest) (Err e)) place (reads is.0 rest is.1 starts))))
+  where
+    few : mag (pos 0) < 2 ^ 63
+    few = omega arith
+
+-- ---- tags
+
+kinds_same : (k j : Kind) → behind (tag_word k) (tag_word j) ≡ Some [] → k ≡ j
+kinds_same kind.Null kind.Null is = refl
+kinds_same kind.Bool kind.Bool is = refl
+kinds_same kind.Int kind.Int is = refl
+kinds_same kind.Text kind.Text is = refl
+kinds_same kind.List kind.List is = refl
+kinds_same kind.Map kind.Map is = refl
+kinds_same k j is = absurd (none_some is)
+  where
+    none_some : ◌≡◌ {A = Option (List ℕ)} None (Some []) → ⊥
+    none_some e = cc
+
+same_kind : (k j : Kind) → tag_word k ≡ tag_word j → k ≡ j
+same_kind k j is =
+    kinds_same k j (ap (behind (tag_word k)) (sym is ∙ sym (append-nil (tag_word k))) ∙ behind_itself (tag_word k) [])
+
+-- no tag stands there
+pub no_tag_there : (depth : ℕ) (bytes : List ℕ) (error : Stop) → ((k : Kind) → behind (tag_word k) bytes ≡ None) → IsHere bytes error
+    → BreaksAt (node depth) bytes error
+no_tag_there depth bytes error none place =
+    here (node depth) bytes error (tag_word kind.Null) (codes "\"null\"" ∷ []) place (kind.Null, (refl, (refl, tt)))
+    (λ next after is. subst (λ (w : List ℕ). behind w bytes ≡ None) (sym is.1.0) (none is.0))
+
+-- the bytes break off behind a tag
+pub tag_passed : (depth : ℕ) (k read : Kind) (bytes rest : List ℕ) (error : Stop) → read ≡ k → bytes ≡ tag_word read ++ rest
+    → BreaksAt (behind_tag depth k) rest error → BreaksAt (node depth) bytes error
+tag_passed depth k read bytes rest error same is breaks =
+    passed_at (node depth) (behind_tag depth k) (tag_word k) bytes rest error (subst (λ (j : Kind). bytes ≡ tag_word j ++ rest) same is)
+    (λ words more. (k, (refl, more)))
+    (λ words these. subst (λ (j : Kind). behind_tag depth j words) (sym (same_kind k these.0 these.1.0)) these.1.1) breaks
+
+-- some words come behind a bracket
+words_inside : (depth : ℕ) (More : List (List ℕ) → Type 0) (words : List (List ℕ)) → More words
+    → (inside : List (List ℕ)) × unless_deep depth More inside
+words_inside depth More words begins = by (cases_lt depth most_nested)
+  where
+    by : (depth < most_nested) ⊎ (most_nested ≤ depth) → (inside : List (List ℕ)) × unless_deep depth More inside
+    by (inl room) = (words, inl (room, begins))
+    by (inr deep) = ([], inr (deep, tt))
+
+-- no bracket stands behind a list's or a map's tag
+pub no_list : {A : Type 0} (depth : ℕ) (bytes rest : List ℕ) (result : Result (Head A × Bor (List ℕ)) Stop) → bytes ≡ codes "!!seq " ++ rest
+    → ListRead rest result → IfErr result (IsHere rest) → IfErr result (BreaksAt (node depth) bytes)
+no_list depth bytes rest (Ok found) is read place = tt
+no_list depth bytes rest (Err error) is read place =
+    let inside = words_inside depth (either (word_then (codes "]") nothing) (line_then (suc depth) nothing)) (codes "]" ∷ []) (inl (refl, tt)) in
+    tag_passed depth kind.List kind.List bytes rest error refl is
+    (missing (codes "[") rest (unless_deep depth (either (word_then (codes "]") nothing) (line_then (suc depth) nothing))) error inside.0 read place
+    inside.1)
+
+pub no_map : {A : Type 0} (depth : ℕ) (bytes rest : List ℕ) (result : Result (Head A × Bor (List ℕ)) Stop) → bytes ≡ codes "!!map " ++ rest
+    → MapRead rest result → IfErr result (IsHere rest) → IfErr result (BreaksAt (node depth) bytes)
+no_map depth bytes rest (Ok found) is read place = tt
+no_map depth bytes rest (Err error) is read place =
+    let inside = words_inside depth (either (word_then (codes "}") nothing) (line_then (suc depth) (word_then (codes "? ") nothing))) (codes "}" ∷ [])
+    (inl (refl, tt)) in
+    tag_passed depth kind.Map kind.Map bytes rest error refl is
+    (missing (codes "{") rest (unless_deep depth (either (word_then (codes "}") nothing) (line_then (suc depth) (word_then (codes "? ") nothing)))) error
+    inside.0 read place inside.1)
+
+-- ---- behind a node
+
+-- the bytes of a document break off behind a value
+pub value_stops : (whole : List ℕ) (levels : List OpenLevel) (level : OpenLevel) (value : TypedValue) (bytes : List ℕ) (depth : ℕ) (error : Stop)
+    → depth ≡ length levels → HasRead whole (level ∷ levels) value bytes → BreaksAt (behind_in depth level) bytes error → StopsIn whole error
+value_stops whole levels level value bytes depth (stop.Refused left) same read breaks =
+    behind_node (level ∷ levels) value bytes read (subst (λ n. BreaksOff (behind_in n level) bytes left) same breaks)
+value_stops whole levels level value bytes depth (stop.TooDeep left) same read breaks = absurd breaks
+value_stops whole levels level value bytes depth stop.Memory same read breaks = tt
+
+-- and behind the outermost value
+end_lacks : (whole : List ℕ) (value : TypedValue) (bytes : List ℕ) (error : Stop) → HasRead whole [] value bytes → LacksEnd bytes error
+    → StopsIn whole error
+end_lacks whole value bytes error read (no_end none place) =
+    subst (StopsIn whole) (sym place)
+    (behind_node [] value bytes read (missing (codes "\n") bytes nothing (stop.Refused (length bytes)) [] none refl tt))
+end_lacks whole value bytes error read (more_follows rest is some place) =
+    subst (StopsIn whole) (sym place) (behind_all value bytes rest read is some refl)
+
+pub end_stops : {T : Type 0} (whole : List ℕ) (value : TypedValue) (bytes : List ℕ) (result : Result T Stop) → HasRead whole [] value bytes
+    → IfErr result (LacksEnd bytes) → IfErr result (StopsIn whole)
+end_stops whole value bytes (Ok found) read lacks = tt
+end_stops whole value bytes (Err error) read lacks = end_lacks whole value bytes error read lacks
+
+-- no level was pushed
+pub push_stops : {A : Type 0} (whole : List ℕ) (level : OpenLevel) (before after : List (Level A)) (error : Stop)
+    → Pushed level before after (Err error) → StopsIn whole error
+push_stops whole level before after (stop.Refused left) pushed = absurd pushed
+push_stops whole level before after (stop.TooDeep left) pushed = absurd pushed
+push_stops whole level before after stop.Memory pushed = tt
+
+pub push_breaks : {A : Type 0} (These : List (List ℕ) → Type 0) (bytes : List ℕ) (level : OpenLevel) (before after : List (Level A)) (error : Stop)
+    → Pushed level before after (Err error) → BreaksAt These bytes error
+push_breaks These bytes level before after (stop.Refused left) pushed = absurd pushed
+push_breaks These bytes level before after (stop.TooDeep left) pushed = absurd pushed
+push_breaks These bytes level before after stop.Memory pushed = tt
+
+-- ---- at a node
+
+-- the bytes of a document break off in a node
+pub node_stops : (whole : List ℕ) (levels : List OpenLevel) (bytes : List ℕ) (error : Stop) → IsOpen whole levels bytes
+    → BreaksAt (node (length levels)) bytes error → StopsIn whole error
+node_stops whole levels bytes (stop.Refused left) opened breaks = in_node levels bytes opened breaks
+node_stops whole levels bytes (stop.TooDeep left) opened breaks = absurd breaks
+node_stops whole levels bytes stop.Memory opened breaks = tt
+
+-- behind the opening bracket of a list or a map that has entries
+inside_out : (depth : ℕ) (More : List (List ℕ) → Type 0) (words : List (List ℕ)) → depth < most_nested → unless_deep depth More words → More words
+inside_out depth More words room (inl inside) = inside.1
+inside_out depth More words room (inr deep) = absurd (omega (arith, room, deep.0))
+
+pub list_line_breaks : (depth n : ℕ) (bytes rest : List ℕ) (error : Stop) → n ≡ depth → depth < most_nested
+    → (bytes ≡ codes "!!seq [" ++ rest) × (behind (codes "]") rest ≡ None) → BreaksAt (line_then (suc n) nothing) rest error
+    → BreaksAt (node depth) bytes error
+list_line_breaks depth n bytes rest error same room found breaks =
+    tag_passed depth kind.List kind.List bytes (codes "[" ++ rest) error refl found.0
+    (passed_at (behind_tag depth kind.List) (either (word_then (codes "]") nothing) (line_then (suc depth) nothing)) (codes "[") (codes "[" ++ rest) rest
+    error refl (λ words more. (refl, inl (room, more)))
+    (λ words these. inside_out depth (either (word_then (codes "]") nothing) (line_then (suc depth) nothing)) words room these.1)
+    (second_of (codes "]") (line_then (suc depth) nothing) rest error found.1
+    (subst (λ m. BreaksAt (line_then (suc m) nothing) rest error) same breaks)))
+
+pub map_line_breaks : (depth n : ℕ) (bytes rest : List ℕ) (error : Stop) → n ≡ depth → depth < most_nested
+    → (bytes ≡ codes "!!map {" ++ rest) × (behind (codes "}") rest ≡ None)
+    → BreaksAt (line_then (suc n) (word_then (codes "? ") nothing)) rest error → BreaksAt (node depth) bytes error
+map_line_breaks depth n bytes rest error same room found breaks =
+    tag_passed depth kind.Map kind.Map bytes (codes "{" ++ rest) error refl found.0
+    (passed_at (behind_tag depth kind.Map) (either (word_then (codes "}") nothing) (line_then (suc depth) (word_then (codes "? ") nothing))) (codes "{")
+    (codes "{" ++ rest) rest error refl (λ words more. (refl, inl (room, more)))
+    (λ words these. inside_out depth (either (word_then (codes "}") nothing) (line_then (suc depth) (word_then (codes "? ") nothing))) words room
+    these.1)
+    (second_of (codes "}") (line_then (suc depth) (word_then (codes "? ") nothing)) rest error found.1
+    (subst (λ m. BreaksAt (line_then (suc m) (word_then (codes "? ") nothing)) rest error) same breaks)))
+
+-- ---- too deep
+
+-- no more are open than may be
+few_open : (levels : List OpenLevel) → OpenCanBeRead levels → length levels ≤ most_nested
+few_open [] readable = omega arith
+few_open (items_open items ∷ levels) readable = omega (arith, readable.1.0)
+few_open (pairs_open pairs ∷ levels) readable = omega (arith, readable.1.0)
+few_open (value_due pairs key ∷ levels) readable = omega (arith, readable.1.0)
+
+pub opens_deep : (whole : List ℕ) (levels : List OpenLevel) (bytes inside : List ℕ) (error : Stop) → IsOpen whole levels bytes
+    → most_nested ≤ length levels → (bytes ≡ codes "!!seq [" ++ inside) ⊎ (bytes ≡ codes "!!map {" ++ inside)
+    → error ≡ stop.TooDeep (length bytes) → StopsIn whole error
+opens_deep whole levels bytes inside error opened many begins place =
+    subst (StopsIn whole) (sym place)
+    (record {
+      levels = levels;
+      bytes = bytes;
+      opened = opened;
+      full = omega (arith, many, few_open levels opened.readable);
+      inside = inside;
+      begins = begins;
+      place = refl;
+    })
+
+-- what a list's or a map's text begins with
+list_begins : (items : TypedValues) → (inside : Text) × (encode_utf8_all (list_tail 0 items []) ≡ codes "[" ++ encode_utf8_all inside)
+list_begins no_values = (codes "]", word_encoded (codes "[") (codes "]") refl)
+list_begins (values_and items item) =
+    let inside = line_at (0 + 2) ++ items_behind (0 + 2) items item (codes "," ++ (line_at 0 ++ (codes "]" ++ []))) in
+    (inside, word_encoded (codes "[") inside refl)
+
+map_begins : (pairs : TypedPairs) → (inside : Text) × (encode_utf8_all (map_tail 0 pairs []) ≡ codes "{" ++ encode_utf8_all inside)
+map_begins no_value_pairs = (codes "}", word_encoded (codes "{") (codes "}") refl)
+map_begins (value_pairs_and pairs key value) =
+    let inside = line_at (0 + 2) ++ (codes "? " ++ pairs_behind (0 + 2) pairs key value (codes "," ++ (line_at 0 ++ (codes "}" ++ [])))) in
+    (inside, word_encoded (codes "{") inside refl)
+
+value_alone : (value : TypedValue) (bytes rest : List ℕ) → IsValue bytes value rest → bytes ≡ encode_utf8_all (value_text 0 value ++ []) ++ rest
+value_alone value bytes rest found = found.text 0 ∙ ap (λ t. encode_utf8_all t ++ rest) (sym (append-nil (value_text 0 value)))
+
+pub nested_begins : (value : TypedValue) (bytes rest : List ℕ) → is_nested value ≡ true → IsValue bytes value rest
+    → (inside : List ℕ) × ((bytes ≡ codes "!!seq [" ++ inside) ⊎ (bytes ≡ codes "!!map {" ++ inside))
+nested_begins (list_value items) bytes rest is found =
+    let begins = list_begins items in (
+      encode_utf8_all begins.0 ++ rest,
+      inl (value_alone (list_value items) bytes rest found
+          ∙ ap (λ t. t ++ rest) (value_bytes 0 (list_value items) [] ∙ ap (λ t. codes "!!seq " ++ t) begins.1)),
+    )
+nested_begins (map_value pairs) bytes rest is found =
+    let begins = map_begins pairs in (
+      encode_utf8_all begins.0 ++ rest,
+      inr (value_alone (map_value pairs) bytes rest found
+          ∙ ap (λ t. t ++ rest) (value_bytes 0 (map_value pairs) [] ∙ ap (λ t. codes "!!map " ++ t) begins.1)),
+    )
+nested_begins null_value bytes rest is found = cc
+nested_begins (bool_value b) bytes rest is found = cc
+nested_begins (int_value n) bytes rest is found = cc
+nested_begins (text_value text) bytes rest is found = cc

@@ -1,0 +1,207 @@
+-- The texts of values go on with the words of the grammar.
+use Rattle.yaml_base.proofs.Common.{ℕ, ◌+◌, ◌*◌, ◌<◌, zero, suc, Bool, true, false, ◌&&◌, List, [], ◌∷◌, ◌++◌, refl, ◌≡◌, ap, subst, sym, ◌∙◌, inl}
+use Rattle.yaml_base.proofs.Common.{inr, append_assoc, codes, flat_map, length, replicate, space, and_parts, all_scalars, encode_utf8_all, character_text, Text}
+use Rattle.std.proofs.lemmas.Str.{encodes-append}
+use Rattle.std.specs.Fmt.{signed_decimal}
+use Rattle.std.specs.Int.Signed.{mag}
+use Rattle.std.specs.Prelude.{ℤ, ◌^◌}
+use Rattle.yaml_base.specs.scalars.DoubleQuoted.{quote}
+use Rattle.yaml_base.specs.values.TypedValues.{TypedValue, TypedValues, TypedPairs, null_value, bool_value, int_value, text_value, list_value, map_value}
+use Rattle.yaml_base.specs.values.TypedValues.{bool_text, most_nested, no_value_pairs, no_values, value_pairs_and, values_and}
+use Rattle.yaml_base.specs.values.ValueText.{in_quotes, line_at, value_text}
+use Rattle.yaml_read.specs.Grammar.{BeginsWith, behind_tag, behind_value, characters, either, entry_end, integer, levels_then, line_then, node, nothing}
+use Rattle.yaml_read.specs.Grammar.{quoted_text, truth, unless_deep, word_then}
+use Rattle.yaml_read.specs.Heads.{tag_word}
+use Rattle.yaml_read.specs.Readable.{CanBeReadAt}
+use Rattle.yaml_read.specs.Remaining.{IsDue, IsRead, OpenLevel, column_of, items_open, pairs_open, value_due}
+use Rattle.yaml_read.specs.declared.heads.Kind.{Kind}
+use Rattle.yaml_read.specs.declared.heads.Kind.TheVariants as kind
+use Rattle.yaml_read.proofs.Breaking.{level_first}
+use Rattle.yaml_read.proofs.Encoded.{line_encoded, word_encoded}
+use Rattle.yaml_read.proofs.HeadTexts.{list_tail, map_tail, value_bytes, value_tail, value_word}
+use Rattle.yaml_read.proofs.Remaining.{items_behind, pairs_behind}
+use Rattle.yaml_read.proofs.Turns.{EntryEnds, Leads, column_is, item_ends, key_ends, leads_on, leads_out, pair_ends, text_ended}
+
+-- ---- words behind one another
+
+nothing_goes : (bytes : List ℕ) → BeginsWith nothing bytes
+nothing_goes bytes = record { words = []; rest = bytes; are = tt; parts = refl }
+
+goes_on : (These More : List (List ℕ) → Type 0) (first bytes rest : List ℕ) → ((words : List (List ℕ)) → More words → These (first ∷ words))
+    → bytes ≡ first ++ rest → BeginsWith More rest → BeginsWith These bytes
+goes_on These More first bytes rest into is goes =
+    record {
+      words = first ∷ goes.words;
+      rest = goes.rest;
+      are = into goes.words goes.are;
+      parts = is ∙ ap (λ t. first ++ t) goes.parts ∙ sym (append_assoc first (flat_map (λ (w : List ℕ). w) goes.words) goes.rest);
+    }
+
+word_goes : (More : List (List ℕ) → Type 0) (first bytes rest : List ℕ) → bytes ≡ first ++ rest → BeginsWith More rest
+    → BeginsWith (word_then first More) bytes
+word_goes More first bytes rest is goes = goes_on (word_then first More) More first bytes rest (λ words more. (refl, more)) is goes
+
+goes_as : (These Those : List (List ℕ) → Type 0) (bytes : List ℕ) → ((words : List (List ℕ)) → These words → Those words) → BeginsWith These bytes
+    → BeginsWith Those bytes
+goes_as These Those bytes into goes = record { words = goes.words; rest = goes.rest; are = into goes.words goes.are; parts = goes.parts }
+
+levels_go : (depth : ℕ) (More : List (List ℕ) → Type 0) (bytes rest : List ℕ) → bytes ≡ replicate (depth * 2) space ++ rest → BeginsWith More rest
+    → BeginsWith (levels_then depth More) bytes
+levels_go zero More bytes rest is goes = subst (BeginsWith More) (sym is) goes
+levels_go (suc depth) More bytes rest is goes =
+    word_goes (levels_then depth More) (codes "  ") bytes (replicate (depth * 2) space ++ rest) (level_first depth bytes rest is)
+    (levels_go depth More (replicate (depth * 2) space ++ rest) rest refl goes)
+
+line_goes : (depth : ℕ) (More : List (List ℕ) → Type 0) (bytes rest : List ℕ) → bytes ≡ line_at (depth * 2) ++ rest → BeginsWith More rest
+    → BeginsWith (line_then depth More) bytes
+line_goes depth More bytes rest is goes =
+    word_goes (levels_then depth More) (codes "\n") bytes (replicate (depth * 2) space ++ rest) is
+    (levels_go depth More (replicate (depth * 2) space ++ rest) rest refl goes)
+
+-- ---- behind a tag
+
+characters_go : (text rest : Text) → all_scalars text ≡ true
+    → BeginsWith characters (encode_utf8_all ((flat_map (character_text true) text ++ quote ∷ []) ++ rest))
+characters_go [] rest h =
+    goes_on characters nothing (codes "\"") (encode_utf8_all (quote ∷ rest)) (encode_utf8_all rest) (λ words more. inl (refl, more))
+    (word_encoded (codes "\"") rest refl) (nothing_goes (encode_utf8_all rest))
+characters_go (c ∷ text) rest h =
+    let inside = flat_map (character_text true) text in
+    let parts = and_parts _ (all_scalars text) h in
+    goes_on characters characters (encode_utf8_all (character_text true c)) (encode_utf8_all (((character_text true c ++ inside) ++ quote ∷ []) ++ rest))
+    (encode_utf8_all ((inside ++ quote ∷ []) ++ rest)) (λ words more. inr (c, ap (λ b. b && true) parts.0, refl, more))
+    (ap encode_utf8_all (regroup (character_text true c) inside (quote ∷ []) rest)
+    ∙ encodes-append (character_text true c) ((inside ++ quote ∷ []) ++ rest))
+    (characters_go text rest parts.1)
+  where
+    regroup : (a b c d : Text) → ((a ++ b) ++ c) ++ d ≡ a ++ ((b ++ c) ++ d)
+    regroup a b c d = simp append_assoc
+
+text_goes : (text rest : Text) → all_scalars text ≡ true → BeginsWith quoted_text (encode_utf8_all (in_quotes text ++ rest))
+text_goes text rest h =
+    let behind = (flat_map (character_text true) text ++ quote ∷ []) ++ rest in
+    word_goes characters (codes "\"") (encode_utf8_all (in_quotes text ++ rest)) (encode_utf8_all behind) (word_encoded (codes "\"") behind refl)
+    (characters_go text rest h)
+
+integer_goes : (n : ℤ) (rest : Text) → mag n < 2 ^ 63 → BeginsWith integer (encode_utf8_all (in_quotes (signed_decimal n) ++ rest))
+integer_goes n rest few =
+    let word = in_quotes (signed_decimal n) in
+    goes_on integer nothing (encode_utf8_all word) (encode_utf8_all (word ++ rest)) (encode_utf8_all rest) (λ words more. (n, few, (refl, more)))
+    (encodes-append word rest) (nothing_goes (encode_utf8_all rest))
+
+truth_goes : (b : Bool) (rest : Text) → BeginsWith truth (encode_utf8_all (in_quotes (bool_text b) ++ rest))
+truth_goes true rest =
+    goes_on truth nothing (codes "\"true\"") (encode_utf8_all (codes "\"true\"" ++ rest)) (encode_utf8_all rest) (λ words more. inl (refl, more))
+    (word_encoded (codes "\"true\"") rest refl) (nothing_goes (encode_utf8_all rest))
+truth_goes false rest =
+    goes_on truth nothing (codes "\"false\"") (encode_utf8_all (codes "\"false\"" ++ rest)) (encode_utf8_all rest) (λ words more. inr (refl, more))
+    (word_encoded (codes "\"false\"") rest refl) (nothing_goes (encode_utf8_all rest))
+
+-- the line of the first entry
+pub entry_line : (levels : List OpenLevel) (rest : Text)
+    → encode_utf8_all (line_at (column_of levels + 2) ++ rest) ≡ line_at (suc (length levels) * 2) ++ encode_utf8_all rest
+entry_line levels rest =
+    line_encoded (column_of levels + 2) rest ∙ ap (λ n. line_at n ++ encode_utf8_all rest) (column_is (items_open no_values ∷ levels))
+
+list_goes : (levels : List OpenLevel) (items : TypedValues) (rest : Text) → length levels < most_nested
+    → BeginsWith (behind_tag (length levels) kind.List) (encode_utf8_all (list_tail (column_of levels) items rest))
+list_goes levels no_values rest room =
+    let ends = word_then (codes "]") nothing in
+    let goes = line_then (suc (length levels)) nothing in
+    word_goes (unless_deep (length levels) (either ends goes)) (codes "[") (encode_utf8_all (codes "[]" ++ rest)) (encode_utf8_all (codes "]" ++ rest))
+    (word_encoded (codes "[") (codes "]" ++ rest) refl)
+    (goes_as ends (unless_deep (length levels) (either ends goes)) (encode_utf8_all (codes "]" ++ rest)) (λ words these. inl (room, inl these))
+    (word_goes nothing (codes "]") (encode_utf8_all (codes "]" ++ rest)) (encode_utf8_all rest) (word_encoded (codes "]") rest refl)
+    (nothing_goes (encode_utf8_all rest))))
+list_goes levels (values_and items item) rest room =
+    let ends = word_then (codes "]") nothing in
+    let goes = line_then (suc (length levels)) nothing in
+    let column = column_of levels in
+    let inside = items_behind (column + 2) items item (codes "," ++ (line_at column ++ (codes "]" ++ rest))) in
+    let line = encode_utf8_all (line_at (column + 2) ++ inside) in
+    word_goes (unless_deep (length levels) (either ends goes)) (codes "[") (encode_utf8_all (list_tail column (values_and items item) rest)) line
+    (word_encoded (codes "[") (line_at (column + 2) ++ inside) refl)
+    (goes_as goes (unless_deep (length levels) (either ends goes)) line (λ words these. inl (room, inr these))
+    (line_goes (suc (length levels)) nothing line (encode_utf8_all inside) (entry_line levels inside) (nothing_goes (encode_utf8_all inside))))
+
+map_goes : (levels : List OpenLevel) (pairs : TypedPairs) (rest : Text) → length levels < most_nested
+    → BeginsWith (behind_tag (length levels) kind.Map) (encode_utf8_all (map_tail (column_of levels) pairs rest))
+map_goes levels no_value_pairs rest room =
+    let ends = word_then (codes "}") nothing in
+    let goes = line_then (suc (length levels)) (word_then (codes "? ") nothing) in
+    word_goes (unless_deep (length levels) (either ends goes)) (codes "{") (encode_utf8_all (codes "{}" ++ rest)) (encode_utf8_all (codes "}" ++ rest))
+    (word_encoded (codes "{") (codes "}" ++ rest) refl)
+    (goes_as ends (unless_deep (length levels) (either ends goes)) (encode_utf8_all (codes "}" ++ rest)) (λ words these. inl (room, inl these))
+    (word_goes nothing (codes "}") (encode_utf8_all (codes "}" ++ rest)) (encode_utf8_all rest) (word_encoded (codes "}") rest refl)
+    (nothing_goes (encode_utf8_all rest))))
+map_goes levels (value_pairs_and pairs key value) rest room =
+    let ends = word_then (codes "}") nothing in
+    let goes = line_then (suc (length levels)) (word_then (codes "? ") nothing) in
+    let column = column_of levels in
+    let inside = pairs_behind (column + 2) pairs key value (codes "," ++ (line_at column ++ (codes "}" ++ rest))) in
+    let line = encode_utf8_all (line_at (column + 2) ++ (codes "? " ++ inside)) in
+    word_goes (unless_deep (length levels) (either ends goes)) (codes "{") (encode_utf8_all (map_tail column (value_pairs_and pairs key value) rest)) line
+    (word_encoded (codes "{") (line_at (column + 2) ++ (codes "? " ++ inside)) refl)
+    (goes_as goes (unless_deep (length levels) (either ends goes)) line (λ words these. inl (room, inr these))
+    (line_goes (suc (length levels)) (word_then (codes "? ") nothing) line (encode_utf8_all (codes "? " ++ inside)) (entry_line levels (codes "? " ++ inside))
+    (word_goes nothing (codes "? ") (encode_utf8_all (codes "? " ++ inside)) (encode_utf8_all inside) (word_encoded (codes "? ") inside refl)
+    (nothing_goes (encode_utf8_all inside)))))
+
+-- ---- nodes
+
+tag_goes : (depth : ℕ) (k : Kind) (bytes rest : List ℕ) → bytes ≡ tag_word k ++ rest → BeginsWith (behind_tag depth k) rest
+    → BeginsWith (node depth) bytes
+tag_goes depth k bytes rest is goes = goes_on (node depth) (behind_tag depth k) (tag_word k) bytes rest (λ words more. (k, (refl, more))) is goes
+
+tail_goes : (levels : List OpenLevel) (k : Kind) (value : TypedValue) (rest : Text) → value_word value ≡ tag_word k
+    → BeginsWith (behind_tag (length levels) k) (encode_utf8_all (value_tail (column_of levels) value rest))
+    → BeginsWith (node (length levels)) (encode_utf8_all (value_text (column_of levels) value ++ rest))
+tail_goes levels k value rest same goes =
+    let tail = encode_utf8_all (value_tail (column_of levels) value rest) in
+    tag_goes (length levels) k (encode_utf8_all (value_text (column_of levels) value ++ rest)) tail
+    (value_bytes (column_of levels) value rest ∙ ap (λ w. w ++ tail) same) goes
+
+node_goes : (levels : List OpenLevel) (value : TypedValue) (rest : Text) → CanBeReadAt (length levels) value
+    → BeginsWith (node (length levels)) (encode_utf8_all (value_text (column_of levels) value ++ rest))
+node_goes levels null_value rest readable =
+    tail_goes levels kind.Null null_value rest refl
+    (word_goes nothing (codes "\"null\"") (encode_utf8_all (codes "\"null\"" ++ rest)) (encode_utf8_all rest) (word_encoded (codes "\"null\"") rest refl)
+    (nothing_goes (encode_utf8_all rest)))
+node_goes levels (bool_value b) rest readable = tail_goes levels kind.Bool (bool_value b) rest refl (truth_goes b rest)
+node_goes levels (int_value n) rest readable = tail_goes levels kind.Int (int_value n) rest refl (integer_goes n rest readable)
+node_goes levels (text_value text) rest readable = tail_goes levels kind.Text (text_value text) rest refl (text_goes text rest readable)
+node_goes levels (list_value items) rest readable = tail_goes levels kind.List (list_value items) rest refl (list_goes levels items rest readable.0)
+node_goes levels (map_value pairs) rest readable = tail_goes levels kind.Map (map_value pairs) rest refl (map_goes levels pairs rest readable.0)
+
+-- where a value's text has a node, words of a node stand there
+pub due_words : (root : TypedValue) (levels : List OpenLevel) (bytes : List ℕ) → IsDue root levels bytes → BeginsWith (node (length levels)) bytes
+due_words root levels bytes due = subst (BeginsWith (node (length levels))) (sym due.text) (node_goes levels due.value due.rest due.readable)
+
+-- ---- behind a node
+
+lead_goes : (lead end : List ℕ) (Due Read : List ℕ → Type 0) (tail : List ℕ) → Leads lead end Due Read tail
+    → BeginsWith (either (word_then lead nothing) (word_then end nothing)) tail
+lead_goes lead end Due Read tail (leads_on rest is due) =
+    goes_on (either (word_then lead nothing) (word_then end nothing)) nothing lead tail rest (λ words more. inl (refl, more)) is (nothing_goes rest)
+lead_goes lead end Due Read tail (leads_out rest is none read) =
+    goes_on (either (word_then lead nothing) (word_then end nothing)) nothing end tail rest (λ words more. inr (refl, more)) is (nothing_goes rest)
+
+entry_goes : (lead end : List ℕ) (Due Read : List ℕ → Type 0) (depth : ℕ) (bytes : List ℕ) → EntryEnds lead end Due Read depth bytes
+    → BeginsWith (entry_end depth lead end) bytes
+entry_goes lead end Due Read depth bytes ends =
+    word_goes (line_then depth (either (word_then lead nothing) (word_then end nothing))) (codes ",") bytes (line_at (depth * 2) ++ ends.tail) ends.bytes_are
+    (line_goes depth (either (word_then lead nothing) (word_then end nothing)) (line_at (depth * 2) ++ ends.tail) ends.tail refl
+    (lead_goes lead end Due Read ends.tail ends.leads))
+
+-- where a value's text goes on behind a node, it goes on with the words that may stand there
+pub read_words : (root : TypedValue) (levels : List OpenLevel) (value : TypedValue) (bytes : List ℕ) → IsRead root levels value bytes
+    → BeginsWith (behind_value levels) bytes
+read_words root [] value bytes read = word_goes nothing (codes "\n") bytes [] (text_ended root value bytes read).1 (nothing_goes [])
+read_words root (items_open items ∷ levels) value bytes read =
+    entry_goes (codes "  ") (codes "]") _ _ (length levels) bytes (item_ends root levels items value bytes read)
+read_words root (value_due pairs key ∷ levels) value bytes read =
+    entry_goes (codes "  ? ") (codes "}") _ _ (length levels) bytes (pair_ends root levels pairs key value bytes read)
+read_words root (pairs_open pairs ∷ levels) key bytes read =
+    let ends = key_ends root levels pairs key bytes read in
+    line_goes (length levels) (word_then (codes "  : ") nothing) bytes (codes "  : " ++ ends.tail) ends.bytes_are
+    (word_goes nothing (codes "  : ") (codes "  : " ++ ends.tail) ends.tail refl (nothing_goes ends.tail))

@@ -1,0 +1,135 @@
+-- Where bytes break off, and the place of an error.
+use Rattle.std.specs.Prelude.{ℕ, ◌-◌, ◌*◌, ◌<◌, ◌≡◌, ◌⊎◌, None, List, [], ◌∷◌, ◌++◌, codes, flat_map, length, replicate}
+use Rattle.std.specs.Str.{IsUtf8, IsValidUpTo}
+use Rattle.yaml_base.specs.Characters.{space}
+use Rattle.yaml_base.specs.values.LinesAndColumns.{column_of, line_of}
+use Rattle.yaml_base.specs.values.TypedValues.{TypedValue, most_nested}
+use Rattle.yaml_read.specs.Grammar.{behind_value, node, nothing, word_then}
+use Rattle.yaml_read.specs.Opened.{HasRead, IsOpen}
+use Rattle.yaml_read.specs.Remaining.{OpenLevel}
+use Rattle.yaml_read.specs.Words.{behind}
+use Rattle.yaml_read.specs.declared.errors.ReadError.{ReadError}
+use Rattle.yaml_read.specs.declared.errors.ReadError.TheVariants as told
+use Rattle.yaml_read.specs.declared.errors.Stop.{Stop}
+use Rattle.yaml_read.specs.declared.errors.Stop.TheVariants as stop
+
+-- so far before their end a word is missing: before it stand words with which some of these begin, a further word is due, and what
+-- follows begins with none that may come next
+pub record BreaksOff (These : List (List ℕ) → Type 0) (bytes : List ℕ) (left : ℕ) : Type 0 where
+  pub read : List (List ℕ)
+  pub rest : List ℕ
+  pub parts : bytes ≡ flat_map (λ word. word) read ++ rest
+  pub place : left ≡ length rest
+  pub due : List ℕ
+  pub more : List (List ℕ)
+  pub begins : These (read ++ due ∷ more)
+  pub none : (next : List ℕ) (after : List (List ℕ)) → These (read ++ next ∷ after) → behind next rest ≡ None
+
+-- behind a document's first line the bytes are a value's up to a node, or up to what follows one, and a word is missing from there on;
+-- or they are a value's, and more follows
+pub data BreaksInValue (whole : List ℕ) (left : ℕ) : Type 0 where
+  in_node : (levels : List OpenLevel) (bytes : List ℕ) → IsOpen whole levels bytes → BreaksOff (node (length levels)) bytes left
+      → BreaksInValue whole left
+  behind_node : (levels : List OpenLevel) (value : TypedValue) (bytes : List ℕ) → HasRead whole levels value bytes
+      → BreaksOff (behind_value levels) bytes left → BreaksInValue whole left
+  behind_all : (value : TypedValue) (bytes rest : List ℕ) → HasRead whole [] value bytes → bytes ≡ codes "\n" ++ rest → 0 < length rest
+      → left ≡ length rest → BreaksInValue whole left
+
+-- they are a value's up to a list or a map within as many others as may be open
+pub record OpensTooDeep (whole : List ℕ) (left : ℕ) : Type 0 where
+  pub levels : List OpenLevel
+  pub bytes : List ℕ
+  pub opened : IsOpen whole levels bytes
+  pub full : length levels ≡ most_nested
+  pub inside : List ℕ
+  pub begins : (bytes ≡ codes "!!seq [" ++ inside) ⊎ (bytes ≡ codes "!!map {" ++ inside)
+  pub place : left ≡ length bytes
+
+-- ---- places in the bytes of a document
+
+-- something holds of what follows a document's first line
+abbrev pub IsBehindMarker : (bytes : List ℕ) → (Holds : List ℕ → Type 0) → Type 0
+IsBehindMarker bytes Holds = (whole : List ℕ) × (bytes ≡ codes "---\n" ++ whole) × Holds whole
+
+-- a word can't stand so far before the end
+abbrev pub CannotStand : (bytes : List ℕ) → (left : ℕ) → Type 0
+CannotStand bytes left =
+    BreaksOff (word_then (codes "---\n") nothing) bytes left ⊎ IsBehindMarker bytes (λ whole. BreaksInValue whole left)
+
+-- an error has the line and the column of where the bytes stop to be UTF-8, or else of the first word that can't stand there, or of
+-- the first list or map that lies too deep
+abbrev pub IsPlaced : (bytes : List ℕ) → ReadError → Type 0
+IsPlaced bytes (told.NotCanonical line column) =
+    (at : ℕ) × (line ≡ line_of bytes at) × (column ≡ column_of bytes at)
+    × (((IsUtf8 bytes → ⊥) × IsValidUpTo bytes at) ⊎ ((left : ℕ) × IsUtf8 bytes × (at ≡ length bytes - left) × CannotStand bytes left))
+IsPlaced bytes (told.TooDeep line column) =
+    (at : ℕ) × (line ≡ line_of bytes at) × (column ≡ column_of bytes at)
+    × ((left : ℕ) × IsUtf8 bytes × (at ≡ length bytes - left) × IsBehindMarker bytes (λ whole. OpensTooDeep whole left))
+IsPlaced bytes told.Memory = Unit {0}
+
+-- ---- the code's answers
+
+-- the first word of the bytes can't stand there
+abbrev pub IsHere : (bytes : List ℕ) → Stop → Type 0
+IsHere bytes error = error ≡ stop.Refused (length bytes)
+
+-- the list or the map that begins the bytes lies too deep
+abbrev pub IsDeepHere : (bytes : List ℕ) → Stop → Type 0
+IsDeepHere bytes error = error ≡ stop.TooDeep (length bytes)
+
+abbrev pub IsHereOrMemory : (bytes : List ℕ) → Stop → Type 0
+IsHereOrMemory bytes error = (error ≡ stop.Memory) ⊎ IsHere bytes error
+
+-- a word that is refused as a whole: want of memory stays
+abbrev pub IsWholeWord : (bytes : List ℕ) → Stop → Stop → Type 0
+IsWholeWord bytes stop.Memory error = error ≡ stop.Memory
+IsWholeWord bytes _ error = IsHere bytes error
+
+-- a level's two spaces are missing
+pub record LacksLevel (depth : ℕ) (bytes : List ℕ) (error : Stop) : Type 0 where
+  pub level : ℕ
+  pub below : level < depth
+  pub rest : List ℕ
+  pub text : bytes ≡ replicate (level * 2) space ++ rest
+  pub none : behind (codes "  ") rest ≡ None
+  pub place : IsHere rest error
+
+-- a line's end or a level's two spaces are missing
+pub data LacksLine (depth : ℕ) (bytes : List ℕ) (error : Stop) : Type 0 where
+  no_line : behind (codes "\n") bytes ≡ None → IsHere bytes error → LacksLine depth bytes error
+  no_level : (line : List ℕ) → bytes ≡ codes "\n" ++ line → LacksLevel depth line error → LacksLine depth bytes error
+
+-- behind the outermost value its line's end is missing, or more follows that
+pub data LacksEnd (bytes : List ℕ) (error : Stop) : Type 0 where
+  no_end : behind (codes "\n") bytes ≡ None → IsHere bytes error → LacksEnd bytes error
+  more_follows : (rest : List ℕ) → bytes ≡ codes "\n" ++ rest → 0 < length rest → IsHere rest error → LacksEnd bytes error
+
+-- the bytes break off, or memory gave out
+abbrev pub BreaksAt : (These : List (List ℕ) → Type 0) → (bytes : List ℕ) → Stop → Type 0
+BreaksAt These bytes (stop.Refused left) = BreaksOff These bytes left
+BreaksAt These bytes (stop.TooDeep left) = ⊥
+BreaksAt These bytes stop.Memory = Unit {0}
+
+-- why reading stops behind a document's first line, and anywhere
+abbrev pub StopsIn : (whole : List ℕ) → Stop → Type 0
+StopsIn whole (stop.Refused left) = BreaksInValue whole left
+StopsIn whole (stop.TooDeep left) = OpensTooDeep whole left
+StopsIn whole stop.Memory = Unit {0}
+
+abbrev pub StopsAt : (bytes : List ℕ) → Stop → Type 0
+StopsAt bytes (stop.Refused left) = CannotStand bytes left
+StopsAt bytes (stop.TooDeep left) = IsBehindMarker bytes (λ whole. OpensTooDeep whole left)
+StopsAt bytes stop.Memory = Unit {0}
+
+-- the error of an offset
+abbrev pub IsNotCanonicalAt : (bytes : List ℕ) → (at : ℕ) → ReadError → Type 0
+IsNotCanonicalAt bytes at error = error ≡ told.NotCanonical (line_of bytes at) (column_of bytes at)
+
+abbrev pub IsTooDeepAt : (bytes : List ℕ) → (at : ℕ) → ReadError → Type 0
+IsTooDeepAt bytes at error = error ≡ told.TooDeep (line_of bytes at) (column_of bytes at)
+
+-- the error tells of why reading stops
+abbrev pub HasPlaceOf : (bytes : List ℕ) → Stop → ReadError → Type 0
+HasPlaceOf bytes (stop.Refused left) error = IsNotCanonicalAt bytes (length bytes - left) error
+HasPlaceOf bytes (stop.TooDeep left) error = IsTooDeepAt bytes (length bytes - left) error
+HasPlaceOf bytes stop.Memory error = Unit {0}
