@@ -4,6 +4,7 @@ use Rattle.yaml_base.specs.Encoding.{encode}
 use Rattle.yaml_base.specs.Settings.{utf8}
 use Rattle.yaml_base.specs.values.TypedValues.{TypedValue, WritesValue}
 use Rattle.yaml_base.specs.values.ValueText.{document_text}
+use Rattle.yaml_read.specs.Places.{IsPlaced}
 use Rattle.yaml_read.specs.Readable.{CanBeRead}
 use Rattle.yaml_read.specs.declared.errors.ReadError.{ReadError}
 use Rattle.yaml_read.specs.declared.errors.ReadError.TheVariants as errors
@@ -11,11 +12,12 @@ use Rattle.yaml_c.specs.Answers.{at_place, nothing_reported}
 use Rattle.yaml_c.specs.declared.results.CallResult.{CallResult}
 
 -- what `read_canonical` promises: without an error the bytes are those of a value; with one, unless memory ran out, they are those
--- of no value that can be read
+-- of no value that can be read, and the error has the place of the first word that can't stand there
 abbrev pub IsReading : (bytes : List ℕ) → Option ReadError → Type 0
 IsReading bytes None = (value : TypedValue) × WritesValue value bytes
 IsReading bytes (Some error) =
-    (error ≡ errors.Memory) ⊎ ((value : TypedValue) → CanBeRead value → encode (Some utf8) (document_text value) ≢ bytes)
+    ((error ≡ errors.Memory) ⊎ ((value : TypedValue) → CanBeRead value → encode (Some utf8) (document_text value) ≢ bytes))
+    × IsPlaced bytes error
 
 -- what is returned: 0 without an error; 10 where the bytes aren't canonical, and 6 where lists and maps nest too deep, both with the
 -- place; 3 where memory ran out

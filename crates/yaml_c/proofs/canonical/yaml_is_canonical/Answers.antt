@@ -9,17 +9,20 @@ returns-in-Err-NotCanonical c =
     let refused = c.in-Err-NotCanonical in
     let error = errors.NotCanonical refused.line refused.column in
     let is : refused.field-0 ≡ error = search rules in
-    (Some error, subst (λ (e : ReadError). IsReading c.args.bytes.now (Some e)) is refused.ensures.complete, (refl, c.at_place.ensures))
+    let reading = subst (λ (e : ReadError). IsReading c.args.bytes.now (Some e)) is (refused.ensures.complete, refused.ensures.placed) in
+    (Some error, reading, (refl, c.at_place.ensures))
 
 pub returns-in-Err-TooDeep : goal.returns-in-Err-TooDeep
 returns-in-Err-TooDeep c =
     let refused = c.in-Err-TooDeep in
     let error = errors.TooDeep refused.line refused.column in
     let is : refused.field-0 ≡ error = search rules in
-    (Some error, subst (λ (e : ReadError). IsReading c.args.bytes.now (Some e)) is refused.ensures.complete, (refl, c.at_place-in-Err-TooDeep.ensures))
+    let reading = subst (λ (e : ReadError). IsReading c.args.bytes.now (Some e)) is (refused.ensures.complete, refused.ensures.placed) in
+    (Some error, reading, (refl, c.at_place-in-Err-TooDeep.ensures))
 
 pub returns-in-Err-Memory : goal.returns-in-Err-Memory
 returns-in-Err-Memory c =
     let refused = c.in-Err-Memory in
     let is : refused.field-0 ≡ errors.Memory = search rules in
-    (Some errors.Memory, subst (λ (e : ReadError). IsReading c.args.bytes.now (Some e)) is refused.ensures.complete, (refl, c.nothing.ensures))
+    let reading = subst (λ (e : ReadError). IsReading c.args.bytes.now (Some e)) is (refused.ensures.complete, refused.ensures.placed) in
+    (Some errors.Memory, reading, (refl, c.nothing.ensures))
