@@ -1,6 +1,6 @@
 -- Where bytes break off: at a word, behind words, and in a line.
-use Rattle.yaml_base.proofs.Common.{ℕ, ◌+◌, ◌*◌, ◌<◌, zero, suc, None, List, [], ◌∷◌, ◌++◌, refl, ◌≡◌, ap, subst, sym, ◌∙◌, ◌⊎◌, inl, inr}
-use Rattle.yaml_base.proofs.Common.{arith, append_assoc, codes, flat_map, length, replicate, space}
+use Rattle.yaml_base.proofs.Common.{ℕ, ◌+◌, ◌*◌, ◌<◌, zero, suc, None, List, [], ◌∷◌, ◌++◌, refl, ◌≡◌, ap, subst, sym, ◌∙◌, inl, inr}
+use Rattle.yaml_base.proofs.Common.{arith, append_assoc, codes, flat_map, replicate, space}
 use Rattle.std.proofs.lemmas.List.{replicate-append-replicate}
 use Rattle.std.specs.Prelude.{Result, Ok, Err, IfErr}
 use Rattle.std.specs.Borrow.{Bor}

@@ -19,7 +19,7 @@ use Rattle.yaml_read.specs.Heads.{ListRead, MapRead, ReadsCharacter, tag_word}
 use Rattle.yaml_read.specs.Opened.{HasRead, IsOpen, OpenCanBeRead}
 use Rattle.yaml_read.specs.Places.{BreaksAt, BreaksOff, IsHere, IsHereOrMemory, IsWholeWord, LacksEnd, StopsIn, behind_all}
 use Rattle.yaml_read.specs.Places.{behind_node, in_node, more_follows, no_end}
-use Rattle.yaml_read.specs.Remaining.{OpenLevel, Pushed, is_nested, items_open, pairs_open, value_due}
+use Rattle.yaml_read.specs.Remaining.{OpenLevel, is_nested, items_open, pairs_open, value_due}
 use Rattle.yaml_read.specs.Sound.{IsCharacter, IsValue}
 use Rattle.yaml_read.specs.Words.{OrMemory, behind}
 use Rattle.yaml_read.specs.declared.errors.Stop.{Stop}
@@ -27,7 +27,6 @@ use Rattle.yaml_read.specs.declared.errors.Stop.TheVariants as stop
 use Rattle.yaml_read.specs.declared.heads.Head.{Head}
 use Rattle.yaml_read.specs.declared.heads.Kind.{Kind}
 use Rattle.yaml_read.specs.declared.heads.Kind.TheVariants as kind
-use Rattle.yaml_read.specs.declared.levels.Level.{Level}
 use Rattle.yaml_read.proofs.Breaking.{here, missing, passed, passed_at, second_of}
 use Rattle.yaml_read.proofs.CharactersRead.{ReadSoFar}
 use Rattle.yaml_read.proofs.Encoded.{word_encoded}
@@ -210,19 +209,6 @@ pub end_stops : {T : Type 0} (whole : List ℕ) (value : TypedValue) (bytes : Li
     → IfErr result (LacksEnd bytes) → IfErr result (StopsIn whole)
 end_stops whole value bytes (Ok found) read lacks = tt
 end_stops whole value bytes (Err error) read lacks = end_lacks whole value bytes error read lacks
-
--- no level was pushed
-pub push_stops : {A : Type 0} (whole : List ℕ) (level : OpenLevel) (before after : List (Level A)) (error : Stop)
-    → Pushed level before after (Err error) → StopsIn whole error
-push_stops whole level before after (stop.Refused left) pushed = absurd pushed
-push_stops whole level before after (stop.TooDeep left) pushed = absurd pushed
-push_stops whole level before after stop.Memory pushed = tt
-
-pub push_breaks : {A : Type 0} (These : List (List ℕ) → Type 0) (bytes : List ℕ) (level : OpenLevel) (before after : List (Level A)) (error : Stop)
-    → Pushed level before after (Err error) → BreaksAt These bytes error
-push_breaks These bytes level before after (stop.Refused left) pushed = absurd pushed
-push_breaks These bytes level before after (stop.TooDeep left) pushed = absurd pushed
-push_breaks These bytes level before after stop.Memory pushed = tt
 
 -- ---- at a node
 

@@ -21,3 +21,4 @@ pub mod Placing
 pub mod TextWords
 pub mod WordTexts
 pub mod WordsBehind
+pub mod PlaceBegins

@@ -1,7 +1,6 @@
 -- From where the bytes break off to the place of the error.
-use Rattle.yaml_base.proofs.Common.{ℕ, ◌-◌, None, List, [], ◌∷◌, ◌++◌, refl, ◌≡◌, subst, sym, ◌⊎◌, inl, inr, codes, length}
+use Rattle.yaml_base.proofs.Common.{ℕ, ◌-◌, None, List, [], ◌++◌, refl, ◌≡◌, subst, sym, inl, inr, codes, length}
 use Rattle.std.specs.Str.{IsUtf8, IsValidUpTo}
-use Rattle.yaml_base.specs.values.LinesAndColumns.{column_of, line_of}
 use Rattle.yaml_read.specs.Errors.{Tells}
 use Rattle.yaml_read.specs.Places.{HasPlaceOf, IsHere, IsNotCanonicalAt, IsPlaced, StopsAt, StopsIn}
 use Rattle.yaml_read.specs.Words.{behind}

@@ -9,11 +9,12 @@ use Rattle.yaml_base.specs.scalars.DoubleQuoted.{quote}
 use Rattle.yaml_base.specs.values.TypedValues.{TypedValue, TypedValues, TypedPairs, null_value, bool_value, int_value, text_value, list_value, map_value}
 use Rattle.yaml_base.specs.values.TypedValues.{bool_text, most_nested, no_value_pairs, no_values, value_pairs_and, values_and}
 use Rattle.yaml_base.specs.values.ValueText.{in_quotes, line_at, value_text}
-use Rattle.yaml_read.specs.Grammar.{BeginsWith, behind_tag, behind_value, characters, either, entry_end, integer, levels_then, line_then, node, nothing}
+use Rattle.yaml_read.specs.Grammar.{behind_tag, behind_value, characters, either, entry_end, integer, levels_then, line_then, node, nothing}
 use Rattle.yaml_read.specs.Grammar.{quoted_text, truth, unless_deep, word_then}
 use Rattle.yaml_read.specs.Heads.{tag_word}
 use Rattle.yaml_read.specs.Readable.{CanBeReadAt}
 use Rattle.yaml_read.specs.Remaining.{IsDue, IsRead, OpenLevel, column_of, items_open, pairs_open, value_due}
+use Rattle.yaml_read.specs.TextsAndWords.{BeginsWith}
 use Rattle.yaml_read.specs.declared.heads.Kind.{Kind}
 use Rattle.yaml_read.specs.declared.heads.Kind.TheVariants as kind
 use Rattle.yaml_read.proofs.Breaking.{level_first}

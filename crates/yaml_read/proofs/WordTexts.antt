@@ -13,6 +13,7 @@ use Rattle.yaml_read.specs.Grammar.{truth, unless_deep, word_then}
 use Rattle.yaml_read.specs.Heads.{tag_word}
 use Rattle.yaml_read.specs.Readable.{CanBeReadAt}
 use Rattle.yaml_read.specs.Remaining.{OpenLevel, column_of}
+use Rattle.yaml_read.specs.TextsAndWords.{BeginsText}
 use Rattle.yaml_read.specs.declared.heads.Kind.{Kind}
 use Rattle.yaml_read.specs.declared.heads.Kind.TheVariants as kind
 use Rattle.yaml_read.proofs.Breaking.{level_first}
@@ -220,13 +221,6 @@ tail_words levels kind.Map (word ∷ words) room are =
     subst (λ (w : List ℕ). TailBegins levels kind.Map (w ∷ words)) (sym are.0) (map_words levels words room are.1)
 
 -- ---- nodes
-
--- the words begin the text of a value that can lie in these lists and maps
-pub record BeginsText (levels : List OpenLevel) (words : List (List ℕ)) : Type 0 where
-  pub value : TypedValue
-  pub readable : CanBeReadAt (length levels) value
-  pub rest : List ℕ
-  pub is : encode_utf8_all (value_text (column_of levels) value) ≡ flat_map (λ word. word) words ++ rest
 
 -- words of a node begin the text of a value, where a list or a map may still be opened
 pub node_words : (levels : List OpenLevel) (words : List (List ℕ)) → length levels < most_nested → node (length levels) words → BeginsText levels words

@@ -1,22 +1,23 @@
 -- Behind nodes the words of the grammar go on in texts of values.
 use Rattle.yaml_base.proofs.Common.{ℕ, ◌+◌, ◌*◌, List, [], ◌∷◌, ◌++◌, refl, ◌≡◌, ap, sym, ◌∙◌, ◌⊎◌, inl, inr}
-use Rattle.yaml_base.proofs.Common.{append_assoc, codes, flat_map, length, line_feed, encode_utf8_all, Text}
+use Rattle.yaml_base.proofs.Common.{append_assoc, codes, length, line_feed, encode_utf8_all, Text}
 use Rattle.yaml_base.specs.values.TypedValues.{TypedValue, TypedValues, TypedPairs, list_value, map_value, null_value, value_pairs_and, values_and}
 use Rattle.yaml_base.specs.values.ValueText.{line_at, value_text}
 use Rattle.yaml_read.specs.Grammar.{behind_value, either, entry_end, nothing, word_then}
 use Rattle.yaml_read.specs.Remaining.{Completes, OpenLevel, column_of, item_follows, items_open, list_ends, map_ends, pair_follows, pairs_open, text_ends}
 use Rattle.yaml_read.specs.Remaining.{value_due, value_follows}
+use Rattle.yaml_read.specs.TextsAndWords.{GoesOnWith}
 use Rattle.yaml_read.proofs.Encoded.{word_encoded}
 use Rattle.yaml_read.proofs.Turns.{comma_deeper, comma_line, key_line}
 use Rattle.yaml_read.proofs.WordTexts.{LineWords, flat, line_words, one_word}
 
 -- a text that ends all that is open
-record ClosesAll (levels : List OpenLevel) (value : TypedValue) : Type 0 where
+pub record ClosesAll (levels : List OpenLevel) (value : TypedValue) : Type 0 where
   pub root : TypedValue
   pub text : Text
   pub completes : Completes root levels value text
 
-closing : (levels : List OpenLevel) (value : TypedValue) → ClosesAll levels value
+pub closing : (levels : List OpenLevel) (value : TypedValue) → ClosesAll levels value
 closing [] value = record { root = value; text = line_feed ∷ []; completes = text_ends value (line_feed ∷ []) refl refl }
 closing (items_open items ∷ levels) value =
     let outer = closing levels (list_value (values_and items value)) in
@@ -41,14 +42,6 @@ closing (pairs_open pairs ∷ levels) key =
       text = text;
       completes = value_follows levels pairs key null_value ends text tt refl (map_ends levels pairs key null_value outer.text ends refl outer.completes);
     }
-
--- behind a value that has its place a text goes on with these words
-pub record GoesOnWith (levels : List OpenLevel) (value : TypedValue) (words : List (List ℕ)) : Type 0 where
-  pub root : TypedValue
-  pub text : Text
-  pub completes : Completes root levels value text
-  pub rest : List ℕ
-  pub is : encode_utf8_all text ≡ flat_map (λ word. word) words ++ rest
 
 -- the words of an entry's end
 entry_at : (depth : ℕ) (word last : List ℕ) (words more : List (List ℕ)) → word ≡ codes "," → flat words ≡ line_at (depth * 2) ++ flat more

@@ -1,5 +1,5 @@
 -- Which words stand where in canonical bytes. Each definition is of the words that may come in turn.
-use Rattle.std.specs.Prelude.{ℕ, ℤ, zero, suc, ◌<◌, ◌≤◌, ◌^◌, ◌≡◌, ◌⊎◌, true, List, [], ◌∷◌, ◌++◌, codes, flat_map, length}
+use Rattle.std.specs.Prelude.{ℕ, ℤ, zero, suc, ◌<◌, ◌≤◌, ◌^◌, ◌≡◌, ◌⊎◌, true, List, [], ◌∷◌, codes, length}
 use Rattle.std.specs.Fmt.{signed_decimal}
 use Rattle.std.specs.Int.Signed.{mag}
 use Rattle.std.specs.Str.{all_scalars, encode_utf8_all}
@@ -33,13 +33,6 @@ levels_then (suc depth) More = word_then (codes "  ") (levels_then depth More)
 -- a line's end and an indentation, and then those
 abbrev pub line_then : (depth : ℕ) → (More : List (List ℕ) → Type 0) → List (List ℕ) → Type 0
 line_then depth More = word_then (codes "\n") (levels_then depth More)
-
--- some of these words begin the bytes
-pub record BeginsWith (These : List (List ℕ) → Type 0) (bytes : List ℕ) : Type 0 where
-  pub words : List (List ℕ)
-  pub rest : List ℕ
-  pub are : These words
-  pub parts : bytes ≡ flat_map (λ word. word) words ++ rest
 
 -- ---- nodes
 

@@ -8,4 +8,5 @@ pub mod Errors
 pub mod Opened
 pub mod Sound
 pub mod Grammar
+pub mod TextsAndWords
 pub mod Places

@@ -18,8 +18,8 @@ use Rattle.yaml_read.proofs.HeadsRead.{bits_of_fits, digits_seen, parsed_fits}
 use Rattle.yaml_read.proofs.Breaking.{err_exit}
 use Rattle.yaml_read.proofs.BreakingNodes.{no_integer}
 use Rattle.yaml_read.specs.Grammar.{integer}
-use Rattle.yaml_read.specs.Places.{BreaksAt, IsHereOrMemory}
-use Rattle.std.proofs.Common.{List, ℕ, inr, inl, refl}
+use Rattle.yaml_read.specs.Places.{BreaksAt}
+use Rattle.std.proofs.Common.{List, ℕ, inr}
 use Rattle.std.specs.Borrow.{Bor}
 use Rattle.std.specs.Prelude.{String}
 use Rattle.yaml_base.specs.Seen.{seen_text}

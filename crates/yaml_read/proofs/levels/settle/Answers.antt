@@ -11,7 +11,7 @@ use Rattle.yaml_read.proofs.Words.{at_exit}
 use Rattle.yaml_read.proofs.Opening.{taken}
 use Rattle.yaml_read.specs.Opened.{HasRead, IsOpen, TurnRead}
 use Rattle.yaml_read.proofs.Breaking.{err_exit}
-use Rattle.yaml_read.proofs.BreakingNodes.{end_stops, push_stops, value_stops}
+use Rattle.yaml_read.proofs.BreakingNodes.{end_stops, value_stops}
 use Rattle.yaml_read.specs.Places.{StopsIn}
 use Rattle.yaml_read.proofs.levels.settle.Goals as goal
 

@@ -11,10 +11,9 @@ use Rattle.std.proofs.Common.{◌<◌, rules}
 use Rattle.std.specs.Prelude.{length}
 use Rattle.yaml_base.specs.Settings.{largest_usize}
 use Rattle.yaml_read.proofs.WrittenValues.{written_value}
-use Rattle.std.proofs.Common.{ℕ}
 use Rattle.std.specs.Str.{IsValidUpTo}
 use Rattle.yaml_read.proofs.Placing.{not_text_placed, stops_placed}
-use Rattle.yaml_read.specs.Places.{IsNotCanonicalAt, StopsAt}
+use Rattle.yaml_read.specs.Places.{StopsAt}
 use Rattle.yaml_read.proofs.reading.read_canonical.Goals as goal
 
 pub returns-in-Err-clause-complete : goal.returns-in-Err-clause-complete

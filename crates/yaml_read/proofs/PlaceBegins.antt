@@ -1,0 +1,135 @@
+-- Up to the place of an error the bytes begin a canonical text.
+use Rattle.yaml_base.proofs.Common.{ℕ, ◌-◌, ◌+◌, ◌*◌, ◌<◌, List, [], ◌∷◌, ◌++◌, refl, ◌≡◌, ap, subst, sym, ◌∙◌}
+use Rattle.yaml_base.proofs.Common.{append_assoc, arith, codes, flat_map-append, length, line_feed, encode_utf8_all, Text}
+use Rattle.std.proofs.Math.Seq.{take-append_seam}
+use Rattle.std.proofs.lemmas.List.{length-append}
+use Rattle.std.proofs.lemmas.Str.{encodes-append}
+use Rattle.std.specs.Prelude.{take}
+use Rattle.yaml_base.specs.values.TypedValues.{TypedValue, list_value, map_value, most_nested, value_pairs_and, values_and}
+use Rattle.yaml_base.specs.values.ValueText.{line_at, value_text}
+use Rattle.yaml_read.specs.Grammar.{behind_value, node}
+use Rattle.yaml_read.specs.Opened.{HasRead, IsOpen, opened_text}
+use Rattle.yaml_read.specs.Places.{BreaksOff}
+use Rattle.yaml_read.specs.Readable.{CanBeReadAt}
+use Rattle.yaml_read.specs.Remaining.{Completes, OpenLevel, column_of, item_follows, items_open, list_ends, map_ends, pair_follows, pairs_open, text_ends}
+use Rattle.yaml_read.specs.Remaining.{value_due, value_follows}
+use Rattle.yaml_read.specs.TextsAndWords.{BeginsValue}
+use Rattle.yaml_read.proofs.Encoded.{word_encoded}
+use Rattle.yaml_read.proofs.Opening.{item_on, item_out, key_on, pair_on, pair_out, value_in, value_out}
+use Rattle.yaml_read.proofs.Turns.{comma_deeper, comma_line, key_line}
+use Rattle.yaml_read.proofs.WordTexts.{flat, node_words}
+use Rattle.yaml_read.proofs.WordsBehind.{behind_words, closing}
+
+-- ---- what was read and what completes it are a value's text
+
+abbrev IsText : (whole : List ℕ) → (root : TypedValue) → Type 0
+IsText whole root = (whole ≡ encode_utf8_all (value_text 0 root ++ line_feed ∷ [])) × CanBeReadAt 0 root
+
+value_next : (whole : List ℕ) (levels : List OpenLevel) (value : TypedValue) (rest : Text)
+    → IsOpen whole levels (encode_utf8_all (value_text (column_of levels) value ++ rest)) → CanBeReadAt (length levels) value
+    → HasRead whole levels value (encode_utf8_all rest)
+value_next whole levels value rest opened readable =
+    value_in whole levels value (encode_utf8_all (value_text (column_of levels) value ++ rest)) (encode_utf8_all rest) opened
+    (encodes-append (value_text (column_of levels) value) rest) readable
+
+-- the bytes of a comma, a line and a bracket
+closing_bytes : (levels : List OpenLevel) (bracket rest text : Text) → encode_utf8_all (bracket ++ rest) ≡ bracket ++ encode_utf8_all rest
+    → text ≡ codes "," ++ (line_at (column_of levels) ++ (bracket ++ rest))
+    → encode_utf8_all text ≡ codes "," ++ (line_at (length levels * 2) ++ (bracket ++ encode_utf8_all rest))
+closing_bytes levels bracket rest text ascii is =
+    ap encode_utf8_all is ∙ comma_line levels (bracket ++ rest) ∙ ap (λ t. codes "," ++ (line_at (length levels * 2) ++ t)) ascii
+
+completed : (whole : List ℕ) (root : TypedValue) (levels : List OpenLevel) (value : TypedValue) (text : Text) → Completes root levels value text
+    → HasRead whole levels value (encode_utf8_all text) → IsText whole root
+completed whole root _ _ _ (text_ends value text same is) read =
+    subst (λ (v : TypedValue). IsText whole v) same
+    (value_out whole value (encode_utf8_all text) read (ap encode_utf8_all is ∙ word_encoded (codes "\n") [] refl), read.readable)
+completed whole root _ _ _ (item_follows levels items value item rest text readable is more) read =
+    let next = value_text (column_of levels + 2) item ++ rest in
+    completed whole root (items_open (values_and items value) ∷ levels) item rest more
+    (value_next whole (items_open (values_and items value) ∷ levels) item rest
+    (item_on whole levels items value (encode_utf8_all text) (encode_utf8_all next) read (ap encode_utf8_all is ∙ comma_deeper levels next)) readable)
+completed whole root _ _ _ (list_ends levels items value rest text is more) read =
+    completed whole root levels (list_value (values_and items value)) rest more
+    (item_out whole levels items value (encode_utf8_all text) (encode_utf8_all rest) read
+    (closing_bytes levels (codes "]") rest text (word_encoded (codes "]") rest refl) is))
+completed whole root _ _ _ (value_follows levels pairs key value rest text readable is more) read =
+    let next = value_text (column_of levels + 2) value ++ rest in
+    completed whole root (value_due pairs key ∷ levels) value rest more
+    (value_next whole (value_due pairs key ∷ levels) value rest
+    (key_on whole levels pairs key (encode_utf8_all text) (encode_utf8_all next) read (ap encode_utf8_all is ∙ key_line levels next)) readable)
+completed whole root _ _ _ (pair_follows levels pairs key value next rest text readable is more) read =
+    let behind = value_text (column_of levels + 2) next ++ rest in
+    completed whole root (pairs_open (value_pairs_and pairs key value) ∷ levels) next rest more
+    (value_next whole (pairs_open (value_pairs_and pairs key value) ∷ levels) next rest
+    (pair_on whole levels pairs key value (encode_utf8_all text) (encode_utf8_all behind) read
+    (ap encode_utf8_all is ∙ comma_deeper levels (codes "? " ++ behind)
+    ∙ ap (λ t. codes "," ++ (line_at (length levels * 2) ++ (codes "  " ++ t))) (word_encoded (codes "? ") behind refl))) readable)
+completed whole root _ _ _ (map_ends levels pairs key value rest text is more) read =
+    completed whole root levels (map_value (value_pairs_and pairs key value)) rest more
+    (pair_out whole levels pairs key value (encode_utf8_all text) (encode_utf8_all rest) read
+    (closing_bytes levels (codes "}") rest text (word_encoded (codes "}") rest refl) is))
+
+-- ---- the bytes up to a place
+
+front_is : (front rest whole : List ℕ) (left : ℕ) → whole ≡ front ++ rest → left ≡ length rest → take (length whole - left) whole ≡ front
+front_is front rest whole left is place =
+    let count : length (front ++ rest) - left ≡ length front = omega (arith, length-append front rest, place) in
+    ap (λ (t : List ℕ). take (length t - left) t) is ∙ ap (λ n. take n (front ++ rest)) count ∙ take-append_seam front rest
+
+-- a text that has the same bytes up to a place
+shared : (front whole text : List ℕ) (read : List (List ℕ)) (rest more : List ℕ) (left : ℕ) → whole ≡ front ++ (flat read ++ rest)
+    → left ≡ length rest → text ≡ front ++ (flat read ++ more) → text ≡ take (length whole - left) whole ++ more
+shared front whole text read rest more left is place also =
+    also ∙ sym (append_assoc front (flat read) more)
+    ∙ ap (λ t. t ++ more) (sym (front_is (front ++ flat read) rest whole left (is ∙ sym (append_assoc front (flat read) rest)) place))
+
+-- the bytes of words that were read, of those that may come, and of what follows them
+words_apart : (read after : List (List ℕ)) (bytes rest : List ℕ) → bytes ≡ flat (read ++ after) ++ rest → bytes ≡ flat read ++ (flat after ++ rest)
+words_apart read after bytes rest is =
+    is ∙ ap (λ t. t ++ rest) (flat_map-append (λ (word : List ℕ). word) read after) ∙ append_assoc (flat read) (flat after) rest
+
+-- where a word is missing in a node, and a list or a map may still be opened
+pub node_place : (whole : List ℕ) (levels : List OpenLevel) (bytes : List ℕ) (left : ℕ) → IsOpen whole levels bytes → length levels < most_nested
+    → BreaksOff (node (length levels)) bytes left → BeginsValue (take (length whole - left) whole)
+node_place whole levels bytes left opened room breaks =
+    let begins = node_words levels (breaks.read ++ breaks.due ∷ breaks.more) room breaks.begins in
+    let closed = closing levels begins.value in
+    let value = encode_utf8_all (value_text (column_of levels) begins.value) in
+    let opens = encode_utf8_all (opened_text levels) in
+    let other = opens ++ encode_utf8_all (value_text (column_of levels) begins.value ++ closed.text) in
+    let after = flat (breaks.due ∷ breaks.more) ++ begins.rest in
+    let text = completed other closed.root levels begins.value closed.text closed.completes
+    (value_next other levels begins.value closed.text (record { text = refl; readable = opened.readable }) begins.readable) in
+    record {
+      root = closed.root;
+      readable = text.1;
+      rest = after ++ encode_utf8_all closed.text;
+      text =
+          sym text.0
+          ∙ shared opens whole other breaks.read breaks.rest (after ++ encode_utf8_all closed.text) left
+          (opened.text ∙ ap (λ b. opens ++ b) breaks.parts) breaks.place
+          (ap (λ b. opens ++ b) (encodes-append (value_text (column_of levels) begins.value) closed.text
+          ∙ ap (λ b. b ++ encode_utf8_all closed.text) (words_apart breaks.read (breaks.due ∷ breaks.more) value begins.rest begins.is)
+          ∙ append_assoc (flat breaks.read) after (encode_utf8_all closed.text)));
+    }
+
+-- where a word is missing behind a node
+pub behind_place : (whole : List ℕ) (levels : List OpenLevel) (value : TypedValue) (bytes : List ℕ) (left : ℕ) → HasRead whole levels value bytes
+    → BreaksOff (behind_value levels) bytes left → BeginsValue (take (length whole - left) whole)
+behind_place whole levels value bytes left read breaks =
+    let goes = behind_words levels value (breaks.read ++ breaks.due ∷ breaks.more) breaks.begins in
+    let front = encode_utf8_all (opened_text levels ++ value_text (column_of levels) value) in
+    let other = front ++ encode_utf8_all goes.text in
+    let after = flat (breaks.due ∷ breaks.more) ++ goes.rest in
+    let text = completed other goes.root levels value goes.text goes.completes
+    (record { text = refl; outer = read.outer; readable = read.readable }) in
+    record {
+      root = goes.root;
+      readable = text.1;
+      rest = after;
+      text =
+          sym text.0
+          ∙ shared front whole other breaks.read breaks.rest after left (read.text ∙ ap (λ b. front ++ b) breaks.parts) breaks.place
+          (ap (λ b. front ++ b) (words_apart breaks.read (breaks.due ∷ breaks.more) (encode_utf8_all goes.text) goes.rest goes.is));
+    }
