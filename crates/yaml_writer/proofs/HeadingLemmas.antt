@@ -2,12 +2,15 @@
 use Rattle.yaml_writer.proofs.Common.{ℕ, ◌==◌, if◌then◌else◌, codes, None, Bool, false, not, true, ◌&&◌, ◌||◌, List, [], ◌++◌, ◌∷◌, refl, ◌≡◌, append_assoc, ap, sym, ◌∙◌}
 use Rattle.yaml_writer.proofs.Common.{encode_utf8_all, Text, is_break}
 use Rattle.std.specs.Prelude.{Some, IsUtf8, chars, encode_utf8, option_and_then}
-use Rattle.std.proofs.lemmas.Str.{IsUtf8-append, chars-append, chars_from_encodes, encodes-append, is_utf8-from_IsUtf8}
-use Rattle.yaml_base.specs.reading.ReadBytes.{utf8_read}
+use Rattle.std.proofs.lemmas.Str.{IsUtf8-append, chars-append, chars_from_encodes, encodes-append, encodes-chars, is_utf8-from_IsUtf8, scalars-chars}
+use Rattle.yaml_base.proofs.Decoding.{text_bytes-utf8}
+use Rattle.yaml_base.specs.Settings.{utf8}
+use Rattle.yaml_base.specs.reading.ReadBytes.{characters_read, utf8_read}
 use Rattle.yaml_base.specs.Characters.{carriage_return, is_printable, line_feed, line_separator, next_line, paragraph_separator, space}
 use Rattle.yaml_base.specs.streams.StreamReader.{text_trees}
+use Rattle.yaml_emitter.proofs.canonical.CanonicalBytes.{characters_back}
 use Rattle.yaml_writer.specs.Headings.{HeadingsArePassedOver, after_comments, begins_with_comment, comment_end, comment_lines, comment_start, commented, commented_bytes}
-use Rattle.yaml_writer.specs.Headings.{in_comment, spot_after, trees_behind_heading}
+use Rattle.yaml_writer.specs.Headings.{in_comment, spot_after, trees_behind_heading, utf8_trees_behind_heading}
 use Rattle.yaml_writer.specs.declared.headings.LineSpot.{LineSpot}
 use Rattle.yaml_writer.specs.declared.headings.LineSpot.TheVariants.{Start, Within}
 
@@ -64,24 +67,37 @@ kept [] none = refl
 kept (c ∷ rest) none = ap (λ (b : Bool). if b then after_comments true rest else c ∷ rest) none
 
 read_utf8 : (bytes : List ℕ) → IsUtf8 bytes → utf8_read bytes ≡ Some (chars bytes)
-read_utf8 bytes utf8 = ap (λ (b : Bool). if b then Some (chars bytes) else None) (is_utf8-from_IsUtf8 bytes utf8)
+read_utf8 bytes is = ap (λ (b : Bool). if b then Some (chars bytes) else None) (is_utf8-from_IsUtf8 bytes is)
 
 -- the characters of a heading's bytes and of those behind it
 read_behind : (heading : Text) (bytes : List ℕ) → IsUtf8 (encode_utf8_all heading) → IsUtf8 bytes
     → utf8_read (encode_utf8_all heading ++ bytes) ≡ Some (heading ++ chars bytes)
-read_behind heading bytes first utf8 =
+read_behind heading bytes first is =
     let lines = encode_utf8_all heading in
-    read_utf8 (lines ++ bytes) (IsUtf8-append lines bytes first utf8)
+    read_utf8 (lines ++ bytes) (IsUtf8-append lines bytes first is)
     ∙ ap (λ (t : Text). Some t) (chars-append lines bytes first ∙ ap (λ (t : Text). t ++ chars bytes) (sym (chars_from_encodes heading lines first refl)))
+
+-- the characters of a stream in UTF-8
+read_alone : (bytes : List ℕ) → IsUtf8 bytes → characters_read bytes ≡ Some (chars bytes)
+read_alone bytes is =
+    ap characters_read (sym (text_bytes-utf8 (chars bytes) ∙ encodes-chars bytes is)) ∙ characters_back utf8 (chars bytes) (scalars-chars bytes is)
+
+-- what is read of the bytes behind a heading
+behind : (breaks12 : Bool) (heading : Text) (bytes : List ℕ) → IsUtf8 (encode_utf8_all (comment_lines heading)) → IsUtf8 bytes
+    → utf8_trees_behind_heading breaks12 (encode_utf8_all (comment_lines heading) ++ bytes) ≡ trees_behind_heading breaks12 (chars bytes)
+behind breaks12 heading bytes first is =
+    ap (option_and_then (trees_behind_heading breaks12)) (read_behind (comment_lines heading) bytes first is)
+    ∙ ap (λ (t : Text). text_trees breaks12 t) (passes heading Start (chars bytes))
 
 pub headings_passed : HeadingsArePassedOver
 headings_passed = record {
   passed = λ breaks12 heading text. ap (λ (t : Text). text_trees breaks12 t) (passes heading Start text);
-  bytes = λ breaks12 heading bytes first utf8.
-      ap (option_and_then (trees_behind_heading breaks12)) (read_behind (comment_lines heading) bytes first utf8)
-      ∙ ap (λ (t : Text). text_trees breaks12 t) (passes heading Start (chars bytes))
-      ∙ sym (ap (option_and_then (trees_behind_heading breaks12)) (read_utf8 bytes utf8));
+  bytes = λ breaks12 heading bytes first is.
+      behind breaks12 heading bytes first is ∙ sym (ap (option_and_then (trees_behind_heading breaks12)) (read_utf8 bytes is));
   without = λ breaks12 text none. ap (λ (t : Text). text_trees breaks12 t) (kept text none);
+  stream = λ breaks12 heading bytes first is none.
+      behind breaks12 heading bytes first is ∙ ap (λ (t : Text). text_trees breaks12 t) (kept (chars bytes) none)
+      ∙ sym (ap (option_and_then (text_trees breaks12)) (read_alone bytes is));
 }
 
 -- ---- written character by character

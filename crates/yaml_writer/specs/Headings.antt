@@ -1,9 +1,10 @@
 -- Headings: lines of comments before a stream, and how a stream is read behind them.
-use Rattle.std.specs.Prelude.{◌≡◌, ℕ, Bool, true, false, Option, List, [], ◌∷◌, ◌++◌, ◌==◌, ◌||◌, ◌&&◌, not, codes, encode_utf8, encode_utf8_all, option_and_then, IsUtf8, if◌then◌else◌}
+use Rattle.std.specs.Prelude.{◌≡◌, ℕ, Bool, true, false, Option, List, [], ◌∷◌, ◌++◌, ◌==◌, ◌||◌, ◌&&◌, not, chars, codes, encode_utf8, encode_utf8_all, option_and_then}
+use Rattle.std.specs.Prelude.{IsUtf8, if◌then◌else◌}
 use Rattle.yaml_base.specs.Characters.{Text, is_break, is_printable, line_feed, space}
 use Rattle.yaml_base.specs.reading.ReadBytes.{utf8_read}
 use Rattle.yaml_base.specs.streams.StreamContent.{DocumentTree}
-use Rattle.yaml_base.specs.streams.StreamReader.{text_trees}
+use Rattle.yaml_base.specs.streams.StreamReader.{stream_trees, text_trees}
 use Rattle.yaml_writer.specs.declared.headings.LineSpot.{LineSpot}
 use Rattle.yaml_writer.specs.declared.headings.LineSpot.TheVariants.{Start, Within}
 
@@ -60,10 +61,15 @@ abbrev pub begins_with_comment : Text → Bool
 begins_with_comment [] = false
 begins_with_comment (c ∷ rest) = c == 0x23
 
--- a heading changes nothing of what is read; and without one it is read as ever
+-- a heading changes nothing of what is read; without one it is read as ever; and so a stream behind one is read as the reader of whole
+-- streams reads it alone
 pub record HeadingsArePassedOver : Type 0 where
   pub passed : (breaks12 : Bool) (heading text : Text) → trees_behind_heading breaks12 (comment_lines heading ++ text) ≡ trees_behind_heading breaks12 text
   pub bytes :
       (breaks12 : Bool) (heading : Text) (bytes : List ℕ) → IsUtf8 (encode_utf8_all (comment_lines heading)) → IsUtf8 bytes
       → utf8_trees_behind_heading breaks12 (encode_utf8_all (comment_lines heading) ++ bytes) ≡ utf8_trees_behind_heading breaks12 bytes
   pub without : (breaks12 : Bool) (text : Text) → begins_with_comment text ≡ false → trees_behind_heading breaks12 text ≡ text_trees breaks12 text
+  pub stream :
+      (breaks12 : Bool) (heading : Text) (bytes : List ℕ) → IsUtf8 (encode_utf8_all (comment_lines heading)) → IsUtf8 bytes
+      → begins_with_comment (chars bytes) ≡ false
+      → utf8_trees_behind_heading breaks12 (encode_utf8_all (comment_lines heading) ++ bytes) ≡ stream_trees breaks12 bytes
