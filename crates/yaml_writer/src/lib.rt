@@ -43,7 +43,7 @@ pub use spelling::{Spelling, number_spelling};
 pub use texts::is_surely_text;
 pub use times::{Offset, Time};
 pub use timestamps::Timestamp;
-pub use typed::typed_event;
+pub use typed::{typed_content, typed_event};
 pub use writer::Writer;
 pub use yaml_base::{
     YAML_ANY_BREAK, YAML_ANY_ENCODING, YAML_ANY_MAPPING_STYLE, YAML_ANY_SCALAR_STYLE,

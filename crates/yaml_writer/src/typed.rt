@@ -1,12 +1,14 @@
 //! Events that keep their nodes' tags, whichever schema reads what is written.
-ghost use Rattle.std.specs.Prelude.{◌≡◌, Some, option_map, true};
+ghost use Rattle.std.specs.Prelude.{◌≡◌, Some, chars, option_map, true};
 ghost use Rattle.yaml_base.specs.Event.{scalar};
 ghost use Rattle.yaml_base.specs.Seen.{seen_event, seen_scalar_style, seen_text};
+ghost use Rattle.yaml_emitter.specs.BorrowedTexts.{seen_scalar};
 ghost use Rattle.yaml_writer.specs.TypedEvents as typed;
 
 use crate::plain_tags::{implies_tag, is_string_tag};
 use std::alloc::Allocator;
 use yaml_base::{YAML_PLAIN_SCALAR_STYLE, yaml_event_t, yaml_scalar_style_t};
+use yaml_emitter::ScalarContent;
 
 /// A scalar with a tag, and the flags and the style that keep the tag.
 fn typed_scalar<A: Allocator>(
@@ -68,5 +70,35 @@ pub fn typed_event<A: Allocator>(event: yaml_event_t<A>) -> yaml_event_t<A>
             },
         },
         other => other,
+    }
+}
+
+/// A scalar with this tag, and the flags and the style that keep the tag.
+fn typed_as<'a>(tag: &str, content: ScalarContent<'a>) -> ScalarContent<'a>
+    ensures { seen_scalar result ≡ typed.typed_as (chars tag.now) (seen_scalar content.entry) }
+{
+    let is_text = is_string_tag(tag);
+    let is_implied = implies_tag(content.value, tag);
+    ScalarContent {
+        anchor: content.anchor,
+        tag: content.tag,
+        value: content.value,
+        plain_implicit: is_implied,
+        quoted_implicit: is_text,
+        style: if is_implied && !is_text {
+            YAML_PLAIN_SCALAR_STYLE
+        } else {
+            content.style
+        },
+    }
+}
+
+/// Returns a scalar whose texts are borrowed as `typed_event` does its event.
+pub fn typed_content(content: ScalarContent<'_>) -> ScalarContent<'_>
+    ensures { seen_scalar result ≡ typed.typed_scalar (seen_scalar content.entry) }
+{
+    match content.tag {
+        Some(tag) => typed_as(tag, content),
+        None => content,
     }
 }
