@@ -26,7 +26,8 @@ pub struct SerdeSettings {
 /// The settings for values, and tags for variants.
 impl Default for SerdeSettings {
     fn default() -> Self
-        ensures { seen_settings result.writer ≡ given_for_values }
+        ensures writer { seen_settings result.writer ≡ given_for_values }
+        ensures variants { result.variants ≡ Variants.Tags }
     {
         SerdeSettings {
             writer: value_settings(),
