@@ -10,6 +10,7 @@ pub mod SingleFault
 pub mod KeepingNames
 pub mod Stops
 pub mod TextStops
+pub mod OpenBrackets
 pub mod Growing
 pub mod Taking
 pub mod WholeWalk

@@ -361,7 +361,7 @@ deep_is_none depth unique all deep json read =
 
 pub why_no_json : (depth : ℕ) (unique : Bool) (text : List ℕ) (error : JsonError) → ExplainsError depth unique text error → DeniesJson error
     → IsNotJson depth text
-why_no_json depth unique text (errors.NotJson line column) why is = broken_is_none depth unique (tokens text) why.0
+why_no_json depth unique text (errors.NotJson line column says) why is = broken_is_none depth unique (tokens text) why.0
 why_no_json depth unique text (errors.Marked line column) why is = broken_is_none depth unique (tokens text) why.0
 why_no_json depth unique text (errors.TooDeep line column) why is = deep_is_none depth unique (tokens text) why
 why_no_json depth unique text (errors.DuplicateName line column) why is = absurd is

@@ -55,7 +55,7 @@ more_utf8 (part ∷ parts) last all more = (all.0, more_utf8 parts last all.1 mo
 
 -- no document is unsent
 none_unsent : (error : StreamError) → MayBeUnsent error []
-none_unsent (faults.Refused (errors.NotJson line column)) = refl
+none_unsent (faults.Refused (errors.NotJson line column says)) = refl
 none_unsent (faults.Refused (errors.Marked line column)) = refl
 none_unsent (faults.Refused (errors.TooDeep line column)) = refl
 none_unsent (faults.Refused (errors.DuplicateName line column)) = refl

@@ -171,7 +171,7 @@ module _ (depth : ℕ) (in_flow unique : Bool) (ahead : List ℕ) (before : Writ
             sending_unbegun depth in_flow unique text was start (rest ++ more) now holds (advances text was start more sending) (take end rest)
             (drop end rest ++ more) (texts_in (drop end rest ++ more)) (cut_off more) (cuts.cut more) given named readable one after later code refl
             fails.0 fails.1
-        stops_next place (faults.Refused (errors.NotJson line column)) after later fails text was start more front follows whole sending = absurd fails
+        stops_next place (faults.Refused (errors.NotJson line column says)) after later fails text was start more front follows whole sending = absurd fails
         stops_next place (faults.Refused (errors.Marked line column)) after later fails text was start more front follows whole sending = absurd fails
         stops_next place (faults.Refused (errors.TooDeep line column)) after later fails text was start more front follows whole sending = absurd fails
         stops_next place (faults.Refused (errors.DuplicateName line column)) after later fails text was start more front follows whole sending = absurd fails

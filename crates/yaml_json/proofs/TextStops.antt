@@ -7,6 +7,7 @@ use Rattle.yaml_json.specs.{Failing.HasErrorSaid, Failing.Kept, Failing.SoundAft
 use Rattle.yaml_json.specs.{Refused.StopsAt, Stopped.StopsInText, Walk.MatchesStop, Walk.StopsText, declared.error.JsonError.JsonError}
 use Rattle.yaml_json.proofs.Common.{◌+◌, ◌≤◌, [], arith, length}
 use Rattle.yaml_json.specs.{Offsets.StopsAtLexeme, Places.AreOf, Places.HasPlaceAfter, Places.HasPlaceWithin, Places.IsAt, Places.IsPlaced}
+use Rattle.yaml_json.specs.Expected.{SaysExpected}
 use Rattle.std.specs.Str.{IsValidUpTo}
 use Rattle.yaml_json.specs.declared.error.StreamError.TheVariants as faults
 use Rattle.yaml_json.specs.declared.values.Stop.{Stop}
@@ -16,17 +17,17 @@ use Rattle.yaml_json.specs.declared.values.Stop.TheVariants as stops
 module _ (depth : ℕ) (unique in_flow : Bool) (text : List ℕ) (was now : WriterState) where
   why_returned : (taken left : List Token) (stop : Stop) (error : JsonError) → MatchesStop text stop error → IsByText stop
       → WhyStopped depth unique taken left stop → StopsAt depth unique text taken left error
-  why_returned taken left (stops.NotJson spot) (errors.NotJson line column) same is why = (why, same)
+  why_returned taken left (stops.NotJson spot) (errors.NotJson line column says) same is why = (why, same)
   why_returned taken left (stops.NotJson spot) (errors.Marked line column) same is why = (why, same)
   why_returned taken left (stops.NotJson spot) (errors.TooDeep line column) same is why = absurd same
   why_returned taken left (stops.NotJson spot) (errors.DuplicateName line column) same is why = absurd same
   why_returned taken left (stops.NotJson spot) (errors.Emitter returned) same is why = absurd same
-  why_returned taken left stops.TooDeep (errors.NotJson line column) same is why = absurd same
+  why_returned taken left stops.TooDeep (errors.NotJson line column says) same is why = absurd same
   why_returned taken left stops.TooDeep (errors.Marked line column) same is why = absurd same
   why_returned taken left stops.TooDeep (errors.TooDeep line column) same is why = why
   why_returned taken left stops.TooDeep (errors.DuplicateName line column) same is why = absurd same
   why_returned taken left stops.TooDeep (errors.Emitter returned) same is why = absurd same
-  why_returned taken left stops.NameAgain (errors.NotJson line column) same is why = absurd same
+  why_returned taken left stops.NameAgain (errors.NotJson line column says) same is why = absurd same
   why_returned taken left stops.NameAgain (errors.Marked line column) same is why = absurd same
   why_returned taken left stops.NameAgain (errors.TooDeep line column) same is why = absurd same
   why_returned taken left stops.NameAgain (errors.DuplicateName line column) same is why = why
@@ -57,12 +58,12 @@ module _ (depth : ℕ) (unique in_flow : Bool) (text : List ℕ) (was now : Writ
   text_stopped (stops.NotJson spot) error same refused failed = stopped_by_text (stops.NotJson spot) error same tt (refused tt)
   text_stopped stops.TooDeep error same refused failed = stopped_by_text stops.TooDeep error same tt (refused tt)
   text_stopped stops.NameAgain error same refused failed = stopped_by_text stops.NameAgain error same tt (refused tt)
-  text_stopped stops.Memory (errors.NotJson line column) same refused failed = absurd same
+  text_stopped stops.Memory (errors.NotJson line column says) same refused failed = absurd same
   text_stopped stops.Memory (errors.Marked line column) same refused failed = absurd same
   text_stopped stops.Memory (errors.TooDeep line column) same refused failed = absurd same
   text_stopped stops.Memory (errors.DuplicateName line column) same refused failed = absurd same
   text_stopped stops.Memory (errors.Emitter returned) same refused failed = stopped_by_writer Memory returned failed
-  text_stopped stops.Failed (errors.NotJson line column) same refused failed = absurd same
+  text_stopped stops.Failed (errors.NotJson line column says) same refused failed = absurd same
   text_stopped stops.Failed (errors.Marked line column) same refused failed = absurd same
   text_stopped stops.Failed (errors.TooDeep line column) same refused failed = absurd same
   text_stopped stops.Failed (errors.DuplicateName line column) same refused failed = absurd same
@@ -71,7 +72,7 @@ module _ (depth : ℕ) (unique in_flow : Bool) (text : List ℕ) (was now : Writ
 
   -- which explains the error
   pub explained : (error : JsonError) → StopsInText depth unique in_flow text was error now → ExplainsError depth unique text error
-  explained (errors.NotJson line column) stops = (
+  explained (errors.NotJson line column says) stops = (
     record { taken = stops.taken; left = stops.left; parts = stops.split; begins = stops.why.0.begins; breaks = stops.why.0.breaks },
     stops.why.1,
   )
@@ -111,7 +112,7 @@ module _ (depth : ℕ) (unique in_flow : Bool) (text : List ℕ) (was now : Writ
 
   pub writer_failed : (error : JsonError) → StopsInText depth unique in_flow text was error now → HasErrorSaid was (writers_error error) now
       → IfSome (writers_error error) (λ code. FailedInText depth in_flow text was code now)
-  writer_failed (errors.NotJson line column) stops said = tt
+  writer_failed (errors.NotJson line column says) stops said = tt
   writer_failed (errors.Marked line column) stops said = tt
   writer_failed (errors.TooDeep line column) stops said = tt
   writer_failed (errors.DuplicateName line column) stops said = tt
@@ -139,66 +140,66 @@ said_as was now stop found is kept = subst (λ (f : Option yaml_error_t). HasErr
 
 -- the error is where the stop is
 pub placed_as : (depth : ℕ) (part text : List ℕ) (at : ℕ) (stop : Stop) (error : JsonError) → MatchesStop part stop error
-    → (IsByText stop → StopsAtLexeme depth text at stop) → IsPlaced depth text at error
-placed_as depth part text at (stops.NotJson spot) (errors.NotJson line column) same placed = placed tt
-placed_as depth part text at (stops.NotJson spot) (errors.Marked line column) same placed = placed tt
-placed_as depth part text at (stops.NotJson spot) (errors.TooDeep line column) same placed = absurd same
-placed_as depth part text at (stops.NotJson spot) (errors.DuplicateName line column) same placed = absurd same
-placed_as depth part text at (stops.NotJson spot) (errors.Emitter returned) same placed = absurd same
-placed_as depth part text at stops.TooDeep (errors.NotJson line column) same placed = absurd same
-placed_as depth part text at stops.TooDeep (errors.Marked line column) same placed = absurd same
-placed_as depth part text at stops.TooDeep (errors.TooDeep line column) same placed = placed tt
-placed_as depth part text at stops.TooDeep (errors.DuplicateName line column) same placed = absurd same
-placed_as depth part text at stops.TooDeep (errors.Emitter returned) same placed = absurd same
-placed_as depth part text at stops.NameAgain (errors.NotJson line column) same placed = absurd same
-placed_as depth part text at stops.NameAgain (errors.Marked line column) same placed = absurd same
-placed_as depth part text at stops.NameAgain (errors.TooDeep line column) same placed = absurd same
-placed_as depth part text at stops.NameAgain (errors.DuplicateName line column) same placed = placed tt
-placed_as depth part text at stops.NameAgain (errors.Emitter returned) same placed = absurd same
-placed_as depth part text at stops.Memory (errors.NotJson line column) same placed = absurd same
-placed_as depth part text at stops.Memory (errors.Marked line column) same placed = absurd same
-placed_as depth part text at stops.Memory (errors.TooDeep line column) same placed = absurd same
-placed_as depth part text at stops.Memory (errors.DuplicateName line column) same placed = absurd same
-placed_as depth part text at stops.Memory (errors.Emitter returned) same placed = tt
-placed_as depth part text at stops.Failed (errors.NotJson line column) same placed = absurd same
-placed_as depth part text at stops.Failed (errors.Marked line column) same placed = absurd same
-placed_as depth part text at stops.Failed (errors.TooDeep line column) same placed = absurd same
-placed_as depth part text at stops.Failed (errors.DuplicateName line column) same placed = absurd same
-placed_as depth part text at stops.Failed (errors.Emitter returned) same placed = tt
+    → (IsByText stop → StopsAtLexeme depth text at stop) → SaysExpected text at error → IsPlaced depth text at error
+placed_as depth part text at (stops.NotJson spot) (errors.NotJson line column says) same placed expects = (placed tt, expects)
+placed_as depth part text at (stops.NotJson spot) (errors.Marked line column) same placed expects = placed tt
+placed_as depth part text at (stops.NotJson spot) (errors.TooDeep line column) same placed expects = absurd same
+placed_as depth part text at (stops.NotJson spot) (errors.DuplicateName line column) same placed expects = absurd same
+placed_as depth part text at (stops.NotJson spot) (errors.Emitter returned) same placed expects = absurd same
+placed_as depth part text at stops.TooDeep (errors.NotJson line column says) same placed expects = absurd same
+placed_as depth part text at stops.TooDeep (errors.Marked line column) same placed expects = absurd same
+placed_as depth part text at stops.TooDeep (errors.TooDeep line column) same placed expects = placed tt
+placed_as depth part text at stops.TooDeep (errors.DuplicateName line column) same placed expects = absurd same
+placed_as depth part text at stops.TooDeep (errors.Emitter returned) same placed expects = absurd same
+placed_as depth part text at stops.NameAgain (errors.NotJson line column says) same placed expects = absurd same
+placed_as depth part text at stops.NameAgain (errors.Marked line column) same placed expects = absurd same
+placed_as depth part text at stops.NameAgain (errors.TooDeep line column) same placed expects = absurd same
+placed_as depth part text at stops.NameAgain (errors.DuplicateName line column) same placed expects = placed tt
+placed_as depth part text at stops.NameAgain (errors.Emitter returned) same placed expects = absurd same
+placed_as depth part text at stops.Memory (errors.NotJson line column says) same placed expects = absurd same
+placed_as depth part text at stops.Memory (errors.Marked line column) same placed expects = absurd same
+placed_as depth part text at stops.Memory (errors.TooDeep line column) same placed expects = absurd same
+placed_as depth part text at stops.Memory (errors.DuplicateName line column) same placed expects = absurd same
+placed_as depth part text at stops.Memory (errors.Emitter returned) same placed expects = tt
+placed_as depth part text at stops.Failed (errors.NotJson line column says) same placed expects = absurd same
+placed_as depth part text at stops.Failed (errors.Marked line column) same placed expects = absurd same
+placed_as depth part text at stops.Failed (errors.TooDeep line column) same placed expects = absurd same
+placed_as depth part text at stops.Failed (errors.DuplicateName line column) same placed expects = absurd same
+placed_as depth part text at stops.Failed (errors.Emitter returned) same placed expects = tt
 
 -- and in the text that it is in
 pub placed_after : (depth : ℕ) (text part front : List ℕ) (at whole : ℕ) (stop : Stop) (error : JsonError) → MatchesStop part stop error
-    → (IsByText stop → StopsAtLexeme depth part at stop) → IsAt text whole error → (at ≤ length part → whole ≡ length front + at)
+    → (IsByText stop → StopsAtLexeme depth part at stop) → IsAt text whole error → (at ≤ length part → whole ≡ length front + at) → SaysExpected part at error
     → HasPlaceAfter depth text front part error
-placed_after depth text part front at whole (stops.NotJson spot) (errors.NotJson line column) same placed is sum =
-    (at, (subst (λ n. IsAt text n (errors.NotJson line column)) (sum (placed tt).start.within) is, placed tt))
-placed_after depth text part front at whole (stops.NotJson spot) (errors.Marked line column) same placed is sum =
+placed_after depth text part front at whole (stops.NotJson spot) (errors.NotJson line column says) same placed is sum expects =
+    (at, (subst (λ n. IsAt text n (errors.NotJson line column says)) (sum (placed tt).start.within) is, (placed tt, expects)))
+placed_after depth text part front at whole (stops.NotJson spot) (errors.Marked line column) same placed is sum expects =
     (at, (subst (λ n. IsAt text n (errors.Marked line column)) (sum (placed tt).start.within) is, placed tt))
-placed_after depth text part front at whole (stops.NotJson spot) (errors.TooDeep line column) same placed is sum = absurd same
-placed_after depth text part front at whole (stops.NotJson spot) (errors.DuplicateName line column) same placed is sum = absurd same
-placed_after depth text part front at whole (stops.NotJson spot) (errors.Emitter returned) same placed is sum = absurd same
-placed_after depth text part front at whole stops.TooDeep (errors.NotJson line column) same placed is sum = absurd same
-placed_after depth text part front at whole stops.TooDeep (errors.Marked line column) same placed is sum = absurd same
-placed_after depth text part front at whole stops.TooDeep (errors.TooDeep line column) same placed is sum =
+placed_after depth text part front at whole (stops.NotJson spot) (errors.TooDeep line column) same placed is sum expects = absurd same
+placed_after depth text part front at whole (stops.NotJson spot) (errors.DuplicateName line column) same placed is sum expects = absurd same
+placed_after depth text part front at whole (stops.NotJson spot) (errors.Emitter returned) same placed is sum expects = absurd same
+placed_after depth text part front at whole stops.TooDeep (errors.NotJson line column says) same placed is sum expects = absurd same
+placed_after depth text part front at whole stops.TooDeep (errors.Marked line column) same placed is sum expects = absurd same
+placed_after depth text part front at whole stops.TooDeep (errors.TooDeep line column) same placed is sum expects =
     (at, (subst (λ n. IsAt text n (errors.TooDeep line column)) (sum (placed tt).start.within) is, placed tt))
-placed_after depth text part front at whole stops.TooDeep (errors.DuplicateName line column) same placed is sum = absurd same
-placed_after depth text part front at whole stops.TooDeep (errors.Emitter returned) same placed is sum = absurd same
-placed_after depth text part front at whole stops.NameAgain (errors.NotJson line column) same placed is sum = absurd same
-placed_after depth text part front at whole stops.NameAgain (errors.Marked line column) same placed is sum = absurd same
-placed_after depth text part front at whole stops.NameAgain (errors.TooDeep line column) same placed is sum = absurd same
-placed_after depth text part front at whole stops.NameAgain (errors.DuplicateName line column) same placed is sum =
+placed_after depth text part front at whole stops.TooDeep (errors.DuplicateName line column) same placed is sum expects = absurd same
+placed_after depth text part front at whole stops.TooDeep (errors.Emitter returned) same placed is sum expects = absurd same
+placed_after depth text part front at whole stops.NameAgain (errors.NotJson line column says) same placed is sum expects = absurd same
+placed_after depth text part front at whole stops.NameAgain (errors.Marked line column) same placed is sum expects = absurd same
+placed_after depth text part front at whole stops.NameAgain (errors.TooDeep line column) same placed is sum expects = absurd same
+placed_after depth text part front at whole stops.NameAgain (errors.DuplicateName line column) same placed is sum expects =
     (at, (subst (λ n. IsAt text n (errors.DuplicateName line column)) (sum (placed tt).start.within) is, placed tt))
-placed_after depth text part front at whole stops.NameAgain (errors.Emitter returned) same placed is sum = absurd same
-placed_after depth text part front at whole stops.Memory (errors.NotJson line column) same placed is sum = absurd same
-placed_after depth text part front at whole stops.Memory (errors.Marked line column) same placed is sum = absurd same
-placed_after depth text part front at whole stops.Memory (errors.TooDeep line column) same placed is sum = absurd same
-placed_after depth text part front at whole stops.Memory (errors.DuplicateName line column) same placed is sum = absurd same
-placed_after depth text part front at whole stops.Memory (errors.Emitter returned) same placed is sum = (0, (tt, tt))
-placed_after depth text part front at whole stops.Failed (errors.NotJson line column) same placed is sum = absurd same
-placed_after depth text part front at whole stops.Failed (errors.Marked line column) same placed is sum = absurd same
-placed_after depth text part front at whole stops.Failed (errors.TooDeep line column) same placed is sum = absurd same
-placed_after depth text part front at whole stops.Failed (errors.DuplicateName line column) same placed is sum = absurd same
-placed_after depth text part front at whole stops.Failed (errors.Emitter returned) same placed is sum = (0, (tt, tt))
+placed_after depth text part front at whole stops.NameAgain (errors.Emitter returned) same placed is sum expects = absurd same
+placed_after depth text part front at whole stops.Memory (errors.NotJson line column says) same placed is sum expects = absurd same
+placed_after depth text part front at whole stops.Memory (errors.Marked line column) same placed is sum expects = absurd same
+placed_after depth text part front at whole stops.Memory (errors.TooDeep line column) same placed is sum expects = absurd same
+placed_after depth text part front at whole stops.Memory (errors.DuplicateName line column) same placed is sum expects = absurd same
+placed_after depth text part front at whole stops.Memory (errors.Emitter returned) same placed is sum expects = (0, (tt, tt))
+placed_after depth text part front at whole stops.Failed (errors.NotJson line column says) same placed is sum expects = absurd same
+placed_after depth text part front at whole stops.Failed (errors.Marked line column) same placed is sum expects = absurd same
+placed_after depth text part front at whole stops.Failed (errors.TooDeep line column) same placed is sum expects = absurd same
+placed_after depth text part front at whole stops.Failed (errors.DuplicateName line column) same placed is sum expects = absurd same
+placed_after depth text part front at whole stops.Failed (errors.Emitter returned) same placed is sum expects = (0, (tt, tt))
 
 -- in a text before which none came
 pub placed_first : (depth : ℕ) (text : List ℕ) (at : ℕ) (error : JsonError) → IsAt text at error → IsPlaced depth text at error

@@ -50,7 +50,7 @@ IsAnswer (Err error) (Ok done) = ⊥
 IsAnswer (Err error) (Err stop) = TellsOf error stop
 
 abbrev pub writers_error : JsonError → Option yaml_error_t
-writers_error (errors.NotJson line column) = None
+writers_error (errors.NotJson line column says) = None
 writers_error (errors.Marked line column) = None
 writers_error (errors.TooDeep line column) = None
 writers_error (errors.DuplicateName line column) = None

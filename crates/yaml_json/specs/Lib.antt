@@ -10,6 +10,7 @@ pub mod Ahead
 pub mod Reached
 pub mod Wrote
 pub mod Begins
+pub mod Expected
 pub mod Refused
 pub mod Failing
 pub mod Names

@@ -7,6 +7,7 @@ use Rattle.json.specs.Strict.{HasUniqueKeys}
 use Rattle.json.specs.Tree.{depth as nesting, json_tokens}
 use Rattle.yaml_base.specs.values.LinesAndColumns.{column_of, line_of}
 use Rattle.yaml_json.specs.Ahead.{IsTrimmed}
+use Rattle.yaml_json.specs.Expected.{expected_at}
 use Rattle.yaml_json.specs.Lexing.{MayBegin, mode_over}
 use Rattle.yaml_json.specs.Texts.{texts_in}
 use Rattle.yaml_json.specs.declared.error.JsonError.{JsonError}
@@ -21,7 +22,7 @@ AreOf text at line column = (line ≡ line_of text at) × (column ≡ column_of 
 
 -- the error, where it has a place, is at this offset of the text
 abbrev pub IsAt : (text : List ℕ) → (at : ℕ) → JsonError → Type 0
-IsAt text at (errors.NotJson line column) = AreOf text at line column
+IsAt text at (errors.NotJson line column says) = AreOf text at line column
 IsAt text at (errors.Marked line column) = AreOf text at line column
 IsAt text at (errors.TooDeep line column) = AreOf text at line column
 IsAt text at (errors.DuplicateName line column) = AreOf text at line column
@@ -61,9 +62,9 @@ abbrev pub IsWithinDepth : (depth : ℕ) → Json → Type 0
 IsWithinDepth depth json = nesting json ≤ depth
 
 -- the error is at the first lexeme that can't stand where it stands, or at the text's end: of any value; of one that nests at most
--- `depth` deep; of one whose objects have each name once
+-- `depth` deep; of one whose objects have each name once. Of no JSON it says what could stand there
 abbrev pub IsPlaced : (depth : ℕ) → (text : List ℕ) → (at : ℕ) → JsonError → Type 0
-IsPlaced depth text at (errors.NotJson line column) = CannotStandAt IsAny text at
+IsPlaced depth text at (errors.NotJson line column says) = CannotStandAt IsAny text at × (says ≡ expected_at text at)
 IsPlaced depth text at (errors.Marked line column) = CannotStandAt IsAny text at
 IsPlaced depth text at (errors.TooDeep line column) = CannotStandAt (IsWithinDepth depth) text at
 IsPlaced depth text at (errors.DuplicateName line column) = CannotStandAt HasUniqueKeys text at

@@ -28,7 +28,7 @@ RefusesText (Err stop) = IsByText stop
 
 -- an error that isn't the writer's
 abbrev pub IsOfText : JsonError → Type 0
-IsOfText (errors.NotJson line column) = Unit {0}
+IsOfText (errors.NotJson line column says) = Unit {0}
 IsOfText (errors.Marked line column) = Unit {0}
 IsOfText (errors.TooDeep line column) = Unit {0}
 IsOfText (errors.DuplicateName line column) = Unit {0}
@@ -36,7 +36,7 @@ IsOfText (errors.Emitter error) = ⊥
 
 -- an error by which the text isn't JSON nested at most `depth` deep
 abbrev pub DeniesJson : JsonError → Type 0
-DeniesJson (errors.NotJson line column) = Unit {0}
+DeniesJson (errors.NotJson line column says) = Unit {0}
 DeniesJson (errors.Marked line column) = Unit {0}
 DeniesJson (errors.TooDeep line column) = Unit {0}
 DeniesJson (errors.DuplicateName line column) = ⊥
@@ -125,7 +125,7 @@ is_marked text = starts_with nat_eq text (239 ∷ 187 ∷ 191 ∷ [])
 -- what an error says of the text: that it breaks off, without a byte order mark at its start or with one; that it opens too many
 -- arrays and objects; that a name comes twice
 abbrev pub ExplainsError : (depth : ℕ) → (unique : Bool) → (text : List ℕ) → JsonError → Type 0
-ExplainsError depth unique text (errors.NotJson line column) = BreaksOff depth unique (tokens text) × (is_marked text ≡ false)
+ExplainsError depth unique text (errors.NotJson line column says) = BreaksOff depth unique (tokens text) × (is_marked text ≡ false)
 ExplainsError depth unique text (errors.Marked line column) = BreaksOff depth unique (tokens text) × (is_marked text ≡ true)
 ExplainsError depth unique text (errors.TooDeep line column) = OpensTooDeep depth unique (tokens text)
 ExplainsError depth unique text (errors.DuplicateName line column) = NamesTwice depth unique (tokens text)
@@ -134,7 +134,7 @@ ExplainsError depth unique text (errors.Emitter error) = Unit {0}
 -- what it says of the tokens of the text that were taken, and of those ahead; where it is the writer's, some value nested at most
 -- `depth` deep begins with the tokens that were taken
 abbrev pub StopsAt : (depth : ℕ) → (unique : Bool) → (text : List ℕ) → (taken left : List Token) → JsonError → Type 0
-StopsAt depth unique text taken left (errors.NotJson line column) = BreaksAt depth unique taken left × (is_marked text ≡ false)
+StopsAt depth unique text taken left (errors.NotJson line column says) = BreaksAt depth unique taken left × (is_marked text ≡ false)
 StopsAt depth unique text taken left (errors.Marked line column) = BreaksAt depth unique taken left × (is_marked text ≡ true)
 StopsAt depth unique text taken left (errors.TooDeep line column) = OpensTooDeepAt depth unique taken left
 StopsAt depth unique text taken left (errors.DuplicateName line column) = NamesTwiceAt depth unique taken left

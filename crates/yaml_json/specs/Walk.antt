@@ -381,7 +381,7 @@ pub record WalkProgress (depth : ℕ) (in_flow : Bool) (start : List Token) (was
 
 -- the error says what the stop does of the text
 abbrev pub MatchesStop : (text : List ℕ) → Stop → JsonError → Type 0
-MatchesStop text (stops.NotJson spot) (errors.NotJson line column) = is_marked text ≡ false
+MatchesStop text (stops.NotJson spot) (errors.NotJson line column says) = is_marked text ≡ false
 MatchesStop text (stops.NotJson spot) (errors.Marked line column) = is_marked text ≡ true
 MatchesStop text stops.TooDeep (errors.TooDeep line column) = Unit {0}
 MatchesStop text stops.NameAgain (errors.DuplicateName line column) = Unit {0}

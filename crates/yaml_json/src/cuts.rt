@@ -34,13 +34,13 @@ pub(crate) struct Scan {
     pub(crate) levels: usize,
 }
 
-fn opens(byte: u8) -> bool
+pub(crate) fn opens(byte: u8) -> bool
     ensures { result ≡ is_opener byte }
 {
     (byte == b'{') | (byte == b'[')
 }
 
-fn closes(byte: u8) -> bool
+pub(crate) fn closes(byte: u8) -> bool
     ensures { result ≡ is_closer byte }
 {
     (byte == b'}') | (byte == b']')

@@ -1,4 +1,5 @@
 //! Why a text isn't written as YAML.
+use crate::expecting::Expected;
 use std::io;
 use thiserror::Error;
 use yaml_writer::yaml_error_t;
@@ -7,18 +8,32 @@ use yaml_writer::yaml_error_t;
 #[derive(Clone, Copy, Debug, Drop, Error, PartialEq, Eq)]
 pub enum JsonError {
     /// The text is no JSON. The first bracket, string, word, comma or colon that can't stand where it stands begins here; where the
-    /// text ends too early, this is its end. Lines end with LF, and both numbers count from 1, columns in characters.
-    #[error("line {line}, column {column}: not JSON")]
-    NotJson { line: usize, column: usize },
+    /// text ends too early, this is its end. Lines end with LF, and both numbers count from 1, columns in characters. It says what could
+    /// stand there, by the bytes before.
+    #[error("line {line}, column {column}: {expected}")]
+    NotJson {
+        line: usize,
+        column: usize,
+        expected: Expected,
+    },
     /// The text is no JSON, since a byte order mark begins it, here.
     #[error("line {line}, column {column}: a byte order mark")]
-    Marked { line: usize, column: usize },
+    Marked {
+        line: usize,
+        column: usize,
+    },
     /// Arrays and objects nest deeper than was allowed. The first that lies too deep begins here.
     #[error("line {line}, column {column}: arrays and objects nest too deep")]
-    TooDeep { line: usize, column: usize },
+    TooDeep {
+        line: usize,
+        column: usize,
+    },
     /// An object has a name twice, and each was to come once. The second begins here.
     #[error("line {line}, column {column}: a name that comes twice in its object")]
-    DuplicateName { line: usize, column: usize },
+    DuplicateName {
+        line: usize,
+        column: usize,
+    },
     /// The bytes pass the limit (`WriteError`), or an allocation failed (`Memory`). Where more than 1,000,000 levels were allowed,
     /// the emitter refuses what lies deeper than that (`TooDeep`).
     #[error("{0}")]

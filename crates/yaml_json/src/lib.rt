@@ -5,6 +5,7 @@
 mod cuts;
 mod error;
 mod escapes;
+mod expecting;
 mod laws;
 mod lexemes;
 mod names;
@@ -19,6 +20,7 @@ mod words;
 
 pub use cuts::text_around;
 pub use error::{JsonError, StreamError};
+pub use expecting::Expected;
 pub use laws::faults_differ;
 pub use settings::JsonSettings;
 pub use several::write_json_texts;

@@ -49,7 +49,7 @@ pub fn write_json_texts<A: Allocator + Copy>(
         let (first, more) = first_cut(rest);
         if let Err((stop, at)) = write_text_by(alloc, writer, first, &settings) {
             let before = text.len().saturating_sub(rest.len());
-            return Err(error_of(writer, text, before.saturating_add(at), first, stop));
+            return Err(error_of(writer, text, before.saturating_add(at), first, (stop, at)));
         }
         if more.is_empty() {
             return Ok(());

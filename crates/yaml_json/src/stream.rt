@@ -139,7 +139,7 @@ fn write_bytes<'a, A: Allocator + Copy>(
     };
     match write_text_in(room, writer, text, settings) {
         Ok(()) => Ok(()),
-        Err((stop, at)) => Err(StreamError::Refused(error_of(writer, text, at, text, stop))),
+        Err((stop, at)) => Err(StreamError::Refused(error_of(writer, text, at, text, (stop, at)))),
     }
 }
 
@@ -152,9 +152,19 @@ fn placed(error: StreamError, start: Place) -> StreamError
         → HasPlaceWithin depth front part result }
 {
     match error {
-        StreamError::Refused(JsonError::NotJson { line, column }) => {
+        StreamError::Refused(
+            JsonError::NotJson {
+                line,
+                column,
+                expected,
+            },
+        ) => {
             let (line, column) = start.and(line, column);
-            StreamError::Refused(JsonError::NotJson { line, column })
+            StreamError::Refused(JsonError::NotJson {
+                line,
+                column,
+                expected,
+            })
         }
         StreamError::Refused(JsonError::Marked { line, column }) => {
             let (line, column) = start.and(line, column);

@@ -1,6 +1,7 @@
 //! JSON texts as YAML.
 ghost use Rattle.std.specs.Prelude.{◌≡◌, OnOk, IfOk, IfErr, IfSome};
 ghost use Rattle.yaml_emitter.specs.Given.{seen_settings};
+ghost use Rattle.yaml_json.specs.Expected.{SaysExpected};
 ghost use Rattle.yaml_json.specs.Failing.{FailsBy, IsSound, failure_of, writers_error};
 ghost use Rattle.yaml_pen.specs.Wrote.{Grows};
 ghost use Rattle.yaml_json.specs.Nests.{AwaitsText};
@@ -12,6 +13,7 @@ ghost use Rattle.yaml_json.specs.WalkSteps.{TextStep};
 ghost use Rattle.yaml_json.specs.Wrote.{IsBare, IsYamlOf, WroteText};
 
 use crate::error::JsonError;
+use crate::expecting::expected_at;
 use crate::places::offset_of;
 use crate::settings::JsonSettings;
 use crate::tokens::Tokens;
@@ -31,25 +33,32 @@ fn is_marked(text: &str) -> bool
     text.as_bytes().starts_with(MARK)
 }
 
-/// The error that tells a caller of a stop in this part of a text, at this offset in the text.
+/// The error that tells a caller of a stop in this part of a text, at this offset in the text, and at that in the part.
 pub(crate) fn error_of<A: Allocator + Copy>(
     writer: &Writer<A>,
     text: &str,
     at: usize,
     part: &str,
-    stop: Stop,
+    stopped: (Stop, usize),
 ) -> JsonError
-    ensures says { MatchesStop part.now stop result }
-    ensures by_writer { writers_error result ≡ failure_of writer.now stop }
+    ensures says { MatchesStop part.now stopped.0 result }
+    ensures by_writer { writers_error result ≡ failure_of writer.now stopped.0 }
     ensures place { IsAt text.now at result }
+    ensures expected { SaysExpected part.now stopped.1 result }
 {
+    let (stop, offset) = stopped;
     match stop {
         Stop::NotJson(_) => {
             let (line, column) = place_of(text.as_bytes(), at);
             if is_marked(part) {
                 JsonError::Marked { line, column }
             } else {
-                JsonError::NotJson { line, column }
+                let expected = expected_at(part, offset);
+                JsonError::NotJson {
+                    line,
+                    column,
+                    expected,
+                }
             }
         }
         Stop::TooDeep => {
@@ -132,8 +141,8 @@ pub(crate) fn write_text_by<A: Allocator + Copy>(
 ///
 /// # Errors
 ///
-/// `NotJson` where the text isn't JSON up to the place that it names: a token that can't stand there, or the text's end. `Marked`
-/// in its place where the text begins with a byte order mark.
+/// `NotJson` where the text isn't JSON up to the place that it names: a token that can't stand there, or the text's end. It says what
+/// could stand there. `Marked` in its place where the text begins with a byte order mark.
 /// `TooDeep` where the text is JSON up to an array or an object that opens too deep, `DuplicateName` where it is JSON up to a key
 /// that its object has already and may have once. `Emitter` with the error of the writer's
 /// emitter, which has it now, or with `Memory` where an allocation fails. After an error the writer was given the events of the tokens
@@ -155,7 +164,7 @@ pub fn write_json<A: Allocator + Copy>(
 {
     match write_text_by(alloc, writer, text, &settings) {
         Ok(()) => Ok(()),
-        Err((stop, at)) => Err(error_of(writer, text, at, text, stop)),
+        Err((stop, at)) => Err(error_of(writer, text, at, text, (stop, at))),
     }
 }
 

@@ -76,7 +76,7 @@ returns-in-Err g c =
           c.texts.writer now c.first_cut.ensures c.texts.invariant.1 error
           (text_stopped s.depth s.unique_names s.flow first c.texts.writer now c.in-Err.stop error c.error_of.ensures.says failed.refused failed.failed)
           (placed_after s.depth c.args.text.now first before c.in-Err.at c.saturating_add.result c.in-Err.stop error c.error_of.ensures.says failed.place
-          c.error_of.ensures.place (λ within. grind (arith, joined, cut)));
+          c.error_of.ensures.place (λ within. grind (arith, joined, cut)) c.error_of.ensures.expected);
     }
 
 pub returns-in-Err-next_document : goal.returns-in-Err-next_document

@@ -64,6 +64,6 @@ returns-in-Err-write_text_in g c =
           failed.failed)
           (placed_first s.depth c.in-Ok.text.now c.in-Err-write_text_in.at error c.error_of.ensures.place
           (placed_as s.depth c.in-Ok.text.now c.in-Ok.text.now c.in-Err-write_text_in.at c.in-Err-write_text_in.stop error c.error_of.ensures.says
-          failed.place)));
+          failed.place c.error_of.ensures.expected)));
       grew = grew_said was now c.in-Err-write_text_in.stop (writers_error error) c.error_of.ensures.by_writer failed.kept;
     }

@@ -18,7 +18,14 @@ returns-in-Err g c =
       refused = why_no_json s.depth s.unique_names text error
           (explained s.depth s.unique_names s.flow text c.args.writer.now c.write_text_by.new.writer error stopped);
       stopped = stopped;
-      place = (c.in-Err.at, (c.error_of.ensures.place, placed_as s.depth text text c.in-Err.at c.in-Err.stop error c.error_of.ensures.says failed.place));
+      place = (
+        c.in-Err.at,
+        (
+          c.error_of.ensures.place,
+          placed_as s.depth text text c.in-Err.at c.in-Err.stop error c.error_of.ensures.says failed.place
+              c.error_of.ensures.expected,
+        ),
+      );
     }
 
 pub returns-in-Ok : goal.returns-in-Ok

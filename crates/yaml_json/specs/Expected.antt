@@ -1,0 +1,164 @@
+-- What could stand where a text breaks off, by the bytes before: by what stands last, and by the innermost bracket that is open.
+use Rattle.std.specs.Prelude.{◌≡◌, ℕ, Bool, true, false, ◌==◌, ◌&&◌, nat_le, Option, None, Some, List, [], ◌∷◌, codes, drop, length, suc, take, if◌then◌else◌}
+use Rattle.json.specs.Ascii as ascii
+use Rattle.json.specs.Word.{is_space}
+use Rattle.yaml_emitter.specs.declared.place.CollectionKind.{CollectionKind}
+use Rattle.yaml_emitter.specs.declared.place.CollectionKind.TheVariants.{Mapping, Sequence}
+use Rattle.yaml_json.specs.Texts.{is_closer, is_opener}
+use Rattle.yaml_json.specs.declared.error.JsonError.{JsonError}
+use Rattle.yaml_json.specs.declared.error.JsonError.TheVariants as errors
+use Rattle.yaml_json.specs.declared.expecting.Depth.{Depth}
+use Rattle.yaml_json.specs.declared.expecting.Expected.{Expected}
+use Rattle.yaml_json.specs.declared.expecting.Expected.TheVariants as expected
+use Rattle.yaml_json.specs.declared.expecting.Front.{Front}
+use Rattle.yaml_json.specs.declared.expecting.Last.{Last}
+use Rattle.yaml_json.specs.declared.expecting.Last.TheVariants.{Nothing, Opener, Comma, Colon, First, Value}
+use Rattle.yaml_json.specs.declared.expecting.Quoting.{Quoting}
+use Rattle.yaml_json.specs.declared.expecting.Quoting.TheVariants.{Outside, Inside, Escaped}
+
+-- ---- where a text is after some of its bytes
+
+-- within a string or not; what stands last; which brackets are open, the innermost first
+pub record Standing : Type 0 where
+  pub quoting : Quoting
+  pub last : Last
+  pub kinds : List CollectionKind
+
+abbrev pub start : Standing
+start = record { quoting = Outside; last = Nothing; kinds = [] }
+
+-- a string ends with the quote that no backslash stands before
+abbrev pub quoting_after : Quoting → ℕ → Quoting
+quoting_after Outside byte = if byte == ascii.quote then Inside else Outside
+quoting_after Inside byte = if byte == ascii.backslash then Escaped else (if byte == ascii.quote then Outside else Inside)
+quoting_after Escaped byte = Inside
+
+-- after a byte of a string or of a word
+abbrev pub begun : Last → Last
+begun Nothing = Value
+begun Opener = First
+begun Comma = First
+begun Colon = Value
+begun First = First
+begun Value = Value
+
+-- blanks change nothing
+abbrev pub last_after : Last → ℕ → Last
+last_after last byte =
+    if is_space byte then last
+    else (if is_opener byte then Opener
+    else (if is_closer byte then Value
+    else (if byte == ascii.comma then Comma
+    else (if byte == ascii.colon then Colon else begun last))))
+
+abbrev pub kind_opened : ℕ → Option CollectionKind
+kind_opened byte = if byte == ascii.open_bracket then Some Sequence else (if byte == ascii.open_brace then Some Mapping else None)
+
+abbrev pub open_by : Option CollectionKind → (closes : Bool) → List CollectionKind → List CollectionKind
+open_by (Some kind) closes kinds = kind ∷ kinds
+open_by None true kinds = drop 1 kinds
+open_by None false kinds = kinds
+
+abbrev pub open_after : List CollectionKind → ℕ → List CollectionKind
+open_after kinds byte = open_by (kind_opened byte) (is_closer byte) kinds
+
+-- within a string brackets, commas and colons are text
+abbrev pub standing_by : Quoting → Standing → ℕ → Standing
+standing_by Outside standing byte =
+    record { quoting = quoting_after Outside byte; last = last_after standing.last byte; kinds = open_after standing.kinds byte }
+standing_by quoting standing byte = record standing { quoting = quoting_after quoting byte }
+
+abbrev pub standing_after : Standing → ℕ → Standing
+standing_after standing byte = standing_by standing.quoting standing byte
+
+abbrev pub standing_over : Standing → List ℕ → Standing
+standing_over standing [] = standing
+standing_over standing (byte ∷ bytes) = standing_over (standing_after standing byte) bytes
+
+-- ---- what could stand there
+
+abbrev pub innermost : List CollectionKind → Option CollectionKind
+innermost [] = None
+innermost (kind ∷ outer) = Some kind
+
+-- after a value
+abbrev pub after_value : Option CollectionKind → Expected
+after_value None = expected.End
+after_value (Some Sequence) = expected.CommaOrBracket
+after_value (Some Mapping) = expected.CommaOrBrace
+
+-- after the first string or word behind a bracket or a comma: in an object it is a name
+abbrev pub after_first : Option CollectionKind → Expected
+after_first (Some Mapping) = expected.Colon
+after_first kind = after_value kind
+
+abbrev pub after_comma : Option CollectionKind → Expected
+after_comma (Some Mapping) = expected.Name
+after_comma kind = expected.Value
+
+abbrev pub after_opener : Option CollectionKind → Expected
+after_opener (Some Mapping) = expected.NameOrEnd
+after_opener kind = expected.ItemOrEnd
+
+abbrev pub expected_by : Last → Option CollectionKind → Expected
+expected_by Nothing kind = expected.Value
+expected_by Opener kind = after_opener kind
+expected_by Comma kind = after_comma kind
+expected_by Colon kind = expected.Value
+expected_by First kind = after_first kind
+expected_by Value kind = after_value kind
+
+abbrev pub is_nothing : Last → Bool
+is_nothing Nothing = true
+is_nothing Opener = false
+is_nothing Comma = false
+is_nothing Colon = false
+is_nothing First = false
+is_nothing Value = false
+
+-- a text that has ended, and is blank, is none
+abbrev pub expected_of : Standing → (ended : Bool) → Expected
+expected_of standing ended =
+    if is_nothing standing.last && ended then expected.Text else expected_by standing.last (innermost standing.kinds)
+
+-- what could stand at an offset of a text
+abbrev pub expected_at : (text : List ℕ) → (at : ℕ) → Expected
+expected_at text at = expected_of (standing_over start (take at text)) (nat_le (length text) at)
+
+-- where the text is no JSON, the error says so
+abbrev pub SaysExpected : (text : List ℕ) → (at : ℕ) → JsonError → Type 0
+SaysExpected text at (errors.NotJson line column says) = says ≡ expected_at text at
+SaysExpected text at (errors.Marked line column) = Unit {0}
+SaysExpected text at (errors.TooDeep line column) = Unit {0}
+SaysExpected text at (errors.DuplicateName line column) = Unit {0}
+SaysExpected text at (errors.Emitter error) = Unit {0}
+
+-- in words
+abbrev pub words : Expected → List ℕ
+words expected.Text = codes "there is no JSON text"
+words expected.Value = codes "expected a value"
+words expected.ItemOrEnd = codes "expected a value or ']'"
+words expected.NameOrEnd = codes "expected a name or '}'"
+words expected.Name = codes "expected a name"
+words expected.Colon = codes "expected ':'"
+words expected.CommaOrBracket = codes "expected ',' or ']'"
+words expected.CommaOrBrace = codes "expected ',' or '}'"
+words expected.End = codes "expected the end of the text"
+words expected.Utf8 = codes "not UTF-8"
+
+-- ---- by counting
+
+-- the kind of the bracket that so many are open with, it among them
+abbrev pub kind_at : (deep : ℕ) → List CollectionKind → Option CollectionKind
+kind_at deep [] = None
+kind_at deep (kind ∷ outer) = if suc (length outer) == deep then Some kind else kind_at deep outer
+
+-- so many brackets are open, and one of them is of this kind
+pub record IsDepth (deep : ℕ) (kinds : List CollectionKind) (depth : Depth) : Type 0 where
+  pub count : depth.count ≡ length kinds
+  pub kind : depth.kind ≡ kind_at deep kinds
+
+pub record IsFront (deep : ℕ) (standing : Standing) (front : Front) : Type 0 where
+  pub quoting : front.quoting ≡ standing.quoting
+  pub last : front.last ≡ standing.last
+  pub depth : IsDepth deep standing.kinds front.depth

@@ -1,0 +1,308 @@
+//! What could stand where a JSON text breaks off, found in the bytes before. It is looked for where there is an error, and needs no
+//! memory: the open brackets are counted first, and then the last that makes as many is the innermost.
+ghost use Rattle.std.specs.Prelude.{◌≡◌, ◌+◌, ◌<◌, ◌≤◌, ◌^◌, List, None, Some, false, true};
+ghost use Rattle.yaml_json.specs.Expected as meaning;
+
+use crate::cuts::{closes, opens};
+use crate::words::is_blank;
+use std::fmt;
+use yaml_writer::CollectionKind;
+
+/// What could stand where a text breaks off.
+#[derive(Clone, Copy, Debug, Drop, PartialEq, Eq)]
+pub enum Expected {
+    /// A JSON text: there are blanks alone.
+    Text,
+    /// A value.
+    Value,
+    /// The first item of an array, or its end.
+    ItemOrEnd,
+    /// The first name of an object, or its end.
+    NameOrEnd,
+    /// A name.
+    Name,
+    /// A colon, after a name.
+    Colon,
+    /// A comma in an array, or its end.
+    CommaOrBracket,
+    /// A comma in an object, or its end.
+    CommaOrBrace,
+    /// Nothing: the value is whole.
+    End,
+    /// UTF-8, which callers that are given bytes expect.
+    Utf8,
+}
+
+impl Expected {
+    /// Returns what an error says.
+    pub fn words(self) -> &'static str
+        ensures { result.now ≡ meaning.words self }
+    {
+        match self {
+            Expected::Text => "there is no JSON text",
+            Expected::Value => "expected a value",
+            Expected::ItemOrEnd => "expected a value or ']'",
+            Expected::NameOrEnd => "expected a name or '}'",
+            Expected::Name => "expected a name",
+            Expected::Colon => "expected ':'",
+            Expected::CommaOrBracket => "expected ',' or ']'",
+            Expected::CommaOrBrace => "expected ',' or '}'",
+            Expected::End => "expected the end of the text",
+            Expected::Utf8 => "not UTF-8",
+        }
+    }
+}
+
+impl fmt::Display for Expected {
+    fn fmt<W: fmt::Write>(&self, f: &mut fmt::Formatter<W>) -> fmt::Result {
+        f.write_str(self.words())
+    }
+}
+
+/// Whether the next byte is one of a string.
+#[derive(Clone, Copy)]
+pub(crate) enum Quoting {
+    Outside,
+    Inside,
+    /// A backslash stands before it.
+    Escaped,
+}
+
+/// What stands last in some bytes of a text.
+#[derive(Clone, Copy)]
+pub(crate) enum Last {
+    /// Blanks alone.
+    Nothing,
+    /// A bracket that opens.
+    Opener,
+    Comma,
+    Colon,
+    /// The first string or word behind a bracket or a comma.
+    First,
+    /// What else a value ends with.
+    Value,
+}
+
+/// How many brackets are open, and of which kind the one is that makes as many as are asked for.
+#[derive(Clone, Copy)]
+pub(crate) struct Depth {
+    pub(crate) count: usize,
+    pub(crate) kind: Option<CollectionKind>,
+}
+
+/// Where a text is after some of its bytes.
+#[derive(Clone, Copy)]
+pub(crate) struct Front {
+    pub(crate) quoting: Quoting,
+    pub(crate) last: Last,
+    pub(crate) depth: Depth,
+}
+
+fn quoting_after(quoting: Quoting, byte: u8) -> Quoting
+    ensures { result ≡ meaning.quoting_after quoting byte }
+{
+    match quoting {
+        Quoting::Outside if byte == b'"' => Quoting::Inside,
+        Quoting::Outside => Quoting::Outside,
+        Quoting::Inside if byte == b'\\' => Quoting::Escaped,
+        Quoting::Inside if byte == b'"' => Quoting::Outside,
+        Quoting::Inside => Quoting::Inside,
+        Quoting::Escaped => Quoting::Inside,
+    }
+}
+
+/// After a byte of a string or of a word.
+fn begun(last: Last) -> Last
+    ensures { result ≡ meaning.begun last }
+{
+    match last {
+        Last::Opener | Last::Comma | Last::First => Last::First,
+        Last::Nothing | Last::Colon | Last::Value => Last::Value,
+    }
+}
+
+fn last_after(last: Last, byte: u8) -> Last
+    ensures { result ≡ meaning.last_after last byte }
+{
+    if is_blank(byte) {
+        last
+    } else if opens(byte) {
+        Last::Opener
+    } else if closes(byte) {
+        Last::Value
+    } else if byte == b',' {
+        Last::Comma
+    } else if byte == b':' {
+        Last::Colon
+    } else {
+        begun(last)
+    }
+}
+
+fn kind_opened(byte: u8) -> Option<CollectionKind>
+    ensures { result ≡ meaning.kind_opened byte }
+{
+    match byte {
+        b'[' => Some(CollectionKind::Sequence),
+        b'{' => Some(CollectionKind::Mapping),
+        _ => None,
+    }
+}
+
+/// One bracket more is open.
+fn deeper(depth: Depth, deep: usize, kind: CollectionKind) -> Depth
+    requires { depth.count + 1 < 2 ^ 64 }
+    ensures is { (kinds : List CollectionKind) → meaning.IsDepth deep kinds depth → meaning.IsDepth deep (meaning.open_by (Some kind) false kinds) result }
+    ensures few { result.count ≤ depth.count + 1 }
+{
+    let count = depth.count + 1;
+    if count == deep {
+        Depth {
+            count,
+            kind: Some(kind),
+        }
+    } else {
+        Depth {
+            count,
+            kind: depth.kind,
+        }
+    }
+}
+
+/// One fewer is.
+fn shallower(depth: Depth, deep: usize) -> Depth
+    ensures is { (kinds : List CollectionKind) → meaning.IsDepth deep kinds depth → meaning.IsDepth deep (meaning.open_by None true kinds) result }
+    ensures few { result.count ≤ depth.count + 1 }
+{
+    let count = depth.count.saturating_sub(1);
+    if depth.count == deep {
+        Depth { count, kind: None }
+    } else {
+        Depth {
+            count,
+            kind: depth.kind,
+        }
+    }
+}
+
+fn depth_after(depth: Depth, deep: usize, byte: u8) -> Depth
+    requires { depth.count + 1 < 2 ^ 64 }
+    ensures is { (kinds : List CollectionKind) → meaning.IsDepth deep kinds depth → meaning.IsDepth deep (meaning.open_after kinds byte) result }
+    ensures few { result.count ≤ depth.count + 1 }
+{
+    match kind_opened(byte) {
+        Some(kind) => deeper(depth, deep, kind),
+        None => {
+            if closes(byte) {
+                shallower(depth, deep)
+            } else {
+                depth
+            }
+        }
+    }
+}
+
+fn front_after(front: Front, deep: usize, byte: u8) -> Front
+    requires { front.depth.count + 1 < 2 ^ 64 }
+    ensures is { (standing : meaning.Standing) → meaning.IsFront deep standing front
+        → meaning.IsFront deep (meaning.standing_after standing byte) result }
+    ensures few { result.depth.count ≤ front.depth.count + 1 }
+{
+    let quoting = quoting_after(front.quoting, byte);
+    match front.quoting {
+        Quoting::Outside => Front {
+            quoting,
+            last: last_after(front.last, byte),
+            depth: depth_after(front.depth, deep, byte),
+        },
+        _ => Front {
+            quoting,
+            last: front.last,
+            depth: front.depth,
+        },
+    }
+}
+
+/// Returns where a text is after these bytes, and of which kind the bracket is that makes as many as `deep`.
+fn front_of(bytes: &[u8], deep: usize) -> Front
+    ensures { meaning.IsFront deep (meaning.standing_over meaning.start bytes.now) result }
+{
+    let mut front = Front {
+        quoting: Quoting::Outside,
+        last: Last::Nothing,
+        depth: Depth {
+            count: 0,
+            kind: None,
+        },
+    };
+    let mut at: usize = 0;
+    'bytes: while at < bytes.len() {
+        front = front_after(front, deep, bytes[at]);
+        at += 1;
+    }
+    front
+}
+
+fn after_value(kind: Option<CollectionKind>) -> Expected
+    ensures { result ≡ meaning.after_value kind }
+{
+    match kind {
+        None => Expected::End,
+        Some(CollectionKind::Sequence) => Expected::CommaOrBracket,
+        Some(CollectionKind::Mapping) => Expected::CommaOrBrace,
+    }
+}
+
+fn expected_in_object(last: Last) -> Expected
+    ensures { result ≡ meaning.expected_by last (Some CollectionKind.Mapping) }
+{
+    match last {
+        Last::Opener => Expected::NameOrEnd,
+        Last::Comma => Expected::Name,
+        Last::Nothing | Last::Colon => Expected::Value,
+        Last::First => Expected::Colon,
+        Last::Value => Expected::CommaOrBrace,
+    }
+}
+
+fn expected_by(last: Last, kind: Option<CollectionKind>) -> Expected
+    ensures { result ≡ meaning.expected_by last kind }
+{
+    if let Some(CollectionKind::Mapping) = kind {
+        return expected_in_object(last);
+    }
+    match last {
+        Last::Opener => Expected::ItemOrEnd,
+        Last::Nothing | Last::Comma | Last::Colon => Expected::Value,
+        Last::First | Last::Value => after_value(kind),
+    }
+}
+
+fn is_nothing(last: Last) -> bool
+    ensures { result ≡ meaning.is_nothing last }
+{
+    matches!(last, Last::Nothing)
+}
+
+/// Returns what could stand after these bytes of a text.
+fn expected_after(front: &[u8]) -> (Last, Expected)
+    ensures last { result.0 ≡ (meaning.standing_over meaning.start front.now).last }
+    ensures expected { result.1 ≡ meaning.expected_by result.0 (meaning.innermost (meaning.standing_over meaning.start front.now).kinds) }
+{
+    let deep = front_of(front, 0).depth.count;
+    let found = front_of(front, deep);
+    (found.last, expected_by(found.last, found.depth.kind))
+}
+
+/// Returns what could stand at an offset of a text.
+pub(crate) fn expected_at(text: &str, at: usize) -> Expected
+    ensures { result ≡ meaning.expected_at text.now at }
+{
+    let bytes = text.as_bytes();
+    let (last, expected) = expected_after(&bytes[..at.min(bytes.len())]);
+    if is_nothing(last) && at >= bytes.len() {
+        Expected::Text
+    } else {
+        expected
+    }
+}
