@@ -17,10 +17,7 @@ use yaml_program::{Messages, read_arguments, refuse_arguments, serve};
 fn main(rt: HostRuntime) -> ExitCode {
     let stdin = rt.stdin();
     let stderr = rt.stderr();
-    let mut faults = Messages {
-        words: &WORDS,
-        sink: io::writer(&stderr),
-    };
+    let mut faults = Messages::new(&WORDS, io::writer(&stderr));
     let status = match read_arguments(&rt) {
         Ok(words) => {
             let asked = conversion_of(rt.alloc(), words.as_slice());

@@ -13,6 +13,7 @@ use std::io::{ErrorKind, Write};
 fn tell_difference<W: Write>(name: &str, faults: &mut Messages<W>) -> u8
     ensures { result ≡ 1 }
 {
+    faults.end_line();
     let program = faults.words.name;
     let _reported = writeln!(&mut faults.sink, "{program}: {name} would be changed");
     1

@@ -1,5 +1,5 @@
 //! Each file, converted by itself to one beside it.
-ghost use Rattle.std.specs.Prelude.{◌≡◌, ◌≤◌, ◌++◌, IfOk, map};
+ghost use Rattle.std.specs.Prelude.{◌≡◌, ◌≤◌, ◌++◌, IfOk, false, map};
 ghost use Rattle.yaml_program.specs.Conversions.{ConvertsOne, EachIsDone, IsDoneBeside, names_of};
 
 use crate::arguments::Conversion;
@@ -71,6 +71,7 @@ fn convert_beside<'a, F: Format + Copy + Drop, S: Sources + AllocGlobal, W: Writ
     match stem_of(name, ending) {
         Some(stem) => convert_stem(rt, sources, conversion, (name, stem), faults),
         None => {
+            faults.end_line();
             let program = faults.words.name;
             let _reported = writeln!(
                 &mut faults.sink,
@@ -92,11 +93,16 @@ fn worse(first: u8, second: u8) -> u8
     if first < second { second } else { first }
 }
 
-/// Tells in the last line of a terminal how many files are done.
-fn tell_progress<W: Write>(done: usize, all: usize, faults: &mut Messages<W>) {
+/// Tells in the last line of a terminal how many files are done, and ends that line with the last of them.
+fn tell_progress<W: Write>(done: usize, all: usize, faults: &mut Messages<W>)
+    ensures { all ≤ done → faults.new.has_open_line ≡ false }
+{
     let program = faults.words.name;
-    let end = if done < all { "" } else { "\n" };
-    let _reported = write!(&mut faults.sink, "\r{program}: {done} of {all}{end}");
+    let _reported = write!(&mut faults.sink, "\r{program}: {done} of {all}");
+    faults.has_open_line = true;
+    if done >= all {
+        faults.end_line();
+    }
 }
 
 /// Converts these files, each to the one beside it.

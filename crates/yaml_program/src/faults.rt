@@ -1,5 +1,5 @@
 //! What goes wrong, what the program says of it, and its status.
-ghost use Rattle.std.specs.Prelude.{◌≡◌, ◌≤◌, IsOk};
+ghost use Rattle.std.specs.Prelude.{◌≡◌, ◌≤◌, IsOk, false};
 ghost use Rattle.yaml_program.specs.Faults as statuses;
 
 use crate::sources::STREAM;
@@ -59,6 +59,31 @@ pub const NO_MEMORY: Failure = Failure::Unwritten(yaml_error_t::Memory);
 pub struct Messages<W> {
     pub words: &'static Wording,
     pub sink: W,
+    /// A line that tells how far the program is stands unended.
+    pub(crate) has_open_line: bool,
+}
+
+impl<W: Write> Messages<W> {
+    /// Says it on this sink, on which no line has begun.
+    pub fn new(words: &'static Wording, sink: W) -> Self
+        ensures { result.has_open_line ≡ false }
+    {
+        Messages {
+            words,
+            sink,
+            has_open_line: false,
+        }
+    }
+
+    /// Ends the line that tells how far the program is, if it stands.
+    pub(crate) fn end_line(&mut self)
+        ensures { self.new.has_open_line ≡ false }
+    {
+        if self.has_open_line {
+            let _reported = writeln!(&mut self.sink);
+            self.has_open_line = false;
+        }
+    }
 }
 
 /// The program's status: 1 where a text isn't written as YAML, 3 where reading, writing or memory failed.
@@ -99,6 +124,7 @@ fn write_error<W: Write>(
     name: Option<&str>,
     faults: &mut Messages<W>,
 ) -> io::Result<()> {
+    faults.end_line();
     let program = faults.words.name;
     let sink = &mut faults.sink;
     if is_out_of_memory(error) {

@@ -5,7 +5,7 @@ use clap::{Arg, ArgAction, Command};
 use std::alloc::{AllocError, Global};
 
 const AFTER_HELP: &str =
-    "Status: 0 done, 1 a text is refused, 2 the arguments aren't understood, 3 reading, writing or memory failed.";
+    "Status: 0 done, 1 a text is refused or --check finds a difference, 2 the arguments aren't understood, 3 reading, writing or memory failed.";
 
 const OUTPUT_HELP: &str = "The file to write in place of standard output";
 
