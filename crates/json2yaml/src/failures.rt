@@ -21,9 +21,13 @@ pub fn failure_of(error: StreamError) -> Failure
     ensures { faults.status_of result ≡ statuses.status_of error }
 {
     match error {
-        StreamError::Refused(JsonError::NotJson { line, column }) => {
-            refused(line, column, "not JSON")
-        }
+        StreamError::Refused(
+            JsonError::NotJson {
+                line,
+                column,
+                expected,
+            },
+        ) => refused(line, column, expected.words()),
         StreamError::Refused(JsonError::Marked { line, column }) => {
             refused(line, column, "a byte order mark")
         }
