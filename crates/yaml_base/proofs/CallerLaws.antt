@@ -10,7 +10,7 @@ use Rattle.yaml_base.proofs.Common.{Brackets, square, curly, render_end, Role, a
 use Rattle.yaml_base.proofs.Common.{is_simple_scalar, is_simple_collection, render_flow_place, render_place, settings_for, text_written, bytes_written}
 use Rattle.yaml_base.proofs.Common.{list_layout, Encoding, Effective, effective, Frame, Stage, at_stream, at_document, at_node, at_document_end, next_place}
 use Rattle.yaml_base.proofs.Common.{stage_after, Stepped, leaf_step, frame_opened, start_step, step, ends_next, Steps, then_steps, steps, begins_no_plain}
-use Rattle.yaml_base.proofs.Common.{holds_no_plain, read_plain, is_empty, allowances, allowed_by_quotes, Choice, chosen}
+use Rattle.yaml_base.proofs.Common.{holds_no_plain, read_plain, is_empty, allowed_by_quotes, allowed_by_blanks, Choice, is_literal, chosen}
 use Rattle.std.proofs.lemmas.List.{take-take}
 use Rattle.yaml_base.{proofs.Decoding.decode-encode, proofs.StepLaws.stream_steps, proofs.Trees.tree_of-stream_events, specs.Decode.decode}
 use Rattle.yaml_base.{specs.Settings.escapes_separators, specs.Steps.is_first, specs.Steps.end_step, specs.Steps.node_step}
@@ -88,7 +88,9 @@ module _ (s : Effective) (e : Encoding) (limit : ℕ) (breaks12 : Bool) (same : 
 
   choice_other : (place : Place) (simple : Bool) (content : Scalar) → choice_of other place simple content ≡ choice_of s place simple content
   choice_other place simple content =
-      ap (λ (special : Bool). chosen (allowed_by_quotes s.double_quotes (allowances (record { unicode = s.unicode; breaks12 = special }) content.value))
+      ap (λ (special : Bool). chosen
+      (allowed_by_quotes s.double_quotes
+      (allowed_by_blanks (is_literal content.style && s.literal_blanks) (record { unicode = s.unicode; breaks12 = special }) content.value))
       (style_asked_at s place content) (is_empty content.value) (is_some (scalar_tag s.canonical content))
       content.plain_implicit content.quoted_implicit place.in_flow simple s.canonical)
       same

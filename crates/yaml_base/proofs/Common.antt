@@ -46,7 +46,7 @@ pub use Rattle.yaml_base.specs.Layout.{is_simple_scalar, render_document_start, 
 pub use Rattle.yaml_base.specs.Layout.{is_simple, document_end_piece, render_properties, root_place, render_alias, render_document, is_simple_at, flow_break}
 pub use Rattle.yaml_base.specs.Layout.{render_separation, has_no_documents, opening_or_comma, render_body, render_documents, key_indicator, render_flow_place}
 pub use Rattle.yaml_base.specs.Layout.{first_standing, stream_end_piece, open_ended_after, charset_of, style_asked_at, choice_of, layout, body_at, render_place}
-pub use Rattle.yaml_base.specs.Layout.{start_piece, allowed_by_quotes, allowed_under}
+pub use Rattle.yaml_base.specs.Layout.{start_piece, allowed_by_quotes, allowed_by_blanks, allowed_under}
 pub use Rattle.yaml_base.specs.Layout.{asks_flow, is_written_in_flow, Brackets, square, curly, empty_or_comma, render_end, entry_place, render_node}
 pub use Rattle.yaml_base.specs.Layout.{render_nodes, render_pairs}
 pub use Rattle.yaml_base.specs.LineBreaks.{break_text, with_breaks_written, with_line_breaks_read, is_read_break, is_rendered_text, is_indented_text}
@@ -88,12 +88,13 @@ pub use Rattle.yaml_base.specs.reading.ReadPlain.{read_plain}
 pub use Rattle.yaml_base.specs.reading.ReadTags.{ParsedTag, bare_parsed, name_parsed, CutText, prefix_among, directives_assumed, cut_after_exclamation}
 pub use Rattle.yaml_base.specs.reading.ReadTags.{name_joined, without_closing_angle, tag_parsed}
 pub use Rattle.yaml_base.specs.reading.TidyText.{begins_with_spaces, begins_with_blank_line, begins_with_deep_line, has_deep_lines, has_no_space_before_break}
-pub use Rattle.yaml_base.specs.reading.TidyText.{ends_white, has_clean_edges, is_tidy_style, is_tidy}
+pub use Rattle.yaml_base.specs.reading.TidyText.{ends_white, has_clean_edges, is_tidy_style, is_tidy_character, is_tidy}
 pub use Rattle.yaml_base.specs.scalars.Analysis.{Charset, Allowances, somewhere, is_empty, is_special, bars_block, allows_block, allowances}
+pub use Rattle.yaml_base.specs.scalars.Analysis.{is_special_but_tab, is_blank_to_line_end, begins_with_blanks_alone, bars_literal, allows_literal}
 pub use Rattle.yaml_base.specs.scalars.BlockHeader.{ending, indentation_hint, ending_hint, render_hint, ends_in_break}
 pub use Rattle.yaml_base.specs.scalars.DoubleQuoted.{short_escapes, letter_among, escape_after_backslash, escape_text, needs_escape, character_text}
 pub use Rattle.yaml_base.specs.scalars.DoubleQuoted.{double_inside, render_quote}
-pub use Rattle.yaml_base.specs.scalars.Style.{Choice, lacks_tag_and_flags, is_plain, is_block, requested_style, quoted_style, fitting_style, fits_plain, chosen}
+pub use Rattle.yaml_base.specs.scalars.Style.{Choice, lacks_tag_and_flags, is_plain, is_block, is_literal, requested_style, quoted_style, fitting_style, fits_plain, chosen}
 pub use Rattle.yaml_base.specs.streams.StreamContent.{Stood, stood_plain, stood_quoted, stood_bare, Tagging, with_tag, without_tag, Tree, alias_tree}
 pub use Rattle.yaml_base.specs.streams.StreamContent.{scalar_tree, Trees, sequence_tree, TreePairs, mapping_tree, no_trees, trees_and, no_tree_pairs}
 pub use Rattle.yaml_base.specs.streams.StreamContent.{tree_pairs_and, DocumentTree, document_agrees, documents_in_order, agrees}
@@ -111,6 +112,7 @@ pub use Rattle.yaml_base.specs.streams.StreamLines.{begins_blank, ends_indicator
 pub use Rattle.yaml_base.specs.streams.StreamLines.{indented_step, indented, spaces, blanked}
 pub use Rattle.yaml_base.specs.streams.StreamNodes.{SimpleKey, without_last_space, word_but_alias, word_of_alias, key_of_text, key_ends, key_from}
 pub use Rattle.yaml_base.specs.streams.StreamNodes.{key_of_line, Reads, key_entry, value_entry, simple_entry, prepend_to_trimmed, trimmed, word_text}
+pub use Rattle.yaml_base.specs.streams.StreamNodes.{is_space_or_break}
 pub use Rattle.yaml_base.specs.streams.StreamNodes.{kind_of_text, text_by_kind, text_read, NodeKind, begins_sequence, begins_mapping, begins_text}
 pub use Rattle.yaml_base.specs.streams.StreamNodes.{kind_of_node, ReadsText, node_by_kind, node_at, node_lines, begins_properties, after_properties}
 pub use Rattle.yaml_base.specs.streams.StreamNodes.{text_or_properties, node_read}

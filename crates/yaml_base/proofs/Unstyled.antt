@@ -19,12 +19,12 @@ unstyled event = event
 
 -- ---- scalars
 
-chosen_canonical : (allowed : Allowances) (asked other : ScalarStyle) (empty tag_written plain_implicit quoted_implicit in_flow simple canonical : Bool)
+chosen_canonical : (allowed others : Allowances) (asked other : ScalarStyle) (empty tag_written plain_implicit quoted_implicit in_flow simple canonical : Bool)
     → canonical ≡ true
     → chosen allowed asked empty tag_written plain_implicit quoted_implicit in_flow simple canonical
-    ≡ chosen allowed other empty tag_written plain_implicit quoted_implicit in_flow simple canonical
-chosen_canonical allowed asked other empty tag_written plain_implicit quoted_implicit in_flow simple true on = refl
-chosen_canonical allowed asked other empty tag_written plain_implicit quoted_implicit in_flow simple false on = cc
+    ≡ chosen others other empty tag_written plain_implicit quoted_implicit in_flow simple canonical
+chosen_canonical allowed others asked other empty tag_written plain_implicit quoted_implicit in_flow simple true on = refl
+chosen_canonical allowed others asked other empty tag_written plain_implicit quoted_implicit in_flow simple false on = cc
 
 scalar_unstyled : (s : Effective) → s.canonical ≡ true → (directives : List TagDirective) (frames : List Frame) (content : Scalar) (empty : Bool)
     (standing : Standing)

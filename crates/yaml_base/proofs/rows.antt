@@ -29,6 +29,7 @@ pub mod RowsStreamLaw
 pub mod RowsPortable
 mod RowsIndentedSequences
 mod RowsQuotes
+mod RowsLiteralBlanks
 mod RowsWrittenTexts
 mod RowsSchema
 mod RowsSurelyText

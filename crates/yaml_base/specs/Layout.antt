@@ -17,7 +17,7 @@ pub use Rattle.yaml_base.specs.NodeLayout.{one_piece}
 pub use Rattle.yaml_base.specs.NodeLayout.{then_pieces, piece_without_body, render_anchor, render_handle, render_spelling, render_tag}
 pub use Rattle.yaml_base.specs.NodeLayout.{render_properties, render_alias}
 pub use Rattle.yaml_base.specs.NodeLayout.{render_separation, render_body, open_ended_after, charset_of, style_asked_at, choice_of, scalar_lead, body_at}
-pub use Rattle.yaml_base.specs.NodeLayout.{allowed_by_quotes, allowed_under}
+pub use Rattle.yaml_base.specs.NodeLayout.{allowed_by_quotes, allowed_by_blanks, allowed_under}
 pub use Rattle.yaml_base.specs.NodeLayout.{scalar_piece}
 pub use Rattle.yaml_base.specs.NodeLayout.{alias_piece, start_piece}
 pub use Rattle.yaml_base.specs.NodeLayout.{asks_flow, is_written_in_flow, Brackets, square, curly, empty_or_comma, render_end, end_piece, entry_place}

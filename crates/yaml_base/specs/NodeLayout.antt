@@ -9,8 +9,8 @@ use Rattle.yaml_base.specs.Indicators as indicators
 use Rattle.yaml_base.specs.Event.{ScalarStyle, plain, single_quoted, double_quoted, literal, folded, CollectionStyle, flow, TagDirective, Scalar, Collection}
 use Rattle.yaml_base.specs.Percent.{percent_escaped, suffix_escaped}
 use Rattle.yaml_base.specs.Tags.{Spelling, shorthand, verbatim, spelling}
-use Rattle.yaml_base.specs.scalars.Analysis.{Allowances, Charset, is_empty, allowances}
-use Rattle.yaml_base.specs.scalars.Style.{Choice, is_block, chosen}
+use Rattle.yaml_base.specs.scalars.Analysis.{Allowances, Charset, is_empty, allows_block, allows_literal, allowances}
+use Rattle.yaml_base.specs.scalars.Style.{Choice, is_block, is_literal, chosen}
 use Rattle.yaml_base.specs.scalars.Plain.{plain_body}
 use Rattle.yaml_base.specs.scalars.SingleQuoted.{single_quoted_body}
 use Rattle.yaml_base.specs.scalars.DoubleQuoted.{double_quoted_body}
@@ -163,8 +163,15 @@ charset_of s = record { unicode = s.unicode; breaks12 = escapes_separators s }
 abbrev pub allowed_by_quotes : (double_quotes : Bool) → Allowances → Allowances
 allowed_by_quotes double_quotes allowed = record allowed { single_quoted = not double_quotes && allowed.single_quoted }
 
-abbrev pub allowed_under : Effective → Text → Allowances
-allowed_under s value = allowed_by_quotes s.double_quotes (allowances (charset_of s) value)
+-- where blanks are literal, what literal takes then counts for block styles (this project)
+abbrev pub allowed_by_blanks : (blanks : Bool) → Charset → Text → Allowances
+allowed_by_blanks blanks charset value =
+    record (allowances charset value) { block = if blanks then allows_literal charset value else allows_block charset value }
+
+-- what a scalar's value allows under the settings; blanks are literal only where literal is asked for
+abbrev pub allowed_under : Effective → Scalar → Allowances
+allowed_under s content =
+    allowed_by_quotes s.double_quotes (allowed_by_blanks (is_literal content.style && s.literal_blanks) (charset_of s) content.value)
 
 -- the style that is asked for at a place: in portable mode a root asks for double quotes in place of a block style whose
 -- header would have a digit, since readers of YAML 1.2 count that digit in two ways (this project)
@@ -177,7 +184,7 @@ style_asked_at s place content =
 abbrev pub choice_of : Effective → Place → (simple : Bool) → Scalar → Choice
 choice_of s place simple content =
     chosen
-    (allowed_under s content.value)
+    (allowed_under s content)
     (style_asked_at s place content) (is_empty content.value) (is_some (scalar_tag s.canonical content))
     content.plain_implicit content.quoted_implicit (place.in_flow) simple s.canonical
 

@@ -33,6 +33,7 @@ pub record Settings : Type 0 where
   pub breaks12 : Bool
   pub portable : Bool
   pub indented_sequences : Bool
+  pub literal_blanks : Bool
   pub limit : ℕ
 
 -- the settings before any setter is called
@@ -49,6 +50,7 @@ nothing_given =
       breaks12 = false;
       portable = false;
       indented_sequences = false;
+      literal_blanks = false;
       limit = largest_usize;
     }
 
@@ -64,6 +66,7 @@ pub record Effective : Type 0 where
   pub breaks12 : Bool
   pub portable : Bool
   pub indented_sequences : Bool
+  pub literal_blanks : Bool
   pub limit : ℕ
 
 -- an indent of 2 to 9 is kept, any other becomes 2
@@ -98,6 +101,7 @@ effective given of_stream =
       breaks12 = given.breaks12;
       portable = given.portable;
       indented_sequences = given.indented_sequences;
+      literal_blanks = given.literal_blanks;
       limit = given.limit;
     }
 

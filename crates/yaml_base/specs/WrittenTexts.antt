@@ -1,9 +1,9 @@
 -- What stands raw in a written text, and how the texts of its scalars stand there, whatever the settings (YAML 1.1, sections
 -- 5.1 and 5.4; YAML 1.2, section 5.4).
-use Rattle.std.specs.Prelude.{◌≡◌, ℕ, Bool, true, false, Option, Some, List, ◌==◌, ◌||◌}
+use Rattle.std.specs.Prelude.{◌≡◌, ℕ, Bool, true, false, Option, Some, List, ◌==◌, ◌||◌, ◌&&◌}
 use Rattle.std.specs.List.{All, list_all, list_any}
 use Rattle.std.specs.Str.{all_scalars}
-use Rattle.yaml_base.specs.Characters.{Text, carriage_return, line_separator, paragraph_separator, is_ascii, is_printable}
+use Rattle.yaml_base.specs.Characters.{Text, carriage_return, line_separator, paragraph_separator, tab, is_ascii, is_printable}
 use Rattle.yaml_base.specs.Settings.{Encoding, Settings, Effective, effective, escapes_separators}
 use Rattle.yaml_base.specs.Event.{Event}
 use Rattle.yaml_base.specs.Refusal.{IsAccepted}
@@ -17,14 +17,14 @@ use Rattle.yaml_base.specs.TidyBodies.{IsTidy}
 abbrev pub is_separator : ℕ → Bool
 is_separator c = c == line_separator || c == paragraph_separator
 
--- printable, or the CR of a line break
-abbrev pub may_stand_raw : ℕ → Bool
-may_stand_raw c = is_printable c || c == carriage_return
+-- printable, or the CR of a line break; with tabs, where blanks are literal
+abbrev pub may_stand_raw : (tabs : Bool) → ℕ → Bool
+may_stand_raw tabs c = is_printable c || c == carriage_return || (tabs && c == tab)
 
--- what a text holds raw: printable characters alone, which are Unicode scalar values; only ASCII where no more is kept; and
+-- what a text holds raw: such characters alone, which are Unicode scalar values; only ASCII where no more is kept; and
 -- where they are escaped, neither U+2028 nor U+2029
 pub record HoldsRaw (s : Effective) (text : Text) : Type 0 where
-  pub printable : list_all may_stand_raw text ≡ true
+  pub printable : list_all (may_stand_raw s.literal_blanks) text ≡ true
   pub scalars : all_scalars text ≡ true
   pub ascii : s.unicode ≡ false → list_all is_ascii text ≡ true
   pub no_separators : escapes_separators s ≡ true → list_any is_separator text ≡ false

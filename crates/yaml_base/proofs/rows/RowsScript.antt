@@ -22,7 +22,7 @@ a_whole_script = refl
 
 -- every setting; comments and empty lines are skipped and counted, zeros in front change nothing
 every_setting : script_of (codes "limit 007\n# c \"x\nencoding utf16be\n\ncanonical on\nunicode on\nindent -007\n"
-    ++ codes "width 2147483647\nbreak crln\nbreaks12 on\nportable on\nsequences indented")
+    ++ codes "width 2147483647\nbreak crln\nbreaks12 on\nportable on\nsequences indented\nblanks literal")
     ≡ understood (record {
       encoding = Some utf16_big;
       canonical = true;
@@ -34,6 +34,7 @@ every_setting : script_of (codes "limit 007\n# c \"x\nencoding utf16be\n\ncanoni
       breaks12 = true;
       portable = true;
       indented_sequences = true;
+      literal_blanks = true;
       limit = 7;
     }) []
 unfolding chars is_utf8 encode_utf8

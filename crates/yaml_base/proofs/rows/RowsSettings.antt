@@ -40,6 +40,7 @@ nothing_set : effective plain_settings None
       breaks12 = false;
       portable = false;
       indented_sequences = false;
+      literal_blanks = false;
       limit = 1000000000;
     }
 nothing_set = refl

@@ -15,7 +15,7 @@ tidy : (in_flow_styles None (codes "a b") ≡ true ∷ true ∷ true ∷ [])
 tidy = (refl, refl, refl, refl, refl)
 
 -- a tab, a line at the column of the block around, one at column 0 of the root, a space before a break, white edges, a line
--- of spaces alone, no style
+-- of blanks alone, no style
 untidy : (in_flow_styles None (codes "a\tb") ≡ false ∷ false ∷ false ∷ [])
     × (in_flow_styles (Some 2) (codes "a\n  b") ≡ false ∷ false ∷ false ∷ [])
     × (in_flow_styles None (codes "a\nb") ≡ false ∷ false ∷ false ∷ [])

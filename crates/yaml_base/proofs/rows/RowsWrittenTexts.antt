@@ -8,10 +8,12 @@ use Rattle.yaml_base.specs.WrittenTexts.{is_separator, may_stand_raw}
 separators : map is_separator (0xA ∷ 0x85 ∷ 0x2027 ∷ 0x2028 ∷ 0x2029 ∷ 0x202A ∷ []) ≡ false ∷ false ∷ false ∷ true ∷ true ∷ false ∷ []
 separators = refl
 
--- LF, CR, the space, letters and U+2028 may stand raw; NUL, a tab, U+0085, a surrogate and the byte order mark may not
-raw_characters : (list_all may_stand_raw (codes "a b\r\n" ++ 0xE9 ∷ 0x2028 ∷ 0x1F600 ∷ []) ≡ true)
-    × (map may_stand_raw (0 ∷ 9 ∷ 0x85 ∷ 0xD800 ∷ 0xFEFF ∷ 0x110000 ∷ []) ≡ false ∷ false ∷ false ∷ false ∷ false ∷ false ∷ [])
-raw_characters = (refl, refl)
+-- LF, CR, the space, letters and U+2028 may stand raw; NUL, a tab, U+0085, a surrogate and the byte order mark may not, but a tab
+-- where blanks are literal
+raw_characters : (list_all (may_stand_raw false) (codes "a b\r\n" ++ 0xE9 ∷ 0x2028 ∷ 0x1F600 ∷ []) ≡ true)
+    × (map (may_stand_raw false) (0 ∷ 9 ∷ 0x85 ∷ 0xD800 ∷ 0xFEFF ∷ 0x110000 ∷ []) ≡ false ∷ false ∷ false ∷ false ∷ false ∷ false ∷ [])
+    × (map (may_stand_raw true) (0 ∷ 9 ∷ 0x85 ∷ 13 ∷ []) ≡ false ∷ true ∷ false ∷ true ∷ [])
+raw_characters = (refl, refl, refl)
 
 -- all characters may be written raw, and U+2028 and U+2029 break no lines
 abbrev breaks12_settings : Settings

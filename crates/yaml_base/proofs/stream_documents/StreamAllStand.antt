@@ -1,6 +1,6 @@
 -- Each document of an accepted list stands: its names and tags by what is accepted, its scalars by their bodies.
 use Rattle.yaml_base.proofs.Common.{nat_tests, ◌≤◌, Option, Some, ℤ, true, List, [], ◌∷◌, refl, ◌≡◌, leb-true, subst, arith, list_all}
-use Rattle.yaml_base.proofs.Common.{is_printable, Rendered, Event, Documents, no_documents, documents_and, root_place, has_no_documents, render_documents}
+use Rattle.yaml_base.proofs.Common.{Rendered, Event, Documents, no_documents, documents_and, root_place, has_no_documents, render_documents}
 use Rattle.yaml_base.proofs.Common.{first_standing, text_of, has_scalar_values, MeaningIsKept, has_scalar_texts, text_written, bytes_written, list_layout}
 use Rattle.yaml_base.proofs.Common.{IsAccepted, Encoding, Settings, Effective, effective_indent, effective, reads_alike, directives_in_force, BodiesAreTidy}
 use Rattle.yaml_base.proofs.Common.{characters_read, documents_in_order}
@@ -8,6 +8,7 @@ use Rattle.yaml_base.{proofs.Trees.tree_of-stream_events, proofs.stream_document
 use Rattle.yaml_base.{proofs.stream_documents.StreamHeadingLines.heading_stands, proofs.stream_documents.StreamRootLeaves.root_stands}
 use Rattle.yaml_base.{proofs.stream_keys.StreamKeysFit.keys_fit, proofs.stream_keys.StreamSimpleKeys.simple_keys_fit}
 use Rattle.yaml_base.{proofs.stream_lines.StreamClosed.margin_cursor, proofs.stream_nodes.StreamScalarLeaves.scalars_fit, specs.StreamLaw.StreamReadsBack}
+use Rattle.yaml_base.proofs.stream_lines.StreamBytes.{is_shown}
 use Rattle.yaml_base.proofs.stream_documents.StreamDocumentTexts.{start_rendered, end_cursor}
 use Rattle.yaml_base.proofs.stream_documents.StreamRootsStand.{is_on_marker, DocumentsStand}
 use Rattle.yaml_base.proofs.stream_nodes.StreamBodies.{DocumentsHold, roots_stand}
@@ -53,11 +54,11 @@ indent_low indent = grind (arith, nat_tests, leb-true)
 abbrev pub TextsAreValues : Type 0
 TextsAreValues = (events : List Event) → list_all has_scalar_texts events ≡ true → list_all has_scalar_values events ≡ true
 
--- under all settings the text of an accepted list is printable
-abbrev pub LayoutsArePrintable : Type 0
-LayoutsArePrintable =
+-- under all settings the text of an accepted list is of printable characters and tabs
+abbrev pub LayoutsAreShown : Type 0
+LayoutsAreShown =
     (given : Settings) (encoding : Option Encoding) (events : List Event) → IsAccepted given.canonical events
-    → list_all is_printable (text_of (list_layout (effective given encoding) events)) ≡ true
+    → list_all is_shown (text_of (list_layout (effective given encoding) events)) ≡ true
 
 -- and its characters, with the line breaks of the settings, are read from its bytes
 abbrev pub LayoutsAreRead : Type 0
@@ -73,9 +74,9 @@ StreamsStand =
     → list_all has_scalar_texts events ≡ true → reads_alike given.portable given.canonical events ≡ true
     → StreamStands (effective given encoding) events accepted.stream
 
--- it does where bodies are tidy and keep their meaning, and texts are printable and read from their bytes
-pub streams_stand : BodiesAreTidy → MeaningIsKept → TextsAreValues → LayoutsArePrintable → LayoutsAreRead → StreamsStand
-streams_stand tidy kept values printable characters given encoding events accepted texts portable =
+-- it does where bodies are tidy and keep their meaning, and texts are of such characters and read from their bytes
+pub streams_stand : BodiesAreTidy → MeaningIsKept → TextsAreValues → LayoutsAreShown → LayoutsAreRead → StreamsStand
+streams_stand tidy kept values shown characters given encoding events accepted texts portable =
     grind (arith, documents_stand, indent_deep, indent_low, accepted_names_stand, tree_of-stream_events, roots_stand)
 
 -- and then reads back

@@ -1,6 +1,6 @@
 -- The law of whole streams, where each document stands and the layout's text is printable and read from its bytes.
 use Rattle.yaml_base.proofs.Common.{◌≤◌, is_some, unwrap_or, option_map, Option, None, Some, negsuc, pos, ℤ, Bool, false, not, true, ◌&&◌, List, [], ◌++◌, ◌∷◌}
-use Rattle.yaml_base.proofs.Common.{refl, ◌≡◌, leb-true, true≢false, ap, sym, ◌∙◌, arith, and_parts, and_from, false≢true, list_all, list_any, is_printable}
+use Rattle.yaml_base.proofs.Common.{refl, ◌≡◌, leb-true, true≢false, ap, sym, ◌∙◌, arith, and_parts, and_from, false≢true, list_all, list_any}
 use Rattle.yaml_base.proofs.Common.{Scalar, Event, stream_start, stream_end, document_start, document_end, scalar, sequence_start, sequence_end, mapping_start}
 use Rattle.yaml_base.proofs.Common.{mapping_end, scalar_tag, Node, alias_node, scalar_node, Nodes, sequence_node, Pairs, mapping_node, no_nodes, nodes_and}
 use Rattle.yaml_base.proofs.Common.{no_pairs, pairs_and, Document, Documents, no_documents, documents_and, Stream, node_events, nodes_events, pairs_events}
@@ -9,7 +9,7 @@ use Rattle.yaml_base.proofs.Common.{IsAccepted, Encoding, Settings, Effective, e
 use Rattle.yaml_base.proofs.Common.{all_read_alike, reads_alike, characters_read, lacks_tag_and_flags, DocumentTree, document_agrees, documents_in_order}
 use Rattle.yaml_base.proofs.Common.{agrees, not-true}
 use Rattle.yaml_base.proofs.Common.{documents_of, stream_trees}
-use Rattle.yaml_base.{proofs.Trees.tree_of-stream_events, proofs.stream_lines.StreamBytes.trees_of_bytes, specs.streams.StreamContent.documents_agree}
+use Rattle.yaml_base.{proofs.Trees.tree_of-stream_events, proofs.stream_lines.StreamBytes.trees_of_bytes, proofs.stream_lines.StreamBytes.is_shown, specs.streams.StreamContent.documents_agree}
 use Rattle.yaml_base.proofs.stream_documents.StreamRootsStand.{DocumentsStand}
 use Rattle.yaml_base.proofs.stream_documents.StreamEachDocument.{AllDocuments, all_of_both, each_document}
 use Rattle.yaml_base.proofs.stream_documents.StreamWholeReads.{FirstWritten, document_trees, stream_reads}
@@ -113,11 +113,11 @@ first_written s (document ∷ rest) kept = grind (arith, false≢true)
 
 -- The law
 
--- what is asked beside the events: that each document of the stream stands, that the layout's text is printable, and that its
+-- what is asked beside the events: that each document of the stream stands, that the layout's text is of printable characters and tabs, and that its
 -- characters are read from its bytes
 pub record StreamStands (s : Effective) (events : List Event) (stream : Stream) : Type 0 where
   pub documents : DocumentsStand s stream.documents
-  pub printable : list_all is_printable (text_of (list_layout s events)) ≡ true
+  pub shown : list_all is_shown (text_of (list_layout s events)) ≡ true
   pub characters : characters_read (bytes_written s (list_layout s events)) ≡ Some (with_breaks_written s.line_break (text_of (list_layout s events)))
 
 -- the layout of a whole stream's events
@@ -131,7 +131,7 @@ pub stream_read_back : (given : Settings) (encoding : Option Encoding) (events :
     ≡ Some (document_trees (effective given encoding) accepted.stream.documents)
 stream_read_back given encoding events accepted portable stands =
     let s : Effective = effective given encoding in
-    trees_of_bytes given.breaks12 s.line_break (text_of (list_layout s events)) (bytes_written s (list_layout s events)) stands.printable stands.characters
+    trees_of_bytes given.breaks12 s.line_break (text_of (list_layout s events)) (bytes_written s (list_layout s events)) stands.shown stands.characters
     ∙ ap (λ (pieces : List Piece). documents_of given.breaks12 (text_of pieces)) (stream_layout s events accepted.stream accepted.is_stream)
     ∙ stream_reads s accepted.stream (indent_deep given.indent) stands.documents
     (first_written s (documents_in_order accepted.stream.documents) (kept given.portable portable))

@@ -1,7 +1,7 @@
 -- No line of a leaf at the root after its first is a document's marker.
 use Rattle.yaml_base.proofs.Common.{ℕ, ◌≤◌, if◌then◌else◌, ◌==◌, Option, None, Some, Bool, false, not, true, ◌&&◌, ◌||◌, List, [], ◌++◌, ◌∷◌, refl, ◌≡◌}
 use Rattle.yaml_base.proofs.Common.{eqb-true, append-nil, append_assoc, ap, ◌∙◌, arith, and_parts, and_from, false≢true, list_all, Text, line_feed, and-false}
-use Rattle.yaml_base.proofs.Common.{is_printable, Cursor, Rendered, ScalarStyle, plain, TagDirective}
+use Rattle.yaml_base.proofs.Common.{is_tidy_character, Cursor, Rendered, ScalarStyle, plain, TagDirective}
 use Rattle.yaml_base.proofs.Common.{Scalar, scalar_tag, collection_tag, Node, alias_node, scalar_node, sequence_node, mapping_node}
 use Rattle.yaml_base.proofs.Common.{root_place, render_properties, render_alias, render_separation, render_body, choice_of, Brackets}
 use Rattle.yaml_base.proofs.Common.{square, curly, empty_or_comma, render_end, deeper, has_no_nodes, has_no_pairs, Effective, has_deep_lines}
@@ -132,14 +132,14 @@ scalar_markerless s own directives cursor content names stands =
     let one = one_line_both s.breaks12 properties.text separation.text
     (properties_line s own directives content.anchor tag choice.bare cursor names.0 names.1)
     (separation_line s.breaks12 choice.style false content.value properties.cursor) in
-    let tidy = and_parts (list_all is_printable body.text && has_deep_lines s.breaks12 1 body.text)
+    let tidy = and_parts (list_all (is_tidy_character choice.style) body.text && has_deep_lines s.breaks12 1 body.text)
     (is_tidy_style choice.style s.breaks12 body.text) stands.tidy in
     ap (λ t. list_all (λ line. is_markerless (marker_of line.text)) (lines_after_first (lines_of s.breaks12 t)))
     (append_assoc prefix body.text (closing body.cursor))
     ∙ ap (list_all (λ line. is_markerless (marker_of line.text))) (after_line s.breaks12 prefix (closed body) one)
     ∙ all_markerless true (lines_after_first (lines_of s.breaks12 (closed body)))
     (deep_lines_inside s.breaks12 0 (closed body)
-    (closed_deep s.breaks12 1 body (and_parts (list_all is_printable body.text) (has_deep_lines s.breaks12 1 body.text) tidy.0).1))
+    (closed_deep s.breaks12 1 body (and_parts (list_all (is_tidy_character choice.style) body.text) (has_deep_lines s.breaks12 1 body.text) tidy.0).1))
 
 -- Nodes
 

@@ -1,6 +1,6 @@
 -- A document's root that is a leaf stands, where its names, its bodies and the keys in it do.
 use Rattle.yaml_base.proofs.Common.{◌≤◌, is_some, Option, None, Bool, false, not, true, ◌&&◌, List, [], refl, ◌≡◌, true≢false, ap, sym, ◌∙◌, arith, and_parts}
-use Rattle.yaml_base.proofs.Common.{and_from, list_all, Text, is_printable, Cursor, TagDirective, Scalar, scalar_tag, collection_tag, Node}
+use Rattle.yaml_base.proofs.Common.{and_from, list_all, Text, is_tidy_character, Cursor, TagDirective, Scalar, scalar_tag, collection_tag, Node}
 use Rattle.yaml_base.proofs.Common.{alias_node, scalar_node, sequence_node, mapping_node, Document, root_place, render_properties, choice_of, as_root, deeper}
 use Rattle.yaml_base.proofs.Common.{Effective, is_written_as_nothing, directives_in_force, has_deep_lines, is_tidy_style, is_empty, Choice, is_plain}
 use Rattle.yaml_base.proofs.{stream_documents.StreamLeafMarkers.leaf_markerless, stream_flow.StreamFlowFits.flows_fit, stream_flow.StreamFlowKinds.KeysFit}
@@ -41,7 +41,7 @@ scalar_begins s own directives cursor content names stands some = by (is_plain c
         styled_begins s own directives content.anchor tag choice.bare choice.style s.width (deeper s.indent None) content.value cursor names.0 names.1 h
         (body_head s choice.style s.width (deeper s.indent None) None content.value
         (body_cursor s directives content.anchor tag choice.bare choice.style content.value cursor) h
-        (and_parts (list_all is_printable body.text && has_deep_lines s.breaks12 1 body.text) (is_tidy_style choice.style s.breaks12 body.text) stands.tidy).1
+        (and_parts (list_all (is_tidy_character choice.style) body.text && has_deep_lines s.breaks12 1 body.text) (is_tidy_style choice.style s.breaks12 body.text) stands.tidy).1
         stands.reads)
     by true h =
         let parts = and_parts (is_plain choice.style) (is_empty content.value) h in

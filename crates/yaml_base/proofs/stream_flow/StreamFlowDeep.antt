@@ -1,6 +1,6 @@
 -- Each line of a collection in flow after its first is deeper than the column around.
 use Rattle.yaml_base.proofs.Common.{suc, ℕ, ◌≤◌, if◌then◌else◌, Option, None, Some, codes, Bool, false, true, ◌&&◌, List, [], ◌++◌, ◌∷◌, refl, ◌≡◌, ap, ◌∙◌}
-use Rattle.yaml_base.proofs.Common.{arith, and_parts, false≢true, list_all, list_any, Text, is_printable, Cursor, Rendered, render_nothing, render_then}
+use Rattle.yaml_base.proofs.Common.{arith, and_parts, false≢true, list_all, list_any, Text, is_tidy_character, Cursor, Rendered, render_nothing, render_then}
 use Rattle.yaml_base.proofs.Common.{new_line, space_if, indicator, ScalarStyle, any_style, plain, single_quoted, double_quoted, literal, folded, TagDirective}
 use Rattle.yaml_base.proofs.Common.{Scalar, Collection, scalar_tag, collection_tag, Node, alias_node, scalar_node, Nodes, sequence_node, Pairs, mapping_node}
 use Rattle.yaml_base.proofs.Common.{no_nodes, nodes_and, no_pairs, pairs_and, render_properties, render_alias, render_separation, render_body, choice_of}
@@ -57,9 +57,9 @@ body_deep : (s : Effective) (style : ScalarStyle) (limit : Option ℕ) (count in
     → Deep s.breaks12 count (render_body style s limit indent value cursor).text
 body_deep s style limit count indent column value cursor le flow tidy =
     let text = (render_body style s limit indent value cursor).text in
-    let parts = and_parts (list_all is_printable text && has_deep_lines s.breaks12 (suc column) text) (is_tidy_style style s.breaks12 text) tidy in
+    let parts = and_parts (list_all (is_tidy_character style) text && has_deep_lines s.breaks12 (suc column) text) (is_tidy_style style s.breaks12 text) tidy in
     deep_tidy s.breaks12 count text
-    (deep_lines_fewer s.breaks12 count (suc column) text le (and_parts (list_all is_printable text) (has_deep_lines s.breaks12 (suc column) text) parts.0).1)
+    (deep_lines_fewer s.breaks12 count (suc column) text le (and_parts (list_all (is_tidy_character style) text) (has_deep_lines s.breaks12 (suc column) text) parts.0).1)
     (body_shown s style limit indent value cursor flow parts.1)
 
 -- Indicators

@@ -2,7 +2,7 @@
 use Rattle.yaml_base.proofs.Common.{suc, ℕ, ◌≤◌, if◌then◌else◌, Option, None, Some, Bool, false, true, List, [], ◌++◌, ◌∷◌, refl}
 use Rattle.yaml_base.proofs.Common.{◌≡◌, append_assoc, ap, sym, ◌∙◌, arith, false≢true, list_all, Text, line_feed, Cursor, Rendered}
 use Rattle.yaml_base.proofs.Common.{space_if, TagDirective, Collection, collection_tag, alias_node, scalar_node, sequence_node, mapping_node}
-use Rattle.yaml_base.proofs.Common.{Place, line_column, deeper, is_read_break, Effective, is_read_white, Tree}
+use Rattle.yaml_base.proofs.Common.{Place, line_column, deeper, is_read_break, Effective, is_space_or_break, Tree}
 use Rattle.yaml_base.proofs.Common.{Line, prepend_to_first_line, prepend_character, lines_of, text_of_lines, belongs_to_entry, all_deeper}
 use Rattle.yaml_base.proofs.Common.{kind_of_text, text_by_kind, text_read, kind_of_node, begins_properties, text_or_properties, Rules, Properties}
 use Rattle.yaml_base.proofs.{stream_flow.StreamFlowDeep.sequence_deep, stream_flow.StreamFlowDeep.mapping_deep, stream_flow.StreamFlowKinds.KeysFit}
@@ -60,7 +60,7 @@ first_line breaks12 (c ∷ t) = by (is_read_break breaks12 c) refl (first_line b
 -- Texts
 
 -- a line feed is white
-feed_white : (breaks12 : Bool) → list_all (is_read_white breaks12) (line_feed ∷ []) ≡ true
+feed_white : (breaks12 : Bool) → list_all (is_space_or_break breaks12) (line_feed ∷ []) ≡ true
 feed_white breaks12 = refl
 
 -- a collection's text from its bracket on reads on its lines

@@ -3,7 +3,7 @@ use Rattle.yaml_base.proofs.Common.{arith, ℕ, option_map, Option, None, Some, 
 use Rattle.yaml_base.proofs.Common.{append_assoc, ap, sym, ◌∙◌, and_parts, false≢true, list_all, Text, Cursor, Rendered, new_line, space_if, indicator}
 use Rattle.yaml_base.proofs.Common.{TagDirective, Collection, collection_tag, Nodes, sequence_node, Pairs, mapping_node, no_nodes, nodes_and, no_pairs}
 use Rattle.yaml_base.proofs.Common.{pairs_and, render_properties, is_written_in_flow, Brackets, square, curly, render_end, Place, is_undented, line_column}
-use Rattle.yaml_base.proofs.Common.{deeper, has_no_nodes, has_no_pairs, Effective, is_read_white, ParsedTag, Tree, sequence_tree, mapping_tree, and-false}
+use Rattle.yaml_base.proofs.Common.{deeper, has_no_nodes, has_no_pairs, Effective, is_read_white, is_space_or_break, ParsedTag, Tree, sequence_tree, mapping_tree, and-false}
 use Rattle.yaml_base.proofs.Common.{no_trees, no_tree_pairs, no_key, OpenFlow, in_sequence, in_mapping, Awaited, collection_awaited, entry_awaited}
 use Rattle.yaml_base.proofs.Common.{comma_awaited, FlowReading, done, within, word_step, level_opened, opened, flow_step, tree_at_end, flow_read}
 use Rattle.yaml_base.proofs.Common.{prepend_to_trimmed, trimmed, kind_of_text, text_by_kind, begins_text, kind_of_node, Rules, Properties, word_after, symbol}
@@ -22,7 +22,7 @@ use Rattle.yaml_base.proofs.stream_flow.StreamSays.{indicator_ends, opens_before
 use Rattle.yaml_base.proofs.stream_flow.StreamTakes.{steps, TakesBytes, takes_both, flow_reads}
 use Rattle.yaml_base.proofs.stream_nodes.StreamStands.{tag_written, tag_meant, NamesStand, BodyStands, BodiesHold}
 use Rattle.yaml_base.proofs.stream_nodes.StreamTexts.{collection_own, node_own, items_own, pairs_own}
-use Rattle.yaml_base.proofs.stream_lines.StreamLineLaws.{unbroken_line, break_line}
+use Rattle.yaml_base.proofs.stream_lines.StreamLineLaws.{unbroken_line, break_line, not_white}
 
 -- a bracket that begins a collection in flow and one that ends it
 pub record AreBrackets (rules : Rules) (bracket closing : ℕ) : Type 0 where
@@ -224,24 +224,24 @@ kept_before true d (e ∷ text) c = refl
 kept_before false d text c = refl
 
 -- of white space nothing is left
-white_trimmed : (breaks12 : Bool) (white : Text) → list_all (is_read_white breaks12) white ≡ true → trimmed breaks12 white ≡ []
+white_trimmed : (breaks12 : Bool) (white : Text) → list_all (is_space_or_break breaks12) white ≡ true → trimmed breaks12 white ≡ []
 white_trimmed breaks12 [] h = refl
 white_trimmed breaks12 (c ∷ white) h =
-    let parts = and_parts (is_read_white breaks12 c) (list_all (is_read_white breaks12) white) h in
-    ap (prepend_to_trimmed (is_read_white breaks12 c) c) (white_trimmed breaks12 white parts.1) ∙ ap (λ x. prepend_to_trimmed x c []) parts.0
+    let parts = and_parts (is_space_or_break breaks12 c) (list_all (is_space_or_break breaks12) white) h in
+    ap (prepend_to_trimmed (is_space_or_break breaks12 c) c) (white_trimmed breaks12 white parts.1) ∙ ap (λ x. prepend_to_trimmed x c []) parts.0
 
 -- white space after a text whose last character isn't white is cut off
-pub shown_trimmed : (breaks12 : Bool) (text : Text) (c : ℕ) (white : Text) → is_read_white breaks12 c ≡ false → list_all (is_read_white breaks12) white ≡ true
+pub shown_trimmed : (breaks12 : Bool) (text : Text) (c : ℕ) (white : Text) → is_read_white breaks12 c ≡ false → list_all (is_space_or_break breaks12) white ≡ true
     → trimmed breaks12 (text ++ (c ∷ white)) ≡ text ++ (c ∷ [])
 shown_trimmed breaks12 [] c white shown h =
-    ap (λ x. prepend_to_trimmed x c (trimmed breaks12 white)) shown ∙ ap (λ t. c ∷ t) (white_trimmed breaks12 white h)
+    ap (λ x. prepend_to_trimmed x c (trimmed breaks12 white)) (not_white breaks12 c shown) ∙ ap (λ t. c ∷ t) (white_trimmed breaks12 white h)
 shown_trimmed breaks12 (d ∷ text) c white shown h =
-    ap (prepend_to_trimmed (is_read_white breaks12 d) d) (shown_trimmed breaks12 text c white shown h) ∙ kept_before (is_read_white breaks12 d) d text c
+    ap (prepend_to_trimmed (is_space_or_break breaks12 d) d) (shown_trimmed breaks12 text c white shown h) ∙ kept_before (is_space_or_break breaks12 d) d text c
 
 -- a collection's text is read by its first character, whatever white space follows it
 pub content_read : (rules : Rules) (cursor : Cursor) (own : Rendered) (anchor tag given_tag : Option Text) (tree : Tree)
     (of : FlowContent rules cursor own anchor tag given_tag tree)
-    (column : Option ℕ) (begun white : Text) → list_all (is_read_white rules.breaks12) white ≡ true
+    (column : Option ℕ) (begun white : Text) → list_all (is_space_or_break rules.breaks12) white ≡ true
     → text_by_kind (kind_of_text (of.bracket ∷ begun)) rules column (record { anchor = anchor; tag = tag_meant given_tag false })
     ((of.bracket ∷ of.inside) ++ (of.closing ∷ white)) ≡ Some tree
 content_read rules cursor own anchor tag given_tag tree of column begun white h =

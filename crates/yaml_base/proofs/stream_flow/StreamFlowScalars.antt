@@ -33,7 +33,7 @@ style_in_flow allowed fits x asked = grind (arith, nat_tests, quotes_in_flow)
 pub chosen_in_flow : (s : Effective) (role : Role) (column : ℕ) (simple : Bool) (content : Scalar)
     → is_flow_style (choice_of s (entry_place true role column) simple content).style ≡ true
 chosen_in_flow s role column simple content =
-    let allowed = allowed_under s content.value in
+    let allowed = allowed_under s content in
     style_in_flow allowed
     (fits_plain allowed (is_empty content.value) (is_some (scalar_tag s.canonical content)) content.plain_implicit true simple) simple
     (requested_style (s.canonical || (simple && allowed.multiline)) (style_asked_at s (entry_place true role column) content))

@@ -74,7 +74,8 @@ quoted_kind double t = grind (arith, nat_tests)
 pub quoted_after : (rules : Rules) (flow double : Bool) (column : Option ℕ) (properties : Properties) (t v : Text)
     → is_tidy (quoted_in double) rules.breaks12 column (quote_of double ∷ t) ≡ true → read_quoted double rules.breaks12 (quote_of double ∷ t) ≡ Some v
     → word_after rules flow column properties (quote_of double ∷ t) ≡ scalar_parsed properties (standing_of (quoted_in double)) (Some v)
-quoted_after rules flow double column properties t v tidy read = grind (arith, nat_tests, quoted_kind)
+quoted_after rules flow true column properties t v tidy read = grind (arith, nat_tests, quoted_kind)
+quoted_after rules flow false column properties t v tidy read = grind (arith, nat_tests, quoted_kind)
 
 -- also with its anchor and tag
 pub quoted_read : (rules : Rules) (flow double : Bool) (anchor tag : Option Text) (bare : Bool) (column : Option ℕ) (t v : Text)

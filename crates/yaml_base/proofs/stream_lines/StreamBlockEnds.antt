@@ -3,9 +3,9 @@ use Rattle.yaml_base.proofs.Common.{ℕ, ◌+◌, ◌≤◌, if◌then◌else◌
 use Rattle.yaml_base.proofs.Common.{append_assoc, ap, sym, ◌∙◌, arith, or_parts, false≢true, nat_tests, Text, line_feed, line_separator, paragraph_separator}
 use Rattle.yaml_base.proofs.Common.{is_ascii, is_space, is_break, is_printable, Cursor, column_after, ScalarStyle, not-true, not-false}
 use Rattle.yaml_base.proofs.Common.{is_read_break, strip, after_digit, chomping_first, Charset, Allowances, somewhere, is_empty}
-use Rattle.yaml_base.proofs.Common.{is_special, bars_block, allows_block, ending, indentation_hint, ending_hint, render_hint, ends_in_break, folded_parts}
+use Rattle.yaml_base.proofs.Common.{is_special, is_special_but_tab, begins_with_blanks_alone, bars_literal, allows_literal, tab, ending, indentation_hint, ending_hint, render_hint, ends_in_break, folded_parts}
 use Rattle.yaml_base.proofs.Common.{parts, is_block, fitting_style}
-use Rattle.yaml_base.specs.{Cursor.next_column, scalars.Analysis.begins_with, scalars.Analysis.is_trailing_space, scalars.BlockHeader.without_break}
+use Rattle.yaml_base.specs.{Cursor.next_column, scalars.Analysis.begins_with, scalars.BlockHeader.without_break}
 use Rattle.yaml_base.specs.{scalars.BlockHeader.one_break, scalars.BlockHeader.more_breaks, scalars.Folded.cut_line, scalars.Folded.next_line_unindented}
 use Rattle.yaml_base.specs.{scalars.Lines.Part, scalars.Lines.line, scalars.Lines.line_break, scalars.Lines.begun, scalars.Literal.indented}
 
@@ -118,16 +118,19 @@ nowhere_last : (test : ℕ → Text → Bool) (prefix : Text) (b : ℕ) → some
 nowhere_last test [] b h = (or_parts (test b []) false h).0
 nowhere_last test (c ∷ prefix) b h = nowhere_last test prefix b (or_parts (test c (prefix ++ (b ∷ []))) (somewhere test (prefix ++ (b ∷ []))) h).1
 
+-- a break is no tab
+break_no_tab : (c : ℕ) → is_break c ≡ true → (c == tab) ≡ false
+break_no_tab c breaks = grind (arith, nat_tests, breaks)
+
 -- the last break of a value that may be a block scalar is one that is read
-pub last_is_read : (charset : Charset) (value : Text) (end : EndsBreak value) → allows_block charset value ≡ true
+pub last_is_read : (charset : Charset) (value : Text) (end : EndsBreak value) → allows_literal charset value ≡ true
     → is_read_break charset.breaks12 end.last ≡ true
 last_is_read charset value end allowed =
     let nowhere =
-    (or_parts (is_empty value) (somewhere (bars_block charset) value) (not-true (is_empty value || somewhere (bars_block charset) value) allowed)).1 in
-    let bars = nowhere_last (bars_block charset) end.prefix end.last (ap (somewhere (bars_block charset)) (sym end.is) ∙ nowhere) in
-    let special =
-    (or_parts (is_special charset end.last) (is_trailing_space end.last [])
-    (or_parts (is_special charset end.last || is_trailing_space end.last []) (is_space end.last && true) bars).0).0 in
+    (or_parts (is_empty value || begins_with_blanks_alone value) (somewhere (bars_literal charset) value) (not-true _ allowed)).1 in
+    let bars = nowhere_last (bars_literal charset) end.prefix end.last (ap (somewhere (bars_literal charset)) (sym end.is) ∙ nowhere) in
+    let but_tab = (or_parts (is_special_but_tab charset end.last) (is_break end.last && false) bars).0 in
+    let special = ap (λ x. not x && is_special charset end.last) (sym (break_no_tab end.last end.breaks)) ∙ but_tab in
     let parts =
     or_parts (not (is_printable end.last) || (not charset.unicode && not (is_ascii end.last)))
     (charset.breaks12 && (end.last == line_separator || end.last == paragraph_separator)) special in

@@ -1,6 +1,6 @@
 -- The lines of a tidy text after its first lie inside the column of the block around, and of any block farther out.
 use Rattle.yaml_base.proofs.Common.{nat_tests, suc, zero, ℕ, ◌≤◌, ◌==◌, Option, None, Some, Bool, false, not, true, ◌&&◌, ◌||◌, List, [], ◌∷◌, refl, ◌≡◌}
-use Rattle.yaml_base.proofs.Common.{eqb-true, ap, ◌∙◌, arith, and_parts, and_from, false≢true, list_all, Text, space, is_printable, ScalarStyle, is_read_break}
+use Rattle.yaml_base.proofs.Common.{eqb-true, ap, ◌∙◌, arith, and_parts, and_from, false≢true, list_all, Text, space, is_tidy_character, ScalarStyle, is_read_break}
 use Rattle.yaml_base.proofs.Common.{begins_with_spaces, begins_with_deep_line, has_deep_lines, is_tidy_style, is_tidy, Line}
 use Rattle.yaml_base.proofs.Common.{prepend_to_first_line, prepend_character, lines_of, belongs_to_entry}
 use Rattle.yaml_base.proofs.stream_lines.StreamInside.{AllInside}
@@ -36,10 +36,10 @@ pub tidy_at_root : (style : ScalarStyle) (breaks12 : Bool) (column : Option ℕ)
     → is_tidy style breaks12 None text ≡ true
 tidy_at_root style breaks12 None text h = h
 tidy_at_root style breaks12 (Some column) text h =
-    let parts = and_parts (list_all is_printable text && has_deep_lines breaks12 (suc column) text) (is_tidy_style style breaks12 text) h in
-    let both = and_parts (list_all is_printable text) (has_deep_lines breaks12 (suc column) text) parts.0 in
-    and_from (list_all is_printable text && has_deep_lines breaks12 1 text) (is_tidy_style style breaks12 text)
-    (and_from (list_all is_printable text) (has_deep_lines breaks12 1 text) both.0 (deep_lines_fewer breaks12 1 (suc column) text (omega arith) both.1))
+    let parts = and_parts (list_all (is_tidy_character style) text && has_deep_lines breaks12 (suc column) text) (is_tidy_style style breaks12 text) h in
+    let both = and_parts (list_all (is_tidy_character style) text) (has_deep_lines breaks12 (suc column) text) parts.0 in
+    and_from (list_all (is_tidy_character style) text && has_deep_lines breaks12 1 text) (is_tidy_style style breaks12 text)
+    (and_from (list_all (is_tidy_character style) text) (has_deep_lines breaks12 1 text) both.0 (deep_lines_fewer breaks12 1 (suc column) text (omega arith) both.1))
     parts.1
 
 -- Lines

@@ -103,7 +103,7 @@ tagging_is s place simple content None e flags =
     ∙ stands content (style None) fits flags
   where
     allowed : Allowances
-    allowed = allowed_under s content.value
+    allowed = allowed_under s content
 
     fit : Option Text → Bool
     fit t = fits_plain allowed (is_empty content.value) (is_some t) content.plain_implicit place.in_flow simple

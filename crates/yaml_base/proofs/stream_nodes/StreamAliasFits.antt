@@ -7,7 +7,7 @@ use Rattle.yaml_base.proofs.Common.{prepend_to_trimmed, trimmed, begins_mapping,
 use Rattle.yaml_base.proofs.{stream_lines.StreamClosed.closed, stream_lines.StreamClosed.lines_broken, stream_lines.StreamLineLaws.is_closed}
 use Rattle.yaml_base.proofs.{stream_lines.StreamLineLaws.OneLine, stream_nodes.StreamBlocks.below_ends, stream_nodes.StreamFits.Fits}
 use Rattle.yaml_base.proofs.{stream_nodes.StreamLeafFits.TextReads, stream_nodes.StreamLeafFits.text_fits, stream_nodes.StreamNodesFit.LeafFits}
-use Rattle.yaml_base.proofs.stream_lines.StreamLineLaws.{break_line}
+use Rattle.yaml_base.proofs.stream_lines.StreamLineLaws.{break_line, not_white}
 use Rattle.yaml_base.proofs.stream_lines.StreamClosed.{character_line}
 use Rattle.yaml_base.proofs.AllPass.{none_pass}
 use Rattle.yaml_base.proofs.stream_nodes.StreamLeads.{before_count, before_spaces, before_some}
@@ -34,7 +34,7 @@ name_trimmed true [] h = refl
 name_trimmed false [] h = refl
 name_trimmed breaks12 (c ∷ name) h =
     let parts = and_parts (is_alpha c) (list_all is_alpha name) h in
-    ap (λ x. prepend_to_trimmed x c (trimmed breaks12 (name ++ (line_feed ∷ [])))) (letter_shows breaks12 c parts.0)
+    ap (λ x. prepend_to_trimmed x c (trimmed breaks12 (name ++ (line_feed ∷ [])))) (not_white breaks12 c (letter_shows breaks12 c parts.0))
     ∙ ap (λ t. c ∷ t) (name_trimmed breaks12 name parts.1)
 
 -- no key ends in it

@@ -2,7 +2,7 @@
 use Rattle.yaml_base.proofs.Common.{nat_tests, text_by_kind, kind_of_text, word_text}
 use Rattle.yaml_base.proofs.Common.{arith, suc, zero, ℕ, ◌==◌, Option, None, Some, Bool, false, not, true, ◌&&◌, ◌||◌, List, []}
 use Rattle.yaml_base.proofs.Common.{◌++◌, ◌∷◌, refl, ◌≡◌, ap, ◌∙◌, and_parts, and_from, false≢true, option_or, Text}
-use Rattle.yaml_base.proofs.Common.{line_feed, space, ScalarStyle, is_read_break, is_read_white}
+use Rattle.yaml_base.proofs.Common.{line_feed, space, is_blank, ScalarStyle, is_read_break, is_read_white}
 use Rattle.yaml_base.proofs.Common.{begins_with_spaces, begins_with_blank_line, begins_with_deep_line, has_deep_lines, ends_white, is_tidy}
 use Rattle.yaml_base.proofs.Common.{Line, prepend_to_first_line, prepend_character, lines_of, ends_indicator}
 use Rattle.yaml_base.proofs.Common.{key_ends, key_from, prepend_to_trimmed, trimmed, Rules, word_after}
@@ -14,6 +14,7 @@ use Rattle.yaml_base.proofs.stream_flow.StreamFlowWords.{quoted_after}
 use Rattle.yaml_base.proofs.stream_keys.StreamKeyReads.{quoted_nowhere}
 use Rattle.yaml_base.proofs.stream_keys.StreamNoKeys.{KeyNowhere, nowhere_alone}
 use Rattle.yaml_base.proofs.stream_lines.StreamDeepBreaks.{ends_as_last}
+use Rattle.yaml_base.proofs.stream_lines.StreamLineLaws.{not_white}
 
 -- The break after a text
 
@@ -24,7 +25,7 @@ feed = line_feed ∷ []
 -- it leaves blank lines blank
 blank_more : (breaks12 : Bool) (t : Text) → begins_with_blank_line breaks12 (t ++ feed) ≡ begins_with_blank_line breaks12 t
 blank_more breaks12 [] = refl
-blank_more breaks12 (c ∷ t) = ap (λ x. is_read_break breaks12 c || (c == space && x)) (blank_more breaks12 t)
+blank_more breaks12 (c ∷ t) = ap (λ x. is_read_break breaks12 c || (is_blank c && x)) (blank_more breaks12 t)
 
 -- and spaces where they are
 spaces_more : (n : ℕ) (t : Text) → begins_with_spaces n t ≡ true → begins_with_spaces n (t ++ feed) ≡ true
@@ -64,8 +65,8 @@ tidy_deep style breaks12 (Some d) text tidy c e = grind (arith, and_parts)
 
 -- it is cut off where nothing white stands before it
 pub shown_trimmed : (breaks12 : Bool) (c : ℕ) (t : Text) → ends_white breaks12 (c ∷ t) ≡ false → trimmed breaks12 (c ∷ (t ++ feed)) ≡ c ∷ t
-shown_trimmed true c [] h = ap (λ x. prepend_to_trimmed x c []) h
-shown_trimmed false c [] h = ap (λ x. prepend_to_trimmed x c []) h
+shown_trimmed true c [] h = ap (λ x. prepend_to_trimmed x c []) (not_white true c h)
+shown_trimmed false c [] h = ap (λ x. prepend_to_trimmed x c []) (not_white false c h)
 shown_trimmed breaks12 c (d ∷ t) h = grind (arith, shown_trimmed breaks12 d t h)
 
 -- No key

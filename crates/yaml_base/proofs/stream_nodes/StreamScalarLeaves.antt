@@ -3,8 +3,8 @@ use Rattle.yaml_base.proofs.Common.{ℕ, ◌≤◌, if◌then◌else◌, is_some
 use Rattle.yaml_base.proofs.Common.{true≢false, and_parts, Text, Cursor, ScalarStyle, plain}
 use Rattle.yaml_base.proofs.Common.{TagDirective, scalar_tag, scalar_node, render_body, allowed_under, style_asked_at, choice_of, Place, deeper, is_simple_at}
 use Rattle.yaml_base.proofs.Common.{read_in_style}
-use Rattle.yaml_base.proofs.Common.{Effective, is_tidy, Allowances, is_empty, allows_block, is_plain, is_block, requested_style, fits_plain}
-use Rattle.yaml_base.proofs.{Charsets.block_still, stream_flow.StreamFlowScalars.rules_of, stream_flow.StreamFlowScalars.bare_not_plain}
+use Rattle.yaml_base.proofs.Common.{Effective, is_tidy, Allowances, is_empty, allows_literal, is_plain, is_block, requested_style, fits_plain}
+use Rattle.yaml_base.proofs.{Charsets.literal_still, Charsets.literal_allowed, stream_flow.StreamFlowScalars.rules_of, stream_flow.StreamFlowScalars.bare_not_plain}
 use Rattle.yaml_base.proofs.{stream_flow.StreamFlowWords.scalar_in, stream_lines.StreamBlockEnds.block_fitting}
 use Rattle.yaml_base.proofs.{stream_nodes.StreamEmptyFits.empty_fits, stream_nodes.StreamFits.Fits, stream_nodes.StreamLeaves.block_place}
 use Rattle.yaml_base.proofs.{stream_nodes.StreamLeaves.ScalarsFit, stream_nodes.StreamProperties.IsNamed, stream_nodes.StreamStands.TagStands}
@@ -14,7 +14,7 @@ use Rattle.yaml_base.proofs.stream_nodes.StreamScalarsFit.{body_fits, render_sty
 scalar_fits : (s : Effective) (own directives : List TagDirective) (anchor tag : Option Text) (bare : Bool) (style : ScalarStyle) (limit : Option ℕ)
     (indent : ℕ) (value : Text)
     (place : Place) (cursor : Cursor) → 2 ≤ s.indent → s.indent ≤ 9 → IsNamed anchor → TagStands s.portable own directives tag
-    → (bare ≡ true → is_plain style ≡ false) → (is_block style ≡ true → allows_block (record { unicode = s.unicode; breaks12 = s.breaks12 }) value ≡ true)
+    → (bare ≡ true → is_plain style ≡ false) → (is_block style ≡ true → allows_literal (record { unicode = s.unicode; breaks12 = s.breaks12 }) value ≡ true)
     → is_tidy style s.breaks12 place.column (render_body style s limit indent value (body_cursor s directives anchor tag bare style value cursor)).text ≡ true
     → read_in_style style s.breaks12 false place.column
     (render_body style s limit indent value (body_cursor s directives anchor tag bare style value cursor)).text ≡ Some value
@@ -34,14 +34,15 @@ scalars_fit s own directives low high content role column cursor complex stands 
     let simple = is_simple_at place s.canonical directives (scalar_node content) in
     let choice = choice_of s place simple content in
     let tag = scalar_tag s.canonical content in
-    let allowed : Allowances = allowed_under s content.value in
+    let allowed : Allowances = allowed_under s content in
     scalar_fits s own directives content.anchor tag choice.bare choice.style (if simple then None else s.width)
     (deeper s.indent column) content.value place cursor low high
     names.0 names.1
     (λ h. bare_not_plain (is_some tag) content.quoted_implicit (is_plain choice.style) h)
-    (λ h. block_still s.unicode s.breaks12 s.portable content.value
+    (λ h. literal_still s.unicode s.breaks12 s.portable content.value
+    (literal_allowed s content
     (and_parts allowed.block true
     (and_parts (allowed.block && true) (not simple)
     (block_fitting allowed (fits_plain allowed (is_empty content.value) (is_some tag) content.plain_implicit false simple) (allowed.block && true && not simple)
-    (requested_style (s.canonical || (simple && allowed.multiline)) (style_asked_at s place content)) h)).0).0)
+    (requested_style (s.canonical || (simple && allowed.multiline)) (style_asked_at s place content)) h)).0).0))
     body.tidy body.reads

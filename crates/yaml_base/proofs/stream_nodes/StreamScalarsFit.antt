@@ -4,7 +4,7 @@ use Rattle.yaml_base.proofs.Common.{ℕ, ◌≤◌, if◌then◌else◌, Option,
 use Rattle.yaml_base.proofs.Common.{append-nil, append_assoc, ap, subst, sym, ◌∙◌, arith, false≢true, Text, Cursor, Rendered, render_then}
 use Rattle.yaml_base.proofs.Common.{column_after, space_if, ScalarStyle, any_style, plain, single_quoted, double_quoted, literal, folded}
 use Rattle.yaml_base.proofs.Common.{TagDirective, render_properties, render_separation, render_body, Place, read_in_style, Effective, read_block, is_tidy}
-use Rattle.yaml_base.proofs.Common.{is_empty, allows_block, ending, indentation_hint, ending_hint, ends_in_break, double_inside, render_quote}
+use Rattle.yaml_base.proofs.Common.{is_empty, allows_literal, ending, indentation_hint, ending_hint, ends_in_break, double_inside, render_quote}
 use Rattle.yaml_base.proofs.Common.{folded_parts, parts, runs, render_runs, quotes_doubled, single_quote, is_plain, is_block, spaces, Rules}
 use Rattle.yaml_base.proofs.{stream_flow.StreamFlowScalars.rules_of, stream_flow.StreamFlowScalars.is_flow_style, stream_flow.StreamFlowScalars.body_ended}
 use Rattle.yaml_base.proofs.{stream_flow.StreamFlowWords.Given, stream_flow.StreamFlowWords.scalar_in, stream_flow.StreamPropertyWords.lead}
@@ -76,7 +76,7 @@ block_text symbol best_indent value lines cursor = grind (arith, hint_text, appe
 -- where the value ends in a break, so do its lines
 block_kept : (s : Effective) (own : List TagDirective) (column : Option ℕ) (l : Bool) (value lines : Text) (cursor : Cursor)
     → ends_in_break (ending value) ≡ true → (end : EndsBreak value) → EndsLines lines end.last
-    → allows_block (record { unicode = s.unicode; breaks12 = s.breaks12 }) value ≡ true
+    → allows_literal (record { unicode = s.unicode; breaks12 = s.breaks12 }) value ≡ true
     → OwnText (rules_of s own) column (block_body (block_indicator l) s.indent value lines cursor).text (block_style l) value
     → BodyFits (rules_of s own) column (block_style l) value (block_body (block_indicator l) s.indent value lines cursor)
 block_kept s own column l value lines cursor h end lines_end allowed text =
@@ -97,7 +97,7 @@ block_kept s own column l value lines cursor h end lines_end allowed text =
 
 -- a block scalar
 block_fits_body : (s : Effective) (own : List TagDirective) (column : Option ℕ) (l : Bool) (value lines : Text) (cursor : Cursor) → 2 ≤ s.indent → s.indent ≤ 9
-    → ((end : EndsBreak value) → EndsLines lines end.last) → allows_block (record { unicode = s.unicode; breaks12 = s.breaks12 }) value ≡ true
+    → ((end : EndsBreak value) → EndsLines lines end.last) → allows_literal (record { unicode = s.unicode; breaks12 = s.breaks12 }) value ≡ true
     → is_tidy (block_style l) s.breaks12 column (block_body (block_indicator l) s.indent value lines cursor).text ≡ true
     → read_block s.breaks12 column (block_body (block_indicator l) s.indent value lines cursor).text ≡ Some value
     → BodyFits (rules_of s own) column (block_style l) value (block_body (block_indicator l) s.indent value lines cursor)
@@ -132,7 +132,7 @@ block_fits_body s own column l value lines cursor low high lines_end allowed tid
 -- a body that isn't empty fits in each style
 pub body_fits : (s : Effective) (own : List TagDirective) (column : Option ℕ) (style : ScalarStyle) (limit : Option ℕ) (indent : ℕ) (value : Text)
     (cursor : Cursor)
-    → 2 ≤ s.indent → s.indent ≤ 9 → (is_block style ≡ true → allows_block (record { unicode = s.unicode; breaks12 = s.breaks12 }) value ≡ true)
+    → 2 ≤ s.indent → s.indent ≤ 9 → (is_block style ≡ true → allows_literal (record { unicode = s.unicode; breaks12 = s.breaks12 }) value ≡ true)
     → (is_plain style && is_empty value) ≡ false
     → is_tidy style s.breaks12 column (render_body style s limit indent value cursor).text ≡ true
     → read_in_style style s.breaks12 false column (render_body style s limit indent value cursor).text ≡ Some value

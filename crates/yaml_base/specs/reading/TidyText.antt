@@ -3,7 +3,7 @@
 -- Source: this project, stricter than YAML 1.1.
 use Rattle.std.specs.Prelude.{ℕ, zero, suc, Bool, true, false, Option, [], ◌∷◌, ◌==◌, ◌||◌, ◌&&◌, not, unwrap_or}
 use Rattle.std.specs.List.{list_all}
-use Rattle.yaml_base.specs.Characters.{Text, space, is_printable}
+use Rattle.yaml_base.specs.Characters.{Text, space, tab, is_blank, is_printable}
 use Rattle.yaml_base.specs.LineBreaks.{is_read_break}
 use Rattle.yaml_base.specs.Event.{ScalarStyle, any_style, plain, single_quoted, double_quoted, literal, folded}
 use Rattle.yaml_base.specs.reading.ReadPlain.{is_read_white}
@@ -19,17 +19,17 @@ begins_with_spaces zero text = true
 begins_with_spaces (suc count) [] = false
 begins_with_spaces (suc count) (c ∷ rest) = c == space && begins_with_spaces count rest
 
--- up to the end of its line a text is of spaces alone (YAML 1.1, section 6.4 Ignored Line Prefix, l-empty(n,s))
+-- up to the end of its line a text is of blanks alone (YAML 1.1, section 6.4 Ignored Line Prefix, l-empty(n,s))
 abbrev pub begins_with_blank_line : Bool → Text → Bool
 begins_with_blank_line breaks12 [] = true
-begins_with_blank_line breaks12 (c ∷ rest) = is_read_break breaks12 c || (c == space && begins_with_blank_line breaks12 rest)
+begins_with_blank_line breaks12 (c ∷ rest) = is_read_break breaks12 c || (is_blank c && begins_with_blank_line breaks12 rest)
 
--- the line that a text begins with is empty, or begins with so many spaces and isn't of spaces alone
+-- the line that a text begins with is empty, or begins with so many spaces and isn't of blanks alone
 abbrev pub begins_with_deep_line : Bool → ℕ → Text → Bool
 begins_with_deep_line breaks12 count text =
     ends_line breaks12 text || (begins_with_spaces count text && not (begins_with_blank_line breaks12 text))
 
--- each line after the first is empty, or begins with so many spaces and isn't of spaces alone
+-- each line after the first is empty, or begins with so many spaces and isn't of blanks alone
 abbrev pub has_deep_lines : Bool → ℕ → Text → Bool
 has_deep_lines breaks12 count [] = true
 has_deep_lines breaks12 count (c ∷ rest) =
@@ -66,8 +66,13 @@ is_tidy_style literal breaks12 text = true
 is_tidy_style folded breaks12 text = true
 is_tidy_style any_style breaks12 text = false
 
--- the text of a scalar inside a block whose entries stand at a column (none: the root) is tidy: all its characters are
--- printable, its lines after the first are deeper than the column and at least one space deep, and what its style asks
+-- what a text of a style holds: printable characters, and in literal text tabs
+abbrev pub is_tidy_character : ScalarStyle → ℕ → Bool
+is_tidy_character literal c = is_printable c || c == tab
+is_tidy_character _ c = is_printable c
+
+-- the text of a scalar inside a block whose entries stand at a column (none: the root) is tidy: all its characters are those of
+-- its style, its lines after the first are deeper than the column and at least one space deep, and what its style asks
 abbrev pub is_tidy : ScalarStyle → Bool → Option ℕ → Text → Bool
 is_tidy style breaks12 column text =
-    list_all is_printable text && has_deep_lines breaks12 (suc (unwrap_or column 0)) text && is_tidy_style style breaks12 text
+    list_all (is_tidy_character style) text && has_deep_lines breaks12 (suc (unwrap_or column 0)) text && is_tidy_style style breaks12 text

@@ -2,7 +2,7 @@
 -- Source, unless a definition names its own: libyaml's emitter, in this project's form.
 use Rattle.std.specs.Prelude.{ℕ, Bool, true, false, [], ◌∷◌, ◌==◌, ◌||◌, ◌&&◌, not, codes}
 use Rattle.std.specs.List.{list_any}
-use Rattle.yaml_base.specs.Characters.{Text, is_among, is_ascii, is_blank, is_break, is_printable, is_space, line_separator, paragraph_separator}
+use Rattle.yaml_base.specs.Characters.{Text, is_among, is_ascii, is_blank, is_break, is_printable, is_space, line_separator, paragraph_separator, tab}
 
 -- what may stand as itself: all printable characters or ASCII alone; and whether U+2028 and U+2029 are
 -- taken for ordinary characters, as YAML 1.2 does (libyaml's emitter; `breaks12` is this project's)
@@ -97,6 +97,24 @@ abbrev pub bars_block : Charset → ℕ → Text → Bool
 bars_block charset c rest =
     is_special charset c || is_trailing_space c rest || (is_space c && is_empty rest)
 
+-- a special character other than a tab
+abbrev pub is_special_but_tab : Charset → ℕ → Bool
+is_special_but_tab charset c = not (c == tab) && is_special charset c
+
+-- up to the end of its line a text is of blanks alone
+abbrev pub is_blank_to_line_end : Text → Bool
+is_blank_to_line_end [] = true
+is_blank_to_line_end (c ∷ rest) = is_break c || (is_blank c && is_blank_to_line_end rest)
+
+-- the line that begins here is of blanks alone, and isn't empty
+abbrev pub begins_with_blanks_alone : Text → Bool
+begins_with_blanks_alone [] = false
+begins_with_blanks_alone (c ∷ rest) = is_blank c && is_blank_to_line_end rest
+
+-- where blanks are literal, no literal text holds a special character but tabs, or a nonempty line of blanks alone (this project)
+abbrev pub bars_literal : Charset → ℕ → Text → Bool
+bars_literal charset c rest = is_special_but_tab charset c || (is_break c && begins_with_blanks_alone rest)
+
 -- plain, in flow or in block; there the empty value too
 abbrev pub allows_plain : Charset → Bool → Text → Bool
 allows_plain charset flow value =
@@ -110,7 +128,12 @@ allows_single_quoted charset value = not (somewhere (bars_single_quoted charset)
 abbrev pub allows_block : Charset → Text → Bool
 allows_block charset value = not (is_empty value || somewhere (bars_block charset) value)
 
--- all of these, for one value
+-- literal, where blanks are literal: also with tabs, and with spaces before a break and at the end; never the empty value (this project)
+abbrev pub allows_literal : Charset → Text → Bool
+allows_literal charset value =
+    not (is_empty value || begins_with_blanks_alone value || somewhere (bars_literal charset) value)
+
+-- all of these but the last, for one value
 abbrev pub allowances : Charset → Text → Allowances
 allowances charset value =
     record {

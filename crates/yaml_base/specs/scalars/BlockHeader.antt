@@ -1,7 +1,7 @@
 -- The header of literal and folded scalars.
 -- Source, unless a definition names its own: libyaml's emitter.
 use Rattle.std.specs.Prelude.{ℕ, Bool, true, false, Option, None, Some, [], ◌∷◌, ◌||◌, ◌+◌, ◌≡◌, if◌then◌else◌}
-use Rattle.yaml_base.specs.Characters.{Text, is_break, is_space, line_feed}
+use Rattle.yaml_base.specs.Characters.{Text, is_blank, is_break, line_feed}
 use Rattle.yaml_base.specs.scalars.Analysis.{begins_with}
 use Rattle.yaml_base.specs.Cursor.{Cursor, Rendered, render_nothing, render_then, render_text, with_flags, indicator}
 
@@ -18,9 +18,9 @@ ending (c ∷ []) = if is_break c then more_breaks else without_break
 ending (c ∷ d ∷ []) = if is_break d then (if is_break c then more_breaks else one_break) else without_break
 ending (c ∷ d ∷ e ∷ rest) = ending (d ∷ e ∷ rest)
 
--- the text's first character is a space or a break
+-- the text's first character is a blank or a break
 abbrev pub begins_blank : Text → Bool
-begins_blank value = begins_with (λ c. is_space c || is_break c) value
+begins_blank value = begins_with (λ c. is_blank c || is_break c) value
 
 -- the digit of the indent, where the first line would not show the indentation
 -- (YAML 1.1, section 9.2.2 Block Indentation Indicator, c-indentation-indicator)

@@ -25,6 +25,11 @@ is_block literal = true
 is_block folded = true
 is_block _ = false
 
+-- the style is literal
+abbrev pub is_literal : ScalarStyle → Bool
+is_literal literal = true
+is_literal _ = false
+
 -- what is asked for: double quotes where they must stand, else the event's style; any is plain
 abbrev pub requested_style : (must_be_double : Bool) → ScalarStyle → ScalarStyle
 requested_style true style = double_quoted

@@ -15,7 +15,7 @@ pub use Rattle.yaml_base.specs.scripts.ScriptWords.{quotation_mark, number_sign,
 pub use Rattle.yaml_base.specs.Words.{is_word}
 pub use Rattle.yaml_base.specs.scripts.ScriptWords.{FieldState, state_after, separates, cut_before, pieces_from, field_read, field_and, read_fields}
 pub use Rattle.yaml_base.specs.scripts.ScriptWords.{fields_read}
-pub use Rattle.yaml_base.specs.scripts.ScriptWords.{flags, switches, indentations, encodings, line_breaks, scalar_styles, collection_styles, number_up_to}
+pub use Rattle.yaml_base.specs.scripts.ScriptWords.{flags, switches, indentations, blanks, encodings, line_breaks, scalar_styles, collection_styles, number_up_to}
 pub use Rattle.yaml_base.specs.Words.{named}
 pub use Rattle.yaml_base.specs.scripts.ScriptWords.{signed_number, at_character, at_escape, at_brace, at_digits, goes_on, stands_for, ends, fails, bare, quoted}
 pub use Rattle.yaml_base.specs.scripts.ScriptWords.{outside, inside, escaped}
@@ -34,6 +34,7 @@ pub data Setting : Type 0 where
   breaks12_set : Bool → Setting
   portable_set : Bool → Setting
   sequences_set : (indented : Bool) → Setting
+  blanks_set : (literal : Bool) → Setting
 
 -- a line says nothing (it is empty or a comment), sets something, or gives an event
 pub data Line : Type 0 where
@@ -65,7 +66,8 @@ setting_of name value =
     else (if is_word name (codes "break") then option_map break_set (named line_breaks value)
     else (if is_word name (codes "breaks12") then option_map breaks12_set (named switches value)
     else (if is_word name (codes "portable") then option_map portable_set (named switches value)
-    else (if is_word name (codes "sequences") then option_map sequences_set (named indentations value) else None)))))))))
+    else (if is_word name (codes "sequences") then option_map sequences_set (named indentations value)
+    else (if is_word name (codes "blanks") then option_map blanks_set (named blanks value) else None))))))))))
 
 -- the name of a setting
 abbrev pub setting_name : Setting → Text
@@ -79,6 +81,7 @@ setting_name (break_set _) = codes "break"
 setting_name (breaks12_set _) = codes "breaks12"
 setting_name (portable_set _) = codes "portable"
 setting_name (sequences_set _) = codes "sequences"
+setting_name (blanks_set _) = codes "blanks"
 
 -- the settings where no line sets anything
 abbrev pub unset : Settings
@@ -96,6 +99,7 @@ with_setting given (break_set line_break) = record given { line_break = line_bre
 with_setting given (breaks12_set on) = record given { breaks12 = on }
 with_setting given (portable_set on) = record given { portable = on }
 with_setting given (sequences_set indented) = record given { indented_sequences = indented }
+with_setting given (blanks_set literal) = record given { literal_blanks = literal }
 
 -- what several lines set together
 abbrev pub settings_of : Settings → List Setting → Settings

@@ -137,6 +137,10 @@ switches = (codes "off", false) ∷ (codes "on", true) ∷ []
 abbrev pub indentations : List (Text × Bool)
 indentations = (codes "undented", false) ∷ (codes "indented", true) ∷ []
 
+-- the words for tabs, and for spaces at the ends of lines, where literal is asked for: whether the text is literal
+abbrev pub blanks : List (Text × Bool)
+blanks = (codes "quoted", false) ∷ (codes "literal", true) ∷ []
+
 -- the names of encodings, line breaks and styles; `any` leaves the choice to the emitter
 abbrev pub encodings : List (Text × Option Encoding)
 encodings = (codes "any", None) ∷ (codes "utf8", Some utf8) ∷ (codes "utf16le", Some utf16_little) ∷ (codes "utf16be", Some utf16_big) ∷ []

@@ -5,7 +5,7 @@ use Rattle.std.specs.Prelude.{ℕ, zero, suc, Bool, true, false, Option, None, S
 use Rattle.std.specs.Prelude.{option_map, option_and_then, is_some, if◌then◌else◌}
 use Rattle.std.specs.Option.{option_or}
 use Rattle.yaml_base.specs.Characters.{Text, space}
-use Rattle.yaml_base.specs.reading.ReadPlain.{is_read_white}
+use Rattle.yaml_base.specs.LineBreaks.{is_read_break}
 use Rattle.yaml_base.specs.streams.StreamContent.{Tree, sequence_tree, mapping_tree, Trees, no_trees, trees_and, TreePairs, no_tree_pairs, tree_pairs_and}
 use Rattle.yaml_base.specs.streams.StreamLines.{Line, text_of_lines, without_blank_lines, begins_blank, ends_indicator, begins_with_indicator}
 use Rattle.yaml_base.specs.streams.StreamLines.{Entries, entries_at}
@@ -179,10 +179,14 @@ abbrev pub prepend_to_trimmed : (is_white : Bool) → ℕ → Text → Text
 prepend_to_trimmed true c [] = []
 prepend_to_trimmed _ c text = c ∷ text
 
--- a text without the blanks and breaks that it ends with
+-- a space or a break; a tab isn't white here
+abbrev pub is_space_or_break : Bool → ℕ → Bool
+is_space_or_break breaks12 c = c == space || is_read_break breaks12 c
+
+-- a text without the spaces and breaks that it ends with
 abbrev pub trimmed : Bool → Text → Text
 trimmed breaks12 [] = []
-trimmed breaks12 (c ∷ rest) = prepend_to_trimmed (is_read_white breaks12 c) c (trimmed breaks12 rest)
+trimmed breaks12 (c ∷ rest) = prepend_to_trimmed (is_space_or_break breaks12 c) c (trimmed breaks12 rest)
 
 -- what a text's first character tells: a block scalar, a flow collection, or a node's own text
 pub data TextKind : Type 0 where

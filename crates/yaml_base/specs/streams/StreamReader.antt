@@ -1,20 +1,20 @@
 -- Reading whole streams back, in every mode, without any word of what writes them: bytes to documents, or nothing. The
--- reader is strict: it refuses what readers of YAML 1.1 disagree on, tabs, comments and characters that aren't printable
--- among it, so that a text that it reads means the same to all of them.
+-- reader is strict: it refuses what readers of YAML 1.1 disagree on, tabs outside literal text, comments and characters that
+-- aren't printable among it, so that a text that it reads means the same to all of them.
 --     stream_trees breaks12 bytes      the documents in some bytes, or nothing
 -- Source, unless a definition names its own: YAML 1.1, section 7.4 Complete Stream, l-yaml-stream, as this project narrows it.
 use Rattle.std.specs.Prelude.{ℕ, Bool, Option, None, List, ◌==◌, ◌||◌, option_and_then, if◌then◌else◌}
 use Rattle.std.specs.List.{list_all}
-use Rattle.yaml_base.specs.Characters.{Text, carriage_return, is_printable}
+use Rattle.yaml_base.specs.Characters.{Text, carriage_return, tab, is_printable}
 use Rattle.yaml_base.specs.LineBreaks.{with_line_breaks_read}
 use Rattle.yaml_base.specs.reading.ReadBytes.{characters_read}
 use Rattle.yaml_base.specs.streams.StreamContent.{DocumentTree}
 use Rattle.yaml_base.specs.streams.StreamDocuments.{documents_of}
 
--- a character that a stream may hold as itself; CR and LF break its lines
--- (YAML 1.1, section 5.1 Character Set, c-printable; without tab, U+0085 and U+FEFF by this project)
+-- a character that a stream may hold as itself, tabs in literal text alone; CR and LF break its lines
+-- (YAML 1.1, section 5.1 Character Set, c-printable; without U+0085 and U+FEFF by this project)
 abbrev pub may_stand_raw : ℕ → Bool
-may_stand_raw c = c == carriage_return || is_printable c
+may_stand_raw c = c == carriage_return || c == tab || is_printable c
 
 -- the documents of a stream's characters (YAML 1.1, section 7.4 Complete Stream, l-yaml-stream)
 abbrev pub text_trees : Bool → Text → Option (List DocumentTree)

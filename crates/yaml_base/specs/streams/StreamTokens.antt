@@ -3,7 +3,7 @@
 -- Source, unless a definition names its own: helpers of this project's reader for c-flow-sequence(n,c) and c-flow-mapping(n,c)
 -- (YAML 1.1, sections 10.1.1 Flow Sequences and 10.2.1 Flow Mappings).
 use Rattle.std.specs.Prelude.{ℕ, Bool, true, false, List, [], ◌∷◌, ◌++◌, ◌==◌, ◌||◌, ◌&&◌, map, codes, if◌then◌else◌}
-use Rattle.yaml_base.specs.Characters.{Text, is_among, is_blank}
+use Rattle.yaml_base.specs.Characters.{Text, is_among, space}
 use Rattle.yaml_base.specs.LineBreaks.{is_read_break}
 
 -- a node's own text; a bracket that opens a collection, after the text of its properties; an indicator; a blank; a break; a
@@ -57,11 +57,11 @@ pub data FlowClass : Type 0 where
   begins_bracket : FlowClass
   begins_plain : FlowClass
 
--- the class of a character: a blank, a break, one of `]},:?`, one of `&!`, a quote, a bracket, or any other
+-- the class of a character: a space, a break, one of `]},:?`, one of `&!`, a quote, a bracket, or any other
 -- (YAML 1.1, sections 5.3 Indicator Characters, 5.4 Line Break Characters and 5.5 Miscellaneous Characters, c-indicator, b-normalized, s-char)
 abbrev pub class_of : Bool → ℕ → FlowClass
 class_of breaks12 c =
-    if is_blank c then is_white_blank
+    if c == space then is_white_blank
     else (if is_read_break breaks12 c then is_white_break
     else (if is_among (codes "]},:?") c then is_flow_indicator
     else (if is_among (codes "&!") c then begins_property

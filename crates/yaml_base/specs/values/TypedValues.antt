@@ -196,6 +196,7 @@ typed_settings =
       breaks12 = false;
       portable = false;
       indented_sequences = false;
+      literal_blanks = false;
       limit = largest_usize;
     }
 
