@@ -11,6 +11,7 @@ pub use Rattle.yaml_base.proofs.Common.{with_line_breaks_read, is_read_break, is
 pub use Rattle.yaml_base.proofs.Common.{with_unit, quoted_from, read_double, FoldUnit, unit_of, folding_read, is_read_white, begins_no_plain, holds_no_plain}
 pub use Rattle.yaml_base.proofs.Common.{read_plain, read_single, begins_with_spaces, begins_with_blank_line, begins_with_deep_line, has_deep_lines, Charset}
 pub use Rattle.yaml_base.proofs.Common.{Allowances, somewhere, is_empty, is_special, bars_block, allows_block, allowances, ending, indentation_hint}
+pub use Rattle.yaml_base.proofs.Common.{is_special_but_tab, is_blank_to_line_end, begins_with_blanks_alone, bars_literal, allows_literal}
 pub use Rattle.yaml_base.proofs.Common.{ending_hint, render_hint, short_escapes, letter_among, escape_after_backslash, escape_text, needs_escape}
 pub use Rattle.yaml_base.proofs.Common.{character_text, double_inside, render_quote, folded_parts, parts, runs, render_runs, quotes_doubled, single_quote}
 pub use Rattle.yaml_base.proofs.Common.{Choice, chosen}

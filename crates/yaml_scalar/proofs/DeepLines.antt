@@ -1,13 +1,15 @@
 -- Texts whose lines after the first stand at least so many spaces deep, and in which no space stands before a break: how they
 -- are put together.
 use Rattle.yaml_scalar.proofs.Common.{suc, zero, ℕ, ◌≤◌, ◌==◌, replicate, Bool, false, not, true, [], ◌++◌, ◌∷◌, refl, ◌≡◌, eqb-true, ap, arith}
+use Rattle.yaml_scalar.proofs.Common.{◌∙◌, ◌||◌, ◌&&◌, or_from, tab, is_blank}
 use Rattle.yaml_scalar.proofs.Common.{and_from, or_left, or_right, false≢true, Text, space, is_read_break, begins_with_spaces, begins_with_blank_line}
 use Rattle.yaml_scalar.proofs.Common.{begins_with_deep_line, has_deep_lines, begins_with_break}
 use Rattle.yaml_base.proofs.Common.{has_no_space_before_break}
 
--- neither a space nor a break of a reader
+-- neither a blank nor a break of a reader
 pub record Ink (breaks12 : Bool) (c : ℕ) : Type 0 where
   pub no_space : (c == space) ≡ false
+  pub no_tab : (c == tab) ≡ false
   pub no_break : is_read_break breaks12 c ≡ false
 
 -- a text begins with such a character
@@ -40,10 +42,15 @@ module _ (breaks12 : Bool) where
   ink_unbroken [] h = absurd h
   ink_unbroken (c ∷ rest) h = h.no_break
 
+  -- a line that begins with neither a blank nor a break isn't blank
+  pub unblank_line : (c : ℕ) (rest : Text) → is_read_break breaks12 c ≡ false → is_blank c ≡ false → begins_with_blank_line breaks12 (c ∷ rest) ≡ false
+  unblank_line c rest goes_on shows =
+      ap (λ x. x || (is_blank c && begins_with_blank_line breaks12 rest)) goes_on ∙ ap (λ x. x && begins_with_blank_line breaks12 rest) shows
+
   -- a line of spaces and then ink isn't blank
   blank_spaces : (n : ℕ) (text : Text) → BeginsInk breaks12 text → begins_with_blank_line breaks12 (replicate n space ++ text) ≡ false
   blank_spaces zero [] h = absurd h
-  blank_spaces zero (c ∷ rest) h = simp (h.no_break, h.no_space)
+  blank_spaces zero (c ∷ rest) h = unblank_line c rest h.no_break (or_from (c == space) (c == tab) h.no_space h.no_tab)
   blank_spaces (suc n) text h = simp (space_unbroken breaks12, blank_spaces n text h)
 
   -- an indentation begins with as many spaces or fewer

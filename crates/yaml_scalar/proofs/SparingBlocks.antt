@@ -2,6 +2,7 @@
 -- value that a style allows is written without a special character.
 use Rattle.yaml_scalar.proofs.Common.{ℕ, ◌+◌, ◌≤◌, if◌then◌else◌, ◌==◌, Option, replicate, Bool, false, not, true, ◌&&◌, List, [], ◌++◌, ◌∷◌, refl, ◌≡◌, le-leb}
 use Rattle.yaml_scalar.proofs.Common.{ap, ◌∙◌, arith, and_from, or_parts, not-true, list_any, Text, line_feed, space, is_space, is_break, Cursor, Charset}
+use Rattle.yaml_scalar.proofs.Common.{◌||◌, is_empty, is_special_but_tab, begins_with_blanks_alone, bars_literal, allows_literal}
 use Rattle.yaml_scalar.proofs.Common.{somewhere, begins_with, is_special, bars_single_quoted, bars_block, allows_plain, allows_single_quoted, allows_block}
 use Rattle.yaml_scalar.proofs.Common.{Ending, without_break, one_break, more_breaks, ending, begins_blank, ending_hint, block_body, folds, cut_from, cut_line}
 use Rattle.yaml_scalar.proofs.Common.{next_line_unindented, folded_parts, folded_body, Part, line, line_break, begun, parts, indented, literal_body}
@@ -160,3 +161,15 @@ module _ (charset : Charset) where
   -- where block styles are
   pub block_unspecial : (value : Text) → allows_block charset value ≡ true → list_any (is_special charset) value ≡ false
   block_unspecial value h = special_block value (or_parts _ _ (not-true _ h)).1
+
+  -- where literal is and blanks are literal, but for tabs
+  special_literal : (value : Text) → somewhere (bars_literal charset) value ≡ false → list_any (is_special_but_tab charset) value ≡ false
+  special_literal [] h = refl
+  special_literal (c ∷ rest) h =
+      let p = or_parts (bars_literal charset c rest) (somewhere (bars_literal charset) rest) h in
+      any_one (is_special_but_tab charset) c rest (or_parts (is_special_but_tab charset c) (is_break c && begins_with_blanks_alone rest) p.0).0
+      (special_literal rest p.1)
+
+  pub literal_unspecial : (value : Text) → allows_literal charset value ≡ true → list_any (is_special_but_tab charset) value ≡ false
+  literal_unspecial value h =
+      special_literal value (or_parts (is_empty value || begins_with_blanks_alone value) (somewhere (bars_literal charset) value) (not-true _ h)).1

@@ -1,19 +1,22 @@
--- Block scalars have deep lines: each line after the header holds a character that is no space, and stands at its indentation.
+-- Block scalars have deep lines: each line after the header holds a character that is no blank, and stands at its indentation.
 use Rattle.yaml_scalar.proofs.Common.{arith, suc, zero, ℕ, ◌+◌, ◌≤◌, if◌then◌else◌, Option, replicate, Bool, false, not, true, List, [], ◌++◌}
 use Rattle.yaml_scalar.proofs.Common.{◌∷◌, ◌⊎◌, refl, ◌≡◌, true≢false, append_assoc, inl, inr, ap, sym, ◌∙◌, and_from, or_parts, or_right, not-true, Text}
+use Rattle.yaml_scalar.proofs.Common.{or_from, and-false, tab, ◌==◌, ◌&&◌, ◌||◌, is_blank, is_special, is_special_but_tab, is_blank_to_line_end}
+use Rattle.yaml_scalar.proofs.Common.{begins_with_blanks_alone, bars_literal, allows_literal}
 use Rattle.yaml_scalar.proofs.Common.{line_feed, space, is_space, is_break, Cursor, is_read_break, begins_with_spaces, begins_with_blank_line}
 use Rattle.yaml_scalar.proofs.Common.{begins_with_deep_line, has_deep_lines, Charset, somewhere, begins_with, is_empty, bars_block, allows_block, Ending}
 use Rattle.yaml_scalar.proofs.Common.{without_break, one_break, more_breaks, ending, begins_blank, ending_hint, block_body, folds, cut_from, cut_line}
 use Rattle.yaml_scalar.proofs.Common.{folded_parts, folded_body, Part, line, line_break, begun, parts, indented, literal_body}
 use Rattle.yaml_scalar.proofs.{Sparing.is_graph, SparingBlocks.one_digit, TidyQuoted.graph_no_break, blocks.BlockFolds.fold-spaced}
-use Rattle.yaml_scalar.proofs.DeepLines.{Unbroken, space_unbroken, enough_spaces, deep_break, deep_unbroken, spaces_unbroken, deep_after}
-use Rattle.yaml_scalar.proofs.blocks.BlockReads.{ordinary, block-text, digit_text, block_indicator_of}
+use Rattle.yaml_scalar.proofs.DeepLines.{Unbroken, unblank_line, space_unbroken, enough_spaces, deep_break, deep_unbroken, spaces_unbroken, deep_after}
+use Rattle.yaml_base.proofs.Charsets.{special_tab}
+use Rattle.yaml_scalar.proofs.blocks.BlockReads.{ordinary, ordinary-or-tab, block-text, digit_text, block_indicator_of}
 
 module _ (breaks12 : Bool) where
-  -- some character of a text is no space
+  -- some character of a text is no blank
   abbrev pub HasInk : Text → Type 0
   HasInk [] = ⊥
-  HasInk (c ∷ rest) = (is_space c ≡ false) ⊎ HasInk rest
+  HasInk (c ∷ rest) = (is_blank c ≡ false) ⊎ HasInk rest
 
   -- each line holds such a character and no break, and line breaks break lines
   abbrev pub AreFull : List Part → Type 0
@@ -24,12 +27,13 @@ module _ (breaks12 : Bool) where
   -- a line isn't blank where what follows its first character isn't
   blank_after : (c : ℕ) (further : Text) → is_read_break breaks12 c ≡ false → begins_with_blank_line breaks12 further ≡ false
       → begins_with_blank_line breaks12 (c ∷ further) ≡ false
-  blank_after c further u h = grind (arith)
+  blank_after c further u h =
+      ap (λ x. x || (is_blank c && begins_with_blank_line breaks12 further)) u ∙ ap (λ x. is_blank c && x) h ∙ and-false (is_blank c)
 
   -- such a line isn't blank
   full_blank : (text rest : Text) → Unbroken breaks12 text → HasInk text → begins_with_blank_line breaks12 (text ++ rest) ≡ false
   full_blank [] rest u h = absurd h
-  full_blank (c ∷ text) rest u (inl s) = simp (u.0, s)
+  full_blank (c ∷ text) rest u (inl s) = unblank_line breaks12 c (text ++ rest) u.0 s
   full_blank (c ∷ text) rest u (inr more) = blank_after c (text ++ rest) u.0 (full_blank text rest u.1 more)
 
   -- nor is it behind spaces
@@ -93,11 +97,11 @@ module _ (breaks12 : Bool) where
 
   -- Lines of a value
 
-  -- the last character of a text, which holds one, is no space
+  -- the last character of a text, which holds one, is no blank, and none is a tab
   abbrev EndsInk : Text → Type 0
   EndsInk [] = ⊥
-  EndsInk (c ∷ []) = is_space c ≡ false
-  EndsInk (c ∷ d ∷ rest) = EndsInk (d ∷ rest)
+  EndsInk (c ∷ []) = is_blank c ≡ false
+  EndsInk (c ∷ d ∷ rest) = ((c == tab) ≡ false) × EndsInk (d ∷ rest)
 
   -- each line of a value is such, and holds no break
   abbrev AreEnded : List Part → Type 0
@@ -105,17 +109,11 @@ module _ (breaks12 : Bool) where
   AreEnded (line text ∷ rest) = Unbroken breaks12 text × EndsInk text × AreEnded rest
   AreEnded (line_break b ∷ rest) = (is_read_break breaks12 b ≡ true) × AreEnded rest
 
-  -- such a text holds a character that is no space
+  -- such a text holds a character that is no blank
   ended_ink : (text : Text) → EndsInk text → HasInk text
   ended_ink [] h = absurd h
   ended_ink (c ∷ []) h = inl h
-  ended_ink (c ∷ d ∷ rest) h = inr (ended_ink (d ∷ rest) h)
-
-  -- such parts are full
-  ended_full : (ps : List Part) → AreEnded ps → AreFull ps
-  ended_full [] h = tt
-  ended_full (line text ∷ rest) h = (h.0, ended_ink text h.1, ended_full rest h.2)
-  ended_full (line_break b ∷ rest) h = (h.0, ended_full rest h.1)
+  ended_ink (c ∷ d ∷ rest) h = inr (ended_ink (d ∷ rest) h.1)
 
   -- parts that begin with a line
   abbrev BeginsLine : List Part → Type 0
@@ -130,23 +128,24 @@ module _ (breaks12 : Bool) where
   begun_line c (line_break b ∷ rest) = tt
 
   -- one more character before such a text
-  ended_more : (c : ℕ) (text : Text) → EndsInk text → EndsInk (c ∷ text)
-  ended_more c [] h = absurd h
-  ended_more c (d ∷ rest) h = h
+  ended_more : (c : ℕ) (text : Text) → (c == tab) ≡ false → EndsInk text → EndsInk (c ∷ text)
+  ended_more c [] t h = absurd h
+  ended_more c (d ∷ rest) t h = (t, h)
 
-  -- a character before such parts, where it isn't a space that ends a line
-  ended_begun : (c : ℕ) (ps : List Part) → is_read_break breaks12 c ≡ false → (is_space c ≡ false) ⊎ BeginsLine ps → AreEnded ps → AreEnded (begun c ps)
-  ended_begun c [] u (inl s) h = ((u, tt), s, tt)
-  ended_begun c [] u (inr begins) h = absurd begins
-  ended_begun c (line text ∷ rest) u s h = ((u, h.0), ended_more c text h.1, h.2)
-  ended_begun c (line_break b ∷ rest) u (inl s) h = ((u, tt), s, h)
-  ended_begun c (line_break b ∷ rest) u (inr begins) h = absurd begins
+  -- a character before such parts, where it isn't a blank that ends a line
+  ended_begun : (c : ℕ) (ps : List Part) → is_read_break breaks12 c ≡ false → (c == tab) ≡ false → (is_blank c ≡ false) ⊎ BeginsLine ps → AreEnded ps
+      → AreEnded (begun c ps)
+  ended_begun c [] u t (inl s) h = ((u, tt), s, tt)
+  ended_begun c [] u t (inr begins) h = absurd begins
+  ended_begun c (line text ∷ rest) u t s h = ((u, h.0), ended_more c text t h.1, h.2)
+  ended_begun c (line_break b ∷ rest) u t (inl s) h = ((u, tt), s, h)
+  ended_begun c (line_break b ∷ rest) u t (inr begins) h = absurd begins
 
   -- a break or such a character
-  ended_part : (b : Bool) (c : ℕ) (ps : List Part) → is_read_break breaks12 c ≡ b → (is_space c ≡ false) ⊎ BeginsLine ps → AreEnded ps
+  ended_part : (b : Bool) (c : ℕ) (ps : List Part) → is_read_break breaks12 c ≡ b → (c == tab) ≡ false → (is_blank c ≡ false) ⊎ BeginsLine ps → AreEnded ps
       → AreEnded (if b then line_break c ∷ ps else begun c ps)
-  ended_part true c ps e s h = (e, h)
-  ended_part false c ps e s h = ended_begun c ps e s h
+  ended_part true c ps e t s h = (e, h)
+  ended_part false c ps e t s h = ended_begun c ps e t s h
 
   -- Lines that are cut
 
@@ -166,11 +165,16 @@ module _ (breaks12 : Bool) where
   -- what follows the first character
   ended_rest : (c : ℕ) (rest : Text) → EndsInk (c ∷ rest) → EndsInkOrNone rest
   ended_rest c [] h = tt
-  ended_rest c (d ∷ rest) h = h
+  ended_rest c (d ∷ rest) h = h.1
+
+  -- the first character is no tab
+  ended_no_tab : (c : ℕ) (rest : Text) → EndsInk (c ∷ rest) → (c == tab) ≡ false
+  ended_no_tab c [] h = (or_parts (is_space c) (c == tab) h).1
+  ended_no_tab c (d ∷ rest) h = h.0
 
   -- a space isn't the last
   ended_some : (c : ℕ) (rest : Text) → EndsInk (c ∷ rest) → is_space c ≡ true → is_empty rest ≡ false
-  ended_some c [] h s = absurd (true≢false (sym s ∙ h))
+  ended_some c [] h s = absurd (true≢false (sym s ∙ (or_parts (is_space c) (c == tab) h).0))
   ended_some c (d ∷ rest) h s = refl
 
   -- one character more
@@ -180,7 +184,8 @@ module _ (breaks12 : Bool) where
   cut_step c rest u ends [] k fold f = absurd k
   cut_step c rest u ends (line_break b ∷ others) k fold f = absurd k
   cut_step c rest u ends (line first ∷ others) k true f = grind (arith, ended_some, true≢false)
-  cut_step c rest u ends (line first ∷ others) k false f = ((u, k.0), k.1, λ none some. inl none)
+  cut_step c rest u ends (line first ∷ others) k false f =
+      ((u, k.0), k.1, λ none some. inl (or_from (is_space c) (c == tab) none (ended_no_tab c rest ends)))
 
   -- a line from some column on
   cut_known : (limit : Option ℕ) (indent column : ℕ) (text : Text) → Unbroken breaks12 text → EndsInkOrNone text
@@ -233,33 +238,133 @@ module _ (breaks12 : Bool) where
 
 -- A value that block styles may hold.
 module _ (charset : Charset) where
-  -- a space stands neither last nor before a break
+  -- a blank stands neither last nor before a break
+  blank_last : (c : ℕ) (rest : Text) → is_special charset c ≡ false → (is_space c ≡ false) ⊎ BeginsLine charset.breaks12 (parts rest)
+      → (is_blank c ≡ false) ⊎ BeginsLine charset.breaks12 (parts rest)
+  blank_last c rest special (inl none) = inl (or_from (is_space c) (c == tab) none (special_tab charset c special))
+  blank_last c rest special (inr begins) = inr begins
+
   space_inside : (c : ℕ) (rest : Text) → bars_block charset c rest ≡ false → (is_space c ≡ false) ⊎ BeginsLine charset.breaks12 (parts rest)
   space_inside c [] h = grind (arith, or_parts)
   space_inside c (d ∷ rest) h = grind (arith, or_parts, begun_line)
 
-  -- such a value's lines end with no space
+  -- such a value's lines end with no blank
   parts_ended : (value : Text) → somewhere (bars_block charset) value ≡ false → AreEnded charset.breaks12 (parts value)
   parts_ended [] h = tt
   parts_ended (c ∷ rest) h =
       let split = or_parts (bars_block charset c rest) (somewhere (bars_block charset) rest) h in
       let special = (or_parts _ _ (or_parts _ _ split.0).0).0 in
-      ended_part charset.breaks12 (is_break c) c (parts rest) (ordinary charset c special).same_break (space_inside c rest split.0) (parts_ended rest split.1)
+      ended_part charset.breaks12 (is_break c) c (parts rest) (ordinary charset c special).same_break (special_tab charset c special)
+      (blank_last c rest special (space_inside c rest split.0)) (parts_ended rest split.1)
 
   -- where block styles are allowed
   value_ended : (value : Text) → allows_block charset value ≡ true → AreEnded charset.breaks12 (parts value)
   value_ended value allowed = parts_ended value (or_parts (is_empty value) _ (not-true _ allowed)).1
 
-  -- a literal body has deep lines
-  pub literal_deep : (count indent best_indent : ℕ) (value : Text) (cursor : Cursor) → count ≤ indent → best_indent ≤ 9 → allows_block charset value ≡ true
-      → has_deep_lines charset.breaks12 count (literal_body indent best_indent value cursor).text ≡ true
-  literal_deep count indent best_indent value cursor enough high allowed =
-      block_deep charset.breaks12 count indent enough false best_indent value (parts value) cursor (one_digit best_indent high)
-      (ended_full charset.breaks12 (parts value) (value_ended value allowed))
-
-  -- and a folded body
+  -- a folded body has deep lines
   pub folded_deep : (count : ℕ) (limit : Option ℕ) (indent best_indent : ℕ) (value : Text) (cursor : Cursor) → count ≤ indent → best_indent ≤ 9
       → allows_block charset value ≡ true → has_deep_lines charset.breaks12 count (folded_body limit indent best_indent value cursor).text ≡ true
   folded_deep count limit indent best_indent value cursor enough high allowed =
       block_deep charset.breaks12 count indent enough true best_indent value (folded_parts limit indent false (parts value)) cursor (one_digit best_indent high)
       (folded_full charset.breaks12 limit indent false (parts value) (value_ended value allowed))
+
+-- A value that literal may hold where blanks are literal.
+module _ (charset : Charset) where
+  -- all parts but the first are full, and the first holds no break
+  abbrev FullBehindFirst : List Part → Type 0
+  FullBehindFirst [] = Unit {0}
+  FullBehindFirst (line text ∷ rest) = Unbroken charset.breaks12 text × AreFull charset.breaks12 rest
+  FullBehindFirst (line_break b ∷ rest) = (is_read_break charset.breaks12 b ≡ true) × AreFull charset.breaks12 rest
+
+  -- the first part is a line that isn't of blanks alone
+  abbrev BeginsInked : List Part → Type 0
+  BeginsInked [] = ⊥
+  BeginsInked (line text ∷ rest) = HasInk charset.breaks12 text
+  BeginsInked (line_break b ∷ rest) = ⊥
+
+  -- if the first part is a line, it isn't
+  abbrev BeginsUnblank : List Part → Type 0
+  BeginsUnblank [] = Unit {0}
+  BeginsUnblank (line text ∷ rest) = HasInk charset.breaks12 text
+  BeginsUnblank (line_break b ∷ rest) = Unit {0}
+
+  -- a character that is no blank begins such a line, and a blank goes on to one
+  inked_begun : (c : ℕ) (ps : List Part) → is_blank c ≡ false → BeginsInked (begun c ps)
+  inked_begun c [] e = inl e
+  inked_begun c (line text ∷ rest) e = inl e
+  inked_begun c (line_break b ∷ rest) e = inl e
+
+  inked_more : (c : ℕ) (ps : List Part) → BeginsInked ps → BeginsInked (begun c ps)
+  inked_more c [] h = absurd h
+  inked_more c (line text ∷ rest) h = inr h
+  inked_more c (line_break b ∷ rest) h = absurd h
+
+  -- so it is where a text isn't of blanks alone up to the end of its line
+  inked : (value : Text) → is_blank_to_line_end value ≡ false → BeginsInked (parts value)
+  inked [] h = absurd (true≢false h)
+  inked (c ∷ rest) h =
+      let goes_on = or_parts (is_break c) (is_blank c && is_blank_to_line_end rest) h in
+      by (is_break c) goes_on.0 (through (is_blank c) refl goes_on.1 (λ more. inked rest more))
+    where
+      through : (x : Bool) → is_blank c ≡ x → (x && is_blank_to_line_end rest) ≡ false
+          → (is_blank_to_line_end rest ≡ false → BeginsInked (parts rest)) → BeginsInked (begun c (parts rest))
+      through true e h more = inked_more c (parts rest) (more h)
+      through false e h more = inked_begun c (parts rest) e
+
+      by : (x : Bool) → x ≡ false → BeginsInked (begun c (parts rest)) → BeginsInked (if x then line_break c ∷ parts rest else begun c (parts rest))
+      by true e h = absurd (true≢false e)
+      by false e h = h
+
+  unblank : (ps : List Part) → BeginsInked ps → BeginsUnblank ps
+  unblank [] h = absurd h
+  unblank (line text ∷ rest) h = h
+  unblank (line_break b ∷ rest) h = absurd h
+
+  -- where no line of blanks alone begins, the first line isn't one
+  unblank_first : (value : Text) → begins_with_blanks_alone value ≡ false → BeginsUnblank (parts value)
+  unblank_first [] h = tt
+  unblank_first (c ∷ rest) h = by (is_break c) (through (is_blank c) refl h)
+    where
+      through : (x : Bool) → is_blank c ≡ x → (x && is_blank_to_line_end rest) ≡ false → BeginsInked (begun c (parts rest))
+      through true e h = inked_more c (parts rest) (inked rest h)
+      through false e h = inked_begun c (parts rest) e
+
+      by : (x : Bool) → BeginsInked (begun c (parts rest)) → BeginsUnblank (if x then line_break c ∷ parts rest else begun c (parts rest))
+      by true h = tt
+      by false h = unblank (begun c (parts rest)) h
+
+  -- then all are full
+  all_full : (ps : List Part) → FullBehindFirst ps → BeginsUnblank ps → AreFull charset.breaks12 ps
+  all_full [] h k = tt
+  all_full (line text ∷ rest) h k = (h.0, k, h.1)
+  all_full (line_break b ∷ rest) h k = h
+
+  -- a character before such parts
+  full_begun : (c : ℕ) (ps : List Part) → is_read_break charset.breaks12 c ≡ false → FullBehindFirst ps → FullBehindFirst (begun c ps)
+  full_begun c [] u h = ((u, tt), tt)
+  full_begun c (line text ∷ rest) u h = ((u, h.0), h.1)
+  full_begun c (line_break b ∷ rest) u h = ((u, tt), h)
+
+  full_behind : (value : Text) → somewhere (bars_literal charset) value ≡ false → FullBehindFirst (parts value)
+  full_behind [] h = tt
+  full_behind (c ∷ rest) h =
+      let split = or_parts (bars_literal charset c rest) (somewhere (bars_literal charset) rest) h in
+      let bars = or_parts (is_special_but_tab charset c) (is_break c && begins_with_blanks_alone rest) split.0 in
+      by (is_break c) (ordinary-or-tab charset c bars.0).same_break bars.1 (full_behind rest split.1)
+    where
+      by : (x : Bool) → is_read_break charset.breaks12 c ≡ x → (x && begins_with_blanks_alone rest) ≡ false → FullBehindFirst (parts rest)
+          → FullBehindFirst (if x then line_break c ∷ parts rest else begun c (parts rest))
+      by true e h more = (e, all_full (parts rest) more (unblank_first rest h))
+      by false e h more = full_begun c (parts rest) e more
+
+  value_full : (value : Text) → allows_literal charset value ≡ true → AreFull charset.breaks12 (parts value)
+  value_full value allowed =
+      let bars = or_parts (is_empty value || begins_with_blanks_alone value) (somewhere (bars_literal charset) value) (not-true _ allowed) in
+      all_full (parts value) (full_behind value bars.1)
+      (unblank_first value (or_parts (is_empty value) (begins_with_blanks_alone value) bars.0).1)
+
+  -- a literal body has deep lines
+  pub literal_deep : (count indent best_indent : ℕ) (value : Text) (cursor : Cursor) → count ≤ indent → best_indent ≤ 9
+      → allows_literal charset value ≡ true → has_deep_lines charset.breaks12 count (literal_body indent best_indent value cursor).text ≡ true
+  literal_deep count indent best_indent value cursor enough high allowed =
+      block_deep charset.breaks12 count indent enough false best_indent value (parts value) cursor (one_digit best_indent high) (value_full value allowed)

@@ -2,11 +2,11 @@
 -- break; a plain text has no blank and no break at its edges.
 use Rattle.yaml_scalar.proofs.Common.{arith, ℕ, ◌≤◌, if◌then◌else◌, ◌==◌, Option, Bool, false, not, true, ◌&&◌, ◌||◌, [], ◌++◌, ◌∷◌, refl, ◌≡◌, eqb-true}
 use Rattle.yaml_scalar.proofs.Common.{true≢false, append-nil, append_assoc, ap, subst, sym, ◌∙◌, and_parts, and_from, or_parts, or_from, not-true, false≢true}
-use Rattle.yaml_scalar.proofs.Common.{Text, line_feed, space, is_space, is_break, Cursor, render_text, is_past_width, is_read_break, is_read_white}
+use Rattle.yaml_scalar.proofs.Common.{Text, line_feed, space, tab, is_space, is_blank, is_break, Cursor, render_text, is_past_width, is_read_break, is_read_white}
 use Rattle.yaml_scalar.proofs.Common.{begins_with_break, Charset, somewhere, begins_with, is_empty, is_special, begins_unlike_plain, bars_plain}
 use Rattle.yaml_scalar.proofs.Common.{bars_single_quoted, allows_plain, allows_single_quoted, Kind, spaces, breaks, others, kind_of, is_same_kind, indentation}
 use Rattle.yaml_scalar.proofs.Common.{plain_body, quotes_doubled, single_quote, single_quoted_body, begins_kind, step_text, render_steps}
-use Rattle.yaml_base.proofs.Common.{ends_white, has_clean_edges}
+use Rattle.yaml_base.proofs.{Charsets.special_tab, Common.ends_white, Common.has_clean_edges}
 use Rattle.yaml_scalar.proofs.{LineIndents.others_only, LineRuns.runs_by_steps, SingleReads.doubled_writes, blocks.BlockReads.ordinary}
 use Rattle.yaml_scalar.proofs.LineFolds.{spaces_only, breaks_only}
 use Rattle.yaml_scalar.proofs.DeepLines.{Ink, BeginsInk, AllInk, space_unbroken, ink_unbroken, deep_break, IsEven, even_ink, even_space, even_break, even_line}
@@ -73,8 +73,8 @@ abbrev ending_quote : Bool → Text
 ending_quote closed = if closed then 39 ∷ [] else []
 
 quote_ink : (breaks12 : Bool) → Ink breaks12 39
-quote_ink true = record { no_space = refl; no_break = refl }
-quote_ink false = record { no_space = refl; no_break = refl }
+quote_ink true = record { no_space = refl; no_tab = refl; no_break = refl }
+quote_ink false = record { no_space = refl; no_tab = refl; no_break = refl }
 
 module _ (charset : Charset) (count indent : ℕ) (enough : count ≤ indent) (closed : Bool) where
   -- what is known of a value's lines from some character on, up to the closing quote
@@ -147,7 +147,7 @@ module _ (charset : Charset) (count indent : ℕ) (enough : count ≤ indent) (c
 
   -- a character that isn't special and neither a space nor a break is ink
   ink_of : (c : ℕ) → is_special charset c ≡ false → kind_of c ≡ others → Ink charset.breaks12 c
-  ink_of c clean k = grind (arith, others_no_space, ordinary, others_only)
+  ink_of c clean k = grind (arith, others_no_space, special_tab, ordinary, others_only)
 
   -- how each character of a value is written
   record InksEach (written : Text → Text) : Type 0 where
@@ -288,7 +288,10 @@ step_some folds indent before others c rest = (c, [], refl)
 -- a character of plain text that is no space is no blank and no break
 plain_white : (charset : Charset) (flow : Bool) (c : ℕ) (rest : Text) → bars_plain charset flow c rest ≡ false → is_space c ≡ false
     → is_read_white charset.breaks12 c ≡ false
-plain_white charset flow c rest h s = grind (arith, or_parts, ordinary, or_from)
+plain_white charset flow c rest h s =
+    let bars = or_parts _ _ (or_parts _ _ (or_parts _ _ (or_parts _ _ h).0).0).0 in
+    or_from (is_blank c) (is_read_break charset.breaks12 c) (or_from (is_space c) (c == tab) s (special_tab charset c bars.0))
+    ((ordinary charset c bars.0).same_break ∙ bars.1)
 
 -- the last character of plain text is no space
 plain_last : (charset : Charset) (flow : Bool) (c : ℕ) → bars_plain charset flow c [] ≡ false → is_space c ≡ false

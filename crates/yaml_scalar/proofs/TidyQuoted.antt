@@ -2,10 +2,10 @@
 -- no space, and no space stands before a break.
 use Rattle.yaml_scalar.proofs.Common.{ℕ, ◌≤◌, if◌then◌else◌, ◌==◌, Option, None, Some, replicate, Bool, false, true, ◌&&◌, [], ◌++◌, ◌∷◌, refl, ◌≡◌, eqb-true}
 use Rattle.yaml_scalar.proofs.Common.{true≢false, append_assoc, inl, inr, ap, subst, sym, ◌∙◌, arith, and_parts, and_right, nat_tests, list_all, Text}
-use Rattle.yaml_scalar.proofs.Common.{line_feed, space, is_space, Cursor, Rendered, render_then, render_text, breaks_line, is_past_width, is_read_break}
+use Rattle.yaml_scalar.proofs.Common.{line_feed, space, tab, is_space, Cursor, Rendered, render_then, render_text, breaks_line, is_past_width, is_read_break}
 use Rattle.yaml_scalar.proofs.Common.{begins_with_break, quote, backslash, escape_text, needs_escape, character_text, is_other, may_fold, space_kept}
 use Rattle.yaml_scalar.proofs.Common.{double_fold, double_inside, double_quoted_body}
-use Rattle.yaml_scalar.proofs.{Sparing.is_graph, Sparing.escape_graph, Unbroken.unescaped}
+use Rattle.yaml_scalar.proofs.{LineFolds.unlike, Sparing.is_graph, Sparing.escape_graph, Unbroken.unescaped}
 use Rattle.yaml_scalar.proofs.DeepLines.{Ink, BeginsInk, AllInk, space_unbroken, ink_unbroken, IsEven, even_ink, even_space, even_line, even_nothing}
 use Rattle.yaml_scalar.proofs.DoubleReads.{no-read-break, space-text, may-fold-other, Fits, fits-breaks, kept-column, fits-character, quoted_cursor}
 
@@ -17,9 +17,13 @@ graph_no_break breaks12 c h = no-read-break breaks12 c (grind (arith, nat_tests)
 graph_no_space : (c : ℕ) → is_graph c ≡ true → (c == space) ≡ false
 graph_no_space c h = grind (arith, nat_tests)
 
+-- nor is it a tab
+graph_no_tab : (c : ℕ) → is_graph c ≡ true → (c == tab) ≡ false
+graph_no_tab c h = grind (arith, nat_tests)
+
 -- printable ASCII but the space is ink
 graph_ink : (breaks12 : Bool) (c : ℕ) → is_graph c ≡ true → Ink breaks12 c
-graph_ink breaks12 c h = record { no_space = graph_no_space c h; no_break = graph_no_break breaks12 c h }
+graph_ink breaks12 c h = record { no_space = graph_no_space c h; no_tab = graph_no_tab c h; no_break = graph_no_break breaks12 c h }
 
 -- a text of it is all ink
 graph_inks : (breaks12 : Bool) (text : Text) → list_all is_graph text ≡ true → AllInk breaks12 text
@@ -27,13 +31,19 @@ graph_inks breaks12 [] h = tt
 graph_inks breaks12 (c ∷ rest) h = let p = and_parts (is_graph c) (list_all is_graph rest) h in (graph_ink breaks12 c p.0, graph_inks breaks12 rest p.1)
 
 module _ (breaks12 unicode : Bool) (count indent : ℕ) (enough : count ≤ indent) where
+  -- a character that is no space and needs no escape
+  raw_ink : (c : ℕ) → is_space c ≡ false → needs_escape unicode c ≡ false → Ink breaks12 c
+  raw_ink c s e =
+      let raw = unescaped unicode c e in
+      record { no_space = s; no_tab = unlike c tab raw.printable refl; no_break = no-read-break breaks12 c raw.no_break }
+
   -- a character that is no space, as an escape or not
   character_inks : (c : ℕ) → is_space c ≡ false → AllInk breaks12 (character_text unicode c)
   character_inks c s = by (needs_escape unicode c) refl
     where
       by : (b : Bool) → needs_escape unicode c ≡ b → AllInk breaks12 (if b then escape_text c else c ∷ [])
       by true e = graph_inks breaks12 (escape_text c) (escape_graph c)
-      by false e = (record { no_space = s; no_break = no-read-break breaks12 c (unescaped unicode c e).no_break }, tt)
+      by false e = (raw_ink c s e, tt)
 
   -- its text begins with ink
   character_begins : (c : ℕ) (text : Text) → is_space c ≡ false → BeginsInk breaks12 (character_text unicode c ++ text)
@@ -41,7 +51,7 @@ module _ (breaks12 unicode : Bool) (count indent : ℕ) (enough : count ≤ inde
     where
       by : (b : Bool) → needs_escape unicode c ≡ b → BeginsInk breaks12 ((if b then escape_text c else c ∷ []) ++ text)
       by true e = graph_ink breaks12 backslash refl
-      by false e = record { no_space = s; no_break = no-read-break breaks12 c (unescaped unicode c e).no_break }
+      by false e = raw_ink c s e
 
   -- what is known of a value's text from some character on, up to the closing quote
   record QuotedEven (before : Option ℕ) (value text : Text) : Type 0 where

@@ -31,9 +31,9 @@ pub struct scalar_data_t {
 
 /// What may stand as itself.
 #[derive(Clone, Copy)]
-struct CharacterSet {
-    unicode: bool,
-    breaks12: bool,
+pub(crate) struct CharacterSet {
+    pub(crate) unicode: bool,
+    pub(crate) breaks12: bool,
 }
 
 /// The styles ruled out so far, and whether a line break was read.
@@ -114,7 +114,7 @@ fn begins_with_break(rest: &str) -> bool
 }
 
 /// Returns whether a character can't stand as itself, so that only double quotes can write it.
-fn is_special(c: char, charset: CharacterSet) -> bool
+pub(crate) fn is_special(c: char, charset: CharacterSet) -> bool
     ensures { result ≡ spec.is_special (seen_charset charset) c }
 {
     !is_printable(c)

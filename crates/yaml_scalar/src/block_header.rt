@@ -9,7 +9,7 @@ ghost use Rattle.yaml_scalar.specs.BlockCode.{is_folded, seen_ending, without_op
 ghost use Rattle.yaml_scalar.specs.BlockSteps as step;
 
 use std::alloc::Allocator;
-use yaml_base::{is_break, is_space, yaml_error_t};
+use yaml_base::{is_blank, is_break, yaml_error_t};
 use yaml_pen::{Indicator, Pen};
 
 /// How the lines of a block scalar stand.
@@ -30,7 +30,7 @@ enum Ending {
 }
 
 /// Writes the hints of a block scalar's header: the digit of the indent, 2 to 9, where the value begins
-/// with a space or a break; `-` where the value doesn't end in a break, nothing where it ends in exactly
+/// with a blank or a break; `-` where the value doesn't end in a break, nothing where it ends in exactly
 /// one after another character, else `+`. Answers the open-ended state: 2 after `+`, else 0.
 ///
 /// # Errors
@@ -151,13 +151,13 @@ fn write_hint<A: Allocator>(pen: &mut Pen<A>, hint: u8) -> Result<(), yaml_error
     Ok(())
 }
 
-/// Returns whether a value begins with a space or a break, so that a block scalar's first line doesn't show the indentation and
+/// Returns whether a value begins with a blank or a break, so that a block scalar's first line doesn't show the indentation and
 /// its header has a digit.
 pub fn begins_blank(value: &str) -> bool
     ensures { result ≡ layout.begins_blank (chars value.now) }
 {
     match value.chars().next() {
-        Some(c) => is_space(c) || is_break(c),
+        Some(c) => is_blank(c) || is_break(c),
         None => false,
     }
 }

@@ -3,6 +3,7 @@
 
 mod analysis;
 mod batched;
+mod blanks;
 mod block_header;
 mod block_lines;
 mod characters;
@@ -23,6 +24,7 @@ mod style;
 mod width;
 
 pub use analysis::{analyze_for_style, analyze_scalar, holds_break, scalar_data_t};
+pub use blanks::allows_literal;
 pub use block_header::{begins_blank, write_block_scalar_hints};
 pub use double_quoted::write_double_quoted_scalar;
 pub use folded::write_folded_scalar;

@@ -1,7 +1,7 @@
 //! Literal scalars (YAML 1.1, section 9.3.1).
 ghost use Rattle.std.specs.Prelude.{◌≡◌, ◌≤ℤ◌, ℕ, pos, false, true, Option, IfOk};
 ghost use Rattle.std.specs.Str.{chars};
-ghost use Rattle.yaml_base.specs.scalars.Analysis.{Charset, allows_block, is_empty};
+ghost use Rattle.yaml_base.specs.scalars.Analysis.{Charset, allows_literal, is_empty};
 ghost use Rattle.yaml_base.specs.scalars.BlockHeader.{Encloses, header_open_ended};
 ghost use Rattle.yaml_base.specs.scalars.Literal.{render_literal};
 ghost use Rattle.yaml_base.specs.reading.ReadBlock.{read_block};
@@ -36,7 +36,7 @@ pub fn write_literal_scalar<A: Allocator>(
     requires within { best_indent ≤ℤ indent }
     ensures written { Wrote (render_literal (natural indent) (natural best_indent) (chars value.now)) pen.old pen.new (without_open_ended result) }
     ensures open_ended { IfOk result (λ open_ended. open_ended ≡ pos (header_open_ended (chars value.now))) }
-    ensures reads { (charset : Charset) → allows_block charset (chars value.now) ≡ true
+    ensures reads { (charset : Charset) → allows_literal charset (chars value.now) ≡ true
         → (column : Option ℕ) → Encloses (natural indent) (natural best_indent) column
         → IfOk result (λ _. ReadsBack (read_block charset.breaks12 column) (chars value.now) pen.old.text pen.new.text) }
 {

@@ -1,5 +1,5 @@
 -- What a writer of literal or folded scalars wrote reads back.
-use Rattle.yaml_scalar.proofs.Common.{ℕ, ◌≤◌, Option, Ok, negsuc, pos, ℤ, ◌≤ℤ◌, true, ◌≡◌, arith, ints, Text, read_block, Charset, allows_block, Encloses}
+use Rattle.yaml_scalar.proofs.Common.{ℕ, ◌≤◌, Option, Ok, negsuc, pos, ℤ, ◌≤ℤ◌, true, ◌≡◌, arith, ints, Text, read_block, Charset, allows_block, allows_literal, Encloses}
 use Rattle.yaml_scalar.proofs.Common.{folded_body, render_folded, literal_body, render_literal, Page, natural, Wrote, ReadsBack}
 use Rattle.yaml_scalar.proofs.Common.{Cursor, Rendered, Result, Err, subst, sym, ap, ◌∙◌}
 use Rattle.std.proofs.{Common.IsErrAnd, Common.IsErr, lemmas.Result.err_from_is_err_and}
@@ -34,7 +34,7 @@ below (negsuc m) n h k = omega (arith, ints)
 pub indents : (indent best_indent : ℤ) → pos 2 ≤ℤ best_indent → best_indent ≤ℤ pos 9 → best_indent ≤ℤ indent → Indents (natural indent) (natural best_indent)
 indents indent best_indent least most within = grind (arith, two_or_more, at-most, below)
 
-module _ (charset : Charset) (value : Text) (allowed : allows_block charset value ≡ true) (indent best_indent : ℕ) (are : Indents indent best_indent)
+module _ (charset : Charset) (value : Text) (allowed : allows_literal charset value ≡ true) (indent best_indent : ℕ) (are : Indents indent best_indent)
     (column : Option ℕ) (enclosing : Encloses indent best_indent column) where
   pub literal_back : {before after : Page} → Wrote (render_literal indent best_indent value) before after (Ok tt)
       → ReadsBack (read_block charset.breaks12 column) value before.text after.text
@@ -43,6 +43,8 @@ module _ (charset : Charset) (value : Text) (allowed : allows_block charset valu
       (λ cursor setting. (literal-kept charset value allowed indent best_indent are.least are.most are.within cursor column enclosing setting).reads)
       (λ cursor setting. (literal-kept charset value allowed indent best_indent are.least are.most are.within cursor column enclosing setting).indented) wrote
 
+module _ (charset : Charset) (value : Text) (allowed : allows_block charset value ≡ true) (indent best_indent : ℕ) (are : Indents indent best_indent)
+    (column : Option ℕ) (enclosing : Encloses indent best_indent column) where
   pub folded_back : (limit : Option ℕ) {before after : Page} → Wrote (render_folded limit indent best_indent value) before after (Ok tt)
       → ReadsBack (read_block charset.breaks12 column) value before.text after.text
   folded_back limit wrote =

@@ -6,19 +6,19 @@ use Rattle.yaml_scalar.proofs.Common.{next_line_unindented, folded_parts, Part, 
 use Rattle.yaml_scalar.proofs.blocks.BlockParts.{Ordinary, IsLine, BeginsBroken, Clean, clean-begun, bare, BeginsFlush}
 
 -- a line feed is ordinary
-feed-ordinary : (breaks12 : Bool) → Ordinary breaks12 line_feed
-feed-ordinary true = record { same_break = refl; same_blank = refl; no_return = refl; no_next_line = refl }
-feed-ordinary false = record { same_break = refl; same_blank = refl; no_return = refl; no_next_line = refl }
+feed-ordinary : (breaks12 : Bool) → Ordinary false breaks12 line_feed
+feed-ordinary true = record { same_break = refl; same_blank = λ none. refl; no_return = refl; no_next_line = refl }
+feed-ordinary false = record { same_break = refl; same_blank = λ none. refl; no_return = refl; no_next_line = refl }
 
 -- the reader takes a line to begin with a blank where the writer takes it to begin with a space
-even-flush : (breaks12 : Bool) (text : Text) → IsLine breaks12 text → begins_unindented text ≡ not (begins_with is_space text)
+even-flush : (breaks12 : Bool) (text : Text) → IsLine false breaks12 text → begins_unindented text ≡ not (begins_with is_space text)
 even-flush breaks12 [] h = refl
-even-flush breaks12 (c ∷ rest) h = ap not ((h.0).same_blank)
+even-flush breaks12 (c ∷ rest) h = ap not ((h.0).same_blank refl)
 
 -- what is known of a line that was cut, its first part and the others: before any rest they are clean, end as
 -- the rest does, and read as the line
 record Cut (breaks12 : Bool) (text first : Text) (others : List Part) : Type 0 where
-  clean : (rest : List Part) → BeginsBroken rest → Clean breaks12 rest → Clean breaks12 (line first ∷ (others ++ rest))
+  clean : (rest : List Part) → BeginsBroken rest → Clean false breaks12 rest → Clean false breaks12 (line first ∷ (others ++ rest))
   ends : (rest : List Part) → final_ends (bare (others ++ rest)) ≡ final_ends (bare rest)
   reads : (rest : List Part) → first ++ unfolded true (bare (others ++ rest)) ≡ text ++ unfolded true (bare rest)
   flush : begins_with is_space text ≡ false → begins_with is_space first ≡ false
@@ -30,19 +30,19 @@ IsCut breaks12 text (line first ∷ others) = Cut breaks12 text first others
 IsCut breaks12 text (line_break b ∷ rest) = ⊥
 
 -- one character more
-cut-step : (breaks12 : Bool) (c : ℕ) (rest : Text) → Ordinary breaks12 c → is_break c ≡ false → (further : List Part) → IsCut breaks12 rest further
+cut-step : (breaks12 : Bool) (c : ℕ) (rest : Text) → Ordinary false breaks12 c → is_break c ≡ false → (further : List Part) → IsCut breaks12 rest further
     → (fold : Bool) → (fold ≡ true → (is_space c ≡ true) × (begins_with is_space rest ≡ false))
     → IsCut breaks12 (c ∷ rest) (if fold then line [] ∷ line_break line_feed ∷ further else begun c further)
 cut-step breaks12 c rest o e [] k fold f = absurd k
 cut-step breaks12 c rest o e (line_break b ∷ others) k fold f = absurd k
 cut-step breaks12 c rest o e (line first ∷ others) k true f = grind (arith, eqb-true, feed-ordinary)
-cut-step breaks12 c rest o e (line first ∷ others) k false f = grind (arith, clean-begun)
+cut-step breaks12 c rest o e (line first ∷ others) k false f = grind (arith, clean-begun, o.same_blank refl)
 
 -- a fold stands in place of a space, before another character
 pub fold-spaced : (limit : Option ℕ) (column c : ℕ) (rest : Text) → folds limit column c rest ≡ true → (is_space c ≡ true) × (begins_with is_space rest ≡ false)
 fold-spaced limit column c rest h = grind (arith, and_parts, not-true)
 
-cut-known : (breaks12 : Bool) (limit : Option ℕ) (indent column : ℕ) (text : Text) → IsLine breaks12 text
+cut-known : (breaks12 : Bool) (limit : Option ℕ) (indent column : ℕ) (text : Text) → IsLine false breaks12 text
     → IsCut breaks12 text (cut_from limit indent column text)
 cut-known breaks12 limit indent column [] h = grind (arith)
 cut-known breaks12 limit indent column (c ∷ rest) h =
@@ -52,20 +52,20 @@ cut-known breaks12 limit indent column (c ∷ rest) h =
 
 -- what is known of a line's parts
 record LineCut (breaks12 : Bool) (text : Text) (ps : List Part) : Type 0 where
-  clean : (rest : List Part) → BeginsBroken rest → Clean breaks12 rest → Clean breaks12 (ps ++ rest)
+  clean : (rest : List Part) → BeginsBroken rest → Clean false breaks12 rest → Clean false breaks12 (ps ++ rest)
   ends : (rest : List Part) → final_ends (bare (ps ++ rest)) ≡ final_ends (bare rest)
   reads : (after_even : Bool) (rest : List Part) → unfolded after_even (bare (ps ++ rest)) ≡ text ++ unfolded (not (begins_with is_space text)) (bare rest)
   even : (rest : List Part) → next_content_unindented (bare (ps ++ rest)) ≡ not (begins_with is_space text)
   some : (rest : List Part) → has_content (bare (ps ++ rest)) ≡ true
   flush : (rest : List Part) → begins_with is_space text ≡ false → BeginsFlush (ps ++ rest)
 
-line-of-cut : (breaks12 : Bool) (text : Text) → IsLine breaks12 text → begins_with is_space text ≡ false → (ps : List Part) → IsCut breaks12 text ps
+line-of-cut : (breaks12 : Bool) (text : Text) → IsLine false breaks12 text → begins_with is_space text ≡ false → (ps : List Part) → IsCut breaks12 text ps
     → LineCut breaks12 text ps
 line-of-cut breaks12 text h none [] k = absurd k
 line-of-cut breaks12 text h none (line_break b ∷ others) k = absurd k
 line-of-cut breaks12 text h none (line first ∷ others) k = grind (arith)
 
-line-cut : (breaks12 : Bool) (limit : Option ℕ) (indent : ℕ) (text : Text) → IsLine breaks12 text → LineCut breaks12 text (cut_line limit indent text)
+line-cut : (breaks12 : Bool) (limit : Option ℕ) (indent : ℕ) (text : Text) → IsLine false breaks12 text → LineCut breaks12 text (cut_line limit indent text)
 line-cut breaks12 limit indent text h = by (begins_with is_space text) refl
   where
     by : (spaced : Bool) → begins_with is_space text ≡ spaced → LineCut breaks12 text (if spaced then line text ∷ [] else cut_from limit indent indent text)
@@ -87,8 +87,8 @@ twice-begins : (twice : Bool) (b : ℕ) (ps : List Part) → BeginsBroken (twice
 twice-begins true b ps = tt
 twice-begins false b ps = tt
 
-twice-clean : (breaks12 twice : Bool) (b : ℕ) (ps : List Part) → Ordinary breaks12 b → is_break b ≡ true → Clean breaks12 ps
-    → Clean breaks12 (twice_or_once twice b ++ ps)
+twice-clean : (breaks12 twice : Bool) (b : ℕ) (ps : List Part) → Ordinary false breaks12 b → is_break b ≡ true → Clean false breaks12 ps
+    → Clean false breaks12 (twice_or_once twice b ++ ps)
 twice-clean breaks12 true b ps o e h = (o, e, (o, e, h))
 twice-clean breaks12 false b ps o e h = (o, e, h)
 
@@ -127,7 +127,7 @@ module _ (breaks12 : Bool) (limit : Option ℕ) (indent : ℕ) where
       twice-begins (after_even && b == line_feed && next_line_unindented rest) b (folded_parts limit indent false rest)
 
   -- folded parts are clean
-  pub folded-clean : (after_even : Bool) (ps : List Part) → Clean breaks12 ps → Clean breaks12 (folded_parts limit indent after_even ps)
+  pub folded-clean : (after_even : Bool) (ps : List Part) → Clean false breaks12 ps → Clean false breaks12 (folded_parts limit indent after_even ps)
   folded-clean after_even [] h = tt
   folded-clean after_even (line text ∷ rest) h =
       let even = not (begins_with is_space text) in
@@ -135,7 +135,7 @@ module _ (breaks12 : Bool) (limit : Option ℕ) (indent : ℕ) where
   folded-clean after_even (line_break b ∷ rest) h = grind (arith, twice-clean, folded-clean false rest h.2)
 
   -- hold content where the value does
-  pub folded-content : (after_even : Bool) (ps : List Part) → Clean breaks12 ps
+  pub folded-content : (after_even : Bool) (ps : List Part) → Clean false breaks12 ps
       → has_content (bare (folded_parts limit indent after_even ps)) ≡ has_content (bare ps)
   folded-content after_even [] h = refl
   folded-content after_even (line text ∷ rest) h =
@@ -144,7 +144,7 @@ module _ (breaks12 : Bool) (limit : Option ℕ) (indent : ℕ) where
       twice-content (after_even && b == line_feed && next_line_unindented rest) b (folded_parts limit indent false rest) ∙ folded-content false rest h.2
 
   -- are followed by a line without a leading blank where the value's are
-  folded-even : (after_even : Bool) (ps : List Part) → Clean breaks12 ps
+  folded-even : (after_even : Bool) (ps : List Part) → Clean false breaks12 ps
       → next_content_unindented (bare (folded_parts limit indent after_even ps)) ≡ next_line_unindented ps
   folded-even after_even [] h = refl
   folded-even after_even (line text ∷ rest) h =
@@ -153,7 +153,7 @@ module _ (breaks12 : Bool) (limit : Option ℕ) (indent : ℕ) where
       twice-even (after_even && b == line_feed && next_line_unindented rest) b (folded_parts limit indent false rest) ∙ folded-even false rest h.2
 
   -- read as the value
-  pub folded-reads : (after_even : Bool) (ps : List Part) → Clean breaks12 ps
+  pub folded-reads : (after_even : Bool) (ps : List Part) → Clean false breaks12 ps
       → unfolded after_even (bare (folded_parts limit indent after_even ps)) ≡ joined (bare ps)
   folded-reads after_even [] h = refl
   folded-reads after_even (line text ∷ rest) h =
@@ -162,7 +162,7 @@ module _ (breaks12 : Bool) (limit : Option ℕ) (indent : ℕ) where
   folded-reads after_even (line_break b ∷ rest) h = grind (arith, twice-reads, folded-even, folded-reads false rest h.2)
 
   -- end as the value does
-  pub folded-ends : (after_even : Bool) (ps : List Part) → Clean breaks12 ps
+  pub folded-ends : (after_even : Bool) (ps : List Part) → Clean false breaks12 ps
       → final_ends (bare (folded_parts limit indent after_even ps)) ≡ final_ends (bare ps)
   folded-ends after_even [] h = refl
   folded-ends after_even (line text ∷ rest) h =
@@ -171,7 +171,7 @@ module _ (breaks12 : Bool) (limit : Option ℕ) (indent : ℕ) where
   folded-ends after_even (line_break b ∷ rest) h = grind (arith, twice-ends, folded-content, even-some, and_parts, folded-ends false rest h.2)
 
   -- and begin with a line that shows the indentation where the value's do
-  pub folded-flush : (ps : List Part) → Clean breaks12 ps → BeginsFlush ps → BeginsFlush (folded_parts limit indent false ps)
+  pub folded-flush : (ps : List Part) → Clean false breaks12 ps → BeginsFlush ps → BeginsFlush (folded_parts limit indent false ps)
   folded-flush [] h f = tt
   folded-flush (line text ∷ rest) h f =
       (line-cut breaks12 limit indent text h.0).flush (folded_parts limit indent (not (begins_with is_space text)) rest) f

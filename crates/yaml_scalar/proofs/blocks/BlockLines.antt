@@ -4,35 +4,35 @@ use Rattle.yaml_scalar.proofs.Common.{suc, zero, ℕ, ◌+◌, ◌≤◌, ◌==�
 use Rattle.yaml_scalar.proofs.Common.{append_assoc, arith, and_from, or_from, or_left, or_right, not_from_false, breaks-round, rendered-append}
 use Rattle.yaml_scalar.proofs.Common.{indented-written, Text, line_feed, carriage_return, next_line, space, is_break}
 use Rattle.yaml_scalar.proofs.Common.{Cursor, with_breaks_written, with_line_breaks_read, is_rendered_text, begins_indented, is_indented_text, LineBreak}
-use Rattle.yaml_scalar.proofs.Common.{read_block, Charset, allows_block, Ending, without_break, one_break, more_breaks, ending_hint}
+use Rattle.yaml_scalar.proofs.Common.{read_block, Charset, allows_block, allows_literal, Ending, without_break, one_break, more_breaks, ending_hint}
 use Rattle.yaml_scalar.proofs.Common.{block_body, Encloses, folded_parts, folded_body, Part, line, line_break, parts, indented, literal_body}
 use Rattle.yaml_base.proofs.Common.{ne_eqb}
 use Rattle.yaml_scalar.proofs.blocks.{BlockFolds.folded-clean, BlockParts.Ordinary, BlockParts.IsLine, BlockParts.Clean, BlockParts.parts-clean}
-use Rattle.yaml_scalar.proofs.blocks.BlockReads.{allowed-ordinary, block-text, digit_text, block_indicator_of, literal-reads, folded-read}
+use Rattle.yaml_scalar.proofs.blocks.BlockReads.{allowed-ordinary, literal-ordinary, block-text, digit_text, block_indicator_of, literal-reads, folded-read}
 
 -- an ordinary character may stand in a rendered text
-ordinary-rendered : (breaks12 : Bool) (c : ℕ) → Ordinary breaks12 c → not (c == carriage_return || c == next_line) ≡ true
-ordinary-rendered breaks12 c o = not_from_false (c == carriage_return || c == next_line) (or_from _ _ o.no_return o.no_next_line)
+ordinary-rendered : (tabs breaks12 : Bool) (c : ℕ) → Ordinary tabs breaks12 c → not (c == carriage_return || c == next_line) ≡ true
+ordinary-rendered tabs breaks12 c o = not_from_false (c == carriage_return || c == next_line) (or_from _ _ o.no_return o.no_next_line)
 
-line-rendered : (breaks12 : Bool) (text : Text) → IsLine breaks12 text → is_rendered_text text ≡ true
-line-rendered breaks12 [] h = refl
-line-rendered breaks12 (c ∷ rest) h = and_from _ _ (ordinary-rendered breaks12 c h.0) (line-rendered breaks12 rest h.2)
+line-rendered : (tabs breaks12 : Bool) (text : Text) → IsLine tabs breaks12 text → is_rendered_text text ≡ true
+line-rendered tabs breaks12 [] h = refl
+line-rendered tabs breaks12 (c ∷ rest) h = and_from _ _ (ordinary-rendered tabs breaks12 c h.0) (line-rendered tabs breaks12 rest h.2)
 
 spaces-rendered : (n : ℕ) → is_rendered_text (replicate n space) ≡ true
 spaces-rendered zero = refl
 spaces-rendered (suc n) = spaces-rendered n
 
-lines-rendered : (breaks12 : Bool) (indent : ℕ) (ps : List Part) → Clean breaks12 ps → is_rendered_text (indented indent ps) ≡ true
-lines-rendered breaks12 indent [] h = refl
-lines-rendered breaks12 indent (line text ∷ rest) h =
+lines-rendered : (tabs breaks12 : Bool) (indent : ℕ) (ps : List Part) → Clean tabs breaks12 ps → is_rendered_text (indented indent ps) ≡ true
+lines-rendered tabs breaks12 indent [] h = refl
+lines-rendered tabs breaks12 indent (line text ∷ rest) h =
     rendered-append (replicate indent space ++ text) (indented indent rest)
-    (rendered-append (replicate indent space) text (spaces-rendered indent) (line-rendered breaks12 text h.0)) (lines-rendered breaks12 indent rest h.2)
-lines-rendered breaks12 indent (line_break b ∷ rest) h = and_from _ _ (ordinary-rendered breaks12 b h.0) (lines-rendered breaks12 indent rest h.2)
+    (rendered-append (replicate indent space) text (spaces-rendered indent) (line-rendered tabs breaks12 text h.0)) (lines-rendered tabs breaks12 indent rest h.2)
+lines-rendered tabs breaks12 indent (line_break b ∷ rest) h = and_from _ _ (ordinary-rendered tabs breaks12 b h.0) (lines-rendered tabs breaks12 indent rest h.2)
 
 -- a text without a break, before another
-line-indented : (breaks12 : Bool) (text rest : Text) → IsLine breaks12 text → is_indented_text rest ≡ true → is_indented_text (text ++ rest) ≡ true
-line-indented breaks12 [] rest h k = k
-line-indented breaks12 (c ∷ text) rest h k = rw h.1 (line-indented breaks12 text rest h.2 k)
+line-indented : (tabs breaks12 : Bool) (text rest : Text) → IsLine tabs breaks12 text → is_indented_text rest ≡ true → is_indented_text (text ++ rest) ≡ true
+line-indented tabs breaks12 [] rest h k = k
+line-indented tabs breaks12 (c ∷ text) rest h k = rw h.1 (line-indented tabs breaks12 text rest h.2 k)
 
 spaces-indented : (n : ℕ) (rest : Text) → is_indented_text rest ≡ true → is_indented_text (replicate n space ++ rest) ≡ true
 spaces-indented zero rest k = k
@@ -43,16 +43,16 @@ break-first b [] h = h
 break-first b (c ∷ rest) h = or_left _ _ h
 
 -- lines after at least two spaces each
-lines-begin : (breaks12 : Bool) (less : ℕ) (ps : List Part) → Clean breaks12 ps → begins_indented (indented (suc (suc less)) ps) ≡ true
-lines-begin breaks12 less [] h = refl
-lines-begin breaks12 less (line text ∷ rest) h = refl
-lines-begin breaks12 less (line_break b ∷ rest) h = break-first b (indented (suc (suc less)) rest) h.1
+lines-begin : (tabs breaks12 : Bool) (less : ℕ) (ps : List Part) → Clean tabs breaks12 ps → begins_indented (indented (suc (suc less)) ps) ≡ true
+lines-begin tabs breaks12 less [] h = refl
+lines-begin tabs breaks12 less (line text ∷ rest) h = refl
+lines-begin tabs breaks12 less (line_break b ∷ rest) h = break-first b (indented (suc (suc less)) rest) h.1
 
-lines-indented : (breaks12 : Bool) (less : ℕ) (ps : List Part) → Clean breaks12 ps → is_indented_text (indented (suc (suc less)) ps) ≡ true
-lines-indented breaks12 less [] h = refl
-lines-indented breaks12 less (line text ∷ rest) h = grind (arith, append_assoc, spaces-indented, line-indented, lines-indented breaks12 less rest h.2)
-lines-indented breaks12 less (line_break b ∷ rest) h =
-    and_from _ _ (or_right _ _ (lines-begin breaks12 less rest h.2)) (lines-indented breaks12 less rest h.2)
+lines-indented : (tabs breaks12 : Bool) (less : ℕ) (ps : List Part) → Clean tabs breaks12 ps → is_indented_text (indented (suc (suc less)) ps) ≡ true
+lines-indented tabs breaks12 less [] h = refl
+lines-indented tabs breaks12 less (line text ∷ rest) h = grind (arith, append_assoc, spaces-indented, line-indented, lines-indented tabs breaks12 less rest h.2)
+lines-indented tabs breaks12 less (line_break b ∷ rest) h =
+    and_from _ _ (or_right _ _ (lines-begin tabs breaks12 less rest h.2)) (lines-indented tabs breaks12 less rest h.2)
 
 digit-rendered : (n : ℕ) → n ≤ 9 → not ((48 + n) == carriage_return || (48 + n) == next_line) ≡ true
 digit-rendered n high =
@@ -97,17 +97,17 @@ header-indented : (folded blank : Bool) (e : Ending) (n : ℕ) (lines : Text) �
 header-indented folded blank e n lines high b h = grind (arith, symbol-indented, append_assoc, digit-indented, hint-indented, and_from)
 
 -- a body of clean lines
-body-rendered : (breaks12 folded : Bool) (indent best_indent : ℕ) (value : Text) (ps : List Part) (cursor : Cursor) → best_indent ≤ 9 → Clean breaks12 ps
+body-rendered : (tabs breaks12 folded : Bool) (indent best_indent : ℕ) (value : Text) (ps : List Part) (cursor : Cursor) → best_indent ≤ 9 → Clean tabs breaks12 ps
     → is_rendered_text (block_body (block_indicator_of folded) best_indent value (indented indent ps) cursor).text ≡ true
-body-rendered breaks12 folded indent best_indent value ps cursor high clean = grind (arith, block-text, header-rendered, lines-rendered)
+body-rendered tabs breaks12 folded indent best_indent value ps cursor high clean = grind (arith, block-text, header-rendered, lines-rendered tabs breaks12 indent ps clean)
 
-body-indented : (breaks12 folded : Bool) (indent best_indent : ℕ) (value : Text) (ps : List Part) (cursor : Cursor) → best_indent ≤ 9 → 2 ≤ indent
-    → Clean breaks12 ps
+body-indented : (tabs breaks12 folded : Bool) (indent best_indent : ℕ) (value : Text) (ps : List Part) (cursor : Cursor) → best_indent ≤ 9 → 2 ≤ indent
+    → Clean tabs breaks12 ps
     → is_indented_text (block_body (block_indicator_of folded) best_indent value (indented indent ps) cursor).text ≡ true
-body-indented breaks12 folded zero best_indent value ps cursor high low clean = absurd (omega arith)
-body-indented breaks12 folded (suc zero) best_indent value ps cursor high low clean = absurd (omega arith)
-body-indented breaks12 folded (suc (suc less)) best_indent value ps cursor high low clean =
-    grind (arith, block-text, header-indented, lines-begin, lines-indented)
+body-indented tabs breaks12 folded zero best_indent value ps cursor high low clean = absurd (omega arith)
+body-indented tabs breaks12 folded (suc zero) best_indent value ps cursor high low clean = absurd (omega arith)
+body-indented tabs breaks12 folded (suc (suc less)) best_indent value ps cursor high low clean =
+    grind (arith, block-text, header-indented, lines-begin tabs breaks12 less ps clean, lines-indented tabs breaks12 less ps clean)
 
 -- what is promised of a body: as it was written, with any line breaks, it reads as the value, and each nonempty
 -- line after its first begins with at least two spaces
@@ -119,23 +119,15 @@ block-kept : (breaks12 : Bool) (column : Option ℕ) (setting : LineBreak) (valu
     → read_block breaks12 column body ≡ Some value → IsBlockText breaks12 column setting value body
 block-kept breaks12 column setting value body rendered lines reads = grind (arith, breaks-round, indented-written)
 
-module _ (charset : Charset) (value : Text) (allowed : allows_block charset value ≡ true) (indent best_indent : ℕ)
+module _ (charset : Charset) (value : Text) (allowed : allows_literal charset value ≡ true) (indent best_indent : ℕ)
     (low : 2 ≤ best_indent) (high : best_indent ≤ 9) (above : best_indent ≤ indent) (cursor : Cursor) where
   pub literal-rendered : is_rendered_text (literal_body indent best_indent value cursor).text ≡ true
-  literal-rendered = body-rendered charset.breaks12 false indent best_indent value (parts value) cursor high
-      (parts-clean charset.breaks12 value (allowed-ordinary charset value allowed))
-
-  pub folded-rendered : (limit : Option ℕ) → is_rendered_text (folded_body limit indent best_indent value cursor).text ≡ true
-  folded-rendered limit = body-rendered charset.breaks12 true indent best_indent value (folded_parts limit indent false (parts value)) cursor high
-      (folded-clean charset.breaks12 limit indent false (parts value) (parts-clean charset.breaks12 value (allowed-ordinary charset value allowed)))
+  literal-rendered = body-rendered true charset.breaks12 false indent best_indent value (parts value) cursor high
+      (parts-clean true charset.breaks12 value (literal-ordinary charset value allowed))
 
   pub literal-indented : is_indented_text (literal_body indent best_indent value cursor).text ≡ true
-  literal-indented = body-indented charset.breaks12 false indent best_indent value (parts value) cursor high (omega arith)
-      (parts-clean charset.breaks12 value (allowed-ordinary charset value allowed))
-
-  pub folded-indented : (limit : Option ℕ) → is_indented_text (folded_body limit indent best_indent value cursor).text ≡ true
-  folded-indented limit = body-indented charset.breaks12 true indent best_indent value (folded_parts limit indent false (parts value)) cursor high (omega arith)
-      (folded-clean charset.breaks12 limit indent false (parts value) (parts-clean charset.breaks12 value (allowed-ordinary charset value allowed)))
+  literal-indented = body-indented true charset.breaks12 false indent best_indent value (parts value) cursor high (omega arith)
+      (parts-clean true charset.breaks12 value (literal-ordinary charset value allowed))
 
   -- a literal body, as it was written, is its value's
   pub literal-kept : (column : Option ℕ) → Encloses indent best_indent column → (setting : LineBreak)
@@ -144,7 +136,18 @@ module _ (charset : Charset) (value : Text) (allowed : allows_block charset valu
       block-kept charset.breaks12 column setting value (literal_body indent best_indent value cursor).text literal-rendered literal-indented
       (literal-reads charset value allowed indent best_indent low high above column enclosing cursor)
 
-  -- and a folded body
+module _ (charset : Charset) (value : Text) (allowed : allows_block charset value ≡ true) (indent best_indent : ℕ)
+    (low : 2 ≤ best_indent) (high : best_indent ≤ 9) (above : best_indent ≤ indent) (cursor : Cursor) where
+  pub folded-rendered : (limit : Option ℕ) → is_rendered_text (folded_body limit indent best_indent value cursor).text ≡ true
+  folded-rendered limit = body-rendered false charset.breaks12 true indent best_indent value (folded_parts limit indent false (parts value)) cursor high
+      (folded-clean charset.breaks12 limit indent false (parts value) (parts-clean false charset.breaks12 value (allowed-ordinary charset value allowed)))
+
+  pub folded-indented : (limit : Option ℕ) → is_indented_text (folded_body limit indent best_indent value cursor).text ≡ true
+  folded-indented limit = body-indented false charset.breaks12 true indent best_indent value (folded_parts limit indent false (parts value)) cursor high
+      (omega arith)
+      (folded-clean charset.breaks12 limit indent false (parts value) (parts-clean false charset.breaks12 value (allowed-ordinary charset value allowed)))
+
+  -- a folded body, as it was written, is its value's
   pub folded-kept : (limit : Option ℕ) (column : Option ℕ) → Encloses indent best_indent column → (setting : LineBreak)
       → IsBlockText charset.breaks12 column setting value (folded_body limit indent best_indent value cursor).text
   folded-kept limit column enclosing setting =

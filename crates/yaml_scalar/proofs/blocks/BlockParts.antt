@@ -4,22 +4,22 @@ use Rattle.yaml_scalar.proofs.Common.{ap, ◌∙◌, Text, carriage_return, next
 use Rattle.yaml_scalar.proofs.Common.{elements, all_unindented, joined, begins_with, Part, line, line_break, begun, parts, indented}
 use Rattle.yaml_base.specs.reading.ReadBlock.{prepend_to_elements, leading_spaces, detected_indentation, unindented}
 
--- a character that a writer and a reader take for the same: a break or not, a space or no blank;
+-- a character that a writer and a reader take for the same: a break or not, and without tabs a space or no blank;
 -- and no break that reads as another
-pub record Ordinary (breaks12 : Bool) (c : ℕ) : Type 0 where
+pub record Ordinary (tabs breaks12 : Bool) (c : ℕ) : Type 0 where
   pub same_break : is_read_break breaks12 c ≡ is_break c
-  pub same_blank : is_blank c ≡ is_space c
+  pub same_blank : tabs ≡ false → is_blank c ≡ is_space c
   pub no_return : (c == carriage_return) ≡ false
   pub no_next_line : (c == next_line) ≡ false
 
-abbrev pub AllOrdinary : Bool → Text → Type 0
-AllOrdinary breaks12 [] = Unit {0}
-AllOrdinary breaks12 (c ∷ rest) = Ordinary breaks12 c × AllOrdinary breaks12 rest
+abbrev pub AllOrdinary : (tabs breaks12 : Bool) → Text → Type 0
+AllOrdinary tabs breaks12 [] = Unit {0}
+AllOrdinary tabs breaks12 (c ∷ rest) = Ordinary tabs breaks12 c × AllOrdinary tabs breaks12 rest
 
 -- the characters of a line
-abbrev pub IsLine : Bool → Text → Type 0
-IsLine breaks12 [] = Unit {0}
-IsLine breaks12 (c ∷ rest) = Ordinary breaks12 c × (is_break c ≡ false) × IsLine breaks12 rest
+abbrev pub IsLine : (tabs breaks12 : Bool) → Text → Type 0
+IsLine tabs breaks12 [] = Unit {0}
+IsLine tabs breaks12 (c ∷ rest) = Ordinary tabs breaks12 c × (is_break c ≡ false) × IsLine tabs breaks12 rest
 
 -- parts that don't begin with a line
 abbrev pub BeginsBroken : List Part → Type 0
@@ -28,25 +28,25 @@ BeginsBroken (line text ∷ rest) = ⊥
 BeginsBroken (line_break b ∷ rest) = Unit {0}
 
 -- parts as they come from a text: no line next to a line
-abbrev pub Clean : Bool → List Part → Type 0
-Clean breaks12 [] = Unit {0}
-Clean breaks12 (line text ∷ rest) = IsLine breaks12 text × BeginsBroken rest × Clean breaks12 rest
-Clean breaks12 (line_break b ∷ rest) = Ordinary breaks12 b × (is_break b ≡ true) × Clean breaks12 rest
+abbrev pub Clean : (tabs breaks12 : Bool) → List Part → Type 0
+Clean tabs breaks12 [] = Unit {0}
+Clean tabs breaks12 (line text ∷ rest) = IsLine tabs breaks12 text × BeginsBroken rest × Clean tabs breaks12 rest
+Clean tabs breaks12 (line_break b ∷ rest) = Ordinary tabs breaks12 b × (is_break b ≡ true) × Clean tabs breaks12 rest
 
 -- a character of a line, before clean parts
-pub clean-begun : (breaks12 : Bool) (c : ℕ) (ps : List Part) → Ordinary breaks12 c → is_break c ≡ false → Clean breaks12 ps → Clean breaks12 (begun c ps)
-clean-begun breaks12 c [] o e h = ((o, e, tt), tt, tt)
-clean-begun breaks12 c (line text ∷ rest) o e h = ((o, e, h.0), h.1, h.2)
-clean-begun breaks12 c (line_break b ∷ rest) o e h = ((o, e, tt), tt, h)
+pub clean-begun : (tabs breaks12 : Bool) (c : ℕ) (ps : List Part) → Ordinary tabs breaks12 c → is_break c ≡ false → Clean tabs breaks12 ps → Clean tabs breaks12 (begun c ps)
+clean-begun tabs breaks12 c [] o e h = ((o, e, tt), tt, tt)
+clean-begun tabs breaks12 c (line text ∷ rest) o e h = ((o, e, h.0), h.1, h.2)
+clean-begun tabs breaks12 c (line_break b ∷ rest) o e h = ((o, e, tt), tt, h)
 
-clean-before : (breaks12 : Bool) (c : ℕ) (ps : List Part) → Ordinary breaks12 c → Clean breaks12 ps
-    → (b : Bool) → is_break c ≡ b → Clean breaks12 (if b then line_break c ∷ ps else begun c ps)
-clean-before breaks12 c ps o h true e = (o, e, h)
-clean-before breaks12 c ps o h false e = clean-begun breaks12 c ps o e h
+clean-before : (tabs breaks12 : Bool) (c : ℕ) (ps : List Part) → Ordinary tabs breaks12 c → Clean tabs breaks12 ps
+    → (b : Bool) → is_break c ≡ b → Clean tabs breaks12 (if b then line_break c ∷ ps else begun c ps)
+clean-before tabs breaks12 c ps o h true e = (o, e, h)
+clean-before tabs breaks12 c ps o h false e = clean-begun tabs breaks12 c ps o e h
 
-pub parts-clean : (breaks12 : Bool) (value : Text) → AllOrdinary breaks12 value → Clean breaks12 (parts value)
-parts-clean breaks12 [] h = tt
-parts-clean breaks12 (c ∷ rest) h = clean-before breaks12 c (parts rest) h.0 (parts-clean breaks12 rest h.1) (is_break c) refl
+pub parts-clean : (tabs breaks12 : Bool) (value : Text) → AllOrdinary tabs breaks12 value → Clean tabs breaks12 (parts value)
+parts-clean tabs breaks12 [] h = tt
+parts-clean tabs breaks12 (c ∷ rest) h = clean-before tabs breaks12 c (parts rest) h.0 (parts-clean tabs breaks12 rest h.1) (is_break c) refl
 
 -- the elements that a reader finds where parts stand by themselves
 abbrev pub bare : List Part → List Element
@@ -90,9 +90,9 @@ abbrev Unbroken : Bool → Text → Type 0
 Unbroken breaks12 [] = Unit {0}
 Unbroken breaks12 (c ∷ rest) = (is_read_break breaks12 c ≡ false) × Unbroken breaks12 rest
 
-line-unbroken : (breaks12 : Bool) (text : Text) → IsLine breaks12 text → Unbroken breaks12 text
-line-unbroken breaks12 [] h = tt
-line-unbroken breaks12 (c ∷ rest) h = ((h.0).same_break ∙ h.1, line-unbroken breaks12 rest h.2)
+line-unbroken : (tabs breaks12 : Bool) (text : Text) → IsLine tabs breaks12 text → Unbroken breaks12 text
+line-unbroken tabs breaks12 [] h = tt
+line-unbroken tabs breaks12 (c ∷ rest) h = ((h.0).same_break ∙ h.1, line-unbroken tabs breaks12 rest h.2)
 
 spaces-unbroken : (breaks12 : Bool) (n : ℕ) (text : Text) → Unbroken breaks12 text → Unbroken breaks12 (replicate n space ++ text)
 spaces-unbroken breaks12 zero text h = h
@@ -119,15 +119,15 @@ element-broken : (c : ℕ) (es : List Element) (b : Bool) → b ≡ true → (if
 element-broken c es b e = rw e refl
 
 -- a reader cuts indented clean parts where they were joined
-pub elements-indented : (breaks12 : Bool) (less : ℕ) (ps : List Part) → Clean breaks12 ps → elements breaks12 (indented (suc less) ps) ≡ shifted (suc less) ps
-elements-indented breaks12 less [] h = refl
-elements-indented breaks12 less (line text ∷ rest) h =
-    let further : elements breaks12 (indented (suc less) rest) ≡ shifted (suc less) rest = elements-indented breaks12 less rest h.2 in
+pub elements-indented : (tabs breaks12 : Bool) (less : ℕ) (ps : List Part) → Clean tabs breaks12 ps → elements breaks12 (indented (suc less) ps) ≡ shifted (suc less) ps
+elements-indented tabs breaks12 less [] h = refl
+elements-indented tabs breaks12 less (line text ∷ rest) h =
+    let further : elements breaks12 (indented (suc less) rest) ≡ shifted (suc less) rest = elements-indented tabs breaks12 less rest h.2 in
     let apart : NoContentFirst (elements breaks12 (indented (suc less) rest)) = rw further (broken-shifted (suc less) rest h.1) in
     elements-unbroken breaks12 space (replicate less space ++ text) (indented (suc less) rest)
-    (spaces-unbroken breaks12 (suc less) text (line-unbroken breaks12 text h.0)) apart
+    (spaces-unbroken breaks12 (suc less) text (line-unbroken tabs breaks12 text h.0)) apart
     ∙ ap (λ es. content (space ∷ (replicate less space ++ text)) ∷ es) further
-elements-indented breaks12 less (line_break b ∷ rest) h = grind (arith, element-broken, elements-indented breaks12 less rest h.2)
+elements-indented tabs breaks12 less (line_break b ∷ rest) h = grind (arith, element-broken, elements-indented tabs breaks12 less rest h.2)
 
 unindented-spaces : (n : ℕ) (text : Text) → unindented n (replicate n space ++ text) ≡ Some text
 unindented-spaces zero text = refl

@@ -1,11 +1,13 @@
 -- A literal or folded body is read as exactly its value.
 use Rattle.yaml_scalar.proofs.Common.{suc, zero, ℕ, ◌+◌, ◌≤◌, if◌then◌else◌, ◌==◌, Option, None, Some, Bool, false, not, true, ◌&&◌, ◌||◌, List, [], ◌++◌, ◌∷◌}
+use Rattle.yaml_scalar.proofs.Common.{is_special_but_tab, begins_with_blanks_alone, bars_literal, allows_literal, tab, is_break, subst, true≢false}
 use Rattle.yaml_scalar.proofs.Common.{refl, ◌≡◌, eqb-true, le-leb, append_assoc, ap, sym, ◌∙◌, arith, and_from, or_parts, false_from_ne_true, not-false}
 use Rattle.yaml_scalar.proofs.Common.{not-true, false≢true, Text, is_between, line_feed, is_space, is_printable, Cursor, elements, all_unindented, has_content}
 use Rattle.yaml_scalar.proofs.Common.{kept_lines, final_ends, unfolded, chomped, read_block, Charset, somewhere, is_empty, is_special, is_trailing_space}
 use Rattle.yaml_scalar.proofs.Common.{bars_block, allows_block, Ending, without_break, one_break, more_breaks, ending, begins_blank, indentation_hint}
 use Rattle.yaml_scalar.proofs.Common.{ending_hint, render_hint, block_body, Encloses, folded_parts, folded_body, Part, parts, indented, literal_body}
 use Rattle.yaml_base.specs.reading.ReadBlock.{read_indentation, lines_read, digit_first, after_digit, read_lines}
+use Rattle.yaml_base.proofs.Charsets.{special_tab}
 use Rattle.yaml_scalar.proofs.blocks.BlockFinal.{joined-kept, unfolded-kept, ends-parts, chomping_of, chomped-ends}
 use Rattle.yaml_scalar.proofs.blocks.BlockFolds.{folded-clean, folded-content, folded-reads, folded-ends, folded-flush}
 use Rattle.yaml_scalar.proofs.blocks.BlockParts.{Ordinary, AllOrdinary, Clean, parts-clean, bare, shifted, joined-parts, elements-indented, unindented-shifted}
@@ -30,10 +32,15 @@ or-none true = refl
 or-none false = refl
 
 -- a character that isn't special is ordinary
-pub ordinary : (charset : Charset) (c : ℕ) → is_special charset c ≡ false → Ordinary charset.breaks12 c
-ordinary charset c h = grind (arith, or_parts, not-false, other-than, same-break, or-none)
+pub ordinary : (charset : Charset) (c : ℕ) → is_special charset c ≡ false → Ordinary false charset.breaks12 c
+ordinary charset c h = record {
+  same_break = grind (arith, or_parts, not-false, other-than, same-break, or-none);
+  same_blank = λ none. ap (λ x. is_space c || x) (special_tab charset c h) ∙ or-none (is_space c);
+  no_return = grind (arith, or_parts, not-false, other-than);
+  no_next_line = grind (arith, or_parts, not-false, other-than);
+}
 
-ordinary-somewhere : (charset : Charset) (value : Text) → somewhere (bars_block charset) value ≡ false → AllOrdinary charset.breaks12 value
+ordinary-somewhere : (charset : Charset) (value : Text) → somewhere (bars_block charset) value ≡ false → AllOrdinary false charset.breaks12 value
 ordinary-somewhere charset [] h = tt
 ordinary-somewhere charset (c ∷ rest) h =
     let split = or_parts (bars_block charset c rest) (somewhere (bars_block charset) rest) h in
@@ -41,8 +48,35 @@ ordinary-somewhere charset (c ∷ rest) h =
     (ordinary charset c (or_parts (is_special charset c) (is_trailing_space c rest) bars.0).0, ordinary-somewhere charset rest split.1)
 
 -- a value that block styles are allowed for isn't empty, and all its characters are ordinary
-pub allowed-ordinary : (charset : Charset) (value : Text) → allows_block charset value ≡ true → AllOrdinary charset.breaks12 value
+pub allowed-ordinary : (charset : Charset) (value : Text) → allows_block charset value ≡ true → AllOrdinary false charset.breaks12 value
 allowed-ordinary charset value h = grind (arith, or_parts, not-true, ordinary-somewhere)
+
+-- so is a tab, where there may be tabs
+tab-ordinary : (breaks12 : Bool) → Ordinary true breaks12 tab
+tab-ordinary true = record { same_break = refl; same_blank = λ none. absurd (true≢false none); no_return = refl; no_next_line = refl }
+tab-ordinary false = record { same_break = refl; same_blank = λ none. absurd (true≢false none); no_return = refl; no_next_line = refl }
+
+pub ordinary-or-tab : (charset : Charset) (c : ℕ) → is_special_but_tab charset c ≡ false → Ordinary true charset.breaks12 c
+ordinary-or-tab charset c h = by (c == tab) refl h
+  where
+    by : (x : Bool) → (c == tab) ≡ x → (not x && is_special charset c) ≡ false → Ordinary true charset.breaks12 c
+    by true e h = subst (λ (d : ℕ). Ordinary true charset.breaks12 d) (sym (eqb-true c tab e)) (tab-ordinary charset.breaks12)
+    by false e h =
+        let o = ordinary charset c h in
+        record { same_break = o.same_break; same_blank = λ none. o.same_blank refl; no_return = o.no_return; no_next_line = o.no_next_line }
+
+tabs-somewhere : (charset : Charset) (value : Text) → somewhere (bars_literal charset) value ≡ false → AllOrdinary true charset.breaks12 value
+tabs-somewhere charset [] h = tt
+tabs-somewhere charset (c ∷ rest) h =
+    let split = or_parts (bars_literal charset c rest) (somewhere (bars_literal charset) rest) h in (
+      ordinary-or-tab charset c (or_parts (is_special_but_tab charset c) (is_break c && begins_with_blanks_alone rest) split.0).0,
+      tabs-somewhere charset rest split.1,
+    )
+
+-- all characters of a value that literal takes are ordinary or tabs
+pub literal-ordinary : (charset : Charset) (value : Text) → allows_literal charset value ≡ true → AllOrdinary true charset.breaks12 value
+literal-ordinary charset value h =
+    tabs-somewhere charset value (or_parts (is_empty value || begins_with_blanks_alone value) (somewhere (bars_literal charset) value) (not-true _ h)).1
 
 -- the text of a hint
 hint-text : (hint : Text) (cursor : Cursor) → (render_hint hint cursor).text ≡ hint
@@ -116,14 +150,14 @@ flush-value [] h = tt
 flush-value (c ∷ rest) h = flush-parts c rest h
 
 -- whatever lines stand under a value's header, they are read without their read_indentation
-block-reads : (breaks12 folded : Bool) (indent best_indent : ℕ) (column : Option ℕ) (value : Text) (ps : List Part) (cursor : Cursor)
+block-reads : (tabs breaks12 folded : Bool) (indent best_indent : ℕ) (column : Option ℕ) (value : Text) (ps : List Part) (cursor : Cursor)
     → 2 ≤ best_indent → best_indent ≤ 9 → 1 ≤ indent → Encloses indent best_indent column
-    → Clean breaks12 ps → (begins_blank value ≡ false → BeginsFlush ps)
+    → Clean tabs breaks12 ps → (begins_blank value ≡ false → BeginsFlush ps)
     → read_block breaks12 column (block_body (block_indicator_of folded) best_indent value (indented indent ps) cursor).text
     ≡ Some (lines_read folded (chomping_of (ending value)) (bare ps))
-block-reads breaks12 folded zero best_indent column value ps cursor low high positive e clean flush = absurd (omega arith)
-block-reads breaks12 folded (suc less) best_indent column value ps cursor low high positive e clean flush =
-    grind (arith, block-text, read-header, elements-indented, unindented-lines)
+block-reads tabs breaks12 folded zero best_indent column value ps cursor low high positive e clean flush = absurd (omega arith)
+block-reads tabs breaks12 folded (suc less) best_indent column value ps cursor low high positive e clean flush =
+    grind (arith, block-text, read-header, elements-indented tabs breaks12 less ps clean, unindented-lines)
 
 -- the value's own lines read as the value
 literal-lines : (value : Text) → lines_read false (chomping_of (ending value)) (bare (parts value)) ≡ value
@@ -132,36 +166,39 @@ literal-lines (c ∷ rest) =
     rw (chomped-ends (ending (c ∷ rest)) (bare (parts (c ∷ rest))) (ends-parts c rest)) (joined-kept (bare (parts (c ∷ rest))) ∙ joined-parts (c ∷ rest))
 
 -- and its folded lines
-folded-lines : (breaks12 : Bool) (limit : Option ℕ) (indent : ℕ) (value : Text) → AllOrdinary breaks12 value
+folded-lines : (breaks12 : Bool) (limit : Option ℕ) (indent : ℕ) (value : Text) → AllOrdinary false breaks12 value
     → lines_read true (chomping_of (ending value)) (bare (folded_parts limit indent false (parts value))) ≡ value
 folded-lines breaks12 limit indent [] h = refl
 folded-lines breaks12 limit indent (c ∷ rest) h =
     let value : Text = c ∷ rest in
     let ps : List Part = parts value in
     let written : List Part = folded_parts limit indent false ps in
-    let clean : Clean breaks12 ps = parts-clean breaks12 value h in
+    let clean : Clean false breaks12 ps = parts-clean false breaks12 value h in
     let chomping : chomped (chomping_of (ending value)) (has_content (bare written)) (final_ends (bare written)) ≡ final_ends (bare written) =
     rw (folded-content breaks12 limit indent false ps clean, folded-ends breaks12 limit indent false ps clean)
     (chomped-ends (ending value) (bare ps) (ends-parts c rest)) in
     ap (λ t. unfolded false (kept_lines (bare written)) ++ t) chomping
     ∙ unfolded-kept false (bare written) ∙ folded-reads breaks12 limit indent false ps clean ∙ joined-parts value
 
-module _ (charset : Charset) (value : Text) (allowed : allows_block charset value ≡ true) (indent best_indent : ℕ)
+module _ (charset : Charset) (value : Text) (allowed : allows_literal charset value ≡ true) (indent best_indent : ℕ)
     (low : 2 ≤ best_indent) (high : best_indent ≤ 9) (above : best_indent ≤ indent) (column : Option ℕ) (enclosing : Encloses indent best_indent column)
     (cursor : Cursor) where
   -- a literal body is read as its value
   pub literal-reads : read_block charset.breaks12 column (literal_body indent best_indent value cursor).text ≡ Some value
   literal-reads =
-      block-reads charset.breaks12 false indent best_indent column value (parts value) cursor low high (omega arith) enclosing
-      (parts-clean charset.breaks12 value (allowed-ordinary charset value allowed)) (flush-value value)
+      block-reads true charset.breaks12 false indent best_indent column value (parts value) cursor low high (omega arith) enclosing
+      (parts-clean true charset.breaks12 value (literal-ordinary charset value allowed)) (flush-value value)
       ∙ ap Some (literal-lines value)
 
+module _ (charset : Charset) (value : Text) (allowed : allows_block charset value ≡ true) (indent best_indent : ℕ)
+    (low : 2 ≤ best_indent) (high : best_indent ≤ 9) (above : best_indent ≤ indent) (column : Option ℕ) (enclosing : Encloses indent best_indent column)
+    (cursor : Cursor) where
   -- a folded body is read as its value
   pub folded-read : (limit : Option ℕ) → read_block charset.breaks12 column (folded_body limit indent best_indent value cursor).text ≡ Some value
   folded-read limit =
-      let ordinary : AllOrdinary charset.breaks12 value = allowed-ordinary charset value allowed in
-      let clean : Clean charset.breaks12 (parts value) = parts-clean charset.breaks12 value ordinary in
-      block-reads charset.breaks12 true indent best_indent column value (folded_parts limit indent false (parts value)) cursor low high (omega arith) enclosing
-      (folded-clean charset.breaks12 limit indent false (parts value) clean)
+      let ordinary : AllOrdinary false charset.breaks12 value = allowed-ordinary charset value allowed in
+      let clean : Clean false charset.breaks12 (parts value) = parts-clean false charset.breaks12 value ordinary in
+      block-reads false charset.breaks12 true indent best_indent column value (folded_parts limit indent false (parts value)) cursor low high (omega arith)
+      enclosing (folded-clean charset.breaks12 limit indent false (parts value) clean)
       (λ e. folded-flush charset.breaks12 limit indent (parts value) clean (flush-value value e))
       ∙ ap Some (folded-lines charset.breaks12 limit indent value ordinary)
