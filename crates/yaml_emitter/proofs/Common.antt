@@ -15,7 +15,7 @@ pub use Rattle.yaml_base.proofs.Common.{before_stream, within_document, after_st
 pub use Rattle.yaml_base.proofs.Common.{render_version, render_tag_directives, has_directives, is_explicit, render_document_marker, render_document_start}
 pub use Rattle.yaml_base.proofs.Common.{document_start_piece, document_end_piece, root_place, first_standing, stream_end_piece, layout, Piece, piece_text}
 pub use Rattle.yaml_base.proofs.Common.{text_of, Standing, RenderedPieces, render_anchor, render_properties, render_alias, render_separation, render_body}
-pub use Rattle.yaml_base.proofs.Common.{allowed_by_quotes, allowed_under}
+pub use Rattle.yaml_base.proofs.Common.{allowed_by_quotes, allowed_by_blanks, allowed_under}
 pub use Rattle.yaml_base.proofs.Common.{charset_of, style_asked_at, choice_of, body_at, start_piece, is_written_in_flow, Brackets, square, curly, render_end}
 pub use Rattle.yaml_base.proofs.Common.{render_node, Role, as_root, as_item, as_key, as_value, Place, is_key, line_column, deeper, byte_count, name_count}
 pub use Rattle.yaml_base.proofs.Common.{entry_place}

@@ -27,6 +27,7 @@ seen_settings settings =
       breaks12 = settings.line_breaks_1_2;
       portable = settings.portable;
       indented_sequences = settings.indented_sequences;
+      literal_blanks = settings.literal_blanks;
       limit = settings.limit;
     }
 
@@ -49,5 +50,6 @@ seen_effective settings =
       breaks12 = settings.breaks12;
       portable = settings.portable;
       indented_sequences = settings.indented_sequences;
+      literal_blanks = settings.literal_blanks;
       limit = settings.limit;
     }

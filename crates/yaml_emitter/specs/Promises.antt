@@ -151,8 +151,8 @@ HasAllBytes given all state = state.page.output ≡ bytes_so_far given all
 -- an accepted list is written whole, uncut, and means what it says: each scalar reads as its value, canonical bytes read as
 -- the content, and in every mode the bytes read as documents that agree with the list, in portable mode whatever it is, else
 -- where no document is lost and no tag has a flow indicator, and in portable mode with the line breaks of YAML 1.1 and of
--- 1.2; what stands raw in the text is printable, and no U+2028 or U+2029 with the line breaks of YAML 1.2 or in portable
--- mode; each scalar's text is tidy
+-- 1.2; what stands raw in the text is printable, or a tab where blanks are literal, and no U+2028 or U+2029 with the line breaks
+-- of YAML 1.2 or in portable mode; each scalar's text is tidy
 pub record IsWritten (given : Settings) (all : List Event) (state : State) : Type 0 where
   pub text : state.page.text ≡ text_written (settings_for given all) (list_layout (settings_for given all) all)
   pub output : state.page.output ≡ output_of given all

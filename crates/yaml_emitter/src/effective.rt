@@ -20,6 +20,7 @@ pub(crate) struct EffectiveSettings {
     pub breaks12: bool,
     pub portable: bool,
     pub indented_sequences: bool,
+    pub literal_blanks: bool,
     pub limit: usize,
     ghost indents: { 2 ≤ indent },
     ghost indents_within: { indent ≤ 9 },

@@ -125,7 +125,7 @@ pub fn yaml_emitter_set_line_breaks_1_2<A: Allocator>(
 
 /// Sets whether what readers of YAML read differently, or not at all, is written in the way that all read alike: every
 /// document begins with `---`, `,` `[` `]` after a tag's handle and U+2028 and U+2029 are escaped, a `!` that begins a
-/// `%TAG` prefix isn't, and a root that begins with a space or a line break is no block scalar.
+/// `%TAG` prefix isn't, and a root that begins with a blank or a line break is no block scalar.
 pub fn yaml_emitter_set_portable<A: Allocator>(emitter: &mut yaml_emitter_t<A>, portable: bool)
     requires { emitter.old.started ≡ false }
     ensures set { emitter.new ≡ record emitter.old { given = record emitter.old.given { portable = portable } } }
@@ -144,6 +144,16 @@ pub fn yaml_emitter_set_indented_sequences<A: Allocator>(
     ensures stands { StandsAfter emitter.old.given [] emitter.old → StandsAfter emitter.new.given [] emitter.new }
 {
     emitter.machine.given.indented_sequences = indented;
+}
+
+/// Sets whether blanks are literal: a scalar for which literal is asked is literal also where it holds tabs, or spaces before a
+/// break or at its end, if no nonempty line is of blanks alone.
+pub fn yaml_emitter_set_literal_blanks<A: Allocator>(emitter: &mut yaml_emitter_t<A>, literal: bool)
+    requires { emitter.old.started ≡ false }
+    ensures set { emitter.new ≡ record emitter.old { given = record emitter.old.given { literal_blanks = literal } } }
+    ensures stands { StandsAfter emitter.old.given [] emitter.old → StandsAfter emitter.new.given [] emitter.new }
+{
+    emitter.machine.given.literal_blanks = literal;
 }
 
 impl<A: Allocator> yaml_emitter_t<A> {

@@ -43,6 +43,8 @@ pub struct Settings {
     pub portable: bool,
     /// Block sequences in a mapping are indented, as other block collections are.
     pub indented_sequences: bool,
+    /// A scalar for which literal is asked is literal also where it holds tabs, or spaces before a break or at its end.
+    pub literal_blanks: bool,
     /// The maximum output size in bytes.
     pub limit: usize,
 }
@@ -63,6 +65,7 @@ impl Default for Settings {
             line_breaks_1_2: false,
             portable: false,
             indented_sequences: false,
+            literal_blanks: false,
             limit: usize::MAX,
         }
     }
@@ -143,6 +146,7 @@ impl Settings {
             breaks12: self.line_breaks_1_2,
             portable: self.portable,
             indented_sequences: self.indented_sequences,
+            literal_blanks: self.literal_blanks,
             limit: self.limit,
         }
     }

@@ -1,21 +1,20 @@
 -- What holds of each body that a value allows holds of all bodies of a stream's layout: so each scalar of it reads back as
 -- exactly its value.
-use Rattle.yaml_emitter.proofs.Common.{ℕ, if◌then◌else◌, is_some, unwrap_or, option_map, Option, None, Some, nat_le, negsuc, pos, ℤ, Bool, false, true, ◌&&◌}
+use Rattle.yaml_emitter.proofs.Common.{ℕ, if◌then◌else◌, unwrap_or, option_map, Option, None, Some, nat_le, negsuc, pos, ℤ, Bool, false, true, ◌&&◌}
 use Rattle.yaml_emitter.proofs.Common.{List, [], ◌∷◌, refl, ◌≡◌, ap, subst, sym, ◌∙◌, arith, and_parts, All-nil, All-cons, All, list_all}
 use Rattle.yaml_emitter.proofs.Common.{tree_of-stream_events, Cursor, ScalarStyle, TagDirective, Scalar, Event, stream_start, stream_end, document_start}
-use Rattle.yaml_emitter.proofs.Common.{document_end, scalar, sequence_end, mapping_end, scalar_tag, Stream, stream_events, first_standing, layout, Piece}
-use Rattle.yaml_emitter.proofs.Common.{Standing, render_body, charset_of, allowed_under, style_asked_at, choice_of, scalar_lead, body_at, scalar_piece, Place, deeper}
+use Rattle.yaml_emitter.proofs.Common.{document_end, scalar, sequence_end, mapping_end, Stream, stream_events, first_standing, layout, Piece}
+use Rattle.yaml_emitter.proofs.Common.{Standing, render_body, choice_of, scalar_lead, body_at, scalar_piece, Place, deeper}
 use Rattle.yaml_emitter.proofs.Common.{BodyMeans}
 use Rattle.yaml_emitter.proofs.Common.{has_scalar_values, list_layout, IsAccepted, Effective, effective, Frame, Stage, at_stream, at_document, at_node}
-use Rattle.yaml_emitter.proofs.Common.{at_document_end, node_step, step, ends_next, steps, is_empty, allowances}
+use Rattle.yaml_emitter.proofs.Common.{at_document_end, node_step, step, ends_next, steps}
 use Rattle.yaml_base.proofs.Common.{leb-true, Body, bodies_of, MeaningIsKept, effective_indent}
 use Rattle.yaml_base.proofs.StepLaws.{stream_steps}
-use Rattle.yaml_emitter.proofs.layouts.{MeaningBodies.IsIndent, MeaningBodies.body_means, MeaningStyles.Allows, MeaningStyles.chosen_allowed}
-use Rattle.yaml_emitter.proofs.layouts.{MeaningStyles.allowed_with_single}
+use Rattle.yaml_emitter.proofs.layouts.{MeaningBodies.IsIndent, MeaningBodies.body_means, MeaningStyles.AllowsUnder, MeaningStyles.choice_allowed}
 
 module _ (s : Effective) (Holds : Body → Type 0) (is_good : Event → Bool)
     (each : (place : Place) (style : ScalarStyle) (limit : Option ℕ) (content : Scalar) (cursor : Cursor) → is_good (scalar content) ≡ true
-    → Allows (allowances (charset_of s) content.value) place.in_flow style
+    → AllowsUnder s place.in_flow content.value style
     → Holds (body_at place style content.value (render_body style s limit (deeper s.indent place.column) content.value cursor))) where
   -- what holds of a piece's body, where it has one
   abbrev HoldsOf : Option Body → Type 0
@@ -29,9 +28,7 @@ module _ (s : Effective) (Holds : Body → Type 0) (is_good : Event → Bool)
       let choice = choice_of s place simple content in
       each place choice.style (if simple then None else s.width) content
       (scalar_lead s directives place simple choice content standing.cursor).cursor good
-      (allowed_with_single s.double_quotes (allowances (charset_of s) content.value) place.in_flow choice.style
-      (chosen_allowed (allowed_under s content.value) (style_asked_at s place content) (is_empty content.value)
-      (is_some (scalar_tag s.canonical content)) content.plain_implicit content.quoted_implicit place.in_flow simple s.canonical))
+      (choice_allowed s place simple content)
 
   -- that of an event within a document
   node_step_holds : (directives : List TagDirective) (frames : List Frame) (event : Event) (empty : Bool) (standing : Standing)
@@ -107,7 +104,7 @@ is_indent (Some (pos n)) =
 
 -- A body that a value allows reads as the value.
 scalar_means : (s : Effective) → IsIndent s.indent → (place : Place) (style : ScalarStyle) (limit : Option ℕ) (content : Scalar) (cursor : Cursor)
-    → has_scalar_values (scalar content) ≡ true → Allows (allowances (charset_of s) content.value) place.in_flow style
+    → has_scalar_values (scalar content) ≡ true → AllowsUnder s place.in_flow content.value style
     → BodyMeans s (body_at place style content.value (render_body style s limit (deeper s.indent place.column) content.value cursor))
 scalar_means s is place style limit content cursor scalars allowed = body_means s place style limit content.value cursor is scalars allowed
 

@@ -1,9 +1,9 @@
 -- A body that stands in a layout reads as its value.
 use Rattle.yaml_emitter.proofs.Common.{ℕ, ◌≤◌, Option, None, Some, Bool, false, true, refl, ◌≡◌, arith, all_scalars, Text, Cursor, ScalarStyle, any_style}
-use Rattle.yaml_emitter.proofs.Common.{plain, single_quoted, double_quoted, literal, folded, render_body, charset_of, body_at, Place, deeper, BodyMeans}
+use Rattle.yaml_emitter.proofs.Common.{plain, single_quoted, double_quoted, literal, folded, render_body, body_at, Place, deeper, BodyMeans}
 use Rattle.yaml_emitter.proofs.Common.{Effective, Charset, allows_plain, allowances}
-use Rattle.yaml_base.{proofs.Charsets.plain_still, proofs.Charsets.single_still, proofs.Charsets.block_still, specs.scalars.BlockHeader.Encloses}
-use Rattle.yaml_emitter.proofs.layouts.MeaningStyles.{Allows}
+use Rattle.yaml_base.{proofs.Charsets.plain_still, proofs.Charsets.single_still, proofs.Charsets.block_still, proofs.Charsets.literal_still, proofs.Common.allows_literal, specs.scalars.BlockHeader.Encloses}
+use Rattle.yaml_emitter.proofs.layouts.MeaningStyles.{Allows, AllowsUnder}
 use Rattle.yaml_scalar.proofs.{DoubleReads.double-reads, DoubleReads.double-indented, PlainReads.plain-reads, PlainReads.plain-indented}
 use Rattle.yaml_scalar.proofs.{SingleReads.single-reads, SingleReads.single-indented, blocks.BlockLines.literal-kept, blocks.BlockLines.folded-kept}
 
@@ -26,19 +26,23 @@ plain_context charset false value h = h
 abbrev pub charset_by_breaks : Effective → Charset
 charset_by_breaks s = record { unicode = s.unicode; breaks12 = s.breaks12 }
 
+-- what a style needs of a value by the line breaks alone
+abbrev pub AllowsByBreaks : Effective → (flow : Bool) → Text → ScalarStyle → Type 0
+AllowsByBreaks s flow value literal = allows_literal (charset_by_breaks s) value ≡ true
+AllowsByBreaks s flow value style = Allows (allowances (charset_by_breaks s) value) flow style
+
 -- a style that a value allows, it allows so too
-pub allows_still : (s : Effective) (flow : Bool) (value : Text) (style : ScalarStyle) → Allows (allowances (charset_of s) value) flow style
-    → Allows (allowances (charset_by_breaks s) value) flow style
+pub allows_still : (s : Effective) (flow : Bool) (value : Text) (style : ScalarStyle) → AllowsUnder s flow value style → AllowsByBreaks s flow value style
 allows_still s flow value any_style h = h
 allows_still s true value plain h = plain_still s.unicode s.breaks12 s.portable true value h
 allows_still s false value plain h = plain_still s.unicode s.breaks12 s.portable false value h
 allows_still s flow value single_quoted h = single_still s.unicode s.breaks12 s.portable value h
 allows_still s flow value double_quoted h = h
-allows_still s flow value literal h = block_still s.unicode s.breaks12 s.portable value h
+allows_still s flow value literal h = literal_still s.unicode s.breaks12 s.portable value h.literal
 allows_still s flow value folded h = block_still s.unicode s.breaks12 s.portable value h
 
 pub body_means : (s : Effective) (place : Place) (style : ScalarStyle) (limit : Option ℕ) (value : Text) (cursor : Cursor)
-    → IsIndent s.indent → all_scalars value ≡ true → Allows (allowances (charset_of s) value) place.in_flow style
+    → IsIndent s.indent → all_scalars value ≡ true → AllowsUnder s place.in_flow value style
     → BodyMeans s (body_at place style value (render_body style s limit (deeper s.indent place.column) value cursor))
 body_means s place any_style limit value cursor is scalars h = absurd h
 body_means s place plain limit value cursor is scalars h =

@@ -6,14 +6,16 @@ use Rattle.yaml_emitter.proofs.Common.{single_quoted, double_quoted, literal, fo
 use Rattle.yaml_emitter.proofs.Common.{charset_of, Place, deeper, break_text, with_breaks_written, encoding_asked, list_layout, IsAccepted, LineBreak}
 use Rattle.yaml_emitter.proofs.Common.{carriage_return_break, line_feed_break, both_break, Effective, effective, at_stream, HoldsRaw, Charset, is_special}
 use Rattle.yaml_emitter.proofs.Common.{allowances, quote, backslash, needs_escape, any_both, any_one, is_graph, Spares}
+use Rattle.yaml_base.proofs.Common.{is_literal, is_special_but_tab, is_tidy_character, tab, eqb-true, inl, inr, ◌⊎◌, and_right, or_right, true≢false, not-true}
 use Rattle.yaml_base.proofs.Common.{or_left, not-false, line_separator, paragraph_separator, is_ascii}
 use Rattle.std.proofs.Math.Utf8.{scalar}
 use Rattle.yaml_base.{proofs.CallerLaws.encodings_agree, specs.Settings.escapes_separators}
 use Rattle.yaml_base.specs.WrittenTexts.{is_separator, may_stand_raw, TextsHoldRaw, StreamsAgree}
 use Rattle.yaml_emitter.proofs.layouts.{Meaning.is_indent, MeaningBodies.IsIndent, MeaningBodies.plain_context, MeaningStyles.Allows, SparingSteps.Spared}
+use Rattle.yaml_emitter.proofs.layouts.MeaningStyles.{AllowsLiteral, AllowsUnder}
 use Rattle.yaml_emitter.proofs.layouts.{SparingSteps.lacks_steps}
 use Rattle.yaml_scalar.proofs.Sparing.{lacks_plain, lacks_single, lacks_double}
-use Rattle.yaml_scalar.proofs.SparingBlocks.{lacks_literal, lacks_folded, plain_unspecial, single_unspecial, block_unspecial}
+use Rattle.yaml_scalar.proofs.SparingBlocks.{lacks_literal, lacks_folded, plain_unspecial, single_unspecial, block_unspecial, literal_unspecial}
 
 -- No printable character of ASCII is special, nor LF, nor one that stands raw in double quotes.
 
@@ -65,40 +67,22 @@ special_raw breaks12 unicode c h =
     by true p = simp (p.0, p.1, p.2, p.3)
     by false p = simp (p.0, p.1)
 
--- No body holds a special character.
-special_bodies : (s : Effective) → IsIndent s.indent → (place : Place) (style : ScalarStyle) (limit : Option ℕ) (value : Text) (cursor : Cursor)
-    → Allows (allowances (charset_of s) value) place.in_flow style
-    → list_any (is_special (charset_of s)) (render_body style s limit (deeper s.indent place.column) value cursor).text ≡ false
-special_bodies s is place any_style limit value cursor h = absurd h
-special_bodies s is place plain limit value cursor h =
-    lacks_plain (is_special (charset_of s)) (special_spares (charset_of s)) limit (deeper s.indent place.column) value cursor
-    (plain_unspecial (charset_of s) place.in_flow value (plain_context (charset_of s) place.in_flow value h))
-special_bodies s is place single_quoted limit value cursor h =
-    lacks_single (is_special (charset_of s)) (special_spares (charset_of s)) limit (deeper s.indent place.column) value cursor
-    (single_unspecial (charset_of s) value h)
-special_bodies s is place double_quoted limit value cursor h =
-    lacks_double (is_special (charset_of s)) (special_spares (charset_of s)) s.unicode (special_raw (escapes_separators s) s.unicode) limit
-    (deeper s.indent place.column) value cursor
-special_bodies s is place literal limit value cursor h =
-    lacks_literal (is_special (charset_of s)) (special_spares (charset_of s)) (deeper s.indent place.column) s.indent value cursor is.high
-    (block_unspecial (charset_of s) value h)
-special_bodies s is place folded limit value cursor h =
-    lacks_folded (is_special (charset_of s)) (special_spares (charset_of s)) limit (deeper s.indent place.column) s.indent value cursor is.high
-    (block_unspecial (charset_of s) value h)
+-- a special character, but for tabs where there may be some
+abbrev pub is_special_raw : (tabs : Bool) → Charset → ℕ → Bool
+is_special_raw tabs charset c = not (tabs && c == tab) && is_special charset c
 
--- and no body meets it
-pub special_spared : (s : Effective) → IsIndent s.indent → Spared s (is_special (charset_of s))
-special_spared s is = record { spares = special_spares (charset_of s); bodies = special_bodies s is }
+-- what isn't special isn't so either
+raw_fewer : (tabs : Bool) (charset : Charset) (c : ℕ) → is_special charset c ≡ false → is_special_raw tabs charset c ≡ false
+raw_fewer tabs charset c h = and_right (not (tabs && c == tab)) (is_special charset c) h
 
--- the text of an accepted list holds none
-pub special_list : (s : Effective) (canonical : Bool) (events : List Event) → IsIndent s.indent → IsAccepted canonical events
-    → list_any (is_special (charset_of s)) (text_of (list_layout s events)) ≡ false
-special_list s canonical events is accepted =
-    let pushes = ap partial_of (sym accepted.is_stream) ∙ stream_pushed accepted.stream in
-    ap (λ (pieces : List Piece). list_any (is_special (charset_of s)) (text_of pieces)) (list_layout_steps events accepted.stream s pushes)
-    ∙ lacks_steps s (is_special (charset_of s)) (special_spared s is) canonical events false at_stream first_standing tt accepted.sound
-
--- From special characters to what stands raw.
+raw_spares : (tabs : Bool) (charset : Charset) → Spares (is_special_raw tabs charset)
+raw_spares tabs charset =
+    let spares = special_spares charset in
+    record {
+      graph = λ c h. raw_fewer tabs charset c (spares.graph c h);
+      blank = raw_fewer tabs charset space spares.blank;
+      feed = raw_fewer tabs charset line_feed spares.feed;
+    }
 
 -- a test that is met by fewer characters
 pub lacks_fewer : (test fewer : ℕ → Bool) → ((c : ℕ) → test c ≡ false → fewer c ≡ false) → (text : Text) → list_any test text ≡ false
@@ -107,6 +91,77 @@ lacks_fewer test fewer implies [] h = refl
 lacks_fewer test fewer implies (c ∷ rest) h =
     let p = or_parts (test c) (list_any test rest) h in
     any_one fewer c rest (implies c p.0) (lacks_fewer test fewer implies rest p.1)
+
+module _ (s : Effective) (is : IsIndent s.indent) (place : Place) (limit : Option ℕ) (value : Text) (cursor : Cursor) where
+  -- the text of a body
+  abbrev body : ScalarStyle → Text
+  body style = (render_body style s limit (deeper s.indent place.column) value cursor).text
+
+  -- No body that isn't literal holds a special character.
+  pub special_bodies : (style : ScalarStyle) → is_literal style ≡ false → Allows (allowances (charset_of s) value) place.in_flow style
+      → list_any (is_special (charset_of s)) (body style) ≡ false
+  special_bodies any_style other h = absurd h
+  special_bodies plain other h =
+      lacks_plain (is_special (charset_of s)) (special_spares (charset_of s)) limit (deeper s.indent place.column) value cursor
+      (plain_unspecial (charset_of s) place.in_flow value (plain_context (charset_of s) place.in_flow value h))
+  special_bodies single_quoted other h =
+      lacks_single (is_special (charset_of s)) (special_spares (charset_of s)) limit (deeper s.indent place.column) value cursor
+      (single_unspecial (charset_of s) value h)
+  special_bodies double_quoted other h =
+      lacks_double (is_special (charset_of s)) (special_spares (charset_of s)) s.unicode (special_raw (escapes_separators s) s.unicode) limit
+      (deeper s.indent place.column) value cursor
+  special_bodies literal other h = absurd (true≢false other)
+  special_bodies folded other h =
+      lacks_folded (is_special (charset_of s)) (special_spares (charset_of s)) limit (deeper s.indent place.column) s.indent value cursor is.high
+      (block_unspecial (charset_of s) value h)
+
+  -- A literal body holds none but tabs, and these where blanks are literal.
+  literal_bodies : (tabs : Bool) → s.literal_blanks ≡ tabs → AllowsLiteral s value → list_any (is_special_raw tabs (charset_of s)) (body literal) ≡ false
+  literal_bodies tabs e h =
+      lacks_literal (is_special_raw tabs (charset_of s)) (raw_spares tabs (charset_of s)) (deeper s.indent place.column) s.indent value cursor is.high
+      (by tabs e)
+    where
+      by : (tabs : Bool) → s.literal_blanks ≡ tabs → list_any (is_special_raw tabs (charset_of s)) value ≡ false
+      by true e =
+          lacks_fewer (is_special_but_tab (charset_of s)) (is_special_raw true (charset_of s)) (λ c k. k) value
+          (literal_unspecial (charset_of s) value h.literal)
+      by false e =
+          lacks_fewer (is_special (charset_of s)) (is_special_raw false (charset_of s)) (λ c k. raw_fewer false (charset_of s) c k) value
+          (block_unspecial (charset_of s) value (h.block e))
+
+  -- So it is with all bodies.
+  raw_other : (style : ScalarStyle) → is_literal style ≡ false → Allows (allowances (charset_of s) value) place.in_flow style
+      → list_any (is_special_raw s.literal_blanks (charset_of s)) (body style) ≡ false
+  raw_other style other h =
+      lacks_fewer (is_special (charset_of s)) (is_special_raw s.literal_blanks (charset_of s)) (λ c k. raw_fewer s.literal_blanks (charset_of s) c k)
+      (body style) (special_bodies style other h)
+
+  pub raw_bodies : (style : ScalarStyle) → AllowsUnder s place.in_flow value style
+      → list_any (is_special_raw s.literal_blanks (charset_of s)) (body style) ≡ false
+  raw_bodies any_style h = absurd h
+  raw_bodies plain h = raw_other plain refl h
+  raw_bodies single_quoted h = raw_other single_quoted refl h
+  raw_bodies double_quoted h = raw_other double_quoted refl h
+  raw_bodies literal h = literal_bodies s.literal_blanks refl h
+  raw_bodies folded h = raw_other folded refl h
+
+-- and no body meets it
+raw_spared : (s : Effective) → IsIndent s.indent → Spared s (is_special_raw s.literal_blanks (charset_of s))
+raw_spared s is = record {
+  spares = raw_spares s.literal_blanks (charset_of s);
+  bodies = λ place style limit value cursor h. raw_bodies s is place limit value cursor style h;
+}
+
+-- the text of an accepted list holds none
+pub raw_list : (s : Effective) (canonical : Bool) (events : List Event) → IsIndent s.indent → IsAccepted canonical events
+    → list_any (is_special_raw s.literal_blanks (charset_of s)) (text_of (list_layout s events)) ≡ false
+raw_list s canonical events is accepted =
+    let pushes = ap partial_of (sym accepted.is_stream) ∙ stream_pushed accepted.stream in
+    ap (λ (pieces : List Piece). list_any (is_special_raw s.literal_blanks (charset_of s)) (text_of pieces))
+    (list_layout_steps events accepted.stream s pushes)
+    ∙ lacks_steps s (is_special_raw s.literal_blanks (charset_of s)) (raw_spared s is) canonical events false at_stream first_standing tt accepted.sound
+
+-- From special characters to what stands raw.
 
 -- where no character fails a test, all meet it
 pub all_meet : (test : ℕ → Bool) (text : Text) → list_any (λ c. not (test c)) text ≡ false → list_all test text ≡ true
@@ -161,31 +216,69 @@ special_ascii charset c off h =
 special_separator : (charset : Charset) (c : ℕ) → charset.breaks12 ≡ true → is_special charset c ≡ false → is_separator c ≡ false
 special_separator charset c on h = then_false charset.breaks12 (is_separator c) on (or_parts _ (charset.breaks12 && is_separator c) h).1
 
--- a text without special characters, as its line breaks are written
-pub raw_held : (s : Effective) (text : Text) → list_any (is_special (charset_of s)) text ≡ false → HoldsRaw s (with_breaks_written s.line_break text)
+-- a character that isn't special, or a tab where there may be some
+raw_cases : (tabs : Bool) (charset : Charset) (c : ℕ) → is_special_raw tabs charset c ≡ false
+    → ((tabs && c == tab) ≡ true) ⊎ (is_special charset c ≡ false)
+raw_cases tabs charset c h = by (tabs && c == tab) refl h
+  where
+    by : (x : Bool) → (tabs && c == tab) ≡ x → (not x && is_special charset c) ≡ false → ((tabs && c == tab) ≡ true) ⊎ (is_special charset c ≡ false)
+    by true e h = inl e
+    by false e h = inr h
+
+-- what holds of a tab and of what isn't special
+raw_test : (test : ℕ → Bool) (tabs : Bool) (charset : Charset) → test tab ≡ true → ((c : ℕ) → is_special charset c ≡ false → test c ≡ true)
+    → (c : ℕ) → is_special_raw tabs charset c ≡ false → test c ≡ true
+raw_test test tabs charset of_tab others c h = by (raw_cases tabs charset c h)
+  where
+    by : ((tabs && c == tab) ≡ true) ⊎ (is_special charset c ≡ false) → test c ≡ true
+    by (inl e) = ap test (eqb-true c tab (and_parts tabs (c == tab) e).1) ∙ of_tab
+    by (inr e) = others c e
+
+-- may stand raw
+raw_stands : (tabs : Bool) (charset : Charset) (c : ℕ) → is_special_raw tabs charset c ≡ false → may_stand_raw tabs c ≡ true
+raw_stands tabs charset c h = by (raw_cases tabs charset c h)
+  where
+    by : ((tabs && c == tab) ≡ true) ⊎ (is_special charset c ≡ false) → may_stand_raw tabs c ≡ true
+    by (inl e) = or_right (is_printable c || c == carriage_return) (tabs && c == tab) e
+    by (inr e) =
+        or_left (is_printable c || c == carriage_return) (tabs && c == tab) (or_left (is_printable c) (c == carriage_return) (special_printable charset c e))
+
+-- is printable or a tab
+pub raw_shown : (tabs : Bool) (charset : Charset) (c : ℕ) → is_special_raw tabs charset c ≡ false → is_tidy_character literal c ≡ true
+raw_shown tabs charset c h =
+    raw_test (is_tidy_character literal) tabs charset refl (λ d e. or_left (is_printable d) (d == tab) (special_printable charset d e)) c h
+
+-- a text without other special characters, as its line breaks are written
+pub raw_held : (s : Effective) (text : Text) → list_any (is_special_raw s.literal_blanks (charset_of s)) text ≡ false
+    → HoldsRaw s (with_breaks_written s.line_break text)
 raw_held s text h =
-    let special = is_special (charset_of s) in
+    let tabs = s.literal_blanks in
+    let charset = charset_of s in
+    let special = is_special_raw tabs charset in
     let written = with_breaks_written s.line_break text in
     record {
-      printable = all_meet may_stand_raw written
-          (lacks_written (λ c. not (may_stand_raw c)) s.line_break refl refl text
-          (lacks_fewer special (λ c. not (may_stand_raw c))
-          (λ c e. ap not (or_left (is_printable c) (c == carriage_return) (special_printable (charset_of s) c e))) text h));
+      printable = all_meet (may_stand_raw tabs) written
+          (lacks_written (λ c. not (may_stand_raw tabs c)) s.line_break refl refl text
+          (lacks_fewer special (λ c. not (may_stand_raw tabs c)) (λ c e. ap not (raw_stands tabs charset c e)) text h));
       scalars = scalars_all written (all_meet scalar written
           (lacks_written (λ c. not (scalar c)) s.line_break refl refl text
-          (lacks_fewer special (λ c. not (scalar c)) (λ c e. ap not (printable_scalar c (special_printable (charset_of s) c e))) text h)));
+          (lacks_fewer special (λ c. not (scalar c))
+          (λ c e. ap not (raw_test scalar tabs charset refl (λ d k. printable_scalar d (special_printable charset d k)) c e)) text h)));
       ascii = λ off. all_meet is_ascii written
           (lacks_written (λ c. not (is_ascii c)) s.line_break refl refl text
-          (lacks_fewer special (λ c. not (is_ascii c)) (λ c e. ap not (special_ascii (charset_of s) c off e)) text h));
+          (lacks_fewer special (λ c. not (is_ascii c))
+          (λ c e. ap not (raw_test is_ascii tabs charset refl (λ d k. special_ascii charset d off k) c e)) text h));
       no_separators = λ on. lacks_written is_separator s.line_break refl refl text
-          (lacks_fewer special is_separator (λ c e. special_separator (charset_of s) c on e) text h);
+          (lacks_fewer special is_separator
+          (λ c e. not-true (is_separator c)
+          (raw_test (λ d. not (is_separator d)) tabs charset refl (λ d k. ap not (special_separator charset d on k)) c e)) text h);
     }
 
 -- What stands raw in the text of every accepted list.
 pub texts_hold_raw : TextsHoldRaw
 texts_hold_raw given encoding events accepted =
     let s = effective given encoding in
-    raw_held s (text_of (list_layout s events)) (special_list s given.canonical events (is_indent given.indent) accepted)
+    raw_held s (text_of (list_layout s events)) (raw_list s given.canonical events (is_indent given.indent) accepted)
 
 -- In any encoding the bytes of an accepted list are one text.
 pub streams_agree : StreamsAgree

@@ -1,20 +1,20 @@
 -- The pieces of a stream's events hold no character that meets a test which spares printable ASCII and LF, where no body that a
 -- value allows does.
-use Rattle.yaml_emitter.proofs.Common.{ℕ, if◌then◌else◌, ◌==◌, is_some, option_and_then, Option, None, Bool, false, not, true, ◌&&◌, List, [], ◌++◌, ◌∷◌}
+use Rattle.yaml_emitter.proofs.Common.{ℕ, if◌then◌else◌, ◌==◌, option_and_then, Option, None, Bool, false, not, true, ◌&&◌, List, [], ◌++◌, ◌∷◌}
 use Rattle.yaml_emitter.proofs.Common.{refl, ◌≡◌, and_parts, list_all, list_any, neither, AreFound, in_force_found, Text, is_alpha, Cursor, Rendered}
 use Rattle.yaml_emitter.proofs.Common.{render_then, new_line, ScalarStyle, TagDirective, Scalar, Collection, Event, stream_start, stream_end, document_start}
 use Rattle.yaml_emitter.proofs.Common.{document_end, alias, scalar, sequence_start, sequence_end, mapping_start, mapping_end, scalar_tag, collection_tag}
 use Rattle.yaml_emitter.proofs.Common.{render_if, render_closing_marker, render_document_start, document_end_piece, Piece, piece_text, text_of, Standing}
-use Rattle.yaml_emitter.proofs.Common.{render_properties, render_alias, render_separation, render_body, charset_of, allowed_under, style_asked_at, choice_of, scalar_lead}
+use Rattle.yaml_emitter.proofs.Common.{render_properties, render_alias, render_separation, render_body, choice_of, scalar_lead}
 use Rattle.yaml_emitter.proofs.Common.{scalar_piece}
 use Rattle.yaml_emitter.proofs.Common.{start_piece, Brackets, square, curly, render_end, end_piece, Place, is_key, deeper, is_simple_alias, render_place}
 use Rattle.yaml_emitter.proofs.Common.{name_or_tag_fault, content_fault, is_sound, Effective, Frame, Stage, at_stream, at_document, at_node, at_document_end}
-use Rattle.yaml_emitter.proofs.Common.{next_place, stage_after, is_first, node_step, step, ends_next, steps, version_fault, directives_fault, is_empty}
-use Rattle.yaml_emitter.proofs.Common.{allowances, any_both, Spares, lacks_line}
+use Rattle.yaml_emitter.proofs.Common.{next_place, stage_after, is_first, node_step, step, ends_next, steps, version_fault, directives_fault}
+use Rattle.yaml_emitter.proofs.Common.{any_both, Spares, lacks_line}
 use Rattle.yaml_base.proofs.NoFaults.{is_none_none}
 use Rattle.yaml_base.specs.declared.errors.yaml_error_t.TheVariants.{AliasAlphabet, AliasEmpty}
 use Rattle.yaml_emitter.proofs.canonical.{CanonicalPlaces.AnchorOk, CanonicalSound.name_is, CanonicalSound.anchor_is}
-use Rattle.yaml_emitter.proofs.layouts.MeaningStyles.{Allows, allowed_with_single, chosen_allowed}
+use Rattle.yaml_emitter.proofs.layouts.MeaningStyles.{AllowsUnder, choice_allowed}
 use Rattle.yaml_emitter.proofs.layouts.SparingPlaces.{Lacks, lacks_then, lacks_place, lacks_properties, lacks_alias, lacks_separation, lacks_end, lacks_if}
 use Rattle.yaml_emitter.proofs.layouts.SparingPlaces.{lacks_closing, lacks_document}
 
@@ -86,7 +86,7 @@ own_found own h = prefix_found own own _ (in_force_found own h)
 pub record Spared (s : Effective) (test : ℕ → Bool) : Type 0 where
   pub spares : Spares test
   pub bodies : (place : Place) (style : ScalarStyle) (limit : Option ℕ) (value : Text) (cursor : Cursor)
-      → Allows (allowances (charset_of s) value) place.in_flow style
+      → AllowsUnder s place.in_flow value style
       → list_any test (render_body style s limit (deeper s.indent place.column) value cursor).text ≡ false
 
 module _ (s : Effective) (test : ℕ → Bool) (spared : Spared s test) where
@@ -115,9 +115,7 @@ module _ (s : Effective) (test : ℕ → Bool) (spared : Spared s test) where
       (λ after. lacks_properties test spared.spares s.portable found.0 directives content.anchor tag choice.bare after found.1 ok))
       (λ after. lacks_separation test spared.spares choice.style place.in_flow content.value after))
       (spared.bodies place choice.style (if simple then None else s.width) content.value lead.cursor
-      (allowed_with_single s.double_quotes (allowances (charset_of s) content.value) place.in_flow choice.style
-      (chosen_allowed (allowed_under s content.value) (style_asked_at s place content) (is_empty content.value) (is_some tag)
-      content.plain_implicit content.quoted_implicit place.in_flow simple s.canonical)))
+      (choice_allowed s place simple content))
 
   -- a collection's start
   lacks_start : (directives : List TagDirective) (place : Place) (simple : Bool) (start : Collection) (standing : Standing)

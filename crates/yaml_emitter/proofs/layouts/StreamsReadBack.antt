@@ -1,22 +1,24 @@
 -- Every stream reads back, in every mode.
-use Rattle.yaml_emitter.proofs.Common.{Option, Some, not, true, List, ◌≡◌, ap, sym, ◌∙◌, list_all, is_printable, Event, Piece, text_of, charset_of}
+use Rattle.yaml_emitter.proofs.Common.{Option, Some, not, true, List, ◌≡◌, ap, sym, ◌∙◌, list_all, literal, Event, Piece, text_of, charset_of}
 use Rattle.yaml_emitter.proofs.Common.{has_scalar_texts, text_written, bytes_written, list_layout, IsAccepted, Encoding, Settings, effective, reads_alike}
-use Rattle.yaml_emitter.proofs.Common.{is_special, agrees, stream_trees}
+use Rattle.yaml_emitter.proofs.Common.{agrees, stream_trees}
+use Rattle.yaml_base.proofs.Common.{is_tidy_character}
 use Rattle.yaml_base.proofs.{CallerLaws.breaks_agree, stream_documents.StreamLawStands.stream_read_back, stream_documents.StreamWholeReads.document_trees}
-use Rattle.yaml_base.proofs.stream_documents.StreamAllStand.{LayoutsArePrintable, LayoutsAreRead, StreamsStand, streams_stand, streams_read_back}
+use Rattle.yaml_base.proofs.stream_documents.StreamAllStand.{LayoutsAreShown, LayoutsAreRead, StreamsStand, streams_stand, streams_read_back}
 use Rattle.yaml_base.specs.StreamLaw.{StreamReadsBack, PortableReadsBack}
 use Rattle.yaml_emitter.proofs.{canonical.CanonicalBytes.characters_back, events_done.SeenTexts.values_of_texts, layouts.Meaning.is_indent}
 use Rattle.yaml_emitter.proofs.{layouts.Meaning.meaning_is_kept, layouts.TidyStreams.bodies_are_tidy}
-use Rattle.yaml_emitter.proofs.layouts.RawTexts.{special_list, lacks_fewer, all_meet, special_printable, texts_hold_raw}
+use Rattle.yaml_emitter.proofs.layouts.RawTexts.{raw_list, is_special_raw, raw_shown, lacks_fewer, all_meet, texts_hold_raw}
 
--- the text of an accepted list is printable
-layouts_are_printable : LayoutsArePrintable
-layouts_are_printable given encoding events accepted =
+-- the text of an accepted list is of printable characters and tabs
+layouts_are_shown : LayoutsAreShown
+layouts_are_shown given encoding events accepted =
     let s = effective given encoding in
     let text = text_of (list_layout s events) in
-    all_meet is_printable text
-    (lacks_fewer (is_special (charset_of s)) (λ c. not (is_printable c)) (λ c e. ap not (special_printable (charset_of s) c e)) text
-    (special_list s given.canonical events (is_indent given.indent) accepted))
+    all_meet (is_tidy_character literal) text
+    (lacks_fewer (is_special_raw s.literal_blanks (charset_of s)) (λ c. not (is_tidy_character literal c))
+    (λ c e. ap not (raw_shown s.literal_blanks (charset_of s) c e)) text
+    (raw_list s given.canonical events (is_indent given.indent) accepted))
 
 -- and is read from its bytes
 layouts_are_read : LayoutsAreRead
@@ -26,7 +28,7 @@ layouts_are_read given encoding events accepted =
 
 -- every stream stands
 stand : StreamsStand
-stand = streams_stand bodies_are_tidy meaning_is_kept values_of_texts layouts_are_printable layouts_are_read
+stand = streams_stand bodies_are_tidy meaning_is_kept values_of_texts layouts_are_shown layouts_are_read
 
 -- every stream reads back
 pub stream_reads_back : StreamReadsBack

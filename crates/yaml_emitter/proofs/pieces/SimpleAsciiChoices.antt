@@ -3,12 +3,13 @@ use Rattle.yaml_emitter.proofs.Common.{ℕ, ◌+◌, if◌then◌else◌, is_som
 use Rattle.yaml_emitter.proofs.Common.{◌∷◌, refl, ◌≡◌, ap, subst, sym, ◌∙◌}
 use Rattle.yaml_emitter.proofs.Common.{and_parts, false≢true, Text, Cursor, Rendered, render_then, ScalarStyle, any_style}
 use Rattle.yaml_emitter.proofs.Common.{plain, single_quoted, double_quoted, literal, folded, TagDirective, scalar_tag, render_anchor, charset_of, choice_of}
-use Rattle.yaml_emitter.proofs.Common.{allowed_by_quotes, allowed_under}
+use Rattle.yaml_emitter.proofs.Common.{allowed_by_quotes, allowed_by_blanks, allowed_under}
 use Rattle.yaml_emitter.proofs.Common.{scalar_piece, Place, deeper, byte_count, name_count, tag_count, is_short, is_simple_scalar, render_place}
-use Rattle.yaml_emitter.proofs.Common.{seen_scalar_style, Effective, Spelling, spelling, Charset, Allowances, allowances, is_empty, allows_plain, Choice}
+use Rattle.yaml_emitter.proofs.Common.{seen_scalar_style, Effective, Spelling, spelling, Charset, Allowances, is_empty, allows_plain, Choice}
 use Rattle.yaml_emitter.proofs.Common.{lacks_tag_and_flags, is_plain, requested_style, quoted_style, fitting_style, fits_plain, chosen, seen_name}
 use Rattle.yaml_emitter.proofs.Common.{seen_scalar, render_scalar_text, StandsPlain, render_spelled_tag, piece_at, Page, Wrote}
 use Rattle.std.proofs.{Common.chars, lemmas.Bool.not-true}
+use Rattle.yaml_base.proofs.Common.{Scalar, is_literal}
 use Rattle.yaml_base.specs.{Places.is_root, scalars.BlockHeader.begins_blank, scalars.Style.is_block}
 use Rattle.yaml_base.specs.declared.errors.yaml_error_t.{yaml_error_t}
 use Rattle.yaml_emitter.proofs.pieces.WritingScalars.{wrote_scalar}
@@ -84,6 +85,19 @@ never_block double_quoted root portable blank h = refl
 never_block literal root portable blank h = absurd (false≢true (ap is_plain h))
 never_block folded root portable blank h = absurd (false≢true (ap is_plain h))
 
+-- nor literal
+never_literal : (s : Effective) (content : Scalar) → requested_style false content.style ≡ plain
+    → (is_literal content.style && s.literal_blanks) ≡ false
+never_literal s content h = ap (λ (x : Bool). x && s.literal_blanks) (unliteral content.style h)
+  where
+    unliteral : (style : ScalarStyle) → requested_style false style ≡ plain → is_literal style ≡ false
+    unliteral any_style h = refl
+    unliteral plain h = refl
+    unliteral single_quoted h = refl
+    unliteral double_quoted h = refl
+    unliteral literal h = absurd (false≢true (ap is_plain h))
+    unliteral folded h = refl
+
 filled : (text : Text) (charset : Charset) → allows_plain charset true text ≡ true → is_empty text ≡ false
 filled [] charset h = cc
 filled (c ∷ rest) charset h = refl
@@ -97,13 +111,15 @@ simple_ascii_choice s place simple {content} is =
     λ a empty tag implicit canonical. chosen a seen.style empty tag implicit seen.quoted_implicit place.in_flow simple canonical in
     let allowed = is.simple_ascii.allows charset in
     let others : Allowances = allowed_but s.double_quotes in
-    ap (λ (style : ScalarStyle). chosen (allowed_under s seen.value) style (is_empty seen.value) (is_some (scalar_tag s.canonical seen))
-    seen.plain_implicit seen.quoted_implicit place.in_flow simple s.canonical)
+    let tag : Bool = is_some (scalar_tag s.canonical seen) in
+    ap (λ (style : ScalarStyle). chosen (allowed_under s seen) style (is_empty seen.value) tag seen.plain_implicit seen.quoted_implicit place.in_flow simple
+    s.canonical)
     (never_block seen.style (is_root place) s.portable (begins_blank seen.value) is.asked)
-    ∙ ap (λ (a : Allowances). by (allowed_by_quotes s.double_quotes a) (is_empty seen.value) (is_some (scalar_tag s.canonical seen))
-    seen.plain_implicit s.canonical)
-    allowed
-    ∙ ap (λ (e : Bool). by others e (is_some (scalar_tag s.canonical seen)) seen.plain_implicit s.canonical)
+    ∙ ap (λ (x : Bool). by (allowed_by_quotes s.double_quotes (allowed_by_blanks x charset seen.value)) (is_empty seen.value) tag seen.plain_implicit
+    s.canonical)
+    (never_literal s seen is.asked)
+    ∙ ap (λ (a : Allowances). by (allowed_by_quotes s.double_quotes a) (is_empty seen.value) tag seen.plain_implicit s.canonical) allowed
+    ∙ ap (λ (e : Bool). by others e tag seen.plain_implicit s.canonical)
     (filled seen.value charset (ap (λ (a : Allowances). a.flow_plain) allowed))
     ∙ ap (λ (t : Option Text). by others false (is_some t) seen.plain_implicit s.canonical) (no_tag is)
     ∙ ap (λ (i : Bool). by others false false i s.canonical) is.implicit

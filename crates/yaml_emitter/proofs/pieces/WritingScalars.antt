@@ -7,7 +7,8 @@ use Rattle.yaml_emitter.proofs.Common.{double_quoted, literal, folded, TagDirect
 use Rattle.yaml_emitter.proofs.Common.{render_body, allowed_under, charset_of, choice_of, scalar_piece, Place, deeper, render_place, Effective, Spelling, spelling, Charset}
 use Rattle.yaml_emitter.proofs.Common.{Allowances, is_empty, Choice, is_plain, requested_style, quoted_style, fitting_style, fits_plain, chosen}
 use Rattle.yaml_emitter.proofs.Common.{seen_effective, render_scalar_text, style_fits, render_spelled_tag, piece_at, wrote_as, Page, Wrote}
-use Rattle.yaml_base.proofs.Common.{somewhere, bars_block, allows_block}
+use Rattle.yaml_base.proofs.Charsets.{literal_allowed}
+use Rattle.yaml_base.proofs.Common.{allows_literal, false≢true, [], ◌∷◌}
 use Rattle.yaml_scalar.proofs.Common.{limit_of, limit_where}
 use Rattle.std.{proofs.Common.◌≤ℤ◌, proofs.lemmas.Bool.cases_Bool, specs.Result.IfOk, specs.Result.MatchResult, specs.Str.IsUtf8}
 use Rattle.yaml_base.specs.declared.errors.yaml_error_t.{yaml_error_t}
@@ -161,23 +162,24 @@ fitting_fits allowed plain_fits block_fits folded value simple holds = block_or_
 fitting_fits allowed plain_fits block_fits any_style value simple holds = refl
 fitting_fits allowed plain_fits block_fits double_quoted value simple holds = refl
 
-not_either : (a b : Bool) → not (a || b) ≡ true → not a ≡ true
-not_either true b is = cc
-not_either false b is = refl
-
 both : (a b c : Bool) (d : Bool) → (a && b && c) ≡ true → (a ≡ true → d ≡ true) → (d && c) ≡ true
 both a b c d is holds =
     let outer = and_parts (a && b) c is in
     ap (λ x. x && c) (holds (and_parts a b outer.0).0) ∙ outer.1
 
+-- what literal takes isn't empty
+literal_some : (charset : Charset) (value : Text) → allows_literal charset value ≡ true → not (is_empty value) ≡ true
+literal_some charset [] allowed = absurd (false≢true allowed)
+literal_some charset (c ∷ rest) allowed = refl
+
 -- the style that is chosen fits
 pub chosen_fits : (s : Effective) (place : Place) (simple : Bool) (content : Scalar)
     → style_fits (choice_of s place simple content).style content.value simple ≡ true
 chosen_fits s place simple content =
-    let charset : Charset = charset_of s in
-    fitting_fits (allowed_under s content.value) _ _ _ content.value simple
-    (λ fits. both (allows_block charset content.value) (not place.in_flow) (not simple) (not (is_empty content.value)) fits
-    (not_either (is_empty content.value) (somewhere (bars_block charset) content.value)))
+    let allowed = allowed_under s content in
+    fitting_fits allowed _ _ _ content.value simple
+    (λ fits. both allowed.block (not place.in_flow) (not simple) (not (is_empty content.value)) fits
+    (λ block. literal_some (charset_of s) content.value (literal_allowed s content block)))
 
 -- where double quotes are asked for in any case, they are chosen, whatever the value allows
 surely_asked : (canonical other : Bool) (asked : ScalarStyle) → requested_style canonical asked ≡ double_quoted

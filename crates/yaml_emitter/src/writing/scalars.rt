@@ -1,15 +1,16 @@
 //! Scalars: their style, what stands before them, and their text (YAML 1.1, chapter 9).
 
-ghost use Rattle.std.specs.Prelude.{◌≡◌, ◌&&◌, false, true, not, IfOk, IsOk, chars, is_some};
-ghost use Rattle.yaml_base.specs.scalars.Analysis.{allowances, is_empty};
+ghost use Rattle.std.specs.Prelude.{◌≡◌, ◌&&◌, ◌||◌, false, true, not, IfOk, IsOk, chars, is_some, if◌then◌else◌};
+ghost use Rattle.yaml_base.specs.scalars.Analysis as analysis;
+ghost use Rattle.yaml_base.specs.scalars.Analysis.{is_empty};
 ghost use Rattle.yaml_base.specs.Event.{double_quoted};
-ghost use Rattle.yaml_base.specs.Layout.{allowed_by_quotes, allowed_under, charset_of, choice_of, style_asked_at};
+ghost use Rattle.yaml_base.specs.Layout.{allowed_under, charset_of, choice_of, style_asked_at};
 ghost use Rattle.yaml_base.specs.Event.{scalar_tag};
 ghost use Rattle.yaml_base.specs.Seen.{seen_scalar_style};
 ghost use Rattle.yaml_base.specs.Settings as in_force;
 ghost use Rattle.yaml_base.specs.Places.{is_root};
 ghost use Rattle.yaml_base.specs.scalars.BlockHeader as layout;
-ghost use Rattle.yaml_base.specs.scalars.Style.{lacks_tag_and_flags, requested_style};
+ghost use Rattle.yaml_base.specs.scalars.Style.{is_literal, lacks_tag_and_flags, requested_style};
 ghost use Rattle.yaml_pen.specs.Page.{IsReady};
 ghost use Rattle.yaml_scalar.specs.ScalarData.{ChooseAlike, seen_choice, seen_data};
 ghost use Rattle.yaml_emitter.specs.BorrowedTexts.{seen_scalar};
@@ -32,7 +33,8 @@ use yaml_base::{
 };
 use yaml_pen::Pen;
 use yaml_scalar::{
-    analyze_for_style, analyze_scalar, begins_blank, scalar_data_t, select_scalar_style,
+    allows_literal, analyze_for_style, analyze_scalar, begins_blank, scalar_data_t,
+    select_scalar_style,
 };
 
 /// Writes a scalar at its place, its tag spelled so, and notes the open-ended state that it leaves.
@@ -73,7 +75,7 @@ fn choose(
         let bare = needs_bare_tag(tag_written, content.quoted_implicit);
         return Ok((YAML_DOUBLE_QUOTED_SCALAR_STYLE, bare));
     }
-    let data = allowed_styles(settings, content.value);
+    let data = allowed_styles(settings, content);
     select_scalar_style(
         asked,
         &data,
@@ -87,24 +89,76 @@ fn choose(
     )
 }
 
-/// Returns the styles that a value allows, but for single quotes where double ones are asked for in their place.
+/// Returns the styles that a value allows, as far as the choice goes by them.
 #[inline(always)]
-fn allowed_styles(settings: &EffectiveSettings, value: &str) -> scalar_data_t
-    ensures { ChooseAlike (seen_data result) (allowed_under (seen_effective settings.now) (chars value.now)) }
+fn allowed_styles(settings: &EffectiveSettings, content: &ScalarContent) -> scalar_data_t
+    ensures { ChooseAlike (seen_data result) (allowed_under (seen_effective settings.now) (seen_scalar content.now)) }
 {
-    if settings.double_quotes {
-        return without_single_quotes(settings, value);
+    if changes_styles(settings, content.style) {
+        return exactly_allowed(settings, content);
     }
-    analyze_for_style(value, settings.unicode, escapes_separators(settings))
+    analyze_for_style(
+        content.value,
+        settings.unicode,
+        escapes_separators(settings),
+    )
 }
 
-/// Returns the styles that a value allows, but for single quotes.
-fn without_single_quotes(settings: &EffectiveSettings, value: &str) -> scalar_data_t
-    ensures { seen_data result ≡ allowed_by_quotes true (allowances (charset_of (seen_effective settings.now)) (chars value.now)) }
+/// Returns whether the settings change what an analysis finds: double quotes stand in place of single ones, or blanks are literal.
+fn changes_styles(settings: &EffectiveSettings, style: yaml_scalar_style_t) -> bool
+    ensures { result ≡ (settings.now.double_quotes || (is_literal (seen_scalar_style style) && settings.now.literal_blanks)) }
 {
-    let mut allowed = analyze_scalar(value, settings.unicode, escapes_separators(settings));
-    allowed.single_quoted_allowed = false;
-    allowed
+    settings.double_quotes || are_blanks_literal(settings, style)
+}
+
+/// Returns exactly the styles that a value allows: no single quotes where double ones are asked for in their place, and where
+/// blanks are literal, block styles where literal takes the value.
+fn exactly_allowed(settings: &EffectiveSettings, content: &ScalarContent) -> scalar_data_t
+    ensures { seen_data result ≡ allowed_under (seen_effective settings.now) (seen_scalar content.now) }
+{
+    let data = analyze_scalar(
+        content.value,
+        settings.unicode,
+        escapes_separators(settings),
+    );
+    let single_quoted_allowed = takes_single_quotes(settings, &data);
+    let block_allowed = takes_block(settings, content, &data);
+    scalar_data_t {
+        single_quoted_allowed,
+        block_allowed,
+        ..data
+    }
+}
+
+/// Returns whether single quotes take a value, by what was found of it: never where double ones are asked for in their place.
+fn takes_single_quotes(settings: &EffectiveSettings, found: &scalar_data_t) -> bool
+    ensures { result ≡ (not settings.now.double_quotes && found.now.single_quoted_allowed) }
+{
+    !settings.double_quotes && found.single_quoted_allowed
+}
+
+/// Returns whether a block style takes a value, by what was found of it or, where blanks are literal, by what literal takes then.
+fn takes_block(settings: &EffectiveSettings, content: &ScalarContent, found: &scalar_data_t) -> bool
+    ensures { result ≡ (
+        if is_literal (seen_scalar_style content.now.style) && settings.now.literal_blanks
+        then analysis.allows_literal (charset_of (seen_effective settings.now)) (chars content.now.value.now)
+        else found.now.block_allowed) }
+{
+    if are_blanks_literal(settings, content.style) {
+        return allows_literal(
+            content.value,
+            settings.unicode,
+            escapes_separators(settings),
+        );
+    }
+    found.block_allowed
+}
+
+/// Returns whether literal is asked for and blanks are literal.
+fn are_blanks_literal(settings: &EffectiveSettings, style: yaml_scalar_style_t) -> bool
+    ensures { result ≡ (is_literal (seen_scalar_style style) && settings.now.literal_blanks) }
+{
+    matches!(style, YAML_LITERAL_SCALAR_STYLE) && settings.literal_blanks
 }
 
 /// The style that is asked for: in portable mode a root asks for double quotes in place of a block style whose header would
