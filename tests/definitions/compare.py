@@ -57,13 +57,13 @@ def settings(s):
     return record(encoding=named(s["encoding"], ENCODINGS), canonical=flag(s["canonical"]), unicode=flag(s["unicode"]), double_quotes=flag(s.get("double_quotes")),
                   indent=optional(s["indent"], integer), width=optional(s["width"], integer),
                   line_break=named(s["line_break"], BREAKS), breaks12=flag(s["breaks12"]), portable=flag(s["portable"]),
-                  indented_sequences=flag(s.get("indented_sequences")), limit=str(s["limit"]))
+                  indented_sequences=flag(s.get("indented_sequences")), literal_blanks=flag(s.get("literal_blanks")), limit=str(s["limit"]))
 
 def effective(s, breaks12):
     """The settings in force. The model's line breaks say what is special; the definitions keep those of the option beside it."""
     return record(encoding=ENCODINGS[s["encoding"]], canonical=flag(s["canonical"]), unicode=flag(s["unicode"]), double_quotes=flag(s.get("double_quotes")),
                   indent=str(s["indent"]), width=optional(s["width"], str), line_break=BREAKS[s["line_break"]],
-                  breaks12=flag(breaks12), portable=flag(s["portable"]), indented_sequences=flag(s.get("indented_sequences")), limit=str(s["limit"]))
+                  breaks12=flag(breaks12), portable=flag(s["portable"]), indented_sequences=flag(s.get("indented_sequences")), literal_blanks=flag(s.get("literal_blanks")), limit=str(s["limit"]))
 
 def version(v):
     return record(major=integer(v[0]), minor=integer(v[1]))

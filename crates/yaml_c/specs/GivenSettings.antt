@@ -24,6 +24,7 @@ settings_from given (Some encoding) (Some line_break) =
       breaks12 = is_on given.line_breaks_1_2;
       portable = is_on given.portable;
       indented_sequences = is_on given.indented_sequences;
+      literal_blanks = is_on given.literal_blanks;
       limit = limit_given given.limit;
     })
 settings_from given encoding line_break = None

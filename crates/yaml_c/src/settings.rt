@@ -19,6 +19,7 @@ pub struct EmitterSettings {
     pub portable: u32,
     pub indented_sequences: u32,
     pub double_quotes: u32,
+    pub literal_blanks: u32,
     pub indent: i32,
     pub width: i32,
     pub limit: usize,
@@ -49,6 +50,7 @@ pub(crate) fn settings_from(given: &EmitterSettings) -> Option<Settings>
     Some(Settings {
         portable: given.portable != 0,
         indented_sequences: given.indented_sequences != 0,
+        literal_blanks: given.literal_blanks != 0,
         canonical: given.canonical != 0,
         indent: Some(given.indent),
         width: Some(given.width),

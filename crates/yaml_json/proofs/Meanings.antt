@@ -106,7 +106,7 @@ module _ (schema : Schema) (s : Effective) (place : Place) (simple : Bool) where
   -- the style of a scalar, and how it is tagged, by whether the form is canonical
   abbrev style_by : Scalar → Bool → Choice
   style_by content canonical =
-      chosen (allowed_under s content.value) (style_asked_at s place content) (is_empty content.value)
+      chosen (allowed_under s content) (style_asked_at s place content) (is_empty content.value)
       (is_some (scalar_tag canonical content)) content.plain_implicit content.quoted_implicit place.in_flow simple canonical
 
   abbrev tagging_by : Scalar → Bool → Tagging
@@ -177,9 +177,9 @@ module _ (schema : Schema) (s : Effective) (place : Place) (simple : Bool) where
 
   text_by : (text : Text) → TextsOf schema → (canonical : Bool) → scalar_meant schema (tagging_by (text_content text) canonical) text ≡ meant_text
   text_by text texts true = as_it_stands text (style_by (text_content text) true).style
-      (text_asked text texts (instead text) (allowed_under s text) (is_empty text) false true true place.in_flow simple true)
+      (text_asked text texts (instead text) (allowed_under s (text_content text)) (is_empty text) false true true place.in_flow simple true)
   text_by text texts false = as_it_stands text (style_by (text_content text) false).style
-      (text_asked text texts (instead text) (allowed_under s text) (is_empty text) false true true place.in_flow simple false)
+      (text_asked text texts (instead text) (allowed_under s (text_content text)) (is_empty text) false true true place.in_flow simple false)
 
   pub text_means : (text : Text) → TextsOf schema
       → scalar_meant schema (tagging_in (scalar_tag s.canonical (text_content text)) (choice_of s place simple (text_content text))) text ≡ meant_text

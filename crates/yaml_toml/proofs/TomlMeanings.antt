@@ -145,7 +145,7 @@ module _ (reader : Reader) (reads : ReadsToml reader) (s : Effective) (place : P
   abbrev tagging_for : (canonical : Bool) → Scalar → Tagging
   tagging_for canonical content =
       tagging_in (scalar_tag canonical content)
-      (chosen (allowed_under s content.value) (style_asked_at s place content) (is_empty content.value)
+      (chosen (allowed_under s content) (style_asked_at s place content) (is_empty content.value)
       (is_some (scalar_tag canonical content)) content.plain_implicit content.quoted_implicit place.in_flow simple canonical)
 
   dated : (date : CalendarDate) (time : Option ClockTime) (canonical : Bool) → is_moment (record { date = date; time = time }) ≡ true

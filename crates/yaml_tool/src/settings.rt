@@ -7,7 +7,9 @@ ghost use Rattle.yaml_emitter.specs.Given.{seen_settings};
 ghost use Rattle.yaml_tool.specs.Settings.{seen_setting, sets_same};
 
 use crate::numbers::{number_up_to, signed_number};
-use crate::words::{break_named, encoding_named, indentation_named, is_word, switch_named};
+use crate::words::{
+    blanks_named, break_named, encoding_named, indentation_named, is_word, switch_named,
+};
 use yaml_base::{yaml_break_t, yaml_encoding_t};
 use yaml_emitter::Settings;
 
@@ -34,6 +36,8 @@ pub enum Setting {
     Portable(bool),
     /// `sequences`: whether those in a mapping are indented.
     IndentedSequences(bool),
+    /// `blanks`: whether literal text may hold tabs, and spaces at the ends of its lines.
+    LiteralBlanks(bool),
 }
 
 impl Setting {
@@ -52,6 +56,7 @@ impl Setting {
             Setting::Breaks12(_) => "breaks12",
             Setting::Portable(_) => "portable",
             Setting::IndentedSequences(_) => "sequences",
+            Setting::LiteralBlanks(_) => "blanks",
         }
     }
 
@@ -70,6 +75,7 @@ impl Setting {
             Setting::Breaks12(breaks12) => settings.line_breaks_1_2 = breaks12,
             Setting::Portable(portable) => settings.portable = portable,
             Setting::IndentedSequences(indented) => settings.indented_sequences = indented,
+            Setting::LiteralBlanks(literal) => settings.literal_blanks = literal,
         }
     }
 }
@@ -110,6 +116,8 @@ pub fn setting_of(name: &str, value: &str) -> Option<Setting>
         switch_named(value).map(Setting::Portable)
     } else if is_word(name, "sequences") {
         indentation_named(value).map(Setting::IndentedSequences)
+    } else if is_word(name, "blanks") {
+        blanks_named(value).map(Setting::LiteralBlanks)
     } else {
         None
     }

@@ -131,6 +131,19 @@ pub fn indentation_named(word: &str) -> Option<bool>
     }
 }
 
+/// Parses `quoted` or `literal`.
+pub fn blanks_named(word: &str) -> Option<bool>
+    ensures { result ≡ notation.named notation.blanks (chars word.now) }
+{
+    if is_word(word, "quoted") {
+        Some(false)
+    } else if is_word(word, "literal") {
+        Some(true)
+    } else {
+        None
+    }
+}
+
 /// Parses `any`, `utf8`, `utf16le` or `utf16be`.
 pub fn encoding_named(word: &str) -> Option<yaml_encoding_t>
     ensures { option_map seen_encoding result ≡ notation.named notation.encodings (chars word.now) }

@@ -209,7 +209,7 @@ module _ (schema : Schema) (reads : ReadsPlain schema) (s : Effective) (directiv
 
         choice_by : Bool → Choice
         choice_by canonical =
-            chosen (allowed_under s now.value) (style_asked_at s place now) (is_empty now.value) (is_some (scalar_tag canonical now)) true false
+            chosen (allowed_under s now) (style_asked_at s place now) (is_empty now.value) (is_some (scalar_tag canonical now)) true false
             place.in_flow (simple_at now) canonical
 
         by : (x : Bool) → tag_meant schema (tagging_in (scalar_tag x now) (choice_by x)) content.value ≡ tag

@@ -148,7 +148,7 @@ impl<A: Allocator + Copy> Writer<A> {
     }
 
     /// Writes a text, which no reader takes for another value: where it holds a line break, it stands literally, else plain
-    /// or in quotes. In portable mode a root that begins with a space or a line break stands in quotes, too.
+    /// or in quotes. In portable mode a root that begins with a blank or a line break stands in quotes, too.
     ///
     /// # Errors
     /// Those of the emitter, and `Memory`.
@@ -160,7 +160,7 @@ impl<A: Allocator + Copy> Writer<A> {
 
     /// Writes a text in a style, which no reader takes for another value. A plain text that a reader could take for another
     /// value, or that can't be plain, stands in quotes. A literal or folded one stands in double quotes as a key, in flow,
-    /// and in portable mode as a root that begins with a space or a line break. What single quotes can't hold stands in double
+    /// and in portable mode as a root that begins with a blank or a line break. What single quotes can't hold stands in double
     /// quotes. ANY is the style of `text`.
     ///
     /// # Errors

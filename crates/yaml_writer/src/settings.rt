@@ -6,7 +6,7 @@ ghost use Rattle.yaml_writer.specs.Given.{given_for_values};
 use yaml_emitter::Settings;
 
 /// The settings for values: portable, in UTF-8 and with LF: an indent of 2, sequences in mappings indented, too, no line
-/// folded, no limit; characters past ASCII as themselves. Not those of `Settings::default()`, which are libyaml's.
+/// folded, no limit; characters past ASCII as themselves; blanks literal. Not those of `Settings::default()`, which are libyaml's.
 pub fn value_settings() -> Settings
     ensures { seen_settings result ≡ given_for_values }
 {
@@ -14,6 +14,7 @@ pub fn value_settings() -> Settings
         portable: true,
         unicode: true,
         indented_sequences: true,
+        literal_blanks: true,
         width: Some(-1),
         ..Settings::default()
     }

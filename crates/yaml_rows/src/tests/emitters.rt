@@ -16,8 +16,8 @@ use yaml_emitter::{
     Quotes, Settings, yaml_emitter_emit, yaml_emitter_flush, yaml_emitter_initialize,
     yaml_emitter_set_break, yaml_emitter_set_canonical, yaml_emitter_set_encoding,
     yaml_emitter_set_indent, yaml_emitter_set_indented_sequences, yaml_emitter_set_line_breaks_1_2,
-    yaml_emitter_set_output_string, yaml_emitter_set_portable, yaml_emitter_set_quotes,
-    yaml_emitter_set_unicode, yaml_emitter_set_width, yaml_emitter_t,
+    yaml_emitter_set_literal_blanks, yaml_emitter_set_output_string, yaml_emitter_set_portable,
+    yaml_emitter_set_quotes, yaml_emitter_set_unicode, yaml_emitter_set_width, yaml_emitter_t,
 };
 use yaml_test_allocator::Refusing;
 
@@ -35,6 +35,7 @@ pub(super) const UNSET: Settings = Settings {
     line_breaks_1_2: false,
     portable: false,
     indented_sequences: false,
+    literal_blanks: false,
     limit: usize::MAX,
 };
 
@@ -53,6 +54,7 @@ pub(super) fn begun<A: Allocator + Copy>(
     yaml_emitter_set_line_breaks_1_2(&mut emitter, settings.line_breaks_1_2);
     yaml_emitter_set_portable(&mut emitter, settings.portable);
     yaml_emitter_set_indented_sequences(&mut emitter, settings.indented_sequences);
+    yaml_emitter_set_literal_blanks(&mut emitter, settings.literal_blanks);
     match (settings.indent, settings.width) {
         (None, None) => {}
         (Some(indent), None) => yaml_emitter_set_indent(&mut emitter, indent),

@@ -1,6 +1,7 @@
 //! Scripts, with what comes of each: by the calls of an emitter, one by one, and by a run of the whole. The expected values
 //! were worked out by hand. All but the scripts of a million collections is made again with each growth refused in turn.
 mod bad_lines;
+mod blanks;
 mod calls;
 mod canonical;
 mod collections;

@@ -18,6 +18,7 @@ const SETTINGS: Settings = Settings {
     line_breaks_1_2: false,
     portable: false,
     indented_sequences: false,
+    literal_blanks: false,
 };
 
 const UNSET: Settings = Settings {

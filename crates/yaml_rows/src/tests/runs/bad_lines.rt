@@ -21,6 +21,10 @@ const BAD: &[Bad] = &[
             "sequences",
             "sequences \"indented\"",
             "sequences indented undented",
+            "blanks on",
+            "blanks",
+            "blanks \"literal\"",
+            "blanks literal quoted",
         ],
     ),
     (
@@ -30,6 +34,8 @@ const BAD: &[Bad] = &[
             "portable on\nportable on",
             "sequences indented\nsequences undented",
             "+STR any\nsequences indented",
+            "blanks literal\nblanks quoted",
+            "+STR any\nblanks literal",
         ],
     ),
     // The events before it would give an output, or be refused.

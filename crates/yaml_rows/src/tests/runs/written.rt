@@ -1,10 +1,10 @@
 //! Scripts with what they write, as texts of rows.
 //!
 //! A row is some lines of a script; an empty line stands between two rows. Behind ` |` a line has what becomes ready up to it, or
-//! up to the flush after it. `↵` is LF, `␍` CR, `¶` U+2028, and `␠` a space at the end of a line.
+//! up to the flush after it. `↵` is LF, `␍` CR, `¶` U+2028, `␉` a tab, and `␠` a space at the end of a line.
 use super::{
-    Flushes, Row, canonical, check_row, collections, documents, portable, prefixes, refusals,
-    scalars, sequences, settings,
+    Flushes, Row, blanks, canonical, check_row, collections, documents, portable, prefixes,
+    refusals, scalars, sequences, settings,
 };
 use crate::tests::{Rows, joined, meant};
 use std::alloc::Global;
@@ -94,6 +94,7 @@ fn each_root_is_written(rt: HostRuntime) {
         scalars::ROOTS,
         collections::ROOTS,
         sequences::ROOTS,
+        blanks::ROOTS,
         settings::INDENTS,
         settings::WIDTHS,
         canonical::ROOTS,
