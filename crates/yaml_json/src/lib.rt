@@ -26,6 +26,7 @@ pub use settings::JsonSettings;
 pub use several::write_json_texts;
 pub use stream::send_json_texts;
 pub use texts::{write_json, yaml_from_json};
+pub use tokens::Tokens;
 pub use yaml_base::place_of;
 pub use yaml_writer::{
     Quotes, Settings, Writer, YAML_ANY_BREAK, YAML_ANY_ENCODING, YAML_CR_BREAK, YAML_CRLN_BREAK,

@@ -54,7 +54,7 @@ pub(crate) struct Step<'a> {
 
 /// Tokens of a JSON text. A clause sees the text, the tokens that are still to come, and those that were when the last was read.
 #[derive(Drop)]
-pub(crate) struct Tokens<'a, A: Allocator> {
+pub struct Tokens<'a, A: Allocator> {
     alloc: A,
     /// Where strings with escapes go.
     arena: &'a Bump<A>,
@@ -282,8 +282,8 @@ fn read<'a, A: Allocator + Copy>(
 }
 
 impl<'a, A: Allocator + Copy> Tokens<'a, A> {
-    /// Strings with escapes go to the arena; all others are borrowed from the text.
-    pub(crate) fn new(alloc: A, arena: &'a Bump<A>, text: &'a str) -> Self
+    /// A reader at the start of a text. Strings with escapes go to the arena; all others are borrowed from the text.
+    pub fn new(alloc: A, arena: &'a Bump<A>, text: &'a str) -> Self
         ensures text { result.text ≡ text.now }
         ensures ahead { result.ahead ≡ tokens text.now }
     {
@@ -300,14 +300,14 @@ impl<'a, A: Allocator + Copy> Tokens<'a, A> {
     }
 
     /// Where the last token begins, by an offset in bytes; the text's end where there was none.
-    pub(crate) fn last_offset(&self) -> usize
+    pub fn last_offset(&self) -> usize
         ensures { AreFrom self.now.text self.now.before result }
     {
         self.text.len().saturating_sub(self.left)
     }
 
     /// Whether no token is left.
-    pub(crate) fn is_at_end(&self) -> bool
+    pub fn is_at_end(&self) -> bool
         ensures end { result ≡ true → self.now.ahead ≡ [] }
         ensures more { result ≡ false → self.now.ahead ≢ [] }
     {
@@ -324,7 +324,7 @@ impl<'a, A: Allocator + Copy> Tokens<'a, A> {
     ///
     /// Where an allocation fails.
     #[inline(always)]
-    pub(crate) fn next(&mut self) -> Result<Option<Token<'a>>, AllocError>
+    pub fn next(&mut self) -> Result<Option<Token<'a>>, AllocError>
         ensures value { IfOk result (λ found. MatchOption found ((self.old.ahead ≡ []) × (self.new.ahead ≡ []))
             (λ t. self.old.ahead ≡ token_of t ∷ self.new.ahead)) }
         ensures printable { IfOk result (λ found. IfSome found (λ t. t ≢ Token.Bad → IsPrintable (token_of t))) }

@@ -1,0 +1,109 @@
+-- What the walk over tokens returns, as it is seen.
+use Rattle.std.specs.Prelude.{◌≡◌, ℕ, ℤ, true, Option, None, Some, Result, Ok, Err, List, [], ◌∷◌, ◌++◌}
+use Rattle.std.specs.Str.{chars}
+use Rattle.json.specs.Token.{Token}
+use Rattle.yaml_base.specs.values.TypedValues.{TypedValue, most_nested, text_value}
+use Rattle.yaml_emitter.specs.Given.{seen_settings}
+use Rattle.yaml_json.specs.declared.settings.JsonSettings.{JsonSettings}
+use Rattle.yaml_writer.specs.Given.{given_for_values}
+use Rattle.yaml_value.specs.SeenValues.{seen_value, seen_values, seen_pairs}
+use Rattle.yaml_value.specs.declared.value.Value.{Value}
+use Rattle.yaml_json_value.specs.Standing.{OpenLevel, Standing, items_open, members_open, value_due, whole, within, with_value, run, take_token}
+use Rattle.yaml_json_value.specs.Typed.{AreIntegers, IsFromOtherNumber, IsInteger, IsIntegerToken, integer_of}
+use Rattle.yaml_json_value.specs.declared.error.Stop.{Stop}
+use Rattle.yaml_json_value.specs.declared.error.Stop.TheVariants as stop
+use Rattle.yaml_json_value.specs.declared.levels.Level.{Level}
+use Rattle.yaml_json_value.specs.declared.levels.Level.TheVariants as code
+
+abbrev pub seen_level : {A : Type 0} → Level A → OpenLevel
+seen_level (code.Items items) = items_open (seen_values items.items)
+seen_level (code.Members members) = members_open (seen_pairs members.items)
+seen_level (code.MembersAndName members name) = value_due (seen_pairs members.items) (seen_value name)
+
+-- the innermost first
+abbrev pub onto : {A : Type 0} → List OpenLevel → List (Level A) → List OpenLevel
+onto outer [] = outer
+onto outer (level ∷ levels) = onto (seen_level level ∷ outer) levels
+
+abbrev pub seen_levels : {A : Type 0} → List (Level A) → List OpenLevel
+seen_levels levels = onto [] levels
+
+-- the digits are those of this integer, or of none, unless memory ran out
+abbrev pub IsIntegerIn : (digits : List ℕ) → Result ℤ Stop → Type 0
+IsIntegerIn digits (Ok number) = IsInteger digits × (number ≡ integer_of digits)
+IsIntegerIn digits (Err stop.Misplaced) = ⊥
+IsIntegerIn digits (Err stop.NotInteger) = IsInteger digits → ⊥
+IsIntegerIn digits (Err stop.Memory) = Unit {0}
+
+-- the level has the value more, unless memory ran out
+abbrev pub HasMore : {A : Type 0} → OpenLevel → TypedValue → Result (Level A) Stop → Type 0
+HasMore level value (Ok more) = with_value level value ≡ Some (seen_level more)
+HasMore level value (Err stop.Misplaced) = with_value level value ≡ None
+HasMore level value (Err stop.NotInteger) = ⊥
+HasMore level value (Err stop.Memory) = Unit {0}
+
+-- so the walk stands, unless memory ran out, or a number is no integer
+abbrev pub StandsAt : {A : Type 0} → Option Standing → List (Level A) → Result (Option (Value A)) Stop → Type 0
+StandsAt due levels (Ok (Some value)) = due ≡ Some (whole (seen_value value))
+StandsAt due levels (Ok None) = due ≡ Some (within (seen_levels levels))
+StandsAt due levels (Err stop.Misplaced) = due ≡ None
+StandsAt due levels (Err stop.NotInteger) = ⊥
+StandsAt due levels (Err stop.Memory) = Unit {0}
+
+-- the token is a number, and no integer
+abbrev pub IsOtherNumber : Token → Type 0
+IsOtherNumber token = (digits : List ℕ) × (token ≡ Token.number digits) × (IsInteger digits → ⊥)
+
+-- a token's answer: where the walk stands; whether it is an integer, if it is a number
+abbrev pub Taken : {A : Type 0} → Token → List OpenLevel → List (Level A) → Result (Option (Value A)) Stop → Type 0
+Taken token before levels (Ok (Some value)) = (take_token token before ≡ Some (whole (seen_value value))) × IsIntegerToken token
+Taken token before levels (Ok None) = (take_token token before ≡ Some (within (seen_levels levels))) × IsIntegerToken token
+Taken token before levels (Err stop.Misplaced) = take_token token before ≡ None
+Taken token before levels (Err stop.NotInteger) = IsOtherNumber token
+Taken token before levels (Err stop.Memory) = Unit {0}
+
+-- the value is this one; nothing is misplaced
+abbrev pub IsRoot : {A : Type 0} → TypedValue → Result (Value A) Stop → Type 0
+IsRoot root (Ok value) = seen_value value ≡ root
+IsRoot root (Err stop.Misplaced) = ⊥
+IsRoot root (Err stop.NotInteger) = Unit {0}
+IsRoot root (Err stop.Memory) = Unit {0}
+
+-- where a number is no integer, these tokens of all are those from it on
+abbrev pub StopsAtOther : {A : Type 0} → (all from : List Token) → Result (Value A) Stop → Type 0
+StopsAtOther all from (Err stop.NotInteger) = IsFromOtherNumber all from
+StopsAtOther all from _ = Unit {0}
+
+-- of all tokens those ahead are left, those before have integers alone, and the walk is within these levels
+pub record WalkedTo (all ahead : List Token) (levels : List OpenLevel) : Type 0 where
+  pub before : List Token
+  pub parts : before ++ ahead ≡ all
+  pub integers : AreIntegers before
+  pub runs : run all (within []) ≡ run ahead (within levels)
+
+-- the value is this text, unless memory ran out
+abbrev pub IsText : {A : Type 0} → List ℕ → Result (Value A) Stop → Type 0
+IsText text (Ok value) = seen_value value ≡ text_value (chars text)
+IsText text (Err stop.Misplaced) = ⊥
+IsText text (Err stop.NotInteger) = ⊥
+IsText text (Err stop.Memory) = Unit {0}
+
+-- no token was read: there is none, unless memory ran out
+abbrev pub ReadsNone : (ahead : List Token) → Stop → Type 0
+ReadsNone ahead stop.Misplaced = ahead ≡ []
+ReadsNone ahead stop.NotInteger = ⊥
+ReadsNone ahead stop.Memory = Unit {0}
+
+-- the value is this one, and no token is left; or one is
+abbrev pub EndsAt : {A : Type 0} → List Token → TypedValue → Result (Value A) Stop → Type 0
+EndsAt ahead found (Ok value) = (ahead ≡ []) × (seen_value value ≡ found)
+EndsAt ahead found (Err stop.Misplaced) = (first : Token) × (more : List Token) × (ahead ≡ first ∷ more)
+EndsAt ahead found (Err stop.NotInteger) = ⊥
+EndsAt ahead found (Err stop.Memory) = ⊥
+
+-- the settings for values, in flow, with a depth of 1,000 and each name once
+pub record IsForValues (settings : JsonSettings) : Type 0 where
+  pub writer : seen_settings settings.writer ≡ given_for_values
+  pub flow : settings.flow ≡ true
+  pub depth : settings.depth ≡ most_nested
+  pub names : settings.unique_names ≡ true

@@ -1,0 +1,26 @@
+//! Why a text isn't read as a value.
+use thiserror::Error;
+use yaml_json::JsonError;
+
+/// Why a text isn't read as a value.
+#[derive(Clone, Copy, Debug, Drop, Error, PartialEq, Eq)]
+pub enum ValueError {
+    /// `yaml_from_json` refuses the text, or an allocation failed: `Emitter` with `Memory`.
+    #[error("{0}")]
+    Json(JsonError),
+    /// A number, which begins here, isn't an integer of 64 bits in decimal digits: it has a point or an exponent, is `-0`, or is
+    /// too large. Lines end with LF, and both numbers count from 1, columns in characters.
+    #[error("line {line}, column {column}: not an integer of 64 bits")]
+    NotInteger { line: usize, column: usize },
+}
+
+/// Why the walk stops.
+#[derive(Clone, Copy, Debug, Drop)]
+pub(crate) enum Stop {
+    /// The token can't stand here, or one is missing.
+    Misplaced,
+    /// The last token that was read is a number, and no integer of 64 bits.
+    NotInteger,
+    /// An allocation failed.
+    Memory,
+}

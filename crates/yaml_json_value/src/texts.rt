@@ -1,0 +1,85 @@
+//! JSON texts as typed values.
+ghost use Rattle.std.specs.Prelude.{IfErr, IfOk};
+ghost use Rattle.yaml_value.specs.SeenValues.{seen_value};
+ghost use Rattle.yaml_json_value.specs.Typed.{ExplainsValueError, IsCanonicalOf, IsJson, IsValueOf};
+ghost use Rattle.yaml_json_value.specs.Walked.{IsForValues};
+
+use crate::error::{Stop, ValueError};
+use crate::walk::read_value;
+use bumpalo::Bump;
+use std::alloc::Allocator;
+use yaml_json::{
+    JsonError, JsonSettings, Tokens, place_of, value_settings, yaml_error_t, yaml_from_json,
+};
+use yaml_value::{Value, write_canonical};
+
+/// The settings by which a text is checked: arrays and objects nest at most 1,000 deep, as deep as canonical values may.
+fn settings() -> JsonSettings
+    ensures { IsForValues result }
+{
+    JsonSettings {
+        writer: value_settings(),
+        flow: true,
+        depth: 1_000,
+        unique_names: true,
+    }
+}
+
+/// The value of a JSON text whose numbers are integers of 64 bits. Names are texts, and all keeps its order.
+///
+/// The text is read twice: `yaml_from_json` finds what is wrong with it, and then its tokens become the value.
+///
+/// # Errors
+///
+/// `Json` where `yaml_from_json` refuses the text, with arrays and objects that nest at most 1,000 deep and each name once in its
+/// object, or where an allocation fails. `NotInteger` where the text is JSON, and a number isn't an integer of 64 bits.
+pub fn value_from_json<A: Allocator + Copy>(alloc: A, text: &str) -> Result<Value<A>, ValueError>
+    ensures read { IfOk result (λ value. IsValueOf text.now (seen_value value)) }
+    ensures why { IfErr result (ExplainsValueError text.now) }
+{
+    match yaml_from_json(alloc, text, settings()) {
+        Ok(_yaml) => value_of(alloc, text),
+        Err(error) => Err(ValueError::Json(error)),
+    }
+}
+
+/// The canonical bytes of the value of a JSON text, as `write_canonical` writes them.
+///
+/// # Errors
+///
+/// As by `value_from_json`.
+pub fn canonical_from_json<A: Allocator + Copy>(
+    alloc: A,
+    text: &str,
+) -> Result<Vec<u8, A>, ValueError>
+    ensures written { IfOk result (λ bytes. IsCanonicalOf text.now bytes.items) }
+    ensures why { IfErr result (ExplainsValueError text.now) }
+{
+    match value_from_json(alloc, text) {
+        Ok(value) => match write_canonical(alloc, &value) {
+            Ok(bytes) => Ok(bytes),
+            Err(yaml_error_t::TooDeep) => unreachable!(),
+            Err(_) => Err(ValueError::Json(JsonError::Emitter(yaml_error_t::Memory))),
+        },
+        Err(error) => Err(error),
+    }
+}
+
+/// The value of a text that is JSON.
+fn value_of<A: Allocator + Copy>(alloc: A, text: &str) -> Result<Value<A>, ValueError>
+    requires { IsJson text.now }
+    ensures read { IfOk result (λ value. IsValueOf text.now (seen_value value)) }
+    ensures why { IfErr result (ExplainsValueError text.now) }
+{
+    let arena = Bump::new(alloc);
+    let mut reader = Tokens::new(alloc, &arena, text);
+    match read_value(alloc, &mut reader) {
+        Ok(value) => Ok(value),
+        Err(Stop::NotInteger) => {
+            let (line, column) = place_of(text.as_bytes(), reader.last_offset());
+            Err(ValueError::NotInteger { line, column })
+        }
+        Err(Stop::Memory) => Err(ValueError::Json(JsonError::Emitter(yaml_error_t::Memory))),
+        Err(Stop::Misplaced) => unreachable!(),
+    }
+}
