@@ -1,4 +1,5 @@
-/* Calls of yaml_is_canonical, for each status but YAML_NO_MEMORY and with NULL; a line for each that isn't as the header says. */
+/* Calls of yaml_is_canonical and yaml_canonical_from_json, for each status but YAML_NO_MEMORY and with NULL; a line for each that isn't as
+ * the header says. */
 #include <stdio.h>
 #include <string.h>
 
@@ -78,9 +79,68 @@ static void deep(void) {
     check_deep("too deep", bytes, length, YAML_TOO_DEEP, 1002, 2001);
 }
 
+/* The canonical bytes of a text of JSON: in a buffer that has just their size, then in one that is a byte too small. */
+static void expect_bytes(const char *text, const char *bytes) {
+    static uint8_t out[256];
+    size_t length = strlen(bytes);
+    int32_t got;
+    memset(&result, 0xff, sizeof result);
+    memset(out, 'x', sizeof out);
+    got = yaml_canonical_from_json((const uint8_t *)text, strlen(text), out, length, &result);
+    tell(text, got, got == YAML_DONE && reports(length, 0, 0) && memcmp(out, bytes, length) == 0 && out[length] == 'x');
+    got = yaml_is_canonical(out, length, &result);
+    tell(text, got, got == YAML_DONE && reports(0, 0, 0));
+    memset(out, 'x', sizeof out);
+    got = yaml_canonical_from_json((const uint8_t *)text, strlen(text), out, length - 1, &result);
+    tell(text, got, got == YAML_TOO_SMALL && reports(length, 0, 0) && out[0] == 'x');
+}
+
+/* Why a text of JSON has none. */
+static void expect_none(const char *name, const char *text, size_t length, int32_t status, uint64_t line, uint64_t column) {
+    static uint8_t out[256];
+    int32_t got;
+    memset(&result, 0xff, sizeof result);
+    memset(out, 'x', sizeof out);
+    got = yaml_canonical_from_json((const uint8_t *)text, length, out, sizeof out, &result);
+    tell(name, got, got == status && reports(0, line, column) && out[0] == 'x');
+}
+
+static void expect_refusal(const char *text, int32_t status, uint64_t line, uint64_t column) {
+    expect_none(text, text, strlen(text), status, line, column);
+}
+
+static void texts_of_json(void) {
+    static char deep_text[1001];
+    expect_bytes("{\"b\": [1, true, null], \"a\": \"\\u00e9\"}",
+                 "---\n!!map {\n  ? !!str \"b\"\n  : !!seq [\n    !!int \"1\",\n    !!bool \"true\",\n    !!null \"null\",\n  ],\n"
+                 "  ? !!str \"a\"\n  : !!str \"\303\251\",\n}\n");
+    expect_bytes("-9223372036854775808", "---\n!!int \"-9223372036854775808\"\n");
+    expect_bytes(" 9223372036854775807\n", "---\n!!int \"9223372036854775807\"\n");
+    expect_refusal("9223372036854775808", YAML_NOT_INTEGER, 1, 1);
+    expect_refusal("[1,\n 1.0, 1e2]", YAML_NOT_INTEGER, 2, 2);
+    expect_refusal("[\"\303\251\", -0]", YAML_NOT_INTEGER, 1, 7);
+    expect_refusal("[0.5, nul]", YAML_NOT_JSON, 1, 7);
+    expect_refusal("[\"\360\"]", YAML_NOT_JSON, 1, 3);
+    expect_refusal("{\"a\": 0.5, \"a\": 2}", YAML_DUPLICATE_NAME, 1, 12);
+    memset(deep_text, '[', sizeof deep_text);
+    expect_none("deep", deep_text, sizeof deep_text, YAML_TOO_DEEP, 1, 1001);
+}
+
+/* No text and no buffer. */
+static void nothing(void) {
+    int32_t got;
+    memset(&result, 0xff, sizeof result);
+    got = yaml_canonical_from_json(NULL, 0, NULL, 0, &result);
+    tell("no text", got, got == YAML_NOT_JSON && reports(0, 1, 1));
+    got = yaml_canonical_from_json((const uint8_t *)"1", 1, NULL, 0, &result);
+    tell("no buffer", got, got == YAML_TOO_SMALL && reports(14, 0, 0));
+}
+
 int main(void) {
     int32_t got;
     checks();
+    texts_of_json();
+    nothing();
     memset(&result, 0xff, sizeof result);
     got = yaml_is_canonical(NULL, 0, &result);
     tell("no bytes", got, got == YAML_NOT_CANONICAL && reports(0, 1, 1));

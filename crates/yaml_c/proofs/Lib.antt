@@ -1,4 +1,5 @@
 pub mod Common
+pub mod CanonicalLemmas
 pub mod Utf8
 pub mod DirectiveLemmas
 pub mod EmissionLemmas

@@ -8,5 +8,6 @@ pub mod Giving
 pub mod Handle
 pub mod TomlAnswers
 pub mod JsonAnswers
+pub mod CanonicalJson
 pub mod Kept
 pub mod JsonEvents

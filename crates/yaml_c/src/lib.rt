@@ -4,6 +4,7 @@
 mod arena;
 mod buffers;
 mod canonical;
+mod canonical_json;
 mod emitters;
 mod events;
 mod giving;

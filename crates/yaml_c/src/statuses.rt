@@ -23,3 +23,5 @@ pub(crate) const BAD_EVENT: i32 = 8;
 pub(crate) const BAD_SETTINGS: i32 = 9;
 
 pub(crate) const NOT_CANONICAL: i32 = 10;
+
+pub(crate) const NOT_INTEGER: i32 = 12;
