@@ -39,7 +39,8 @@ macro_rules! flags {
         concat!(
         "Writes in canonical mode: brackets, double quotes, and a tag for each scalar but texts. Texts and ", $collections, " have no tag, so \
         these aren't the canonical bytes of a typed value, in which each node has its own: those are what write_canonical of the crate \
-        yaml_value gives, and what yaml_is_canonical of the library yaml_c takes.{n}Example: ", $program, " --canonical in", $ending),
+        yaml_value gives, what yaml_canonical_from_json of the library yaml_c gives of JSON whose numbers are integers, and what \
+        yaml_is_canonical of that library takes.{n}Example: ", $program, " --canonical in", $ending),
     ),
     (
         "no-portable",
