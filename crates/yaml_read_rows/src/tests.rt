@@ -2,6 +2,7 @@
 mod callers;
 mod calling;
 mod depths;
+mod json;
 mod places;
 mod random;
 mod refused;
