@@ -8,10 +8,23 @@
 static struct yaml_c_emitter emitter;
 static struct yaml_c_result result;
 
-/* Gives an event with this text for its value. */
-static int give(uint32_t kind, const char *text) {
-    struct yaml_c_event event = {.kind = kind, .implicit = 1, .quoted_implicit = 1, .value = {0, strlen(text)}};
-    return yaml_c_emitter_emit(&emitter, &event, NULL, 0, (const uint8_t *)text, strlen(text), &result) == YAML_DONE;
+/* Gives an event other than a scalar. */
+static int give(uint32_t kind) {
+    struct yaml_c_event event = {.kind = kind, .implicit = 1};
+    return yaml_c_emitter_emit(&emitter, &event, NULL, 0, NULL, 0, &result) == YAML_DONE;
+}
+
+/* Gives a text, which stays a text: "yes" stands in quotes, since it would be read as true without them. */
+static int give_text(const char *text) {
+    static const char tag[] = YAML_C_STR_TAG;
+    uint8_t texts[64];
+    size_t tag_length = sizeof tag - 1, length = strlen(text);
+    if (tag_length + length > sizeof texts) return 0;
+    memcpy(texts, tag, tag_length);
+    memcpy(texts + tag_length, text, length);
+    struct yaml_c_event event = {
+        .kind = YAML_C_SCALAR, .typed = 1, .has_tag = 1, .tag = {0, tag_length}, .value = {tag_length, length}};
+    return yaml_c_emitter_emit(&emitter, &event, NULL, 0, texts, tag_length + length, &result) == YAML_DONE;
 }
 
 /* Writes what is flushed, and how many bytes that are. */
@@ -25,18 +38,18 @@ static int write_flushed(void) {
 static int write_so_far(void) { return yaml_c_emitter_flush(&emitter, &result) == YAML_DONE && write_flushed(); }
 
 static int give_document(const char *first, const char *second) {
-    return give(YAML_C_DOCUMENT_START, "") && give(YAML_C_SEQUENCE_START, "") && give(YAML_C_SCALAR, first)
-        && give(YAML_C_SCALAR, second) && give(YAML_C_SEQUENCE_END, "") && give(YAML_C_DOCUMENT_END, "");
+    return give(YAML_C_DOCUMENT_START) && give(YAML_C_SEQUENCE_START) && give_text(first) && give_text(second)
+        && give(YAML_C_SEQUENCE_END) && give(YAML_C_DOCUMENT_END);
 }
 
 int main(void) {
     if (yaml_c_emitter_new(NULL, &emitter) != YAML_DONE) return 1;
-    int done = give(YAML_C_STREAM_START, "");
+    int done = give(YAML_C_STREAM_START);
     done = done && give_document("one", "yes") && write_flushed() && give_document("two", "x: y") && write_flushed();
-    done = done && give(YAML_C_DOCUMENT_START, "") && give(YAML_C_SEQUENCE_START, "") && give(YAML_C_SCALAR, "three");
-    done = done && give(YAML_C_SCALAR, "four") && write_so_far();
-    done = done && give(YAML_C_SCALAR, "five") && give(YAML_C_SEQUENCE_END, "") && give(YAML_C_DOCUMENT_END, "") && write_flushed();
-    if (done && !give(YAML_C_SCALAR, "six")) printf("refused: %s\n", yaml_error_text(result.error));
+    done = done && give(YAML_C_DOCUMENT_START) && give(YAML_C_SEQUENCE_START) && give_text("three");
+    done = done && give_text("four") && write_so_far();
+    done = done && give_text("five") && give(YAML_C_SEQUENCE_END) && give(YAML_C_DOCUMENT_END) && write_flushed();
+    if (done && !give_text("six")) printf("refused: %s\n", yaml_error_text(result.error));
     yaml_c_emitter_delete(&emitter);
     return !done;
 }

@@ -151,6 +151,31 @@ static void set(void) {
     memset(&settings, 0, sizeof settings);
 }
 
+/* Scalars that keep their tags: tag, value, and flags that would say otherwise. */
+static void typed(void) {
+    static const char *const tags[] = {YAML_C_STR_TAG, YAML_C_STR_TAG, YAML_C_INT_TAG, YAML_C_INT_TAG, YAML_C_BOOL_TAG, YAML_C_NULL_TAG, "!t", NULL};
+    static const char *const values[] = {"yes", "a", "3", "0x1F", "true", "null", "no", "no"};
+    size_t i;
+    begin();
+    give(YAML_C_SEQUENCE_START, "", YAML_DONE, 0);
+    for (i = 0; i < sizeof values / sizeof values[0]; i++) {
+        struct yaml_c_event event;
+        char texts[64];
+        memset(&event, 0, sizeof event);
+        sprintf(texts, "%s%s", tags[i] ? tags[i] : "", values[i]);
+        event.kind = YAML_C_SCALAR;
+        event.implicit = event.quoted_implicit = event.typed = 1;
+        event.has_tag = tags[i] != NULL;
+        event.tag.length = event.value.start = strlen(texts) - strlen(values[i]);
+        event.value.length = strlen(values[i]);
+        check(values[i], yaml_c_emitter_emit(emitter, &event, directives, 0, (const uint8_t *)texts, strlen(texts), &result), YAML_DONE, 0, 0);
+    }
+    give(YAML_C_SEQUENCE_END, "", YAML_DONE, 0);
+    give(YAML_C_DOCUMENT_END, "", YAML_DONE, 0);
+    take("types", 128, "- 'yes'\n- a\n- 3\n- !!int 0x1F\n- true\n- null\n- !t no\n- no\n");
+    yaml_c_emitter_delete(emitter);
+}
+
 /* Two emitters, by turns. */
 static void two(void) {
     begin();
@@ -236,6 +261,7 @@ static void json(void) {
 
 int main(void) {
     json();
+    typed();
     written();
     named();
     refused();

@@ -1,11 +1,12 @@
 -- What an array of a C program's events means: a list of events, by libyaml's numbers, with the texts of an arena.
-use Rattle.std.specs.Prelude.{ℕ, suc, Bool, Option, None, Some, List, [], ◌∷◌, ◌==◌, if◌then◌else◌, option_map, option_and_then}
+use Rattle.std.specs.Prelude.{ℕ, suc, Bool, true, false, Option, None, Some, List, [], ◌∷◌, ◌==◌, if◌then◌else◌, option_map, option_and_then}
 use Rattle.yaml_base.specs.Characters.{Text}
 use Rattle.yaml_base.specs.Settings.{Encoding, utf8, utf16_little, utf16_big, LineBreak, carriage_return_break, line_feed_break, both_break}
 use Rattle.yaml_base.specs.Event.{ScalarStyle, any_style, plain, single_quoted, double_quoted, literal, folded, CollectionStyle, any_layout, block, flow}
-use Rattle.yaml_base.specs.Event.{Version, TagDirective, Collection, Event, stream_start, stream_end, document_start, document_end, alias, scalar}
+use Rattle.yaml_base.specs.Event.{Version, TagDirective, Scalar, Collection, Event, stream_start, stream_end, document_start, document_end, alias, scalar}
 use Rattle.yaml_base.specs.Event.{sequence_start, sequence_end, mapping_start, mapping_end}
 use Rattle.yaml_base.specs.scripts.Script.{Numbered}
+use Rattle.yaml_writer.specs.TypedEvents.{typed_scalar}
 use Rattle.yaml_c.specs.Arena.{is_on, part_of, text_at, optional_text_at}
 use Rattle.yaml_c.specs.declared.arena.Span.{Span}
 use Rattle.yaml_c.specs.declared.records.DirectiveRecord.{DirectiveRecord}
@@ -83,11 +84,18 @@ document_start_of arena directives event =
 abbrev pub alias_of : List ℕ → EventRecord → Option Event
 alias_of arena event = option_map alias (text_at arena event.anchor)
 
+-- a scalar, with the flags and the style that keep its tag where that is asked for
+abbrev pub typed_where : (typed : Bool) → Scalar → Scalar
+typed_where true content = typed_scalar content
+typed_where false content = content
+
 -- a scalar, where its style and its texts have a reading
-abbrev pub scalar_from : Option ScalarStyle → (plain_implicit quoted_implicit : Bool) → Option (Option Text) → Option (Option Text) → Option Text → Option Event
-scalar_from (Some style) plain_implicit quoted_implicit (Some anchor) (Some tag) (Some value) =
+abbrev pub scalar_from : Option ScalarStyle → (plain_implicit quoted_implicit typed : Bool) → Option (Option Text) → Option (Option Text) → Option Text
+    → Option Event
+scalar_from (Some style) plain_implicit quoted_implicit typed (Some anchor) (Some tag) (Some value) =
     Some
     (scalar
+    (typed_where typed
     (record {
       anchor = anchor;
       tag = tag;
@@ -95,12 +103,12 @@ scalar_from (Some style) plain_implicit quoted_implicit (Some anchor) (Some tag)
       plain_implicit = plain_implicit;
       quoted_implicit = quoted_implicit;
       style = style;
-    }))
-scalar_from style plain_implicit quoted_implicit anchor tag value = None
+    })))
+scalar_from style plain_implicit quoted_implicit typed anchor tag value = None
 
 abbrev pub scalar_of : List ℕ → EventRecord → Option Event
 scalar_of arena event =
-    scalar_from (scalar_style_numbered event.style) (is_on event.implicit) (is_on event.quoted_implicit)
+    scalar_from (scalar_style_numbered event.style) (is_on event.implicit) (is_on event.quoted_implicit) (is_on event.typed)
     (optional_text_at arena event.has_anchor event.anchor) (optional_text_at arena event.has_tag event.tag) (text_at arena event.value)
 
 -- the start of a collection, where its style and its texts have a reading

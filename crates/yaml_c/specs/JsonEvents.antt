@@ -14,6 +14,7 @@ use Rattle.yaml_json.specs.Places.{HasPlace}
 use Rattle.yaml_json.specs.Refused.{HasNamesOnce}
 use Rattle.yaml_json.specs.Stopped.{StopsInText}
 use Rattle.yaml_json.specs.declared.error.JsonError.{JsonError}
+use Rattle.yaml_json.specs.declared.expecting.Expected.TheVariants.{Utf8}
 use Rattle.yaml_json.specs.declared.error.JsonError.TheVariants as errors
 use Rattle.yaml_c.specs.Answers.{at_place, nothing_reported}
 use Rattle.yaml_c.specs.Kept.{report_of, status_of}
@@ -42,7 +43,7 @@ pub record IsNoUtf8 (text : List ℕ) (error : JsonError) : Type 0 where
   pub refused : IsUtf8 text → ⊥
   pub offset : ℕ
   pub valid : IsValidUpTo text offset
-  pub place : error ≡ errors.NotJson (line_of text offset) (column_of text offset)
+  pub place : error ≡ errors.NotJson (line_of text offset) (column_of text offset) Utf8
 
 -- nothing was given, since the text isn't UTF-8, or memory ran out
 abbrev pub GaveNothing : List ℕ → State → JsonError → State → Type 0
@@ -58,7 +59,7 @@ GaveJson depth unique in_flow text (Err error) before after =
 -- error
 abbrev pub TellsJson : Result (Unit {0}) JsonError → (status : ℤ) → CallResult → Type 0
 TellsJson (Ok done) status report = (status ≡ pos 0) × (report ≡ nothing_reported)
-TellsJson (Err (errors.NotJson line column)) status report = (status ≡ pos 5) × (report ≡ at_place line column)
+TellsJson (Err (errors.NotJson line column says)) status report = (status ≡ pos 5) × (report ≡ at_place line column)
 TellsJson (Err (errors.Marked line column)) status report = (status ≡ pos 5) × (report ≡ at_place line column)
 TellsJson (Err (errors.TooDeep line column)) status report = (status ≡ pos 6) × (report ≡ at_place line column)
 TellsJson (Err (errors.DuplicateName line column)) status report = (status ≡ pos 7) × (report ≡ at_place line column)

@@ -15,7 +15,7 @@ use std::alloc::{Allocator, Global};
 use std::mem::replace;
 use yaml_base::yaml_error_t;
 use yaml_emitter::{yaml_emitter_initialize, yaml_emitter_t};
-use yaml_json::{JsonError, JsonSettings, Writer, place_of, write_json};
+use yaml_json::{Expected, JsonError, JsonSettings, Writer, place_of, write_json};
 
 /// Gives an emitter the events of a JSON text, which are those of a node. See the header.
 #[unsafe(no_mangle)]
@@ -51,7 +51,11 @@ fn give_bytes<A: Allocator + Copy>(
         Ok(content) => give_text(alloc, emitter, content, settings),
         Err(error) => {
             let (line, column) = place_of(text, error.valid_up_to());
-            Err(JsonError::NotJson { line, column })
+            Err(JsonError::NotJson {
+                line,
+                column,
+                expected: Expected::Utf8,
+            })
         }
     }
 }
@@ -83,7 +87,7 @@ fn tell_json(answer: &Result<(), JsonError>, report: &mut CallResult) -> i32
     *report = CallResult::nothing();
     match *answer {
         Ok(()) => DONE,
-        Err(JsonError::NotJson { line, column } | JsonError::Marked { line, column }) => {
+        Err(JsonError::NotJson { line, column, .. } | JsonError::Marked { line, column }) => {
             *report = CallResult::at_place(line, column);
             NOT_JSON
         }

@@ -2,6 +2,7 @@
 ghost use Rattle.std.specs.Prelude.{◌≡◌, Bool, IfErr, IfOk, Some, false, map, option_map};
 ghost use Rattle.yaml_base.specs.Event.{CollectionStyle, mapping_start, sequence_start};
 ghost use Rattle.yaml_base.specs.Seen.{seen_directive, seen_text, seen_version};
+ghost use Rattle.yaml_emitter.specs.BorrowedTexts.{seen_scalar};
 ghost use Rattle.yaml_c.specs.Arena as texts;
 ghost use Rattle.yaml_c.specs.EventRecords as meaning;
 ghost use Rattle.yaml_c.specs.Giving.{given_event, is_read_scalar};
@@ -11,6 +12,7 @@ use crate::styles::{encoding, mapping_style, scalar_style, sequence_style};
 use std::alloc::{AllocError, Allocator};
 use yaml_base::{yaml_event_t, yaml_tag_directive_t, yaml_version_directive_t};
 use yaml_emitter::ScalarContent;
+use yaml_writer::typed_content;
 
 /// A `%TAG` directive: its handle, and the prefix that it stands for.
 #[repr(C)]
@@ -33,6 +35,7 @@ pub struct EventRecord {
     pub has_version: u32,
     pub major: i32,
     pub minor: i32,
+    pub typed: u32,
     pub anchor: Span,
     pub tag: Span,
     pub value: Span,
@@ -159,6 +162,17 @@ fn alias_of<'a, A: Allocator>(alloc: A, arena: &[u8], event: &EventRecord) -> Ev
     }
 }
 
+/// A scalar with the flags that keep its tag, or as it is, as a flag asks for it.
+fn typed_where(typed: u32, content: ScalarContent<'_>) -> ScalarContent<'_>
+    ensures { seen_scalar result ≡ meaning.typed_where (texts.is_on typed) (seen_scalar content.entry) }
+{
+    if typed != 0 {
+        typed_content(content)
+    } else {
+        content
+    }
+}
+
 /// A scalar, its texts borrowed from the arena.
 fn scalar_of<'a, A: Allocator>(arena: &'a [u8], event: &EventRecord) -> Option<GivenEvent<'a, A>>
     ensures { option_map given_event result ≡ meaning.scalar_of arena.now event.now }
@@ -175,14 +189,15 @@ fn scalar_of<'a, A: Allocator>(arena: &'a [u8], event: &EventRecord) -> Option<G
     let Some(value) = borrowed_text(arena, &event.value) else {
         return None;
     };
-    Some(GivenEvent::Scalar(ScalarContent {
+    let content = ScalarContent {
         anchor,
         tag,
         value,
         plain_implicit: event.implicit != 0,
         quoted_implicit: event.quoted_implicit != 0,
         style,
-    }))
+    };
+    Some(GivenEvent::Scalar(typed_where(event.typed, content)))
 }
 
 /// The anchor and the tag of a collection, or none where one of them has no reading.

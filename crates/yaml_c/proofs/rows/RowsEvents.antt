@@ -1,6 +1,6 @@
 -- Worked rows: what arrays of events and an arena mean.
 use Rattle.yaml_c.proofs.Common.{ℕ, None, Some, pos, false, true, List, [], ◌∷◌, refl, ◌≡◌, event_of, events_from}
-use Rattle.yaml_base.proofs.Common.{codes, literal, flow, stream_start, stream_end, document_start, alias, scalar, sequence_start, utf8}
+use Rattle.yaml_base.proofs.Common.{codes, literal, plain, flow, stream_start, stream_end, document_start, alias, scalar, sequence_start, utf8}
 use Rattle.std.specs.{Char.encode_utf8, Str.chars, Str.is_utf8}
 use Rattle.yaml_c.specs.{Arena.text_at, Arena.optional_text_at, EventRecords.directives_at, declared.arena.Span.Span}
 use Rattle.yaml_c.specs.{declared.records.DirectiveRecord.DirectiveRecord, declared.records.EventRecord.EventRecord}
@@ -61,6 +61,7 @@ event kind style =
       has_version = 1;
       major = pos 1;
       minor = pos 2;
+      typed = 0;
       anchor = span 0 1;
       tag = span 2 2;
       value = span 0 2;
@@ -117,6 +118,22 @@ is_literal :
     }))
 unfolding chars is_utf8 encode_utf8
 is_literal = refl
+
+-- a scalar that keeps its tag: "!x" is no tag that "ab" has where it stands plain
+is_typed :
+    event_of arena directives (record (event 6 1) { typed = 1 })
+    ≡ Some
+    (scalar
+    (record {
+      anchor = Some (codes "a");
+      tag = Some (codes "!x");
+      value = codes "ab";
+      plain_implicit = false;
+      quoted_implicit = false;
+      style = plain;
+    }))
+unfolding chars is_utf8 encode_utf8
+is_typed = refl
 
 no_style : event_of arena directives (event 6 6) ≡ None
 unfolding chars is_utf8 encode_utf8
