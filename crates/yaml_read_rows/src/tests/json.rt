@@ -60,9 +60,11 @@ fn other_numbers_are_refused(rt: HostRuntime) {
 
 #[test]
 fn what_is_no_json_is_refused_first(rt: HostRuntime) {
-    let place = JsonError::NotJson { line: 1, column: 7 };
-    let refused = canonical(&rt, rt.alloc(), "[0.5, nul]").err();
-    equal(&rt, &refused, &Some(ValueError::Json(place)));
+    let place = match canonical(&rt, rt.alloc(), "[0.5, nul]") {
+        Err(ValueError::Json(JsonError::NotJson { line, column, .. })) => Some((line, column)),
+        _ => None,
+    };
+    equal(&rt, &place, &Some((1, 7)));
     let again = JsonError::DuplicateName {
         line: 1,
         column: 10,

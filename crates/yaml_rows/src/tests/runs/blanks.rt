@@ -16,7 +16,7 @@ pub(super) const ROOTS: Rows = &[
 
 =VAL literal 1 1 - - "a  " ||-↵  a  ↵
 
-=VAL literal 1 1 - - "a\n␉b \n\n" ||+↵  a↵  ␉b ↵↵...↵
+=VAL literal 1 1 - - "a\n␉b \n" ||↵  a↵  ␉b ↵
 
 =VAL literal 1 1 - - "a\n \nb" |"a\n \nb"↵
 
