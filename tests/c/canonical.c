@@ -21,12 +21,16 @@ static void tell(const char *name, int32_t status, int good) {
                (unsigned long)result.line, (unsigned long)result.column);
 }
 
-/* What bytes are. */
-static void expect_check(const char *bytes, int32_t status, uint64_t line, uint64_t column) {
+/* What so many bytes are. */
+static void check_bytes(const char *name, const uint8_t *bytes, size_t length, int32_t status, uint64_t line, uint64_t column) {
     int32_t got;
     memset(&result, 0xff, sizeof result);
-    got = yaml_is_canonical((const uint8_t *)bytes, strlen(bytes), &result);
-    tell(bytes, got, got == status && reports(0, line, column));
+    got = yaml_is_canonical(bytes, length, &result);
+    tell(name, got, got == status && reports(0, line, column));
+}
+
+static void expect_check(const char *bytes, int32_t status, uint64_t line, uint64_t column) {
+    check_bytes(bytes, (const uint8_t *)bytes, strlen(bytes), status, line, column);
 }
 
 static void checks(void) {
@@ -61,22 +65,15 @@ static size_t nested(size_t levels, uint8_t *bytes) {
     return length;
 }
 
-static void check_deep(const char *name, const uint8_t *bytes, size_t length, int32_t status, uint64_t line, uint64_t column) {
-    int32_t got;
-    memset(&result, 0xff, sizeof result);
-    got = yaml_is_canonical(bytes, length, &result);
-    tell(name, got, got == status && reports(0, line, column));
-}
-
 /* The level of number N stands on line N + 1, behind N - 1 indentations; the last line, 2 N, has the outermost closing bracket. What is
  * read takes stack for each level when it is dropped, so few of them stand here. */
 static void deep(void) {
     static uint8_t bytes[2016064];
     size_t length = nested(50, bytes);
-    check_deep("deep", bytes, length, YAML_DONE, 0, 0);
-    check_deep("deep, without its end", bytes, length - 1, YAML_NOT_CANONICAL, 100, 2);
+    check_bytes("deep", bytes, length, YAML_DONE, 0, 0);
+    check_bytes("deep, without its end", bytes, length - 1, YAML_NOT_CANONICAL, 100, 2);
     length = nested(1001, bytes);
-    check_deep("too deep", bytes, length, YAML_TOO_DEEP, 1002, 2001);
+    check_bytes("too deep", bytes, length, YAML_TOO_DEEP, 1002, 2001);
 }
 
 /* The canonical bytes of a text of JSON: in a buffer that has just their size, then in one that is a byte too small. */
