@@ -7,9 +7,11 @@ mod documents;
 mod encodings;
 mod errors;
 mod events;
+mod kinds;
 mod laws;
 mod nodes;
 mod places;
+mod sinks;
 mod styles;
 
 pub use characters::{
@@ -30,6 +32,7 @@ pub use events::yaml_event_t::{
     YAML_MAPPING_START_EVENT, YAML_SCALAR_EVENT, YAML_SEQUENCE_END_EVENT,
     YAML_SEQUENCE_START_EVENT, YAML_STREAM_END_EVENT, YAML_STREAM_START_EVENT,
 };
+pub use kinds::CollectionKind;
 pub use laws::{
     breaks_agree, bytes_have_one_text, documents_unfold, encodings_agree,
     layout_has_one_piece_each, limit_cuts_the_output, list_has_one_tree, pieces_stand,
@@ -38,6 +41,7 @@ pub use laws::{
 };
 pub use nodes::{yaml_node_data_t, yaml_node_pair_t, yaml_node_t};
 pub use places::place_of;
+pub use sinks::write_to_sink;
 pub use styles::yaml_mapping_style_t::{
     YAML_ANY_MAPPING_STYLE, YAML_BLOCK_MAPPING_STYLE, YAML_FLOW_MAPPING_STYLE,
 };

@@ -4,8 +4,8 @@ use Rattle.yaml_base.specs.Layout.{Role, as_root, as_item, as_key, as_value, Pla
 use Rattle.yaml_base.specs.Steps.{Frame}
 use Rattle.yaml_emitter.specs.declared.place.Role as role
 use Rattle.yaml_emitter.specs.declared.place.Role.TheVariants.{Root, Item, Key, Value}
-use Rattle.yaml_emitter.specs.declared.place.CollectionKind.{CollectionKind}
-use Rattle.yaml_emitter.specs.declared.place.CollectionKind.TheVariants.{Sequence, Mapping}
+use Rattle.yaml_base.specs.declared.kinds.CollectionKind.{CollectionKind}
+use Rattle.yaml_base.specs.declared.kinds.CollectionKind.TheVariants.{Sequence, Mapping}
 use Rattle.yaml_emitter.specs.declared.place.Place as place
 use Rattle.yaml_emitter.specs.declared.place.Frame as frame
 

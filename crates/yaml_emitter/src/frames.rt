@@ -10,7 +10,8 @@ ghost use Rattle.yaml_emitter.specs.Nesting.{advanced};
 ghost use Rattle.yaml_emitter.specs.NodeEvents.{end_event};
 ghost use Rattle.yaml_emitter.specs.Stages.{seen_stage};
 
-use crate::place::{CollectionKind, Frame, Place};
+use yaml_base::CollectionKind;
+use crate::place::{Frame, Place};
 use crate::stage::Stage;
 use std::alloc::Allocator;
 use std::marker::Model;

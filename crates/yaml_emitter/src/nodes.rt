@@ -23,8 +23,9 @@ ghost use Rattle.yaml_emitter.specs.WrittenPieces.{piece_at};
 
 use crate::check::{check_alias, check_collection_names, check_scalar_names};
 use crate::machine::Machine;
-use crate::place::CollectionKind::{Mapping, Sequence};
-use crate::place::{CollectionKind, Frame, Place, Role};
+use yaml_base::CollectionKind::{Mapping, Sequence};
+use yaml_base::CollectionKind;
+use crate::place::{Frame, Place, Role};
 use crate::stage::Stage;
 use crate::writing::{
     CollectionContent, ScalarContent, Site, borrowed_text, entries_column, is_simple_alias_key,
@@ -331,7 +332,7 @@ fn opened_frame<A: Allocator>(
     ensures nested { line_column (seen_frame result).place.column ≤ line_column site.now.place.column + 9 }
 {
     let undents = site.place.role.is_in_mapping() && !site.settings.indented_sequences;
-    let undented = !kind.is_mapping() && undents;
+    let undented = matches!(kind, CollectionKind::Sequence) && undents;
     let column = entries_column(pen, site.settings, &site.place, in_flow, undented);
     Frame {
         place: Place {

@@ -2,6 +2,8 @@
 
 ghost use Rattle.yaml_emitter.specs.Reach.{IsWithinReach};
 
+use yaml_base::CollectionKind;
+
 /// What a node is. The first item or key of a flow collection writes its bracket; a value knows
 /// whether its key is simple.
 #[derive(Clone, Copy)]
@@ -10,15 +12,6 @@ pub(crate) enum Role {
     Item { first: bool },
     Key { first: bool },
     Value { simple: bool },
-}
-
-/// The kind of a collection.
-#[derive(Clone, Copy, PartialEq, Eq, Debug)]
-pub enum CollectionKind {
-    /// A sequence of items.
-    Sequence,
-    /// A mapping: pairs of a key and a value.
-    Mapping,
 }
 
 /// Where a node stands: in flow or in block, as what, and the column of the entries around it.
@@ -36,17 +29,6 @@ pub(crate) struct Place {
 pub(crate) struct Frame {
     pub place: Place,
     pub simple: bool,
-}
-
-impl CollectionKind {
-    ghost use Rattle.std.specs.Prelude.{◌≡◌};
-    ghost use Rattle.yaml_emitter.specs.Places.{is_mapping};
-
-    pub(crate) fn is_mapping(self) -> bool
-        ensures { result ≡ is_mapping self }
-    {
-        matches!(self, CollectionKind::Mapping)
-    }
 }
 
 impl Role {

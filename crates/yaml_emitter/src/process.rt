@@ -15,7 +15,7 @@ use crate::directives::next_directives;
 use crate::effective::EffectiveSettings;
 use crate::machine::Machine;
 use crate::nodes::{collection_content, is_flow_mapping, is_flow_sequence, scalar_content};
-use crate::place::CollectionKind::{Mapping, Sequence};
+use yaml_base::CollectionKind::{Mapping, Sequence};
 use crate::stage::Stage;
 use crate::writing::{
     OpenEnded, StartContent, write_document_end, write_document_start, write_stream_end,

@@ -6,7 +6,8 @@ use Rattle.yaml_json.proofs.Common.{json_events, IsBare, Wrote}
 use Rattle.yaml_json.proofs.Common.{WriterState, StandsTaken, PassedEvents, AddsEvents, FailedWith, inr, some_from_result}
 use Rattle.yaml_pen.proofs.Writing.{none_from_result}
 use Rattle.yaml_emitter.{proofs.Common.with_all_taken, proofs.standing.Taking.stands_taken, specs.State.State}
-use Rattle.yaml_pen.specs.{Page.output_left, Sinks.AppendsFirst}
+use Rattle.yaml_base.specs.Sinks.{AppendsFirst}
+use Rattle.yaml_pen.specs.Page.{output_left}
 use Rattle.yaml_writer.{proofs.Common.TakesBytes, proofs.Taken.left_taken}
 use Rattle.yaml_base.specs.declared.errors.yaml_error_t.{yaml_error_t}
 use Rattle.std.specs.Prelude.{IsUtf8}

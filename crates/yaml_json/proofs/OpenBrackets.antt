@@ -3,7 +3,7 @@ use Rattle.std.proofs.Common.{◌≡◌, ◌==◌, ◌+◌, ◌-◌, ◌<◌, �
 use Rattle.std.proofs.Common.{arith}
 use Rattle.std.proofs.lemmas.Bool.Decides.{nat_tests}
 use Rattle.std.proofs.lemmas.List.{at_drop_more, drop_all}
-use Rattle.yaml_emitter.specs.declared.place.CollectionKind.{CollectionKind}
+use Rattle.yaml_base.specs.declared.kinds.CollectionKind.{CollectionKind}
 use Rattle.yaml_json.specs.Expected.{IsDepth, IsFront, Standing, innermost, kind_at, standing_after, standing_over, start}
 use Rattle.yaml_json.specs.declared.expecting.Depth.{Depth}
 use Rattle.yaml_json.specs.declared.expecting.Front.{Front}

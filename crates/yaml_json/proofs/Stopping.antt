@@ -9,7 +9,7 @@ use Rattle.yaml_json.specs.declared.values.Stop.TheVariants as stops
 use Rattle.yaml_json.proofs.Common.{FailedWith, FailedAt, WriterState, end_event, with_collection, StandsTaken, AddsEvents, GaveEvent, EndsInnermost}
 use Rattle.yaml_base.specs.declared.errors.{yaml_error_t.yaml_error_t, yaml_error_t.TheVariants.Memory, yaml_error_t.TheVariants.ExpectedDocumentEnd}
 use Rattle.yaml_json.proofs.WroteLemmas.{adds_then, none_more, on_err, same_last}
-use Rattle.yaml_emitter.specs.declared.place.CollectionKind.{CollectionKind}
+use Rattle.yaml_base.specs.declared.kinds.CollectionKind.{CollectionKind}
 use Rattle.yaml_writer.specs.Writing.{Failed}
 
 -- what follows of a value, where there is one

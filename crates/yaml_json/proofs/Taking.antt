@@ -14,8 +14,8 @@ use Rattle.yaml_json.specs.Failing.{FailedAtEnd}
 use Rattle.yaml_json.specs.declared.values.Stop.{Stop}
 use Rattle.yaml_json.proofs.Walking.{longer, closed_stands, closes_value, value_begins, awaiting_item, awaiting_named, next_stands}
 use Rattle.yaml_json.specs.Walk.{ReadsNone, Stood, Gives, FailsGiving, Stepped, StepFailed}
-use Rattle.yaml_emitter.specs.declared.place.CollectionKind.{CollectionKind}
-use Rattle.yaml_emitter.specs.declared.place.CollectionKind.TheVariants.{Mapping, Sequence}
+use Rattle.yaml_base.specs.declared.kinds.CollectionKind.{CollectionKind}
+use Rattle.yaml_base.specs.declared.kinds.CollectionKind.TheVariants.{Mapping, Sequence}
 
 -- ---- the writer
 

@@ -5,8 +5,8 @@ use Rattle.yaml_json.proofs.Common.{emitter_error_of, FailedAt, RefusesText, IsS
 use Rattle.yaml_json.proofs.Common.{append-nil, subst, Some, NamesOnce, IsBare, WroteEvent, start_event, WriterState, text_event, with_collection}
 use Rattle.yaml_json.proofs.Common.{EndsInnermost, GaveEvent, None}
 use Rattle.yaml_base.specs.declared.errors.yaml_error_t.{yaml_error_t}
-use Rattle.yaml_emitter.specs.declared.place.CollectionKind.{CollectionKind}
-use Rattle.yaml_emitter.specs.declared.place.CollectionKind.TheVariants.{Mapping, Sequence}
+use Rattle.yaml_base.specs.declared.kinds.CollectionKind.{CollectionKind}
+use Rattle.yaml_base.specs.declared.kinds.CollectionKind.TheVariants.{Mapping, Sequence}
 use Rattle.yaml_writer.proofs.Taken.{begins_err, begins_ok, gives_err, gives_ok}
 use Rattle.yaml_writer.specs.Writing.{Begins, Gives}
 use Rattle.yaml_json.proofs.KeepingNames.{keeps_closer, keeps_name, keeps_scalar, keeps_then}

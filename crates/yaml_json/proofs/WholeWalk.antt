@@ -14,7 +14,7 @@ use Rattle.yaml_json.specs.declared.names.Names.{Names}
 use Rattle.yaml_json.specs.declared.values.Stop.{Stop}
 use Rattle.yaml_json.proofs.Walking.{closes_value, value_begins, awaiting_whole, next_stands}
 use Rattle.yaml_json.specs.Walk.{Stood, StopsWriting, FailsGiving, Stepped, StepFailed}
-use Rattle.yaml_emitter.specs.declared.place.CollectionKind.{CollectionKind}
+use Rattle.yaml_base.specs.declared.kinds.CollectionKind.{CollectionKind}
 
 module _ (depth : ℕ) (in_flow : Bool) (start : List Token) (was : WriterState) where
   -- the first token of the value was given

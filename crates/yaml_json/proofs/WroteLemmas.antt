@@ -8,7 +8,7 @@ use Rattle.yaml_base.specs.Event.{CollectionStyle}
 use Rattle.yaml_json.specs.JsonEvents.{style_of}
 use Rattle.yaml_writer.proofs.Finishing.{nothing_awaited}
 use Rattle.yaml_writer.specs.Writing.{tag_or_default, word_event, awaits_node}
-use Rattle.yaml_emitter.specs.declared.place.CollectionKind.{CollectionKind}
+use Rattle.yaml_base.specs.declared.kinds.CollectionKind.{CollectionKind}
 
 -- no node is awaited
 pub bare_awaits_none : (writer : WriterState) → IsBare writer → awaits_node writer ≡ false

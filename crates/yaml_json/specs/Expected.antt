@@ -2,8 +2,8 @@
 use Rattle.std.specs.Prelude.{◌≡◌, ℕ, Bool, true, false, ◌==◌, ◌&&◌, nat_le, Option, None, Some, List, [], ◌∷◌, codes, drop, length, suc, take, if◌then◌else◌}
 use Rattle.json.specs.Ascii as ascii
 use Rattle.json.specs.Word.{is_space}
-use Rattle.yaml_emitter.specs.declared.place.CollectionKind.{CollectionKind}
-use Rattle.yaml_emitter.specs.declared.place.CollectionKind.TheVariants.{Mapping, Sequence}
+use Rattle.yaml_base.specs.declared.kinds.CollectionKind.{CollectionKind}
+use Rattle.yaml_base.specs.declared.kinds.CollectionKind.TheVariants.{Mapping, Sequence}
 use Rattle.yaml_json.specs.Texts.{is_closer, is_opener}
 use Rattle.yaml_json.specs.declared.error.JsonError.{JsonError}
 use Rattle.yaml_json.specs.declared.error.JsonError.TheVariants as errors

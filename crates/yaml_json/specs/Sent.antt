@@ -11,7 +11,7 @@ use Rattle.yaml_base.specs.Settings.{Settings}
 use Rattle.yaml_base.specs.declared.errors.yaml_error_t.{yaml_error_t}
 use Rattle.yaml_base.specs.declared.errors.yaml_error_t.TheVariants.{Memory}
 use Rattle.yaml_emitter.specs.State.{State}
-use Rattle.yaml_pen.specs.Sinks.{AppendsFirst}
+use Rattle.yaml_base.specs.Sinks.{AppendsFirst}
 use Rattle.yaml_writer.specs.Writing.{AddsEvents, Finishes, StandsTaken, WriterState, opening}
 use Rattle.yaml_json.specs.Cuts.{HasScanned}
 use Rattle.yaml_json.specs.Failing.{FailedWith, HasErrorSaid, between, events_with_separators, writers_error}

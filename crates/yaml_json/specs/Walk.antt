@@ -8,8 +8,8 @@ use Rattle.json.specs.Tree.{json_tokens}
 use Rattle.yaml_base.specs.declared.errors.yaml_error_t.{yaml_error_t}
 use Rattle.yaml_base.specs.declared.errors.yaml_error_t.TheVariants.{Memory}
 use Rattle.yaml_writer.specs.Writing.{AddsEvents, WriterState}
-use Rattle.yaml_emitter.specs.declared.place.CollectionKind.{CollectionKind}
-use Rattle.yaml_emitter.specs.declared.place.CollectionKind.TheVariants.{Mapping, Sequence}
+use Rattle.yaml_base.specs.declared.kinds.CollectionKind.{CollectionKind}
+use Rattle.yaml_base.specs.declared.kinds.CollectionKind.TheVariants.{Mapping, Sequence}
 use Rattle.yaml_json.specs.Begins.{BeginsAllowed, BeginsSome, BeginsValue}
 use Rattle.yaml_json.specs.Failing.{FailedWith}
 use Rattle.yaml_json.specs.Refused.{BreaksAt, NamesTwiceAt, OpensTooDeepAt, is_marked}

@@ -6,8 +6,8 @@ use Rattle.json.specs.Json.{Json, value}
 use Rattle.yaml_base.specs.Event.{Event, document_end, mapping_start, sequence_start}
 use Rattle.yaml_base.specs.Settings.{Settings}
 use Rattle.yaml_writer.specs.Writing.{AddsEvents, Finishes, IsStream, StandsTaken, WriterState, closing, opening, plain_start}
-use Rattle.yaml_emitter.specs.declared.place.CollectionKind.{CollectionKind}
-use Rattle.yaml_emitter.specs.declared.place.CollectionKind.TheVariants.{Mapping, Sequence}
+use Rattle.yaml_base.specs.declared.kinds.CollectionKind.{CollectionKind}
+use Rattle.yaml_base.specs.declared.kinds.CollectionKind.TheVariants.{Mapping, Sequence}
 use Rattle.yaml_json.specs.JsonEvents.{collection_in, json_events}
 use Rattle.yaml_json.specs.Texts.{texts_in}
 use Rattle.yaml_json.specs.Means.{ReadsAsJson, ReadsAsValues}

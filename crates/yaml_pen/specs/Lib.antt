@@ -1,5 +1,4 @@
 pub mod Page
-pub mod Sinks
 pub mod Wrote
 pub mod Outlet
 pub mod Encoded

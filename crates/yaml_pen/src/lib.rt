@@ -5,8 +5,6 @@ mod counting;
 mod encoded;
 mod outlet;
 mod pen;
-mod sinks;
 mod taken;
 
 pub use pen::{Indicator, Pen};
-pub use sinks::write_to_sink;

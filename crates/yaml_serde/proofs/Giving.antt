@@ -12,8 +12,11 @@ use Rattle.std.{proofs.Math.Seq.drop-append_seam, proofs.Math.Seq.take-length, p
 use Rattle.std.{proofs.Props.props, proofs.lemmas.List.Elements.All-nil, proofs.lemmas.List.Elements.All-cons, proofs.lemmas.List.Elements.All-append}
 use Rattle.std.specs.{Borrow.GName, Prelude.IfErr, Prelude.OnErr, Prelude.drop}
 use Rattle.yaml_base.specs.declared.errors.{yaml_error_t.yaml_error_t, yaml_error_t.TheVariants.Memory}
-use Rattle.yaml_emitter.{proofs.standing.Promising.promised, specs.declared.place.CollectionKind.CollectionKind}
-use Rattle.yaml_pen.{proofs.Composing.grows_then, specs.Page.output_left, specs.Sinks.AppendsFirst}
+use Rattle.yaml_base.specs.declared.kinds.CollectionKind.{CollectionKind}
+use Rattle.yaml_emitter.proofs.standing.Promising.{promised}
+use Rattle.yaml_base.specs.Sinks.{AppendsFirst}
+use Rattle.yaml_pen.proofs.Composing.{grows_then}
+use Rattle.yaml_pen.specs.Page.{output_left}
 use Rattle.std.proofs.KnownBytes.{Appends-nil, Appends-trans}
 use Rattle.yaml_serde.proofs.Handing.{appends_first, failed_is_sent, grows_taken, left_begins}
 use Rattle.std.specs.Float.Ieee.{Float, Format, nan, inf, fin}

@@ -5,7 +5,7 @@ use Rattle.yaml_base.specs.Prefix.{IsPrefix}
 use Rattle.yaml_base.proofs.Prefixes.{prefix_itself, prefix_same}
 use Rattle.yaml_emitter.proofs.Common.{with_all_taken}
 use Rattle.yaml_pen.specs.Page.{output_left}
-use Rattle.yaml_pen.specs.Sinks.{AppendsFirst}
+use Rattle.yaml_base.specs.Sinks.{AppendsFirst}
 use Rattle.yaml_serde.specs.Outlets.{HandsOn, has_failed}
 use Rattle.yaml_serde.specs.Variants.{GivesAndSends}
 use Rattle.yaml_serde.specs.declared.error.Error.{Error}

@@ -6,7 +6,7 @@ use Rattle.yaml_base.specs.Characters.{Text}
 use Rattle.yaml_base.specs.Event.{Event, block}
 use Rattle.yaml_base.specs.values.JsonNumbers.{JsonNumber, is_json_number}
 use Rattle.yaml_base.specs.Settings.{Settings}
-use Rattle.yaml_pen.specs.Sinks.{AppendsFirst}
+use Rattle.yaml_base.specs.Sinks.{AppendsFirst}
 use Rattle.yaml_pen.specs.Wrote.{Grows}
 use Rattle.yaml_emitter.specs.Promises.{Promised}
 use Rattle.yaml_emitter.specs.StandsAfter.{StandsAfter}
@@ -16,7 +16,7 @@ use Rattle.yaml_writer.specs.Floats.{special_event}
 use Rattle.yaml_writer.specs.Writing.{WriterState, IsStream, StandsTaken, bool_event, closing, end_event, int_event, mapping_event, null_event, number_event}
 use Rattle.yaml_writer.specs.Writing.{opening, sequence_event, text_event}
 use Rattle.yaml_writer.specs.declared.floats.SpecialFloat.{SpecialFloat}
-use Rattle.yaml_emitter.specs.declared.place.CollectionKind.{CollectionKind}
+use Rattle.yaml_base.specs.declared.kinds.CollectionKind.{CollectionKind}
 
 -- an event that a call of a writer gives, with the writer's properties of the next node: so a number is spelled for both
 -- schemas, and a text stands plain only where both read it as a text

@@ -6,7 +6,7 @@ use Rattle.yaml_base.specs.Prefix.{IsPrefix}
 use Rattle.yaml_base.specs.Settings.{Settings}
 use Rattle.yaml_base.specs.Event.{Event}
 use Rattle.yaml_pen.specs.Page.{output_left}
-use Rattle.yaml_pen.specs.Sinks.{AppendsFirst}
+use Rattle.yaml_base.specs.Sinks.{AppendsFirst}
 use Rattle.yaml_emitter.specs.State.{State, new_state, with_all_taken}
 use Rattle.yaml_writer.specs.Writing.{StandsTaken, WriterState, TakesBytes}
 use Rattle.yaml_serde.specs.Documents.{GaveEvents}

@@ -2,7 +2,7 @@
 use Rattle.std.specs.Prelude.{◌≡◌, ◌⊎◌, ℕ, None, Some, List, ◌++◌, chars, codes}
 use Rattle.yaml_base.specs.Event.{Event, block}
 use Rattle.yaml_emitter.specs.State.{with_all_taken}
-use Rattle.yaml_emitter.specs.declared.place.CollectionKind.TheVariants.{Mapping}
+use Rattle.yaml_base.specs.declared.kinds.CollectionKind.TheVariants.{Mapping}
 use Rattle.yaml_writer.specs.Writing.{WriterState, GaveEvent, mapping_event, text_event, with_collection}
 use Rattle.yaml_serde.specs.declared.settings.Variants.{Variants}
 use Rattle.yaml_serde.specs.declared.settings.Variants.TheVariants.{Tags, OneKeyMap}

@@ -3,7 +3,7 @@ ghost use Rattle.std.specs.Io.KnownBytes.{Appends};
 ghost use Rattle.std.specs.Prelude.{◌≡◌, [], IfOk, IsUtf8, None, OnErr, OnOk, false, length, string_bytes, take, true};
 ghost use Rattle.yaml_base.specs.Settings as base;
 ghost use Rattle.yaml_emitter.specs.Given.{seen_settings};
-ghost use Rattle.yaml_pen.specs.Sinks.{AppendsFirst};
+ghost use Rattle.yaml_base.specs.Sinks.{AppendsFirst};
 ghost use Rattle.yaml_pen.specs.Wrote.{Grows};
 ghost use Rattle.yaml_writer.specs.Given.{given_for_values};
 ghost use Rattle.yaml_writer.specs.Writing.{StandsTaken, awaits_node, opening};
@@ -18,7 +18,7 @@ use std::alloc::Global;
 use std::io;
 use std::io::Write;
 use std::marker::Brand;
-use yaml_pen::write_to_sink;
+use yaml_base::write_to_sink;
 use yaml_writer::Writer;
 
 /// The sink of a document whose bytes stay with the writer.

@@ -5,7 +5,7 @@ use Rattle.yaml_json.proofs.WroteLemmas.{adds_then, ended, none_more, starts_wit
 use Rattle.yaml_pen.{proofs.Composing.grows_itself, proofs.Composing.grows_then, proofs.Writing.none_from_result, specs.Wrote.Grows}
 use Rattle.yaml_emitter.proofs.Common.{some_from_result}
 use Rattle.yaml_base.specs.declared.errors.{yaml_error_t.yaml_error_t, yaml_error_t.TheVariants.Memory}
-use Rattle.yaml_emitter.specs.declared.place.CollectionKind.{CollectionKind}
+use Rattle.yaml_base.specs.declared.kinds.CollectionKind.{CollectionKind}
 use Rattle.yaml_json.specs.Failing.{HasErrorSaid, StaysSound}
 use Rattle.yaml_json.proofs.Common.{ap₂, Text, scalar, plain, is_none, is_some, ◌||◌}
 use Rattle.yaml_writer.specs.Times.{Moment, timestamp_text}

@@ -3,8 +3,8 @@ use Rattle.yaml_json.proofs.Common.{◌≡◌, ℕ, ◌+◌, ◌<◌, ◌≤◌,
 use Rattle.std.specs.Prelude.{String, string_bytes}
 use Rattle.std.specs.declared.alloc.Global.{Global}
 use Rattle.yaml_json.proofs.Common.{Event, WriterState, WroteEvent, start_event, scalar, text_content, chars, sequence_end, mapping_end, mapping_start, collection_in}
-use Rattle.yaml_emitter.specs.declared.place.CollectionKind.{CollectionKind}
-use Rattle.yaml_emitter.specs.declared.place.CollectionKind.TheVariants.{Mapping, Sequence}
+use Rattle.yaml_base.specs.declared.kinds.CollectionKind.{CollectionKind}
+use Rattle.yaml_base.specs.declared.kinds.CollectionKind.TheVariants.{Mapping, Sequence}
 use Rattle.toml_ordered.specs.Data as toml
 use Rattle.toml_ordered.specs.Data.{Node, items_view, entries_view, node_view, table}
 use Rattle.toml_ordered.specs.declared.tree.Node.{Node as CodeNode}

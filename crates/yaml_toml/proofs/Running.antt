@@ -1,7 +1,7 @@
 -- The walk from its start to where it is.
 use Rattle.yaml_json.proofs.Common.{◌≡◌, ℕ, ◌+◌, ◌<◌, ◌∷◌, ◌++◌, [], List, Bool, Result, Ok, map, refl, ap, subst, sym, ◌∙◌, append-nil, append_assoc, arith}
 use Rattle.yaml_json.proofs.Common.{Event, WriterState, Wrote, IsBare, AddsEvents}
-use Rattle.yaml_emitter.specs.declared.place.CollectionKind.{CollectionKind}
+use Rattle.yaml_base.specs.declared.kinds.CollectionKind.{CollectionKind}
 use Rattle.toml_ordered.specs.Data as toml
 use Rattle.toml_ordered.specs.declared.tree.Origin.TheVariants.{Header}
 use Rattle.yaml_toml.specs.Events.{toml_events}

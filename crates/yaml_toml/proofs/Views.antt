@@ -5,7 +5,7 @@ use Rattle.toml_datetime.specs.declared.datetime.Datetime.{Datetime as DatetimeV
 use Rattle.toml_ordered.specs.Data as toml
 use Rattle.toml_ordered.specs.Data.{node_view}
 use Rattle.toml_ordered.specs.declared.tree.Node.{Node as CodeNode, Text, Integer, Decimal, Infinity, NotANumber, Boolean, Datetime, the_lemmas}
-use Rattle.yaml_emitter.specs.declared.place.CollectionKind.{CollectionKind}
+use Rattle.yaml_base.specs.declared.kinds.CollectionKind.{CollectionKind}
 use Rattle.yaml_json.proofs.Common.{Event, WriterState}
 use Rattle.yaml_toml.specs.Events.{toml_events}
 use Rattle.yaml_toml.specs.Walk.{HasNumbers, Steps, node_size}

@@ -10,8 +10,8 @@ use Rattle.yaml_base.specs.Event.{Event, sequence_end, mapping_start, mapping_en
 use Rattle.yaml_base.specs.declared.errors.yaml_error_t.{yaml_error_t}
 use Rattle.yaml_base.specs.declared.errors.yaml_error_t.TheVariants.{Memory}
 use Rattle.yaml_pen.specs.Wrote.{Grows}
-use Rattle.yaml_emitter.specs.declared.place.CollectionKind.{CollectionKind}
-use Rattle.yaml_emitter.specs.declared.place.CollectionKind.TheVariants.{Mapping, Sequence}
+use Rattle.yaml_base.specs.declared.kinds.CollectionKind.{CollectionKind}
+use Rattle.yaml_base.specs.declared.kinds.CollectionKind.TheVariants.{Mapping, Sequence}
 use Rattle.yaml_json.specs.Failing.{HasErrorSaid, StaysSound}
 use Rattle.yaml_json.specs.JsonEvents.{collection_in}
 use Rattle.yaml_json.specs.Wrote.{IsBare, Wrote}

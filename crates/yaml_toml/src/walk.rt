@@ -3,9 +3,9 @@
 ghost use Rattle.std.specs.Prelude.{◌≡◌, ◌+◌, List, [], ◌∷◌, ◌++◌, IfErr, MatchOption, OnOk};
 ghost use Rattle.toml_ordered.specs.Data.{entries_view, items_view, node_view, table};
 ghost use Rattle.toml_ordered.specs.declared.tree.Origin.TheVariants.{Header};
-ghost use Rattle.yaml_emitter.specs.declared.place.CollectionKind.TheVariants.{Mapping, Sequence};
+ghost use Rattle.yaml_base.specs.declared.kinds.CollectionKind.TheVariants.{Mapping, Sequence};
 ghost use Rattle.yaml_base.specs.Seen.{seen_mapping_style, seen_sequence_style};
-ghost use Rattle.yaml_emitter.specs.declared.place.CollectionKind.{CollectionKind};
+ghost use Rattle.yaml_base.specs.declared.kinds.CollectionKind.{CollectionKind};
 ghost use Rattle.yaml_json.specs.JsonEvents.{style_of};
 ghost use Rattle.yaml_json.specs.Wrote.{IsBare, Wrote, start_event};
 ghost use Rattle.yaml_toml.specs.Events.{infinite, toml_events};

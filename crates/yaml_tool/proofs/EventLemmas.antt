@@ -5,7 +5,7 @@ use Rattle.yaml_base.specs.{Event.CollectionStyle, Seen.seen_directive, declared
 use Rattle.yaml_base.specs.scripts.Script.{Field, bare, quoted, flags, text_or_none, scalar_styles, directives_of, collection_styles, scalar_with, scalar_of}
 use Rattle.yaml_base.specs.scripts.Script.{collection_with, collection_of}
 use Rattle.yaml_tool.specs.{Events.scalar_from, Events.start_of, Fields.prepend_field, Fields.HasField, Fields.field_of}
-use Rattle.yaml_emitter.specs.declared.place.CollectionKind.{CollectionKind}
+use Rattle.yaml_base.specs.declared.kinds.CollectionKind.{CollectionKind}
 
 -- the field that stands for a choice is read as it
 choice_read : (choice : Option Text) → text_or_none (field_of choice) ≡ Some choice

@@ -8,8 +8,8 @@ use Rattle.yaml_base.specs.declared.directives.yaml_version_directive_t.{yaml_ve
 use Rattle.yaml_base.specs.declared.directives.yaml_tag_directive_t.{yaml_tag_directive_t}
 use Rattle.yaml_base.specs.scripts.Script.{Field, quoted, text_or_none, scalar_with, stream_start_of, alone, document_start_of, document_end_of}
 use Rattle.yaml_base.specs.scripts.Script.{alias_of, scalar_of, collection_of}
-use Rattle.yaml_emitter.specs.declared.place.CollectionKind.{CollectionKind}
-use Rattle.yaml_emitter.specs.declared.place.CollectionKind.TheVariants.{Sequence, Mapping}
+use Rattle.yaml_base.specs.declared.kinds.CollectionKind.{CollectionKind}
+use Rattle.yaml_base.specs.declared.kinds.CollectionKind.TheVariants.{Sequence, Mapping}
 use Rattle.yaml_tool.specs.declared.words.CollectionStyle as collection
 use Rattle.yaml_tool.specs.declared.words.CollectionStyle.TheVariants as style
 use Rattle.yaml_tool.specs.declared.words.EventName.{EventName}

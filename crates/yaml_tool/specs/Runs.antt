@@ -6,7 +6,7 @@ use Rattle.yaml_base.specs.Event.{Event}
 use Rattle.yaml_base.specs.scripts.Script.{Numbered, Script, bad_line, understood}
 use Rattle.yaml_base.specs.declared.errors.yaml_error_t.{yaml_error_t}
 use Rattle.yaml_base.specs.declared.errors.yaml_error_t.TheVariants.{Memory}
-use Rattle.yaml_pen.specs.Sinks.{AppendsFirst}
+use Rattle.yaml_base.specs.Sinks.{AppendsFirst}
 use Rattle.yaml_pen.specs.Wrote.{Grows}
 use Rattle.yaml_emitter.specs.State.{State}
 use Rattle.yaml_emitter.specs.StaysFlushed.{KeepsDocuments}

@@ -11,7 +11,7 @@ use Rattle.yaml_emitter.specs.declared.borrowed.ScalarAnswer.TheVariants.{Taken,
 use Rattle.yaml_base.{proofs.Prefixes.prefix_same, specs.declared.errors.yaml_error_t.yaml_error_t}
 use Rattle.yaml_writer.proofs.Common.{option_or}
 use Rattle.yaml_writer.specs.Writing.{Begins, Failed, Gave, Gives, tag_or_default, with_collection}
-use Rattle.yaml_emitter.specs.declared.place.CollectionKind.{CollectionKind}
+use Rattle.yaml_base.specs.declared.kinds.CollectionKind.{CollectionKind}
 use Rattle.yaml_base.specs.declared.errors.yaml_error_t.TheVariants.{Memory}
 
 -- a call of the emitter keeps what was taken

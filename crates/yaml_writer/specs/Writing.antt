@@ -22,8 +22,8 @@ use Rattle.yaml_emitter.specs.State.{State}
 use Rattle.yaml_emitter.specs.StandsAfter.{StandsAfter}
 use Rattle.yaml_emitter.specs.Promises.{IsWritten}
 use Rattle.yaml_writer.specs.Times.{Moment, timestamp_text}
-use Rattle.yaml_emitter.specs.declared.place.CollectionKind.{CollectionKind}
-use Rattle.yaml_emitter.specs.declared.place.CollectionKind.TheVariants.{Mapping, Sequence}
+use Rattle.yaml_base.specs.declared.kinds.CollectionKind.{CollectionKind}
+use Rattle.yaml_base.specs.declared.kinds.CollectionKind.TheVariants.{Mapping, Sequence}
 use Rattle.yaml_writer.specs.declared.collections.CollectionStart.{CollectionStart}
 use Rattle.yaml_writer.specs.declared.collections.CollectionStart.TheVariants as start
 use Rattle.yaml_writer.specs.declared.ends.DocumentEnd.{DocumentEnd}

@@ -3,7 +3,7 @@ ghost use Rattle.std.specs.Prelude.{◌≡◌, IfErr, OnOk, true, false, length}
 ghost use Rattle.yaml_base.specs.Seen.{seen_mapping_style, seen_sequence_style};
 ghost use Rattle.yaml_writer.specs.Writing.{Begins, EndsInnermost, Gave, NodeExpected, awaits_node, mapping_event, sequence_event};
 ghost use Rattle.yaml_writer.specs.Writing.{collection_start_event, with_collection};
-ghost use Rattle.yaml_emitter.specs.declared.place.CollectionKind.TheVariants.{Mapping, Sequence};
+ghost use Rattle.yaml_base.specs.declared.kinds.CollectionKind.TheVariants.{Mapping, Sequence};
 
 use crate::giving::{collection_start, give, give_end};
 use crate::writer::Writer;

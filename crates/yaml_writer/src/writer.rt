@@ -7,7 +7,7 @@ ghost use Rattle.yaml_emitter.specs.Given.{seen_settings};
 ghost use Rattle.yaml_emitter.specs.BorrowedTexts.{seen_name};
 ghost use Rattle.yaml_emitter.specs.State.{with_all_taken};
 ghost use Rattle.yaml_pen.specs.Page.{output_left};
-ghost use Rattle.yaml_pen.specs.Sinks.{AppendsFirst};
+ghost use Rattle.yaml_base.specs.Sinks.{AppendsFirst};
 ghost use Rattle.yaml_writer.specs.Unfinished.{IsUnfinished, IsUnfinishedBy};
 ghost use Rattle.yaml_writer.specs.Writing.{Finishes, FinishesBy, Gives, StandsTaken, TakesBytes, awaits_node, is_implicit, opening, scalar_event, writer_over};
 
@@ -21,7 +21,7 @@ use yaml_emitter::{
     CollectionKind, ScalarAnswer, Settings, yaml_emitter_consume_output, yaml_emitter_emit_scalar,
     yaml_emitter_t, yaml_emitter_take_output,
 };
-use yaml_pen::write_to_sink;
+use yaml_base::write_to_sink;
 
 /// Writes values, one call each, into a vector of bytes.
 pub struct Writer<A: Allocator> {

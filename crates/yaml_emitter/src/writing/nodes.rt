@@ -21,7 +21,8 @@ ghost use Rattle.yaml_emitter.specs.WrittenPieces.{piece_at};
 ghost use Rattle.yaml_emitter.specs.WrittenAtoms.{seen_tag, render_spelled_tag, spelling_breaks};
 
 use crate::effective::EffectiveSettings;
-use crate::place::{CollectionKind, Frame, Place};
+use yaml_base::CollectionKind;
+use crate::place::{Frame, Place};
 use crate::writing::atoms::write_atoms;
 use crate::writing::contents::CollectionContent;
 use crate::writing::places::{flow_end_atoms, write_place};

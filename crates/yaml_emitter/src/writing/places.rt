@@ -15,7 +15,8 @@ ghost use Rattle.yaml_emitter.specs.Reach.{most_column};
 ghost use Rattle.yaml_emitter.specs.WrittenAtoms.{seen_indicator, render_atoms, some_atom_breaks};
 
 use crate::effective::EffectiveSettings;
-use crate::place::{CollectionKind, Place, Role};
+use yaml_base::CollectionKind;
+use crate::place::{Place, Role};
 use crate::writing::atoms::{Atom, Atoms, write_flow_line, write_new_line};
 use crate::writing::indicators::{IndicatorKind, write_indicator};
 use crate::writing::site::Site;

@@ -1,6 +1,6 @@
 use Rattle.yaml_json.proofs.Common.{Event, subst}
 use Rattle.yaml_base.specs.Seen.{seen_sequence_style, seen_mapping_style}
-use Rattle.yaml_emitter.specs.declared.place.{CollectionKind.TheVariants.Mapping, CollectionKind.TheVariants.Sequence}
+use Rattle.yaml_base.specs.declared.kinds.CollectionKind.TheVariants.{Mapping, Sequence}
 use Rattle.yaml_json.proofs.WroteLemmas.{sequence_is, mapping_is}
 use Rattle.yaml_writer.specs.Writing.{Begins}
 use Rattle.yaml_json.proofs.values.start.Goals as goal

@@ -1,7 +1,7 @@
 use Rattle.yaml_json.proofs.Common.{Err, Ok, false, true, [], ◌++◌, ◌∷◌, refl, ◌≡◌, ap, sym, ◌∙◌, arith, closer, token_of}
 use Rattle.json.specs.declared.token.Token.{Token}
 use Rattle.json.specs.Token as tokens
-use Rattle.yaml_emitter.specs.declared.place.CollectionKind.TheVariants.{Mapping, Sequence}
+use Rattle.yaml_base.specs.declared.kinds.CollectionKind.TheVariants.{Mapping, Sequence}
 use Rattle.yaml_json.proofs.Closing.{closes_is, closes_not, no_name, no_string}
 use Rattle.yaml_json.proofs.Stops.{again_stopped, member_stopped, string_stopped}
 use Rattle.yaml_json.proofs.WalkCalls.{key_kept, key_wrote, walk_closed, walk_item, walk_member, walk_missing, walk_refused, walk_unnamed}

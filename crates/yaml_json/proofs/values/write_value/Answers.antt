@@ -5,7 +5,7 @@ use Rattle.yaml_json.proofs.HeldNameLemmas.{no_item}
 use Rattle.yaml_json.proofs.Taking.{stood_nothing}
 use Rattle.yaml_json.proofs.WholeWalk.{all_written, first_failed, first_so_far, step_failed, step_stopped, steps_on}
 use Rattle.yaml_json.proofs.Reaching.{last_on}
-use Rattle.yaml_emitter.specs.declared.place.CollectionKind.{CollectionKind}
+use Rattle.yaml_base.specs.declared.kinds.CollectionKind.{CollectionKind}
 use Rattle.yaml_json.proofs.values.write_value.Goals as goal
 
 pub returns-in-Err-clause-steps : goal.returns-in-Err-clause-steps

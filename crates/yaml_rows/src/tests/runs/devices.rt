@@ -5,7 +5,7 @@ use std::alloc::Global;
 use std::io;
 use std::io::{ErrorKind, Read, Write};
 use std::process::Abort;
-use yaml_pen::write_to_sink;
+use yaml_base::write_to_sink;
 use yaml_tool::{run, run_answer_t};
 
 /// Gives a byte a call, and fails once so many calls were made.

@@ -1,6 +1,6 @@
 use Rattle.yaml_json.proofs.Common.{◌≡◌, sym, subst, ◌∷◌, [], start_event}
 use Rattle.yaml_json.proofs.WroteLemmas.{on_ok}
-use Rattle.yaml_emitter.specs.declared.place.CollectionKind.{CollectionKind}
+use Rattle.yaml_base.specs.declared.kinds.CollectionKind.{CollectionKind}
 use Rattle.yaml_toml.proofs.Answering.{kept_deep, kept_memory, kept_of, ok_of}
 use Rattle.yaml_toml.proofs.Pending.{steps_enter}
 use Rattle.yaml_toml.specs.Walk.{Moved}

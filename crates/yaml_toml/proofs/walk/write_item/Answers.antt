@@ -2,7 +2,7 @@ use Rattle.yaml_json.proofs.Common.{◌≡◌, ◌∷◌, ◌++◌, [], ℕ, ◌
 use Rattle.std.proofs.lemmas.Grind.{common_steps}
 use Rattle.toml_ordered.specs.Data.{items_view, node_view}
 use Rattle.toml_ordered.specs.declared.tree.Node.{Node as CodeNode}
-use Rattle.yaml_emitter.specs.declared.place.CollectionKind.TheVariants.{Sequence}
+use Rattle.yaml_base.specs.declared.kinds.CollectionKind.TheVariants.{Sequence}
 use Rattle.yaml_json.proofs.WroteLemmas.{on_ok}
 use Rattle.yaml_toml.specs.Walk.{ItemsHaveNumbers, PendingHaveNumbers, Steps, items_left, items_size, kinds_of, node_size, pending, pending_size}
 use Rattle.yaml_toml.specs.declared.walk.Rest.TheVariants as rest

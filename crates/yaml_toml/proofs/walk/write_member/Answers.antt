@@ -6,7 +6,7 @@ use Rattle.toml_ordered.specs.Data as toml
 use Rattle.toml_ordered.specs.Data.{entries_view, node_view}
 use Rattle.yaml_toml.specs.declared.walk.Stop.{Stop}
 use Rattle.toml_ordered.specs.declared.tree.Node.{Node as CodeNode}
-use Rattle.yaml_emitter.specs.declared.place.CollectionKind.TheVariants.{Mapping}
+use Rattle.yaml_base.specs.declared.kinds.CollectionKind.TheVariants.{Mapping}
 use Rattle.yaml_json.proofs.WroteLemmas.{on_ok}
 use Rattle.yaml_toml.specs.Events.{toml_events}
 use Rattle.yaml_toml.specs.Walk.{KeysHaveNumbers, PendingHaveNumbers, Steps, keys_left, keys_size, kinds_of, node_size, pending, pending_size}

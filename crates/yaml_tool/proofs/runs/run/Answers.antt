@@ -1,7 +1,7 @@
 use Rattle.yaml_tool.proofs.Common.{map, ap, subst, ◌∙◌, Appends, State, seen_numbered, seen_settings}
 use Rattle.yaml_tool.proofs.RunLemmas.{tells_all, fault_answers, no_memory_answers, writes_nothing, returned_answer, silent_only}
 use Rattle.yaml_tool.proofs.PartLemmas.{reads_at_end}
-use Rattle.yaml_pen.specs.Sinks.{AppendsFirst}
+use Rattle.yaml_base.specs.Sinks.{AppendsFirst}
 use Rattle.yaml_tool.specs.declared.answers.run_answer_t.TheVariants.{NoMemory, WriteFailed}
 use Rattle.yaml_tool.proofs.runs.run.Goals as goal
 

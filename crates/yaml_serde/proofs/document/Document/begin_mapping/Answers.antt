@@ -1,5 +1,5 @@
 use Rattle.yaml_serde.{proofs.Giving.stands_begun, specs.Documents.mapping_call}
-use Rattle.yaml_emitter.specs.declared.place.CollectionKind.TheVariants.{Mapping}
+use Rattle.yaml_base.specs.declared.kinds.CollectionKind.TheVariants.{Mapping}
 use Rattle.yaml_writer.specs.Writing.{with_collection}
 use Rattle.yaml_serde.proofs.Common.{Result, subst}
 use Rattle.yaml_serde.proofs.Handing.{gives_and_sends}

@@ -1,5 +1,5 @@
 use Rattle.yaml_serde.{proofs.Giving.stands_begun, specs.Documents.sequence_call}
-use Rattle.yaml_emitter.specs.declared.place.CollectionKind.TheVariants.{Sequence}
+use Rattle.yaml_base.specs.declared.kinds.CollectionKind.TheVariants.{Sequence}
 use Rattle.yaml_writer.specs.Writing.{with_collection}
 use Rattle.yaml_serde.proofs.document.Document.begin_sequence.Goals as goal
 

@@ -1,6 +1,6 @@
 use Rattle.yaml_writer.proofs.Common.{subst, seen_sequence_style, WriterState}
 use Rattle.yaml_writer.{proofs.Taken.begins_gave, specs.Writing.Gave, specs.Writing.sequence_event}
-use Rattle.yaml_emitter.specs.declared.place.CollectionKind.TheVariants.{Sequence}
+use Rattle.yaml_base.specs.declared.kinds.CollectionKind.TheVariants.{Sequence}
 use Rattle.yaml_writer.proofs.writer.Writer.begin_sequence.Goals as goal
 
 pub returns-in-Ok : goal.returns-in-Ok

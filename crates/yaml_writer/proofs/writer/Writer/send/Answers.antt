@@ -1,6 +1,6 @@
 use Rattle.yaml_writer.proofs.Common.{refl, subst, Result, Ok, Err, TakesBytes, WriterState, output_left}
 use Rattle.std.specs.Prelude.{OnErr}
-use Rattle.yaml_pen.specs.Sinks.{AppendsFirst}
+use Rattle.yaml_base.specs.Sinks.{AppendsFirst}
 use Rattle.yaml_writer.proofs.Taken.{left_taken}
 use Rattle.yaml_writer.proofs.writer.Writer.send.Goals as goal
 

@@ -1,7 +1,7 @@
 //! Bytes given to a sink.
 ghost use Rattle.std.specs.Prelude.{OnErr, OnOk};
 ghost use Rattle.std.specs.Io.KnownBytes.{Appends};
-ghost use Rattle.yaml_pen.specs.Sinks.{AppendsFirst};
+ghost use Rattle.yaml_base.specs.Sinks.{AppendsFirst};
 
 use std::io;
 use std::io::{ErrorKind, Write};

@@ -1,8 +1,8 @@
-use Rattle.yaml_pen.proofs.Common.{ℕ, ◌-◌, List, ◌++◌, ◌≡◌, length, take, ap, ◌∙◌, append_assoc}
+use Rattle.yaml_base.proofs.Common.{ℕ, ◌-◌, List, ◌++◌, ◌≡◌, length, take, ap, ◌∙◌, append_assoc}
 use Rattle.std.proofs.Common.{drop, take-append-drop}
 use Rattle.std.proofs.KnownBytes.{Appends-trans}
 use Rattle.std.proofs.lemmas.List.{take_rest}
-use Rattle.yaml_pen.proofs.sinks.write_to_sink.Goals as goal
+use Rattle.yaml_base.proofs.sinks.write_to_sink.Goals as goal
 
 -- the first of what is left was given, too
 moves_on : (done rest all : List ℕ) (count : ℕ) → done ++ rest ≡ all → (done ++ take count rest) ++ take (length rest - count) (drop count rest) ≡ all

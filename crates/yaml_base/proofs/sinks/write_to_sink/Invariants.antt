@@ -1,6 +1,6 @@
-use Rattle.yaml_pen.proofs.Common.{◌≡◌, ℕ, List, ◌++◌}
+use Rattle.yaml_base.proofs.Common.{◌≡◌, ℕ, List, ◌++◌}
 use Rattle.std.specs.Io.KnownBytes.{Appends}
-use Rattle.yaml_pen.proofs.sinks.write_to_sink.Given as goal
+use Rattle.yaml_base.proofs.sinks.write_to_sink.Given as goal
 
 -- what is gone from the rest was given to the sink
 abbrev pub invariant-writes : goal.invariant-writes
