@@ -29,6 +29,9 @@ pub mod UnfoldTrees
 pub mod UnfoldEvents
 pub mod SharedNodes
 pub mod DocumentsUnfold
+pub mod DumpedLeaves
+pub mod DumpedTexts
+pub mod DumpedOutputs
 pub mod ContentsUnfold
 pub mod Twins
 pub mod SameShapes

@@ -15,6 +15,7 @@ pub mod RowsDouble
 pub mod RowsPlain
 pub mod RowsScript
 pub mod RowsMeetings
+mod RowsDumpedText
 pub mod RowsCanonical
 pub mod RowsUnfolding
 mod RowsIsomorphic

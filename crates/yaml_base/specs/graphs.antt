@@ -4,3 +4,4 @@ pub mod Dumped
 pub mod Isomorphic
 pub mod SeenNodes
 pub mod Documents
+pub mod DumpedText

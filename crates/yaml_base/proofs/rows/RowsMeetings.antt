@@ -8,19 +8,19 @@ use Rattle.yaml_base.{proofs.rows.Cases.Gives, specs.graphs.Meetings.meetings, s
 use Rattle.yaml_base.proofs.rows.RowEvents.{plain_settings, canonical_settings, stream_of, rendered_under}
 
 -- nodes with the tags of their kinds, in a document without directives whose markers are implicit
-abbrev string_of : Text → GraphNode
+abbrev pub string_of : Text → GraphNode
 string_of value = record { tag = string_tag; held = scalar_held value any_style }
 
-abbrev sequence_of : List ℕ → GraphNode
+abbrev pub sequence_of : List ℕ → GraphNode
 sequence_of items = record { tag = sequence_tag; held = sequence_held items block }
 
-abbrev mapping_of : List NumberPair → GraphNode
+abbrev pub mapping_of : List NumberPair → GraphNode
 mapping_of pairs = record { tag = mapping_tag; held = mapping_held pairs block }
 
 abbrev start : DocumentStart
 start = record { version = None; directives = []; implicit = true }
 
-abbrev graph_of : List GraphNode → Graph
+abbrev pub graph_of : List GraphNode → Graph
 graph_of nodes = record { start = start; nodes = nodes; end_implicit = true }
 
 -- their events
@@ -117,7 +117,7 @@ many_shared = (refl, refl)
 
 -- ---- the text of documents in a stream
 
-abbrev dumped : Settings → List (List GraphNode) → Text
+abbrev pub dumped : Settings → List (List GraphNode) → Text
 dumped settings documents = rendered_under settings (stream_of (flat_map (λ nodes. document_event_list (graph_of nodes)) documents))
 
 abbrev dumped_alone : List GraphNode → Text

@@ -1,0 +1,120 @@
+-- The canonical output of one document without directives, whose end isn't written, is the encoding of its text.
+use Rattle.yaml_base.proofs.Common.{Bool, true, false, Option, None, Some, List, [], ◌∷◌, ◌++◌, ◌==◌, if◌then◌else◌, refl, ◌≡◌, ap, sym, ◌∙◌}
+use Rattle.yaml_base.proofs.Common.{append_assoc, append-nil, codes, Text, line_feed, eqb-true, option_map, unwrap_or, flat_map-append}
+use Rattle.yaml_base.proofs.Common.{Standing, Piece, text_of, piece_text, layout, root_place, render_node}
+use Rattle.yaml_base.proofs.Common.{document_end_piece, stream_end_piece, first_standing, with_breaks_written, line_feed_break, encode, cut, utf8}
+use Rattle.yaml_base.proofs.Common.{bytes_written, output_of, Encoding, Event, stream_start, stream_end, DocumentStart, Document, Documents, Stream, documents_and}
+use Rattle.yaml_base.proofs.Common.{no_documents, document_events, stream_events, Node, Graph, document_event_list, AreDumped, IsDocument, All-head}
+use Rattle.yaml_base.specs.Settings.{largest_usize}
+use Rattle.yaml_base.specs.graphs.DumpedText.{HasDumpedText, IsBare, dumped_text, node_text}
+use Rattle.yaml_base.specs.values.TypedValues.{typed_settings}
+use Rattle.yaml_base.proofs.DocumentsUnfold.{document_unfolds}
+use Rattle.yaml_base.proofs.DumpedLeaves.{Writes, force, s}
+use Rattle.yaml_base.proofs.DumpedTexts.{node_writes}
+use Rattle.yaml_base.proofs.Trees.{one_tree, tree_of-stream_events}
+
+-- a document without directives, whose end isn't written, and a stream of it alone
+abbrev pub bare_document : (implicit : Bool) → Node → Document
+bare_document implicit root =
+    record { start = record { version = None; directives = []; implicit = implicit }; root = root; end_implicit = true }
+
+abbrev pub stream_alone : Option Encoding → Document → Stream
+stream_alone encoding document = record { encoding = encoding; documents = documents_and no_documents document }
+
+more_text : (a b c : List Piece) → text_of ((a ++ b) ++ c) ≡ text_of a ++ (text_of b ++ text_of c)
+more_text a b c =
+    flat_map-append piece_text (a ++ b) c ∙ ap (λ t. t ++ text_of c) (flat_map-append piece_text a b) ∙ append_assoc (text_of a) (text_of b) (text_of c)
+
+-- the text of the last document
+abbrev root_text : Documents → Text
+root_text no_documents = []
+root_text (documents_and before document) = dumped_text document.root
+
+-- a root, the end of its document and that of the stream
+rest_is : (root : Node)
+    → (let node = render_node root s force root_place first_standing in
+    let end = document_end_piece true node.standing in
+    text_of ((node.pieces ++ end.piece ∷ []) ++ (stream_end_piece end.standing).piece ∷ []) ≡ node_text 0 root ++ line_feed ∷ [])
+rest_is root =
+    let node = render_node root s force root_place first_standing in
+    let end = document_end_piece true node.standing in
+    let last = stream_end_piece end.standing in
+    let written : Writes (node_text 0 root) 0 node = node_writes root None first_standing in
+    let ends : text_of (end.piece ∷ []) ++ text_of (last.piece ∷ []) ≡ line_feed ∷ [] =
+    ap
+    (λ (from : Standing). let made = document_end_piece true from in text_of (made.piece ∷ []) ++ text_of ((stream_end_piece made.standing).piece ∷ []))
+    written.stands in
+    more_text node.pieces (end.piece ∷ []) (last.piece ∷ []) ∙ ap (λ t. t ++ (text_of (end.piece ∷ []) ++ text_of (last.piece ∷ []))) written.is
+    ∙ ap (λ t. node_text 0 root ++ t) ends
+
+layout_is : (encoding : Option Encoding) (implicit : Bool) (root : Node)
+    → text_of (layout s (stream_alone encoding (bare_document implicit root))) ≡ dumped_text root
+layout_is encoding true root = ap (λ t. codes "---\n" ++ t) (rest_is root)
+layout_is encoding false root = ap (λ t. codes "---\n" ++ t) (rest_is root)
+
+-- LF stands for itself
+breaks_same : (text : Text) → with_breaks_written line_feed_break text ≡ text
+breaks_same [] = refl
+breaks_same (c ∷ rest) = by (c == line_feed) refl (breaks_same rest)
+  where
+    by : (b : Bool) → (c == line_feed) ≡ b → with_breaks_written line_feed_break rest ≡ rest
+        → (if b then line_feed ∷ [] else c ∷ []) ++ with_breaks_written line_feed_break rest ≡ c ∷ rest
+    by true e same = ap (λ d. d ∷ with_breaks_written line_feed_break rest) (sym (eqb-true c line_feed e)) ∙ ap (λ t. c ∷ t) same
+    by false e same = ap (λ t. c ∷ t) same
+
+-- the output of a tree's events
+pub tree_output : (encoding : Option Encoding) (implicit : Bool) (root : Node)
+    → output_of typed_settings (stream_events (stream_alone encoding (bare_document implicit root))) ≡ cut largest_usize (encode (Some utf8) (dumped_text root))
+tree_output encoding implicit root =
+    let stream = stream_alone encoding (bare_document implicit root) in
+    ap (λ (t : Option Stream). cut largest_usize (bytes_written s (unwrap_or (option_map (layout s) t) []))) (tree_of-stream_events stream)
+    ∙ ap (λ t. cut largest_usize (encode (Some utf8) t)) (breaks_same (text_of (layout s stream)) ∙ layout_is encoding implicit root)
+
+-- a document that is bare
+bare_is : (document : Document) → document.start.version ≡ None → document.start.directives ≡ [] → document.end_implicit ≡ true
+    → document ≡ bare_document document.start.implicit document.root
+bare_is document version directives end =
+    ap (λ v. let made : Document = record {
+      start = record { version = v; directives = document.start.directives; implicit = document.start.implicit };
+      root = document.root;
+      end_implicit = document.end_implicit;
+    } in made) version
+    ∙ ap (λ d. let made : Document = record {
+      start = record { version = None; directives = d; implicit = document.start.implicit };
+      root = document.root;
+      end_implicit = document.end_implicit;
+    } in made) directives
+    ∙ ap (λ e. let made : Document = record {
+      start = record { version = None; directives = []; implicit = document.start.implicit };
+      root = document.root;
+      end_implicit = e;
+    } in made) end
+
+-- a dump of such a document has a text, of which its output is the encoding
+pub dump_output : (graph : Graph) (events : List Event) → AreDumped (graph ∷ []) events → IsBare graph
+    → (text : Text) × HasDumpedText graph text × (output_of typed_settings events ≡ cut largest_usize (encode (Some utf8) text))
+dump_output graph events dumped bare =
+    let unfolded = document_unfolds graph (All-head IsDocument graph [] dumped.documents) in
+    let document = unfolded.document in
+    let is : document ≡ bare_document document.start.implicit document.root =
+    bare_is document (ap (λ (start : DocumentStart). start.version) unfolded.start ∙ bare.version)
+    (ap (λ (start : DocumentStart). start.directives) unfolded.start ∙ bare.directives) (unfolded.end_implicit ∙ bare.end_implicit) in
+    let parts : stream_events (stream_alone dumped.encoding document) ≡ events =
+    ap (λ (inside : List Event). stream_start dumped.encoding ∷ (inside ++ stream_end ∷ []))
+    (unfolded.is_document ∙ sym (append-nil (document_event_list graph))) ∙ dumped.parts in (
+      dumped_text document.root,
+      record { document = document; is_document = unfolded.is_document; unfolds = unfolded.unfolds; is_text = refl },
+      sym (ap (output_of typed_settings) parts)
+          ∙ ap (λ (d : Document). output_of typed_settings (stream_events (stream_alone dumped.encoding d))) is
+          ∙ tree_output dumped.encoding document.start.implicit document.root,
+    )
+
+-- a graph has no other text
+pub one_text : (graph : Graph) (first second : Text) → HasDumpedText graph first → HasDumpedText graph second → first ≡ second
+one_text graph first second one other =
+    let events : document_events one.document ≡ document_events other.document = one.is_document ∙ sym other.is_document in
+    let streams : stream_alone None one.document ≡ stream_alone None other.document =
+    one_tree (stream_alone None one.document) (stream_alone None other.document)
+    (ap (λ (inside : List Event). stream_start None ∷ (inside ++ stream_end ∷ [])) events) in
+    let text_of_stream = λ (stream : Stream). root_text stream.documents in
+    one.is_text ∙ ap text_of_stream streams ∙ sym other.is_text

@@ -1,0 +1,75 @@
+-- The canonical text of a document that was dumped: one document without directives, each node with its anchor and its tag,
+-- two spaces for each level.
+use Rattle.std.specs.Prelude.{◌≡◌, ℕ, ◌+◌, Bool, true, false, not, Option, None, Some, [], ◌∷◌, ◌++◌, codes}
+use Rattle.yaml_base.specs.Characters.{Text, line_feed, space}
+use Rattle.yaml_base.specs.Event.{Scalar, Collection}
+use Rattle.yaml_base.specs.Grammar.{Node, alias_node, scalar_node, sequence_node, mapping_node, Nodes, no_nodes, nodes_and, Pairs, no_pairs, pairs_and}
+use Rattle.yaml_base.specs.Grammar.{Document, document_events}
+use Rattle.yaml_base.specs.Places.{has_no_nodes, has_no_pairs}
+use Rattle.yaml_base.specs.Tags.{default_directives, spelled, spelling}
+use Rattle.yaml_base.specs.graphs.Meetings.{Graph, document_event_list}
+use Rattle.yaml_base.specs.graphs.Unfolding.{TreeUnfolds}
+use Rattle.yaml_base.specs.values.ValueText.{in_quotes, line_at}
+
+-- `&` and the anchor, where there is one
+abbrev pub anchor_text : Option Text → Text
+anchor_text None = []
+anchor_text (Some name) = codes "&" ++ (name ++ space ∷ [])
+
+-- the tag behind `!!` or `!`, or else verbatim; without a tag the bare one, or nothing
+abbrev pub tag_text : Option Text → (bare : Bool) → Text
+tag_text (Some tag) bare = spelled false (spelling default_directives tag) ++ space ∷ []
+tag_text None true = codes "! "
+tag_text None false = []
+
+-- what stands before a scalar's value; the bare tag stands where it has none and may not be quoted without one
+abbrev pub scalar_properties : Scalar → Text
+scalar_properties content = anchor_text content.anchor ++ tag_text content.tag (not content.quoted_implicit)
+
+-- what stands before a collection's bracket
+abbrev pub collection_properties : Collection → Text
+collection_properties start = anchor_text start.anchor ++ tag_text start.tag false
+
+-- the closing bracket has a line of its own, unless nothing stands between the brackets
+abbrev pub closing_line : ℕ → (empty : Bool) → Text
+closing_line column true = []
+closing_line column false = line_at column
+
+-- a node in a line that begins at a column; items and pairs begin two columns further in, and a comma follows each
+abbrev mutual
+  pub node_text : ℕ → Node → Text
+  node_text column (alias_node name) = codes "*" ++ name
+  node_text column (scalar_node content) = scalar_properties content ++ in_quotes content.value
+  node_text column (sequence_node start items) =
+      collection_properties start
+      ++ (codes "[" ++ (nodes_text (column + 2) items ++ (closing_line column (has_no_nodes items) ++ codes "]")))
+  node_text column (mapping_node start pairs) =
+      collection_properties start
+      ++ (codes "{" ++ (node_pairs_text (column + 2) pairs ++ (closing_line column (has_no_pairs pairs) ++ codes "}")))
+
+  pub nodes_text : ℕ → Nodes → Text
+  nodes_text column no_nodes = []
+  nodes_text column (nodes_and items item) = nodes_text column items ++ (line_at column ++ (node_text column item ++ codes ","))
+
+  pub node_pairs_text : ℕ → Pairs → Text
+  node_pairs_text column no_pairs = []
+  node_pairs_text column (pairs_and pairs key value) =
+      node_pairs_text column pairs
+      ++ (line_at column ++ (codes "? " ++ (node_text column key ++ (line_at column ++ (codes ": " ++ (node_text column value ++ codes ","))))))
+
+-- a document, by its root
+abbrev pub dumped_text : Node → Text
+dumped_text root = codes "---\n" ++ (node_text 0 root ++ line_feed ∷ [])
+
+-- a document without directives, whose end is not written
+pub record IsBare (graph : Graph) : Type 0 where
+  pub version : graph.start.version ≡ None
+  pub directives : graph.start.directives ≡ []
+  pub end_implicit : graph.end_implicit ≡ true
+
+-- the text of a graph is that of the tree that unfolds it and has the events of its dump
+pub record HasDumpedText (graph : Graph) (text : Text) : Type 0 where
+  pub document : Document
+  pub is_document : document_events document ≡ document_event_list graph
+  pub unfolds : TreeUnfolds graph document.root
+  pub is_text : text ≡ dumped_text document.root
