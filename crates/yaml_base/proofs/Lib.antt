@@ -32,6 +32,7 @@ pub mod DocumentsUnfold
 pub mod DumpedLeaves
 pub mod DumpedTexts
 pub mod DumpedOutputs
+pub mod ValueTexts
 pub mod ContentsUnfold
 pub mod Twins
 pub mod SameShapes

@@ -2,6 +2,7 @@
 ghost use Rattle.yaml_base.specs.Encoding.{OneText};
 ghost use Rattle.yaml_base.specs.Grammar.{OneTree};
 ghost use Rattle.yaml_base.specs.Laws.{BreaksAgree, EncodingsAgree, LimitCuts, PlainHoldsNoIndicator, TreeIsFound};
+ghost use Rattle.yaml_base.specs.Laws.{DumpsHaveTexts, OneDumpedText, ValuesAreDumped};
 ghost use Rattle.yaml_base.specs.Layout.{OnePieceEach};
 ghost use Rattle.yaml_base.specs.Pieces.{PiecesStand};
 ghost use Rattle.yaml_base.specs.Ready.{ReadyStays, WholeStreamIsReady};
@@ -46,6 +47,15 @@ pub fn whole_stream_is_ready()
 /// The events of a graph that has nodes, each of whose numbers names one, are those of a document whose tree unfolds it.
 pub fn documents_unfold()
     ensures { DocumentsUnfold }
+{}
+
+/// Under the settings of canonical values the bytes of one dumped document that has no directives, and whose end is implicit, are
+/// the encoding of one text, which is defined by recursion over the tree of its events (`DumpedText`). The canonical text of a typed
+/// value is that of its tree.
+pub fn canonical_dumps_have_texts()
+    ensures output { DumpsHaveTexts }
+    ensures one { OneDumpedText }
+    ensures values { ValuesAreDumped }
 {}
 
 /// The tree of a whole stream's events is found.

@@ -34,10 +34,10 @@ pub use events::yaml_event_t::{
 };
 pub use kinds::CollectionKind;
 pub use laws::{
-    breaks_agree, bytes_have_one_text, documents_unfold, encodings_agree,
-    layout_has_one_piece_each, limit_cuts_the_output, list_has_one_tree, pieces_stand,
-    plain_holds_no_indicator, ready_events_stay_ready, refused_exactly, tree_is_found,
-    whole_stream_is_ready,
+    breaks_agree, bytes_have_one_text, canonical_dumps_have_texts, documents_unfold,
+    encodings_agree, layout_has_one_piece_each, limit_cuts_the_output, list_has_one_tree,
+    pieces_stand, plain_holds_no_indicator, ready_events_stay_ready, refused_exactly,
+    tree_is_found, whole_stream_is_ready,
 };
 pub use nodes::{yaml_node_data_t, yaml_node_pair_t, yaml_node_t};
 pub use places::place_of;
