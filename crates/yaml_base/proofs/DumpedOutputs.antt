@@ -6,7 +6,7 @@ use Rattle.yaml_base.proofs.Common.{document_end_piece, stream_end_piece, first_
 use Rattle.yaml_base.proofs.Common.{bytes_written, output_of, Encoding, Event, stream_start, stream_end, DocumentStart, Document, Documents, Stream, documents_and}
 use Rattle.yaml_base.proofs.Common.{no_documents, document_events, stream_events, Node, Graph, document_event_list, AreDumped, IsDocument, All-head}
 use Rattle.yaml_base.specs.Settings.{largest_usize}
-use Rattle.yaml_base.specs.graphs.DumpedText.{HasDumpedText, IsBare, dumped_text, node_text}
+use Rattle.yaml_base.specs.graphs.DumpedText.{HasDumpedText, HaveText, IsBare, dumped_text, node_text}
 use Rattle.yaml_base.specs.values.TypedValues.{typed_settings}
 use Rattle.yaml_base.proofs.DocumentsUnfold.{document_unfolds}
 use Rattle.yaml_base.proofs.DumpedLeaves.{Writes, force, s}
@@ -71,50 +71,61 @@ tree_output encoding implicit root =
     ∙ ap (λ t. cut largest_usize (encode (Some utf8) t)) (breaks_same (text_of (layout s stream)) ∙ layout_is encoding implicit root)
 
 -- a document that is bare
-bare_is : (document : Document) → document.start.version ≡ None → document.start.directives ≡ [] → document.end_implicit ≡ true
-    → document ≡ bare_document document.start.implicit document.root
-bare_is document version directives end =
+bare_is : (document : Document) → IsBare document.start document.end_implicit → document ≡ bare_document document.start.implicit document.root
+bare_is document bare =
     ap (λ v. let made : Document = record {
       start = record { version = v; directives = document.start.directives; implicit = document.start.implicit };
       root = document.root;
       end_implicit = document.end_implicit;
-    } in made) version
+    } in made) bare.version
     ∙ ap (λ d. let made : Document = record {
       start = record { version = None; directives = d; implicit = document.start.implicit };
       root = document.root;
       end_implicit = document.end_implicit;
-    } in made) directives
+    } in made) bare.directives
     ∙ ap (λ e. let made : Document = record {
       start = record { version = None; directives = []; implicit = document.start.implicit };
       root = document.root;
       end_implicit = e;
-    } in made) end
+    } in made) bare.implicit
+
+-- the output of a bare document is the encoding of its text
+pub text_output : (encoding : Option Encoding) (events : List Event) (text : Text) (has : HaveText events text)
+    → IsBare has.document.start has.document.end_implicit
+    → output_of typed_settings (stream_start encoding ∷ (events ++ stream_end ∷ [])) ≡ cut largest_usize (encode (Some utf8) text)
+text_output encoding events text has bare =
+    let document = has.document in
+    ap (λ (inside : List Event). output_of typed_settings (stream_start encoding ∷ (inside ++ stream_end ∷ []))) (sym has.is_document)
+    ∙ ap (λ (d : Document). output_of typed_settings (stream_events (stream_alone encoding d))) (bare_is document bare)
+    ∙ tree_output encoding document.start.implicit document.root
+    ∙ ap (λ t. cut largest_usize (encode (Some utf8) t)) (sym has.is_text)
 
 -- a dump of such a document has a text, of which its output is the encoding
-pub dump_output : (graph : Graph) (events : List Event) → AreDumped (graph ∷ []) events → IsBare graph
+pub dump_output : (graph : Graph) (events : List Event) → AreDumped (graph ∷ []) events → IsBare graph.start graph.end_implicit
     → (text : Text) × HasDumpedText graph text × (output_of typed_settings events ≡ cut largest_usize (encode (Some utf8) text))
 dump_output graph events dumped bare =
     let unfolded = document_unfolds graph (All-head IsDocument graph [] dumped.documents) in
     let document = unfolded.document in
-    let is : document ≡ bare_document document.start.implicit document.root =
-    bare_is document (ap (λ (start : DocumentStart). start.version) unfolded.start ∙ bare.version)
-    (ap (λ (start : DocumentStart). start.directives) unfolded.start ∙ bare.directives) (unfolded.end_implicit ∙ bare.end_implicit) in
-    let parts : stream_events (stream_alone dumped.encoding document) ≡ events =
-    ap (λ (inside : List Event). stream_start dumped.encoding ∷ (inside ++ stream_end ∷ []))
-    (unfolded.is_document ∙ sym (append-nil (document_event_list graph))) ∙ dumped.parts in (
-      dumped_text document.root,
-      record { document = document; is_document = unfolded.is_document; unfolds = unfolded.unfolds; is_text = refl },
+    let text = dumped_text document.root in
+    let has : HaveText (document_event_list graph) text = record { document = document; is_document = unfolded.is_document; is_text = refl } in
+    let parts : stream_start dumped.encoding ∷ (document_event_list graph ++ stream_end ∷ []) ≡ events =
+    ap (λ (inside : List Event). stream_start dumped.encoding ∷ (inside ++ stream_end ∷ [])) (sym (append-nil (document_event_list graph)))
+    ∙ dumped.parts in (
+      text,
+      record { events = has; unfolds = unfolded.unfolds },
       sym (ap (output_of typed_settings) parts)
-          ∙ ap (λ (d : Document). output_of typed_settings (stream_events (stream_alone dumped.encoding d))) is
-          ∙ tree_output dumped.encoding document.start.implicit document.root,
+          ∙ text_output dumped.encoding (document_event_list graph) text has
+          (record {
+            version = ap (λ (start : DocumentStart). start.version) unfolded.start ∙ bare.version;
+            directives = ap (λ (start : DocumentStart). start.directives) unfolded.start ∙ bare.directives;
+            implicit = unfolded.end_implicit ∙ bare.implicit;
+          }),
     )
 
--- a graph has no other text
-pub one_text : (graph : Graph) (first second : Text) → HasDumpedText graph first → HasDumpedText graph second → first ≡ second
-one_text graph first second one other =
-    let events : document_events one.document ≡ document_events other.document = one.is_document ∙ sym other.is_document in
+-- events have no other text
+pub one_text : (events : List Event) (first second : Text) → HaveText events first → HaveText events second → first ≡ second
+one_text events first second one other =
     let streams : stream_alone None one.document ≡ stream_alone None other.document =
     one_tree (stream_alone None one.document) (stream_alone None other.document)
-    (ap (λ (inside : List Event). stream_start None ∷ (inside ++ stream_end ∷ [])) events) in
-    let text_of_stream = λ (stream : Stream). root_text stream.documents in
-    one.is_text ∙ ap text_of_stream streams ∙ sym other.is_text
+    (ap (λ (inside : List Event). stream_start None ∷ (inside ++ stream_end ∷ [])) (one.is_document ∙ sym other.is_document)) in
+    one.is_text ∙ ap (λ (stream : Stream). root_text stream.documents) streams ∙ sym other.is_text

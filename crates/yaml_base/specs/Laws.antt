@@ -5,13 +5,13 @@ use Rattle.yaml_base.specs.Characters.{Text, is_among}
 use Rattle.yaml_base.specs.Settings.{Encoding, Settings, effective, largest_usize, utf8}
 use Rattle.yaml_base.specs.Encoding.{cut, encode}
 use Rattle.yaml_base.specs.Decode.{decode}
-use Rattle.yaml_base.specs.Event.{Event}
+use Rattle.yaml_base.specs.Event.{Event, stream_end, stream_start}
 use Rattle.yaml_base.specs.Grammar.{Stream, stream_events, tree_of}
 use Rattle.yaml_base.specs.reading.ReadPlain.{is_read_white, begins_white, begins_with_hash, read_plain}
 use Rattle.yaml_base.specs.Pieces.{list_layout}
 use Rattle.yaml_base.specs.Output.{settings_for, text_written, bytes_written, output_of}
 use Rattle.yaml_base.specs.graphs.Dumped.{AreDumped}
-use Rattle.yaml_base.specs.graphs.DumpedText.{HasDumpedText, IsBare, dumped_text}
+use Rattle.yaml_base.specs.graphs.DumpedText.{HasDumpedText, HaveText, IsBare, dumped_text}
 use Rattle.yaml_base.specs.graphs.Meetings.{Graph}
 use Rattle.yaml_base.specs.values.TypedValues.{TypedValue, typed_settings, value_node}
 use Rattle.yaml_base.specs.values.ValueText.{document_text}
@@ -55,19 +55,28 @@ BreaksAgree =
     (given : Settings) (breaks12 : Bool) (encoding : Option Encoding) (events : List Event) → given.portable ≡ true
     → list_layout (effective (record given { breaks12 = breaks12 }) encoding) events ≡ list_layout (effective given encoding) events
 
--- the output under the settings of canonical values is the encoding of a graph's text, up to a limit that no vector reaches
+-- under the settings of canonical values the output of one document that has no directives, and whose end isn't written, is the
+-- encoding of its text, up to a limit that no vector reaches
+abbrev pub CanonicalOutputIsText : Type 0
+CanonicalOutputIsText =
+    (encoding : Option Encoding) (events : List Event) (text : Text) → (has : HaveText events text)
+    → IsBare has.document.start has.document.end_implicit
+    → output_of typed_settings (stream_start encoding ∷ (events ++ stream_end ∷ [])) ≡ cut largest_usize (encode (Some utf8) text)
+
+-- what a document's dump writes so has a text, of which that output is the encoding
 pub record WritesDumpedText (graph : Graph) (events : List Event) : Type 0 where
   pub text : Text
   pub is_dumped : HasDumpedText graph text
   pub output : output_of typed_settings events ≡ cut largest_usize (encode (Some utf8) text)
 
--- so it is where one document was dumped that has no directives, and whose end isn't written
+-- so it is of each graph in a stream of its own
 abbrev pub DumpsHaveTexts : Type 0
-DumpsHaveTexts = (graph : Graph) (events : List Event) → AreDumped (graph ∷ []) events → IsBare graph → WritesDumpedText graph events
+DumpsHaveTexts =
+    (graph : Graph) (events : List Event) → AreDumped (graph ∷ []) events → IsBare graph.start graph.end_implicit → WritesDumpedText graph events
 
--- a graph has no other text
-abbrev pub OneDumpedText : Type 0
-OneDumpedText = (graph : Graph) (first second : Text) → HasDumpedText graph first → HasDumpedText graph second → first ≡ second
+-- events have no other text
+abbrev pub OneTextEach : Type 0
+OneTextEach = (events : List Event) (first second : Text) → HaveText events first → HaveText events second → first ≡ second
 
 -- the canonical text of a value is that of its tree
 abbrev pub ValuesAreDumped : Type 0

@@ -2,7 +2,7 @@
 ghost use Rattle.yaml_base.specs.Encoding.{OneText};
 ghost use Rattle.yaml_base.specs.Grammar.{OneTree};
 ghost use Rattle.yaml_base.specs.Laws.{BreaksAgree, EncodingsAgree, LimitCuts, PlainHoldsNoIndicator, TreeIsFound};
-ghost use Rattle.yaml_base.specs.Laws.{DumpsHaveTexts, OneDumpedText, ValuesAreDumped};
+ghost use Rattle.yaml_base.specs.Laws.{CanonicalOutputIsText, DumpsHaveTexts, OneTextEach, ValuesAreDumped};
 ghost use Rattle.yaml_base.specs.Layout.{OnePieceEach};
 ghost use Rattle.yaml_base.specs.Pieces.{PiecesStand};
 ghost use Rattle.yaml_base.specs.Ready.{ReadyStays, WholeStreamIsReady};
@@ -49,12 +49,13 @@ pub fn documents_unfold()
     ensures { DocumentsUnfold }
 {}
 
-/// Under the settings of canonical values the bytes of one dumped document that has no directives, and whose end is implicit, are
-/// the encoding of one text, which is defined by recursion over the tree of its events (`DumpedText`). The canonical text of a typed
-/// value is that of its tree.
-pub fn canonical_dumps_have_texts()
-    ensures output { DumpsHaveTexts }
-    ensures one { OneDumpedText }
+/// Under the settings of canonical values the bytes of one document that has no directives, and whose end is implicit, are the
+/// encoding of one text, which is defined by recursion over the tree of its events (`DumpedText`). So they are of one dumped document,
+/// whose tree unfolds its graph. The canonical text of a typed value is that of its tree.
+pub fn canonical_documents_have_texts()
+    ensures output { CanonicalOutputIsText }
+    ensures dumped { DumpsHaveTexts }
+    ensures one { OneTextEach }
     ensures values { ValuesAreDumped }
 {}
 

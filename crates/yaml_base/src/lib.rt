@@ -34,7 +34,7 @@ pub use events::yaml_event_t::{
 };
 pub use kinds::CollectionKind;
 pub use laws::{
-    breaks_agree, bytes_have_one_text, canonical_dumps_have_texts, documents_unfold,
+    breaks_agree, bytes_have_one_text, canonical_documents_have_texts, documents_unfold,
     encodings_agree, layout_has_one_piece_each, limit_cuts_the_output, list_has_one_tree,
     pieces_stand, plain_holds_no_indicator, ready_events_stay_ready, refused_exactly,
     tree_is_found, whole_stream_is_ready,

@@ -86,7 +86,7 @@ pub use yaml_emitter::borrowed_text;
 pub use yaml_emitter::breaks_agree;
 pub use yaml_emitter::bytes_have_one_text;
 pub use yaml_emitter::canonical_bytes_read;
-pub use yaml_emitter::canonical_dumps_have_texts;
+pub use yaml_emitter::canonical_documents_have_texts;
 pub use yaml_emitter::canonical_output_reads;
 pub use yaml_emitter::copied_text;
 pub use yaml_emitter::documents_unfold;

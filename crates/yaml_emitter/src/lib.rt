@@ -95,7 +95,7 @@ pub use yaml_base::YAML_UTF16LE_ENCODING;
 pub use yaml_base::YAML_WRITER_ERROR;
 pub use yaml_base::breaks_agree;
 pub use yaml_base::bytes_have_one_text;
-pub use yaml_base::canonical_dumps_have_texts;
+pub use yaml_base::canonical_documents_have_texts;
 pub use yaml_base::documents_unfold;
 pub use yaml_base::encodings_agree;
 pub use yaml_base::hex_digit;

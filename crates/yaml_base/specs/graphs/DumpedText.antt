@@ -1,8 +1,8 @@
 -- The canonical text of a document that was dumped: one document without directives, each node with its anchor and its tag,
 -- two spaces for each level.
-use Rattle.std.specs.Prelude.{◌≡◌, ℕ, ◌+◌, Bool, true, false, not, Option, None, Some, [], ◌∷◌, ◌++◌, codes}
+use Rattle.std.specs.Prelude.{◌≡◌, ℕ, ◌+◌, Bool, true, false, not, Option, None, Some, List, [], ◌∷◌, ◌++◌, codes}
 use Rattle.yaml_base.specs.Characters.{Text, line_feed, space}
-use Rattle.yaml_base.specs.Event.{Scalar, Collection}
+use Rattle.yaml_base.specs.Event.{Scalar, Collection, DocumentStart, Event}
 use Rattle.yaml_base.specs.Grammar.{Node, alias_node, scalar_node, sequence_node, mapping_node, Nodes, no_nodes, nodes_and, Pairs, no_pairs, pairs_and}
 use Rattle.yaml_base.specs.Grammar.{Document, document_events}
 use Rattle.yaml_base.specs.Places.{has_no_nodes, has_no_pairs}
@@ -61,15 +61,19 @@ abbrev mutual
 abbrev pub dumped_text : Node → Text
 dumped_text root = codes "---\n" ++ (node_text 0 root ++ line_feed ∷ [])
 
--- a document without directives, whose end is not written
-pub record IsBare (graph : Graph) : Type 0 where
-  pub version : graph.start.version ≡ None
-  pub directives : graph.start.directives ≡ []
-  pub end_implicit : graph.end_implicit ≡ true
+-- without version and directives, and with an end that isn't written
+pub record IsBare (start : DocumentStart) (end_implicit : Bool) : Type 0 where
+  pub version : start.version ≡ None
+  pub directives : start.directives ≡ []
+  pub implicit : end_implicit ≡ true
 
--- the text of a graph is that of the tree that unfolds it and has the events of its dump
-pub record HasDumpedText (graph : Graph) (text : Text) : Type 0 where
+-- events are those of a document with this text
+pub record HaveText (events : List Event) (text : Text) : Type 0 where
   pub document : Document
-  pub is_document : document_events document ≡ document_event_list graph
-  pub unfolds : TreeUnfolds graph document.root
+  pub is_document : document_events document ≡ events
   pub is_text : text ≡ dumped_text document.root
+
+-- the events of a graph's dump have this text, and their tree unfolds it
+pub record HasDumpedText (graph : Graph) (text : Text) : Type 0 where
+  pub events : HaveText (document_event_list graph) text
+  pub unfolds : TreeUnfolds graph events.document.root
