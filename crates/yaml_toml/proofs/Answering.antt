@@ -1,7 +1,8 @@
 -- What a call of a writer says to the walk.
 use Rattle.yaml_json.proofs.Common.{◌≡◌, ◌⊎◌, ◌∷◌, ◌++◌, [], List, Bool, Option, None, Some, Result, Ok, Err, IfErr, OnOk, inl, inr, refl, ap, subst, sym, ◌∙◌, append-nil, append_assoc}
 use Rattle.yaml_json.proofs.Common.{Event, State, WriterState, GaveEvent, Wrote, WroteEvent, IsBare, start_event, end_event, with_collection, EndsInnermost}
-use Rattle.yaml_json.proofs.WroteLemmas.{adds_then, ended, none_more, starts_with}
+use Rattle.yaml_json.proofs.Common.{AddsEvents, StandsTaken}
+use Rattle.yaml_json.proofs.WroteLemmas.{adds_then, ended, none_more, same_last, starts_with}
 use Rattle.yaml_pen.{proofs.Composing.grows_itself, proofs.Composing.grows_then, proofs.Writing.none_from_result, specs.Wrote.Grows}
 use Rattle.yaml_emitter.proofs.Common.{some_from_result}
 use Rattle.yaml_base.specs.declared.errors.{yaml_error_t.yaml_error_t, yaml_error_t.TheVariants.Memory}
@@ -20,29 +21,47 @@ unchanged : (before : WriterState) → HasErrorSaid before (Some Memory) before
 unchanged before = inl (refl, λ none. none)
 
 -- a call that gives an event
-module _ (before after first : WriterState) (same : first.emitter ≡ before.emitter) (event : Event) where
+module _ (before after first : WriterState) (same : first.emitter ≡ before.emitter) (event stated : Event) (is : event ≡ stated) where
+  adds_stated : AddsEvents first.emitter (event ∷ []) after.emitter → AddsEvents before.emitter (stated ∷ []) after.emitter
+  adds_stated adds = λ given all sent stands. subst (λ (e : Event). StandsTaken given (all ++ e ∷ []) sent after.emitter) is
+      (adds given all sent (subst (λ (s : State). StandsTaken given all sent s) (sym same) stands))
+
   pub answers_event : (answer : Result (Unit {0}) yaml_error_t) → OnOk answer (GaveEvent first event None after)
-      → IfErr answer (λ error. GaveEvent first event (Some error) after ⊎ ((error ≡ Memory) × (after ≡ before))) → Answers before answer after
+      → IfErr answer (λ error. GaveEvent first event (Some error) after ⊎ ((error ≡ Memory) × (after ≡ before))) → Answers before stated answer after
   answers_event (Ok done) gave failed =
-      record { grows = subst (λ (s : State). Grows s.page after.emitter.page) same gave.grows; sound = gave.error_is }
-  answers_event (Err error) gave (inl given) =
-      record { grows = subst (λ (s : State). Grows s.page after.emitter.page) same given.grows; sound = inr given.error_is }
+      record { grows = subst (λ (s : State). Grows s.page after.emitter.page) same gave.grows; sound = gave.error_is; failed = tt }
+  answers_event (Err error) gave (inl given) = record {
+    grows = subst (λ (s : State). Grows s.page after.emitter.page) same given.grows;
+    sound = inr given.error_is;
+    failed = inr (record { adds = adds_stated given.adds; is_error = inr given.error_is });
+  }
   answers_event (Err error) gave (inr memory) =
-      subst (λ (now : WriterState). Answers before (Err error) now) (sym memory.1)
-      (record { grows = grows_itself before.emitter.page; sound = inl (memory.0, λ none. none) })
+      subst (λ (now : WriterState). Answers before stated (Err error) now) (sym memory.1)
+      (record { grows = grows_itself before.emitter.page; sound = inl (memory.0, λ none. none); failed = inl (memory.0, refl) })
 
 -- a call that ends a collection, which is open
 pub answers_end : (before after : WriterState) (answer : Result (Unit {0}) yaml_error_t) (outer : List CollectionKind) (kind : CollectionKind)
-    → before.levels ≡ outer ++ kind ∷ [] → EndsInnermost before answer after → Answers before answer after
+    → before.levels ≡ outer ++ kind ∷ [] → EndsInnermost before answer after → Answers before (end_event kind) answer after
 answers_end before after answer outer kind levels (inl none) = absurd (none_more outer kind (sym levels ∙ none.0))
-answers_end before after (Ok done) outer kind levels (inr end) = record { grows = end.grows; sound = none_from_result after.emitter.error end.answered }
+answers_end before after (Ok done) outer kind levels (inr end) =
+    record { grows = end.grows; sound = none_from_result after.emitter.error end.answered; failed = tt }
 answers_end before after (Err error) outer kind levels (inr end) =
-    record { grows = end.grows; sound = inr (some_from_result after.emitter.error error end.answered) }
+    let same = same_last end.outer outer end.kind kind (sym end.levels ∙ levels) in
+    let error_is = some_from_result after.emitter.error error end.answered in
+    record {
+      grows = end.grows;
+      sound = inr error_is;
+      failed = inr (record {
+        adds = λ given all sent stands.
+            subst (λ (k : CollectionKind). StandsTaken given (all ++ end_event k ∷ []) sent after.emitter) same.1 (end.adds given all sent stands);
+        is_error = inr error_is;
+      });
+    }
 
 -- ---- stops
 
-pub kept_of : (before after : WriterState) (answer : Result (Unit {0}) yaml_error_t) (result : Result (Unit {0}) Stop) → IsStopOf answer result
-    → Answers before answer after → Kept before result after
+pub kept_of : {event : Event} (before after : WriterState) (answer : Result (Unit {0}) yaml_error_t) (result : Result (Unit {0}) Stop) → IsStopOf answer result
+    → Answers before event answer after → Kept before result after
 kept_of before after (Ok done) (Ok same) is answers = record { grows = answers.grows; sound = λ none. answers.sound }
 kept_of before after (Ok done) (Err stopped) is answers = absurd is
 kept_of before after (Err error) (Ok done) is answers = absurd is

@@ -1,5 +1,13 @@
 pub mod Answering
+pub mod Accepting
+pub mod Fitting
+pub mod FloatWords
+pub mod Halting
+pub mod Numbered
+pub mod Several
 pub mod Pending
+pub mod StreamRefusals
+pub mod WhyFailed
 pub mod TomlTrees
 pub mod Moments
 pub mod Integers
@@ -8,3 +16,4 @@ pub mod YamlOf
 pub mod Running
 pub mod Views
 pub mod Refusing
+pub mod RowsDepth

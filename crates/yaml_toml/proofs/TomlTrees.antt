@@ -154,7 +154,7 @@ collection_unsigned true in_flow = refl
 collection_unsigned false in_flow = refl
 
 mutual
-  value_unsigned : (x : toml.Node) (canonical in_flow : Bool) → node_has_flow_indicator canonical (directives_in_force []) (toml_node x canonical in_flow) ≡ false
+  pub value_unsigned : (x : toml.Node) (canonical in_flow : Bool) → node_has_flow_indicator canonical (directives_in_force []) (toml_node x canonical in_flow) ≡ false
   value_unsigned (toml.string text) canonical in_flow = text_unsigned (chars text) canonical
   value_unsigned (toml.integer z) canonical in_flow = word_unsigned int_tag refl canonical (signed_decimal z)
   value_unsigned (toml.decimal word) canonical in_flow =

@@ -46,7 +46,7 @@ module _ (given : Settings) (in_flow : Bool) (keys : toml.Nodes) (bytes : List �
   }
 
 -- the texts of all events of a stream, its end included
-texts_closed : (events : List Event) → list_all has_scalar_texts events ≡ true → list_all has_scalar_texts (events ++ closing) ≡ true
+pub texts_closed : (events : List Event) → list_all has_scalar_texts events ≡ true → list_all has_scalar_texts (events ++ closing) ≡ true
 texts_closed events texts =
     list_all-append has_scalar_texts events closing
     ∙ and_from (list_all has_scalar_texts events) (list_all has_scalar_texts closing) texts refl

@@ -1,4 +1,9 @@
+pub mod Depth
 pub mod Events
+pub mod Failing
+pub mod Fitting
 pub mod Means
+pub mod OpenCounts
 pub mod Places
+pub mod Several
 pub mod Walk

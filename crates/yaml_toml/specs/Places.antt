@@ -6,11 +6,11 @@ use Rattle.yaml_toml.specs.Walk.{DeniesToml}
 use Rattle.yaml_toml.specs.declared.error.TomlError.{TomlError}
 use Rattle.yaml_toml.specs.declared.error.TomlError.TheVariants as errors
 
--- the line and the column of an error of the text are those at which this much of it is left
+-- an error of the text, whose line and column are those at which this much of it is left
 abbrev pub IsAt : (text : List ℕ) → (left : ℕ) → TomlError → Type 0
 IsAt text left (errors.NotToml line column) = AreOf text (length text - left) line column
 IsAt text left (errors.DefinedAgain key first_line first_column line column) = AreOf text (length text - left) line column
-IsAt text left _ = Unit {0}
+IsAt text left _ = ⊥
 
 -- where an error says that the text is no document of TOML, the text is read up to an expression that is refused, and the error's place is
 -- there or behind

@@ -1,9 +1,11 @@
 -- What a writer is given of a document, and what is left of it.
-use Rattle.std.specs.Prelude.{◌≡◌, ◌⊎◌, ℕ, ℤ, ◌<◌, ◌+◌, ◌^◌, Bool, Option, None, Some, Result, Ok, Err, List, [], ◌∷◌, ◌++◌, map, String}
+use Rattle.std.specs.Prelude.{◌≡◌, ◌⊎◌, ℕ, ℤ, ◌<◌, ◌+◌, ◌^◌, Bool, Option, None, Some, Result, Ok, Err, List, [], ◌∷◌, ◌++◌, map, String, length, ◌≤◌, IfErr}
 use Rattle.std.specs.declared.alloc.Global.{Global}
 use Rattle.std.specs.Int.Signed.{mag}
 use Rattle.toml_ordered.specs.Data.{Node, integer, decimal, array, table, tables, Items, no_items, item, Nodes, no_nodes, node, items_view, entries_view, node_view}
-use Rattle.toml_ordered.specs.Grammar.{ordered_document}
+use Rattle.toml_parser.specs.Numbers.{word_value}
+use Rattle.toml_parser.specs.declared.scalar.Scalar.{Scalar}
+use Rattle.toml_ordered.specs.Grammar.{ordered_document, scalar_node}
 use Rattle.toml_ordered.specs.declared.tree.Node.{Node as CodeNode}
 use Rattle.toml_ordered.specs.declared.tree.Origin.TheVariants.{Header}
 use Rattle.yaml_base.specs.Event.{Event, sequence_end, mapping_start, mapping_end}
@@ -12,12 +14,14 @@ use Rattle.yaml_base.specs.declared.errors.yaml_error_t.TheVariants.{Memory}
 use Rattle.yaml_pen.specs.Wrote.{Grows}
 use Rattle.yaml_base.specs.declared.kinds.CollectionKind.{CollectionKind}
 use Rattle.yaml_base.specs.declared.kinds.CollectionKind.TheVariants.{Mapping, Sequence}
-use Rattle.yaml_json.specs.Failing.{HasErrorSaid, StaysSound}
+use Rattle.yaml_base.specs.Prefix.{IsPrefix}
+use Rattle.yaml_json.specs.Failing.{FailedAt, HasErrorSaid, StaysSound}
 use Rattle.yaml_json.specs.JsonEvents.{collection_in}
 use Rattle.yaml_json.specs.Wrote.{IsBare, Wrote}
 use Rattle.yaml_writer.specs.NumberParts.{IsNumber, number_in}
 use Rattle.yaml_writer.specs.Writing.{AddsEvents, WriterState}
 use Rattle.yaml_toml.specs.Events.{toml_events, items_events, keys_events, json_word}
+use Rattle.yaml_toml.specs.OpenCounts.{Opens}
 use Rattle.yaml_toml.specs.declared.walk.Rest.{Rest}
 use Rattle.yaml_toml.specs.declared.walk.Rest.TheVariants as rest
 use Rattle.yaml_toml.specs.declared.walk.Stop.{Stop}
@@ -52,6 +56,10 @@ abbrev mutual
   pub KeysHaveNumbers : Nodes → Type 0
   KeysHaveNumbers no_nodes = Unit {0}
   KeysHaveNumbers (node key x keys) = HasNumbers x × KeysHaveNumbers keys
+
+-- what TOML reads of a word: a decimal is a number of JSON
+abbrev pub ScalarsHaveNumbers : Type 0
+ScalarsHaveNumbers = (word : List ℕ) (s : Scalar) → word_value word ≡ Some s → HasNumbers (scalar_node word s)
 
 -- ---- what is left of a collection that was begun
 
@@ -130,14 +138,22 @@ pub record Moved (was : WriterState) (events : List Event) (before after : List 
   pub bare : IsBare now
 
 -- some of the events that were due were given, and the others are pending; where all decimals that are pending are numbers, all that
--- were due are; less than this is left
-pub record Steps (in_flow : Bool) (was : WriterState) (due : List Event) (before : List CollectionKind) (numbers : Type 0) (size : ℕ) (now : WriterState)
+-- were due are; less than this is left; no more collections than the most are open meanwhile
+pub record Steps (most : ℕ) (in_flow : Bool) (was : WriterState) (due : List Event) (before : List CollectionKind) (numbers : Type 0) (size : ℕ) (now : WriterState)
     (opened : List Rest) : Type 0 where
   pub given : List Event
   pub moved : Moved was given before (kinds_of opened) now
   pub parts : given ++ pending was.canonical in_flow opened ≡ due
   pub numbers_in : PendingHaveNumbers opened → numbers
   pub less : pending_size opened < size
+  pub few : length before ≤ most → Opens most (length before) given (length (kinds_of opened))
+
+-- the first of the events that were due were given, and no more
+pub record StepsStop (most : ℕ) (was : WriterState) (due : List Event) (before : List CollectionKind) (now : WriterState) : Type 0 where
+  pub given : List Event
+  pub begins : IsPrefix given due
+  pub adds : AddsEvents was.emitter given now.emitter
+  pub few : length before ≤ most → (behind : ℕ) × Opens most (length before) given behind
 
 -- ---- what a call returned
 
@@ -146,10 +162,11 @@ abbrev pub SoundAfter : WriterState → Result (Unit {0}) yaml_error_t → Write
 SoundAfter was (Ok done) now = now.emitter.error ≡ None
 SoundAfter was (Err error) now = HasErrorSaid was (Some error) now
 
--- and its text and its output only grow
-pub record Answers (was : WriterState) (result : Result (Unit {0}) yaml_error_t) (now : WriterState) : Type 0 where
+-- and its text and its output only grow; after an error this event was given, or nothing changed
+pub record Answers (was : WriterState) (event : Event) (result : Result (Unit {0}) yaml_error_t) (now : WriterState) : Type 0 where
   pub grows : Grows was.emitter.page now.emitter.page
   pub sound : SoundAfter was result now
+  pub failed : IfErr result (λ error. FailedAt was event error now)
 
 abbrev pub stop_error : Stop → Option yaml_error_t
 stop_error stop.TooDeep = None

@@ -25,7 +25,8 @@ pub enum TomlError {
     /// Arrays and tables nest deeper than was allowed.
     #[error("arrays and tables nest too deep")]
     TooDeep,
-    /// The bytes pass the limit (`WriteError`), or an allocation failed (`Memory`).
+    /// The bytes pass the limit (`WriteError`), or an allocation failed (`Memory`). Where more than 1,000,000 levels were allowed, the
+    /// emitter refuses what lies deeper than that (`TooDeep`).
     #[error("{0}")]
     Emitter(yaml_error_t),
 }

@@ -20,7 +20,7 @@ pub(crate) fn write_bool<A: Allocator + Copy>(
 ) -> Result<(), yaml_error_t>
     requires { IsBare writer.old }
     ensures written { OnOk result (WroteEvent writer.old (scalar (bool_content writer.old.canonical flag)) writer.new) }
-    ensures kept { Answers writer.old result writer.new }
+    ensures kept { Answers writer.old (scalar (bool_content writer.old.canonical flag)) result writer.new }
 {
     writer.bool(flag)
 }
@@ -31,7 +31,7 @@ pub(crate) fn write_text<A: Allocator + Copy>(
 ) -> Result<(), yaml_error_t>
     requires { IsBare writer.old }
     ensures written { OnOk result (WroteEvent writer.old (scalar (text_content (chars text.now))) writer.new) }
-    ensures kept { Answers writer.old result writer.new }
+    ensures kept { Answers writer.old (scalar (text_content (chars text.now))) result writer.new }
 {
     writer.text(text)
 }
@@ -42,7 +42,7 @@ pub(crate) fn write_integer<A: Allocator + Copy>(
 ) -> Result<(), yaml_error_t>
     requires { IsBare writer.old }
     ensures written { OnOk result (WroteEvent writer.old (scalar (integer_content writer.old.canonical integer)) writer.new) }
-    ensures kept { Answers writer.old result writer.new }
+    ensures kept { Answers writer.old (scalar (integer_content writer.old.canonical integer)) result writer.new }
 {
     writer.int(integer)
 }
@@ -53,7 +53,7 @@ pub(crate) fn write_special<A: Allocator + Copy>(
 ) -> Result<(), yaml_error_t>
     requires { IsBare writer.old }
     ensures written { OnOk result (WroteEvent writer.old (scalar (special_content writer.old.canonical value)) writer.new) }
-    ensures kept { Answers writer.old result writer.new }
+    ensures kept { Answers writer.old (scalar (special_content writer.old.canonical value)) result writer.new }
 {
     writer.special_float(value)
 }
@@ -75,7 +75,7 @@ fn write_number<A: Allocator + Copy>(
 ) -> Result<(), yaml_error_t>
     requires { IsBare writer.old }
     ensures written { OnOk result (WroteEvent writer.old (scalar (number_content writer.old.canonical number.now)) writer.new) }
-    ensures kept { Answers writer.old result writer.new }
+    ensures kept { Answers writer.old (scalar (number_content writer.old.canonical number.now)) result writer.new }
 {
     writer.number(number)
 }
@@ -88,7 +88,7 @@ pub(crate) fn write_decimal<A: Allocator + Copy>(
     requires { IsBare writer.old }
     ensures written { OnOk result (WroteEvent writer.old (scalar (decimal_content writer.old.canonical word.now)) writer.new) }
     ensures number { OnOk result (IsJsonWord word.now) }
-    ensures kept { Answers writer.old result writer.new }
+    ensures kept { Answers writer.old (scalar (decimal_content writer.old.canonical word.now)) result writer.new }
 {
     match number_of(past_plus(word)) {
         Some(number) => write_number(writer, &number),
@@ -112,7 +112,7 @@ pub(crate) fn write_datetime<A: Allocator + Copy>(
 ) -> Result<(), yaml_error_t>
     requires { IsBare writer.old }
     ensures written { OnOk result (WroteEvent writer.old (scalar (date_content writer.old.canonical datetime.now (moment_of datetime.now))) writer.new) }
-    ensures kept { Answers writer.old result writer.new }
+    ensures kept { Answers writer.old (scalar (date_content writer.old.canonical datetime.now (moment_of datetime.now))) result writer.new }
 {
     match timestamp_of(datetime) {
         Some(timestamp) => writer.timestamp(&timestamp),

@@ -6,6 +6,8 @@ ghost use Rattle.yaml_emitter.specs.Given.{seen_settings};
 ghost use Rattle.yaml_json.specs.Places.{AreOf};
 ghost use Rattle.yaml_json.specs.Wrote.{IsBare};
 ghost use Rattle.yaml_pen.specs.Wrote.{Grows};
+ghost use Rattle.yaml_toml.specs.Depth.{ExplainsDepth, NestsWithin};
+ghost use Rattle.yaml_toml.specs.Failing.{FailsBy, StopsInDocument};
 ghost use Rattle.yaml_toml.specs.Means.{IsYamlOf};
 ghost use Rattle.yaml_toml.specs.Places.{HasPlace, IsAt};
 ghost use Rattle.yaml_toml.specs.Walk.{DeniesToml, IsSound, WroteToml, fault_error, stop_error, writers_error};
@@ -70,7 +72,8 @@ fn error_of_stop(stop: Stop) -> TomlError
 /// # Errors
 ///
 /// `NotToml` and `DefinedAgain` where the text is no document of TOML 1.1: nothing is written then. `TooDeep` where arrays and tables
-/// nest too deep. `Emitter` with the error of the writer's emitter, which has it now, or with `Memory` where an allocation fails.
+/// nest too deep. `Emitter` with the error of the writer's emitter, which has it now, or with `Memory` where an allocation fails. After an
+/// error the writer was given the first of the document's events, and nothing that was written is lost.
 pub fn write_toml<A: Allocator + Copy>(
     alloc: Global,
     writer: &mut Writer<A>,
@@ -81,7 +84,10 @@ pub fn write_toml<A: Allocator + Copy>(
     ensures grows { Grows writer.old.emitter.page writer.new.emitter.page }
     ensures sound { IsSound writer.old result writer.new }
     ensures written { OnOk result (WroteToml settings.flow text.now writer.old writer.new) }
+    ensures nests { OnOk result (NestsWithin settings.depth text.now) }
     ensures refused { IfErr result (λ error. DeniesToml error → ordered_document text.now ≡ None) }
+    ensures deep { IfErr result (ExplainsDepth settings.depth text.now) }
+    ensures stopped { IfErr result (λ error. StopsInDocument settings.depth settings.flow text.now writer.old error writer.new) }
     ensures place { IfErr result (HasPlace text.now) }
 {
     let root = match read_document(alloc, text) {
@@ -98,15 +104,19 @@ pub fn write_toml<A: Allocator + Copy>(
 ///
 /// # Errors
 ///
-/// `NotToml`, `DefinedAgain` and `TooDeep` as by `write_toml`. `Emitter` with `WriteError` where the bytes pass the limit, and with
-/// `Memory` where an allocation fails.
+/// `NotToml`, `DefinedAgain` and `TooDeep` as by `write_toml`. `Emitter` with `WriteError` where the bytes pass the limit, with `Memory`
+/// where an allocation fails, and with `TooDeep` where arrays and tables nest more than 1,000,000 deep and `settings.depth` allows it.
 pub fn yaml_from_toml(
     alloc: Global,
     text: &str,
     settings: TomlSettings,
 ) -> Result<Vec<u8>, TomlError>
     ensures stream { IfOk result (λ bytes. IsYamlOf (seen_settings settings.writer) settings.flow text.now bytes.items) }
+    ensures nests { OnOk result (NestsWithin settings.depth text.now) }
     ensures refused { IfErr result (λ error. DeniesToml error → ordered_document text.now ≡ None) }
+    ensures deep { IfErr result (ExplainsDepth settings.depth text.now) }
+    ensures failed { IfErr result (λ error. IfSome (writers_error error)
+        (FailsBy (seen_settings settings.writer) settings.flow settings.depth text.now)) }
     ensures place { IfErr result (HasPlace text.now) }
 {
     let Ok(mut writer) = Writer::new(alloc, settings.writer) else {

@@ -1,6 +1,9 @@
 //! A walk over a document, depth first, from its tree to a writer. What is left of each array and table that is open stands in a
 //! list.
-ghost use Rattle.std.specs.Prelude.{◌≡◌, ◌+◌, List, [], ◌∷◌, ◌++◌, IfErr, MatchOption, OnOk};
+ghost use Rattle.std.specs.Prelude.{◌≡◌, suc, ◌+◌, List, [], ◌∷◌, ◌++◌, IfErr, MatchOption, OnErr, OnOk};
+ghost use Rattle.yaml_toml.specs.Depth.{items_nesting, keys_nesting, nesting};
+ghost use Rattle.yaml_toml.specs.Failing.{GaveFirst};
+ghost use Rattle.yaml_toml.specs.Fitting.{FitsAfter, NestsAfter, NodeFits, RestFits, rest_nesting};
 ghost use Rattle.toml_ordered.specs.Data.{entries_view, items_view, node_view, table};
 ghost use Rattle.toml_ordered.specs.declared.tree.Origin.TheVariants.{Header};
 ghost use Rattle.yaml_base.specs.declared.kinds.CollectionKind.TheVariants.{Mapping, Sequence};
@@ -10,7 +13,7 @@ ghost use Rattle.yaml_json.specs.JsonEvents.{style_of};
 ghost use Rattle.yaml_json.specs.Wrote.{IsBare, Wrote, start_event};
 ghost use Rattle.yaml_toml.specs.Events.{infinite, toml_events};
 ghost use Rattle.yaml_toml.specs.Walk.{Answers, HasInnermost, HasNumbers, IsMemory, IsStopOf, ItemsHaveNumbers, Kept, KeysHaveNumbers, Moved};
-ghost use Rattle.yaml_toml.specs.Walk.{PendingHaveNumbers, RestHasNumbers, Steps, items_left, keys_left, items_size, keys_size, kind_of, kinds_of, node_size, pending, pending_size, rest_events, rest_size};
+ghost use Rattle.yaml_toml.specs.Walk.{PendingHaveNumbers, RestHasNumbers, Steps, StepsStop, items_left, keys_left, items_size, keys_size, kind_of, kinds_of, node_size, pending, pending_size, rest_events, rest_size};
 ghost use Rattle.yaml_writer.specs.Writing.{end_event};
 
 use crate::scalars::{
@@ -110,7 +113,7 @@ fn begin<A: Allocator + Copy>(
 ) -> Result<(), yaml_error_t>
     requires { IsBare writer.old }
     ensures begun { OnOk result (Moved writer.old (start_event in_flow kind ∷ []) [] (kind ∷ []) writer.new) }
-    ensures kept { Answers writer.old result writer.new }
+    ensures kept { Answers writer.old (start_event in_flow kind) result writer.new }
 {
     match kind {
         CollectionKind::Sequence => writer.begin_sequence(sequence_style(in_flow)),
@@ -124,7 +127,7 @@ fn end_innermost<A: Allocator + Copy>(writer: &mut Writer<A>) -> Result<(), yaml
     ensures ended { (outer : List CollectionKind) (kind : CollectionKind) → writer.old.levels ≡ outer ++ kind ∷ []
         → OnOk result (Moved writer.old (end_event kind ∷ []) (kind ∷ []) [] writer.new) }
     ensures kept { (outer : List CollectionKind) (kind : CollectionKind) → writer.old.levels ≡ outer ++ kind ∷ []
-        → Answers writer.old result writer.new }
+        → Answers writer.old (end_event kind) result writer.new }
 {
     writer.end()
 }
@@ -137,11 +140,16 @@ fn enter<'a, A: Allocator + Copy>(
     settings: &TomlSettings,
 ) -> Result<(), Stop>
     requires { IsBare writer.old }
-    ensures entered { OnOk result (Steps settings.now.flow writer.old
+    ensures entered { OnOk result (Steps settings.now.depth settings.now.flow writer.old
         (start_event settings.now.flow (kind_of rest.entry) ∷ (rest_events writer.old.canonical settings.now.flow rest.entry
         ++ pending writer.old.canonical settings.now.flow opened.old.items))
         (kinds_of opened.old.items) (RestHasNumbers rest.entry × PendingHaveNumbers opened.old.items)
         (1 + (rest_size rest.entry + pending_size opened.old.items)) writer.new opened.new.items) }
+    ensures nests { FitsAfter settings.now.depth (NodeFits settings.now.depth (suc (rest_nesting rest.entry)) opened.old.items) result opened.new.items }
+    ensures stopped { OnErr result (StepsStop settings.now.depth writer.old
+        (start_event settings.now.flow (kind_of rest.entry) ∷ (rest_events writer.old.canonical settings.now.flow rest.entry
+        ++ pending writer.old.canonical settings.now.flow opened.old.items))
+        (kinds_of opened.old.items) writer.new) }
     ensures kept { Kept writer.old result writer.new }
 {
     if opened.len() >= settings.depth {
@@ -162,10 +170,14 @@ fn write_node<'a, A: Allocator + Copy>(
     settings: &TomlSettings,
 ) -> Result<(), Stop>
     requires { IsBare writer.old }
-    ensures written { OnOk result (Steps settings.now.flow writer.old
+    ensures written { OnOk result (Steps settings.now.depth settings.now.flow writer.old
         (toml_events writer.old.canonical settings.now.flow (node_view node.now) ++ pending writer.old.canonical settings.now.flow opened.old.items)
         (kinds_of opened.old.items) (HasNumbers (node_view node.now) × PendingHaveNumbers opened.old.items)
         (node_size (node_view node.now) + pending_size opened.old.items) writer.new opened.new.items) }
+    ensures nests { FitsAfter settings.now.depth (NodeFits settings.now.depth (nesting (node_view node.now)) opened.old.items) result opened.new.items }
+    ensures stopped { OnErr result (StepsStop settings.now.depth writer.old
+        (toml_events writer.old.canonical settings.now.flow (node_view node.now) ++ pending writer.old.canonical settings.now.flow opened.old.items)
+        (kinds_of opened.old.items) writer.new) }
     ensures kept { Kept writer.old result writer.new }
 {
     match node {
@@ -205,10 +217,14 @@ fn write_rest<'a, A: Allocator + Copy>(
 ) -> Result<(), Stop>
     requires bare { IsBare writer.old }
     requires innermost { HasInnermost writer.old (kinds_of opened.old.items) (kind_of rest) }
-    ensures written { OnOk result (Steps settings.now.flow writer.old
+    ensures written { OnOk result (Steps settings.now.depth settings.now.flow writer.old
         (rest_events writer.old.canonical settings.now.flow rest.entry ++ pending writer.old.canonical settings.now.flow opened.old.items)
         (kinds_of opened.old.items ++ kind_of rest.entry ∷ []) (RestHasNumbers rest.entry × PendingHaveNumbers opened.old.items)
         (rest_size rest.entry + pending_size opened.old.items) writer.new opened.new.items) }
+    ensures nests { FitsAfter settings.now.depth (RestFits settings.now.depth (rest_nesting rest.entry) opened.old.items) result opened.new.items }
+    ensures stopped { OnErr result (StepsStop settings.now.depth writer.old
+        (rest_events writer.old.canonical settings.now.flow rest.entry ++ pending writer.old.canonical settings.now.flow opened.old.items)
+        (kinds_of opened.old.items ++ kind_of rest.entry ∷ []) writer.new) }
     ensures kept { Kept writer.old result writer.new }
 {
     match rest {
@@ -241,10 +257,15 @@ fn write_item<'a, A: Allocator + Copy>(
 ) -> Result<(), Stop>
     requires bare { IsBare writer.old }
     requires innermost { HasInnermost writer.old (kinds_of opened.old.items) Sequence }
-    ensures written { OnOk result (Steps settings.now.flow writer.old
+    ensures written { OnOk result (Steps settings.now.depth settings.now.flow writer.old
         (items_left writer.old.canonical settings.now.flow items.now ++ pending writer.old.canonical settings.now.flow opened.old.items)
         (kinds_of opened.old.items ++ Sequence ∷ []) (ItemsHaveNumbers (items_view items.now) × PendingHaveNumbers opened.old.items)
         (1 + items_size (items_view items.now) + pending_size opened.old.items) writer.new opened.new.items) }
+    ensures nests { FitsAfter settings.now.depth (RestFits settings.now.depth (items_nesting (items_view items.now)) opened.old.items) result
+        opened.new.items }
+    ensures stopped { OnErr result (StepsStop settings.now.depth writer.old
+        (items_left writer.old.canonical settings.now.flow items.now ++ pending writer.old.canonical settings.now.flow opened.old.items)
+        (kinds_of opened.old.items ++ Sequence ∷ []) writer.new) }
     ensures kept { Kept writer.old result writer.new }
 {
     match items.split_first() {
@@ -268,10 +289,15 @@ fn write_member<'a, A: Allocator + Copy>(
 ) -> Result<(), Stop>
     requires bare { IsBare writer.old }
     requires innermost { HasInnermost writer.old (kinds_of opened.old.items) Mapping }
-    ensures written { OnOk result (Steps settings.now.flow writer.old
+    ensures written { OnOk result (Steps settings.now.depth settings.now.flow writer.old
         (keys_left writer.old.canonical settings.now.flow keys.now ++ pending writer.old.canonical settings.now.flow opened.old.items)
         (kinds_of opened.old.items ++ Mapping ∷ []) (KeysHaveNumbers (entries_view keys.now) × PendingHaveNumbers opened.old.items)
         (1 + keys_size (entries_view keys.now) + pending_size opened.old.items) writer.new opened.new.items) }
+    ensures nests { FitsAfter settings.now.depth (RestFits settings.now.depth (keys_nesting (entries_view keys.now)) opened.old.items) result
+        opened.new.items }
+    ensures stopped { OnErr result (StepsStop settings.now.depth writer.old
+        (keys_left writer.old.canonical settings.now.flow keys.now ++ pending writer.old.canonical settings.now.flow opened.old.items)
+        (kinds_of opened.old.items ++ Mapping ∷ []) writer.new) }
     ensures kept { Kept writer.old result writer.new }
 {
     match keys.split_first() {
@@ -299,6 +325,9 @@ pub(crate) fn write_root<A: Allocator + Copy>(
     ensures written { OnOk result (Wrote writer.old (toml_events writer.old.canonical settings.now.flow (table Header (entries_view root.now.items)))
         writer.new) }
     ensures numbers { OnOk result (KeysHaveNumbers (entries_view root.now.items)) }
+    ensures nests { NestsAfter settings.now.depth (entries_view root.now.items) result }
+    ensures stopped { OnErr result (GaveFirst settings.now.depth
+        (toml_events writer.old.canonical settings.now.flow (table Header (entries_view root.now.items))) writer.old writer.new) }
     ensures kept { Kept writer.old result writer.new }
 {
     let mut opened: Vec<Rest<'_>> = Vec::new(alloc);

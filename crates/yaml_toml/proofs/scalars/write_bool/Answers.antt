@@ -15,5 +15,6 @@ returns g c =
     record {
       written = on_ok c.bool.result (wrote_event writer after given (scalar (bool_content writer.canonical c.args.flag))
           (word_is writer bool_tag (bool_text c.args.flag) c.requires)) gave;
-      kept = answers_event writer after writer refl given c.bool.result gave failed;
+      kept = answers_event writer after writer refl given (scalar (bool_content writer.canonical c.args.flag))
+          (word_is writer bool_tag (bool_text c.args.flag) c.requires) c.bool.result gave failed;
     }

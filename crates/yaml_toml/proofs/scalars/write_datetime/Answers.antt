@@ -23,7 +23,11 @@ returns-in-Some-clause-written g c =
 pub returns-in-Some-clause-kept : goal.returns-in-Some-clause-kept
 returns-in-Some-clause-kept g c =
     let writer = c.args.writer.now in
-    answers_event writer c.timestamp.new.self writer refl (timestamp_event writer (seen_timestamp c.in-Some.timestamp)) c.timestamp.result
+    let d = c.args.datetime.now in
+    let moment = seen_timestamp c.in-Some.timestamp in
+    answers_event writer c.timestamp.new.self writer refl (timestamp_event writer moment) (scalar (date_content writer.canonical d (moment_of d)))
+    (timestamp_is writer moment c.requires ∙ ap (λ (found : Option Moment). scalar (date_content writer.canonical d found)) c.in-Some.ensures)
+    c.timestamp.result
     (gives_ok c.args.writer.now c.timestamp.new.self _ c.timestamp.result c.timestamp.ensures)
     (gives_err c.args.writer.now c.timestamp.new.self _ c.timestamp.result c.timestamp.ensures)
 
@@ -37,3 +41,16 @@ returns-in-Ok-clause-written g c =
     (text_is writer text c.requires ∙ ap (λ (bytes : List ℕ). scalar (text_content (chars bytes))) spelled
     ∙ ap (λ (found : Option Moment). scalar (date_content writer.canonical d found)) c.in-None.ensures))
     (gives_ok c.args.writer.now c.text.new.self _ c.text.result c.text.ensures)
+
+pub returns-in-Ok-clause-kept : goal.returns-in-Ok-clause-kept
+returns-in-Ok-clause-kept g c =
+    let writer = c.args.writer.now in
+    let d = c.args.datetime.now in
+    let text = chars c.as_str.result.now in
+    let spelled : c.as_str.result.now ≡ datetime_text d = grind (arith, common_steps) in
+    answers_event writer c.text.new.self writer refl (text_event writer text) (scalar (date_content writer.canonical d (moment_of d)))
+    (text_is writer text c.requires ∙ ap (λ (bytes : List ℕ). scalar (text_content (chars bytes))) spelled
+    ∙ ap (λ (found : Option Moment). scalar (date_content writer.canonical d found)) c.in-None.ensures)
+    c.text.result
+    (gives_ok c.args.writer.now c.text.new.self _ c.text.result c.text.ensures)
+    (gives_err c.args.writer.now c.text.new.self _ c.text.result c.text.ensures)

@@ -23,5 +23,6 @@ returns g c =
     record {
       written = on_ok c.int.result (wrote_event writer after given (scalar (integer_content writer.canonical z))
           (word_is writer int_tag (signed_decimal z) c.requires)) gave;
-      kept = answers_event writer after writer refl given c.int.result gave failed;
+      kept = answers_event writer after writer refl given (scalar (integer_content writer.canonical z))
+          (word_is writer int_tag (signed_decimal z) c.requires) c.int.result gave failed;
     }

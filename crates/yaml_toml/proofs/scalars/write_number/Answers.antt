@@ -15,5 +15,6 @@ returns g c =
     record {
       written = on_ok c.number.result (wrote_event writer after given (scalar (number_content writer.canonical number))
           (word_is writer (number_tag number) (yaml_number number) c.requires)) gave;
-      kept = answers_event writer after writer refl given c.number.result gave failed;
+      kept = answers_event writer after writer refl given (scalar (number_content writer.canonical number))
+          (word_is writer (number_tag number) (yaml_number number) c.requires) c.number.result gave failed;
     }

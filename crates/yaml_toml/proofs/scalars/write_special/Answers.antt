@@ -16,5 +16,6 @@ returns g c =
     record {
       written = on_ok c.special_float.result (wrote_event writer after given (scalar (special_content writer.canonical c.args.value))
           (word_is writer float_tag (special_text c.args.value) c.requires)) gave;
-      kept = answers_event writer after writer refl given c.special_float.result gave failed;
+      kept = answers_event writer after writer refl given (scalar (special_content writer.canonical c.args.value))
+          (word_is writer float_tag (special_text c.args.value) c.requires) c.special_float.result gave failed;
     }

@@ -14,5 +14,5 @@ returns g c =
     let failed = gives_err writer after given c.text.result c.text.ensures in
     record {
       written = on_ok c.text.result (wrote_event writer after given (scalar (text_content text)) (text_is writer text c.requires)) gave;
-      kept = answers_event writer after writer refl given c.text.result gave failed;
+      kept = answers_event writer after writer refl given (scalar (text_content text)) (text_is writer text c.requires) c.text.result gave failed;
     }

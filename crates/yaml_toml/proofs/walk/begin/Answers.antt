@@ -17,7 +17,7 @@ returns-in-Sequence g c =
     let failed = begins_err Sequence writer after given c.begin_sequence.result c.begin_sequence.ensures in
     rw c.in-Sequence.is (record {
       begun = on_ok c.begin_sequence.result (moved_start writer after given (start_event c.args.in_flow Sequence) Sequence is) began;
-      kept = answers_event writer after (with_collection writer Sequence) refl given c.begin_sequence.result began failed;
+      kept = answers_event writer after (with_collection writer Sequence) refl given (start_event c.args.in_flow Sequence) is c.begin_sequence.result began failed;
     })
 
 pub returns-in-Mapping : goal.returns-in-Mapping
@@ -31,5 +31,5 @@ returns-in-Mapping g c =
     let failed = begins_err Mapping writer after given c.begin_mapping.result c.begin_mapping.ensures in
     rw c.in-Mapping.is (record {
       begun = on_ok c.begin_mapping.result (moved_start writer after given (start_event c.args.in_flow Mapping) Mapping is) began;
-      kept = answers_event writer after (with_collection writer Mapping) refl given c.begin_mapping.result began failed;
+      kept = answers_event writer after (with_collection writer Mapping) refl given (start_event c.args.in_flow Mapping) is c.begin_mapping.result began failed;
     })

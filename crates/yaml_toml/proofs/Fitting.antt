@@ -1,0 +1,160 @@
+-- What is left fits what is allowed, as collections are begun and go on.
+use Rattle.yaml_json.proofs.Common.{◌≡◌, ℕ, suc, ◌+◌, ◌-◌, ◌<◌, ◌≤◌, arith, ◌∷◌, ◌++◌, [], List, Option, None, Some, Result, Ok, Err, IfSome, refl, ap, subst, sym, ◌∙◌, length, length-append, cases_lt, inl, inr}
+use Rattle.std.specs.Prelude.{◌↔◌, max}
+use Rattle.yaml_base.specs.declared.errors.{yaml_error_t.yaml_error_t, yaml_error_t.TheVariants.Memory}
+use Rattle.toml_ordered.specs.Data.{Node, Nodes}
+use Rattle.toml_ordered.specs.Grammar.{ordered_document}
+use Rattle.toml_ordered.specs.Places.{place_left}
+use Rattle.toml_ordered.specs.declared.fault.Fault.{Fault}
+use Rattle.toml_ordered.specs.declared.fault.Fault.TheVariants as fault
+use Rattle.yaml_toml.specs.Depth.{ExplainsDepth, document_nesting, nesting}
+use Rattle.yaml_toml.specs.Fitting.{FitsAfter, NestsAfter, NodeFits, PendingFits, RestFits, rest_nesting}
+use Rattle.yaml_toml.specs.Places.{IsAt}
+use Rattle.yaml_toml.specs.Walk.{IsMemory, IsStopOf, fault_error, stop_error, writers_error}
+use Rattle.yaml_toml.specs.declared.error.TomlError.{TomlError}
+use Rattle.yaml_toml.specs.declared.error.TomlError.TheVariants as errors
+use Rattle.yaml_toml.specs.declared.walk.Rest.{Rest}
+use Rattle.yaml_toml.specs.declared.walk.Stop.{Stop}
+use Rattle.yaml_toml.specs.declared.walk.Stop.TheVariants as stop
+
+-- ---- one more that is open
+
+fits-push : (depth around : ℕ) (opened : List Rest) (r : Rest)
+    → PendingFits depth around (opened ++ r ∷ []) ↔ ((rest_nesting r ≤ depth - suc (around + length opened)) × PendingFits depth around opened)
+fits-push depth around [] r = (λ fits. (omega (arith, fits.0), tt), λ fits. (omega (arith, fits.0), tt))
+fits-push depth around (outer ∷ inner) r =
+    let both = fits-push depth (suc around) inner r in
+    (λ fits. let more = both.0 fits.1 in (omega (arith, more.0), (fits.0, more.1)), λ fits. (fits.1.0, both.1 (omega (arith, fits.0), fits.1.1)))
+
+module _ (depth : ℕ) (opened after : List Rest) (r : Rest) (is : after ≡ opened ++ r ∷ []) where
+  pub fits_pushed : PendingFits depth 0 after ↔ RestFits depth (rest_nesting r) opened
+  fits_pushed =
+      let both = fits-push depth 0 opened r in
+      subst (λ (all : List Rest). PendingFits depth 0 all ↔ RestFits depth (rest_nesting r) opened) (sym is)
+      (λ fits. let more = both.0 fits in (omega (arith, more.0), more.1), λ fits. both.1 (omega (arith, fits.0), fits.1))
+
+  -- a collection was begun
+  pub fits_enter : length opened < depth → PendingFits depth 0 after ↔ NodeFits depth (suc (rest_nesting r)) opened
+  fits_enter room = (
+    λ fits. let more = fits_pushed.0 fits in (omega (arith, room, more.0), more.1),
+    λ fits. fits_pushed.1 (omega (arith, room, fits.0), fits.1),
+  )
+
+  -- a value that is next, of a collection of which this is left behind it
+  pub fits_next : (nested whole : ℕ) → max nested (rest_nesting r) ≡ whole → NodeFits depth nested after ↔ RestFits depth whole opened
+  fits_next nested whole same =
+      let long = ap length is ∙ length-append opened (r ∷ []) in (
+        λ fits. let more = fits_pushed.0 fits.1 in (omega (arith, long, fits.0, more.0, same), more.1),
+        λ fits. (omega (arith, long, fits.0, same), fits_pushed.1 (omega (arith, fits.0, same), fits.1)),
+      )
+
+-- ---- nothing more is open
+
+pub fits_leaf : (depth : ℕ) (opened : List Rest) → PendingFits depth 0 opened ↔ NodeFits depth 0 opened
+fits_leaf depth opened = (λ fits. (omega arith, fits), λ fits. fits.1)
+
+pub fits_end : (depth : ℕ) (opened : List Rest) → PendingFits depth 0 opened ↔ RestFits depth 0 opened
+fits_end depth opened = (λ fits. (omega arith, fits), λ fits. fits.1)
+
+-- ---- what a call returned
+
+pub fits_same : (depth : ℕ) (due same : Type 0) (result : Result (Unit {0}) Stop) (opened : List Rest) → due ↔ same → FitsAfter depth due result opened
+    → FitsAfter depth same result opened
+fits_same depth due same (Ok done) opened both after = (λ fits. both.0 (after.0 fits), λ fits. after.1 (both.1 fits))
+fits_same depth due same (Err stop.TooDeep) opened both after = λ fits. after (both.1 fits)
+fits_same depth due same (Err (stop.Failed error)) opened both after = tt
+
+pub fits_of : (depth : ℕ) (due : Type 0) (answer : Result (Unit {0}) yaml_error_t) (result : Result (Unit {0}) Stop) (opened : List Rest)
+    → IsStopOf answer result → PendingFits depth 0 opened ↔ due → FitsAfter depth due result opened
+fits_of depth due (Ok done) (Ok same) opened is both = both
+fits_of depth due (Ok done) (Err stopped) opened is both = absurd is
+fits_of depth due (Err error) (Ok done) opened is both = absurd is
+fits_of depth due (Err error) (Err stopped) opened is both = subst (λ (s : Stop). FitsAfter depth due (Err s) opened) (sym is) tt
+
+pub fits_failed : (depth : ℕ) (due : Type 0) (answer : Result (Unit {0}) yaml_error_t) (stopped : Stop) (opened : List Rest)
+    → IsStopOf answer (Err stopped) → FitsAfter depth due (Err stopped) opened
+fits_failed depth due (Ok done) stopped opened is = absurd is
+fits_failed depth due (Err error) stopped opened is = subst (λ (s : Stop). FitsAfter depth due (Err s) opened) (sym is) tt
+
+pub fits_memory : (depth : ℕ) (due : Type 0) (stopped : Stop) (opened : List Rest) → IsMemory stopped → FitsAfter depth due (Err stopped) opened
+fits_memory depth due stopped opened is = subst (λ (s : Stop). FitsAfter depth due (Err s) opened) (sym is) tt
+
+-- a value, by what it stands for
+pub fits_seen : (depth : ℕ) (x y : Node) (result : Result (Unit {0}) Stop) (opened after : List Rest) → x ≡ y
+    → FitsAfter depth (NodeFits depth (nesting y) opened) result after → FitsAfter depth (NodeFits depth (nesting x) opened) result after
+fits_seen depth x y result opened after is =
+    subst (λ (z : Node). FitsAfter depth (NodeFits depth (nesting z) opened) result after) (sym is)
+
+-- a scalar was written
+pub fits_scalar : (depth : ℕ) (x y : Node) (answer : Result (Unit {0}) yaml_error_t) (result : Result (Unit {0}) Stop) (opened : List Rest) → x ≡ y
+    → nesting y ≡ 0 → IsStopOf answer result → FitsAfter depth (NodeFits depth (nesting x) opened) result opened
+fits_scalar depth x y answer result opened is none stops =
+    fits_of depth (NodeFits depth (nesting x) opened) answer result opened stops
+    (subst (λ n. PendingFits depth 0 opened ↔ NodeFits depth n opened) (sym (ap nesting is ∙ none)) (fits_leaf depth opened))
+
+-- ---- a whole document
+
+-- what is left fits exactly where the document does
+abbrev pub DocumentFits : (depth : ℕ) → Nodes → List Rest → Type 0
+DocumentFits depth root opened = PendingFits depth 0 opened ↔ (document_nesting root ≤ depth)
+
+module _ (depth : ℕ) (root : Nodes) where
+  too_deep : (document_nesting root ≤ depth → ⊥) → depth < document_nesting root
+  too_deep not = elim (cases_lt depth (document_nesting root)) [
+    | inl deeper ↦ deeper
+    | inr fits ↦ absurd (not fits)
+  ]
+
+  root_fits : NodeFits depth (document_nesting root) [] ↔ (document_nesting root ≤ depth)
+  root_fits = (λ fits. omega (arith, fits.0), λ fits. (omega (arith, fits), tt))
+
+  pub nests_first : (opened : List Rest) → FitsAfter depth (NodeFits depth (document_nesting root) []) (Ok tt) opened → DocumentFits depth root opened
+  nests_first opened after = (λ fits. root_fits.0 (after.0 fits), λ fits. after.1 (root_fits.1 fits))
+
+  nests_err : (due : Type 0) (stopped : Stop) (opened : List Rest) → (document_nesting root ≤ depth → due) → FitsAfter depth due (Err stopped) opened
+      → NestsAfter depth root (Err stopped)
+  nests_err due stop.TooDeep opened follows after = too_deep (λ fits. after (follows fits))
+  nests_err due (stop.Failed error) opened follows after = tt
+
+  pub nests_never : (stopped : Stop) (opened : List Rest) → FitsAfter depth (NodeFits depth (document_nesting root) []) (Err stopped) opened
+      → NestsAfter depth root (Err stopped)
+  nests_never stopped opened = nests_err (NodeFits depth (document_nesting root) []) stopped opened root_fits.1
+
+  -- a step of the walk, of which this was left
+  module _ (left after : List Rest) (r : Rest) (so : DocumentFits depth root (left ++ r ∷ [])) where
+    pub nests_on : FitsAfter depth (RestFits depth (rest_nesting r) left) (Ok tt) after → DocumentFits depth root after
+    nests_on step =
+        let both = fits_pushed depth left (left ++ r ∷ []) r refl in
+        (λ fits. so.0 (both.1 (step.0 fits)), λ fits. step.1 (both.0 (so.1 fits)))
+
+    pub nests_stopped : (stopped : Stop) → FitsAfter depth (RestFits depth (rest_nesting r) left) (Err stopped) after
+        → NestsAfter depth root (Err stopped)
+    nests_stopped stopped =
+        let both = fits_pushed depth left (left ++ r ∷ []) r refl in
+        nests_err (RestFits depth (rest_nesting r) left) stopped after (λ fits. both.0 (so.1 fits))
+
+-- ---- what an error says
+
+abbrev IsNothing : Option yaml_error_t → Type 0
+IsNothing None = Unit {0}
+IsNothing (Some error) = ⊥
+
+module _ (depth : ℕ) (text : List ℕ) where
+  -- a document was read, and the walk over it stopped
+  pub stop_explained : (root : Nodes) (stopped : Stop) (error : TomlError) → ordered_document text ≡ Some root → writers_error error ≡ stop_error stopped
+      → NestsAfter depth root (Err stopped) → ExplainsDepth depth text error
+  stop_explained root stop.TooDeep errors.TooDeep read is nests = record { root = root; read = read; deeper = nests }
+  stop_explained root (stop.Failed failure) errors.TooDeep read is nests = absurd (subst IsNothing is tt)
+  stop_explained root stopped (errors.NotToml line column) read is nests = tt
+  stop_explained root stopped (errors.DefinedAgain key first_line first_column line column) read is nests = tt
+  stop_explained root stopped (errors.Emitter failure) read is nests = tt
+
+  -- none was read
+  pub fault_explained : (found : Fault) (error : TomlError) → writers_error error ≡ fault_error found
+      → IfSome (place_left found) (λ left. IsAt text left error) → ExplainsDepth depth text error
+  fault_explained fault.Memory errors.TooDeep is at = absurd (subst IsNothing is tt)
+  fault_explained (fault.NotToml left) errors.TooDeep is at = absurd at
+  fault_explained (fault.DefinedAgain key first second) errors.TooDeep is at = absurd at
+  fault_explained found (errors.NotToml line column) is at = tt
+  fault_explained found (errors.DefinedAgain key first_line first_column line column) is at = tt
+  fault_explained found (errors.Emitter failure) is at = tt

@@ -1,0 +1,53 @@
+-- What a writer was given of a document that isn't written, and why no stream was.
+use Rattle.std.specs.Prelude.{◌≡◌, ◌⊎◌, ℕ, ◌<◌, ◌≤◌, Bool, None, Some, IfSome, List, ◌++◌}
+use Rattle.toml_ordered.specs.Data.{Nodes, table}
+use Rattle.toml_ordered.specs.Grammar.{ordered_document}
+use Rattle.toml_ordered.specs.declared.tree.Origin.TheVariants.{Header}
+use Rattle.yaml_base.specs.Event.{Event}
+use Rattle.yaml_base.specs.Prefix.{IsPrefix}
+use Rattle.yaml_base.specs.Refusal.{most_open, open_count}
+use Rattle.yaml_base.specs.Settings.{Settings}
+use Rattle.yaml_base.specs.declared.errors.yaml_error_t.{yaml_error_t}
+use Rattle.yaml_base.specs.declared.errors.yaml_error_t.TheVariants.{TooDeep, WriteError, Memory}
+use Rattle.yaml_emitter.specs.Uncut.{IsUncut}
+use Rattle.yaml_writer.specs.Unfinished.{PassesLimit}
+use Rattle.yaml_writer.specs.Writing.{AddsEvents, WriterState, closing, opening}
+use Rattle.yaml_toml.specs.Depth.{NestsDeeper, document_nesting}
+use Rattle.yaml_toml.specs.Events.{toml_events}
+use Rattle.yaml_toml.specs.Walk.{writers_error}
+use Rattle.yaml_toml.specs.declared.error.TomlError.{TomlError}
+
+-- the first of these events were given, and never more than `depth` collections were open
+pub record GaveFirst (depth : ℕ) (due : List Event) (was now : WriterState) : Type 0 where
+  pub given : List Event
+  pub begins : IsPrefix given due
+  pub few : (prefix rest : List Event) → prefix ++ rest ≡ given → open_count prefix ≤ depth
+  pub adds : AddsEvents was.emitter given now.emitter
+
+-- the writer was given the first events of the document that the text is; where the text is none, nothing changed, and an error that is a
+-- writer's tells of an allocation
+pub record StopsInDocument (depth : ℕ) (in_flow : Bool) (text : List ℕ) (was : WriterState) (error : TomlError) (now : WriterState) : Type 0 where
+  pub none : ordered_document text ≡ None → (now ≡ was) × IfSome (writers_error error) (λ code. code ≡ Memory)
+  pub first : (root : Nodes) → ordered_document text ≡ Some root → GaveFirst depth (toml_events was.canonical in_flow (table Header root)) was now
+
+-- ---- why no stream was written
+
+abbrev pub stream_events_of : Settings → (in_flow : Bool) → Nodes → List Event
+stream_events_of given in_flow root = opening ++ toml_events given.canonical in_flow (table Header root) ++ closing
+
+-- the text is a document, and the bytes of its stream pass the limit
+pub record OverLimit (given : Settings) (in_flow : Bool) (text : List ℕ) : Type 0 where
+  pub root : Nodes
+  pub read : ordered_document text ≡ Some root
+  pub passes : PassesLimit given (stream_events_of given in_flow root)
+  pub cut : document_nesting root ≤ most_open → IsUncut given (stream_events_of given in_flow root) → ⊥
+
+-- more levels are allowed than may be open, and the text is a document that has more
+abbrev pub NestsTooDeep : (depth : ℕ) → (text : List ℕ) → Type 0
+NestsTooDeep depth text = (most_open < depth) × NestsDeeper most_open text
+
+-- an allocation failed, the limit gave out, or too many collections were open
+abbrev pub FailsBy : Settings → (in_flow : Bool) → (depth : ℕ) → (text : List ℕ) → yaml_error_t → Type 0
+FailsBy given in_flow depth text error =
+    (error ≡ Memory)
+    ⊎ (((error ≡ WriteError) × OverLimit given in_flow text) ⊎ ((error ≡ TooDeep) × NestsTooDeep depth text))
