@@ -3,7 +3,8 @@ use Rattle.yaml_json.proofs.Sending.{sending_begins, sending_same, all_given}
 use Rattle.yaml_json.proofs.SendingSteps.{stops_here, stops_next_text}
 use Rattle.yaml_json.proofs.Common.{ℕ, IfSome, Option, None, Some, length, Bool, true, List, [], ◌++◌, refl, ◌≡◌, append-nil, append_assoc, ap}
 use Rattle.yaml_json.proofs.Common.{subst, sym, ◌∙◌, Appends, Token, tokens, HasScanned, NamesOnce, Advances, StopsWithin, IsBare, WroteText, WriterState, Ok}
-use Rattle.yaml_json.proofs.Common.{Err, Result, OnOk, IfErr}
+use Rattle.yaml_json.proofs.Common.{Err, Result}
+use Rattle.yaml_json.specs.SendingCalls.{LastStep}
 use Rattle.std.specs.Io.KnownBytes.{Keeps, Consumes, IsAtEnd}
 use Rattle.std.specs.Prelude.{IsUtf8}
 use Rattle.yaml_json.proofs.Cutting.{whole_text}
@@ -70,6 +71,12 @@ consumed_some : (bytes left : List ℕ) (later : Option (List ℕ)) → Consumes
     → (more : List ℕ) × (later ≡ Some more) × (left ≡ bytes ++ more)
 consumed_some bytes left None consumes = absurd consumes
 consumed_some bytes left (Some more) consumes = (more, refl, consumes)
+
+-- none came
+pub none_came : (ahead later : Option (List ℕ)) → Keeps ahead later → Consumes ahead later []
+none_came None later keeps = tt
+none_came (Some bytes) None keeps = absurd keeps
+none_came (Some bytes) (Some same) keeps = sym keeps
 
 module _ (depth : ℕ) (in_flow unique : Bool) (was : WriterState) (start : Option (List ℕ)) where
   -- more came
@@ -180,14 +187,12 @@ module _ (depth : ℕ) (in_flow unique : Bool) (was : WriterState) (start : Opti
 -- as the last text's result says
 pub last_sends : (settings : JsonSettings) (was : WriterState) (start : Option (List ℕ)) (held : List ℕ) (place : Place) (ahead : Option (List ℕ))
     (now : WriterState) (holds : Option (List ℕ)) → IsAtEnd ahead → (scan : Cut) → HasScanned held scan → scan.scanned ≡ length held
-    → (result : Result (Unit {0}) StreamError) (after : WriterState) (first : Option (List ℕ))
-    → OnOk result (settings.unique_names ≡ true → NamesOnce [] (tokens held)) → OnOk result (IsUtf8 held)
-    → OnOk result (WroteText settings.depth settings.flow held now after)
-    → IfErr result (λ error. (front : List ℕ) → IsPlaceAfter front place
-    → StopsInPart settings.depth settings.unique_names settings.flow front held now error after)
+    → (result : Result (Unit {0}) StreamError) (after : WriterState) (first : Option (List ℕ)) → LastStep settings held place now result after
     → IfSome first (λ text. Comes settings.depth settings.flow settings.unique_names text was start held place ahead now holds)
     → IfSome first (λ text. Sends settings text was start result after holds)
-last_sends settings was start held place ahead now holds ended scan scanned all (Ok done) after first named readable one stops =
-    last_given settings.depth settings.flow settings.unique_names was start held place ahead now holds ended scan scanned all after first named readable one
-last_sends settings was start held place ahead now holds ended scan scanned all (Err error) after first named readable one stops =
-    last_stopped settings.depth settings.flow settings.unique_names was start held place ahead now holds ended scan scanned all first error after stops
+last_sends settings was start held place ahead now holds ended scan scanned all (Ok done) after first gave come =
+    last_given settings.depth settings.flow settings.unique_names was start held place ahead now holds ended scan scanned all after first
+    gave.given.names gave.utf8 gave.given.written come
+last_sends settings was start held place ahead now holds ended scan scanned all (Err error) after first stops come =
+    last_stopped settings.depth settings.flow settings.unique_names was start held place ahead now holds ended scan scanned all first error
+    after stops.stopped come

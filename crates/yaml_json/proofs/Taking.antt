@@ -1,6 +1,6 @@
 -- What the writer was given while the tokens of a value are walked over.
 use Rattle.yaml_json.proofs.Common.{ℕ, ◌-◌, ◌<◌, length, take, Bool, List, [], ◌++◌, ◌∷◌, refl, ◌≡◌, append-nil, append_assoc, inl, inr, ap, subst, sym, ◌∙◌}
-use Rattle.yaml_json.proofs.Common.{arith, value, Token, Event, BeginsValue, FailedWith, FailedAt, token_events, tokens_events, Stands, IsScalar, opener}
+use Rattle.yaml_json.proofs.Common.{arith, Token, Event, BeginsValue, FailedWith, FailedAt, token_events, tokens_events, Stands, IsScalar, opener}
 use Rattle.yaml_json.proofs.Common.{closer, BeganValue, BeginFailed, BeganFirstValue, FirstFailed, IsBare, WroteEvent, start_event, IfSome, failure_of}
 use Rattle.yaml_json.proofs.Common.{WriterState, end_event, StandsTaken, AddsEvents, GaveEvent, with_collection, None, Ok, EndsInnermost}
 use Rattle.std.proofs.Math.Seq.{take-append_seam}

@@ -22,3 +22,4 @@ pub mod Nests
 pub mod Sent
 pub mod Offsets
 pub mod WalkSteps
+pub mod SendingCalls

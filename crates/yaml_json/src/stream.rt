@@ -1,17 +1,14 @@
 //! JSON texts that follow one another, read part by part and sent on as they are complete.
-ghost use Rattle.std.specs.Prelude.{◌≡◌, ◌<◌, ◌≤◌, ◌-◌, ℕ, Bool, List, [], IfErr, IfOk, IfSome, IsUtf8, None, Ok, OnOk, drop, false, length, true};
+ghost use Rattle.std.specs.Prelude.{◌≡◌, ◌<◌, ◌≤◌, ◌-◌, ℕ, Bool, List, [], IfSome, OnOk, drop, length};
 ghost use Rattle.std.specs.Io.KnownBytes.{IsAtEnd};
-ghost use Rattle.json.specs.Lex.{tokens};
 ghost use Rattle.json.specs.Token.{Token};
 ghost use Rattle.yaml_pen.specs.Wrote.{Grows};
-ghost use Rattle.yaml_json.specs.Failing.{Grew, Kept};
-ghost use Rattle.yaml_json.specs.Names.{NamesOnce};
 ghost use Rattle.yaml_json.specs.Nests.{AwaitsText};
 ghost use Rattle.yaml_json.specs.Cuts.{HasScanned};
 ghost use Rattle.yaml_json.specs.Places.{HasPlaceWithin, IsPlaceAfter, MovesPlace};
-ghost use Rattle.yaml_json.specs.Sent.{Advances, BeginsNext, FailsNext, HasCome, IsByReader, IsIncoming, IsScanned, IsSoundSending, LeavesLast};
-ghost use Rattle.yaml_json.specs.Sent.{Sends, StopsInPart, StopsPartAt, StopsWithin, emitter_error};
-ghost use Rattle.yaml_json.specs.Wrote.{IsBare, WroteText};
+ghost use Rattle.yaml_json.specs.SendingCalls.{BytesStep, CompleteStep, DropStep, LastStep, NextStep, ReadStep};
+ghost use Rattle.yaml_json.specs.Sent.{IsIncoming, IsScanned, IsSoundSending, Sends, StopsPartAt, emitter_error};
+ghost use Rattle.yaml_json.specs.Wrote.{IsBare};
 
 use crate::cuts::{Cut, find_end, new_cut};
 use crate::error::{JsonError, StreamError};
@@ -72,11 +69,7 @@ fn read_part<A: Allocator + Copy, R: Read>(
 ) -> Result<bool, StreamError>
     requires room { 0 < length part.old }
     requires scanned { IsScanned incoming.old }
-    ensures come { OnOk result (HasCome incoming.old (R.remaining reader.old) incoming.new (R.remaining reader.new)) }
-    ensures incoming { OnOk result (IsIncoming incoming.new) }
-    ensures end { IfOk result (λ more. more ≡ false → IsAtEnd (R.remaining reader.new) × (incoming.new ≡ incoming.old)) }
-    ensures place { OnOk result (incoming.new.reading.place ≡ incoming.old.reading.place) }
-    ensures refused { IfErr result IsByReader }
+    ensures { ReadStep incoming.old (R.remaining reader.old) result incoming.new (R.remaining reader.new) }
 {
     match reader.read(part) {
         Ok(0) => Ok(false),
@@ -99,11 +92,7 @@ fn read_more<A: Allocator + Copy, R: Read>(
     incoming: &mut Incoming<A>,
 ) -> Result<bool, StreamError>
     requires { IsScanned incoming.old }
-    ensures come { OnOk result (HasCome incoming.old (R.remaining reader.old) incoming.new (R.remaining reader.new)) }
-    ensures incoming { OnOk result (IsIncoming incoming.new) }
-    ensures end { IfOk result (λ more. more ≡ false → IsAtEnd (R.remaining reader.new) × (incoming.new ≡ incoming.old)) }
-    ensures place { OnOk result (incoming.new.reading.place ≡ incoming.old.reading.place) }
-    ensures refused { IfErr result IsByReader }
+    ensures { ReadStep incoming.old (R.remaining reader.old) result incoming.new (R.remaining reader.new) }
 {
     let mut part = Vec::new(alloc);
     match part.resize(PART_SIZE, 0) {
@@ -122,13 +111,7 @@ fn write_bytes<'a, A: Allocator + Copy>(
     requires bare { IsBare writer.old }
     requires ready { AwaitsText settings.now.unique_names room.old }
     ensures ready { OnOk result (AwaitsText settings.now.unique_names room.new) }
-    ensures names { OnOk result (settings.now.unique_names ≡ true → NamesOnce [] (tokens bytes.now)) }
-    ensures utf8 { OnOk result (IsUtf8 bytes.now) }
-    ensures written { OnOk result (WroteText settings.now.depth settings.now.flow bytes.now writer.old writer.new) }
-    ensures kept { OnOk result (Kept writer.old (Ok tt) writer.new) }
-    ensures stopped { IfErr result (λ error. StopsInPart settings.now.depth settings.now.unique_names settings.now.flow [] bytes.now writer.old
-        error writer.new) }
-    ensures grew { IfErr result (λ error. Grew writer.old (emitter_error error) writer.new) }
+    ensures gives { BytesStep settings.now bytes.now writer.old result writer.new }
 {
     let text = match str::from_utf8(bytes) {
         Ok(text) => text,
@@ -192,10 +175,7 @@ fn begin_next<A: Allocator + Copy, W: Write>(
     sink: &mut W,
 ) -> Result<(), StreamError>
     requires { IsBare writer.old }
-    ensures begun { OnOk result (BeginsNext writer.old (W.contents sink.old) writer.new (W.contents sink.new)) }
-    ensures failed { IfErr result (λ error. FailsNext writer.old (W.contents sink.old) error writer.new (W.contents sink.new)) }
-    ensures grew { OnOk result (Grew writer.old None writer.new) }
-    ensures grew_to { IfErr result (λ error. Grew writer.old (emitter_error error) writer.new) }
+    ensures { NextStep writer.old (W.contents sink.old) result writer.new (W.contents sink.new) }
 {
     if let Err(error) = writer.next_document() {
         return Err(StreamError::Refused(JsonError::Emitter(error)));
@@ -232,15 +212,9 @@ fn write_texts<A: Allocator + Copy, W: Write>(
 ) -> Result<usize, StreamError>
     requires bare { IsBare writer.old }
     requires scanned { HasScanned held.now reading.old.cut }
-    ensures bare { OnOk result (IsBare writer.new) }
-    ensures left { IfOk result (λ count. LeavesLast count held.now reading.new.cut) }
     ensures place { reading.new.place ≡ reading.old.place }
-    ensures gives { IfOk result (λ count. Advances settings.now.depth settings.now.flow settings.now.unique_names held.now writer.old
-        (W.contents sink.old) (drop (length held.now - count) held.now) writer.new (W.contents sink.new)) }
-    ensures grew { OnOk result (Grew writer.old None writer.new) }
-    ensures stops { IfErr result (λ error. StopsWithin settings.now.depth settings.now.flow settings.now.unique_names held.now
-        reading.old.place writer.old (W.contents sink.old) error writer.new (W.contents sink.new)) }
-    ensures grew_to { IfErr result (λ error. Grew writer.old (emitter_error error) writer.new) }
+    ensures gives { CompleteStep settings.now held.now reading.old.place writer.old (W.contents sink.old) result reading.new.cut writer.new
+        (W.contents sink.new) }
 {
     let arena = Bump::new(reading.alloc);
     let mut room = Room::new(reading.alloc, &arena, settings.unique_names);
@@ -269,15 +243,7 @@ fn write_complete<A: Allocator + Copy, W: Write>(
 ) -> Result<(), StreamError>
     requires bare { IsBare writer.old }
     requires incoming { IsIncoming incoming.old }
-    ensures bare { OnOk result (IsBare writer.new) }
-    ensures scanned { OnOk result (IsScanned incoming.new) }
-    ensures place { OnOk result (MovesPlace incoming.old.held.items incoming.new.held.items incoming.old.reading.place incoming.new.reading.place) }
-    ensures gives { OnOk result (Advances settings.now.depth settings.now.flow settings.now.unique_names incoming.old.held.items writer.old
-        (W.contents sink.old) incoming.new.held.items writer.new (W.contents sink.new)) }
-    ensures grew { OnOk result (Grew writer.old None writer.new) }
-    ensures stops { IfErr result (λ error. StopsWithin settings.now.depth settings.now.flow settings.now.unique_names incoming.old.held.items
-        incoming.old.reading.place writer.old (W.contents sink.old) error writer.new (W.contents sink.new)) }
-    ensures grew_to { IfErr result (λ error. Grew writer.old (emitter_error error) writer.new) }
+    ensures { DropStep settings.now incoming.old writer.old (W.contents sink.old) result incoming.new writer.new (W.contents sink.new) }
 {
     let held = incoming.held.as_slice();
     match write_texts(writer, sink, held, &mut incoming.reading, settings) {
@@ -296,14 +262,7 @@ fn write_last<A: Allocator + Copy>(
     settings: &JsonSettings,
 ) -> Result<(), StreamError>
     requires { IsBare writer.old }
-    ensures bare { OnOk result (IsBare writer.new) }
-    ensures names { OnOk result (settings.now.unique_names ≡ true → NamesOnce [] (tokens incoming.old.held.items)) }
-    ensures utf8 { OnOk result (IsUtf8 incoming.old.held.items) }
-    ensures written { OnOk result (WroteText settings.now.depth settings.now.flow incoming.old.held.items writer.old writer.new) }
-    ensures kept { OnOk result (Kept writer.old (Ok tt) writer.new) }
-    ensures stopped { IfErr result (λ error. (front : List ℕ) → IsPlaceAfter front incoming.old.reading.place
-        → StopsInPart settings.now.depth settings.now.unique_names settings.now.flow front incoming.old.held.items writer.old error writer.new) }
-    ensures grew { IfErr result (λ error. Grew writer.old (emitter_error error) writer.new) }
+    ensures { LastStep settings.now incoming.old.held.items incoming.old.reading.place writer.old result writer.new }
 {
     let text = incoming.held.as_slice();
     let reading = &mut incoming.reading;

@@ -10,10 +10,8 @@ returns-in-Err g c =
     let before = c.args.writer.now in
     let passed = c.in-Err.ensures.passed (bare_awaits_none before c.requires) in
     record {
-      begun = tt;
       failed = (begun_not before c.next_document.new.self c.in-Err.error passed, refl);
-      grew = tt;
-      grew_to = grew_failing before c.next_document.new.self between c.in-Err.error passed;
+      grew = grew_failing before c.next_document.new.self between c.in-Err.error passed;
     }
 
 pub returns-in-Ok : goal.returns-in-Ok
@@ -24,9 +22,7 @@ returns-in-Ok g c =
     record {
       begun = begun_taken before middle c.send.new.self (output_left middle.emitter.page) (g.W.Write.contents c.args.sink.now)
           (g.W.Write.contents c.send.new.sink) c.requires passed c.in-Ok.ensures.takes c.in-Ok.ensures.kept c.in-Ok.ensures.sent;
-      failed = tt;
       grew = grew_then before middle c.send.new.self None (grew_passed before middle between passed) (grew_sent middle c.send.new.self c.in-Ok.ensures.kept);
-      grew_to = tt;
     }
 
 pub returns-in-Err-send : goal.returns-in-Err-send
@@ -36,9 +32,7 @@ returns-in-Err-send g c =
     let passed = c.in_default.ensures.passed (bare_awaits_none before c.requires) in
     let left = c.in-Err-send.ensures.left in
     record {
-      begun = tt;
       failed = subst (λ (w : WriterState). BeginsUnsent before (g.W.Write.contents c.args.sink.now) w (g.W.Write.contents c.send.new.sink)) (sym left)
           (begun_unsent before middle (g.W.Write.contents c.args.sink.now) (g.W.Write.contents c.send.new.sink) passed c.in-Err-send.ensures.first);
-      grew = tt;
-      grew_to = subst (λ (w : WriterState). Grew before None w) (sym left) (grew_passed before middle between passed);
+      grew = subst (λ (w : WriterState). Grew before None w) (sym left) (grew_passed before middle between passed);
     }

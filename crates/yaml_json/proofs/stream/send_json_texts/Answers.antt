@@ -1,6 +1,6 @@
 use Rattle.yaml_json.proofs.Common.{None, refl, subst, sym, IsScanned}
-use Rattle.yaml_json.{proofs.WroteLemmas.on_ok, specs.declared.stream.Incoming.Incoming}
-use Rattle.yaml_json.proofs.Growing.{grew_itself, grew_then, reader_sound, ends_grown, ends_sound}
+use Rattle.yaml_json.specs.declared.stream.Incoming.{Incoming}
+use Rattle.yaml_json.proofs.Growing.{grew_itself, grew_reading, grew_then, ends_bare, ends_grown, ends_sound}
 use Rattle.yaml_json.proofs.Coming.{comes_first, more_came, complete_given, comes_kept, complete_stopped, comes_stopped, last_sends}
 use Rattle.yaml_json.proofs.SendingSteps.{nowhere_by_reader, stops_by_reader}
 use Rattle.yaml_json.specs.Sent.{emitter_error}
@@ -24,14 +24,15 @@ returns-in-Err g c =
     let s = a.settings in
     let start = g.W.Write.contents a.sink.now in
     let first = g.R.Read.remaining a.reader.now in
+    let grew = grew_reading a.writer.now l.writer c.in-Err.error c.in-Err.ensures l.invariant.3 in
     record {
-      grows = l.invariant.3.grows;
-      sound = reader_sound a.writer.now l.writer c.in-Err.error c.in-Err.ensures.refused l.invariant.3;
+      grows = grew.grows;
+      sound = grew.sound;
       ended = tt;
       sends = comes_stopped s.depth s.flow s.unique_names a.writer.now start first l.incoming.held.items l.incoming.reading.place
           (g.R.Read.remaining l.reader) l.writer (g.W.Write.contents l.sink) c.in-Err.error
-          (λ next left. stops_by_reader s.depth s.unique_names next left c.in-Err.error c.in-Err.ensures.refused)
-          (nowhere_by_reader s.depth c.in-Err.error c.in-Err.ensures.refused) l.invariant.2;
+          (λ next left. stops_by_reader s.depth s.unique_names next left c.in-Err.error c.in-Err.ensures)
+          (nowhere_by_reader s.depth c.in-Err.error c.in-Err.ensures) l.invariant.2;
     }
 
 pub parts-preserved : goal.parts-preserved
@@ -46,7 +47,7 @@ parts-preserved g c =
     l.writer (g.W.Write.contents l.sink) c.in-Ok-true.ensures.come c.in-Ok-true.ensures.place l.invariant.2 in
     let done = complete_given s.depth s.flow s.unique_names a.writer.now start first c.read_more.new.incoming.held.items
     c.write_complete.new.incoming.held.items c.read_more.new.incoming.reading.place c.write_complete.new.incoming.reading.place later l.writer
-    c.write_complete.new.writer (g.W.Write.contents l.sink) (g.W.Write.contents c.write_complete.new.sink) c.in_default.ensures.gives
+    c.write_complete.new.writer (g.W.Write.contents l.sink) (g.W.Write.contents c.write_complete.new.sink) c.in_default.ensures.advances
     c.in_default.ensures.place comes in (
       c.in_default.ensures.bare,
       c.in_default.ensures.scanned,
@@ -69,15 +70,15 @@ returns-in-Ok-false g c =
     let scanned = subst (λ (i : Incoming g.row.A.Denot). IsScanned i) (sym end.1) l.invariant.1 in
     let comes = more_came s.depth s.flow s.unique_names a.writer.now start first l.incoming c.read_more.new.incoming (g.R.Read.remaining l.reader) later
     l.writer (g.W.Write.contents l.sink) c.in-Ok-false.ensures.come c.in-Ok-false.ensures.place l.invariant.2 in
+    let last = c.write_last.ensures in
+    let now = c.write_last.new.writer in
+    let place = c.read_more.new.incoming.reading.place in
     record {
-      grows = ends_grown a.writer.now l.writer c.write_last.new.writer c.write_last.result l.invariant.3 c.write_last.ensures.kept
-          c.write_last.ensures.grew;
-      sound = ends_sound a.writer.now l.writer c.write_last.new.writer c.write_last.result l.invariant.3 c.write_last.ensures.kept
-          c.write_last.ensures.grew;
-      ended = on_ok c.write_last.result (λ bare. (end.0, bare)) c.write_last.ensures.bare;
-      sends = last_sends s a.writer.now start held c.read_more.new.incoming.reading.place later l.writer (g.W.Write.contents l.sink) end.0
-          c.read_more.new.incoming.reading.cut scanned.0 scanned.1 c.write_last.result c.write_last.new.writer first c.write_last.ensures.names
-          c.write_last.ensures.utf8 c.write_last.ensures.written c.write_last.ensures.stopped comes;
+      grows = ends_grown a.writer.now l.writer now s held place c.write_last.result l.invariant.3 last;
+      sound = ends_sound a.writer.now l.writer now s held place c.write_last.result l.invariant.3 last;
+      ended = ends_bare a.writer.now l.writer now s held place later c.write_last.result end.0 last;
+      sends = last_sends s a.writer.now start held place later l.writer (g.W.Write.contents l.sink) end.0 c.read_more.new.incoming.reading.cut scanned.0
+          scanned.1 c.write_last.result now first last comes;
     }
 
 pub returns-in-Err-write_complete : goal.returns-in-Err-write_complete
@@ -91,7 +92,7 @@ returns-in-Err-write_complete g c =
     let error = c.in-Err-write_complete.error in
     let comes = more_came s.depth s.flow s.unique_names a.writer.now start first l.incoming c.read_more.new.incoming (g.R.Read.remaining l.reader) later
     l.writer (g.W.Write.contents l.sink) c.in-Ok-true.ensures.come c.in-Ok-true.ensures.place l.invariant.2 in
-    let grew = grew_then a.writer.now l.writer c.write_complete.new.writer (emitter_error error) l.invariant.3 c.in-Err-write_complete.ensures.grew_to in
+    let grew = grew_then a.writer.now l.writer c.write_complete.new.writer (emitter_error error) l.invariant.3 c.in-Err-write_complete.ensures.grew in
     record {
       grows = grew.grows;
       sound = grew.sound;
@@ -116,7 +117,7 @@ returns-in-Err-flush g c =
     let writer = c.write_complete.new.writer in
     let done = complete_given s.depth s.flow s.unique_names a.writer.now start first c.read_more.new.incoming.held.items held
     c.read_more.new.incoming.reading.place c.write_complete.new.incoming.reading.place later l.writer writer
-    (g.W.Write.contents l.sink) (g.W.Write.contents c.write_complete.new.sink) c.in_default.ensures.gives c.in_default.ensures.place comes in
+    (g.W.Write.contents l.sink) (g.W.Write.contents c.write_complete.new.sink) c.in_default.ensures.advances c.in_default.ensures.place comes in
     let grew = grew_then a.writer.now l.writer writer None l.invariant.3 c.in_default.ensures.grew in
     record {
       grows = grew.grows;
@@ -133,9 +134,10 @@ returns g c =
     let a = c.args in
     let l = c.parts in
     let s = a.settings in
+    let grew = l.invariant.3 in
     record {
-      grows = l.invariant.3.grows;
-      sound = l.invariant.3.sound;
+      grows = grew.grows;
+      sound = grew.sound;
       ended = tt;
       sends = comes_stopped s.depth s.flow s.unique_names a.writer.now (g.W.Write.contents a.sink.now) (g.R.Read.remaining a.reader.now)
           l.incoming.held.items l.incoming.reading.place (g.R.Read.remaining l.reader) l.writer (g.W.Write.contents l.sink)

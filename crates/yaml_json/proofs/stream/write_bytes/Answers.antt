@@ -1,9 +1,9 @@
-use Rattle.yaml_json.proofs.Common.{◌≡◌, List, ℕ, [], true, refl, subst, sym, tokens, NamesOnce, WroteText}
+use Rattle.yaml_json.proofs.Common.{List, ℕ, [], refl, subst, sym, tokens}
 use Rattle.yaml_json.proofs.{Growing.grew_itself, Growing.grew_said, GivenAndTaken.part_stopped, TextStops.placed_as, TextStops.placed_first}
 use Rattle.yaml_json.proofs.{TextStops.placed_no_text, TextStops.text_stopped, WroteLemmas.wrote_nothing}
 use Rattle.std.specs.Prelude.{IsUtf8}
 use Rattle.std.specs.Str.{IsValidUpTo}
-use Rattle.yaml_json.specs.{Failing.writers_error, Sent.StopsInPart}
+use Rattle.yaml_json.specs.{Failing.writers_error, Sent.StopsInPart, WalkSteps.TextGiven}
 use Rattle.yaml_json.specs.declared.error.StreamError.TheVariants as faults
 use Rattle.yaml_json.proofs.stream.write_bytes.Goals as goal
 
@@ -12,21 +12,19 @@ returns-in-Err g c =
     let writer = c.args.writer.now in
     record {
       ready = tt;
-      names = tt;
-      utf8 = tt;
-      written = tt;
-      kept = tt;
-      stopped = record {
-        taken = [];
-        left = tokens c.args.bytes.now;
-        split = refl;
-        why = (refl, c.in-Err.ensures.cases.0);
-        place = placed_no_text c.args.settings.now.depth c.args.bytes.now c.valid_up_to.result c.place_of-line.result.0 c.place_of-line.result.1
-            (c.place_of-line.ensures.line, c.place_of-line.ensures.column)
-            (subst (IsValidUpTo c.args.bytes.now) (sym c.valid_up_to.ensures) c.in-Err.ensures.cases.1);
-        adds = (wrote_nothing writer c.requires.bare).adds;
+      gives = record {
+        stopped = record {
+          taken = [];
+          left = tokens c.args.bytes.now;
+          split = refl;
+          why = (refl, c.in-Err.ensures.cases.0);
+          place = placed_no_text c.args.settings.now.depth c.args.bytes.now c.valid_up_to.result c.place_of-line.result.0 c.place_of-line.result.1
+              (c.place_of-line.ensures.line, c.place_of-line.ensures.column)
+              (subst (IsValidUpTo c.args.bytes.now) (sym c.valid_up_to.ensures) c.in-Err.ensures.cases.1);
+          adds = (wrote_nothing writer c.requires.bare).adds;
+        };
+        grew = grew_itself writer;
       };
-      grew = grew_itself writer;
     }
 
 pub returns-in-Ok-write_text_in : goal.returns-in-Ok-write_text_in
@@ -36,12 +34,10 @@ returns-in-Ok-write_text_in g c =
     let same = c.in-Ok.ensures.cases.0 in
     record {
       ready = c.in-Ok-write_text_in.ensures.ready;
-      names = subst (λ (t : List ℕ). s.unique_names ≡ true → NamesOnce [] (tokens t)) same given.names;
-      utf8 = c.in-Ok.ensures.cases.1;
-      written = subst (λ (t : List ℕ). WroteText s.depth s.flow t c.args.writer.now c.write_text_in.new.writer) same given.written;
-      kept = given.kept;
-      stopped = tt;
-      grew = tt;
+      gives = record {
+        utf8 = c.in-Ok.ensures.cases.1;
+        given = subst (λ (t : List ℕ). TextGiven s t c.args.writer.now c.write_text_in.new.writer) same given;
+      };
     }
 
 pub returns-in-Err-write_text_in : goal.returns-in-Err-write_text_in
@@ -53,17 +49,15 @@ returns-in-Err-write_text_in g c =
     let failed = c.in-Err-write_text_in.ensures.gives in
     record {
       ready = tt;
-      names = tt;
-      utf8 = tt;
-      written = tt;
-      kept = tt;
-      stopped = subst (λ (t : List ℕ). StopsInPart s.depth s.unique_names s.flow [] t was (faults.Refused error) now) c.in-Ok.ensures.cases.0
-          (part_stopped s.depth s.unique_names s.flow c.in-Ok.text.now was error now
-          (subst IsUtf8 (sym c.in-Ok.ensures.cases.0) c.in-Ok.ensures.cases.1)
-          (text_stopped s.depth s.unique_names s.flow c.in-Ok.text.now was now c.in-Err-write_text_in.stop error c.error_of.ensures.says failed.refused
-          failed.failed)
-          (placed_first s.depth c.in-Ok.text.now c.in-Err-write_text_in.at error c.error_of.ensures.place
-          (placed_as s.depth c.in-Ok.text.now c.in-Ok.text.now c.in-Err-write_text_in.at c.in-Err-write_text_in.stop error c.error_of.ensures.says
-          failed.place c.error_of.ensures.expected)));
-      grew = grew_said was now c.in-Err-write_text_in.stop (writers_error error) c.error_of.ensures.by_writer failed.kept;
+      gives = record {
+        stopped = subst (λ (t : List ℕ). StopsInPart s.depth s.unique_names s.flow [] t was (faults.Refused error) now) c.in-Ok.ensures.cases.0
+            (part_stopped s.depth s.unique_names s.flow c.in-Ok.text.now was error now
+            (subst IsUtf8 (sym c.in-Ok.ensures.cases.0) c.in-Ok.ensures.cases.1)
+            (text_stopped s.depth s.unique_names s.flow c.in-Ok.text.now was now c.in-Err-write_text_in.stop error c.error_of.ensures.says failed.refused
+            failed.failed)
+            (placed_first s.depth c.in-Ok.text.now c.in-Err-write_text_in.at error c.error_of.ensures.place
+            (placed_as s.depth c.in-Ok.text.now c.in-Ok.text.now c.in-Err-write_text_in.at c.in-Err-write_text_in.stop error c.error_of.ensures.says
+            failed.place c.error_of.ensures.expected)));
+        grew = grew_said was now c.in-Err-write_text_in.stop (writers_error error) c.error_of.ensures.by_writer failed.kept;
+      };
     }

@@ -14,31 +14,33 @@ write_texts-requires g c =
 pub keep_last-requires : goal.keep_last-requires
 keep_last-requires g c =
     left_within c.as_slice-held.result.now c.args.incoming.now.held.items c.in-Ok.count c.write_texts.new.reading.cut c.as_slice-held.ensures.value
-    c.in-Ok.ensures.left
+    c.in-Ok.ensures.gives.left
 
-pub returns-in-Ok-clause-scanned : goal.returns-in-Ok-clause-scanned
-returns-in-Ok-clause-scanned g c =
-    left_scanned c.as_slice-held.result.now c.args.incoming.now.held.items c.keep_last.new.incoming.held.items c.in-Ok.count
-    c.write_texts.new.reading.cut c.keep_last.new.incoming.reading.cut c.as_slice-held.ensures.value c.keep_last.ensures.kept
-    c.keep_last.ensures.cut c.in-Ok.ensures.left
-
-pub returns-in-Ok-clause-gives : goal.returns-in-Ok-clause-gives
-returns-in-Ok-clause-gives g c =
+pub returns-in-Ok : goal.returns-in-Ok
+returns-in-Ok g c =
     let a = c.args in
+    let held = a.incoming.now.held.items in
     let slice = c.as_slice-held.result.now in
-    advances_left a.settings.now.depth a.settings.now.flow a.settings.now.unique_names slice a.writer.now (g.W.Write.contents a.sink.now)
-    (drop (length slice - c.in-Ok.count) slice) c.write_texts.new.writer (g.W.Write.contents c.write_texts.new.sink) c.in-Ok.ensures.gives
-    a.incoming.now.held.items c.keep_last.new.incoming.held.items c.in-Ok.count refl c.as_slice-held.ensures.value c.keep_last.ensures.kept
+    let left = c.keep_last.new.incoming in
+    let gave = c.in-Ok.ensures.gives in
+    record {
+      bare = gave.bare;
+      scanned = left_scanned slice held left.held.items c.in-Ok.count c.write_texts.new.reading.cut left.reading.cut c.as_slice-held.ensures.value
+          c.keep_last.ensures.kept c.keep_last.ensures.cut gave.left;
+      place = subst (λ (place : Place). MovesPlace held left.held.items place left.reading.place) c.in-Ok.ensures.place c.keep_last.ensures.place;
+      advances = advances_left a.settings.now.depth a.settings.now.flow a.settings.now.unique_names slice a.writer.now (g.W.Write.contents a.sink.now)
+          (drop (length slice - c.in-Ok.count) slice) c.write_texts.new.writer (g.W.Write.contents c.write_texts.new.sink) gave.advances
+          held left.held.items c.in-Ok.count refl c.as_slice-held.ensures.value c.keep_last.ensures.kept;
+      grew = gave.grew;
+    }
 
-pub returns-in-Ok-clause-place : goal.returns-in-Ok-clause-place
-returns-in-Ok-clause-place g c =
-    let held = c.args.incoming.now.held.items in
-    subst (λ (place : Place). MovesPlace held c.keep_last.new.incoming.held.items place c.keep_last.new.incoming.reading.place) c.in-Ok.ensures.place
-    c.keep_last.ensures.place
-
-pub returns-in-Err-clause-stops : goal.returns-in-Err-clause-stops
-returns-in-Err-clause-stops g c =
+pub returns-in-Err : goal.returns-in-Err
+returns-in-Err g c =
     let a = c.args in
-    subst (λ (t : List ℕ). StopsWithin a.settings.now.depth a.settings.now.flow a.settings.now.unique_names t a.incoming.now.reading.place a.writer.now
-    (g.W.Write.contents a.sink.now) c.in-Err.error c.write_texts.new.writer (g.W.Write.contents c.write_texts.new.sink))
-    c.as_slice-held.ensures.value c.in-Err.ensures.stops
+    let stopped = c.in-Err.ensures.gives in
+    record {
+      stops = subst (λ (t : List ℕ). StopsWithin a.settings.now.depth a.settings.now.flow a.settings.now.unique_names t a.incoming.now.reading.place
+          a.writer.now (g.W.Write.contents a.sink.now) c.in-Err.error c.write_texts.new.writer (g.W.Write.contents c.write_texts.new.sink))
+          c.as_slice-held.ensures.value stopped.stops;
+      grew = stopped.grew;
+    }

@@ -40,11 +40,11 @@ texts-preserved g c =
     let cuts = c.in-Some.ensures in
     let within = cuts.within in
     let next = c.in_default-begin_next.ensures.begun in
-    let named = subst (λ (t : List ℕ). a.settings.now.unique_names ≡ true → NamesOnce [] (tokens t)) c.split_at.ensures.front
-    c.in_default-write_bytes.ensures.names in
-    let readable = subst IsUtf8 c.split_at.ensures.front c.in_default-write_bytes.ensures.utf8 in
+    let gave = c.in_default-write_bytes.ensures.gives in
+    let named = subst (λ (t : List ℕ). a.settings.now.unique_names ≡ true → NamesOnce [] (tokens t)) c.split_at.ensures.front gave.given.names in
+    let readable = subst IsUtf8 c.split_at.ensures.front gave.utf8 in
     let wrote = subst (λ (t : List ℕ). WroteText a.settings.now.depth a.settings.now.flow t l.writer c.write_bytes.new.writer) c.split_at.ensures.front
-    c.in_default-write_bytes.ensures.written in
+    gave.given.written in
     let suffix = suffix_on a.held.now l.rest.now c.split_at.result.1.now c.in-Some.end l.invariant.2 l.invariant.3 (omega (arith, within))
     c.split_at.ensures.back in (
       next.wrote.bare,
@@ -60,7 +60,7 @@ texts-preserved g c =
       c.in_default-write_bytes.ensures.ready,
       grew_then a.writer.now l.writer c.begin_next.new.writer None l.invariant.6
           (grew_then l.writer c.write_bytes.new.writer c.begin_next.new.writer None
-          (grew_kept l.writer c.write_bytes.new.writer c.in_default-write_bytes.ensures.kept) c.in_default-begin_next.ensures.grew),
+          (grew_kept l.writer c.write_bytes.new.writer gave.given.kept) c.in_default-begin_next.ensures.grew),
       l.invariant.7,
     )
 
@@ -77,19 +77,17 @@ returns-in-Err g c =
     let parts : done ++ rest ≡ a.held.now =
     ap (λ (t : List ℕ). done ++ t) (sym l.invariant.3) ∙ take-append-drop (length a.held.now - length rest) a.held.now in
     record {
-      bare = tt;
-      left = tt;
       place = l.invariant.7;
-      gives = tt;
-      grew = tt;
-      stops = stops_at_first s.depth s.flow s.unique_names a.held.now a.writer.now (g.W.Write.contents a.sink.now) l.rest.now l.writer
-          (g.W.Write.contents l.sink) l.invariant.4 c.in-Some.end c.in-Some.ensures a.reading.now.place error now done parts
-          (λ front follows. part_placed s.depth s.unique_names s.flow (front ++ done) first l.writer c.in-Err.error error now c.placed.ensures.says
-          (c.placed.ensures.place s.depth (front ++ done) first (c.after.ensures front (subst (IsPlaceAfter front) (sym l.invariant.7) follows)))
-          (subst (λ (t : List ℕ). StopsInPart s.depth s.unique_names s.flow [] t l.writer c.in-Err.error now) c.split_at.ensures.front
-          c.in-Err.ensures.stopped));
-      grew_to = grew_then a.writer.now l.writer now (emitter_error error) l.invariant.6
-          (subst (λ (found : Option yaml_error_t). Grew l.writer found now) (sym c.placed.ensures.by_emitter) c.in-Err.ensures.grew);
+      gives = record {
+        stops = stops_at_first s.depth s.flow s.unique_names a.held.now a.writer.now (g.W.Write.contents a.sink.now) l.rest.now l.writer
+            (g.W.Write.contents l.sink) l.invariant.4 c.in-Some.end c.in-Some.ensures a.reading.now.place error now done parts
+            (λ front follows. part_placed s.depth s.unique_names s.flow (front ++ done) first l.writer c.in-Err.error error now c.placed.ensures.says
+            (c.placed.ensures.place s.depth (front ++ done) first (c.after.ensures front (subst (IsPlaceAfter front) (sym l.invariant.7) follows)))
+            (subst (λ (t : List ℕ). StopsInPart s.depth s.unique_names s.flow [] t l.writer c.in-Err.error now) c.split_at.ensures.front
+            c.in-Err.ensures.gives.stopped));
+        grew = grew_then a.writer.now l.writer now (emitter_error error) l.invariant.6
+            (subst (λ (found : Option yaml_error_t). Grew l.writer found now) (sym c.placed.ensures.by_emitter) c.in-Err.ensures.gives.grew);
+      };
     }
 
 pub returns-in-Err-begin_next : goal.returns-in-Err-begin_next
@@ -99,34 +97,38 @@ returns-in-Err-begin_next g c =
     let s = a.settings.now in
     let given = c.write_bytes.new.writer in
     let error = c.in-Err-begin_next.error in
-    let named = subst (λ (t : List ℕ). s.unique_names ≡ true → NamesOnce [] (tokens t)) c.split_at.ensures.front
-    c.in_default-write_bytes.ensures.names in
-    let readable = subst IsUtf8 c.split_at.ensures.front c.in_default-write_bytes.ensures.utf8 in
-    let wrote = subst (λ (t : List ℕ). WroteText s.depth s.flow t l.writer given) c.split_at.ensures.front
-    c.in_default-write_bytes.ensures.written in
+    let gave = c.in_default-write_bytes.ensures.gives in
+    let named = subst (λ (t : List ℕ). s.unique_names ≡ true → NamesOnce [] (tokens t)) c.split_at.ensures.front gave.given.names in
+    let readable = subst IsUtf8 c.split_at.ensures.front gave.utf8 in
+    let wrote = subst (λ (t : List ℕ). WroteText s.depth s.flow t l.writer given) c.split_at.ensures.front gave.given.written in
     record {
-      bare = tt;
-      left = tt;
       place = l.invariant.7;
-      gives = tt;
-      grew = tt;
-      stops = stops_next s.depth s.flow s.unique_names a.held.now a.writer.now (g.W.Write.contents a.sink.now) l.rest.now l.writer
-          (g.W.Write.contents l.sink) l.invariant.4 c.in-Some.end c.in-Some.ensures given named readable wrote a.reading.now.place error c.begin_next.new.writer
-          (g.W.Write.contents c.begin_next.new.sink) c.in-Err-begin_next.ensures.failed;
-      grew_to = grew_then a.writer.now l.writer c.begin_next.new.writer (emitter_error error) l.invariant.6
-          (grew_then l.writer given c.begin_next.new.writer (emitter_error error) (grew_kept l.writer given c.in_default-write_bytes.ensures.kept)
-          c.in-Err-begin_next.ensures.grew_to);
+      gives = record {
+        stops = stops_next s.depth s.flow s.unique_names a.held.now a.writer.now (g.W.Write.contents a.sink.now) l.rest.now l.writer
+            (g.W.Write.contents l.sink) l.invariant.4 c.in-Some.end c.in-Some.ensures given named readable wrote a.reading.now.place error c.begin_next.new.writer
+            (g.W.Write.contents c.begin_next.new.sink) c.in-Err-begin_next.ensures.failed;
+        grew = grew_then a.writer.now l.writer c.begin_next.new.writer (emitter_error error) l.invariant.6
+            (grew_then l.writer given c.begin_next.new.writer (emitter_error error) (grew_kept l.writer given gave.given.kept)
+            c.in-Err-begin_next.ensures.grew);
+      };
     }
-
-pub returns-clause-grew : goal.returns-clause-grew
-returns-clause-grew g c = c.texts.invariant.6
 
 pub returns-clause-gives : goal.returns-clause-gives
 returns-clause-gives g c =
     let a = c.args in
     let l = c.texts in
-    advances_same a.settings.now.depth a.settings.now.flow a.settings.now.unique_names a.held.now a.writer.now (g.W.Write.contents a.sink.now) l.rest.now
-    l.writer (g.W.Write.contents l.sink) l.invariant.4 (drop (length a.held.now - length l.rest.now) a.held.now) (sym l.invariant.3)
+    let rest = drop (length a.held.now - length l.rest.now) a.held.now in
+    record {
+      bare = l.invariant.0;
+      left = record {
+        within = l.invariant.2;
+        scanned = subst (λ (t : List ℕ). HasScanned t c.find_end.new.cut) (sym l.invariant.3) c.in_default.ensures.0;
+        all = c.in_default.ensures.1 ∙ ap length (sym l.invariant.3);
+      };
+      advances = advances_same a.settings.now.depth a.settings.now.flow a.settings.now.unique_names a.held.now a.writer.now
+          (g.W.Write.contents a.sink.now) l.rest.now l.writer (g.W.Write.contents l.sink) l.invariant.4 rest (sym l.invariant.3);
+      grew = l.invariant.6;
+    }
 
 pub returns-clause-place : goal.returns-clause-place
 returns-clause-place g c = c.texts.invariant.7
@@ -141,19 +143,7 @@ pub write_bytes-requires-clause-ready : goal.write_bytes-requires-clause-ready
 write_bytes-requires-clause-ready g c = c.texts.invariant.5
 
 pub begin_next-requires : goal.begin_next-requires
-begin_next-requires g c = c.in_default-write_bytes.ensures.written.wrote.bare
-
-pub returns-clause-bare : goal.returns-clause-bare
-returns-clause-bare g c = c.texts.invariant.0
-
-pub returns-clause-left : goal.returns-clause-left
-returns-clause-left g c =
-    let l = c.texts in
-    record {
-      within = l.invariant.2;
-      scanned = subst (λ (t : List ℕ). HasScanned t c.find_end.new.cut) (sym l.invariant.3) c.in_default.ensures.0;
-      all = c.in_default.ensures.1 ∙ ap length (sym l.invariant.3);
-    }
+begin_next-requires g c = c.in_default-write_bytes.ensures.gives.given.written.wrote.bare
 
 pub split_at-requires : goal.split_at-requires
 split_at-requires g c =
