@@ -1,7 +1,8 @@
 #!/usr/bin/env python3
 """Streams that the program wrote in portable mode, read by other readers of YAML: readers.py PROGRAM COUNT [--libyaml EVENTS] [--model FOLDER]
 
-The scripts are those of the stored sample and, with the model's folder, COUNT random ones, each with `portable on`. What
+The scripts are those of the stored sample, one for each of the texts below that have tabs or spaces at the ends of their
+lines, and, with the model's folder, COUNT random ones, two thirds of them with `blanks literal`; each with `portable on`. What
 a script gives is compared with what a reader finds in the bytes: documents, directives, anchors, aliases, tags, values,
 and for a scalar without a written tag whether it is resolved as a plain or as a quoted one, which its flags must allow.
 Only the differences that docs/DIFFERENCES.md lists are let through, and counted.
@@ -9,7 +10,9 @@ Only the differences that docs/DIFFERENCES.md lists are let through, and counted
 import argparse, json, pathlib, random, re, subprocess, sys
 
 SAMPLE = pathlib.Path(__file__).resolve().parent.parent / "scripts" / "sample.jsonl"
-SETTINGS = {"limit", "encoding", "canonical", "unicode", "indent", "width", "break", "breaks12", "portable", "sequences"}
+SETTINGS = {"limit", "encoding", "canonical", "unicode", "indent", "width", "break", "breaks12", "portable", "sequences", "blanks"}
+# Texts that are literal only where blanks are, and two with a line of blanks alone, which never are.
+BLANK_TEXTS = ["a\tb", "\ta\nb\n", "a\t\nb", "a\n\tb\n\n", "a \nb", "a  ", "a\nb \n", " a\t\n\n b \t\n", "a\n \nb", "\t\na"]
 
 # ---- scripts
 
@@ -49,17 +52,26 @@ def meant(script):
         else: assert kind in SETTINGS or kind in ("+STR", "-STR"), line
     return out
 
+def blank_script(value):
+    """A text for which literal is asked, as a root, in a sequence, and below a key that is the same text."""
+    quoted = '"%s"' % value.replace("\n", "\\n")
+    scalar = "=VAL literal 1 1 - - " + quoted
+    documents = [[scalar], ["+SEQ block 1 - -", scalar, scalar, "-SEQ"], ["+MAP block 1 - -", scalar, scalar, "=VAL any 1 1 - - \"k\"", scalar, "-MAP"]]
+    events = [line for root in documents for line in ["+DOC 1 -", *root, "-DOC 1"]]
+    return "\n".join(["portable on", "blanks literal", "+STR utf8", *events, "-STR"]).encode()
+
 def scripts(model, count):
     for line in SAMPLE.open():
         lines = json.loads(line)["script"].encode("latin-1").split(b"\n")
         yield b"\n".join([b"portable on"] + [x for x in lines if not x.startswith((b"portable ", b"limit "))])
+    yield from map(blank_script, BLANK_TEXTS)
     if model is None: return
     sys.path.insert(0, str(model))
     import gen
     for seed in range(count):
         r = random.Random(seed)
         settings = gen.settings(r, seed)
-        settings.breaks12, settings.portable = r.random() < 0.15, True
+        settings.breaks12, settings.portable, settings.literal_blanks = r.random() < 0.15, True, seed % 3 != 0
         yield gen.script(settings, gen.events(r))
 
 def written(program, model, count):
