@@ -6,7 +6,7 @@ ghost use Rattle.yaml_program.specs.Faults as faults;
 use yaml_json::{JsonError, StreamError};
 use yaml_program::{Failure, Reason};
 
-/// A text that is refused at this place, since it is this.
+/// Returns the failure of a text that is refused at this place, since it is this.
 fn refused(line: usize, column: usize, words: &'static str) -> Failure
     ensures { faults.status_of result ≡ 1 }
 {
@@ -16,7 +16,7 @@ fn refused(line: usize, column: usize, words: &'static str) -> Failure
     }
 }
 
-/// What an error is for the program.
+/// Returns what an error is for the program.
 pub fn failure_of(error: StreamError) -> Failure
     ensures { faults.status_of result ≡ statuses.status_of error }
 {

@@ -10,7 +10,7 @@ use std::io::Write;
 use yaml_json::{JsonError, JsonSettings, StreamError, Writer, send_json_texts, yaml_error_t};
 use yaml_program::{STREAM, Sources};
 
-/// What an error of the writer is for the program.
+/// Returns what an error of the writer is for the program.
 fn writer_error(error: yaml_error_t) -> StreamError {
     StreamError::Refused(JsonError::Emitter(error))
 }

@@ -10,7 +10,7 @@ use std::alloc::{AllocError, Global};
 use yaml_program::{Conversion, common_settings_of, conversion_with, matches_of};
 use yaml_toml::TomlSettings;
 
-/// The settings that the options ask for.
+/// Returns the settings that the options ask for.
 fn settings_of(matches: &ArgMatches<'_>) -> TomlSettings
     ensures { AreSettings matches.now result }
 {
@@ -22,7 +22,7 @@ fn settings_of(matches: &ArgMatches<'_>) -> TomlSettings
     }
 }
 
-/// The conversion that the options ask for.
+/// Returns the conversion that the options ask for.
 fn conversion_by<'a>(
     alloc: Global,
     matches: &ArgMatches<'a>,
@@ -36,7 +36,7 @@ fn conversion_by<'a>(
     conversion_with(alloc, format, matches)
 }
 
-/// What the arguments after the program's name ask for, or the text that tells why they ask for no conversion.
+/// Returns what the arguments after the program's name ask for, or the text that tells why they ask for no conversion.
 pub fn conversion_of<'a>(
     alloc: Global,
     arguments: &'a [String],

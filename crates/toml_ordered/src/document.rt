@@ -130,7 +130,7 @@ pub fn read_document(alloc: Global, text: &str) -> Result<Nodes, Fault>
     }
 }
 
-/// What follows the byte order mark, if any.
+/// Returns what follows the byte order mark, if any.
 fn past_mark(s: &str) -> &str
     ensures rest { result.now ≡ skip_bom s.now }
     ensures within { length result.now ≤ length s.now }
@@ -142,7 +142,7 @@ fn past_mark(s: &str) -> &str
     }
 }
 
-/// An expression that has its line to itself.
+/// Reads an expression that has its line to itself.
 fn line(alloc: Global, s: &str) -> Result<((Key, Definition), &str), Fault>
     ensures value { Reads expression_view result (spec.line s.now) }
     ensures shorter { Shortens s.now result }
@@ -156,7 +156,7 @@ fn line(alloc: Global, s: &str) -> Result<((Key, Definition), &str), Fault>
     }
 }
 
-/// A header, or a pair.
+/// Reads a header, or a pair.
 fn expression(alloc: Global, s: &str) -> Result<((Key, Definition), &str), Fault>
     ensures value { Reads expression_view result (spec.expression s.now) }
     ensures shorter { Shortens s.now result }
@@ -177,7 +177,7 @@ fn expression(alloc: Global, s: &str) -> Result<((Key, Definition), &str), Fault
     }
 }
 
-/// The key of a header, and what follows its first closing bracket.
+/// Returns the key of a header, and what follows its first closing bracket.
 fn header_key(alloc: Global, s: &str) -> Result<(Key, &str), Fault>
     ensures value { Reads key_view result (header_key s.now) }
     ensures shorter { Shortens s.now result }

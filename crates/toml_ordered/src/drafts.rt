@@ -37,7 +37,7 @@ pub(crate) struct OpenTable {
 }
 
 impl OpenTable {
-    /// A table without keys.
+    /// Makes a table without keys.
     pub(crate) fn new(alloc: Global) -> OpenTable
         ensures { spec.table_view result ≡ no_nodes }
     {
@@ -102,7 +102,7 @@ fn note(index: &mut Index, key: String, at: usize) -> Result<(), Fault>
     Ok(())
 }
 
-/// Whether this is the place of a key.
+/// Returns whether this is the place of a key.
 fn is_place(index: &Index, key: &str, at: usize) -> bool
     ensures { result ≡ spec.is_place (get_by_text index.now key.now) at }
 {
@@ -148,7 +148,7 @@ fn complete(alloc: Global, draft: Draft) -> Result<Node, AllocError>
     }
 }
 
-/// A value that takes no more.
+/// Returns a value as one that takes no more.
 fn seal(node: Node) -> Result<Node, AllocError>
     ensures { IfOk result (λ sealed. node_view sealed ≡ spec.sealed (node_view node)) }
 {

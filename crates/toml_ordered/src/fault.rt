@@ -24,7 +24,7 @@ pub enum Fault {
 }
 
 impl Fault {
-    /// The fault, with its place here or behind. (No contract of `toml_parser` tells where its errors are.)
+    /// Returns the fault, with its place here or behind. (No contract of `toml_parser` tells where its errors are.)
     pub(crate) fn here_or_behind(self, start: &str) -> Fault
         ensures memory { IsMemory self → IsMemory result }
         ensures place { IfSome (place_left result) (λ left. left ≤ length start.now) }
@@ -43,7 +43,7 @@ impl Fault {
         }
     }
 
-    /// The fault, with its place here.
+    /// Returns the fault, with its place here.
     pub(crate) fn here(self, start: &str) -> Fault
         ensures memory { IsMemory self → IsMemory result }
         ensures place { IfSome (place_left result) (λ left. left ≡ length start.now) }
@@ -97,7 +97,7 @@ impl<T: Drop> From<AllocFailed<T>> for Fault {
     }
 }
 
-/// The text can't go on where this is left of it.
+/// Returns that the text can't go on where this is left of it.
 pub(crate) fn not_toml(rest: &str) -> Fault {
     Fault::NotToml { left: rest.len() }
 }

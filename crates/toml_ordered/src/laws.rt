@@ -1,8 +1,8 @@
 //! A law of the definitions, the contract of a function that does nothing.
 ghost use Rattle.toml_ordered.specs.Sorted.{OrderedIsSorted};
 
-/// The document that is read in order, its tables sorted, is the table that `toml` reads of the same text; and one is refused exactly
-/// where the other is.
+/// States that the document that is read in order, its tables sorted, is the table that `toml` reads of the same text; and one is
+/// refused exactly where the other is.
 pub fn ordered_is_sorted()
     ensures { OrderedIsSorted }
 {}

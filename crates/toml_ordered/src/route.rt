@@ -16,7 +16,7 @@ pub(crate) enum Way {
 }
 
 impl Way {
-    /// What makes a table that is passed.
+    /// Returns what makes a table that is passed.
     pub(crate) fn origin(self) -> Origin
         ensures { result ≡ spec.made_by self }
     {
@@ -26,7 +26,7 @@ impl Way {
         }
     }
 
-    /// What made a table, after it is passed; `None` where it lets no key pass so.
+    /// Returns what made a table, after it is passed; `None` where it lets no key pass so.
     pub(crate) fn origin_after(self, origin: Origin) -> Option<Origin>
         ensures { (edit : spec.Edit) (inner : Nodes) → spec.passed self edit (table origin inner)
             ≡ option_and_then (λ after. option_map (table after) (edit inner)) result }
@@ -52,7 +52,7 @@ pub(crate) struct Route<'a> {
 }
 
 impl<'a> Route<'a> {
-    /// The first key and those after it.
+    /// Returns the first key and those after it.
     pub(crate) fn split(self) -> Option<(Way, &'a String, Route<'a>)>
         ensures { MatchOption result (steps_of self.entry ≡ []) (λ cut. steps_of self.entry ≡ (cut.0, string_bytes cut.1.now) ∷ steps_of cut.2) }
     {

@@ -37,7 +37,7 @@ struct Passed<'a> {
 }
 
 impl Passed<'_> {
-    /// It takes no more.
+    /// Returns the fault of what takes no more.
     #[cold]
     fn defined_again(self, alloc: Global, second: usize) -> Fault {
         match String::from_str(alloc, self.key) {
@@ -84,7 +84,7 @@ pub(crate) fn define_at(
     }
 }
 
-/// A value after an entry is defined in it, at the end of a route.
+/// Returns a value after an entry is defined in it, at the end of a route.
 #[cycle(define_at)]
 fn pass(
     alloc: Global,
@@ -134,7 +134,7 @@ fn at_key(alloc: Global, keys: &mut Keys, index: &mut Index, entry: Entry) -> Re
     }
 }
 
-/// A value that a header defines once more; `None` where it can't.
+/// Returns a value that a header defines once more; `None` where it can't.
 fn redefine(alloc: Global, what: Definition, draft: Draft) -> Result<Option<Draft>, AllocError>
     ensures { IfOk result (λ new. spec.redefine (definition_view what) (draft_view draft) ≡ option_map draft_view new) }
 {
@@ -151,7 +151,7 @@ fn redefine(alloc: Global, what: Definition, draft: Draft) -> Result<Option<Draf
     }
 }
 
-/// What a key holds that was not there.
+/// Returns what a key holds that was not there.
 fn new_draft(alloc: Global, what: Definition) -> Draft
     ensures { draft_view result ≡ spec.new_node (definition_view what) }
 {
@@ -164,7 +164,7 @@ fn new_draft(alloc: Global, what: Definition) -> Draft
     }
 }
 
-/// What stands where a value was moved out, to be changed and put back.
+/// Returns what stands where a value was moved out, to be changed and put back.
 fn nothing(alloc: Global) -> (String, Draft, usize) {
     (String::new(alloc), Draft::Value(Node::NotANumber), 0)
 }

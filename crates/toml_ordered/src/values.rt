@@ -17,7 +17,7 @@ use std::alloc::{AllocError, Global};
 use toml_parser::text::{first, skip, skip_blank, skip_ws};
 use toml_parser::{Key, Scalar, dotted_key, quoted, starts_string, unquoted};
 
-/// A value, in which arrays and tables in braces nest at most `depth` deep, and the text after it.
+/// Returns a value, in which arrays and tables in braces nest at most `depth` deep, and the text after it.
 #[cycle(value)]
 pub(crate) fn value(alloc: Global, s: &str, depth: usize) -> Result<(Node, &str), Fault>
     ensures value { Reads node_view result (spec.val depth s.now) }
@@ -39,7 +39,7 @@ pub(crate) fn value(alloc: Global, s: &str, depth: usize) -> Result<(Node, &str)
     }
 }
 
-/// The rest of an array.
+/// Reads the rest of an array.
 #[cycle(value)]
 fn array(alloc: Global, s: &str, depth: usize) -> Result<(Vec<Node>, &str), Fault>
     ensures value { (n : ℕ) → length s.now < n → Reads (λ found. items_view found.items) result (spec.items (spec.val depth) n no_items s.now) }
@@ -58,7 +58,7 @@ fn array(alloc: Global, s: &str, depth: usize) -> Result<(Vec<Node>, &str), Faul
     }
 }
 
-/// The rest of a table in braces.
+/// Reads the rest of a table in braces.
 #[cycle(value)]
 fn braces(alloc: Global, s: &str, depth: usize) -> Result<(Nodes, &str), Fault>
     ensures value { (n : ℕ) → length s.now < n → Reads (λ found. entries_view found.items) result (spec.members (spec.val depth) n no_nodes s.now) }
@@ -102,7 +102,7 @@ fn put(
     define_at(alloc, &mut table.keys, &mut table.index, route, entry)
 }
 
-/// What follows a comma, or the closing bracket.
+/// Returns what follows a comma, or the closing bracket.
 fn past_element(s: &str, closing: u8) -> Result<&str, Fault>
     ensures value { Gives (λ rest. rest.now) result (after_element closing s.now) }
     ensures within { IfOk result (λ rest. length rest.now ≤ length s.now) }
@@ -117,7 +117,7 @@ fn past_element(s: &str, closing: u8) -> Result<&str, Fault>
     }
 }
 
-/// A key, `=` and the blanks after it.
+/// Reads a key, `=` and the blanks after it.
 pub(crate) fn key_and_equals(alloc: Global, s: &str) -> Result<(Key, &str), Fault>
     ensures value { Reads key_view result (key_equals s.now) }
     ensures shorter { Shortens s.now result }
@@ -129,7 +129,7 @@ pub(crate) fn key_and_equals(alloc: Global, s: &str) -> Result<(Key, &str), Faul
     Ok((key, skip_ws(skip(rest, 1))))
 }
 
-/// A string or a scalar.
+/// Reads a string or a scalar.
 fn atom(alloc: Global, s: &str) -> Result<(Node, &str), Fault>
     ensures value { Reads node_view result (spec.atom s.now) }
     ensures shorter { Shortens s.now result }
@@ -143,7 +143,7 @@ fn atom(alloc: Global, s: &str) -> Result<(Node, &str), Fault>
     Ok((scalar_node(alloc, word, scalar)?, rest))
 }
 
-/// A scalar, with the word that writes it.
+/// Returns a scalar, with the word that writes it.
 fn scalar_node(alloc: Global, word: &[u8], scalar: Scalar) -> Result<Node, AllocError>
     ensures { IfOk result (λ node. node_view node ≡ spec.scalar_node word.now scalar) }
 {
@@ -155,7 +155,7 @@ fn scalar_node(alloc: Global, word: &[u8], scalar: Scalar) -> Result<Node, Alloc
     }
 }
 
-/// A float, by its word.
+/// Returns a float, by its word.
 fn float_node(word: String) -> Result<Node, AllocError>
     ensures { IfOk result (λ node. node_view node ≡ spec.float_node (string_bytes word)) }
 {
@@ -180,7 +180,7 @@ fn past_sign(word: &str) -> &str
     }
 }
 
-/// The characters of a word but underscores.
+/// Returns the characters of a word but underscores.
 fn plain_word(alloc: Global, word: &[u8]) -> Result<String, AllocError>
     ensures { IfOk result (λ plain. string_bytes plain ≡ spec.plain_word word.now) }
 {

@@ -9,49 +9,51 @@ ghost use Rattle.yaml_base.specs.Ready.{ReadyStays, WholeStreamIsReady};
 ghost use Rattle.yaml_base.specs.Refusal.{RefusedExactly};
 ghost use Rattle.yaml_base.specs.graphs.Unfolding.{DocumentsUnfold};
 
-/// A list of events is the events of at most one tree.
+/// States that a list of events is the events of at most one tree.
 pub fn list_has_one_tree()
     ensures { OneTree }
 {}
 
-/// Bytes are the encoding of at most one text of Unicode scalar values.
+/// States that bytes are the encoding of at most one text of Unicode scalar values.
 pub fn bytes_have_one_text()
     ensures { OneText }
 {}
 
-/// A layout has one piece for each event.
+/// States that a layout has one piece for each event.
 pub fn layout_has_one_piece_each()
     ensures { OnePieceEach }
 {}
 
-/// Written pieces are final: every accepted continuation begins with them, unless it closes a collection just opened.
+/// States that written pieces are final: every accepted continuation begins with them, unless it closes a collection just opened.
 pub fn pieces_stand()
     ensures { PiecesStand }
 {}
 
-/// An event that is ready stays ready as the list grows.
+/// States that an event that is ready stays ready as the list grows.
 pub fn ready_events_stay_ready()
     ensures { ReadyStays }
 {}
 
-/// After events that begin an accepted list, the next event is refused exactly where no accepted list goes on with it.
+/// States that after events that begin an accepted list, the next event is refused exactly where no accepted list goes
+/// on with it.
 pub fn refused_exactly()
     ensures { RefusedExactly }
 {}
 
-/// All events of a whole stream are ready.
+/// States that all events of a whole stream are ready.
 pub fn whole_stream_is_ready()
     ensures { WholeStreamIsReady }
 {}
 
-/// The events of a graph that has nodes, each of whose numbers names one, are those of a document whose tree unfolds it.
+/// States that the events of a graph that has nodes, each of whose numbers names one, are those of a document whose tree
+/// unfolds it.
 pub fn documents_unfold()
     ensures { DocumentsUnfold }
 {}
 
-/// Under the settings of canonical values the bytes of one document that has no directives, and whose end is implicit, are the
-/// encoding of one text, which is defined by recursion over the tree of its events (`DumpedText`). So they are of one dumped document,
-/// whose tree unfolds its graph. The canonical text of a typed value is that of its tree.
+/// States that under the settings of canonical values the bytes of one document that has no directives, and whose end is implicit, are
+/// the encoding of one text, which is defined by recursion over the tree of its events (`DumpedText`). So they are of one dumped
+/// document, whose tree unfolds its graph. The canonical text of a typed value is that of its tree.
 pub fn canonical_documents_have_texts()
     ensures output { CanonicalOutputIsText }
     ensures dumped { DumpsHaveTexts }
@@ -59,30 +61,30 @@ pub fn canonical_documents_have_texts()
     ensures values { ValuesAreDumped }
 {}
 
-/// The tree of a whole stream's events is found.
+/// States that the tree of a whole stream's events is found.
 pub fn tree_is_found()
     ensures { TreeIsFound }
 {}
 
-/// A text that reads as a plain scalar holds no `:` before a blank, a break or its end, and no `#` after a blank or a
-/// break; in flow none of `,` `?` `:` `[` `]` `{` `}` (YAML 1.1, section 9.1.3).
+/// States that a text that reads as a plain scalar holds no `:` before a blank, a break or its end, and no `#` after a
+/// blank or a break; in flow none of `,` `?` `:` `[` `]` `{` `}` (YAML 1.1, section 9.1.3).
 pub fn plain_holds_no_indicator()
     ensures { PlainHoldsNoIndicator }
 {}
 
-/// Under settings that differ in the limit alone, the output under the smaller limit is the first bytes of the other.
+/// States that under settings that differ in the limit alone, the output under the smaller limit is the first bytes of the other.
 pub fn limit_cuts_the_output()
     ensures { LimitCuts }
 {}
 
-/// Under settings that differ in the encoding alone, the bytes of a layout are one text: decoded without their mark they
-/// give the same characters, where these are Unicode scalar values.
+/// States that under settings that differ in the encoding alone, the bytes of a layout are one text: decoded without
+/// their mark they give the same characters, where these are Unicode scalar values.
 pub fn encodings_agree()
     ensures { EncodingsAgree }
 {}
 
-/// In portable mode the layout is the same with the line breaks of YAML 1.1 and with those of 1.2, so what is promised of
-/// one holds of the other.
+/// States that in portable mode the layout is the same with the line breaks of YAML 1.1 and with those of 1.2, so what is
+/// promised of one holds of the other.
 pub fn breaks_agree()
     ensures { BreaksAgree }
 {}

@@ -4,7 +4,7 @@ ghost use Rattle.std.specs.Fmt.{is_char_start};
 ghost use Rattle.std.specs.List.{after_last, suffix_len};
 ghost use Rattle.yaml_base.specs.values.LinesAndColumns.{column_of, is_line_feed, line_of};
 
-/// Whether a character begins with this byte.
+/// Returns whether a character begins with this byte.
 fn begins_character(byte: u8) -> bool
     ensures { result ≡ is_char_start byte }
 {
@@ -14,7 +14,8 @@ fn begins_character(byte: u8) -> bool
 /// The most bytes that can be counted in a byte.
 const BLOCK_SIZE: usize = 255;
 
-/// Number of line feeds in a block. (A sum needs no branch for each byte, and sums in single bytes are made 16 at once.)
+/// Returns the number of line feeds in a block. (A sum needs no branch for each byte, and sums in single bytes are made
+/// 16 at once.)
 fn line_breaks_in_block(bytes: &[u8]) -> u8
     requires { length bytes.now ≤ 255 }
     ensures { result ≡ count_by is_line_feed bytes.now }
@@ -26,7 +27,7 @@ fn line_breaks_in_block(bytes: &[u8]) -> u8
     count
 }
 
-/// Number of line feeds.
+/// Returns the number of line feeds.
 fn line_breaks(bytes: &[u8]) -> usize
     ensures { result ≡ count_by is_line_feed bytes.now }
 {
@@ -37,7 +38,7 @@ fn line_breaks(bytes: &[u8]) -> usize
     count
 }
 
-/// Number of bytes after the last line feed.
+/// Returns the number of bytes after the last line feed.
 fn last_line_length(bytes: &[u8]) -> usize
     ensures value { result ≡ suffix_len (λ byte. not (is_line_feed byte)) bytes.now }
     ensures within { result ≤ length bytes.now }
@@ -49,7 +50,7 @@ fn last_line_length(bytes: &[u8]) -> usize
         .count()
 }
 
-/// Number of characters after the last line feed.
+/// Returns the number of characters after the last line feed.
 fn last_line_characters(bytes: &[u8]) -> usize
     ensures { result ≡ count_by is_char_start (after_last is_line_feed bytes.now) }
 {
@@ -57,8 +58,8 @@ fn last_line_characters(bytes: &[u8]) -> usize
     last.iter().filter(|byte| begins_character(**byte)).count()
 }
 
-/// The line and the column of an offset in bytes of a text, both from 1. A line ends with LF. A column counts characters by the
-/// bytes with which they begin, in a text that isn't UTF-8, too. An offset past the end has the place of the end.
+/// Returns the line and the column of an offset in bytes of a text, both from 1. A line ends with LF. A column counts characters
+/// by the bytes with which they begin, in a text that isn't UTF-8, too. An offset past the end has the place of the end.
 pub fn place_of(text: &[u8], offset: usize) -> (usize, usize)
     ensures line { result.0 ≡ line_of text.now offset }
     ensures column { result.1 ≡ column_of text.now offset }

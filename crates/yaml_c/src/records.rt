@@ -88,7 +88,7 @@ fn directives_of<A: Allocator + Copy>(
     Ok(Some(all))
 }
 
-/// The directives of a span, where it lies within the array.
+/// Returns the directives of a span, where it lies within the array.
 fn part_of<'a>(directives: &'a [DirectiveRecord], span: &Span) -> Option<&'a [DirectiveRecord]>
     ensures { option_map (λ part. part.now) result ≡ texts.part_of directives.now span.now }
 {
@@ -162,7 +162,7 @@ fn alias_of<'a, A: Allocator>(alloc: A, arena: &[u8], event: &EventRecord) -> Ev
     }
 }
 
-/// A scalar with the flags that keep its tag, or as it is, as a flag asks for it.
+/// Returns a scalar with the flags that keep its tag, or as it is, as a flag asks for it.
 fn typed_where(typed: u32, content: ScalarContent<'_>) -> ScalarContent<'_>
     ensures { seen_scalar result ≡ meaning.typed_where (texts.is_on typed) (seen_scalar content.entry) }
 {
@@ -173,7 +173,7 @@ fn typed_where(typed: u32, content: ScalarContent<'_>) -> ScalarContent<'_>
     }
 }
 
-/// A scalar, its texts borrowed from the arena.
+/// Returns a scalar, its texts borrowed from the arena.
 fn scalar_of<'a, A: Allocator>(arena: &'a [u8], event: &EventRecord) -> Option<GivenEvent<'a, A>>
     ensures { option_map given_event result ≡ meaning.scalar_of arena.now event.now }
 {
@@ -200,7 +200,7 @@ fn scalar_of<'a, A: Allocator>(arena: &'a [u8], event: &EventRecord) -> Option<G
     Some(GivenEvent::Scalar(typed_where(event.typed, content)))
 }
 
-/// The anchor and the tag of a collection, or none where one of them has no reading.
+/// Returns the anchor and the tag of a collection, or none where one of them has no reading.
 fn names_of<A: Allocator + Copy>(
     alloc: A,
     arena: &[u8],
@@ -268,7 +268,7 @@ fn mapping_of<'a, A: Allocator + Copy>(
     }
 }
 
-/// The event of a record; none where its kind, its style or one of its texts has no reading.
+/// Returns the event of a record; none where its kind, its style or one of its texts has no reading.
 pub(crate) fn event_of<'a, A: Allocator + Copy>(
     alloc: A,
     arena: &'a [u8],

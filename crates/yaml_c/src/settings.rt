@@ -43,7 +43,7 @@ fn limit_from(limit: usize) -> usize
     if limit == 0 { usize::MAX } else { limit }
 }
 
-/// The settings, where encoding and line break have numbers of libyaml's.
+/// Returns the settings, where encoding and line break have numbers of libyaml's.
 pub(crate) fn settings_from(given: &EmitterSettings) -> Option<Settings>
     ensures { option_map seen_settings result ≡ settings_given given.now }
 {

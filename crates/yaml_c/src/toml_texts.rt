@@ -26,7 +26,7 @@ pub struct TomlOptions {
     pub depth: usize,
 }
 
-/// The options of the same meaning for JSON.
+/// Returns the options of the same meaning for JSON.
 fn as_json_options(given: &TomlOptions) -> JsonOptions
     ensures { result ≡ as_json given.now }
 {

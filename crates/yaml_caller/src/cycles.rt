@@ -18,7 +18,7 @@ use yaml_emitter::{
     yaml_emitter_set_width, yaml_emitter_t, yaml_emitter_take_output,
 };
 
-/// The canonical bytes of a mapping whose one key is the string `k`, and whose value is the mapping itself.
+/// Returns the canonical bytes of a mapping whose one key is the string `k`, and whose value is the mapping itself.
 ///
 /// # Errors
 /// `Memory` where an allocation fails; no other error occurs.
@@ -35,7 +35,7 @@ pub fn cycle_written<A: Allocator + Copy>(alloc: A) -> Result<Vec<u8, A>, yaml_e
     Ok(yaml_emitter_take_output(&mut emitter))
 }
 
-/// An emitter that writes canonical form into at most 100 bytes.
+/// Makes an emitter that writes canonical form into at most 100 bytes.
 fn canonical_emitter<A: Allocator + Copy>(alloc: A) -> Result<yaml_emitter_t<A>, yaml_error_t>
     ensures stands { IfOk result (λ emitter. StandsAfter cycle_settings [] emitter) }
     ensures output { IfOk result (λ emitter. emitter.has_output ≡ true) }
@@ -76,7 +76,7 @@ fn dump_cycle<A: Allocator + Copy>(
     yaml_emitter_close(emitter)
 }
 
-/// The document: its mapping is node 1, and the key is node 2.
+/// Makes the document: its mapping is node 1, and the key is node 2.
 fn cycle<A: Allocator + Copy>(alloc: A) -> Result<yaml_document_t<A>, yaml_error_t>
     ensures graph { IfOk result (λ document. graph_of document ≡ cycle_graph) }
     ensures memory { IfErr result (λ error. error ≡ yaml_error_t.Memory) }

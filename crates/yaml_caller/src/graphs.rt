@@ -13,9 +13,9 @@ use yaml_dump::{yaml_emitter_close, yaml_emitter_dump};
 use yaml_emitter::{yaml_emitter_t, yaml_emitter_take_output};
 use yaml_value::canonical_settings;
 
-/// Whether two documents have the same canonical bytes, their directives and document markers aside: exactly where the
-/// parts of their graphs that the roots reach are isomorphic. The numbers and the styles of nodes don't count; which nodes
-/// are shared, does.
+/// Returns whether two documents have the same canonical bytes, their directives and document markers aside: exactly where
+/// the parts of their graphs that the roots reach are isomorphic. The numbers and the styles of nodes don't count; which
+/// nodes are shared, does.
 ///
 /// # Errors
 /// Where a graph can't be written the refusal of its first event that is refused: `TagEmpty`, or `TooDeep`. `Memory` where an
@@ -40,7 +40,7 @@ pub fn same_graph<A: Allocator + Copy>(
     same_nodes(alloc, first, second)
 }
 
-/// Whether two documents that have nodes have isomorphic graphs.
+/// Returns whether two documents that have nodes have isomorphic graphs.
 fn same_nodes<A: Allocator + Copy>(
     alloc: A,
     first: yaml_document_t<A>,
@@ -60,7 +60,7 @@ fn same_nodes<A: Allocator + Copy>(
     Ok(one.as_slice() == other.as_slice())
 }
 
-/// The canonical bytes of a document's nodes.
+/// Returns the canonical bytes of a document's nodes.
 fn graph_bytes<A: Allocator + Copy>(
     alloc: A,
     document: yaml_document_t<A>,

@@ -18,8 +18,8 @@ use yaml_emitter::{
     yaml_emitter_t, yaml_emitter_take_output,
 };
 
-/// The bytes of a stream of one document, a block mapping of the key to the value, whatever these texts are: what the
-/// reader of whole streams finds in them agrees with the events.
+/// Returns the bytes of a stream of one document, a block mapping of the key to the value, whatever these texts are:
+/// what the reader of whole streams finds in them agrees with the events.
 ///
 /// # Errors
 /// `Memory` where an allocation fails, and `WriteError` where there would be more than 1,000,000 bytes; no other error occurs.
@@ -38,7 +38,7 @@ pub fn pair_written<A: Allocator + Copy>(
     Ok(yaml_emitter_take_output(&mut emitter))
 }
 
-/// An emitter in portable mode.
+/// Makes an emitter in portable mode.
 fn portable_emitter<A: Allocator + Copy>(alloc: A) -> Result<yaml_emitter_t<A>, yaml_error_t>
     ensures stands { IfOk result (λ emitter. StandsAfter portable_settings [] emitter) }
     ensures output { IfOk result (λ emitter. emitter.has_output ≡ true) }
@@ -103,7 +103,7 @@ fn events_of_pair<A: Allocator + Copy>(
     Ok(events)
 }
 
-/// A text without a tag, in the style that fits.
+/// Returns a text without a tag, in the style that fits.
 fn text_event<A: Allocator>(value: String<A>) -> yaml_event_t<A>
     ensures { seen_event result ≡ text_scalar (seen_text value) }
 {

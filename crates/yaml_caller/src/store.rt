@@ -51,7 +51,7 @@ pub fn seal<A: Allocator + Copy>(alloc: A, value: &Value<A>) -> Result<Entry<A>,
     }
 }
 
-/// Whether the bytes have this digest.
+/// Returns whether the bytes have this digest.
 fn has_digest(bytes: &[u8], digest: &[u8; 32]) -> bool
     ensures { Decides result (digest.now ≡ sha256 bytes.now) }
 {
@@ -96,7 +96,7 @@ pub fn sealed_and_opened<A: Allocator + Copy>(
     Ok(open(alloc, &entry))
 }
 
-/// A law, the contract of a function that does nothing: a value has one entry, and an entry one value.
+/// States that a value has one entry, and an entry one value.
 pub fn entries_are_values()
     ensures entries { (value : TypedValue) (bytes digest other_bytes other_digest : List ℕ) → IsEntryOf value bytes digest
         → IsEntryOf value other_bytes other_digest → (bytes ≡ other_bytes) × (digest ≡ other_digest) }

@@ -9,7 +9,7 @@ use yaml_base::yaml_error_t;
 use yaml_read::{ReadError, read_canonical};
 use yaml_value::{Value, write_canonical};
 
-/// Whether two values have the same canonical bytes: exactly where they are the same value.
+/// Returns whether two values have the same canonical bytes: exactly where they are the same value.
 ///
 /// # Errors
 /// `TooDeep` where more than 1,000 lists and maps of one of them lie within one another. `Memory` where an allocation

@@ -9,7 +9,7 @@ ghost use Rattle.yaml_base.specs.Settings.{largest_usize};
 use crate::steps::Step;
 use std::alloc::{AllocError, Allocator};
 
-/// `id` and a number of at least three digits.
+/// Returns `id` and a number of at least three digits.
 pub(crate) fn numbered_name<A: Allocator>(alloc: A, place: usize) -> Result<String<A>, AllocError>
     ensures { IfOk result (λ name. seen_text name ≡ meetings.numbered_name place) }
 {
@@ -33,8 +33,8 @@ fn place_met(places: &mut [usize], shared: usize, step: Step) -> usize
     shared + 1
 }
 
-/// For each node, that of number 1 first, its place from 1 on among those that the walk meets
-/// again, in the order in which each first is; 0 for one that is met once.
+/// Returns for each node, that of number 1 first, its place from 1 on among those that the walk meets again, in the
+/// order in which each first is; 0 for one that is met once.
 pub(crate) fn shared_places<A: Allocator + Copy>(
     alloc: A,
     walk: &[Step],

@@ -9,7 +9,7 @@ ghost use Rattle.yaml_dump.specs.Events.{without_children};
 use std::alloc::{AllocError, Allocator};
 use yaml_base::{yaml_document_t, yaml_node_data_t, yaml_node_t};
 
-/// A node's texts, kind and style: a copy of a collection has no children, of which no event speaks.
+/// Returns a node's texts, kind and style: a copy of a collection has no children, of which no event speaks.
 fn copied_node<A: Allocator + Copy>(
     alloc: A,
     node: &yaml_node_t<A>,
@@ -49,7 +49,7 @@ fn copied_node<A: Allocator + Copy>(
     }
 }
 
-/// The node of a number.
+/// Returns the node of a number.
 fn node_of<A: Allocator>(document: &yaml_document_t<A>, number: usize) -> Option<&yaml_node_t<A>>
     requires { number ≤ largest_i32 }
     ensures { option_map (λ node. seen_node node.now) result ≡ meetings.node_numbered (graph_of document.now) number }
@@ -57,7 +57,7 @@ fn node_of<A: Allocator>(document: &yaml_document_t<A>, number: usize) -> Option
     document.get_node(number as i32)
 }
 
-/// How many nodes there are.
+/// Returns how many nodes there are.
 fn count_of<A: Allocator>(document: &yaml_document_t<A>) -> usize
     ensures all { result ≡ length (graph_of document.now).nodes }
     ensures few { result ≤ largest_i32 }

@@ -17,7 +17,7 @@ use std::alloc::{AllocError, Allocator};
 use yaml_base::{yaml_document_t, yaml_error_t, yaml_event_t};
 use yaml_emitter::yaml_emitter_t;
 
-/// The events of a document, from its start to its end; none where it has no nodes.
+/// Returns the events of a document, from its start to its end; none where it has no nodes.
 ///
 /// Each node that is reached from node 1 is written where it is first met, and stands as an alias elsewhere; nodes that
 /// are met more than once have anchors, numbered in the order of their second meetings (`id001`). The events of a document
@@ -43,7 +43,7 @@ pub fn document_events<A: Allocator + Copy>(
     }
 }
 
-/// Those of a document that has nodes, with copies of its texts.
+/// Returns the events of a document that has nodes, with copies of its texts.
 fn events_of_copies<A: Allocator + Copy>(
     alloc: A,
     document: &yaml_document_t<A>,
@@ -63,7 +63,7 @@ fn events_of_copies<A: Allocator + Copy>(
     events_of_walk(alloc, outline, copies)
 }
 
-/// The events of a document, into which its texts are moved; none where it has no nodes.
+/// Returns the events of a document, into which its texts are moved; none where it has no nodes.
 pub(crate) fn moved_events<A: Allocator + Copy>(
     alloc: A,
     document: yaml_document_t<A>,

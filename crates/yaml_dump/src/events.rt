@@ -26,7 +26,7 @@ use yaml_base::{
     yaml_sequence_style_t,
 };
 
-/// Whether a tag is this one, which is ASCII.
+/// Returns whether a tag is this one, which is ASCII.
 fn is_tag(tag: &str, wanted: &'static str) -> bool
     requires { IsTrue (list_all (λ byte. nat_lt byte 128) wanted.now) }
     ensures { result ≡ bytes_eq (chars tag.now) wanted.now }
@@ -98,7 +98,7 @@ fn mapping_start<A: Allocator>(
     }
 }
 
-/// The event with which a node begins. The node's texts are moved there; its kind stays.
+/// Returns the event with which a node begins. The node's texts are moved there; its kind stays.
 fn opening_event<A: Allocator + Copy>(
     alloc: A,
     anchor: Option<String<A>>,
@@ -119,7 +119,7 @@ fn opening_event<A: Allocator + Copy>(
     }
 }
 
-/// The event with which a node ends; a scalar has none.
+/// Returns the event with which a node ends; a scalar has none.
 fn closing_event<A: Allocator>(contents: &yaml_node_data_t<A>) -> Option<yaml_event_t<A>>
     ensures { seen_events_of result ≡ meetings.closing_event_of (seen_held contents.now) }
 {
@@ -130,7 +130,7 @@ fn closing_event<A: Allocator>(contents: &yaml_node_data_t<A>) -> Option<yaml_ev
     }
 }
 
-/// The anchor of the shared node of a place; the place 0 has none.
+/// Returns the anchor of the shared node of a place; the place 0 has none.
 fn anchor_of<A: Allocator>(alloc: A, place: usize) -> Result<Option<String<A>>, AllocError>
     ensures { IfOk result (λ anchor. option_map seen_text anchor ≡ anchor_of_place place) }
 {
@@ -143,7 +143,7 @@ fn anchor_of<A: Allocator>(alloc: A, place: usize) -> Result<Option<String<A>>, 
     Ok(Some(name))
 }
 
-/// The event with which the node of a number begins, where no step before entered that node.
+/// Returns the event with which the node of a number begins, where no step before entered that node.
 fn opening_event_at<A: Allocator + Copy>(
     alloc: A,
     nodes: &mut [yaml_node_t<A>],
@@ -164,7 +164,7 @@ fn opening_event_at<A: Allocator + Copy>(
     Ok(Some(opening_event(alloc, anchor, node)))
 }
 
-/// The event with which the node of a number ends, if it is a collection.
+/// Returns the event with which the node of a number ends, if it is a collection.
 fn closing_event_at<A: Allocator>(
     nodes: &[yaml_node_t<A>],
     number: usize,
@@ -176,8 +176,8 @@ fn closing_event_at<A: Allocator>(
     closing_event(&nodes[number - 1].contents)
 }
 
-/// The event of a step, where the shared nodes have these places; a scalar is left without one. A node is entered once, so
-/// its texts are moved into the event of its entry.
+/// Returns the event of a step, where the shared nodes have these places; a scalar is left without one. A node is entered
+/// once, so its texts are moved into the event of its entry.
 fn step_event<A: Allocator + Copy>(
     alloc: A,
     nodes: &mut [yaml_node_t<A>],
@@ -207,7 +207,7 @@ fn step_event<A: Allocator + Copy>(
     }
 }
 
-/// The step's event, behind others.
+/// Appends the step's event.
 fn push_event<A: Allocator + Copy>(
     alloc: A,
     nodes: &mut [yaml_node_t<A>],
@@ -232,7 +232,7 @@ fn push_event<A: Allocator + Copy>(
     Ok(())
 }
 
-/// The events of a walk's steps, behind others.
+/// Appends the events of a walk's steps.
 fn push_events<A: Allocator + Copy>(
     alloc: A,
     nodes: &mut [yaml_node_t<A>],
@@ -255,7 +255,7 @@ fn push_events<A: Allocator + Copy>(
     Ok(())
 }
 
-/// The events of a walk over these nodes, behind others. The nodes' texts are moved into them.
+/// Appends the events of a walk over these nodes. The nodes' texts are moved into them.
 fn push_walk<A: Allocator + Copy>(
     alloc: A,
     nodes: &mut [yaml_node_t<A>],
@@ -273,7 +273,8 @@ fn push_walk<A: Allocator + Copy>(
     push_events(alloc, nodes, places.as_slice(), walk, events)
 }
 
-/// The events of a document of this outline and these nodes. The nodes are dropped, and their texts are moved into the events.
+/// Returns the events of a document of this outline and these nodes. The nodes are dropped, and their texts are moved into the
+/// events.
 pub(crate) fn events_of_walk<A: Allocator + Copy>(
     alloc: A,
     outline: Outline<A>,

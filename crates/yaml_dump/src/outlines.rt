@@ -49,7 +49,7 @@ fn copied_directives<A: Allocator + Copy>(
     Ok(copies)
 }
 
-/// The event with which a document begins, in a list with room for those of so many steps.
+/// Returns the event with which a document begins, in a list with room for those of so many steps.
 fn begun_events<A: Allocator + Copy>(
     alloc: A,
     document: &yaml_document_t<A>,
@@ -72,7 +72,7 @@ fn begun_events<A: Allocator + Copy>(
     Ok(events)
 }
 
-/// That of a document that has nodes.
+/// Returns the outline of a document that has nodes.
 pub(crate) fn outline_of<A: Allocator + Copy>(
     alloc: A,
     document: &yaml_document_t<A>,

@@ -30,14 +30,14 @@ struct Walker<A: Allocator> {
     visits: Vec<Visit, A>,
 }
 
-/// A node's number; 0 for a negative one.
+/// Returns a node's number; 0 for a negative one.
 fn number_of(number: i32) -> usize
     ensures { result ≡ seen_number number }
 {
     if number < 0 { 0 } else { number as usize }
 }
 
-/// The number at a place among pairs, keys before their values.
+/// Returns the number at a place among pairs, keys before their values.
 fn number_in_pairs(pairs: &[yaml_node_pair_t], place: usize) -> Option<usize>
     ensures { result ≡ slice_get (pair_numbers (map seen_pair pairs.now)) place }
 {
@@ -49,7 +49,7 @@ fn number_in_pairs(pairs: &[yaml_node_pair_t], place: usize) -> Option<usize>
     })
 }
 
-/// The number at a place among those that a node holds.
+/// Returns the number at a place among those that a node holds.
 fn number_at<A: Allocator>(contents: &yaml_node_data_t<A>, place: usize) -> Option<usize>
     ensures number { result ≡ slice_get (numbers_held (seen_held contents.now)) place }
     ensures countable { IfSome result (λ _. place + 1 < 2 ^ 64) }
@@ -63,7 +63,7 @@ fn number_at<A: Allocator>(contents: &yaml_node_data_t<A>, place: usize) -> Opti
     }
 }
 
-/// The child that a visit meets next.
+/// Returns the child that a visit meets next.
 fn next_child<A: Allocator>(document: &yaml_document_t<A>, visit: Visit) -> Option<usize>
     requires { IsNamed (length (graph_of document.now).nodes) visit.number }
     ensures child { result ≡ child_of (graph_of document.now) visit }
@@ -77,7 +77,7 @@ fn next_child<A: Allocator>(document: &yaml_document_t<A>, visit: Visit) -> Opti
 }
 
 impl<A: Allocator> Walker<A> {
-    /// Before the first node is met.
+    /// Makes a walker that has met no node yet.
     fn at_start(alloc: A, count: usize) -> Result<Walker<A>, AllocError>
     where
         A: Copy,
@@ -126,8 +126,8 @@ impl<A: Allocator> Walker<A> {
     }
 }
 
-/// The steps of the walk from node 1. The visits are kept in a list of their own, so nodes may lie
-/// however deep in each other.
+/// Returns the steps of the walk from node 1. The visits are kept in a list of their own, so nodes may lie however deep
+/// in each other.
 pub(crate) fn walk<A: Allocator + Copy>(
     alloc: A,
     document: &yaml_document_t<A>,

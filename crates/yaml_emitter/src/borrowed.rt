@@ -104,7 +104,7 @@ impl<A: Allocator + Copy> Machine<A> {
     }
 }
 
-/// The characters of borrowed texts are Unicode scalar values.
+/// States that the characters of borrowed texts are Unicode scalar values.
 fn texts_are_scalars(content: &ScalarContent)
     ensures { has_scalar_texts (scalar (seen_scalar content.now)) ≡ true }
 {
@@ -118,7 +118,7 @@ fn text_is_scalars(text: &str)
     ensures { all_scalars (chars text.now) ≡ true }
 {}
 
-/// An event of its own, with a copy of each text.
+/// Returns an event of its own, with a copy of each text.
 fn copied_scalar<A: Allocator + Copy>(
     spares: &mut SpareTexts<A>,
     alloc: A,

@@ -59,7 +59,7 @@ pub(crate) fn add_defaults<A: Allocator + Copy>(
     add_default(alloc, directives, TYPES, TYPES_PREFIX)
 }
 
-/// A directive of these texts.
+/// Makes a directive of these texts.
 fn directive_of<A: Allocator + Copy>(
     alloc: A,
     handle: &str,
@@ -87,7 +87,7 @@ fn add_default<A: Allocator + Copy>(
     directives.append(&directive, allow_duplicates)
 }
 
-/// The directives in force in a document with this version and these directives of its own, each checked in its
+/// Returns the directives in force in a document with this version and these directives of its own, each checked in its
 /// turn. `Memory` may come at any of them.
 pub(crate) fn directives_for<A: Allocator + Copy>(
     alloc: A,
@@ -106,8 +106,8 @@ pub(crate) fn directives_for<A: Allocator + Copy>(
     Ok(directives)
 }
 
-/// The directives in force in the next document. Those of the document before are kept where both have the defaults
-/// alone. `Memory` may come at any of its own.
+/// Returns the directives in force in the next document. Those of the document before are kept where both have the
+/// defaults alone. `Memory` may come at any of its own.
 pub(crate) fn next_directives<A: Allocator + Copy>(
     alloc: A,
     before: Directives<A>,
@@ -126,7 +126,7 @@ pub(crate) fn next_directives<A: Allocator + Copy>(
     Ok(before)
 }
 
-/// Whether these are the two defaults and no others.
+/// Returns whether these are the two defaults and no others.
 fn are_defaults<A: Allocator>(directives: &Directives<A>) -> bool
     ensures { result ≡ true → directives.now ≡ default_directives }
 {
@@ -136,7 +136,7 @@ fn are_defaults<A: Allocator>(directives: &Directives<A>) -> bool
     gives(directives.get(0), LOCAL, LOCAL) && gives(directives.get(1), TYPES, TYPES_PREFIX)
 }
 
-/// Whether a directive gives this prefix to this handle.
+/// Returns whether a directive gives this prefix to this handle.
 fn gives<A: Allocator>(
     directive: Option<&yaml_tag_directive_t<A>>,
     handle: &str,

@@ -139,7 +139,7 @@ impl<A: Allocator + Copy> yaml_emitter_t<A> {
         self.write_waiting(scalar)
     }
 
-    /// What `write_waiting` does where events wait. Out of line, so that `write_waiting` is inlined.
+    /// Does what `write_waiting` does where events wait. Out of line, so that `write_waiting` is inlined.
     #[inline(never)]
     fn write_queue(&mut self, next: Option<&yaml_event_t<A>>) -> Result<(), yaml_error_t>
         requires no_error { self.old.error ≡ None }

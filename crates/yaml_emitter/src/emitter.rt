@@ -54,7 +54,7 @@ impl<A: Allocator> Model for yaml_emitter_t<A> {
     ghost invariant = { IsEmitter };
 }
 
-/// A new emitter: nothing is set, no output, no event.
+/// Makes a new emitter: nothing is set, no output, no event.
 ///
 /// Returns `Memory` if its buffer or its queue can't be allocated.
 pub fn yaml_emitter_initialize<A: Allocator + Copy>(
@@ -78,7 +78,7 @@ pub fn yaml_emitter_initialize<A: Allocator + Copy>(
 }
 
 impl<A: Allocator + Copy> yaml_emitter_t<A> {
-    /// A new emitter with these settings and an output, as the setters make it, called one by one.
+    /// Makes a new emitter with these settings and an output, as the setters make it, called one by one.
     ///
     /// # Errors
     ///

@@ -49,21 +49,21 @@ impl<A: Allocator> Frames<A> {
         }
     }
 
-    /// Whether a collection is open.
+    /// Returns whether a collection is open.
     pub(crate) fn is_open(&self) -> bool
         ensures { result ≡ nat_lt 0 (length self.now) }
     {
         self.innermost.is_some()
     }
 
-    /// Whether the maximum nesting depth is reached.
+    /// Returns whether the maximum nesting depth is reached.
     pub(crate) fn is_full(&self) -> bool
         ensures { result ≡ not (nat_lt (length self.now) most_open) }
     {
         self.is_open() && self.outer.len() >= MOST_OPEN - 1
     }
 
-    /// Where the next node stands.
+    /// Returns where the next node stands.
     pub(crate) fn next_place(&self) -> Place
         ensures place { seen_place result ≡ steps.next_place self.now }
         ensures nested { line_column (seen_place result).column ≤ 9 * length self.now }
@@ -74,7 +74,7 @@ impl<A: Allocator> Frames<A> {
         }
     }
 
-    /// Whether the end of a mapping, or of a sequence, may come next.
+    /// Returns whether the end of a mapping, or of a sequence, may come next.
     pub(crate) fn may_end(&self, kind: CollectionKind) -> bool
         ensures { result ≡ steps.node_allowed self.now (end_event (is_mapping kind)) }
     {

@@ -44,7 +44,7 @@ impl<A: Allocator> Model for Machine<A> {
 }
 
 impl<A: Allocator + Copy> Machine<A> {
-    /// A machine that nothing was given to.
+    /// Makes a machine that nothing was given to.
     ///
     /// # Errors
     ///
@@ -70,14 +70,14 @@ impl<A: Allocator + Copy> Machine<A> {
 }
 
 impl<A: Allocator> Machine<A> {
-    /// The first error.
+    /// Returns the first error.
     pub(crate) fn error(&self) -> Option<yaml_error_t>
         ensures { result ≡ self.now.error }
     {
         self.error
     }
 
-    /// Whether the encoding was set, or the stream has begun.
+    /// Returns whether the encoding was set, or the stream has begun.
     pub(crate) fn knows_encoding(&self) -> bool
         ensures { result ≡ (is_some self.now.given.encoding || not (is_at_stream self.now.stage)) }
     {
@@ -87,7 +87,7 @@ impl<A: Allocator> Machine<A> {
         }
     }
 
-    /// The flushed bytes not yet taken; none where nothing is written.
+    /// Returns the flushed bytes not yet taken; none where nothing is written.
     pub(crate) fn output(&self) -> &[u8]
         ensures value { result.now ≡ output_left self.now.page }
         ensures untaken { self.now.page.taken ≡ 0 → result.now ≡ self.now.page.output }

@@ -41,7 +41,7 @@ use yaml_base::{
 use yaml_pen::Pen;
 
 impl<A: Allocator + Copy> Machine<A> {
-    /// A scalar. One that stands as it is has no anchor, and no tag is written: nothing of it can be refused.
+    /// Processes a scalar. One that stands as it is has no anchor, and no tag is written: nothing of it can be refused.
     #[inline(always)]
     pub(crate) fn scalar(&mut self, content: &ScalarContent) -> Result<(), yaml_error_t>
         ensures { (empty : Bool) → Processed (scalar (seen_scalar content.now)) empty self.old self.new result }
@@ -58,7 +58,7 @@ impl<A: Allocator + Copy> Machine<A> {
         }
     }
 
-    /// A scalar without anchor and tag that needs no tag in any style: the tests of names and flags fold away.
+    /// Writes a scalar without anchor and tag that needs no tag in any style: the tests of names and flags fold away.
     fn put_bare(&mut self, value: &str, style: yaml_scalar_style_t) -> Result<(), yaml_error_t>
         requires { is_at_node self.old.stage ≡ true }
         ensures { (empty : Bool) → Processed (scalar (bare_scalar (chars value.now) (seen_scalar_style style))) empty self.old self.new result }
@@ -73,7 +73,7 @@ impl<A: Allocator + Copy> Machine<A> {
         })
     }
 
-    /// Any other scalar: its anchor and tag are looked at before its place.
+    /// Processes any other scalar: its anchor and tag are looked at before its place.
     #[inline(never)]
     fn chosen_scalar(&mut self, content: &ScalarContent) -> Result<(), yaml_error_t>
         ensures { (empty : Bool) → Processed (scalar (seen_scalar content.now)) empty self.old self.new result }
@@ -105,7 +105,7 @@ impl<A: Allocator + Copy> Machine<A> {
         Ok(())
     }
 
-    /// Any other scalar.
+    /// Writes any other scalar.
     #[inline(always)]
     pub(crate) fn put_chosen(&mut self, content: &ScalarContent) -> Result<(), yaml_error_t>
         requires stage { is_at_node self.old.stage ≡ true }
@@ -128,7 +128,7 @@ impl<A: Allocator + Copy> Machine<A> {
         write_scalar(&mut self.pen, &mut self.open_ended, &site, content, tag)
     }
 
-    /// An alias.
+    /// Processes an alias.
     pub(crate) fn alias(&mut self, name: &str) -> Result<(), yaml_error_t>
         ensures { (empty : Bool) → Processed (alias (chars name.now)) empty self.old self.new result }
     {
@@ -147,7 +147,8 @@ impl<A: Allocator + Copy> Machine<A> {
         write_alias(&mut self.pen, &site, name)
     }
 
-    /// Memory for what is open is asked for first: where it is refused, nothing of the start is written.
+    /// Processes the start of a collection. Memory for what is open is asked for first: where it is refused, nothing of
+    /// the start is written.
     pub(crate) fn start_collection(
         &mut self,
         content: &CollectionContent,
@@ -202,7 +203,7 @@ impl<A: Allocator + Copy> Machine<A> {
         matches!(self.stage, Stage::Node)
     }
 
-    /// Whether the end of a collection of this kind may come next.
+    /// Returns whether the end of a collection of this kind may come next.
     fn may_end(&self, kind: CollectionKind) -> bool
         ensures { result ≡ stage_allows self.now.stage (end_event (is_mapping kind)) }
     {
@@ -212,7 +213,7 @@ impl<A: Allocator + Copy> Machine<A> {
         }
     }
 
-    /// The end of a collection.
+    /// Processes the end of a collection.
     pub(crate) fn end_collection(&mut self, kind: CollectionKind) -> Result<(), yaml_error_t>
         ensures { (empty : Bool) → Processed (end_event (is_mapping kind)) empty self.old self.new result }
     {
@@ -235,7 +236,7 @@ impl<A: Allocator + Copy> Machine<A> {
     }
 }
 
-/// Whether a scalar has no anchor and no tag, and needs no tag in any style.
+/// Returns whether a scalar has no anchor and no tag, and needs no tag in any style.
 fn is_bare(content: &ScalarContent) -> bool
     ensures { result ≡ true → seen_scalar content.now ≡ bare_scalar (chars content.now.value.now) (seen_scalar_style content.now.style) }
 {
@@ -245,7 +246,7 @@ fn is_bare(content: &ScalarContent) -> bool
         && content.quoted_implicit
 }
 
-/// Whether a scalar whose tag isn't written has no flag, although it needs one.
+/// Returns whether a scalar whose tag isn't written has no flag, although it needs one.
 fn lacks_flag(content: &ScalarContent, canonical: bool) -> bool
     ensures { result ≡ style.lacks_tag_and_flags
         (is_some (scalar_tag canonical (seen_scalar content.now))) content.now.plain_implicit content.now.quoted_implicit }
@@ -254,7 +255,7 @@ fn lacks_flag(content: &ScalarContent, canonical: bool) -> bool
     tag.is_none() && !content.plain_implicit && !content.quoted_implicit
 }
 
-/// What a scalar's event holds; its tag may be left out in plain style, and in others.
+/// Returns what a scalar's event holds; its tag may be left out in plain style, and in others.
 pub(crate) fn scalar_content<'a, A: Allocator>(
     anchor: &'a Option<String<A>>,
     tag: &'a Option<String<A>>,
@@ -314,7 +315,7 @@ pub(crate) fn collection_content<'a, A: Allocator>(
     }
 }
 
-/// The frame of a collection whose start is written.
+/// Returns the frame of a collection whose start is written.
 fn opened_frame<A: Allocator>(
     pen: &Pen<A>,
     site: &Site,

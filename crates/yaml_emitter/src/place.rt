@@ -49,7 +49,7 @@ impl Role {
         matches!(self, Role::Key { .. } | Role::Value { .. })
     }
 
-    /// Whether a collection may end here: a mapping ends in place of a key, a sequence in place of an item.
+    /// Returns whether a collection may end here: a mapping ends in place of a key, a sequence in place of an item.
     pub(crate) fn may_end(self, kind: CollectionKind) -> bool
         ensures { result ≡ (if is_mapping kind then is_key (seen_role self) else is_item (seen_role self)) }
     {
@@ -60,7 +60,7 @@ impl Role {
         }
     }
 
-    /// Whether no entry of the collection is written yet.
+    /// Returns whether no entry of the collection is written yet.
     pub(crate) fn is_first(self) -> bool
         ensures { result ≡ is_first (seen_role self) }
     {
@@ -70,7 +70,7 @@ impl Role {
         }
     }
 
-    /// What the node after one is, which may have been a simple key.
+    /// Returns what the node after one is, which may have been a simple key.
     pub(crate) fn after(self, simple: bool) -> Role
         ensures { seen_role result ≡ role_after (seen_role self) simple }
     {
@@ -99,7 +99,7 @@ impl Place {
         }
     }
 
-    /// Where a new line begins here.
+    /// Returns where a new line begins here.
     pub(crate) fn line_column(&self) -> u32
         ensures value { result ≡ line_column (seen_place self.now).column }
         ensures within { result ≤ most_column }
@@ -107,7 +107,7 @@ impl Place {
         self.column.unwrap_or(0)
     }
 
-    /// This place with `column` filled in: 0 at the root.
+    /// Returns this place with `column` filled in: 0 at the root.
     pub(crate) fn at_line(&self) -> Place
         ensures role { result.role ≡ self.now.role }
         ensures column { result.column ≡ Some (line_column (seen_place self.now).column) }
@@ -119,7 +119,7 @@ impl Place {
         }
     }
 
-    /// One indent further in.
+    /// Returns the column one indent further in.
     pub(crate) fn deeper(&self, indent: u32) -> u32
         requires { indent ≤ 9 }
         ensures value { result ≡ deeper indent (seen_place self.now).column }

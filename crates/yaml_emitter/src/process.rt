@@ -60,7 +60,7 @@ impl<A: Allocator + Copy> Machine<A> {
         }
     }
 
-    /// What `process` does with an event that is no scalar. A function of its own, so that scalars save no registers for it.
+    /// Processes an event that is no scalar, in a function of its own, so that scalars save no registers for it.
     fn process_other(&mut self, event: &yaml_event_t<A>, empty: bool) -> Result<(), yaml_error_t>
         ensures { is_scalar (seen_event event.now) ≡ false → Processed (seen_event event.now) empty self.old self.new result }
     {
@@ -98,7 +98,7 @@ impl<A: Allocator + Copy> Machine<A> {
         }
     }
 
-    /// The stream's start settles what it is written by.
+    /// Processes the stream's start, which settles what it is written by.
     fn start_stream(&mut self, encoding: yaml_encoding_t) -> Result<(), yaml_error_t>
         ensures { (empty : Bool) → Processed (stream_start (seen_encoding encoding)) empty self.old self.new result }
     {
@@ -116,7 +116,7 @@ impl<A: Allocator + Copy> Machine<A> {
         Ok(())
     }
 
-    /// A document's start. Memory is asked for before anything is written.
+    /// Processes a document's start. Memory is asked for before anything is written.
     fn start_document(
         &mut self,
         version: Option<yaml_version_directive_t>,
@@ -152,7 +152,7 @@ impl<A: Allocator + Copy> Machine<A> {
         Ok(())
     }
 
-    /// A document's end, with `...` where it isn't implicit.
+    /// Processes a document's end, with `...` where it isn't implicit.
     fn end_document(&mut self, implicit: bool) -> Result<(), yaml_error_t>
         ensures { (empty : Bool) → Processed (document_end implicit) empty self.old self.new result }
     {
@@ -166,7 +166,7 @@ impl<A: Allocator + Copy> Machine<A> {
         Ok(())
     }
 
-    /// The stream's end.
+    /// Processes the stream's end.
     fn end_stream(&mut self) -> Result<(), yaml_error_t>
         ensures { (empty : Bool) → Processed stream_end empty self.old self.new result }
     {

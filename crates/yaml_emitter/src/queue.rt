@@ -41,7 +41,7 @@ fn ends<A: Allocator>(event: &yaml_event_t<A>) -> bool
     )
 }
 
-/// How many events must follow this one, where none closes it sooner.
+/// Returns how many events must follow this one, where none closes it sooner.
 fn followers<A: Allocator>(event: &yaml_event_t<A>) -> usize
     ensures { result ≡ awaited (seen_event event.now) }
 {
@@ -53,8 +53,8 @@ fn followers<A: Allocator>(event: &yaml_event_t<A>) -> usize
     }
 }
 
-/// How many collections, documents and streams are open within another one behind an event, where so many are before it.
-/// None where the event ends that one.
+/// Returns how many collections, documents and streams are open within another one behind an event, where so many are
+/// before it. None where the event ends that one.
 fn open_behind<A: Allocator>(before: usize, event: &yaml_event_t<A>) -> Option<usize>
     requires { before + 1 < 2 ^ 64 }
     ensures { result ≡ open_behind before (seen_event event.now) }
@@ -68,7 +68,7 @@ fn open_behind<A: Allocator>(before: usize, event: &yaml_event_t<A>) -> Option<u
     }
 }
 
-/// Whether what an event starts is ended by those behind it and by the last one; none at the end is a scalar.
+/// Returns whether what an event starts is ended by those behind it and by the last one; none at the end is a scalar.
 fn closes<A: Allocator>(rest: &[yaml_event_t<A>], next: Option<&yaml_event_t<A>>) -> bool
     ensures { (first last : Event) → is_start first ≡ true → StandsLast (seen_next next.entry) last
         → result ≡ list_any is_balanced (nonempty_prefixes (first ∷ (seen_events rest.now ++ last ∷ []))) }
@@ -86,7 +86,7 @@ fn closes<A: Allocator>(rest: &[yaml_event_t<A>], next: Option<&yaml_event_t<A>>
     }
 }
 
-/// Whether an event that waits can be written with these and the last one behind it; none at the end is a scalar.
+/// Returns whether an event that waits can be written with these and the last one behind it; none at the end is a scalar.
 pub(crate) fn is_ready<A: Allocator>(
     event: &yaml_event_t<A>,
     rest: &[yaml_event_t<A>],
@@ -98,14 +98,14 @@ pub(crate) fn is_ready<A: Allocator>(
     followers(event).saturating_sub(1) <= rest.len() || closes(rest, next)
 }
 
-/// Whether no event waits.
+/// Returns whether no event waits.
 pub(crate) fn nothing_waits<A: Allocator>(queue: &WaitingEvents<A>) -> bool
     ensures { result ≡ (length queue.now.items == 0) }
 {
     queue.as_slice().is_empty()
 }
 
-/// Whether no event waits, and this one can be written whatever follows it.
+/// Returns whether no event waits, and this one can be written whatever follows it.
 pub(crate) fn needs_no_waiting<A: Allocator>(
     queue: &WaitingEvents<A>,
     event: &yaml_event_t<A>,
@@ -129,7 +129,7 @@ pub(crate) fn are_ready_by_one_more<A: Allocator>(waiting: &[yaml_event_t<A>]) -
     true
 }
 
-/// Whether an event starts a collection that the next of these and the last one ends; none at the end is a scalar.
+/// Returns whether an event starts a collection that the next of these and the last one ends; none at the end is a scalar.
 pub(crate) fn closes_at_once<A: Allocator>(
     event: &yaml_event_t<A>,
     rest: &[yaml_event_t<A>],
@@ -147,7 +147,7 @@ pub(crate) fn closes_at_once<A: Allocator>(
     }
 }
 
-/// Whether an event is the end of a collection that starts with the other one.
+/// Returns whether an event is the end of a collection that starts with the other one.
 fn is_end_of<A: Allocator>(end: &yaml_event_t<A>, start: &yaml_event_t<A>) -> bool
     ensures { result ≡ processing.closes_at_once (seen_event start.now) (seen_event end.now ∷ []) }
 {
@@ -158,7 +158,7 @@ fn is_end_of<A: Allocator>(end: &yaml_event_t<A>, start: &yaml_event_t<A>) -> bo
     }
 }
 
-/// The first of the events that wait, and those behind it.
+/// Returns the first of the events that wait, and those behind it.
 pub(crate) fn first_and_rest<A: Allocator>(
     waiting: &[yaml_event_t<A>],
 ) -> (&yaml_event_t<A>, &[yaml_event_t<A>])

@@ -157,35 +157,35 @@ pub fn yaml_emitter_set_literal_blanks<A: Allocator>(emitter: &mut yaml_emitter_
 }
 
 impl<A: Allocator> yaml_emitter_t<A> {
-    /// Whether an event was given.
+    /// Returns whether an event was given.
     pub fn is_started(&self) -> bool
         ensures { result ≡ self.now.started }
     {
         self.started
     }
 
-    /// Whether an output was set.
+    /// Returns whether an output was set.
     pub fn has_output(&self) -> bool
         ensures { result ≡ self.now.has_output }
     {
         self.has_output
     }
 
-    /// Whether canonical form was set.
+    /// Returns whether canonical form was set.
     pub fn is_canonical(&self) -> bool
         ensures { result ≡ self.now.given.canonical }
     {
         self.machine.given.canonical
     }
 
-    /// Whether the encoding was set, or the stream has begun.
+    /// Returns whether the encoding was set, or the stream has begun.
     pub fn encoding_known(&self) -> bool
         ensures { result ≡ knows_encoding self.now }
     {
         self.machine.knows_encoding()
     }
 
-    /// Whether the stream was opened as a whole, for documents to be dumped into it; an output is then set.
+    /// Returns whether the stream was opened as a whole, for documents to be dumped into it; an output is then set.
     pub fn is_opened(&self) -> bool
         ensures value { result ≡ self.now.opened }
         ensures output { self.now.opened ≡ true → self.now.has_output ≡ true }
@@ -193,7 +193,7 @@ impl<A: Allocator> yaml_emitter_t<A> {
         self.opened
     }
 
-    /// Whether the stream was closed as a whole.
+    /// Returns whether the stream was closed as a whole.
     pub fn is_closed(&self) -> bool
         ensures { result ≡ self.now.closed }
     {
@@ -219,7 +219,7 @@ impl<A: Allocator> yaml_emitter_t<A> {
         self.closed = true;
     }
 
-    /// The flushed bytes not yet taken; none if no output is set.
+    /// Returns the flushed bytes not yet taken; none if no output is set.
     pub fn output(&self) -> &[u8]
         ensures value { result.now ≡ output_left self.now.page }
         ensures untaken { self.now.page.taken ≡ 0 → result.now ≡ self.now.page.output }
@@ -228,14 +228,14 @@ impl<A: Allocator> yaml_emitter_t<A> {
         self.machine.output()
     }
 
-    /// The first error.
+    /// Returns the first error.
     pub fn error(&self) -> Option<yaml_error_t>
         ensures { result ≡ self.now.error }
     {
         self.machine.error()
     }
 
-    /// The number of events that wait.
+    /// Returns the number of events that wait.
     pub fn held(&self) -> usize
         ensures { result ≡ length self.now.held }
     {

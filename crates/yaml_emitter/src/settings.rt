@@ -71,7 +71,7 @@ impl Default for Settings {
     }
 }
 
-/// An indent of 2 to 9 is kept, any other becomes 2.
+/// Returns the indent in force: one of 2 to 9 is kept, any other becomes 2.
 fn indent_of(given: Option<i32>) -> u32
     ensures gives { result ≡ effective_indent given }
     ensures low { 2 ≤ result }
@@ -83,7 +83,7 @@ fn indent_of(given: Option<i32>) -> u32
     }
 }
 
-/// A negative width is no limit; up to twice the indent it becomes 80.
+/// Returns the width in force: a negative one is no limit; up to twice the indent it becomes 80.
 fn width_of(given: Option<i32>, indent: u32) -> i32
     requires { indent ≤ 9 }
     ensures gives { seen_width result ≡ effective_width given indent }
@@ -104,7 +104,7 @@ fn is_double(quotes: Quotes) -> bool
     matches!(quotes, Quotes::Double)
 }
 
-/// ANY is taken for LF.
+/// Returns the line break in force: ANY is taken for LF.
 fn break_of(given: yaml_break_t) -> yaml_break_t
     ensures { seen_break result ≡ Some (unwrap_or (seen_break given) line_feed_break) }
 {
@@ -114,7 +114,7 @@ fn break_of(given: yaml_break_t) -> yaml_break_t
     }
 }
 
-/// The emitter's own encoding, else the stream's, else UTF-8.
+/// Returns the emitter's own encoding, else the stream's, else UTF-8.
 fn encoding_of(own: yaml_encoding_t, of_stream: yaml_encoding_t) -> yaml_encoding_t
     ensures { seen_encoding result ≡ Some (effective_encoding (seen_encoding own) (seen_encoding of_stream)) }
 {
@@ -128,7 +128,7 @@ fn encoding_of(own: yaml_encoding_t, of_stream: yaml_encoding_t) -> yaml_encodin
 }
 
 impl Settings {
-    /// What the settings come to for a stream that begins with this encoding.
+    /// Returns what the settings come to for a stream that begins with this encoding.
     pub(crate) fn effective(&self, of_stream: yaml_encoding_t) -> EffectiveSettings
         ensures gives { seen_effective result ≡ effective (seen_settings self.now) (seen_encoding of_stream) }
         ensures encoding { IsSome (seen_encoding result.encoding) }

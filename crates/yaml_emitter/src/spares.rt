@@ -23,7 +23,7 @@ pub(crate) struct SpareTexts<A: Allocator> {
 }
 
 impl<A: Allocator> SpareTexts<A> {
-    /// None is kept.
+    /// Makes spare texts of which none is kept.
     pub(crate) fn new() -> SpareTexts<A> {
         SpareTexts {
             first: None,
@@ -31,7 +31,7 @@ impl<A: Allocator> SpareTexts<A> {
         }
     }
 
-    /// A copy of a text, in the memory of one that is kept where there is one.
+    /// Returns a copy of a text, in the memory of one that is kept where there is one.
     pub(crate) fn copied(&mut self, alloc: A, text: &str) -> Result<String<A>, yaml_error_t>
         ensures { CopiesText (chars text.now) result }
     {
@@ -82,7 +82,7 @@ impl<A: Allocator> SpareTexts<A> {
     }
 }
 
-/// A copy of a text, in memory of its own.
+/// Returns a copy of a text, in memory of its own.
 fn new_copy<A: Allocator>(alloc: A, text: &str) -> Result<String<A>, yaml_error_t>
     ensures { CopiesText (chars text.now) result }
 {
@@ -92,7 +92,7 @@ fn new_copy<A: Allocator>(alloc: A, text: &str) -> Result<String<A>, yaml_error_
     }
 }
 
-/// A text put into the memory of another one.
+/// Returns a text put into the memory of another one.
 fn filled<A: Allocator>(room: String<A>, text: &str) -> Result<String<A>, yaml_error_t>
     ensures { CopiesText (chars text.now) result }
 {

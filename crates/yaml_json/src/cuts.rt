@@ -46,14 +46,14 @@ pub(crate) fn closes(byte: u8) -> bool
     (byte == b'}') | (byte == b']')
 }
 
-/// Whether a character doesn't begin with this byte.
+/// Returns whether a character doesn't begin with this byte.
 fn is_inner(byte: u8) -> bool
     ensures { result ≡ is_inner_byte byte }
 {
     byte >= 128 && byte < 192
 }
 
-/// The scan after the first byte of a text, or after a blank before it.
+/// Returns the scan after the first byte of a text, or after a blank before it.
 fn begun(byte: u8) -> Scan
     ensures { result ≡ scan_first_byte byte }
 {
@@ -85,7 +85,7 @@ fn begun(byte: u8) -> Scan
     }
 }
 
-/// The scan after a byte of an array or an object.
+/// Returns the scan after a byte of an array or an object.
 fn within(levels: usize, byte: u8) -> Scan
     requires { levels + 1 < 2 ^ 64 }
     ensures { result ≡ scan_within levels byte }
@@ -120,7 +120,7 @@ fn within(levels: usize, byte: u8) -> Scan
     }
 }
 
-/// The scan after a byte of a string.
+/// Returns the scan after a byte of a string.
 fn in_string(levels: usize, byte: u8) -> Scan
     ensures { result ≡ scan_in_string levels byte }
 {
@@ -147,7 +147,7 @@ fn in_string(levels: usize, byte: u8) -> Scan
     }
 }
 
-/// The scan after a byte of an array, an object or a string.
+/// Returns the scan after a byte of an array, an object or a string.
 fn inside(scan: Scan, byte: u8) -> Scan
     requires inside { IsInside scan }
     requires few { scan.levels + 1 < 2 ^ 64 }
@@ -159,7 +159,7 @@ fn inside(scan: Scan, byte: u8) -> Scan
     }
 }
 
-/// The scan after a byte more of the same text; `None` where the byte begins the next text.
+/// Returns the scan after a byte more of the same text; `None` where the byte begins the next text.
 fn step(scan: Scan, byte: u8) -> Option<Scan>
     requires { scan.levels + 1 < 2 ^ 64 }
     ensures { result ≡ after_byte scan byte }
@@ -201,7 +201,7 @@ pub(crate) struct Cut {
     pub(crate) scanned: usize,
 }
 
-/// Nothing was scanned.
+/// Makes a cut of a text of which nothing was scanned.
 pub(crate) fn new_cut() -> Cut
     ensures { (text : List ℕ) → HasScanned text result }
 {
@@ -214,7 +214,7 @@ pub(crate) fn new_cut() -> Cut
     }
 }
 
-/// Whether more of an array, an object or a string comes next.
+/// Returns whether more of an array, an object or a string comes next.
 fn is_inside(scan: Scan) -> bool
     ensures { IsTrue result ↔ IsInside scan }
 {
@@ -224,7 +224,8 @@ fn is_inside(scan: Scan) -> bool
     }
 }
 
-/// The bytes of a vector that may change a scan within an array, an object or a string: quotes, backslashes, brackets and braces.
+/// Returns the bytes of a vector that may change a scan within an array, an object or a string: quotes, backslashes, brackets and
+/// braces.
 fn specials(bytes: u8x32) -> u64
     ensures small { result < 2 ^ 32 }
     ensures specials { MayBeSpecial bytes result }
@@ -313,7 +314,7 @@ pub(crate) fn find_end(text: &[u8], cut: &mut Cut) -> Option<usize>
     None
 }
 
-/// The first JSON text of a text, with the blanks after it, and what follows it.
+/// Returns the first JSON text of a text, with the blanks after it, and what follows it.
 pub(crate) fn first_cut(text: &str) -> (&str, &str)
     ensures { CutsFirstText text.now result.0.now result.1.now }
 {

@@ -21,7 +21,7 @@ fn hex_value(byte: u8) -> u32
     }
 }
 
-/// What four hex digits spell.
+/// Returns what four hex digits spell.
 fn unit_at(text: &[u8], at: usize) -> Option<u32>
     requires { at + 4 ≤ length text.now }
     ensures value { result ≡ code_unit (get_or text.now at 0) (get_or text.now (at + 1) 0) (get_or text.now (at + 2) 0) (get_or text.now (at + 3) 0) }
@@ -40,7 +40,7 @@ fn unit_at(text: &[u8], at: usize) -> Option<u32>
     }
 }
 
-/// The character of a short escape.
+/// Returns the character of a short escape.
 fn short_escape(byte: u8) -> Option<u8>
     ensures value { result ≡ short_escape byte }
     ensures ascii { IfSome result (λ character. (character < 128) × (byte < 128)) }
@@ -56,7 +56,7 @@ fn short_escape(byte: u8) -> Option<u8>
     }
 }
 
-/// The second half of a surrogate pair.
+/// Returns the second half of a surrogate pair.
 fn low_half(text: &[u8], at: usize, high: u32) -> Option<(char, usize)>
     requires { (at ≤ length text.now) × (0xd800 ≤ high) × (high < 0xdc00) }
     ensures { Unescapes text.now (after_high high) at result }
@@ -72,7 +72,7 @@ fn low_half(text: &[u8], at: usize, high: u32) -> Option<(char, usize)>
     Some((character, at + 6))
 }
 
-/// What follows a backslash and `u`.
+/// Returns what follows a backslash and `u`.
 fn long_escape(text: &[u8], at: usize) -> Option<(char, usize)>
     requires { at ≤ length text.now }
     ensures { Unescapes text.now after_u at result }
@@ -88,7 +88,7 @@ fn long_escape(text: &[u8], at: usize) -> Option<(char, usize)>
     Some((character, at + 4))
 }
 
-/// What follows a backslash: its character, and where the text goes on.
+/// Returns what follows a backslash: its character, and where the text goes on.
 fn escape(text: &[u8], at: usize) -> Option<(char, usize)>
     requires { at ≤ length text.now }
     ensures { Unescapes text.now after_backslash at result }
@@ -103,7 +103,7 @@ fn escape(text: &[u8], at: usize) -> Option<(char, usize)>
     Some((byte as char, at + 1))
 }
 
-/// The content that begins at a place, up to its quote; `None` where it is no content of a string.
+/// Returns the content that begins at a place, up to its quote; `None` where it is no content of a string.
 pub(crate) fn unescape<A: Allocator + Copy>(
     alloc: A,
     text: &str,

@@ -111,7 +111,7 @@ fn quoting_after(quoting: Quoting, byte: u8) -> Quoting
     }
 }
 
-/// After a byte of a string or of a word.
+/// Returns what stands last after a byte of a string or of a word.
 fn begun(last: Last) -> Last
     ensures { result ≡ meaning.begun last }
 {
@@ -149,7 +149,7 @@ fn kind_opened(byte: u8) -> Option<CollectionKind>
     }
 }
 
-/// One bracket more is open.
+/// Returns the depth where one bracket more is open.
 fn deeper(depth: Depth, deep: usize, kind: CollectionKind) -> Depth
     requires { depth.count + 1 < 2 ^ 64 }
     ensures is { (kinds : List CollectionKind) → meaning.IsDepth deep kinds depth → meaning.IsDepth deep (meaning.open_by (Some kind) false kinds) result }
@@ -169,7 +169,7 @@ fn deeper(depth: Depth, deep: usize, kind: CollectionKind) -> Depth
     }
 }
 
-/// One fewer is.
+/// Returns the depth where one fewer is.
 fn shallower(depth: Depth, deep: usize) -> Depth
     ensures is { (kinds : List CollectionKind) → meaning.IsDepth deep kinds depth → meaning.IsDepth deep (meaning.open_by None true kinds) result }
     ensures few { result.count ≤ depth.count + 1 }

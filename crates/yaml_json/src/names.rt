@@ -32,7 +32,7 @@ pub(crate) struct Names<'a, A: Allocator> {
 }
 
 impl<'a, A: Allocator + Copy> Names<'a, A> {
-    /// Nothing is open.
+    /// Makes names where nothing is open.
     pub(crate) fn new(alloc: A, are_kept: bool) -> Self
         ensures kept { result.are_kept ≡ are_kept }
         ensures holds { HoldsNames [] result }
@@ -45,7 +45,7 @@ impl<'a, A: Allocator + Copy> Names<'a, A> {
         }
     }
 
-    /// One more array or object is open.
+    /// Enters one more array or object.
     pub(crate) fn enter(&mut self) -> Result<(), AllocError>
         ensures kept { OnOk result (self.new.are_kept ≡ self.old.are_kept) }
         ensures holds { OnOk result ((levels : List (List (List ℕ))) → HoldsNames levels self.old → HoldsNames ([] ∷ levels) self.new) }
@@ -64,7 +64,7 @@ impl<'a, A: Allocator + Copy> Names<'a, A> {
         }
     }
 
-    /// The innermost is open no more.
+    /// Leaves the innermost array or object.
     pub(crate) fn leave(&mut self)
         ensures kept { self.new.are_kept ≡ self.old.are_kept }
         ensures holds { (levels : List (List (List ℕ))) → HoldsNames levels self.old → HoldsNames (outer_names levels) self.new }
@@ -78,7 +78,7 @@ impl<'a, A: Allocator + Copy> Names<'a, A> {
         }
     }
 
-    /// The innermost has this name, too. Returns whether it is new.
+    /// Adds a name to the innermost object. Returns whether it is new.
     pub(crate) fn add(&mut self, name: &'a str) -> Result<bool, AllocError>
         ensures kept { OnOk result (self.new.are_kept ≡ self.old.are_kept) }
         ensures adds { IfOk result (λ new. (names : List (List ℕ)) → (levels : List (List (List ℕ))) → HoldsNames (names ∷ levels) self.old
@@ -111,7 +111,7 @@ impl<'a, A: Allocator + Copy> Names<'a, A> {
     }
 }
 
-/// Whether the name is one of these. It is inlined, which `contains` is not.
+/// Returns whether the name is one of these. It is inlined, which `contains` is not.
 fn is_among(name: &str, names: &[&str]) -> bool
     ensures { result ≡ list_any (λ other. bytes_eq other.now name.now) names.now }
 {

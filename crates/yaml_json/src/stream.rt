@@ -44,7 +44,7 @@ pub(crate) struct Incoming<A: Allocator> {
 }
 
 impl<A: Allocator + Copy> Incoming<A> {
-    /// Before anything came.
+    /// Makes the state before anything came.
     fn new(alloc: A) -> Self
         ensures scanned { IsScanned result }
         ensures nothing { result.held.items ≡ [] }
@@ -126,7 +126,7 @@ fn write_bytes<'a, A: Allocator + Copy>(
     }
 }
 
-/// The error of a text as one of all that came, where the text begins at this place.
+/// Returns the error of a text as one of all that came, where the text begins at this place.
 fn placed(error: StreamError, start: Place) -> StreamError
     ensures says { (depth : ℕ) (unique : Bool) (all : List ℕ) (taken left : List Token) → StopsPartAt depth unique all taken left error
         → StopsPartAt depth unique all taken left result }

@@ -26,14 +26,14 @@ use yaml_writer::{Writer, yaml_error_t};
 /// The byte order mark in UTF-8. No JSON text begins with it.
 const MARK: &[u8] = b"\xef\xbb\xbf";
 
-/// Whether a text begins with a byte order mark.
+/// Returns whether a text begins with a byte order mark.
 fn is_marked(text: &str) -> bool
     ensures { result ≡ is_marked text.now }
 {
     text.as_bytes().starts_with(MARK)
 }
 
-/// The error that tells a caller of a stop in this part of a text, at this offset in the text, and at that in the part.
+/// Returns the error that tells a caller of a stop in this part of a text, at this offset in the text, and at that in the part.
 pub(crate) fn error_of<A: Allocator + Copy>(
     writer: &Writer<A>,
     text: &str,
@@ -84,7 +84,7 @@ pub(crate) struct Room<'a, A: Allocator> {
 }
 
 impl<'a, A: Allocator + Copy> Room<'a, A> {
-    /// None is taken until it is needed.
+    /// Makes a room, which takes no memory until it is needed.
     pub(crate) fn new(alloc: A, arena: &'a Bump<A>, unique_names: bool) -> Self
         ensures { AwaitsText unique_names result }
     {
@@ -168,7 +168,7 @@ pub fn write_json<A: Allocator + Copy>(
     }
 }
 
-/// The YAML of a JSON text: a stream of one document.
+/// Returns the YAML of a JSON text: a stream of one document.
 ///
 /// # Errors
 ///

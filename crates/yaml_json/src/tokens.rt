@@ -79,7 +79,7 @@ impl<'a, A: Allocator> Model for Tokens<'a, A> {
     ghost invariant = { λ a. IsReader a.text.now a.stage a.rest.now a.was a.left };
 }
 
-/// No token, and none after it.
+/// Returns the step to no token, with none after it.
 fn bad<'a>(text: &'a str) -> Step<'a>
     requires { IsTrimmed text.now }
     ensures token { token_of result.token ≡ spec.bad }
@@ -94,7 +94,7 @@ fn bad<'a>(text: &'a str) -> Step<'a>
     }
 }
 
-/// A token after which a value or a key may begin. It ends with the first byte.
+/// Returns a token after which a value or a key may begin. It ends with the first byte.
 #[inline(always)]
 fn opening<'a>(token: Token<'a>, text: &'a str) -> Step<'a>
     requires { (0 < length text.now) × (get_or text.now 0 0 < 128) }
@@ -107,7 +107,7 @@ fn opening<'a>(token: Token<'a>, text: &'a str) -> Step<'a>
     }
 }
 
-/// A token that ends a value, and what follows the blanks after it.
+/// Returns a token that ends a value, and what follows the blanks after it.
 #[inline(always)]
 fn ending<'a>(token: Token<'a>, text: &'a str) -> Step<'a>
     requires { IsTrimmed text.now }
@@ -128,7 +128,7 @@ fn ending<'a>(token: Token<'a>, text: &'a str) -> Step<'a>
     }
 }
 
-/// A string with this content, and what follows it.
+/// Returns a string with this content, and what follows it.
 #[inline(always)]
 fn string_step<'a>(content: &'a str, after: &'a str) -> Step<'a>
     ensures steps { StepsFrom may_begin (token (spec.string content.now) ∷ lex between after.now) result }
@@ -142,7 +142,7 @@ fn string_step<'a>(content: &'a str, after: &'a str) -> Step<'a>
     }
 }
 
-/// A string with escapes, or one that is none.
+/// Returns a string with escapes, or one that is none.
 fn escaped<'a, A: Allocator + Copy>(
     alloc: A,
     arena: &'a Bump<A>,
@@ -163,7 +163,7 @@ fn escaped<'a, A: Allocator + Copy>(
     }
 }
 
-/// The string that a text begins with, or none.
+/// Returns the string that a text begins with, or none.
 #[inline(always)]
 fn string<'a, A: Allocator + Copy>(
     alloc: A,
@@ -184,7 +184,7 @@ fn string<'a, A: Allocator + Copy>(
     }
 }
 
-/// The word that a text begins with, or none.
+/// Returns the word that a text begins with, or none.
 #[inline(always)]
 fn word_step<'a>(text: &'a str) -> Step<'a>
     requires other { class (head text.now) ≡ other }
@@ -198,7 +198,7 @@ fn word_step<'a>(text: &'a str) -> Step<'a>
     }
 }
 
-/// A bracket that closes.
+/// Returns a bracket that closes.
 #[inline(always)]
 fn closing<'a>(text: &'a str, byte: u8) -> Step<'a>
     requires { (head text.now ≡ byte) × ((byte ≡ 125) ⊎ (byte ≡ 93)) }
@@ -213,7 +213,7 @@ fn closing<'a>(text: &'a str, byte: u8) -> Step<'a>
     }
 }
 
-/// A token with which a value or a key begins.
+/// Returns a token with which a value or a key begins.
 #[inline(always)]
 fn beginning<'a, A: Allocator + Copy>(
     alloc: A,
@@ -235,7 +235,7 @@ fn beginning<'a, A: Allocator + Copy>(
     }
 }
 
-/// What comes where no text is left: a bad token where a value or a key is owed.
+/// Returns what comes where no text is left: a bad token where a value or a key is owed.
 fn at_end<'a>(text: &'a str, stage: Stage) -> Option<Step<'a>>
     requires over { stage ≢ Stage.Over }
     requires none { text.now ≡ [] }
@@ -249,7 +249,7 @@ fn at_end<'a>(text: &'a str, stage: Stage) -> Option<Step<'a>>
     }
 }
 
-/// The next token, which may be bad; `None` where there is none.
+/// Returns the next token, which may be bad; `None` where there is none.
 #[inline(always)]
 fn read<'a, A: Allocator + Copy>(
     alloc: A,
@@ -282,7 +282,7 @@ fn read<'a, A: Allocator + Copy>(
 }
 
 impl<'a, A: Allocator + Copy> Tokens<'a, A> {
-    /// A reader at the start of a text. Strings with escapes go to the arena; all others are borrowed from the text.
+    /// Makes a reader at the start of a text. Strings with escapes go to the arena; all others are borrowed from the text.
     pub fn new(alloc: A, arena: &'a Bump<A>, text: &'a str) -> Self
         ensures text { result.text ≡ text.now }
         ensures ahead { result.ahead ≡ tokens text.now }
@@ -299,14 +299,14 @@ impl<'a, A: Allocator + Copy> Tokens<'a, A> {
         }
     }
 
-    /// Where the last token begins, by an offset in bytes; the text's end where there was none.
+    /// Returns where the last token begins, by an offset in bytes; the text's end where there was none.
     pub fn last_offset(&self) -> usize
         ensures { AreFrom self.now.text self.now.before result }
     {
         self.text.len().saturating_sub(self.left)
     }
 
-    /// Whether no token is left.
+    /// Returns whether no token is left.
     pub fn is_at_end(&self) -> bool
         ensures end { result ≡ true → self.now.ahead ≡ [] }
         ensures more { result ≡ false → self.now.ahead ≢ [] }
@@ -318,7 +318,7 @@ impl<'a, A: Allocator + Copy> Tokens<'a, A> {
         }
     }
 
-    /// The next token; `None` where there is none.
+    /// Returns the next token; `None` where there is none.
     ///
     /// # Errors
     ///

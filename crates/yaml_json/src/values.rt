@@ -57,7 +57,7 @@ pub(crate) struct Nesting<'a, A: Allocator> {
 }
 
 impl<'a, A: Allocator + Copy> Nesting<'a, A> {
-    /// Nothing is open.
+    /// Makes a nesting where nothing is open.
     pub(crate) fn new(alloc: A, unique_names: bool) -> Self
         ensures { HasNoneOpen unique_names result }
     {

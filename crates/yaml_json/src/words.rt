@@ -14,7 +14,7 @@ ghost use Rattle.yaml_json.specs.Lexemes.{IsInWord, LeavesAt, ReadsWord, is_no_d
 use json::Token;
 use std::simd::prelude::*;
 
-/// The byte at a place of a text; a blank past its end.
+/// Returns the byte at a place of a text; a blank past its end.
 pub(crate) fn byte_at(text: &[u8], at: usize) -> u8
     ensures { result ≡ head (drop at text.now) }
 {
@@ -38,7 +38,7 @@ pub(crate) fn is_operator(byte: u8) -> bool
         | (byte == b':')
 }
 
-/// Whether a word ends before this byte.
+/// Returns whether a word ends before this byte.
 #[inline(always)]
 pub(crate) fn is_delimiter(byte: u8) -> bool
     ensures { result ≡ (is_operator byte || is_space byte) }
@@ -46,7 +46,7 @@ pub(crate) fn is_delimiter(byte: u8) -> bool
     is_operator(byte) || is_blank(byte)
 }
 
-/// The bytes of a vector that are no digits.
+/// Returns the bytes of a vector that are no digits.
 fn no_digits(bytes: u8x16) -> u64
     ensures { result ≡ mask_l (map is_no_digit bytes) }
 {
@@ -55,7 +55,7 @@ fn no_digits(bytes: u8x16) -> u64
         .to_bitmask()
 }
 
-/// Where the digits end that begin at a place. A vector holds most runs of them.
+/// Returns where the digits end that begin at a place. A vector holds most runs of them.
 fn past_digits(text: &[u8], from: usize) -> usize
     requires { from ≤ length text.now }
     ensures run { result ≡ from + prefix_len is_ascii_digit (drop from text.now) }
@@ -136,7 +136,7 @@ fn minus_end(text: &[u8]) -> usize
     if byte_at(text, 0) == b'-' { 1 } else { 0 }
 }
 
-/// Where a number ends.
+/// Returns where a number ends.
 fn number_end(text: &[u8]) -> Option<usize>
     ensures { LeavesAt text.now result (after_number text.now) }
 {
@@ -145,7 +145,7 @@ fn number_end(text: &[u8]) -> Option<usize>
     exponent_end(text, power)
 }
 
-/// The number that a text begins with, and what follows it.
+/// Returns the number that a text begins with, and what follows it.
 #[inline(always)]
 fn number<'a>(text: &'a str) -> Option<(Token<'a>, &'a str)>
     ensures reads { ReadsWord text.now (number_before text.now (after_number text.now)) result }
@@ -164,7 +164,7 @@ fn number<'a>(text: &'a str) -> Option<(Token<'a>, &'a str)>
     }
 }
 
-/// This token where a text begins with its name, and what follows it.
+/// Returns this token where a text begins with its name, and what follows it.
 #[inline(always)]
 fn literal<'a>(text: &'a str, name: &[u8], token: Token<'a>) -> Option<(Token<'a>, &'a str)>
     requires name { IsInWord name.now }
@@ -180,7 +180,7 @@ fn literal<'a>(text: &'a str, name: &[u8], token: Token<'a>) -> Option<(Token<'a
     }
 }
 
-/// The token of the word that a text begins with, and what follows the word; `None` where the word is no token.
+/// Returns the token of the word that a text begins with, and what follows the word; `None` where the word is no token.
 #[inline(always)]
 pub(crate) fn word<'a>(text: &'a str) -> Option<(Token<'a>, &'a str)>
     ensures reads { ReadsWord text.now (word text.now) result }

@@ -18,7 +18,7 @@ pub(crate) enum Level<A: Allocator> {
     MembersAndName(Vec<(Value<A>, Value<A>), A>, Value<A>),
 }
 
-/// A list with an item more.
+/// Returns a list with an item more.
 fn with_item<A: Allocator>(items: Vec<Value<A>, A>, item: Value<A>) -> Result<Level<A>, Stop>
     ensures { HasMore (seen_level (Level.Items items)) (seen_value item) result }
 {
@@ -29,7 +29,7 @@ fn with_item<A: Allocator>(items: Vec<Value<A>, A>, item: Value<A>) -> Result<Le
     }
 }
 
-/// A map with a member more.
+/// Returns a map with a member more.
 fn with_member<A: Allocator>(
     members: Vec<(Value<A>, Value<A>), A>,
     member: (Value<A>, Value<A>),
@@ -43,7 +43,7 @@ fn with_member<A: Allocator>(
     }
 }
 
-/// A list or a map with a value more.
+/// Returns a list or a map with a value more.
 fn with_value<A: Allocator>(level: Level<A>, value: Value<A>) -> Result<Level<A>, Stop>
     ensures { HasMore (seen_level level) (seen_value value) result }
 {

@@ -6,7 +6,7 @@ ghost use Rattle.yaml_json_value.specs.Walked.{IsIntegerIn};
 use crate::error::Stop;
 use std::alloc::{AllocError, Allocator};
 
-/// Whether these are the decimal digits of the integer.
+/// Returns whether these are the decimal digits of the integer.
 fn is_spelled<A: Allocator + Copy>(alloc: A, number: i64, digits: &str) -> Result<bool, AllocError>
     ensures { IfOk result (λ same. Decides same (digits.now ≡ signed_decimal number)) }
 {
@@ -14,7 +14,7 @@ fn is_spelled<A: Allocator + Copy>(alloc: A, number: i64, digits: &str) -> Resul
     Ok(digits == spelled.as_str())
 }
 
-/// The integer of 64 bits whose decimal digits these are.
+/// Returns the integer of 64 bits whose decimal digits these are.
 pub(crate) fn integer_in<A: Allocator + Copy>(alloc: A, digits: &str) -> Result<i64, Stop>
     ensures { IsIntegerIn digits.now result }
 {

@@ -13,7 +13,7 @@ use yaml_json::{
 };
 use yaml_value::{Value, write_canonical};
 
-/// The settings by which a text is checked: arrays and objects nest at most 1,000 deep, as deep as canonical values may.
+/// Returns the settings by which a text is checked: arrays and objects nest at most 1,000 deep, as deep as canonical values may.
 fn settings() -> JsonSettings
     ensures { IsForValues result }
 {
@@ -25,7 +25,7 @@ fn settings() -> JsonSettings
     }
 }
 
-/// The value of a JSON text whose numbers are integers of 64 bits. Names are texts, and all keeps its order.
+/// Returns the value of a JSON text whose numbers are integers of 64 bits. Names are texts, and all keeps its order.
 ///
 /// The text is read twice: `yaml_from_json` finds what is wrong with it, and then its tokens become the value.
 ///
@@ -43,7 +43,7 @@ pub fn value_from_json<A: Allocator + Copy>(alloc: A, text: &str) -> Result<Valu
     }
 }
 
-/// The canonical bytes of the value of a JSON text, as `write_canonical` writes them.
+/// Returns the canonical bytes of the value of a JSON text, as `write_canonical` writes them.
 ///
 /// # Errors
 ///
@@ -65,7 +65,7 @@ pub fn canonical_from_json<A: Allocator + Copy>(
     }
 }
 
-/// The value of a text that is JSON.
+/// Returns the value of a text that is JSON.
 fn value_of<A: Allocator + Copy>(alloc: A, text: &str) -> Result<Value<A>, ValueError>
     requires { IsJson text.now }
     ensures read { IfOk result (λ value. IsValueOf text.now (seen_value value)) }

@@ -99,7 +99,7 @@ fn next_token<'a, A: Allocator + Copy>(reader: &mut Tokens<'a, A>) -> Result<Tok
     }
 }
 
-/// The value, where no token is left.
+/// Returns the value, where no token is left.
 fn finish<'a, A: Allocator + Copy>(
     reader: &Tokens<'a, A>,
     value: Value<A>,
@@ -113,7 +113,7 @@ fn finish<'a, A: Allocator + Copy>(
     }
 }
 
-/// The value of all tokens.
+/// Returns the value of all tokens.
 pub(crate) fn read_value<'a, A: Allocator + Copy>(
     alloc: A,
     reader: &mut Tokens<'a, A>,

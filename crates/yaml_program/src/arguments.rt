@@ -43,7 +43,7 @@ pub struct Conversion<'a, F> {
     pub files: Vec<&'a str>,
 }
 
-/// Whether portable mode is on, where no option turns it off, and none leaves it.
+/// Returns whether portable mode is on, where no option turns it off, and none leaves it.
 fn is_portable(is_off: bool, is_left: bool) -> bool
     ensures { result ≡ (not is_off && not is_left) }
 {
@@ -60,7 +60,7 @@ fn quotes_of(are_double: bool) -> Quotes
     }
 }
 
-/// The settings of the writer that the options ask for.
+/// Returns the settings of the writer that the options ask for.
 fn writer_settings_of(matches: &ArgMatches<'_>) -> Settings
     ensures { AreWriterSettings matches.now result }
 {
@@ -86,7 +86,7 @@ pub fn common_settings_of(matches: &ArgMatches<'_>) -> CommonSettings
     }
 }
 
-/// The files that are named.
+/// Returns the files that are named.
 fn files_of<'a>(alloc: Global, matches: &ArgMatches<'a>) -> Result<Vec<&'a str>, AllocError>
     ensures { IfOk result (λ files. map (λ name. name.now) files.items ≡ files_named matches.now) }
 {

@@ -7,7 +7,7 @@ use crate::arguments::CommonSettings;
 /// How deep collections may nest where lines are indented by their depth.
 pub const MOST_INDENTED: usize = 10_000;
 
-/// Whether a width is negative, so that nothing is folded.
+/// Returns whether a width is negative, so that nothing is folded.
 fn is_negative(width: Option<i32>) -> bool
     ensures { result ≡ bounds.is_negative width }
 {
@@ -17,7 +17,7 @@ fn is_negative(width: Option<i32>) -> bool
     }
 }
 
-/// Whether no line is indented: all of a document stands in one.
+/// Returns whether no line is indented: all of a document stands in one.
 fn is_in_one_line(settings: &CommonSettings) -> bool
     ensures { result ≡ bounds.is_in_one_line settings.now.writer settings.now.flow }
 {

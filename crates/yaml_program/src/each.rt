@@ -14,7 +14,7 @@ use std::io::{IsTerminal, Write};
 /// From so many files on a line tells how far the program is.
 const MANY: usize = 20;
 
-/// The conversion of one file, as another conversion says.
+/// Returns the conversion of one file, as another conversion says.
 fn conversion_of_one<'a, F: Copy>(
     alloc: Global,
     conversion: &Conversion<'a, F>,
@@ -82,7 +82,7 @@ fn convert_beside<'a, F: Format + Copy + Drop, S: Sources + AllocGlobal, W: Writ
     }
 }
 
-/// The worse of two statuses.
+/// Returns the worse of two statuses.
 fn worse(first: u8, second: u8) -> u8
     requires low { first ≤ 3 }
     requires known { second ≤ 3 }

@@ -86,7 +86,7 @@ impl<W: Write> Messages<W> {
     }
 }
 
-/// The program's status: 1 where a text isn't written as YAML, 3 where reading, writing or memory failed.
+/// Returns the program's status: 1 where a text isn't written as YAML, 3 where reading, writing or memory failed.
 fn status_of(error: &Failure) -> u8
     ensures status { result ≡ statuses.status_of error.now }
     ensures some { 1 ≤ result }
@@ -99,7 +99,7 @@ fn status_of(error: &Failure) -> u8
     }
 }
 
-/// Whether no memory was left.
+/// Returns whether no memory was left.
 fn is_out_of_memory(error: &Failure) -> bool {
     match error {
         Failure::Unwritten(yaml_error_t::Memory) => true,
@@ -110,7 +110,7 @@ fn is_out_of_memory(error: &Failure) -> bool {
     }
 }
 
-/// A file's name as a message shows it, where `stream` is what the program reads or writes without a name.
+/// Returns a file's name as a message shows it, where `stream` is what the program reads or writes without a name.
 fn shown<'a>(name: Option<&'a str>, stream: &'a str) -> &'a str {
     match name {
         Some(name) if name != STREAM => name,

@@ -73,7 +73,7 @@ macro_rules! flags {
     };
 }
 
-/// An option without a value.
+/// Returns an option without a value.
 fn flag<'a>(alloc: Global, name: &'a str, help: &'a str, long_help: &'a str) -> Arg<'a> {
     Arg::new(alloc, name)
         .long(name)
@@ -82,7 +82,7 @@ fn flag<'a>(alloc: Global, name: &'a str, help: &'a str, long_help: &'a str) -> 
         .action(ArgAction::SetTrue)
 }
 
-/// An option with a value.
+/// Returns an option with a value.
 fn option_with_value<'a>(
     alloc: Global,
     name: &'a str,
@@ -98,7 +98,7 @@ fn option_with_value<'a>(
         .action(ArgAction::Set)
 }
 
-/// The option that names the file to write.
+/// Returns the option that names the file to write.
 fn output_option<'a>(alloc: Global, words: &Wording) -> Arg<'a> {
     option_with_value(alloc, "output", "FILE", OUTPUT_HELP, words.output).short('o')
 }
@@ -107,7 +107,7 @@ fn heading_option<'a>(alloc: Global, words: &Wording) -> Arg<'a> {
     option_with_value(alloc, "heading", "TEXT", HEADING_HELP, words.heading)
 }
 
-/// The option that converts each file by itself.
+/// Returns the option that converts each file by itself.
 fn each_flag<'a>(alloc: Global, words: &Wording) -> Result<Arg<'a>, AllocError> {
     flag(alloc, "each", words.each, words.each_long)
         .conflicts_with("output")?
@@ -159,7 +159,7 @@ fn with_flags<'a>(
     Ok(command)
 }
 
-/// The files that are read.
+/// Returns the files that are read.
 fn files_argument<'a>(alloc: Global, words: &Wording) -> Arg<'a> {
     Arg::new(alloc, "files")
         .value_name("FILE")
@@ -169,7 +169,7 @@ fn files_argument<'a>(alloc: Global, words: &Wording) -> Arg<'a> {
         .action(ArgAction::Append)
 }
 
-/// The command line without its arguments. Its words come without the program's name.
+/// Returns the command line without its arguments. Its words come without the program's name.
 fn bare_command<'a>(alloc: Global, words: &Wording) -> Command<'a> {
     Command::new(alloc, words.name)
         .version(VERSION)
@@ -178,7 +178,7 @@ fn bare_command<'a>(alloc: Global, words: &Wording) -> Command<'a> {
         .no_binary_name(true)
 }
 
-/// The command line of a program, whose words come without the program's name.
+/// Returns the command line of a program, whose words come without the program's name.
 pub fn command_of<'a>(alloc: Global, words: &Wording) -> Result<Command<'a>, AllocError> {
     let command = with_settings(alloc, words, bare_command(alloc, words))?;
     let command = with_flags(alloc, words.flags, command)?;

@@ -16,7 +16,7 @@ const MOST_LINKS: u32 = 40;
 /// The system's number of the error that there are more (`ELOOP`).
 const TOO_MANY_LINKS: i32 = 40;
 
-/// Whether the file of this name is written where it lies: it is a device or a pipe, say, which no file can replace.
+/// Returns whether the file of this name is written where it lies: it is a device or a pipe, say, which no file can replace.
 #[inline(never)]
 pub fn is_written_in_place(rt: &HostRuntime, name: &str) -> bool {
     match fs::metadata(rt, name) {
@@ -25,7 +25,7 @@ pub fn is_written_in_place(rt: &HostRuntime, name: &str) -> bool {
     }
 }
 
-/// The path that a link means: where it is relative, it begins at the folder that the link lies in.
+/// Returns the path that a link means: where it is relative, it begins at the folder that the link lies in.
 fn path_meant(rt: &HostRuntime, link: &str, path: &str) -> io::Result<String> {
     let folder = match Path::new(link).parent() {
         Some(folder) => folder,
@@ -34,7 +34,7 @@ fn path_meant(rt: &HostRuntime, link: &str, path: &str) -> io::Result<String> {
     Ok(folder.join(rt.alloc(), path)?.into_string())
 }
 
-/// The file that is meant where this name is that of a link, also where there is no such file yet.
+/// Returns the file that is meant where this name is that of a link, also where there is no such file yet.
 #[inline(never)]
 fn target_of(rt: &HostRuntime, name: &str) -> io::Result<String> {
     let mut target = String::from_str(rt.alloc(), name)?;
@@ -53,7 +53,7 @@ fn target_of(rt: &HostRuntime, name: &str) -> io::Result<String> {
     Err(io::Error::from_raw_os_error(TOO_MANY_LINKS))
 }
 
-/// The name of a temporary file beside this one. It says which program made it.
+/// Returns the name of a temporary file beside this one. It says which program made it.
 fn temporary_name(
     rt: &HostRuntime,
     program: &str,
@@ -63,7 +63,7 @@ fn temporary_name(
     Ok(format!(in rt.alloc(); "{target}.{program}-{number}.tmp")?)
 }
 
-/// Whether an open file still has this name.
+/// Returns whether an open file still has this name.
 #[inline(never)]
 fn has_name(rt: &HostRuntime, file: &File, name: &str) -> bool {
     match (file.metadata(), fs::symlink_metadata(rt, name)) {
@@ -153,7 +153,7 @@ impl Beside {
         }
     }
 
-    /// The file that is written.
+    /// Returns the file that is written.
     pub fn file(&self) -> &File {
         &self.file
     }

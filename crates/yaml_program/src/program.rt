@@ -84,7 +84,7 @@ fn send<'a, F: Format, S: Sources + AllocGlobal>(
     }
 }
 
-/// Whether standard input is read.
+/// Returns whether standard input is read.
 fn reads_stream<F>(conversion: &Conversion<'_, F>) -> bool {
     conversion.files.is_empty() || conversion.files.contains(&STREAM)
 }
@@ -198,7 +198,7 @@ fn refuse_depth<W: Write>(faults: &mut Messages<W>) -> u8
     2
 }
 
-/// Whether there is no file that what would be written can be compared with.
+/// Returns whether there is no file that what would be written can be compared with.
 fn lacks_target<F>(conversion: &Conversion<'_, F>) -> bool {
     conversion.checks
         && !conversion.each

@@ -15,7 +15,7 @@ pub trait Sources {
 
     type Reader: Read + Drop;
 
-    /// A reader of what has this name.
+    /// Returns a reader of what has this name.
     fn open(&self, name: &str) -> io::Result<Self::Reader>
         ensures known { IfOk result (λ reader. IfSome (bytes_of self.now name.now) (λ bytes. Self.Reader.remaining reader ≡ Some bytes)) };
 }

@@ -7,7 +7,7 @@ ghost use Rattle.yaml_read.specs.Words.{Cuts, CutsIf};
 
 use crate::errors::{Stop, refused_at};
 
-/// What follows a word, where the text begins with it.
+/// Returns what follows a word, where the text begins with it.
 pub(crate) fn past<'a>(text: &'a str, word: &str) -> Option<&'a str>
     ensures cut { CutsIf word.now text.now result }
     ensures shorter { IfSome result (λ rest. length rest.now + length word.now ≡ length text.now) }
@@ -18,7 +18,7 @@ pub(crate) fn past<'a>(text: &'a str, word: &str) -> Option<&'a str>
     }
 }
 
-/// What follows a word.
+/// Returns what follows a word.
 pub(crate) fn after<'a>(text: &'a str, word: &str) -> Result<&'a str, Stop>
     ensures cut { Cuts word.now text.now result }
     ensures placed { IfErr result (IsHere text.now) }
@@ -30,7 +30,7 @@ pub(crate) fn after<'a>(text: &'a str, word: &str) -> Result<&'a str, Stop>
     }
 }
 
-/// What follows the indentation of a depth.
+/// Returns what follows the indentation of a depth.
 fn after_spaces(text: &str, depth: usize) -> Result<&str, Stop>
     ensures cut { Cuts (replicate (depth * 2) space) text.now result }
     ensures lacks { IfErr result (LacksLevel depth text.now) }
@@ -43,7 +43,7 @@ fn after_spaces(text: &str, depth: usize) -> Result<&str, Stop>
     Ok(rest)
 }
 
-/// What follows a line's end and the indentation of a depth.
+/// Returns what follows a line's end and the indentation of a depth.
 pub(crate) fn after_indent(text: &str, depth: usize) -> Result<&str, Stop>
     ensures cut { Cuts (line_at (depth * 2)) text.now result }
     ensures lacks { IfErr result (LacksLine depth text.now) }

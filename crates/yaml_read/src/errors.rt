@@ -41,14 +41,14 @@ impl From<AllocError> for Stop {
     }
 }
 
-/// The first word of the rest can't stand there.
+/// Returns that the first word of the rest can't stand there.
 pub(crate) fn refused_at(rest: &str) -> Stop
     ensures { IsHere rest.now result }
 {
     Stop::Refused(rest.len())
 }
 
-/// The rest begins with a word that is refused as a whole.
+/// Returns that the rest begins with a word that is refused as a whole.
 pub(crate) fn refused_whole(reason: Stop, rest: &str) -> Stop
     ensures { IsWholeWord rest.now reason result }
 {

@@ -32,7 +32,7 @@ pub(crate) enum Head<A: Allocator> {
     Pairs,
 }
 
-/// A text from its opening quote on, and what follows its closing quote. What can't be read is refused as a whole.
+/// Returns a text from its opening quote on, and what follows its closing quote. What can't be read is refused as a whole.
 fn read_digits<A: Allocator>(alloc: A, text: &str) -> Result<(String<A>, &str), Stop>
     ensures reads { (value rest : Text) → all_scalars value ≡ true → text.now ≡ encode_utf8_all (in_quotes value ++ rest)
         → OrMemory (λ found. (seen_text found.0 ≡ value) × (found.1.now ≡ encode_utf8_all rest)) result }
@@ -46,7 +46,7 @@ fn read_digits<A: Allocator>(alloc: A, text: &str) -> Result<(String<A>, &str), 
     }
 }
 
-/// An integer in its one spelling, between quotes.
+/// Reads an integer in its one spelling, between quotes.
 fn read_integer<A: Allocator + Copy>(alloc: A, text: &str) -> Result<(Value<A>, &str), Stop>
     ensures reads { (n : ℤ) (rest : Text) → mag n < 2 ^ 63 → text.now ≡ encode_utf8_all (in_quotes (signed_decimal n) ++ rest)
         → OrMemory (IsWhole (int_value n) rest) result }
@@ -68,7 +68,7 @@ fn read_integer<A: Allocator + Copy>(alloc: A, text: &str) -> Result<(Value<A>, 
     }
 }
 
-/// A truth value between quotes.
+/// Reads a truth value between quotes.
 fn read_truth<A: Allocator>(text: &str) -> Result<(Value<A>, &str), Stop>
     ensures reads { (b : Bool) (rest : Text) → text.now ≡ encode_utf8_all (in_quotes (bool_text b) ++ rest)
         → OrMemory (IsWhole (bool_value b) rest) result }
@@ -85,7 +85,7 @@ fn read_truth<A: Allocator>(text: &str) -> Result<(Value<A>, &str), Stop>
     }
 }
 
-/// An empty list, or the opening bracket of one that has items.
+/// Reads an empty list, or the opening bracket of one that has items.
 fn read_list<A: Allocator + Copy>(alloc: A, text: &str) -> Result<(Head<A>, &str), Stop>
     ensures reads { ListRead text.now result }
     ensures placed { IfErr result (IsHere text.now) }
@@ -98,7 +98,7 @@ fn read_list<A: Allocator + Copy>(alloc: A, text: &str) -> Result<(Head<A>, &str
     }
 }
 
-/// An empty map, or the opening bracket of one that has pairs.
+/// Reads an empty map, or the opening bracket of one that has pairs.
 fn read_map<A: Allocator + Copy>(alloc: A, text: &str) -> Result<(Head<A>, &str), Stop>
     ensures reads { MapRead text.now result }
     ensures placed { IfErr result (IsHere text.now) }
@@ -122,7 +122,7 @@ pub(crate) enum Kind {
     Map,
 }
 
-/// A tag and the space after it.
+/// Reads a tag and the space after it.
 fn read_tag(text: &str) -> Result<(Kind, &str), Stop>
     ensures reads { TagRead text.now result }
     ensures placed { IfErr result (IsHere text.now) }
@@ -147,7 +147,7 @@ fn read_tag(text: &str) -> Result<(Kind, &str), Stop>
     Ok((Kind::Null, rest))
 }
 
-/// The beginning of a node, from its tag on, and what follows.
+/// Returns the beginning of a node, from its tag on, and what follows.
 pub(crate) fn read_head<A: Allocator + Copy>(alloc: A, text: &str) -> Result<(Head<A>, &str), Stop>
     ensures reads { (depth column : ℕ) (value : TypedValue) (rest : Text) → CanBeReadAt depth value
         → text.now ≡ encode_utf8_all (value_text column value ++ rest) → HeadRead text.now value rest result }

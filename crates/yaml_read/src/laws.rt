@@ -7,8 +7,9 @@ ghost use Rattle.yaml_read.specs.Places.{BreaksOff};
 ghost use Rattle.yaml_read.specs.Remaining.{IsDue, IsRead, OpenLevel};
 ghost use Rattle.yaml_read.specs.TextsAndWords.{BeginsText, BeginsValue, BeginsWith, GoesOnWith};
 
-/// The words that may stand at a node and behind one are those with which texts of values go on there: where a text has a node,
-/// or goes on behind one, words of these stand there; and any of these words begin the text of some value, or go on in one.
+/// States that the words that may stand at a node and behind one are those with which texts of values go on there: where a text
+/// has a node, or goes on behind one, words of these stand there; and any of these words begin the text of some value, or go on
+/// in one.
 pub fn words_are_those_of_texts()
     ensures at_node { (root : TypedValue) (levels : List OpenLevel) (bytes : List ℕ) → IsDue root levels bytes
         → BeginsWith (node (length levels)) bytes }
@@ -20,8 +21,8 @@ pub fn words_are_those_of_texts()
         → GoesOnWith levels value words }
 {}
 
-/// Up to a place where a word is missing the bytes are the beginning of a canonical text: in a node, unless the greatest depth is
-/// reached, and behind one.
+/// States that up to a place where a word is missing the bytes are the beginning of a canonical text: in a node, unless the
+/// greatest depth is reached, and behind one.
 pub fn texts_begin_up_to_places()
     ensures in_node { (whole : List ℕ) (levels : List OpenLevel) (bytes : List ℕ) (left : ℕ) → IsOpen whole levels bytes
         → length levels < most_nested → BreaksOff (node (length levels)) bytes left → BeginsValue (take (length whole - left) whole) }

@@ -46,7 +46,7 @@ pub(crate) enum Entry<'a> {
     End(&'a str),
 }
 
-/// What follows an entry of a list or a map that lies so deep: what leads to another one, or the end.
+/// Returns what follows an entry of a list or a map that lies so deep: what leads to another one, or the end.
 fn next_entry<'a>(text: &'a str, depth: usize, lead: &str, end: &str) -> Result<Entry<'a>, Stop>
     ensures found { (tail : List ℕ) → text.now ≡ codes "," ++ (line_at (depth * 2) ++ tail)
         → EntryFound lead.now end.now tail result }
@@ -65,7 +65,7 @@ fn next_entry<'a>(text: &'a str, depth: usize, lead: &str, end: &str) -> Result<
     }
 }
 
-/// An item of a list.
+/// Takes an item of a list.
 fn take_item<'a, A: Allocator>(
     items: Vec<Value<A>, A>,
     item: Value<A>,
@@ -91,7 +91,7 @@ fn take_item<'a, A: Allocator>(
     }
 }
 
-/// A pair of a map.
+/// Takes a pair of a map.
 fn take_pair<'a, A: Allocator>(
     pairs: Vec<(Value<A>, Value<A>), A>,
     pair: (Value<A>, Value<A>),
@@ -119,7 +119,7 @@ fn take_pair<'a, A: Allocator>(
     }
 }
 
-/// A key of a map.
+/// Takes a key of a map.
 fn take_key<'a, A: Allocator>(
     pairs: Vec<(Value<A>, Value<A>), A>,
     key: Value<A>,
@@ -138,7 +138,7 @@ fn take_key<'a, A: Allocator>(
     Ok(Turn::Continues(Level::PairsAndKey(pairs, key), rest))
 }
 
-/// A value in a list or a map that lies so deep.
+/// Takes a value in a list or a map that lies so deep.
 fn take_value<'a, A: Allocator>(
     level: Level<A>,
     value: Value<A>,
@@ -169,7 +169,7 @@ fn push<A: Allocator>(levels: &mut Vec<Level<A>, A>, level: Level<A>) -> Result<
     }
 }
 
-/// After the outermost value comes a line's end, and nothing else.
+/// Ends the text: behind the outermost value comes a line's end, and nothing else.
 fn finish<'a, A: Allocator>(value: Value<A>, text: &'a str) -> Result<Next<'a, A>, Stop>
     ensures reached { (root : TypedValue) (levels : List OpenLevel) → IsRead root [] (seen_value value) text.now → Reached root levels result }
     ensures read { (whole : List ℕ) (levels : List OpenLevel) → HasRead whole [] (seen_value value) text.now → IfOk result (NextRead whole levels) }

@@ -17,14 +17,14 @@ use crate::errors::{Stop, refused_at};
 use std::alloc::Allocator;
 use yaml_base::{is_break, is_printable};
 
-/// Whether a character can't stand as itself.
+/// Returns whether a character can't stand as itself.
 fn needs_escape(c: char) -> bool
     ensures { result ≡ double.needs_escape true c }
 {
     !is_printable(c) || is_break(c) || c == '"' || c == '\\'
 }
 
-/// The character that a letter after a backslash stands for.
+/// Returns the character that a letter after a backslash stands for.
 fn meaning_of(letter: char) -> Option<char>
     ensures { result ≡ letter_meaning letter }
 {
@@ -50,7 +50,7 @@ fn meaning_of(letter: char) -> Option<char>
     Some(character)
 }
 
-/// Whether a character has an escape of one letter.
+/// Returns whether a character has an escape of one letter.
 fn has_letter(c: char) -> bool
     ensures { result ≡ is_some (double.letter_among double.short_escapes c) }
 {
@@ -67,7 +67,7 @@ fn has_letter(c: char) -> bool
     )
 }
 
-/// The value of a hexadecimal digit in upper case.
+/// Returns the value of a hexadecimal digit in upper case.
 fn digit_of(c: char) -> Option<u32>
     ensures { result ≡ digit_meaning c }
 {
@@ -78,7 +78,7 @@ fn digit_of(c: char) -> Option<u32>
     }
 }
 
-/// A hexadecimal digit, and what follows.
+/// Returns a hexadecimal digit, and what follows.
 fn read_digit(text: &str) -> Option<(u32, &str)>
     ensures reads { (d : ℕ) (rest : Text) → d < 16 → text.now ≡ encode_utf8_all (hex_digit d ∷ rest)
         → MatchOption result ⊥ (λ found. (found.0 ≡ d) × (found.1.now ≡ encode_utf8_all rest)) }
@@ -92,7 +92,7 @@ fn read_digit(text: &str) -> Option<(u32, &str)>
     Some((digit, characters.as_str()))
 }
 
-/// A number of two hexadecimal digits, and what follows.
+/// Returns a number of two hexadecimal digits, and what follows.
 fn read_two_digits(text: &str) -> Option<(u32, &str)>
     ensures reads { (n : ℕ) (rest : Text) → n < 256 → text.now ≡ encode_utf8_all (hex_digits 2 n ++ rest)
         → MatchOption result ⊥ (λ found. (found.0 ≡ n) × (found.1.now ≡ encode_utf8_all rest)) }
@@ -105,7 +105,7 @@ fn read_two_digits(text: &str) -> Option<(u32, &str)>
     Some((upper * 16 + lower, rest))
 }
 
-/// A number of four hexadecimal digits, and what follows.
+/// Returns a number of four hexadecimal digits, and what follows.
 fn read_four_digits(text: &str) -> Option<(u32, &str)>
     ensures reads { (n : ℕ) (rest : Text) → n < 65536 → text.now ≡ encode_utf8_all (hex_digits 4 n ++ rest)
         → MatchOption result ⊥ (λ found. (found.0 ≡ n) × (found.1.now ≡ encode_utf8_all rest)) }
@@ -118,7 +118,7 @@ fn read_four_digits(text: &str) -> Option<(u32, &str)>
     Some((upper * 256 + lower, rest))
 }
 
-/// The character of a number, which no shorter escape has and which can't stand as itself.
+/// Returns the character of a number, which no shorter escape has and which can't stand as itself.
 fn character_of(number: u32, least: u32) -> Option<char>
     ensures reads { all_scalars (number ∷ []) ≡ true → least ≤ number → double.needs_escape true number ≡ true
         → double.letter_among double.short_escapes number ≡ None → result ≡ Some number }
@@ -134,7 +134,7 @@ fn character_of(number: u32, least: u32) -> Option<char>
     }
 }
 
-/// The character of a number of two digits, and what follows.
+/// Returns the character of a number of two digits, and what follows.
 fn read_short_number(text: &str) -> Option<(char, &str)>
     ensures reads { (c : ℕ) (rest : Text) → all_scalars (c ∷ []) ≡ true → double.needs_escape true c ≡ true
         → double.letter_among double.short_escapes c ≡ None → c < 256 → text.now ≡ encode_utf8_all (hex_digits 2 c ++ rest)
@@ -147,7 +147,7 @@ fn read_short_number(text: &str) -> Option<(char, &str)>
     Some((c, rest))
 }
 
-/// The character of a number of four digits, and what follows.
+/// Returns the character of a number of four digits, and what follows.
 fn read_long_number(text: &str) -> Option<(char, &str)>
     ensures reads { (c : ℕ) (rest : Text) → all_scalars (c ∷ []) ≡ true → double.needs_escape true c ≡ true
         → double.letter_among double.short_escapes c ≡ None → 256 ≤ c → c < 65536 → text.now ≡ encode_utf8_all (hex_digits 4 c ++ rest)
@@ -160,7 +160,7 @@ fn read_long_number(text: &str) -> Option<(char, &str)>
     Some((c, rest))
 }
 
-/// The character of a letter after a backslash, and the text that follows it.
+/// Returns the character of a letter after a backslash, and the text that follows it.
 fn read_letter(letter: char, text: &str) -> Option<(char, &str)>
     ensures reads { (c : ℕ) → double.needs_escape true c ≡ true → letter_meaning letter ≡ Some c
         → MatchOption result ⊥ (λ found. (found.0 ≡ c) × (found.1.now ≡ text.now)) }
@@ -176,7 +176,7 @@ fn read_letter(letter: char, text: &str) -> Option<(char, &str)>
     }
 }
 
-/// The character of what follows a backslash.
+/// Returns the character of what follows a backslash.
 fn read_escape(text: &str) -> Option<(char, &str)>
     ensures reads { (c : ℕ) (rest : Text) → all_scalars (c ∷ []) ≡ true → double.needs_escape true c ≡ true
         → text.now ≡ encode_utf8_all (double.escape_after_backslash (double.letter_among double.short_escapes c) c ++ rest)
@@ -195,7 +195,7 @@ fn read_escape(text: &str) -> Option<(char, &str)>
     }
 }
 
-/// A character between quotes, as itself or as its escape, and what follows.
+/// Returns a character between quotes, as itself or as its escape, and what follows.
 fn read_character(text: &str) -> Option<(char, &str)>
     ensures reads { ReadsCharacter text.now result }
     ensures sound { IfSome result (λ found. IsCharacter text.now found.0 found.1.now) }
@@ -212,7 +212,7 @@ fn read_character(text: &str) -> Option<(char, &str)>
     }
 }
 
-/// A text from its opening quote on, and what follows its closing quote.
+/// Returns a text from its opening quote on, and what follows its closing quote.
 pub(crate) fn read_quoted<A: Allocator>(alloc: A, text: &str) -> Result<(String<A>, &str), Stop>
     ensures reads { (value rest : Text) → all_scalars value ≡ true → text.now ≡ encode_utf8_all (in_quotes value ++ rest)
         → OrMemory (λ found. (seen_text found.0 ≡ value) × (found.1.now ≡ encode_utf8_all rest)) result }

@@ -31,7 +31,7 @@ fn is_collection<A: Allocator>(value: &Value<A>) -> bool
     matches!(value, Value::List(_) | Value::Map(_))
 }
 
-/// Whether one more list or map may lie within the open ones; it begins here.
+/// Checks whether one more list or map may lie within the open ones; it begins here.
 fn check_room<A: Allocator>(levels: &Vec<Level<A>, A>, text: &str) -> Result<(), Stop>
     ensures full { OnErr result (most_nested ≤ length levels.now.items) }
     ensures placed { IfErr result (IsDeepHere text.now) }
@@ -76,7 +76,7 @@ fn step<'a, A: Allocator + Copy>(
     }
 }
 
-/// A document's text read as its value.
+/// Reads a document's text as its value.
 fn read_text<A: Allocator + Copy>(alloc: A, text: &str) -> Result<Value<A>, Stop>
     ensures reads { (value : TypedValue) → CanBeRead value → text.now ≡ encode_utf8_all (document_text value)
         → OrMemory (λ found. seen_value found ≡ value) result }
@@ -115,7 +115,8 @@ fn error_of(bytes: &[u8], stop: Stop) -> ReadError
     }
 }
 
-/// The value of these canonical bytes. They are exactly those that `write_canonical` writes of it; nothing else is accepted.
+/// Returns the value of these canonical bytes. They are exactly those that `write_canonical` writes of it; nothing else is
+/// accepted.
 ///
 /// # Errors
 /// `NotCanonical` where the bytes are no value's, with the line and the column of the first word that can't stand there.

@@ -15,17 +15,17 @@ use std::process::Abort;
 use yaml_read::{ReadError, Value, read_canonical};
 use yaml_value::{write_canonical, yaml_error_t};
 
-/// The two are equal. (A comparison in a function of its own is proved once.)
+/// Checks that the two are equal. (A comparison in a function of its own is proved once.)
 fn equal<T: PartialEq + Debug>(rt: &impl Abort, got: &T, wanted: &T) {
     assert_eq!(rt; *got, *wanted);
 }
 
-/// The canonical bytes of a value. (Tests need none of the clauses of the call.)
+/// Returns the canonical bytes of a value. (Tests need none of the clauses of the call.)
 fn written<A: Allocator + Copy>(alloc: A, value: &Value<A>) -> Result<Vec<u8, A>, yaml_error_t> {
     write_canonical(alloc, value)
 }
 
-/// The value that has these canonical bytes. (The same.)
+/// Returns the value that has these canonical bytes. (The same.)
 fn read<A: Allocator + Copy>(alloc: A, bytes: &[u8]) -> Result<Value<A>, ReadError> {
     read_canonical(alloc, bytes)
 }

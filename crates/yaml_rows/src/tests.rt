@@ -20,28 +20,28 @@ use yaml_pen::{Indicator, Pen};
 use yaml_scalar::holds_break;
 use yaml_tool::read_script;
 
-/// The two are equal. (A comparison in a function of its own is proved once.)
+/// Checks that the two are equal. (A comparison in a function of its own is proved once.)
 fn equal<T: PartialEq + Debug>(rt: &impl Abort, got: &T, wanted: &T) {
     assert_eq!(rt; *got, *wanted);
 }
 
-/// The two are equal, in the row of this name.
+/// Checks that the two are equal, in the row of this name.
 fn equal_at<T: PartialEq + Debug>(rt: &impl Abort, name: &str, got: &T, wanted: &T) {
     equal(rt, &(name, got), &(name, wanted));
 }
 
-/// A text that a test hands over, for which there is memory.
+/// Returns a text that a test hands over, for which there is memory.
 fn owned<A: Allocator>(rt: &impl Abort, alloc: A, s: &str) -> String<A> {
     String::from_str(alloc, s).expect(rt, "no memory")
 }
 
-/// This is written of a value.
+/// Checks that this is written of a value.
 fn check_words<T: Display>(rt: &impl Abort, alloc: Global, value: &T, words: &str) {
     let text = format!(in alloc; "{value}").expect(rt, "no memory");
     equal(rt, &text.as_str(), &words);
 }
 
-/// The directives of a document's start, by its line in a script.
+/// Returns the directives of a document's start, by its line in a script.
 fn directives<A: Allocator + Copy>(
     rt: &impl Abort,
     alloc: A,
@@ -53,12 +53,12 @@ fn directives<A: Allocator + Copy>(
     }
 }
 
-/// These texts in one, for which there is memory.
+/// Returns these texts in one, for which there is memory.
 fn joined(rt: &impl Abort, alloc: Global, parts: &[&str]) -> String {
     parts.concat(alloc).expect(rt, "no memory")
 }
 
-/// This text, so many times, for which there is memory.
+/// Returns this text, so many times, for which there is memory.
 fn repeated(rt: &impl Abort, alloc: Global, text: &str, count: usize) -> String {
     text.repeat(alloc, count).expect(rt, "no memory")
 }
@@ -77,7 +77,7 @@ const SIGNS: &[(char, &str)] = &[
     ('⊤', "\u{10FFFF}"),
 ];
 
-/// A row, or a line of one, in the characters that it means.
+/// Returns a row, or a line of one, in the characters that it means.
 fn meant(rt: &impl Abort, alloc: Global, row: &str) -> String {
     let mut meant = joined(rt, alloc, &[row]);
     for (sign, meaning) in SIGNS {
@@ -87,13 +87,13 @@ fn meant(rt: &impl Abort, alloc: Global, row: &str) -> String {
     meant
 }
 
-/// The event of a script's line, for which there is memory.
+/// Returns the event of a script's line, for which there is memory.
 fn event_of<A: Allocator + Copy>(rt: &impl Abort, alloc: A, line: &str) -> yaml_event_t<A> {
     let mut script = read_script(alloc, line.as_bytes()).expect(rt, "a line");
     script.events.pop().expect(rt, "an event").event
 }
 
-/// This was written.
+/// Checks that this was written.
 fn same(rt: &impl Abort, got: &[u8], wanted: &[u8]) {
     equal(rt, &got, &wanted);
 }

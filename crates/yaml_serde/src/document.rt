@@ -57,7 +57,7 @@ pub(crate) struct Document<'w, 'a, G: Given, W: Write> {
 }
 
 impl<'w, 'a, G: Given, W: Write> Document<'w, 'a, G, W> {
-    /// A document whose bytes stay with the writer; the sink gets none.
+    /// Makes a document whose bytes stay with the writer; the sink gets none.
     pub(crate) fn kept(writer: &'w mut Writer<Global>, nowhere: &'a mut W) -> Document<'w, 'a, G, W>
         requires start { writer.now ≡ G.start }
         requires lent { writer.ghost_name ≡ G.lent }
@@ -76,7 +76,7 @@ impl<'w, 'a, G: Given, W: Write> Document<'w, 'a, G, W> {
         }
     }
 
-    /// A document whose bytes are handed on to a sink.
+    /// Makes a document whose bytes are handed on to a sink.
     pub(crate) fn sent(writer: &'w mut Writer<Global>, sink: &'a mut W) -> Document<'w, 'a, G, W>
         requires start { writer.now ≡ G.start }
         requires lent { writer.ghost_name ≡ G.lent }
@@ -183,7 +183,7 @@ impl<'w, 'a, G: Given, W: Write> Document<'w, 'a, G, W> {
         Ok(self.writer.tagged(tag)?)
     }
 
-    /// The writer, the sink as far as the document was handed on, and the sink's error, if it has one.
+    /// Returns the writer, the sink as far as the document was handed on, and the sink's error, if it has one.
     pub(crate) fn into_parts(self) -> (&'w mut Writer<Global>, &'a mut W, Result<(), Error>)
         requires { G.keeps ≡ false }
         ensures lent { result.0.ghost_name ≡ G.lent }
@@ -200,8 +200,8 @@ impl<'w, 'a, G: Given, W: Write> Document<'w, 'a, G, W> {
         (writer, sink, Ok(()))
     }
 
-    /// The writer, the sink, and the writer's error, if it has one; `ExpectedNode` where something that the document opened isn't
-    /// ended, or an anchor or a tag awaits its node.
+    /// Returns the writer, the sink, and the writer's error, if it has one; `ExpectedNode` where something that the document
+    /// opened isn't ended, or an anchor or a tag awaits its node.
     pub(crate) fn into_writer(self) -> (&'w mut Writer<Global>, &'a mut W, Result<(), Error>)
         requires { G.keeps ≡ true }
         ensures lent { result.0.ghost_name ≡ G.lent }

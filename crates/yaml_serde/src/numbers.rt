@@ -6,7 +6,7 @@ use crate::error::Error;
 use std::io::Write;
 use yaml_writer::{Number, number_of};
 
-/// The number of JSON that a text is.
+/// Returns the number of JSON that a text is.
 pub(crate) fn number_in(text: &str) -> Number<'_>
     requires { HasNumber text.now }
     ensures { IsNumber text.now result }

@@ -125,7 +125,7 @@ impl Path {
         }
     }
 
-    /// The path as a text; `None` where it is empty, or there is no memory for it.
+    /// Returns the path as a text; `None` where it is empty, or there is no memory for it.
     pub(crate) fn to_text(&self) -> Option<String> {
         let mut text = String::new(self.alloc);
         for level in &self.levels {

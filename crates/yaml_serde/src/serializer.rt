@@ -55,7 +55,7 @@ impl<'w, 'a, G: Given, W: Write> ValueSerializer<'w, 'a, G, W> {
         }
     }
 
-    /// The document, and what the value's own `serialize` answered, with the path to where it did.
+    /// Returns the document, and what the value's own `serialize` answered, with the path to where it did.
     pub(crate) fn finish(
         self,
         answer: Result<(), Error>,
@@ -223,7 +223,7 @@ impl<G: Given, W: Write> Serializer for ValueSerializer<'_, '_, G, W> {
         self.text(v)
     }
 
-    /// The tag says that the text is base64; it can't stand beside the tag of a variant.
+    /// Writes bytes. Their tag says that the text is base64; it can't stand beside the tag of a variant.
     fn bytes(&mut self, v: &[u8]) -> Result<(), Error> {
         if matches!(self.next, Next::Data) {
             return Err(Error::from(Cause::TwoTags));
@@ -261,7 +261,7 @@ impl<G: Given, W: Write> Serializer for ValueSerializer<'_, '_, G, W> {
         self.passed(ended)
     }
 
-    /// A map of one entry waits for its key, which may be the name of a variant.
+    /// Begins a map. One of one entry waits for its key, which may be the name of a variant.
     fn begin_map(&mut self, len: Option<usize>) -> Result<(), Error> {
         self.open_entry()?;
         match self.next {
@@ -292,7 +292,7 @@ impl<G: Given, W: Write> Serializer for ValueSerializer<'_, '_, G, W> {
         self.name(NameKind::Field, name, case)
     }
 
-    /// In a flattened map the name of a variant is a key like others.
+    /// Takes a key that is the name of a variant. In a flattened map it is a key like others.
     fn variant_key(&mut self, name: &str, case: Case) -> Result<(), Error> {
         match self.next {
             Next::Entry => self.begin_variant(name, case),

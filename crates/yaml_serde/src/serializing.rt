@@ -24,7 +24,7 @@ use yaml_writer::Writer;
 /// The sink of a document whose bytes stay with the writer.
 type NoSink = io::Sink;
 
-/// A value as a stream of one document.
+/// Returns a value as a stream of one document.
 ///
 /// Structs and maps are block mappings in the order in which they give their entries, whose keys may be any values; sequences
 /// and tuples are block sequences. A text stands plain only where both schemas of YAML read it as a text, and a float is
@@ -49,8 +49,8 @@ pub fn to_vec_with<T: Serialize>(
     Ok(writer.finish()?)
 }
 
-/// A value as a stream of one document, by the settings for values: in portable mode, so it begins with `---`; in UTF-8,
-/// with LF, an indent of 2, indented sequences, no line folded, and characters past ASCII as themselves.
+/// Returns a value as a stream of one document, by the settings for values: in portable mode, so it begins with `---`;
+/// in UTF-8, with LF, an indent of 2, indented sequences, no line folded, and characters past ASCII as themselves.
 ///
 /// # Errors
 /// Those of `to_vec_with`.
@@ -61,7 +61,7 @@ pub fn to_vec<T: Serialize>(alloc: Global, value: &T) -> Result<Vec<u8>, Error>
     to_vec_with(alloc, SerdeSettings::default(), value)
 }
 
-/// A value as a stream of one document, by the settings for values, as a text.
+/// Returns a value as a stream of one document, by the settings for values, as a text.
 ///
 /// # Errors
 /// Those of `to_vec_with`.
@@ -159,7 +159,7 @@ pub fn write_with<T: Serialize>(
     answer
 }
 
-/// A document with a value more, and what the value's own `serialize` answered.
+/// Returns a document with a value more, and what the value's own `serialize` answered.
 fn with_value<'w, 'a, T: Serialize, W: Write, G: Given>(
     alloc: Global,
     variants: Variants,
@@ -190,7 +190,7 @@ fn write_and_send<T: Serialize, W: Write>(
     answer
 }
 
-/// A writer with a value more, of which some was handed on to a sink.
+/// Returns a writer with a value more, of which some was handed on to a sink.
 fn handed<'w, 'a, T: Serialize, W: Write, G: Given>(
     alloc: Global,
     variants: Variants,
@@ -218,7 +218,7 @@ fn handed<'w, 'a, T: Serialize, W: Write, G: Given>(
     }
 }
 
-/// A writer with a value more.
+/// Returns a writer with a value more.
 fn given<'w, 'a, T: Serialize, G: Given>(
     alloc: Global,
     variants: Variants,
@@ -258,7 +258,7 @@ fn finish_sink<W: Write>(sink: &mut W, rest: &[u8]) -> Result<(), Error>
     }
 }
 
-/// Bytes in UTF-8 as a text.
+/// Returns bytes in UTF-8 as a text.
 fn text_of(bytes: Vec<u8>) -> String
     requires { IsUtf8 bytes.items }
     ensures { string_bytes result ≡ bytes.items }

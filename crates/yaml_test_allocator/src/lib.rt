@@ -24,13 +24,13 @@ impl<A: Allocator> Refusing<A> {
         }
     }
 
-    /// From now on the growth of this number, from 1 on, is refused, and no other one; with 0 none is. (No clause can say
+    /// Refuses from now on the growth of this number, from 1 on, and no other one; with 0 none is. (No clause can say
     /// what a cell holds.)
     pub fn refuse(&self, number: usize) {
         self.left.set(number);
     }
 
-    /// The number of the growth to be refused, from now on; 0 where it was refused.
+    /// Returns the number of the growth to be refused, from now on; 0 where it was refused.
     pub fn left(&self) -> usize {
         self.left.get()
     }

@@ -2,14 +2,14 @@
 ghost use Rattle.yaml_toml.specs.Several.{DocumentsAreRead};
 ghost use Rattle.yaml_toml.specs.Walk.{ScalarsHaveNumbers};
 
-/// The documents of several texts, each begun by `next_document` behind the one before, are read back as the tables of the texts, in
-/// order.
+/// States that the documents of several texts, each begun by `next_document` behind the one before, are read back as the tables of
+/// the texts, in order.
 pub fn documents_are_read()
     ensures { DocumentsAreRead }
 {}
 
-/// The characters of each float of TOML that is neither infinite nor `nan`, without underscores and a `+` before them, are a number of
-/// JSON.
+/// States that the characters of each float of TOML that is neither infinite nor `nan`, without underscores and a `+` before them, are
+/// a number of JSON.
 pub fn floats_are_numbers()
     ensures { ScalarsHaveNumbers }
 {}

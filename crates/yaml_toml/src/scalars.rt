@@ -58,7 +58,7 @@ pub(crate) fn write_special<A: Allocator + Copy>(
     writer.special_float(value)
 }
 
-/// A decimal as JSON spells numbers.
+/// Returns a decimal as JSON spells numbers.
 fn past_plus(word: &str) -> &str
     ensures { result.now ≡ json_word word.now }
 {
@@ -97,7 +97,7 @@ pub(crate) fn write_decimal<A: Allocator + Copy>(
     }
 }
 
-/// A date, or a date and a time with its offset, as a timestamp of YAML 1.1, where it has one.
+/// Returns a date, or a date and a time with its offset, as a timestamp of YAML 1.1, where it has one.
 fn timestamp_of(datetime: &Datetime) -> Option<Timestamp>
     ensures { option_map seen_timestamp result ≡ moment_of datetime.now }
 {

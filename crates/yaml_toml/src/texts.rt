@@ -20,14 +20,14 @@ use toml_ordered::{Fault, read_document};
 use yaml_json::place_of;
 use yaml_writer::{Writer, yaml_error_t};
 
-/// The line and the column at which this much of a text is left.
+/// Returns the line and the column at which this much of a text is left.
 fn place_before(text: &str, left: usize) -> (usize, usize)
     ensures { AreOf text.now (length text.now - left) result.0 result.1 }
 {
     place_of(text.as_bytes(), text.len().saturating_sub(left))
 }
 
-/// The error that tells a caller of a fault of a text.
+/// Returns the error that tells a caller of a fault of a text.
 fn error_of(text: &str, fault: Fault) -> TomlError
     ensures error { writers_error result ≡ fault_error fault }
     ensures place { IfSome (place_left fault) (λ left. IsAt text.now left result) }
@@ -52,7 +52,7 @@ fn error_of(text: &str, fault: Fault) -> TomlError
     }
 }
 
-/// The error that tells a caller why a document isn't written.
+/// Returns the error that tells a caller why a document isn't written.
 fn error_of_stop(stop: Stop) -> TomlError
     ensures error { writers_error result ≡ stop_error stop }
     ensures text { DeniesToml result → ⊥ }
@@ -100,7 +100,7 @@ pub fn write_toml<A: Allocator + Copy>(
     }
 }
 
-/// The YAML of a TOML document: a stream of one document.
+/// Returns the YAML of a TOML document: a stream of one document.
 ///
 /// # Errors
 ///

@@ -57,7 +57,7 @@ impl Rest<'_> {
     }
 }
 
-/// Why a walk stops by a writer's answer.
+/// Returns why a walk stops by a writer's answer.
 fn stop_of(answer: Result<(), yaml_error_t>) -> Result<(), Stop>
     ensures { IsStopOf answer result }
 {

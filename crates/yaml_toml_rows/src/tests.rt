@@ -11,7 +11,7 @@ use std::fmt::Debug;
 use std::process::Abort;
 use toml_ordered::{Fault, Node, Nodes, read_document};
 
-/// The two are equal. (A comparison in a function of its own is proved once.)
+/// Checks that the two are equal. (A comparison in a function of its own is proved once.)
 fn equal<T: PartialEq + Debug>(rt: &impl Abort, got: &T, wanted: &T) {
     assert_eq!(rt; *got, *wanted);
 }
@@ -28,7 +28,7 @@ fn push<'a>(rt: &impl Abort, work: &mut Vec<Work<'a>>, next: Work<'a>) {
     work.push(next).expect(rt, "no memory");
 }
 
-/// The keys of a table, in their order. What is listed last is pushed first.
+/// Appends the keys of a table, in their order. What is listed last is pushed first.
 fn push_keys<'a>(rt: &impl Abort, work: &mut Vec<Work<'a>>, nodes: &'a Nodes) {
     push(rt, work, Work::Word("}"));
     for (at, (key, node, _)) in nodes.iter().enumerate().rev() {
@@ -92,7 +92,7 @@ fn push_value<'a>(
     text
 }
 
-/// A document in one line: keys and values in their order, texts in quotes, decimals behind `#`.
+/// Returns a document in one line: keys and values in their order, texts in quotes, decimals behind `#`.
 fn listed(rt: &impl Abort, alloc: Global, nodes: &Nodes) -> String {
     let mut text = String::new(alloc);
     let mut work = Vec::new(alloc);
@@ -112,7 +112,7 @@ fn listed(rt: &impl Abort, alloc: Global, nodes: &Nodes) -> String {
     text
 }
 
-/// The document of a text in one line, or the offset at which it is refused.
+/// Returns the document of a text in one line, or the offset at which it is refused.
 fn read(rt: &impl Abort, alloc: Global, text: &str) -> Result<String, usize> {
     match read_document(alloc, text) {
         Ok(nodes) => Ok(listed(rt, alloc, &nodes)),

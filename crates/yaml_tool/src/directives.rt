@@ -74,7 +74,7 @@ fn push_directives<A: Allocator + Copy>(
     Ok(true)
 }
 
-/// Pairs of texts, each a handle and its prefix; `None` if a field is no text, or the last handle has no prefix.
+/// Returns pairs of texts, each a handle and its prefix; `None` if a field is no text, or the last handle has no prefix.
 pub fn directives_of<A: Allocator + Copy>(
     alloc: A,
     rest: Option<&str>,

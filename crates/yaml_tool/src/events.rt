@@ -117,7 +117,7 @@ struct ScalarFields<A: Allocator> {
     value: String<A>,
 }
 
-/// A scalar; `None` if its style or a flag was not understood.
+/// Returns a scalar; `None` if its style or a flag was not understood.
 // A call hands its event over in memory, and most lines give scalars.
 #[inline(always)]
 fn scalar_with<A: Allocator>(fields: ScalarFields<A>) -> Option<yaml_event_t<A>>

@@ -23,7 +23,7 @@ use yaml_base::{
 };
 use yaml_dump::{YAML_MAP_TAG, YAML_SEQ_TAG, YAML_STR_TAG};
 
-/// The events of a stream of one document that holds the value.
+/// Returns the events of a stream of one document that holds the value.
 pub(crate) fn events_of<A: Allocator + Copy>(
     alloc: A,
     value: &Value<A>,
@@ -60,7 +60,7 @@ fn built<A: Allocator + Copy>(
     Ok(events)
 }
 
-/// The events of a value, after others.
+/// Appends the events of a value.
 fn push_value<A: Allocator + Copy>(
     alloc: A,
     events: &mut Vec<yaml_event_t<A>, A>,
@@ -79,7 +79,7 @@ fn push_value<A: Allocator + Copy>(
     Ok(())
 }
 
-/// The event with which a value begins, after others.
+/// Appends the event with which a value begins.
 fn push_opening<A: Allocator + Copy>(
     alloc: A,
     events: &mut Vec<yaml_event_t<A>, A>,
@@ -98,7 +98,7 @@ fn push_opening<A: Allocator + Copy>(
     }
 }
 
-/// The event of a step that entered a value, or that ended what was left, after others.
+/// Appends the event of a step that entered a value, or that ended what was left.
 fn push_step<A: Allocator + Copy>(
     alloc: A,
     events: &mut Vec<yaml_event_t<A>, A>,
@@ -193,7 +193,7 @@ fn push_text<A: Allocator + Copy>(
     push_scalar(alloc, events, YAML_STR_TAG, value)
 }
 
-/// A scalar with a tag, after others.
+/// Appends a scalar with a tag.
 fn push_scalar<A: Allocator + Copy>(
     alloc: A,
     events: &mut Vec<yaml_event_t<A>, A>,

@@ -13,7 +13,7 @@ use std::alloc::Allocator;
 /// The maximum nesting depth of lists and maps.
 const MOST_NESTED: usize = 1_000;
 
-/// The number of values in a value, itself included, by recursion; `u64::MAX` where there are more.
+/// Returns the number of values in a value, itself included, by recursion; `u64::MAX` where there are more.
 #[cycle(count_by_recursion)]
 fn count_by_recursion<A: Allocator>(value: &Value<A>) -> u64
     ensures { result ≡ min (value_count (seen_value value.now)) largest_usize }
@@ -25,7 +25,7 @@ fn count_by_recursion<A: Allocator>(value: &Value<A>) -> u64
     }
 }
 
-/// A list of these items counts as one more.
+/// Returns the number of values in these items, and one more for their list.
 #[cycle(count_by_recursion)]
 fn count_items<A: Allocator>(items: &Vec<Value<A>, A>) -> u64
     ensures { result ≡ min (1 + values_count (seen_values items.now.items)) largest_usize }
@@ -37,7 +37,7 @@ fn count_items<A: Allocator>(items: &Vec<Value<A>, A>) -> u64
     count
 }
 
-/// A map of these pairs counts as one more.
+/// Returns the number of values in these pairs, and one more for their map.
 #[cycle(count_by_recursion)]
 fn count_pairs<A: Allocator>(pairs: &Vec<(Value<A>, Value<A>), A>) -> u64
     ensures { result ≡ min (1 + value_pairs_count (seen_pairs pairs.now.items)) largest_usize }
@@ -82,7 +82,7 @@ fn count_by_list<A: Allocator, B: Allocator>(alloc: B, value: &Value<A>) -> u64
     count
 }
 
-/// The number of values in a value, itself included; `u64::MAX` where there are more.
+/// Returns the number of values in a value, itself included; `u64::MAX` where there are more.
 pub(crate) fn count_values<A: Allocator>(value: &Value<A>) -> u64
     ensures { result ≡ min (value_count (seen_value value.now)) largest_usize }
 {
@@ -126,7 +126,8 @@ fn step_within<'a, A: Allocator>(
     enter_within(levels, value)
 }
 
-/// Whether the lists and maps of a value nest at most `MOST_NESTED` deep. It takes no memory: so many levels have room on the stack.
+/// Returns whether the lists and maps of a value nest at most `MOST_NESTED` deep. It takes no memory: so many levels have room on
+/// the stack.
 pub(crate) fn lies_within<A: Allocator>(value: &Value<A>) -> bool
     ensures { result ≡ nat_le (nesting (seen_value value.now)) most_nested }
 {

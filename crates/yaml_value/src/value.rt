@@ -27,7 +27,7 @@ pub enum Value<A: Allocator> {
 }
 
 impl<A: Allocator> Value<A> {
-    /// The number of values in this one, itself included; `u64::MAX` where there are more.
+    /// Returns the number of values in this one, itself included; `u64::MAX` where there are more.
     ///
     /// It keeps its place in a list, whose memory comes from the value's own allocator. What finds no room in it is counted
     /// by recursion, on the machine's stack.

@@ -24,7 +24,7 @@ impl<'a, A: Allocator> Default for Rest<'a, A> {
 }
 
 impl<'a, A: Allocator> Rest<'a, A> {
-    /// What lies in a list or a map; `None` for a scalar.
+    /// Returns what lies in a list or a map; `None` for a scalar.
     pub(crate) fn of(value: &'a Value<A>) -> Option<Self>
         ensures { map seen_rest (option_to_list result) ≡ entered (seen_value value.now) }
     {
@@ -35,7 +35,7 @@ impl<'a, A: Allocator> Rest<'a, A> {
         }
     }
 
-    /// The first value, and what is left behind it.
+    /// Returns the first value, and what is left behind it.
     pub(crate) fn split_first(self) -> Option<(&'a Value<A>, Self)>
         ensures { option_map (λ parts. (seen_value parts.0.now, seen_rest parts.1)) result ≡ split (seen_rest self.entry) }
     {
@@ -55,7 +55,7 @@ impl<'a, A: Allocator> Rest<'a, A> {
         }
     }
 
-    /// The event with which the list or the map ends.
+    /// Returns the event with which the list or the map ends.
     pub(crate) fn end(self) -> yaml_event_t<A>
         ensures { seen_event result ≡ (seen_rest self.entry).end }
     {

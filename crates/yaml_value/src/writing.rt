@@ -15,8 +15,8 @@ use yaml_base::{YAML_LN_BREAK, YAML_UTF8_ENCODING, yaml_error_t};
 use yaml_dump::emit_each;
 use yaml_emitter::{Settings, yaml_emitter_t, yaml_emitter_take_output};
 
-/// The canonical YAML of a value: one document in UTF-8, each node with its tag. The canonical reader of the definitions
-/// finds in these bytes this value and no other.
+/// Returns the canonical YAML of a value: one document in UTF-8, each node with its tag. The canonical reader of the
+/// definitions finds in these bytes this value and no other.
 ///
 /// # Errors
 /// `TooDeep` where more than 1,000 lists and maps lie within one another; nothing is allocated then. `Memory` where an
@@ -36,7 +36,7 @@ pub fn write_canonical<A: Allocator + Copy>(
     written(alloc, value)
 }
 
-/// The bytes of a value that isn't nested too deep.
+/// Returns the bytes of a value that isn't nested too deep.
 fn written<A: Allocator + Copy>(alloc: A, value: &Value<A>) -> Result<Vec<u8, A>, yaml_error_t>
     requires { nesting (seen_value value.now) ≤ most_nested }
     ensures written { IfOk result (λ bytes. WritesValue (seen_value value.now) bytes.items) }
@@ -57,8 +57,8 @@ fn written<A: Allocator + Copy>(alloc: A, value: &Value<A>) -> Result<Vec<u8, A>
     }
 }
 
-/// The settings of canonical values: canonical form in UTF-8 and with LF, an indent of 2, no width, printable characters as
-/// themselves, and no limit that a vector reaches.
+/// Returns the settings of canonical values: canonical form in UTF-8 and with LF, an indent of 2, no width, printable
+/// characters as themselves, and no limit that a vector reaches.
 pub fn canonical_settings() -> Settings
     ensures { seen_settings result ≡ typed_settings }
 {

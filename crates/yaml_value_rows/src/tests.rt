@@ -18,12 +18,12 @@ use std::process::Abort;
 use yaml_base::yaml_error_t;
 use yaml_writer::{Settings, Writer};
 
-/// The two are equal. (A comparison in a function of its own is proved once.)
+/// Checks that the two are equal. (A comparison in a function of its own is proved once.)
 fn equal<T: PartialEq + Debug>(rt: &impl Abort, got: &T, wanted: &T) {
     assert_eq!(rt; *got, *wanted);
 }
 
-/// This was written.
+/// Checks that this was written.
 fn same(rt: &impl Abort, got: &[u8], wanted: &str) {
     equal(rt, &got, &wanted.as_bytes());
 }
@@ -35,12 +35,12 @@ fn writer(rt: &impl Abort, alloc: Global, settings: Settings) -> Writer<Global> 
     Writer::new(alloc, settings).expect(rt, "no memory")
 }
 
-/// The bytes of a writer. (Tests need none of the clauses of the call.)
+/// Returns the bytes of a writer. (Tests need none of the clauses of the call.)
 fn finished(writer: Writer<Global>) -> Result<Vec<u8>, yaml_error_t> {
     writer.finish()
 }
 
-/// The call gave this.
+/// Checks that the call gave this.
 fn answers<A: Allocator>(
     rt: &impl Abort,
     answer: Result<Vec<u8, A>, yaml_error_t>,

@@ -6,7 +6,7 @@ ghost use Rattle.yaml_writer.specs.SeenDates.{seen_date};
 use crate::dates::{Date, NoTimestamp};
 use jiff::civil;
 
-/// The date of these parts, of the years 1 to 9999.
+/// Returns the date of these parts, of the years 1 to 9999.
 fn date_by(year: i16, month: u8, day: u8) -> Option<Date>
     ensures { option_map seen_date result ≡ spec.date_by year month day }
 {
@@ -26,7 +26,7 @@ impl TryFrom<civil::Date> for Date {
 
     ghost try_from_gives = { λ date made. option_map seen_date (result_ok made) ≡ date_of date };
 
-    /// The same date.
+    /// Returns the same date.
     ///
     /// # Errors
     /// `NoTimestamp` for the year 0 and years before it.

@@ -45,7 +45,7 @@ impl<A: Allocator + Copy> Writer<A> {
         }
     }
 
-    /// How many collections are open.
+    /// Returns how many collections are open.
     pub fn depth(&self) -> usize
         ensures { result ≡ length self.now.levels }
     {
@@ -70,7 +70,7 @@ impl<A: Allocator + Copy> Writer<A> {
         }
     }
 
-    /// One more collection is open.
+    /// Enters one more collection.
     fn enter(&mut self, kind: CollectionKind) -> Result<(), yaml_error_t>
         ensures with_collection { OnOk result (self.new ≡ with_collection self.old kind) }
         ensures full { IfErr result (λ error. (error ≡ yaml_error_t.Memory) × (self.new ≡ self.old)) }

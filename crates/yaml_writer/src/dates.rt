@@ -37,7 +37,7 @@ fn is_leap(year: u16) -> bool
     year % 4 == 0 && (year % 100 != 0 || year % 400 == 0)
 }
 
-/// How many days a month has.
+/// Returns how many days a month has.
 fn days_in(year: u16, month: u8) -> u8
     ensures { result ≡ dates.days_in year month }
 {
@@ -61,7 +61,7 @@ impl Date {
     ghost use Rattle.std.specs.Prelude.{IfOk, MatchOption, string_bytes};
     ghost use Rattle.yaml_writer.specs.SeenDates.{seen_date};
 
-    /// The date of these parts; `None` where the calendar has no such day, or the year isn't one of 1 to 9999.
+    /// Returns the date of these parts; `None` where the calendar has no such day, or the year isn't one of 1 to 9999.
     pub fn new(year: u16, month: u8, day: u8) -> Option<Date>
         ensures { MatchOption result (is_calendar_date (calendar_date year month day) ≡ false)
             (λ date. seen_date date ≡ calendar_date year month day) }

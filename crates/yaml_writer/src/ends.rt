@@ -11,7 +11,7 @@ pub enum DocumentEnd {
     Explicit,
 }
 
-/// Whether an end isn't written.
+/// Returns whether an end isn't written.
 pub(crate) fn is_implicit(end: DocumentEnd) -> bool
     ensures { result ≡ writing.is_implicit end }
 {

@@ -19,7 +19,7 @@ pub enum SpecialFloat {
     NotANumber,
 }
 
-/// `.inf`, `-.inf` or `.nan`.
+/// Returns `.inf`, `-.inf` or `.nan`.
 fn special_word(value: SpecialFloat) -> &'static str
     ensures { chars result.now ≡ special_text value }
 {
@@ -42,7 +42,7 @@ fn special_of(is_nan: bool, is_negative: bool) -> SpecialFloat
     }
 }
 
-/// The number of JSON that a text is.
+/// Returns the number of JSON that a text is.
 fn number_in(text: &str) -> Number<'_>
     requires { HasNumber text.now }
     ensures { IsNumber text.now result }

@@ -25,7 +25,7 @@ use yaml_emitter::{
     yaml_emitter_take_output,
 };
 
-/// The start of a document without directives.
+/// Returns the start of a document without directives.
 pub(crate) fn plain_start<A: Allocator>(alloc: A) -> yaml_event_t<A>
     ensures { seen_event result ≡ document_begins }
 {
@@ -65,7 +65,7 @@ pub(crate) fn begin<A: Allocator + Copy>(alloc: A, emitter: &mut yaml_emitter_t<
     let _ = give(emitter, plain_start(alloc));
 }
 
-/// A scalar without an anchor, its texts borrowed: its own tag, its value. Where it has no tag, none need be written.
+/// Returns a scalar without an anchor, its texts borrowed: its own tag, its value. Where it has no tag, none need be written.
 pub(crate) fn bare_scalar<'a>(
     own: Option<&'a str>,
     value: &'a str,
@@ -92,8 +92,8 @@ pub(crate) fn bare_scalar<'a>(
     }
 }
 
-/// A scalar, its texts borrowed: its anchor, a tag that was given or else its own, its value. Where it has no tag, none need be
-/// written.
+/// Returns a scalar, its texts borrowed: its anchor, a tag that was given or else its own, its value. Where it has no tag, none
+/// need be written.
 pub(crate) fn scalar_content<'a, A: Allocator>(
     anchor: &'a Option<String<A>>,
     tag: &'a Option<String<A>>,
@@ -123,7 +123,7 @@ pub(crate) fn scalar_content<'a, A: Allocator>(
     }
 }
 
-/// A text, where there is one, else the other one.
+/// Returns a text, where there is one, else the other one.
 fn borrowed_or<'a, A: Allocator>(
     text: &'a Option<String<A>>,
     other: Option<&'a str>,
@@ -151,7 +151,7 @@ pub(crate) fn use_up<A: Allocator>(anchor: &mut Option<String<A>>, tag: &mut Opt
     let _tag = tag.take();
 }
 
-/// The start of a collection; where it has no tag, none need be written.
+/// Returns the start of a collection; where it has no tag, none need be written.
 pub(crate) fn collection_start<A: Allocator>(
     anchor: Option<String<A>>,
     tag: Option<String<A>>,

@@ -13,14 +13,14 @@ enum LineSpot {
     Within,
 }
 
-/// Whether a comment holds a character as itself.
+/// Returns whether a comment holds a character as itself.
 fn fits_comment(character: char) -> bool
     ensures { result ≡ (class.is_printable character && not (class.is_break character)) }
 {
     is_printable(character) && !is_break(character)
 }
 
-/// A character of a comment; a space stands for what a line can't hold.
+/// Returns a character of a comment; a space stands for what a line can't hold.
 fn in_comment(character: char) -> char
     ensures { result ≡ heading.in_comment character }
 {
@@ -31,7 +31,7 @@ fn in_comment(character: char) -> char
     }
 }
 
-/// Where the next character stands.
+/// Returns where the next character stands.
 fn spot_after(character: char) -> LineSpot
     ensures { result ≡ heading.spot_after character }
 {
@@ -42,7 +42,7 @@ fn spot_after(character: char) -> LineSpot
     }
 }
 
-/// What stands before a character.
+/// Returns what stands before a character.
 fn comment_start(spot: LineSpot, character: char) -> &'static str
     ensures { result.now ≡ heading.comment_start spot character }
 {

@@ -10,67 +10,69 @@ ghost use Rattle.yaml_writer.specs.ReadNumbers.{WrittenNumbersAreRead};
 ghost use Rattle.yaml_writer.specs.Times.{TimestampsAreRead, WrittenTimestampsArePlain};
 ghost use Rattle.yaml_writer.specs.TypedEvents.{TypedEventsAreRead};
 
-/// A text that is surely one means a text by the type repository of YAML 1.1 and by the core schema of YAML 1.2.
+/// States that a text that is surely one means a text by the type repository of YAML 1.1 and by the core schema of YAML 1.2.
 pub fn surely_text_is_text()
     ensures { SurelyTextIsText }
 {}
 
-/// The spelling that a writer gives a number of JSON means exactly that number by both.
+/// States that the spelling that a writer gives a number of JSON means exactly that number by both.
 pub fn numbers_are_read()
     ensures { NumbersAreRead }
 {}
 
-/// A text in the style that a writer gives it, whichever was asked for, is written plain only where both schemas read it as a text.
+/// States that a text in the style that a writer gives it, whichever was asked for, is written plain only where both schemas read
+/// it as a text.
 pub fn plain_texts_are_texts()
     ensures { PlainTextsAreTexts }
 {}
 
-/// A number that a writer is given is written plain outside canonical form, in a text which both schemas read as exactly that
-/// number.
+/// States that a number that a writer is given is written plain outside canonical form, in a text which both schemas read as
+/// exactly that number.
 pub fn written_numbers_are_read()
     ensures { WrittenNumbersAreRead }
 {}
 
-/// Both schemas read `.inf`, `-.inf` and `.nan` as exactly these floats.
+/// States that both schemas read `.inf`, `-.inf` and `.nan` as exactly these floats.
 pub fn special_floats_are_read()
     ensures { SpecialFloatsAreRead }
 {}
 
-/// The text of every date means a timestamp by the type repository of YAML 1.1, and its parts are that date's.
+/// States that the text of every date means a timestamp by the type repository of YAML 1.1, and its parts are that date's.
 pub fn dates_are_read()
     ensures { DatesAreRead }
 {}
 
-/// The text of every date, asked for plain, is written so outside canonical form, in flow, too, and as a key.
+/// States that the text of every date, asked for plain, is written so outside canonical form, in flow, too, and as a key.
 pub fn written_dates_are_plain()
     ensures { WrittenDatesArePlain }
 {}
 
-/// The text of every timestamp, with a time of day or without, means a timestamp by the type repository of YAML 1.1, and its
-/// parts are that timestamp's.
+/// States that the text of every timestamp, with a time of day or without, means a timestamp by the type repository of YAML
+/// 1.1, and its parts are that timestamp's.
 pub fn timestamps_are_read()
     ensures { TimestampsAreRead }
 {}
 
-/// The text of every timestamp, asked for plain, is written so in block outside canonical form.
+/// States that the text of every timestamp, asked for plain, is written so in block outside canonical form.
 pub fn written_timestamps_are_plain()
     ensures { WrittenTimestampsArePlain }
 {}
 
-/// A text that has a plain tag, asked for plain, is written so outside canonical form, in flow, too, and as a key; and both schemas
-/// give it this tag.
+/// States that a text that has a plain tag, asked for plain, is written so outside canonical form, in flow, too, and as a key; and
+/// both schemas give it this tag.
 pub fn plain_tags_are_read()
     ensures { PlainTagsAreRead }
 {}
 
-/// What is read of a stream of typed events has the tags of these events, whichever schema gives tags to what is read without one. So
-/// it is of each stream whose scalars have tags, and whose collections' tags are left out only where they are those of their kinds.
+/// States that what is read of a stream of typed events has the tags of these events, whichever schema gives tags to what is read
+/// without one. So it is of each stream whose scalars have tags, and whose collections' tags are left out only where they are those
+/// of their kinds.
 pub fn typed_events_are_read()
     ensures { TypedEventsAreRead }
 {}
 
-/// A stream behind lines of comments is read as the stream alone by a reader that passes over the lines at its front that begin with `#`;
-/// what doesn't begin so is read as ever.
+/// States that a stream behind lines of comments is read as the stream alone by a reader that passes over the lines at its front that
+/// begin with `#`; what doesn't begin so is read as ever.
 pub fn headings_are_passed_over()
     ensures { HeadingsArePassedOver }
 {}

@@ -43,7 +43,7 @@ pub struct Parts<'a> {
     pub exponent: Option<Exponent<'a>>,
 }
 
-/// How many bytes stand before the first that is a sign. A number is short, so they are looked at one by one.
+/// Returns how many bytes stand before the first that is a sign. A number is short, so they are looked at one by one.
 fn length_before(sign: u8, text: &str) -> usize
     ensures value { result ≡ prefix_len (λ c. not (c == sign)) text.now }
     ensures few { result ≤ length text.now }
@@ -54,7 +54,7 @@ fn length_before(sign: u8, text: &str) -> usize
         .count()
 }
 
-/// What stands before and after the first of a sign.
+/// Returns what stands before and after the first of a sign.
 fn cut_at(sign: u8, text: &str) -> Option<(&str, &str)>
     requires { sign < 128 }
     ensures { MatchOption result (parts.cut_at sign text.now ≡ None) (λ cut. parts.cut_at sign text.now ≡ Some (cut.0.now, cut.1.now)) }
@@ -66,7 +66,7 @@ fn cut_at(sign: u8, text: &str) -> Option<(&str, &str)>
     Some((&text[..length], &text[length + 1..]))
 }
 
-/// Whether a text holds no letter, as a number without an exponent.
+/// Returns whether a text holds no letter, as a number without an exponent.
 pub(crate) fn lacks_letters(text: &str) -> bool
     ensures { result ≡ list_all (λ c. nat_lt c 0x41) text.now }
 {
@@ -86,7 +86,7 @@ fn sign_cut(text: &str) -> (Option<Sign>, &str)
     }
 }
 
-/// An exponent, by its letter and what follows it.
+/// Returns an exponent, by its letter and what follows it.
 fn exponent_in(letter: ExponentLetter, text: &str) -> Exponent<'_>
     ensures { seen_exponent result ≡ parts.exponent_in (is_capital letter) text.now }
 {
@@ -98,7 +98,7 @@ fn exponent_in(letter: ExponentLetter, text: &str) -> Exponent<'_>
     }
 }
 
-/// The mantissa and the exponent of a number without its sign.
+/// Returns the mantissa and the exponent of a number without its sign.
 fn exponent_cut(text: &str) -> (&str, Option<Exponent<'_>>)
     ensures { (result.0.now, option_map seen_exponent result.1) ≡ parts.exponent_cut text.now }
 {
@@ -120,7 +120,7 @@ fn exponent_cut(text: &str) -> (&str, Option<Exponent<'_>>)
     }
 }
 
-/// The digits before and after the point of a mantissa.
+/// Returns the digits before and after the point of a mantissa.
 fn fraction_cut(text: &str) -> (&str, Option<&str>)
     ensures { (result.0.now, option_map (λ fraction. fraction.now) result.1) ≡ parts.fraction_cut text.now }
 {
@@ -140,7 +140,7 @@ fn minus_cut(text: &str) -> (bool, &str)
     }
 }
 
-/// The parts of a text, which need not be a number.
+/// Returns the parts of a text, which need not be a number.
 fn parts_of(text: &str) -> Parts<'_>
     ensures { seen_parts result ≡ parts.number_in text.now }
 {
@@ -167,7 +167,7 @@ fn is_all_decimal(text: &str) -> bool
     text.as_bytes().iter().all(|byte| is_decimal(*byte))
 }
 
-/// Whether a text is decimal digits, one or more.
+/// Returns whether a text is decimal digits, one or more.
 fn is_digits(text: &str) -> bool
     ensures { result ≡ schema.are_digits 10 text.now }
 {
@@ -180,7 +180,7 @@ fn begins_with_zero(text: &str) -> bool
     text.as_bytes().first().is_some_and(|first| *first == b'0')
 }
 
-/// Whether a text is `0`, or digits of which the first isn't 0.
+/// Returns whether a text is `0`, or digits of which the first isn't 0.
 fn is_whole(text: &str) -> bool
     ensures { result ≡ json.is_whole text.now }
 {
@@ -200,7 +200,7 @@ fn is_exponent(exponent: Option<Exponent<'_>>) -> bool
 }
 
 impl Parts<'_> {
-    /// Whether every required digit run is non-empty, and the first digit isn't a needless 0.
+    /// Returns whether every required digit run is non-empty, and the first digit isn't a needless 0.
     fn is_valid(&self) -> bool
         ensures { result ≡ json.is_json_number (seen_parts self.now) }
     {
@@ -226,8 +226,8 @@ impl<'a> Model for Number<'a> {
 }
 
 impl<'a> Number<'a> {
-    /// The number that a text is. It must be a number of JSON (RFC 8259, section 6), as a reader of JSON knows of its tokens: no byte
-    /// of it is looked at here. `number_of` finds out whether a text is a number.
+    /// Returns the number that a text is. It must be a number of JSON (RFC 8259, section 6), as a reader of JSON knows of its tokens:
+    /// no byte of it is looked at here. `number_of` finds out whether a text is a number.
     pub fn of_text(text: &'a str) -> Self
         requires { parts.IsNumber text.now (parts.number_in text.now) }
         ensures { parts.IsNumber text.now result }
@@ -235,7 +235,7 @@ impl<'a> Number<'a> {
         Number { text }
     }
 
-    /// The text that it was made from.
+    /// Returns the text that it was made from.
     pub fn as_str(&self) -> &'a str
         ensures { parts.IsNumber result.now self.now }
     {
@@ -249,7 +249,7 @@ impl<'a> Number<'a> {
     }
 }
 
-/// The number that a text is; `None` where the text is no number of JSON. Needs no memory.
+/// Returns the number that a text is; `None` where the text is no number of JSON. Needs no memory.
 pub fn number_of(text: &str) -> Option<Number<'_>>
     ensures characters { MatchOption result (parts.IsNoNumber (chars text.now)) (λ number. parts.IsNumber (chars text.now) number) }
     ensures bytes { MatchOption result (parts.IsNoNumber text.now) (λ number. parts.IsNumber text.now number) }

@@ -18,14 +18,14 @@ fn is_word(text: &str, word: &str) -> bool
     text == word
 }
 
-/// A word for nothing.
+/// Returns whether a text is a word for nothing.
 fn is_null_word(text: &str) -> bool
     ensures { result ≡ is_one_of plain.null_words text.now }
 {
     is_word(text, "~") || is_word(text, "null") || is_word(text, "Null") || is_word(text, "NULL")
 }
 
-/// A word for true or false.
+/// Returns whether a text is a word for true or false.
 fn is_bool_word(text: &str) -> bool
     ensures { result ≡ is_one_of plain.bool_words text.now }
 {
@@ -37,7 +37,7 @@ fn is_bool_word(text: &str) -> bool
         || is_word(text, "FALSE")
 }
 
-/// A word for infinity or for no number.
+/// Returns whether a text is a word for infinity or for no number.
 fn is_float_word(text: &str) -> bool
     ensures { result ≡ is_one_of plain.float_words text.now }
 {
@@ -55,7 +55,7 @@ fn is_float_word(text: &str) -> bool
         || is_word(text, ".NAN")
 }
 
-/// The tag of a word of both schemas.
+/// Returns the tag of a word of both schemas.
 fn tag_of_word(text: &str) -> Option<&'static str>
     ensures { option_map (λ tag. chars tag.now) result ≡ option_map canonical_tag (plain.word_meant (chars text.now)) }
 {
@@ -71,7 +71,7 @@ fn tag_of_word(text: &str) -> Option<&'static str>
     None
 }
 
-/// The tag of a number of JSON that is its own spelling.
+/// Returns the tag of a number of JSON that is its own spelling.
 fn tag_of_spelled_number(text: &str) -> Option<&'static str>
     ensures { option_map (λ tag. chars tag.now) result ≡ option_map number_tag (plain.spelled_number (chars text.now)) }
 {
@@ -98,14 +98,14 @@ pub fn plain_tag(text: &str) -> Option<&'static str>
     }
 }
 
-/// Whether a tag is that of texts.
+/// Returns whether a tag is that of texts.
 pub(crate) fn is_string_tag(tag: &str) -> bool
     ensures { result ≡ bytes_eq (chars tag.now) string_tag }
 {
     tag == YAML_STR_TAG
 }
 
-/// Whether two texts have the same characters.
+/// Returns whether two texts have the same characters.
 fn are_same(a: &str, b: &str) -> bool
     ensures { result ≡ bytes_eq (chars a.now) (chars b.now) }
 {
@@ -121,7 +121,7 @@ fn is_plain_tag(text: &str, tag: &str) -> bool
     }
 }
 
-/// Whether a text that stands plain has a tag by both schemas. It has that of texts where it is surely one.
+/// Returns whether a text that stands plain has a tag by both schemas. It has that of texts where it is surely one.
 pub(crate) fn implies_tag(text: &str, tag: &str) -> bool
     ensures { result ≡ plain.implies_tag (chars text.now) (chars tag.now) }
 {

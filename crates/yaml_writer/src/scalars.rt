@@ -18,21 +18,21 @@ use yaml_base::{
 };
 use yaml_emitter::holds_break;
 
-/// The tag of a scalar's type, where one is written.
+/// Returns the tag of a scalar's type, where one is written.
 pub(crate) fn own_tag(is_written: bool, tag: &str) -> Option<&str>
     ensures { seen_name result ≡ tag_or_default None is_written (chars tag.now) }
 {
     if is_written { Some(tag) } else { None }
 }
 
-/// `true` or `false`.
+/// Returns `true` or `false`.
 fn word_of(value: bool) -> &'static str
     ensures { chars result.now ≡ bool_text value }
 {
     if value { "true" } else { "false" }
 }
 
-/// The tag of a number's type.
+/// Returns the tag of a number's type.
 pub(crate) fn tag_of_number(number: &Number<'_>) -> &'static str
     ensures { chars result.now ≡ number_tag number.now }
 {
@@ -43,7 +43,7 @@ pub(crate) fn tag_of_number(number: &Number<'_>) -> &'static str
     }
 }
 
-/// How a text is to stand.
+/// Returns how a text is to stand.
 pub(crate) fn style_of(text: &str) -> yaml_scalar_style_t
     ensures { seen_scalar_style result ≡ text_style (chars text.now) }
 {
@@ -56,7 +56,7 @@ pub(crate) fn style_of(text: &str) -> yaml_scalar_style_t
     }
 }
 
-/// How a text is to stand for which a style is asked.
+/// Returns how a text is to stand for which a style is asked.
 fn style_for(asked: yaml_scalar_style_t, text: &str) -> yaml_scalar_style_t
     ensures { seen_scalar_style result ≡ style_asked (seen_scalar_style asked) (chars text.now) }
 {
@@ -125,7 +125,7 @@ impl<A: Allocator + Copy> Writer<A> {
         self.respelled_number(number)
     }
 
-    /// What `number` does where the spelling may be another text. Out of line, so that `number` is inlined.
+    /// Does what `number` does where the spelling may be another text. Out of line, so that `number` is inlined.
     #[inline(never)]
     fn respelled_number(&mut self, number: &Number<'_>) -> Result<(), yaml_error_t>
         ensures { Gives self.old (number_event self.old number.now) result self.new }
@@ -136,7 +136,7 @@ impl<A: Allocator + Copy> Writer<A> {
         }
     }
 
-    /// The tag of a number's type, where one is written.
+    /// Returns the tag of a number's type, where one is written.
     fn number_tag(&self, number: &Number<'_>) -> Option<&'static str>
         ensures { seen_name result ≡ tag_or_default None self.now.canonical (number_tag number.now) }
     {

@@ -5,7 +5,7 @@ ghost use Rattle.yaml_writer.specs.Given.{given_for_values};
 
 use yaml_emitter::Settings;
 
-/// The settings for values: portable, in UTF-8 and with LF: an indent of 2, sequences in mappings indented, too, no line
+/// Returns the settings for values: portable, in UTF-8 and with LF: an indent of 2, sequences in mappings indented, too, no line
 /// folded, no limit; characters past ASCII as themselves; blanks literal. Not those of `Settings::default()`, which are libyaml's.
 pub fn value_settings() -> Settings
     ensures { seen_settings result ≡ given_for_values }

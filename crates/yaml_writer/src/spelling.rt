@@ -33,7 +33,7 @@ fn minus(negative: bool) -> &'static str
     if negative { "-" } else { "" }
 }
 
-/// What stands before the digits of an exponent.
+/// Returns what stands before the digits of an exponent.
 fn exponent_lead(sign: Option<Sign>) -> &'static str
     ensures { result.now ≡ spellings.exponent_lead (option_map is_minus sign) }
 {
@@ -66,7 +66,7 @@ fn is_spelled_exponent(exponent: Option<Exponent<'_>>) -> bool
 }
 
 impl Parts<'_> {
-    /// Whether it is an integer other than `-0`.
+    /// Returns whether it is an integer other than `-0`.
     fn is_integer(&self) -> bool
         ensures { result ≡ json.is_json_integer (seen_parts self.now) }
     {
@@ -118,7 +118,7 @@ impl Parts<'_> {
         Ok(text)
     }
 
-    /// Whether its text is its spelling.
+    /// Returns whether its text is its spelling.
     fn is_spelled(&self) -> bool
         ensures { result ≡ spellings.is_spelled (seen_parts self.now) }
     {
@@ -129,7 +129,7 @@ impl Parts<'_> {
     }
 }
 
-/// Whether a text is its own spelling if it is a number, since it has no exponent and isn't `-0`.
+/// Returns whether a text is its own spelling if it is a number, since it has no exponent and isn't `-0`.
 fn is_surely_spelled(text: &str) -> bool
     ensures { result ≡ true → spellings.is_spelled (number_in text.now) ≡ true }
 {
@@ -137,21 +137,21 @@ fn is_surely_spelled(text: &str) -> bool
 }
 
 impl<'a> Number<'a> {
-    /// Whether it is an integer other than `-0`: it has neither a point nor an exponent.
+    /// Returns whether it is an integer other than `-0`: it has neither a point nor an exponent.
     pub fn is_integer(&self) -> bool
         ensures { result ≡ json.is_json_integer self.now }
     {
         self.parts().is_integer()
     }
 
-    /// Whether its text is its spelling. Most texts tell it without their parts.
+    /// Returns whether its text is its spelling. Most texts tell it without their parts.
     pub(crate) fn is_spelled(&self) -> bool
         ensures { result ≡ spellings.is_spelled self.now }
     {
         is_surely_spelled(self.text) || self.has_spelled_parts()
     }
 
-    /// What `is_spelled` returns, by its parts. Out of line, so that `is_spelled` is inlined.
+    /// Returns what `is_spelled` returns, by its parts. Out of line, so that `is_spelled` is inlined.
     #[inline(never)]
     fn has_spelled_parts(&self) -> bool
         ensures { result ≡ spellings.is_spelled self.now }
@@ -159,8 +159,8 @@ impl<'a> Number<'a> {
         self.parts().is_spelled()
     }
 
-    /// Its spelling, which the type repository of YAML 1.1 and the core schema of YAML 1.2 read as exactly this number: a
-    /// float has a point and a sign in its exponent. Memory is needed only where the spelling is another text.
+    /// Returns its spelling, which the type repository of YAML 1.1 and the core schema of YAML 1.2 read as exactly this
+    /// number: a float has a point and a sign in its exponent. Memory is needed only where the spelling is another text.
     ///
     /// # Errors
     /// `AllocError` if an allocation fails.
@@ -176,7 +176,7 @@ impl<'a> Number<'a> {
     }
 }
 
-/// The spelling of the number of JSON that a text is; `None` where the text is no number of JSON.
+/// Returns the spelling of the number of JSON that a text is; `None` where the text is no number of JSON.
 ///
 /// # Errors
 /// `AllocError` if an allocation fails. A text that is its own spelling needs no memory.

@@ -14,7 +14,7 @@ use crate::words::is_reserved_word;
 /// One byte more than the longest reserved word has.
 const HEAD: usize = 10;
 
-/// The first bytes, some more than a reserved word has.
+/// Returns the first bytes, some more than a reserved word has.
 fn head(text: &[u8]) -> &[u8]
     ensures { result.now ≡ take 10 text.now }
 {
@@ -25,7 +25,7 @@ fn head(text: &[u8]) -> &[u8]
     }
 }
 
-/// How many bytes stand before the first that isn't ASCII.
+/// Returns how many bytes stand before the first that isn't ASCII.
 fn ascii_length(text: &[u8]) -> usize
     ensures value { result ≡ prefix_len is_ascii text.now }
     ensures few { result ≤ length text.now }
@@ -33,22 +33,22 @@ fn ascii_length(text: &[u8]) -> usize
     text.iter().take_while(|byte| byte.is_ascii()).count()
 }
 
-/// The bytes before the first that isn't ASCII.
+/// Returns the bytes before the first that isn't ASCII.
 fn ascii_prefix(text: &[u8]) -> &[u8]
     ensures { result.now ≡ take_while is_ascii text.now }
 {
     text.split_at(ascii_length(text)).0
 }
 
-/// The first bytes of a text, up to one that isn't ASCII, are a reserved word in any case.
+/// Returns whether the first bytes of a text, up to one that isn't ASCII, are a reserved word in any case.
 fn begins_with_reserved_word(text: &[u8]) -> bool
     ensures { result ≡ list_any (is_word (surely.ascii_prefix text.now)) surely.reserved_words }
 {
     is_reserved_word(ascii_prefix(head(text)))
 }
 
-/// A space or a letter, or another byte of ASCII above them, that is neither the second nor the third of a reserved word. One
-/// range has all these letters, which then cost one test of a bit.
+/// Returns whether a byte is a space or a letter, or another byte of ASCII above them, that is neither the second nor the
+/// third of a reserved word. One range has all these letters, which then cost one test of a bit.
 #[rattlefmt::skip]
 #[inline(always)]
 fn leaves_reserved(byte: u8) -> bool
@@ -64,7 +64,7 @@ fn leaves_reserved(byte: u8) -> bool
             ))
 }
 
-/// The second or the third byte of a text is that of no reserved word.
+/// Returns whether the second or the third byte of a text is that of no reserved word.
 fn leaves_reserved_words(text: &[u8]) -> bool
     ensures { result ≡ true → list_any (is_word (surely.ascii_prefix text.now)) surely.reserved_words ≡ false }
 {
@@ -84,7 +84,8 @@ fn leaves_reserved_words(text: &[u8]) -> bool
     leaves_reserved(text[2])
 }
 
-/// Nothing, or a reserved word in any case, alone or before a byte that isn't ASCII. Two bytes tell most texts from one.
+/// Returns whether a text is nothing, or a reserved word in any case, alone or before a byte that isn't ASCII. Two bytes
+/// tell most texts from one.
 fn is_reserved(text: &[u8]) -> bool
     ensures { result ≡ surely.is_reserved text.now }
 {
@@ -94,7 +95,7 @@ fn is_reserved(text: &[u8]) -> bool
     }
 }
 
-/// A text begins with `:`, as a symbol of Ruby does.
+/// Returns whether a text begins with `:`, as a symbol of Ruby does.
 fn is_symbol(text: &[u8]) -> bool
     ensures { result ≡ surely.is_symbol text.now }
 {
@@ -116,14 +117,14 @@ fn names_base(byte: u8) -> bool
     matches!(byte, b'_' | b'x' | b'X' | b'o' | b'O' | b'b' | b'B')
 }
 
-/// `0`, and then `_` or the letter of a base.
+/// Returns whether a text begins with `0`, and then `_` or the letter of a base.
 fn begins_based(text: &[u8]) -> bool
     ensures { result ≡ surely.begins_based text.now }
 {
     text.len() > 1 && text[0] == b'0' && names_base(text[1])
 }
 
-/// How many signs and underscores stand first.
+/// Returns how many signs and underscores stand first.
 fn sign_count(text: &[u8]) -> usize
     ensures value { result ≡ prefix_len surely.precedes_number text.now }
     ensures few { result ≤ length text.now }
@@ -133,14 +134,14 @@ fn sign_count(text: &[u8]) -> usize
         .count()
 }
 
-/// The bytes past signs and underscores.
+/// Returns the bytes past signs and underscores.
 fn past_signs(text: &[u8]) -> &[u8]
     ensures { result.now ≡ past surely.precedes_number text.now }
 {
     text.split_at(sign_count(text)).1
 }
 
-/// A number in a base.
+/// Returns whether a text is a number in a base.
 fn is_based(text: &[u8]) -> bool
     ensures { result ≡ surely.is_based text.now }
 {
@@ -176,7 +177,7 @@ fn in_number(byte: u8) -> bool
         || matches!(byte, b' ' | b'\t' | b'+' | b'-' | b'.' | b'_' | b':' | b',')
 }
 
-/// A text begins as a number.
+/// Returns whether a text begins as a number.
 fn begins_as_number(text: &[u8]) -> bool
     ensures { result ≡ first_meets surely.begins_number text.now }
 {
@@ -186,7 +187,7 @@ fn begins_as_number(text: &[u8]) -> bool
     }
 }
 
-/// A text has the characters of numbers and timestamps alone, and a digit if it has a letter. One scan tells it.
+/// Returns whether a text has the characters of numbers and timestamps alone, and a digit if it has a letter. One scan tells it.
 fn are_of_number(text: &[u8]) -> bool
     ensures { result ≡ (list_all surely.in_number text.now && (list_any is_decimal text.now || not (list_any surely.is_number_letter text.now))) }
 {
@@ -202,14 +203,14 @@ fn are_of_number(text: &[u8]) -> bool
     has_digit || !has_letter
 }
 
-/// A number in a base, or a text that begins as a number, and has no other characters than numbers and timestamps.
+/// Returns whether a text is a number in a base, or begins as a number and has no other characters than numbers and timestamps.
 fn is_based_or_numeric(text: &[u8]) -> bool
     ensures { result ≡ (surely.is_based text.now || surely.is_numeric text.now) }
 {
     begins_as_number(text) && (is_based(text) || are_of_number(text))
 }
 
-/// A reserved word, a symbol or a number may begin with it.
+/// Returns whether a reserved word, a symbol or a number may begin with it.
 #[rattlefmt::skip]
 fn begins_doubtful(byte: u8) -> bool
     ensures { result ≡ words.begins_doubtful byte }
@@ -221,7 +222,7 @@ fn begins_doubtful(byte: u8) -> bool
     )
 }
 
-/// A text may be taken for another value, by its bytes. The first of them tells it of most texts.
+/// Returns whether a text may be taken for another value, by its bytes. The first of them tells it of most texts.
 fn is_doubtful(text: &[u8]) -> bool
     ensures { result ≡ surely.is_doubtful text.now }
 {
@@ -231,15 +232,15 @@ fn is_doubtful(text: &[u8]) -> bool
     }
 }
 
-/// A reserved word, a symbol or a number.
+/// Returns whether a text is a reserved word, a symbol or a number.
 fn is_of_doubtful_form(text: &[u8]) -> bool
     ensures { result ≡ surely.is_doubtful text.now }
 {
     is_reserved(text) || is_symbol(text) || is_based_or_numeric(text)
 }
 
-/// Whether a text, written plain, is read as a text by the type repository of YAML 1.1, by the core schema of YAML 1.2, and by
-/// readers that keep to neither: it is no word of theirs, and looks like no symbol, number or timestamp.
+/// Returns whether a text, written plain, is read as a text by the type repository of YAML 1.1, by the core schema of YAML
+/// 1.2, and by readers that keep to neither: it is no word of theirs, and looks like no symbol, number or timestamp.
 pub fn is_surely_text(text: &str) -> bool
     ensures { result ≡ surely.is_surely_text (chars text.now) }
 {

@@ -105,7 +105,7 @@ fn push_time<A: Allocator>(text: &mut String<A>, time: &Option<Time>) -> Result<
 }
 
 impl Timestamp {
-    /// Its bytes, which are ASCII.
+    /// Returns its bytes, which are ASCII.
     fn spelled<A: Allocator>(&self, alloc: A) -> Result<String<A>, AllocError>
         ensures { IfOk result (λ text. string_bytes text ≡ times.timestamp_text (seen_timestamp self.now)) }
     {
@@ -115,8 +115,8 @@ impl Timestamp {
         Ok(text)
     }
 
-    /// Its text, as `2002-12-14` or `2001-12-14T21:59:43.100Z`, which the type repository of YAML 1.1 reads as a timestamp, and
-    /// as this one. A second has no decimals, or three, six or nine, as it takes.
+    /// Returns its text, as `2002-12-14` or `2001-12-14T21:59:43.100Z`, which the type repository of YAML 1.1 reads as a
+    /// timestamp, and as this one. A second has no decimals, or three, six or nine, as it takes.
     ///
     /// # Errors
     /// `AllocError` if an allocation fails.
@@ -129,7 +129,7 @@ impl Timestamp {
     }
 }
 
-/// Whether a timestamp's tag is written.
+/// Returns whether a timestamp's tag is written.
 fn needs_tag(canonical: bool, timestamp: &Timestamp) -> bool
     ensures { result ≡ (canonical || is_some (seen_timestamp timestamp.now).time) }
 {

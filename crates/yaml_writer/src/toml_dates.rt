@@ -16,7 +16,7 @@ fn date_of(date: toml_datetime::Date) -> Option<Date>
     Date::new(date.year, date.month, date.day)
 }
 
-/// How far a clock is from that of UTC.
+/// Returns how far a clock is from that of UTC.
 fn offset_of(minutes: i16) -> Option<Offset>
     ensures { option_map seen_offset result ≡ spec.offset_of minutes }
 {
@@ -86,7 +86,7 @@ impl TryFrom<toml_datetime::Date> for Date {
 
     ghost try_from_gives = { λ date made. option_map seen_date (result_ok made) ≡ date_of date };
 
-    /// The same date.
+    /// Returns the same date.
     ///
     /// # Errors
     /// `NoTimestamp` where the calendar has no such day, or the year isn't one of 1 to 9999.
@@ -105,7 +105,7 @@ impl TryFrom<Datetime> for Timestamp {
 
     ghost try_from_gives = { λ datetime made. option_map seen_timestamp (result_ok made) ≡ moment_of datetime };
 
-    /// The same date, or the same date and time with its offset.
+    /// Returns the same date, or the same date and time with its offset.
     ///
     /// # Errors
     /// `NoTimestamp` for a time that has no offset or no date, and for what YAML 1.1 has no timestamp of: the year 0, and a second 60.

@@ -10,7 +10,7 @@ use std::alloc::Allocator;
 use yaml_base::{YAML_PLAIN_SCALAR_STYLE, yaml_event_t, yaml_scalar_style_t};
 use yaml_emitter::ScalarContent;
 
-/// A scalar with a tag, and the flags and the style that keep the tag.
+/// Returns a scalar with a tag, and the flags and the style that keep the tag.
 fn typed_scalar<A: Allocator>(
     anchor: Option<String<A>>,
     tag: String<A>,
@@ -73,7 +73,7 @@ pub fn typed_event<A: Allocator>(event: yaml_event_t<A>) -> yaml_event_t<A>
     }
 }
 
-/// A scalar with this tag, and the flags and the style that keep the tag.
+/// Returns a scalar with this tag, and the flags and the style that keep the tag.
 fn typed_as<'a>(tag: &str, content: ScalarContent<'a>) -> ScalarContent<'a>
     ensures { seen_scalar result ≡ typed.typed_as (chars tag.now) (seen_scalar content.entry) }
 {

@@ -4,28 +4,28 @@ ghost use Rattle.std.specs.Char.{to_ascii_lowercase};
 ghost use Rattle.yaml_base.specs.Words as tables;
 ghost use Rattle.yaml_writer.specs.Words as words;
 
-/// A text is this word, in any case.
+/// Returns whether a text is this word, in any case.
 fn is_word(text: &[u8], word: &[u8]) -> bool
     ensures { result ≡ tables.is_word (map to_ascii_lowercase text.now) (map to_ascii_lowercase word.now) }
 {
     text.eq_ignore_ascii_case(word)
 }
 
-/// `~` or `null`.
+/// Returns whether a text is `~` or `null`.
 fn is_null_word(text: &[u8]) -> bool
     ensures { result ≡ words.is_one_of words.null_words (map to_ascii_lowercase text.now) }
 {
     is_word(text, b"~") || is_word(text, b"null")
 }
 
-/// `true` or `false`.
+/// Returns whether a text is `true` or `false`.
 fn is_truth_word(text: &[u8]) -> bool
     ensures { result ≡ words.is_one_of words.truth_words (map to_ascii_lowercase text.now) }
 {
     is_word(text, b"true") || is_word(text, b"false")
 }
 
-/// A word that is true or false in YAML 1.1 alone.
+/// Returns whether a text is a word that is true or false in YAML 1.1 alone.
 fn is_answer_word(text: &[u8]) -> bool
     ensures { result ≡ words.is_one_of words.answer_words (map to_ascii_lowercase text.now) }
 {
@@ -37,14 +37,14 @@ fn is_answer_word(text: &[u8]) -> bool
         || is_word(text, b"off")
 }
 
-/// `<<` or `=`, the merge key and the default value of YAML 1.1.
+/// Returns whether a text is `<<` or `=`, the merge key and the default value of YAML 1.1.
 fn is_key_word(text: &[u8]) -> bool
     ensures { result ≡ words.is_one_of words.key_words (map to_ascii_lowercase text.now) }
 {
     is_word(text, b"<<") || is_word(text, b"=")
 }
 
-/// A word for infinity or for no number.
+/// Returns whether a text is a word for infinity or for no number.
 fn is_float_word(text: &[u8]) -> bool
     ensures { result ≡ words.is_one_of words.float_words (map to_ascii_lowercase text.now) }
 {
@@ -55,7 +55,7 @@ fn is_float_word(text: &[u8]) -> bool
         || is_word(text, b"infinity")
 }
 
-/// Such a word after `+`.
+/// Returns whether a text is such a word after `+`.
 fn is_plus_word(text: &[u8]) -> bool
     ensures { result ≡ words.is_one_of words.plus_words (map to_ascii_lowercase text.now) }
 {
@@ -66,7 +66,7 @@ fn is_plus_word(text: &[u8]) -> bool
         || is_word(text, b"+infinity")
 }
 
-/// Such a word after `-`.
+/// Returns whether a text is such a word after `-`.
 fn is_minus_word(text: &[u8]) -> bool
     ensures { result ≡ words.is_one_of words.minus_words (map to_ascii_lowercase text.now) }
 {
@@ -77,7 +77,7 @@ fn is_minus_word(text: &[u8]) -> bool
         || is_word(text, b"-infinity")
 }
 
-/// A reserved word, in any case.
+/// Returns whether a text is a reserved word, in any case.
 pub(crate) fn is_reserved_word(text: &[u8]) -> bool
     ensures { result ≡ words.is_reserved_word (map to_ascii_lowercase text.now) }
 {

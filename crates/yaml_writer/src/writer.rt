@@ -60,7 +60,7 @@ impl<A: Allocator> Model for Writer<A> {
 }
 
 impl<A: Allocator + Copy> Writer<A> {
-    /// A writer at the start of its first document.
+    /// Makes a writer at the start of its first document.
     ///
     /// # Errors
     /// `Memory` where an allocation of the writer fails. An error of its emitter comes with the next call.
@@ -85,8 +85,8 @@ impl<A: Allocator + Copy> Writer<A> {
         })
     }
 
-    /// A writer that goes on with an emitter, whose next event is its next node. `into_emitter` returns the emitter. The documents of
-    /// the stream are left to the emitter, with what the writer opens within them.
+    /// Makes a writer that goes on with an emitter, whose next event is its next node. `into_emitter` returns the emitter. The
+    /// documents of the stream are left to the emitter, with what the writer opens within them.
     pub fn over(alloc: A, emitter: yaml_emitter_t<A>) -> Self
         requires { emitter.has_output ≡ true }
         ensures { result ≡ writer_over emitter }
@@ -102,7 +102,7 @@ impl<A: Allocator + Copy> Writer<A> {
         }
     }
 
-    /// The emitter, where it stands. An anchor and a tag whose node wasn't given are dropped.
+    /// Returns the emitter, where it stands. An anchor and a tag whose node wasn't given are dropped.
     pub fn into_emitter(self) -> yaml_emitter_t<A>
         ensures value { result ≡ self.emitter }
         ensures output { result.has_output ≡ true }
@@ -135,7 +135,7 @@ impl<A: Allocator + Copy> Writer<A> {
         yaml_emitter_emit_scalar(&mut self.emitter, &bare_scalar(own, value, style)).into_result()
     }
 
-    /// What `scalar` does where an anchor or a tag awaits its node. Out of line, so that `scalar` is inlined.
+    /// Does what `scalar` does where an anchor or a tag awaits its node. Out of line, so that `scalar` is inlined.
     #[inline(never)]
     fn scalar_with_properties(
         &mut self,
@@ -156,23 +156,23 @@ impl<A: Allocator + Copy> Writer<A> {
         }
     }
 
-    /// Whether an anchor or a tag was given whose node wasn't yet.
+    /// Returns whether an anchor or a tag was given whose node wasn't yet.
     pub fn awaits_node(&self) -> bool
         ensures { result ≡ awaits_node self.now }
     {
         self.anchor.is_some() || self.tag.is_some()
     }
 
-    /// The first error of the emitter, which each event after it returns, too.
+    /// Returns the first error of the emitter, which each event after it returns, too.
     pub fn error(&self) -> Option<yaml_error_t>
         ensures { result ≡ self.now.emitter.error }
     {
         self.emitter.error()
     }
 
-    /// The bytes of the stream that were flushed so far and not taken before, so that a stream of any length can be sent
-    /// onwards while it is written: what these calls return, one after another, and then `finish`, is together the stream.
-    /// A document's bytes are flushed at its end at the latest, by `next_document` or `finish`.
+    /// Returns the bytes of the stream that were flushed so far and not taken before, so that a stream of any length can
+    /// be sent onwards while it is written: what these calls return, one after another, and then `finish`, is together the
+    /// stream. A document's bytes are flushed at its end at the latest, by `next_document` or `finish`.
     ///
     /// It may be called at any time, also after an error, and takes no memory. All else stays: the collections that are open,
     /// the anchor and the tag of the next node, and the emitter's error. The limit counts what was taken, too.
@@ -205,8 +205,8 @@ impl<A: Allocator + Copy> Writer<A> {
         Ok(())
     }
 
-    /// The bytes of the stream that weren't taken before: ends the document and the stream. A stream of more documents than
-    /// one comes by `next_document`.
+    /// Ends the document and the stream, and returns the bytes of the stream that weren't taken before. A stream of more
+    /// documents than one comes by `next_document`.
     ///
     /// # Errors
     /// `ExpectedNode` where an anchor or a tag awaits its node. Else the first error of the emitter, as `ExpectedNode` where a
@@ -220,7 +220,7 @@ impl<A: Allocator + Copy> Writer<A> {
         self.finish_after(DocumentEnd::Implicit)
     }
 
-    /// What `finish` returns, where the document's end is asked for as `...`.
+    /// Returns what `finish` returns, where the document's end is asked for as `...`.
     ///
     /// # Errors
     /// Those of `finish`.

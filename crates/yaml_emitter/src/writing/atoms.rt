@@ -117,7 +117,7 @@ fn needs_flow_line<A: Allocator>(pen: &Pen<A>, settings: &EffectiveSettings) -> 
     settings.canonical || is_line_full(pen, settings.width)
 }
 
-/// Whether the column is past the width, which isn't negative; `i32::MAX` is never passed.
+/// Returns whether the column is past the width, which isn't negative; `i32::MAX` is never passed.
 fn is_line_full<A: Allocator>(pen: &Pen<A>, width: i32) -> bool
     requires { pos 0 ≤ℤ width }
     ensures { result ≡ layout.is_past_width (seen_width width) pen.now.cursor }

@@ -34,7 +34,7 @@ pub(crate) struct CollectionContent<'a> {
     pub implicit: bool,
 }
 
-/// Whether a scalar's tag is written: in canonical mode, and where no flag lets it be left out.
+/// Returns whether a scalar's tag is written: in canonical mode, and where no flag lets it be left out.
 pub(crate) fn writes_scalar_tag(
     canonical: bool,
     plain_implicit: bool,
@@ -45,14 +45,14 @@ pub(crate) fn writes_scalar_tag(
     canonical || (!plain_implicit && !quoted_implicit)
 }
 
-/// Whether a collection's tag is written: in canonical mode, and where its flag doesn't let it be left out.
+/// Returns whether a collection's tag is written: in canonical mode, and where its flag doesn't let it be left out.
 pub(crate) fn writes_collection_tag(canonical: bool, implicit: bool) -> bool
     ensures { result ≡ (canonical || not implicit) }
 {
     canonical || !implicit
 }
 
-/// The tag that a scalar is written with, where there is one.
+/// Returns the tag that a scalar is written with, where there is one.
 pub(crate) fn written_scalar_tag<'a>(
     content: &ScalarContent<'a>,
     canonical: bool,
@@ -66,7 +66,7 @@ pub(crate) fn written_scalar_tag<'a>(
     }
 }
 
-/// The tag that a collection is written with, where there is one.
+/// Returns the tag that a collection is written with, where there is one.
 pub(crate) fn written_collection_tag<'a>(
     content: &CollectionContent<'a>,
     canonical: bool,

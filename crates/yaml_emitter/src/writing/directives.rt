@@ -69,15 +69,16 @@ fn has_directives<A: Allocator>(start: &StartContent<A>) -> bool
     start.version.is_some() || !start.directives.is_empty()
 }
 
-/// `---` is written where the event asks for it, after another document, in canonical and in portable mode, and after
-/// directives.
+/// Returns whether `---` is written: where the event asks for it, after another document, in canonical and in portable
+/// mode, and after directives.
 fn is_explicit(settings: &EffectiveSettings, first: bool, implicit: bool, directed: bool) -> bool
     ensures { result ≡ (not implicit || not first || (settings.now.canonical || settings.now.portable) || directed) }
 {
     !implicit || !first || settings.canonical || settings.portable || directed
 }
 
-/// Where `closes`, `...` comes first. It keeps directives apart from a document that is still open.
+/// Writes what a document begins with. Where `closes`, `...` comes first. It keeps directives apart from a document
+/// that is still open.
 fn write_document_head<A: Allocator>(
     pen: &mut Pen<A>,
     settings: &EffectiveSettings,
@@ -98,7 +99,7 @@ fn write_document_head<A: Allocator>(
     write_document_marker(pen, settings, explicit)
 }
 
-/// `%TAG` lines, one for each directive.
+/// Writes `%TAG` lines, one for each directive.
 fn write_tag_directives<A: Allocator>(
     pen: &mut Pen<A>,
     settings: &EffectiveSettings,

@@ -79,7 +79,7 @@ pub(crate) fn write_stream_end<A: Allocator>(
     write_closing_marker(pen, settings, open_ended.keeps_breaks())
 }
 
-/// `...` on a line of its own, where it is asked for.
+/// Writes `...` on a line of its own, where it is asked for.
 pub(crate) fn write_closing_marker<A: Allocator>(
     pen: &mut Pen<A>,
     settings: &EffectiveSettings,
@@ -106,7 +106,7 @@ fn closing_atoms(asked: bool) -> Atoms<'static>
     }
 }
 
-/// Where a document starts, `---` on a line of its own, where it is asked for.
+/// Writes `---` on a line of its own where a document starts, if it is asked for.
 pub(crate) fn write_document_marker<A: Allocator>(
     pen: &mut Pen<A>,
     settings: &EffectiveSettings,
@@ -137,7 +137,7 @@ fn start_atoms(asked: bool, canonical: bool) -> Atoms<'static>
     }
 }
 
-/// `%YAML` and a version on a line of their own.
+/// Writes `%YAML` and a version on a line of their own.
 pub(crate) fn write_version<A: Allocator>(
     pen: &mut Pen<A>,
     settings: &EffectiveSettings,

@@ -100,7 +100,7 @@ pub(crate) fn write_collection_start<A: Allocator>(
     write_lead(pen, site, content.anchor, tag, bare)
 }
 
-/// Whether a collection is written in flow: within flow, in canonical mode, by its style, or where it is empty.
+/// Returns whether a collection is written in flow: within flow, in canonical mode, by its style, or where it is empty.
 pub(crate) fn is_written_in_flow(site: &Site, flow_asked: bool, empty: bool) -> bool
     ensures { (start : Collection)
         → asks_flow start.style ≡ flow_asked
@@ -109,7 +109,7 @@ pub(crate) fn is_written_in_flow(site: &Site, flow_asked: bool, empty: bool) -> 
     site.place.in_flow || site.settings.canonical || flow_asked || empty
 }
 
-/// Where the entries of a collection stand whose start has been written.
+/// Returns where the entries of a collection stand whose start has been written.
 pub(crate) fn entries_column<A: Allocator>(
     pen: &Pen<A>,
     settings: &EffectiveSettings,

@@ -22,14 +22,14 @@ impl OpenEnded {
         !matches!(self, OpenEnded::Closed)
     }
 
-    /// Whether a block scalar that keeps its final breaks is the last that was written.
+    /// Returns whether a block scalar that keeps its final breaks is the last that was written.
     pub(crate) fn keeps_breaks(self) -> bool
         ensures { result ≡ (seen_open_ended self == 2) }
     {
         matches!(self, OpenEnded::KeptBreaks)
     }
 
-    /// The state after a block scalar, whose writer returned its header's state: 0 or 2.
+    /// Returns the state after a block scalar, whose writer returned its header's state: 0 or 2.
     pub(crate) fn after_header(open_ended: i32) -> OpenEnded
         ensures { (ending : Ending) → open_ended ≡ pos (ending_open_ended ending) → seen_open_ended result ≡ ending_open_ended ending }
     {
@@ -40,7 +40,7 @@ impl OpenEnded {
         }
     }
 
-    /// After the end of a document.
+    /// Returns the state after the end of a document.
     pub(crate) fn after_document(self, implicit: bool) -> OpenEnded
         ensures { seen_open_ended result ≡ (if implicit then (if seen_open_ended self == 0 then 1 else seen_open_ended self) else 0) }
     {

@@ -39,7 +39,7 @@ pub(crate) fn write_place<A: Allocator>(pen: &mut Pen<A>, site: &Site) -> Result
     }
 }
 
-/// What a place in flow puts before its node (YAML 1.1, sections 10.1.1 and 10.2.1).
+/// Writes what a place in flow puts before its node (YAML 1.1, sections 10.1.1 and 10.2.1).
 fn write_flow_place<A: Allocator>(
     pen: &mut Pen<A>,
     settings: &EffectiveSettings,
@@ -73,7 +73,7 @@ fn write_flow_place<A: Allocator>(
     }
 }
 
-/// The atom before an entry in flow, and a new line where one is due.
+/// Writes the atom before an entry in flow, and a new line where one is due.
 #[inline(always)]
 fn write_entry<A: Allocator>(
     pen: &mut Pen<A>,
@@ -120,7 +120,7 @@ fn write_long_key<A: Allocator>(
     write_indicator(pen, IndicatorKind::FlowKey)
 }
 
-/// The atom of the value of another key in flow, on a new line where one is due.
+/// Writes the atom of the value of another key in flow, on a new line where one is due.
 fn write_long_value<A: Allocator>(
     pen: &mut Pen<A>,
     settings: &EffectiveSettings,
@@ -134,7 +134,7 @@ fn write_long_value<A: Allocator>(
     write_indicator(pen, IndicatorKind::FlowValue)
 }
 
-/// What a place in a block puts before its node (YAML 1.1, sections 10.1.2 and 10.2.2).
+/// Writes what a place in a block puts before its node (YAML 1.1, sections 10.1.2 and 10.2.2).
 #[inline(always)]
 fn write_block_place<A: Allocator>(
     pen: &mut Pen<A>,
@@ -159,7 +159,7 @@ fn write_block_place<A: Allocator>(
     }
 }
 
-/// A new line at a column, and an atom on it.
+/// Writes a new line at a column, and an atom on it.
 fn write_line_and_indicator<A: Allocator>(
     pen: &mut Pen<A>,
     column: u32,
@@ -173,7 +173,7 @@ fn write_line_and_indicator<A: Allocator>(
     write_indicator(pen, atom)
 }
 
-/// A new line at a column, without an atom.
+/// Writes a new line at a column, without an atom.
 fn write_line_alone<A: Allocator>(pen: &mut Pen<A>, column: u32) -> Result<(), yaml_error_t>
     requires ready { IsReady pen.old }
     requires reach { column ≤ most_column }
@@ -182,8 +182,8 @@ fn write_line_alone<A: Allocator>(pen: &mut Pen<A>, column: u32) -> Result<(), y
     write_new_line(pen, column)
 }
 
-/// The atoms of the end of a collection in flow: where nothing stands between the brackets, the opening one comes
-/// first; in canonical mode a comma and a new line.
+/// Returns the atoms of the end of a collection in flow: where nothing stands between the brackets, the opening one
+/// comes first; in canonical mode a comma and a new line.
 pub(crate) fn flow_end_atoms(kind: CollectionKind, empty: bool, canonical: bool) -> Atoms<'static>
     ensures whole { some_atom_breaks result ≡ false }
     ensures rendered { (s : Effective) (place : layout.Place) (cursor : Cursor) → s.canonical ≡ canonical

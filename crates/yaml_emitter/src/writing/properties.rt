@@ -20,7 +20,7 @@ use std::alloc::Allocator;
 use yaml_base::yaml_error_t;
 use yaml_pen::Pen;
 
-/// Whether an anchor, a tag or the bare tag is written.
+/// Returns whether an anchor, a tag or the bare tag is written.
 pub(crate) fn has_properties(anchor: Option<&str>, tag: Option<SpelledTag>, bare: bool) -> bool
     ensures { result ≡ false → (portable : Bool) (cursor : Cursor)
         → render_then (render_anchor (seen_name anchor.entry) cursor) (render_spelled_tag portable (seen_tag tag.entry) bare) ≡ render_nothing cursor }
@@ -90,7 +90,7 @@ fn bare_tag_atoms(bare: bool) -> Atoms<'static>
     }
 }
 
-/// The atoms of an alias; as a simple key it is followed by a space.
+/// Returns the atoms of an alias; as a simple key it is followed by a space.
 pub(crate) fn alias_atoms(name: &str, simple: bool) -> Atoms
     requires { list_any is_break (chars name.now) ≡ false }
     ensures whole { some_atom_breaks result ≡ false }

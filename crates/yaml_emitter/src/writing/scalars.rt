@@ -56,7 +56,7 @@ pub(crate) fn write_scalar<A: Allocator>(
     write_text(pen, open_ended, site, style, content.value)
 }
 
-/// The style that a scalar is written in, and whether the bare tag stands before it.
+/// Returns the style that a scalar is written in, and whether the bare tag stands before it.
 #[inline(always)]
 fn choose(
     site: &Site,
@@ -161,8 +161,8 @@ fn are_blanks_literal(settings: &EffectiveSettings, style: yaml_scalar_style_t) 
     matches!(style, YAML_LITERAL_SCALAR_STYLE) && settings.literal_blanks
 }
 
-/// The style that is asked for: in portable mode a root asks for double quotes in place of a block style whose header would
-/// have a digit, since readers of YAML 1.2 count that digit in two ways.
+/// Returns the style that is asked for: in portable mode a root asks for double quotes in place of a block style whose
+/// header would have a digit, since readers of YAML 1.2 count that digit in two ways.
 fn style_asked(site: &Site, content: &ScalarContent) -> yaml_scalar_style_t
     ensures { seen_scalar_style result
         ≡ style_asked_at (seen_effective site.now.settings.now) (seen_place site.now.place) (seen_scalar content.now) }
@@ -175,28 +175,28 @@ fn style_asked(site: &Site, content: &ScalarContent) -> yaml_scalar_style_t
     }
 }
 
-/// Whether the place bars block styles: in portable mode, at the root, where the header would have a digit.
+/// Returns whether the place bars block styles: in portable mode, at the root, where the header would have a digit.
 fn bars_block(site: &Site, value: &str) -> bool
     ensures { result ≡ (is_root (seen_place site.now.place) && (seen_effective site.now.settings.now).portable && layout.begins_blank (chars value.now)) }
 {
     site.place.column.is_none() && site.settings.portable && begins_blank(value)
 }
 
-/// Whether U+2028 and U+2029 are escaped: with the line breaks of YAML 1.2, and in portable mode.
+/// Returns whether U+2028 and U+2029 are escaped: with the line breaks of YAML 1.2, and in portable mode.
 fn escapes_separators(settings: &EffectiveSettings) -> bool
     ensures { result ≡ in_force.escapes_separators (seen_effective settings.now) }
 {
     settings.breaks12 || settings.portable
 }
 
-/// Whether double quotes are written, whatever the value holds.
+/// Returns whether double quotes are written, whatever the value holds.
 fn is_surely_double(canonical: bool, style: yaml_scalar_style_t) -> bool
     ensures { result ≡ true → requested_style canonical (seen_scalar_style style) ≡ double_quoted }
 {
     canonical || matches!(style, YAML_DOUBLE_QUOTED_SCALAR_STYLE)
 }
 
-/// Whether a quoted scalar, which has no tag and no flag, gets the bare tag `!`.
+/// Returns whether a quoted scalar, which has no tag and no flag, gets the bare tag `!`.
 fn needs_bare_tag(tag_written: bool, quoted_implicit: bool) -> bool
     ensures { result ≡ (not tag_written && not quoted_implicit) }
 {

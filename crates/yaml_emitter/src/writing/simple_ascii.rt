@@ -34,7 +34,7 @@ pub(crate) fn stands_plain(settings: &EffectiveSettings, content: &ScalarContent
     is_asked_plain(settings.canonical, content) && is_simple_ascii(content.value)
 }
 
-/// Whether nothing but its value may keep a scalar from being plain.
+/// Returns whether nothing but its value may keep a scalar from being plain.
 fn is_asked_plain(canonical: bool, content: &ScalarContent) -> bool
     ensures { result ≡ is_asked_plain canonical content.now }
 {

@@ -22,7 +22,7 @@ use yaml_scalar::holds_break;
 /// The maximum size of a simple key in bytes.
 const MOST_BYTES: usize = 128;
 
-/// Whether an alias at a place is a simple key.
+/// Returns whether an alias at a place is a simple key.
 pub(crate) fn is_simple_alias_key(settings: &EffectiveSettings, place: &Place, name: &str) -> bool
     ensures { result
         ≡ (is_key (seen_place place.now).role && (not settings.now.canonical && layout.is_simple_alias (chars name.now))) }
@@ -30,7 +30,7 @@ pub(crate) fn is_simple_alias_key(settings: &EffectiveSettings, place: &Place, n
     place.role.is_key() && (!settings.canonical && is_simple_alias(name))
 }
 
-/// Whether a scalar at a place is a simple key, its tag spelled so.
+/// Returns whether a scalar at a place is a simple key, its tag spelled so.
 #[inline(always)]
 pub(crate) fn is_simple_scalar_key(
     settings: &EffectiveSettings,
@@ -48,7 +48,7 @@ pub(crate) fn is_simple_scalar_key(
     place.role.is_key() && (!settings.canonical && is_simple_scalar(content, tag))
 }
 
-/// Whether a scalar that stands plain as it is is a simple key at a place, by its value.
+/// Returns whether a scalar that stands plain as it is is a simple key at a place, by its value.
 pub(crate) fn is_simple_ascii_key(place: &Place, value: &str) -> bool
     ensures { (canonical : Bool) (directives : List TagDirective) (content : ScalarContent)
         → StandsPlain canonical content
@@ -60,7 +60,7 @@ pub(crate) fn is_simple_ascii_key(place: &Place, value: &str) -> bool
     place.role.is_key() && is_short(byte_count(value), None, None)
 }
 
-/// Whether a collection at a place, which may be empty, is a simple key, its tag spelled so.
+/// Returns whether a collection at a place, which may be empty, is a simple key, its tag spelled so.
 pub(crate) fn is_simple_collection_key(
     settings: &EffectiveSettings,
     place: &Place,
@@ -110,7 +110,7 @@ fn name_count(name: Option<&str>) -> usize
     }
 }
 
-/// `usize::MAX` stands for that and all above.
+/// Returns how much of a key a tag takes; `usize::MAX` stands for that and all above.
 fn tag_count(tag: Option<SpelledTag>) -> usize
     ensures { result ≡ min (spelled_count (seen_tag tag.entry)) usize.MAX }
 {
@@ -131,14 +131,14 @@ fn spelling_count(spelled: SpelledTag) -> usize
     }
 }
 
-/// Whether a value of `value` bytes, an anchor and a tag are short together.
+/// Returns whether a value of `value` bytes, an anchor and a tag are short together.
 fn is_short(value: usize, anchor: Option<&str>, tag: Option<SpelledTag>) -> bool
     ensures { result ≡ layout.is_short (value + layout.name_count (seen_name anchor.entry) + spelled_count (seen_tag tag.entry)) }
 {
     is_short_count(value, name_count(anchor), tag_count(tag))
 }
 
-/// Whether a value, a name and a tag of these sizes are short together; `tag` may be cut off at `usize::MAX`.
+/// Returns whether a value, a name and a tag of these sizes are short together; `tag` may be cut off at `usize::MAX`.
 fn is_short_count(value: usize, name: usize, tag: usize) -> bool
     ensures { (whole : ℕ) → tag ≡ min whole usize.MAX → result ≡ layout.is_short (value + name + whole) }
 {

@@ -16,7 +16,7 @@ impl<'a> Site<'a> {
     ghost use Rattle.yaml_base.specs.Layout.{root_place};
     ghost use Rattle.yaml_emitter.specs.Places.{seen_place};
 
-    /// Outside all nodes: lines begin at column 0.
+    /// Returns the site outside all nodes: lines begin at column 0.
     pub(crate) fn outside(settings: &'a EffectiveSettings) -> Site<'a>
         ensures place { seen_place result.place ≡ root_place }
         ensures settings { result.settings.now ≡ settings.now }

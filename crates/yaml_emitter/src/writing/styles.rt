@@ -53,7 +53,7 @@ pub(crate) fn write_text<A: Allocator>(
     }
 }
 
-/// In a style that stands in flow, too.
+/// Writes a text in a style that stands in flow, too.
 #[inline(always)]
 fn write_flow_text<A: Allocator>(
     pen: &mut Pen<A>,
@@ -82,7 +82,7 @@ fn write_flow_text<A: Allocator>(
     }
 }
 
-/// In literal style, behind its header.
+/// Writes a text in literal style, behind its header.
 #[inline(always)]
 fn write_literal_text<A: Allocator>(
     pen: &mut Pen<A>,
@@ -104,7 +104,7 @@ fn write_literal_text<A: Allocator>(
     Ok(())
 }
 
-/// In folded style, behind its header.
+/// Writes a text in folded style, behind its header.
 #[inline(always)]
 fn write_folded_text<A: Allocator>(
     pen: &mut Pen<A>,
@@ -126,7 +126,7 @@ fn write_folded_text<A: Allocator>(
     Ok(())
 }
 
-/// Where a scalar's further lines begin, in columns.
+/// Returns where a scalar's further lines begin, in columns.
 pub(crate) fn line_indent(settings: &EffectiveSettings, place: &Place) -> i32
     ensures value { result ≡ pos (deeper settings.now.indent place.now.column) }
     ensures low { pos 2 ≤ℤ result }

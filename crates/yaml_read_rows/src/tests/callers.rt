@@ -4,7 +4,7 @@ use std::alloc::Global;
 use yaml_caller::{sealed_and_opened, written_and_read};
 use yaml_read::Value;
 
-/// The integer that is read where this one was written.
+/// Returns the integer that is read where this one was written.
 fn integer_back(alloc: Global, number: i64) -> Option<i64> {
     match written_and_read(alloc, &Value::Int(number)) {
         Ok(Ok(Value::Int(read))) => Some(read),

@@ -4,7 +4,7 @@ use std::alloc::Global;
 use std::process::Abort;
 use yaml_read::ReadError;
 
-/// So many lists, each the only item of the one around it, begun one by one.
+/// Returns so many lists, each the only item of the one around it, begun one by one.
 fn begun(rt: &impl Abort, alloc: Global, count: usize) -> (String, String) {
     let mut text = String::from_str(alloc, "---\n").expect(rt, "no memory");
     let mut indentation = String::new(alloc);
@@ -17,7 +17,7 @@ fn begun(rt: &impl Abort, alloc: Global, count: usize) -> (String, String) {
     (text, indentation)
 }
 
-/// So many lists, each the only item of the one around it, and this value in the innermost.
+/// Returns so many lists, each the only item of the one around it, and this value in the innermost.
 fn nested(rt: &impl Abort, alloc: Global, count: usize, innermost: &str) -> String {
     let (mut text, indentation) = begun(rt, alloc, count);
     text.push_str(innermost).expect(rt, "no memory");

@@ -5,7 +5,7 @@ use std::process::Abort;
 use yaml_json_value::{JsonError, ValueError, canonical_from_json, value_from_json};
 use yaml_read::Value;
 
-/// The canonical bytes of a JSON text as a text, or why there are none.
+/// Returns the canonical bytes of a JSON text as a text, or why there are none.
 fn canonical(rt: &impl Abort, alloc: Global, text: &str) -> Result<String, ValueError> {
     let bytes = canonical_from_json(alloc, text)?;
     Ok(String::from_utf8(bytes).expect(rt, "not UTF-8"))

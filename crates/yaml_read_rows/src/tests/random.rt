@@ -19,12 +19,12 @@ impl Random {
         self.state >> 16
     }
 
-    /// A number below a bound, which isn't 0.
+    /// Returns a number below a bound, which isn't 0.
     fn below(&mut self, bound: u64) -> u64 {
         self.next().checked_rem(bound).unwrap_or(0)
     }
 
-    /// The same of an index.
+    /// Returns the same of an index.
     fn small(&mut self, bound: usize) -> usize {
         let bound = u64::try_from(bound).unwrap_or(1);
         usize::try_from(self.below(bound)).unwrap_or(0)
@@ -61,7 +61,7 @@ const CHARACTERS: &[char] = &[
     '\u{10FFFF}',
 ];
 
-/// One of the characters, or any other.
+/// Returns one of the characters, or any other.
 fn random_character(random: &mut Random) -> char {
     if random.below(3) > 0 {
         return CHARACTERS
@@ -81,7 +81,7 @@ fn random_text(rt: &impl Abort, alloc: Global, random: &mut Random) -> String {
     text
 }
 
-/// A number of any size, and of either sign.
+/// Returns a number of any size, and of either sign.
 fn random_integer(random: &mut Random) -> i64 {
     let bits = random.next().wrapping_mul(random.next()) >> 1u32;
     let shift = u32::try_from(random.below(63)).unwrap_or(0);
@@ -101,7 +101,7 @@ fn random_scalar(rt: &impl Abort, alloc: Global, random: &mut Random) -> Value<G
     }
 }
 
-/// A list of the last values, at most so many.
+/// Makes a list of the last values, at most so many.
 fn take_items(
     rt: &impl Abort,
     alloc: Global,
@@ -117,7 +117,7 @@ fn take_items(
     Value::List(items)
 }
 
-/// A map of the last values, at most so many pairs.
+/// Makes a map of the last values, at most so many pairs.
 fn take_pairs(
     rt: &impl Abort,
     alloc: Global,
@@ -133,7 +133,7 @@ fn take_pairs(
     Value::Map(pairs)
 }
 
-/// A value of so many parts: each is a scalar, or a list or a map of some before it.
+/// Returns a value of so many parts: each is a scalar, or a list or a map of some before it.
 fn random_value(rt: &impl Abort, alloc: Global, random: &mut Random, parts: u64) -> Value<Global> {
     let mut values = Vec::new(alloc);
     for _ in 0..parts {
@@ -148,7 +148,7 @@ fn random_value(rt: &impl Abort, alloc: Global, random: &mut Random, parts: u64)
     values.pop().unwrap_or(Value::Null)
 }
 
-/// What is written of a value is read, and the value that is read is written as the same bytes.
+/// Checks that what is written of a value is read, and the value that is read is written as the same bytes.
 fn check_value(rt: &impl Abort, alloc: Global, value: &Value<Global>) {
     let bytes = written(alloc, value).expect(rt, "not written");
     let back = read(alloc, bytes.as_slice()).expect(rt, "not read");

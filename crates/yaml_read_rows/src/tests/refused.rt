@@ -21,7 +21,7 @@ fn is_reported(rt: &impl Abort, heap: &Refusing<Global>, bytes: &[u8], number: u
     is_met
 }
 
-/// Each growth is refused in turn, and after each the bytes are read.
+/// Refuses each growth in turn, and reads the bytes after each.
 fn check_row(rt: &impl Abort, heap: &Refusing<Global>, bytes: &[u8]) {
     for number in 1..usize::MAX {
         if !is_reported(rt, heap, bytes, number) {

@@ -4,7 +4,7 @@ use super::{equal, read_and_written};
 use std::alloc::Global;
 use std::process::Abort;
 
-/// The bytes with this one in place of the one at an offset.
+/// Returns the bytes with this one in place of the one at an offset.
 fn replaced(rt: &impl Abort, alloc: Global, bytes: &[u8], offset: usize, byte: u8) -> Vec<u8> {
     let mut spoiled = Vec::from_slice(alloc, bytes).expect(rt, "no memory");
     if let Some(place) = spoiled.get_mut(offset) {
@@ -13,7 +13,7 @@ fn replaced(rt: &impl Abort, alloc: Global, bytes: &[u8], offset: usize, byte: u
     spoiled
 }
 
-/// How many other bytes at an offset are read. Each of them gives a value that is written as these bytes.
+/// Returns how many other bytes at an offset are read. Each of them gives a value that is written as these bytes.
 fn count_read(rt: &impl Abort, alloc: Global, bytes: &[u8], offset: usize) -> usize {
     let mut count = 0usize;
     for byte in 0..=255u8 {
@@ -27,7 +27,7 @@ fn count_read(rt: &impl Abort, alloc: Global, bytes: &[u8], offset: usize) -> us
     count
 }
 
-/// The same of all offsets.
+/// Returns the same of all offsets.
 fn count_all_read(rt: &impl Abort, alloc: Global, bytes: &[u8]) -> usize {
     let mut count = 0usize;
     for offset in 0..bytes.len() {
@@ -49,7 +49,7 @@ fn a_byte_changed_is_refused_or_gives_another_value(rt: HostRuntime) {
     }
 }
 
-/// The first bytes of a canonical text, cut off at an offset, are none.
+/// Checks that the first bytes of a canonical text, cut off at an offset, are none.
 fn check_cut(rt: &impl Abort, alloc: Global, bytes: &[u8]) {
     for length in 0..bytes.len() {
         let answer = read_and_written(rt, alloc, bytes.split_at(length).0);

@@ -38,7 +38,7 @@ fn copied<T: Copy, A: Allocator>(rt: &impl Abort, alloc: A, items: &[T]) -> Vec<
     Vec::from_slice(alloc, items).expect(rt, "no memory")
 }
 
-/// The tag that is given, or that of the kind.
+/// Returns the tag that is given, or that of the kind.
 fn node_tag<'a>(given: &Given<'a>) -> &'a str {
     match given {
         Given::Text(_) => "tag:yaml.org,2002:str",
@@ -48,7 +48,7 @@ fn node_tag<'a>(given: &Given<'a>) -> &'a str {
     }
 }
 
-/// A scalar, or a collection.
+/// Returns a scalar, or a collection.
 fn contents<A: Allocator + Copy>(rt: &impl Abort, alloc: A, given: &Given) -> yaml_node_data_t<A> {
     match given {
         Given::Text(value) | Given::Tagged(_, value) => yaml_node_data_t::Scalar {
@@ -100,7 +100,7 @@ pub(super) fn nodes<A: Allocator + Copy>(
     nodes
 }
 
-/// A document of these nodes, without marks and directives.
+/// Returns a document of these nodes, without marks and directives.
 fn document<A: Allocator + Copy>(
     rt: &impl Abort,
     alloc: A,
@@ -119,7 +119,7 @@ pub(super) const VERSION: Option<yaml_version_directive_t> = Some(yaml_version_d
     minor: 1,
 });
 
-/// A document of these nodes, with a version, a directive, and a mark at its start.
+/// Returns a document of these nodes, with a version, a directive, and a mark at its start.
 pub(super) fn marked_document(
     rt: &impl Abort,
     alloc: Global,

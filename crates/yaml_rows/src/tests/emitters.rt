@@ -39,7 +39,7 @@ pub(super) const UNSET: Settings = Settings {
     limit: usize::MAX,
 };
 
-/// An emitter before its stream, each setting made by a call of its own.
+/// Makes an emitter before its stream, each setting made by a call of its own.
 pub(super) fn begun<A: Allocator + Copy>(
     alloc: A,
     settings: &Settings,
@@ -67,7 +67,7 @@ pub(super) fn begun<A: Allocator + Copy>(
     Ok(emitter)
 }
 
-/// An emitter before its stream, for which there is memory.
+/// Makes an emitter before its stream, for which there is memory.
 pub(super) fn made<A: Allocator + Copy>(
     rt: &impl Abort,
     alloc: A,
@@ -86,7 +86,7 @@ pub(super) fn give<A: Allocator + Copy>(
     yaml_emitter_emit(emitter, next)
 }
 
-/// A flush, where the encoding is known.
+/// Flushes, where the encoding is known.
 pub(super) fn flush_if_known<A: Allocator + Copy>(
     rt: &impl Abort,
     emitter: &mut yaml_emitter_t<A>,
@@ -98,7 +98,7 @@ pub(super) fn flush_if_known<A: Allocator + Copy>(
     Ok(())
 }
 
-/// After an error each call answers it, an event and a flush; nothing waits, and nothing more is flushed.
+/// Checks that after an error each call answers it, an event and a flush; nothing waits, and nothing more is flushed.
 pub(super) fn check_failed<A: Allocator + Copy>(
     rt: &impl Abort,
     emitter: &mut yaml_emitter_t<A>,
@@ -116,7 +116,7 @@ pub(super) fn check_failed<A: Allocator + Copy>(
     equal(rt, &(emitter.error(), emitter.held()), &kept);
 }
 
-/// A call answers so; the call in which a growth was refused, and each after it, that there is no memory.
+/// Checks that a call answers so; the call in which a growth was refused, and each after it, that there is no memory.
 pub(super) fn check_answer(
     rt: &impl Abort,
     heap: &Refusing<Global>,
@@ -130,7 +130,7 @@ pub(super) fn check_answer(
     equal(rt, &answer, &wanted);
 }
 
-/// A growth was refused: what was flushed begins the whole, and each call answers the error.
+/// Checks, where a growth was refused, that what was flushed begins the whole, and each call answers the error.
 pub(super) fn check_out_of_memory<A: Allocator + Copy>(
     rt: &impl Abort,
     emitter: &mut yaml_emitter_t<A>,

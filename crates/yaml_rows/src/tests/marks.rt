@@ -8,7 +8,7 @@ use yaml_base::{yaml_error_t, yaml_tag_directive_t, yaml_version_directive_t};
 use yaml_mark::*;
 use yaml_test_allocator::Refusing;
 
-/// A directive, by its line in a script.
+/// Returns a directive, by its line in a script.
 fn directive(rt: &impl Abort, alloc: Global, line: &str) -> yaml_tag_directive_t<Global> {
     let mut given = directives(rt, alloc, line);
     given.pop().expect(rt, "a directive")

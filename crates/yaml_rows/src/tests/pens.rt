@@ -40,7 +40,7 @@ fn begin<A: Allocator>(pen: &mut Pen<A>, encoding: yaml_encoding_t) -> Result<()
     }
 }
 
-/// A pen that is ready to write, where there is memory for it.
+/// Makes a pen that is ready to write, where there is memory for it.
 fn made<A: Allocator + Copy>(
     rt: &impl Abort,
     alloc: A,
@@ -103,7 +103,7 @@ fn write_long_run<A: Allocator, B: Allocator>(
     }
 }
 
-/// Nothing was flushed before the flush, and this is after it.
+/// Checks that nothing was flushed before the flush, and this is after it.
 pub(super) fn check_flushed(rt: &impl Abort, pen: &mut Pen<Global>, expected: &[u8])
     requires { IsReady pen.old }
 {

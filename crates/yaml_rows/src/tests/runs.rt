@@ -67,7 +67,7 @@ struct Row<'a> {
 }
 
 impl<'a> Row<'a> {
-    /// No call is refused, and the first flush has it all.
+    /// Returns a row in which no call is refused, and the first flush has it all.
     fn done(script: &'a str, output: &'a [u8]) -> Row<'a> {
         Row {
             script,
@@ -79,7 +79,7 @@ impl<'a> Row<'a> {
     }
 }
 
-/// The line that tells how a run ended.
+/// Returns the line that tells how a run ended.
 pub(super) fn line_of(rt: &impl Abort, alloc: Global, answer: &run_answer_t) -> Vec<u8> {
     let mut line: Vec<u8> = Vec::new(alloc);
     equal(rt, &write_line(answer, &mut line).is_ok(), &true);
@@ -109,7 +109,7 @@ fn check_run(rt: &impl Abort, alloc: Global, row: &Row) {
     equal_at(rt, row.script, &got, &(row.answer, row.output));
 }
 
-/// By calls, and by a run.
+/// Checks a row by calls, and by a run.
 fn check_row(rt: &impl Abort, alloc: Global, row: &Row) {
     check_calls(rt, alloc, row);
     check_run(rt, alloc, row);

@@ -22,7 +22,7 @@ use yaml_scalar::{
     write_plain_scalar, write_single_quoted_scalar,
 };
 
-/// A pen at the start of a text in UTF-8 whose lines end so, in LF if nothing is set, with a limit on the output's bytes.
+/// Makes a pen at the start of a text in UTF-8 whose lines end so, in LF if nothing is set, with a limit on the output's bytes.
 fn begun_within(
     rt: &impl Abort,
     alloc: Global,
@@ -41,7 +41,7 @@ fn begun_within(
     pen
 }
 
-/// A pen at the start of a text in UTF-8 whose lines end in LF.
+/// Makes a pen at the start of a text in UTF-8 whose lines end in LF.
 pub(super) fn begun(rt: &impl Abort, alloc: Global) -> Pen<Global>
     ensures { IsReady result }
 {
@@ -59,7 +59,7 @@ struct Layout {
     width: i32,
 }
 
-/// The block styles are allowed, so the value isn't empty.
+/// Returns whether the block styles are allowed, so the value isn't empty.
 fn is_allowed(value: &str) -> bool
     ensures { result ≡ true → is_empty (chars value.now) ≡ false }
 {

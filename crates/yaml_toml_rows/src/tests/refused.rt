@@ -74,7 +74,7 @@ fn texts_that_are_no_toml(rt: HostRuntime) {
     }
 }
 
-/// The key that is defined twice, and the offsets at which the two expressions begin; nothing, where none is.
+/// Returns the key that is defined twice, and the offsets at which the two expressions begin; nothing, where none is.
 fn conflict(text: &str, read: Result<Nodes, Fault>) -> Option<(String, usize, usize)> {
     match read {
         Err(Fault::DefinedAgain { key, first, second }) => Some((
@@ -102,7 +102,7 @@ fn keys_that_are_defined_twice(rt: HostRuntime) {
     }
 }
 
-/// So many arrays, each in the one before.
+/// Returns so many arrays, each in the one before.
 fn nested(rt: &impl Abort, alloc: Global, count: usize) -> String {
     let mut text = String::from_str(alloc, "a = ").expect(rt, "no memory");
     for _ in 0..count {

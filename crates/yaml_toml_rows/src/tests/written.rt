@@ -78,7 +78,7 @@ fn documents_are_written(rt: HostRuntime) {
     }
 }
 
-/// The message of the error; nothing, where there is none.
+/// Returns the message of the error; nothing, where there is none.
 fn message(rt: &impl Abort, alloc: Global, text: &str, settings: TomlSettings) -> String {
     match yaml_from_toml(alloc, text, settings) {
         Ok(_) => String::new(alloc),

@@ -32,7 +32,7 @@ fn equal_values_have_the_same_bytes(rt: HostRuntime) {
     }
 }
 
-/// A text of one letter.
+/// Returns a text of one letter.
 fn letter_node(rt: &impl Abort, alloc: Global, letter: &str) -> yaml_node_t<Global> {
     yaml_node_t {
         tag: text(rt, alloc, YAML_STR_TAG),
@@ -43,7 +43,7 @@ fn letter_node(rt: &impl Abort, alloc: Global, letter: &str) -> yaml_node_t<Glob
     }
 }
 
-/// A list of the nodes of these numbers.
+/// Returns a list of the nodes of these numbers.
 fn list_node(rt: &impl Abort, alloc: Global, first: i32, second: i32) -> yaml_node_t<Global> {
     yaml_node_t {
         tag: text(rt, alloc, YAML_SEQ_TAG),
@@ -54,7 +54,7 @@ fn list_node(rt: &impl Abort, alloc: Global, first: i32, second: i32) -> yaml_no
     }
 }
 
-/// A list of two items by their numbers; nodes 2 and 3 are these letters.
+/// Returns a list of two items by their numbers; nodes 2 and 3 are these letters.
 fn list_of(
     rt: &impl Abort,
     alloc: Global,

@@ -8,7 +8,7 @@ use std::process::Abort;
 use yaml_serde::{Cause, Error, Writer, to_writer, value_settings, write, yaml_error_t};
 use yaml_writer::YAML_BLOCK_SEQUENCE_STYLE;
 
-/// The kind of a sink's error; nothing where it fails otherwise, or the value is written.
+/// Returns the kind of a sink's error; nothing where it fails otherwise, or the value is written.
 fn sink_failure<T: Serialize>(alloc: Global, room: usize, value: &T) -> Option<io::ErrorKind> {
     match sink_of(alloc, room, value) {
         Err(
@@ -49,18 +49,18 @@ fn bytes_are_handed_on_while_a_value_is_written(rt: HostRuntime) {
     equal(&rt, &(is_custom, sink.taken.len() >= 60_000), &(true, true));
 }
 
-/// A value is given to a writer. (Tests need none of the clauses of the call.)
+/// Gives a value to a writer, and returns whether that is done. (Tests need none of the clauses of the call.)
 fn is_given<T: Serialize>(alloc: Global, writer: &mut Writer<Global>, value: &T) -> bool {
     write(alloc, writer, value).is_ok()
 }
 
-/// A sequence begins, whose first item has a tag.
+/// Begins a sequence whose first item has a tag.
 fn begin_tagged(writer: &mut Writer<Global>) -> Result<(), yaml_error_t> {
     writer.begin_sequence(YAML_BLOCK_SEQUENCE_STYLE)?;
     writer.tagged("!server")
 }
 
-/// Values are nodes of a writer.
+/// Checks that values are nodes of a writer.
 fn give_nodes(rt: &impl Abort, alloc: Global, writer: &mut Writer<Global>) {
     equal(rt, &begin_tagged(writer), &Ok(()));
     let server = alpha(alloc).expect(rt, "no memory");
@@ -83,7 +83,7 @@ fn a_value_is_a_node_of_a_writer(rt: HostRuntime) {
     answers(&rt, finished(writer), &Ok(expected));
 }
 
-/// A value ends only what it began.
+/// Checks that a value ends only what it began.
 fn give_ends(rt: &impl Abort, alloc: Global, writer: &mut Writer<Global>) {
     equal(rt, &begin_tagged(writer), &Ok(()));
     let ender = is_given(alloc, writer, &ByHand::End);
@@ -93,7 +93,7 @@ fn give_ends(rt: &impl Abort, alloc: Global, writer: &mut Writer<Global>) {
     equal(rt, &writer.end(), &Ok(()));
 }
 
-/// An error that a value ignores comes back.
+/// Checks that an error that a value ignores comes back.
 fn give_deaf(rt: &impl Abort, alloc: Global, writer: &mut Writer<Global>) {
     let is_given = is_given(alloc, writer, &ByHand::Deaf);
     let error = Some(yaml_error_t::ExpectedDocumentEnd);

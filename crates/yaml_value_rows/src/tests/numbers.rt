@@ -7,7 +7,7 @@ use yaml_writer::{Spelling, number_of, number_spelling};
 /// A text; the spelling of its number, and whether that is an integer; nothing where it is no number.
 type Row = (&'static str, Option<(&'static str, bool)>);
 
-/// A number keeps its text.
+/// Checks that a number keeps its text.
 fn check_kept(rt: &impl Abort, row: &Row) {
     let kept = match number_of(row.0) {
         Some(number) => Some((number.as_str(), number.is_integer())),
@@ -20,12 +20,12 @@ fn check_kept(rt: &impl Abort, row: &Row) {
     equal(rt, &(row.0, kept), &(row.0, wanted));
 }
 
-/// How a number is spelled. (Tests need none of the clauses of the call.)
+/// Returns how a number is spelled. (Tests need none of the clauses of the call.)
 fn spelling<'a>(rt: &impl Abort, alloc: Global, text: &'a str) -> Option<Spelling<'a, Global>> {
     number_spelling(alloc, text).expect(rt, "no memory")
 }
 
-/// A spelling is changed where it is another text.
+/// Returns whether the spelling is another text.
 fn is_another(row: &Row) -> bool {
     match row.1 {
         Some((spelling, _)) => spelling != row.0,

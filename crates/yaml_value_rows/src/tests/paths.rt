@@ -34,7 +34,7 @@ const COMPLAINT: ByHand<'static> = ByHand::Values(0, Some("not today"));
 /// A value as others.
 const NUMBER: ByHand<'static> = ByHand::Values(1, None);
 
-/// A workflow whose third step is refused.
+/// Returns a workflow whose third step is refused.
 fn refused_workflow(rt: &impl Abort, alloc: Global) -> Workflow<'static> {
     let steps = [
         Step {

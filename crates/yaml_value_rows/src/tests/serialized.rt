@@ -7,12 +7,12 @@ use std::collections::BTreeMap;
 use std::process::Abort;
 use yaml_serde::{Error, to_string, to_vec, to_writer};
 
-/// The YAML of a value. (Tests need none of the clauses of the call.)
+/// Returns the YAML of a value. (Tests need none of the clauses of the call.)
 fn yaml_of<T: Serialize>(alloc: Global, value: &T) -> Result<String, Error> {
     to_string(alloc, value)
 }
 
-/// A sink that was handed a value.
+/// Returns a sink that was handed a value.
 pub(super) fn sink_of<T: Serialize>(
     alloc: Global,
     room: usize,
@@ -24,7 +24,7 @@ pub(super) fn sink_of<T: Serialize>(
     Ok(sink)
 }
 
-/// The value gives this text, as characters, as bytes and in a sink.
+/// Checks that the value gives this text, as characters, as bytes and in a sink.
 fn check_text<T: Serialize>(rt: &impl Abort, alloc: Global, value: &T, expected: &str) {
     let text = yaml_of(alloc, value).expect(rt, "a value that is written");
     equal(rt, &text.as_str(), &expected);
@@ -34,7 +34,7 @@ fn check_text<T: Serialize>(rt: &impl Abort, alloc: Global, value: &T, expected:
     same(rt, sink.taken.as_slice(), expected);
 }
 
-/// The value is refused with these words.
+/// Checks that the value is refused with these words.
 pub(super) fn check_refused<T: Serialize>(rt: &impl Abort, alloc: Global, value: &T, wanted: &str) {
     let error = yaml_of(alloc, value).err().expect(rt, "an error");
     let words = error.to_string(alloc).expect(rt, "no memory");
@@ -147,7 +147,7 @@ pub(super) enum ByHand<'a> {
     Deaf,
 }
 
-/// So many values, whose lines in a sequence have eight bytes each.
+/// Gives so many values, whose lines in a sequence have eight bytes each.
 fn give_numbers<S: Serializer>(out: &mut S, count: u32) -> Result<(), S::Error> {
     for _ in 0..count {
         out.u64(12_345)?;
@@ -212,7 +212,7 @@ pub(super) enum Color {
     Grey(u8),
 }
 
-/// A map of these pairs.
+/// Returns a map of these pairs.
 pub(super) fn map_of<K: Ord + Drop, V: Drop, const N: usize>(
     rt: &impl Abort,
     alloc: Global,

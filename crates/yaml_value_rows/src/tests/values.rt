@@ -14,7 +14,7 @@ type Heap<'a> = &'a Refusing<Global>;
 /// A value on a heap.
 type Made<'a> = Value<Heap<'a>>;
 
-/// The canonical form of a value. (The clauses of the call are long, and tests need none of them.)
+/// Returns the canonical form of a value. (The clauses of the call are long, and tests need none of them.)
 fn canonical<'a>(heap: Heap<'a>, value: &Made<'a>) -> Result<Vec<u8, Heap<'a>>, yaml_error_t> {
     write_canonical(heap, value)
 }
@@ -60,33 +60,33 @@ fn text<'a>(rt: &impl Abort, heap: Heap<'a>, characters: &str) -> Made<'a> {
     Value::Text(String::from_str(heap, characters).expect(rt, "no memory"))
 }
 
-/// A list or a map begins with this.
+/// Returns what a list or a map holds, of which this is the first.
 fn one<'a, T: Drop>(rt: &impl Abort, heap: Heap<'a>, item: T) -> Vec<T, Heap<'a>> {
     let mut items = Vec::new(heap);
     items.push(item).expect(rt, "no memory");
     items
 }
 
-/// The integer 5 and the text `a`.
+/// Returns the integer 5 and the text `a`.
 fn items<'a>(rt: &impl Abort, heap: Heap<'a>) -> Vec<Made<'a>, Heap<'a>> {
     let mut items = one(rt, heap, Value::Int(5));
     items.push(text(rt, heap, "a")).expect(rt, "no memory");
     items
 }
 
-/// A list of both, and of a map.
+/// Returns a list of both, and of a map.
 fn mixed<'a>(rt: &impl Abort, heap: Heap<'a>) -> Made<'a> {
     let mut items = items(rt, heap);
     items.push(falsehood(rt, heap)).expect(rt, "no memory");
     Value::List(items)
 }
 
-/// A map of one pair.
+/// Returns a map of one pair.
 fn map<'a>(rt: &impl Abort, heap: Heap<'a>, key: Made<'a>, value: Made<'a>) -> Made<'a> {
     Value::Map(one(rt, heap, (key, value)))
 }
 
-/// A map of the text `k` to false.
+/// Returns a map of the text `k` to false.
 fn falsehood<'a>(rt: &impl Abort, heap: Heap<'a>) -> Made<'a> {
     map(rt, heap, text(rt, heap, "k"), Value::Bool(false))
 }

@@ -9,7 +9,7 @@ use yaml_serde::{
     write_with, yaml_error_t,
 };
 
-/// The settings for values, with variants as mappings of one key.
+/// Returns the settings for values, with variants as mappings of one key.
 fn one_key_map() -> SerdeSettings {
     SerdeSettings {
         variants: Variants::OneKeyMap,
@@ -17,12 +17,12 @@ fn one_key_map() -> SerdeSettings {
     }
 }
 
-/// The YAML of a value. (Tests need none of the clauses of the call.)
+/// Returns the YAML of a value. (Tests need none of the clauses of the call.)
 fn bytes_of<T: Serialize>(alloc: Global, value: &T) -> Result<Vec<u8>, Error> {
     to_vec_with(alloc, one_key_map(), value)
 }
 
-/// A sink that was handed a value.
+/// Returns a sink that was handed a value.
 fn sink_of<T: Serialize>(alloc: Global, value: &T) -> Result<Narrow, Error> {
     let taken = Vec::new(alloc);
     let room = usize::MAX;
@@ -31,7 +31,7 @@ fn sink_of<T: Serialize>(alloc: Global, value: &T) -> Result<Narrow, Error> {
     Ok(sink)
 }
 
-/// The value gives this text, as bytes and in a sink.
+/// Checks that the value gives this text, as bytes and in a sink.
 fn check_text<T: Serialize>(rt: &impl Abort, alloc: Global, value: &T, expected: &str) {
     let bytes = bytes_of(alloc, value).expect(rt, "a value that is written");
     same(rt, bytes.as_slice(), expected);
@@ -82,7 +82,7 @@ fn data_may_have_a_tag(rt: HostRuntime) {
     check_text(&rt, alloc, &bytes, "---\nOf: !!binary aGVsbG8=\n");
 }
 
-/// A value is given to a writer. (Tests need none of the clauses of the call.)
+/// Gives a value to a writer. (Tests need none of the clauses of the call.)
 fn give(alloc: Global, value: &Shape) -> Result<Vec<u8>, yaml_error_t> {
     let mut writer = Writer::new(alloc, value_settings())?;
     if write_with(alloc, one_key_map(), &mut writer, value).is_err() {

@@ -61,7 +61,7 @@ enum Call {
     FinishAfterEnd(&'static str),
 }
 
-/// The number of JSON that a text is; nothing where it is none.
+/// Gives the number of JSON that a text is; nothing where it is none.
 fn give_number(writer: &mut Writer<Global>, text: &str) -> Result<(), yaml_error_t> {
     match number_of(text) {
         Some(number) => writer.number(&number),
@@ -69,7 +69,7 @@ fn give_number(writer: &mut Writer<Global>, text: &str) -> Result<(), yaml_error
     }
 }
 
-/// A date, alone or with a time; nothing where there is no such date.
+/// Gives a date, alone or with a time; nothing where there is no such date.
 fn give_timestamp(
     writer: &mut Writer<Global>,
     date: Option<Date>,
@@ -118,7 +118,7 @@ fn give(writer: &mut Writer<Global>, call: &Call) -> Result<(), yaml_error_t> {
 /// A call, with its place: the name of its table, and its number in it.
 type Placed<'a> = (&'static str, usize, &'a Call);
 
-/// The call gives what it should.
+/// Checks that the call gives what it should.
 fn check_call(
     rt: &impl Abort,
     alloc: Global,

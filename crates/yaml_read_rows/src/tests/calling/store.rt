@@ -5,12 +5,12 @@ use yaml_caller::{Entry, OpenError, open, seal};
 use yaml_read::{ReadError, Value};
 use yaml_value::yaml_error_t;
 
-/// The entry of an integer.
+/// Returns the entry of an integer.
 fn sealed_integer(alloc: Global, number: i64) -> Result<Entry<Global>, yaml_error_t> {
     seal(alloc, &Value::Int(number))
 }
 
-/// The integer of an entry; `None` where it holds another value.
+/// Returns the integer of an entry; `None` where it holds another value.
 fn opened_integer(alloc: Global, entry: &Entry<Global>) -> Result<Option<i64>, OpenError> {
     match open(alloc, entry)? {
         Value::Int(number) => Ok(Some(number)),

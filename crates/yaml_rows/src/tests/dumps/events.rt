@@ -98,7 +98,7 @@ fn tags_styles_and_directives_are_copied(rt: HostRuntime) {
     check_events(&rt, rt.alloc(), &tagged, TAGGED_EVENTS);
 }
 
-/// A text in sequences, each the one item of the one before: so many nodes.
+/// Returns a text in sequences, each the one item of the one before: so many nodes.
 fn in_each_other(rt: &impl Abort, alloc: Global, count: i32) -> yaml_document_t<Global> {
     let mut nodes = Vec::new(alloc);
     for number in 2..=count {

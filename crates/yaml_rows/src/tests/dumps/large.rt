@@ -13,7 +13,7 @@ use std::process::Abort;
 use yaml_base::yaml_error_t;
 use yaml_emitter::Settings;
 
-/// Sequences of so many of these numbers each.
+/// Returns sequences of so many of these numbers each.
 fn sequences<'a>(
     rt: &impl Abort,
     alloc: Global,
@@ -34,7 +34,7 @@ fn add_texts<'a>(rt: &impl Abort, given: &mut Vec<Given<'a>>, text: &'a str, cou
     }
 }
 
-/// A line of an item, which is an anchor or an alias and what follows it.
+/// Adds a line of an item, which is an anchor or an alias and what follows it.
 fn add_item(
     rt: &impl Abort,
     text: &mut String,
@@ -53,7 +53,7 @@ fn add_item(
 /// How many sequences there are, each of which holds the next twice.
 const NESTED: usize = 40;
 
-/// Anchors are numbered by second meetings, so from within.
+/// Returns the text of sequences within one another. Anchors are numbered by second meetings, so from within.
 fn nested_text(rt: &impl Abort, alloc: Global) -> String {
     let mut text = String::new(alloc);
     for number in (2..=NESTED).rev() {
@@ -85,7 +85,7 @@ fn shared_nodes_in_each_other_are_written_once(rt: HostRuntime) {
     check_text(&rt, alloc, given.as_slice(), text.as_str());
 }
 
-/// The numbers from 2 to the last, each so many times.
+/// Returns the numbers from 2 to the last, each so many times.
 fn numbers(rt: &impl Abort, alloc: Global, last: i32, times: usize) -> Vec<i32> {
     let mut numbers = Vec::new(alloc);
     for number in 2..=last {
@@ -96,7 +96,7 @@ fn numbers(rt: &impl Abort, alloc: Global, last: i32, times: usize) -> Vec<i32> 
     numbers
 }
 
-/// The numbers from 2 to the last, and then all again.
+/// Returns the numbers from 2 to the last, and then all again.
 fn doubled(rt: &impl Abort, alloc: Global, last: i32) -> Vec<i32> {
     let mut doubled = numbers(rt, alloc, last, 1);
     let again = numbers(rt, alloc, last, 1);
@@ -106,7 +106,7 @@ fn doubled(rt: &impl Abort, alloc: Global, last: i32) -> Vec<i32> {
     doubled
 }
 
-/// So many texts with their anchors, and as many aliases.
+/// Returns so many texts with their anchors, and as many aliases.
 fn shared_text(rt: &impl Abort, alloc: Global, count: usize) -> String {
     let mut text = String::new(alloc);
     for number in 1..=count {

@@ -46,7 +46,7 @@ fn start<A: Allocator + Copy>(rt: &impl Abort, emitter: &mut yaml_emitter_t<A>) 
     give(rt, emitter, event)
 }
 
-/// A document of these nodes, of which no growth is refused.
+/// Returns a document of these nodes, of which no growth is refused.
 fn granted<A: Allocator + Copy>(
     rt: &impl Abort,
     heap: &Refusing<Global>,
@@ -60,7 +60,7 @@ fn granted<A: Allocator + Copy>(
     document
 }
 
-/// A dump. Where a growth was refused and no error is kept, the emitter is as before, and takes an equal document.
+/// Dumps a document. Where a growth was refused and no error is kept, the emitter is as before, and takes an equal document.
 fn dump_again<A: Allocator + Copy>(
     rt: &impl Abort,
     heap: &Refusing<Global>,

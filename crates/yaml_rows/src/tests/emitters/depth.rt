@@ -16,8 +16,8 @@ const ENDLESS: &Settings = &Settings {
 /// The maximum nesting depth.
 pub(crate) const MOST: usize = 1_000_000;
 
-/// What is flushed of the text of a million block sequences: 122 buffers. The text has 1,999,997 bytes, a `-` for each sequence but
-/// the root, and a space between two.
+/// Returns what is flushed of the text of a million block sequences: 122 buffers. The text has 1,999,997 bytes, a `-` for each
+/// sequence but the root, and a space between two.
 pub(crate) fn dashes(rt: &impl Abort, alloc: Global) -> String {
     repeated(rt, alloc, "- ", 122 * 8_192)
 }
@@ -39,7 +39,7 @@ fn a_million_collections_may_be_open(rt: HostRuntime) {
     check_steps(&rt, rt.alloc(), ENDLESS, &steps);
 }
 
-/// A million brackets that open, as many that close, and the line's end.
+/// Returns a million brackets that open, as many that close, and the line's end.
 pub(crate) fn brackets(rt: &impl Abort, alloc: Global) -> String {
     let opened = repeated(rt, alloc, "[", MOST);
     let closed = repeated(rt, alloc, "]", MOST);

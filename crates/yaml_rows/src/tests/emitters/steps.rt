@@ -12,7 +12,7 @@ use yaml_test_allocator::Refusing;
 
 /// A call with its answer, or what stands after it. Those of documents that are dumped are others.
 pub(crate) trait Taken {
-    /// The call is made, or what stands is looked at; a growth may be refused.
+    /// Makes the call, or looks at what stands; a growth may be refused.
     fn take<A: Allocator + Copy>(
         &self,
         rt: &impl Abort,
@@ -21,7 +21,7 @@ pub(crate) trait Taken {
         emitter: &mut yaml_emitter_t<A>,
     );
 
-    /// The output, where it is looked at.
+    /// Returns the output, where it is looked at.
     fn output(&self) -> Option<&[u8]>;
 }
 
@@ -52,7 +52,7 @@ pub(super) enum Step<'a> {
     Failed(yaml_error_t),
 }
 
-/// The event of a script's line, of which no growth is refused.
+/// Returns the event of a script's line, of which no growth is refused.
 pub(super) fn granted<A: Allocator + Copy>(
     rt: &impl Abort,
     heap: &Refusing<Global>,
@@ -163,7 +163,7 @@ impl Taken for Step<'_> {
     }
 }
 
-/// The next output that is looked at.
+/// Returns the next output that is looked at.
 fn next_output<S: Taken>(steps: &[S]) -> &[u8] {
     for step in steps {
         if let Some(bytes) = step.output() {
@@ -209,7 +209,7 @@ fn is_refused<S: Taken>(
     heap.left() == 0 || heap.left() > number
 }
 
-/// The steps are taken with each of these growths refused in turn, up to one that there isn't.
+/// Takes the steps with each of these growths refused in turn, up to one that there isn't.
 pub(crate) fn check_growths<S: Taken>(
     rt: &impl Abort,
     alloc: Global,
@@ -224,7 +224,7 @@ pub(crate) fn check_growths<S: Taken>(
     }
 }
 
-/// The steps are taken with the first growth refused, the second, and so on, until none is.
+/// Takes the steps with the first growth refused, the second, and so on, until none is.
 pub(crate) fn check_steps<S: Taken>(
     rt: &impl Abort,
     alloc: Global,

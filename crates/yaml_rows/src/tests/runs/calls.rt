@@ -17,8 +17,8 @@ const BUFFER_SIZE: usize = 16_384;
 /// The bytes of a long script that comparisons show.
 const NAME_LENGTH: usize = 200;
 
-/// How an event's call is answered. The limit of a short output is reported by a flush, which only the ends of documents and of
-/// the stream make.
+/// Returns how an event's call is answered. The limit of a short output is reported by a flush, which only the ends of
+/// documents and of the stream make.
 fn emit_answer(row: &Row, line: u64, kind: Kind) -> Answer {
     let flushes = matches!(kind, Kind::FlushingEnd) || row.output.len() >= BUFFER_SIZE;
     match row.answer {
@@ -27,7 +27,7 @@ fn emit_answer(row: &Row, line: u64, kind: Kind) -> Answer {
     }
 }
 
-/// How a flush after this line's event is answered.
+/// Returns how a flush after this line's event is answered.
 fn flush_answer(row: &Row, line: u64) -> Answer {
     match row.answer {
         run_answer_t::Refused(at, error) if at <= line => Err(error),
@@ -35,7 +35,7 @@ fn flush_answer(row: &Row, line: u64) -> Answer {
     }
 }
 
-/// What was flushed by so many flushes.
+/// Returns what was flushed by so many flushes.
 fn flushed<'a>(row: &Row<'a>, flushes: usize) -> &'a [u8] {
     let Some(last) = flushes.checked_sub(1) else {
         return b"";
@@ -170,7 +170,7 @@ fn check_events<A: Allocator + Copy>(
     }
 }
 
-/// The calls of a row, with this growth refused.
+/// Makes the calls of a row, with this growth refused.
 fn call_refused(rt: &impl Abort, alloc: Global, heap: &Refusing<Global>, row: &Row, number: usize) {
     let script = read_script(heap, row.script.as_bytes()).expect(rt, "a script");
     let mut walk = Walk {
@@ -194,7 +194,7 @@ pub(super) fn is_refused(rt: &impl Abort, alloc: Global, row: &Row, number: usiz
     heap.left() == 0
 }
 
-/// The calls of a row, with the first growth refused, the second, and so on, until none is.
+/// Makes the calls of a row, with the first growth refused, the second, and so on, until none is.
 pub(super) fn check_calls(rt: &impl Abort, alloc: Global, row: &Row) {
     for number in 1..usize::MAX {
         if !is_refused(rt, alloc, row, number) {

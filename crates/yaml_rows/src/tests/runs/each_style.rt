@@ -5,17 +5,17 @@ use crate::tests::{equal, joined};
 use std::alloc::Global;
 use std::process::Abort;
 
-/// A text up to the first `;`, and what follows it.
+/// Returns a text up to the first `;`, and what follows it.
 fn cut<'a>(rt: &impl Abort, row: &'a str) -> (&'a str, &'a str) {
     row.split_once(';').expect(rt, "a text")
 }
 
-/// What isn't allowed in its style is between double quotes.
+/// Returns the text of a style, or where there is none, as it isn't allowed, that between double quotes.
 fn allowed<'a>(text: &'a str, double: &'a str) -> &'a str {
     if text.is_empty() { double } else { text }
 }
 
-/// The document's end adds a line break where the text has none.
+/// Returns the line break that the document's end adds where the text has none.
 fn last_break(text: &str) -> &str {
     if text.ends_with('↵') || text.ends_with('¶') {
         ""
@@ -24,7 +24,7 @@ fn last_break(text: &str) -> &str {
     }
 }
 
-/// The stream's end adds dots after a header that keeps all last breaks.
+/// Returns the dots that the stream's end adds after a header that keeps all last breaks.
 fn dots_after(text: &str) -> &str {
     if text.contains('+') { " |...↵" } else { "" }
 }

@@ -49,8 +49,8 @@ fn is_refused(
     true
 }
 
-/// How a run of a script ends, and what it writes; and how it does with the first growth refused, the second, and so on, until a
-/// run meets no refusal.
+/// Runs a script, and returns how that ends; and runs it with the first growth refused, the second, and so on, until a run meets
+/// no refusal.
 pub(super) fn answered(
     rt: &impl Abort,
     alloc: Global,

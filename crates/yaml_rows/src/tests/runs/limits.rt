@@ -122,7 +122,7 @@ fn a_limit_cuts_anywhere(rt: HostRuntime) {
     }
 }
 
-/// A document of one value, after these settings and in this encoding.
+/// Returns a document of one value, after these settings and in this encoding.
 fn of_value(rt: &impl Abort, alloc: Global, start: &str, value: &str) -> String {
     let parts = [
         start,
@@ -190,7 +190,7 @@ fn a_stream_that_takes_memory_in_each_way_is_whole(rt: HostRuntime) {
     check_script(&rt, rt.alloc(), "", row.as_str());
 }
 
-/// So many letters in UTF-16.
+/// Returns so many letters in UTF-16.
 fn units(rt: &impl Abort, alloc: Global, count: usize) -> Vec<u8> {
     let mut text = Vec::from_slice(alloc, b"\xFF\xFE").expect(rt, "no memory");
     for _ in 0..count {

@@ -62,7 +62,7 @@ fn check(rt: &impl Abort, alloc: Global, beginning: &Beginning) {
     check_row(rt, alloc, &row);
 }
 
-/// A row, after these settings.
+/// Checks a row, after these settings.
 pub(super) fn check_script(rt: &impl Abort, alloc: Global, settings: &str, row: &str) {
     let mut whole = begun(rt, alloc, settings, Flushes::Last);
     for line in row.lines() {
@@ -82,7 +82,7 @@ fn check_rows(rt: &impl Abort, alloc: Global, rows: Rows, (before, after): (&str
     }
 }
 
-/// Rows of streams of one document, by the events of its root.
+/// Checks rows of streams of one document, by the events of its root.
 pub(super) fn check_roots(rt: &impl Abort, alloc: Global, rows: Rows) {
     let document = ("+STR any\n+DOC 1 -\n", "\n-DOC 1\n-STR\n\n");
     check_rows(rt, alloc, rows, document);

@@ -7,7 +7,7 @@ use std::process::Abort;
 use yaml_base::{YAML_SCALAR_EVENT, yaml_error_t, yaml_scalar_style_t};
 use yaml_scalar::{analyze_scalar, select_scalar_style};
 
-/// The style that is chosen for a root where one is asked for.
+/// Returns the style that is chosen for a root where one is asked for.
 fn chosen(
     value: &str,
     asked: yaml_scalar_style_t,

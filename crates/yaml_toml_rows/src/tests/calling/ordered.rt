@@ -3,7 +3,7 @@ use super::super::equal;
 use std::alloc::Global;
 use toml_ordered::{Fault, read_document};
 
-/// Whether the first key that a document defines is this one.
+/// Returns whether the first key that a document defines is this one.
 fn begins_with(alloc: Global, text: &str, key: &str) -> Result<bool, Fault> {
     let keys = read_document(alloc, text)?;
     match keys.first() {

@@ -3,7 +3,7 @@ use super::super::equal;
 use std::alloc::Global;
 use yaml_toml::{TomlError, TomlSettings, yaml_from_toml};
 
-/// The YAML of a TOML document.
+/// Returns the YAML of a TOML document.
 fn yaml_of_toml(alloc: Global, text: &str) -> Result<Vec<u8>, TomlError> {
     yaml_from_toml(alloc, text, TomlSettings::default())
 }

@@ -13,7 +13,7 @@ use yaml_dump::{
     yaml_error_t, yaml_node_data_t, yaml_node_pair_t, yaml_node_t,
 };
 
-/// A document as YAML of at most `limit` bytes, in which each node keeps its type.
+/// Returns a document as YAML of at most `limit` bytes, in which each node keeps its type.
 fn yaml_of(
     alloc: Global,
     document: yaml_document_t<Global>,
@@ -27,7 +27,7 @@ fn yaml_of(
     Vec::from_slice(alloc, emitter.output()).map_err(|_| yaml_error_t::Memory)
 }
 
-/// A string as a node.
+/// Returns a string as a node.
 fn text_node(alloc: Global, value: &str) -> Result<yaml_node_t<Global>, AllocError> {
     Ok(yaml_node_t {
         tag: String::from_str(alloc, YAML_STR_TAG)?,
@@ -38,7 +38,7 @@ fn text_node(alloc: Global, value: &str) -> Result<yaml_node_t<Global>, AllocErr
     })
 }
 
-/// A sequence of the nodes of these numbers.
+/// Returns a sequence of the nodes of these numbers.
 fn sequence_node(alloc: Global, items: &[i32]) -> Result<yaml_node_t<Global>, AllocError> {
     Ok(yaml_node_t {
         tag: String::from_str(alloc, YAML_SEQ_TAG)?,
@@ -49,7 +49,7 @@ fn sequence_node(alloc: Global, items: &[i32]) -> Result<yaml_node_t<Global>, Al
     })
 }
 
-/// A mapping of the node of one number to that of another.
+/// Returns a mapping of the node of one number to that of another.
 fn mapping_node(alloc: Global, key: i32, value: i32) -> Result<yaml_node_t<Global>, AllocError> {
     let pair = yaml_node_pair_t { key, value };
     Ok(yaml_node_t {
@@ -61,7 +61,7 @@ fn mapping_node(alloc: Global, key: i32, value: i32) -> Result<yaml_node_t<Globa
     })
 }
 
-/// A document of these nodes, numbered from 1; the first is the root.
+/// Returns a document of these nodes, numbered from 1; the first is the root.
 fn document_of(
     alloc: Global,
     nodes: Vec<yaml_node_t<Global>>,
@@ -72,7 +72,7 @@ fn document_of(
     yaml_document_t::from_nodes(None, Vec::new(alloc), nodes, true, true)
 }
 
-/// Two documents in one stream; the second has no nodes, which closes the stream.
+/// Dumps two documents into one stream; the second has no nodes, which closes the stream.
 fn two_dumps(
     alloc: Global,
     first: yaml_document_t<Global>,
@@ -114,7 +114,7 @@ fn close_if_open(emitter: &mut yaml_emitter_t<Global>) -> Result<(), yaml_error_
     yaml_emitter_close(emitter)
 }
 
-/// A document of a mapping of node 2 to the node of this number, and of these texts, from node 2 on.
+/// Returns a document of a mapping of node 2 to the node of this number, and of these texts, from node 2 on.
 fn mapping(
     rt: &impl Abort,
     alloc: Global,
@@ -131,7 +131,7 @@ fn mapping(
     document_of(alloc, nodes)
 }
 
-/// A document of a mapping of `name` to a text.
+/// Returns a document of a mapping of `name` to a text.
 fn named(rt: &impl Abort, alloc: Global) -> yaml_document_t<Global> {
     let document = mapping(rt, alloc, 3, &["name", "beta"]);
     document.expect(rt, "each number names a node")
@@ -150,7 +150,7 @@ fn a_document_is_written_where_each_number_names_a_node(rt: HostRuntime) {
     equal(&rt, &refused, &Some(NodeNumber(4)));
 }
 
-/// A document of a mapping of `both` to a sequence that has one node twice.
+/// Returns a document of a mapping of `both` to a sequence that has one node twice.
 fn twice(rt: &impl Abort, alloc: Global) -> yaml_document_t<Global> {
     let mut nodes = Vec::new(alloc);
     for node in [
@@ -171,7 +171,7 @@ fn a_sequence_has_a_node_twice(rt: HostRuntime) {
     answers(&rt, bytes, &Ok("both: [&id001 beta, *id001]\n"));
 }
 
-/// The first is a mapping that is its own value, and the second is empty.
+/// Dumps two documents: the first is a mapping that is its own value, and the second is empty.
 fn check_circle(
     rt: &impl Abort,
     alloc: Global,
@@ -195,7 +195,7 @@ fn a_node_met_twice_has_an_anchor(rt: HostRuntime) {
     check_circle(&rt, alloc, circle, empty);
 }
 
-/// A document's nodes follow the start of a stream.
+/// Checks that a document's nodes follow the start of a stream.
 fn check_bare(rt: &impl Abort, alloc: Global, emitter: &mut yaml_emitter_t<Global>)
     requires { emitter.old.has_output ≡ true }
 {
@@ -212,13 +212,13 @@ fn nodes_follow_a_stream_start(rt: HostRuntime) {
     check_bare(&rt, rt.alloc(), &mut emitter);
 }
 
-/// How the call ends, and whether the stream is then closed.
+/// Returns how the call ends, and whether the stream is then closed.
 fn closed(emitter: &mut yaml_emitter_t<Global>) -> (Result<(), yaml_error_t>, bool) {
     let answer = close_if_open(emitter);
     (answer, emitter.is_closed())
 }
 
-/// An open stream is closed.
+/// Checks that an open stream is closed.
 fn check_opened(rt: &impl Abort, emitter: &mut yaml_emitter_t<Global>)
     requires output { emitter.old.has_output ≡ true }
     requires not_opened { emitter.old.opened ≡ false }

@@ -14,7 +14,7 @@ use yaml_dump::{
     yaml_emitter_take_output, yaml_error_t, yaml_event_t,
 };
 
-/// The start of a document without directives.
+/// Returns the start of a document without directives.
 fn document_start(alloc: Global) -> yaml_event_t<Global> {
     YAML_DOCUMENT_START_EVENT {
         version_directive: None,
@@ -23,7 +23,7 @@ fn document_start(alloc: Global) -> yaml_event_t<Global> {
     }
 }
 
-/// A scalar without anchor and tag.
+/// Returns a scalar without anchor and tag.
 fn scalar(alloc: Global, value: &str) -> Result<yaml_event_t<Global>, AllocError> {
     Ok(YAML_SCALAR_EVENT {
         anchor: None,
@@ -109,8 +109,8 @@ fn send(emitter: &mut yaml_emitter_t<Global>, sent: &mut Vec<u8>) -> Result<usiz
     }
 }
 
-/// The event of a word: `stream` and `document` are the starts of those, `end` and `close` their ends, `[` and `]` the start
-/// and the end of a flow sequence. Any other word is a scalar.
+/// Returns the event of a word: `stream` and `document` are the starts of those, `end` and `close` their ends, `[` and `]`
+/// the start and the end of a flow sequence. Any other word is a scalar.
 fn event(rt: &impl Abort, alloc: Global, word: &str) -> yaml_event_t<Global> {
     match word {
         "stream" => YAML_STREAM_START_EVENT {
@@ -130,7 +130,7 @@ fn event(rt: &impl Abort, alloc: Global, word: &str) -> yaml_event_t<Global> {
     }
 }
 
-/// The events of these words.
+/// Returns the events of these words.
 fn events(rt: &impl Abort, alloc: Global, words: &str) -> Vec<yaml_event_t<Global>> {
     let mut events = Vec::new(alloc);
     for word in words.split_whitespace() {
@@ -152,7 +152,7 @@ pub(super) fn emit_words(
     emit_all(emitter, events(rt, alloc, words))
 }
 
-/// An emitter whose output has at most a thousand bytes.
+/// Makes an emitter whose output has at most a thousand bytes.
 pub(super) fn emitter_with_output(rt: &impl Abort, alloc: Global) -> yaml_emitter_t<Global>
     ensures output { result.has_output ≡ true }
     ensures not_opened { result.opened ≡ false }
@@ -267,7 +267,7 @@ fn bytes_appear_where_they_are_ready(rt: HostRuntime) {
     }
 }
 
-/// The event of this word is refused, since no stream was begun.
+/// Checks that the event of this word is refused, since no stream was begun.
 fn check_refused(rt: &impl Abort, alloc: Global, emitter: &mut yaml_emitter_t<Global>, word: &str)
     requires { emitter.old.has_output ≡ true }
     ensures { emitter.new.has_output ≡ true }

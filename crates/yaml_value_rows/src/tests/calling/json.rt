@@ -6,14 +6,14 @@ use yaml_json::{
     JsonError, JsonSettings, StreamError, Writer, send_json_texts, value_settings, yaml_from_json,
 };
 
-/// The YAML of a JSON text, with an indent of 4.
+/// Returns the YAML of a JSON text, with an indent of 4.
 fn yaml_of_json(alloc: Global, text: &str) -> Result<Vec<u8>, JsonError> {
     let mut settings = JsonSettings::default();
     settings.writer.indent = Some(4);
     yaml_from_json(alloc, text, settings)
 }
 
-/// The JSON texts of a reader as the documents of a stream, each handed on to a sink as the next begins.
+/// Sends the JSON texts of a reader as the documents of a stream, each handed on to a sink as the next begins.
 fn send_texts<R: Read, W: Write>(
     alloc: Global,
     reader: &mut R,

@@ -7,7 +7,7 @@ use yaml_dump::{
     write_double_quoted_scalar, yaml_error_t, yaml_scalar_style_t, yaml_tag_directive_t,
 };
 
-/// A value between double quotes, without folds, as UTF-8.
+/// Returns a value between double quotes, without folds, as UTF-8.
 fn quoted(alloc: Global, value: &str) -> Result<Vec<u8>, yaml_error_t> {
     let mut pen = Pen::new(alloc)?;
     pen.begin(YAML_UTF8_ENCODING, YAML_LN_BREAK);
@@ -16,7 +16,7 @@ fn quoted(alloc: Global, value: &str) -> Result<Vec<u8>, yaml_error_t> {
     Vec::from_slice(alloc, pen.output()).map_err(|_| yaml_error_t::Memory)
 }
 
-/// The style that a value takes as the root of a document, where none is asked for.
+/// Returns the style that a value takes as the root of a document, where none is asked for.
 fn root_style(value: &str) -> Result<yaml_scalar_style_t, yaml_error_t> {
     let allowed = analyze_scalar(value, true, false);
     let empty = value.is_empty();
@@ -35,7 +35,7 @@ fn a_pen_writes_a_text_whose_style_was_chosen(rt: HostRuntime) {
     answers(&rt, yaml, &Ok("\"say \\\"hi\\\"\\n\""));
 }
 
-/// A directive that shortens tags with this prefix.
+/// Returns a directive that shortens tags with this prefix.
 fn shortening(
     alloc: Global,
     handle: &str,

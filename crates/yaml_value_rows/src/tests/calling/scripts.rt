@@ -6,7 +6,7 @@ use std::process::Abort;
 use yaml_dump::yaml_error_t;
 use yaml_tool::{ScriptError, read_script, run, run_answer_t, status, write_line};
 
-/// The YAML of a script; how the run ended.
+/// Appends the YAML of a script; returns how the run ended.
 fn ran(alloc: Global, script: &str, yaml: &mut Vec<u8>) -> run_answer_t {
     let mut reader = script.as_bytes();
     run(alloc, &mut reader, yaml)

@@ -20,7 +20,7 @@ enum Rule {
     Limited { rate: f64 },
 }
 
-/// The YAML of some hosts.
+/// Returns the YAML of some hosts.
 fn hosts_yaml(alloc: Global, hosts: &Vec<Host<'_>>) -> Result<String, yaml_serde::Error> {
     yaml_serde::to_string(alloc, hosts)
 }
@@ -48,7 +48,7 @@ fn hosts_are_written(rt: HostRuntime) {
     equal(&rt, &yaml.as_str(), &expected);
 }
 
-/// JSON values as the documents of a stream, each handed on to a sink as it ends.
+/// Sends JSON values as the documents of a stream, each handed on to a sink as it ends.
 fn send_each<W: Write>(
     alloc: Global,
     values: &[serde_json::Value],
@@ -67,7 +67,7 @@ fn send_each<W: Write>(
     Ok(())
 }
 
-/// The value of a JSON text.
+/// Returns the value of a JSON text.
 fn json(rt: &impl Abort, alloc: Global, text: &str) -> serde_json::Value {
     serde_json::Value::from_str(alloc, text).expect(rt, "JSON")
 }

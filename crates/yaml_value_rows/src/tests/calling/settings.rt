@@ -11,7 +11,7 @@ use yaml_dump::{
     yaml_error_t,
 };
 
-/// An emitter for a stream of at most `limit` bytes in UTF-16, with lines of at most 120 characters.
+/// Makes an emitter for a stream of at most `limit` bytes in UTF-16, with lines of at most 120 characters.
 fn emitter_of(alloc: Global, limit: usize) -> Result<yaml_emitter_t<Global>, yaml_error_t> {
     let settings = Settings {
         limit,
@@ -22,7 +22,7 @@ fn emitter_of(alloc: Global, limit: usize) -> Result<yaml_emitter_t<Global>, yam
     yaml_emitter_t::with_settings(alloc, settings)
 }
 
-/// An emitter with every setting set, for a stream of at most `limit` bytes.
+/// Makes an emitter with every setting set, for a stream of at most `limit` bytes.
 fn emitter_set(alloc: Global, limit: usize) -> Result<yaml_emitter_t<Global>, yaml_error_t> {
     let mut emitter = yaml_emitter_initialize(alloc)?;
     yaml_emitter_set_output_string(&mut emitter, limit);

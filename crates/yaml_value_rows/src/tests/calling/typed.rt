@@ -4,7 +4,7 @@ use std::alloc::{AllocError, Global};
 use std::process::Abort;
 use yaml_value::{Value, write_canonical, yaml_error_t};
 
-/// A list of a number and a text.
+/// Returns a list of a number and a text.
 fn list_of(alloc: Global, number: i64, text: &str) -> Result<Value<Global>, AllocError> {
     let mut items = Vec::new(alloc);
     items.push(Value::Int(number))?;
@@ -12,7 +12,7 @@ fn list_of(alloc: Global, number: i64, text: &str) -> Result<Value<Global>, Allo
     Ok(Value::List(items))
 }
 
-/// A map of a text to a value.
+/// Returns a map of a text to a value.
 fn map_of(alloc: Global, key: &str, value: Value<Global>) -> Result<Value<Global>, AllocError> {
     let mut members = Vec::new(alloc);
     let key = Value::Text(String::from_str(alloc, key)?);
@@ -20,7 +20,7 @@ fn map_of(alloc: Global, key: &str, value: Value<Global>) -> Result<Value<Global
     Ok(Value::Map(members))
 }
 
-/// Whether two values are the same: their canonical bytes are.
+/// Returns whether two values are the same: their canonical bytes are.
 fn are_same(
     alloc: Global,
     first: &Value<Global>,
@@ -31,7 +31,7 @@ fn are_same(
     Ok(first.as_slice() == second.as_slice())
 }
 
-/// A value has one form, and equal values have equal bytes.
+/// Checks that a value has one form, and equal values have equal bytes.
 fn check_forms(rt: &impl Abort, alloc: Global, list: &Value<Global>, other: &Value<Global>) {
     let expected = "---\n!!seq [\n  !!int \"5\",\n  !!str \"a\",\n]\n";
     answers(rt, write_canonical(alloc, list), &Ok(expected));

@@ -7,7 +7,7 @@ use yaml_writer::{
     YAML_DOUBLE_QUOTED_SCALAR_STYLE, YAML_FLOW_SEQUENCE_STYLE, value_settings, yaml_error_t,
 };
 
-/// A mapping of a text and of a sequence of values.
+/// Gives a mapping of a text and of a sequence of values.
 fn give_values(writer: &mut Writer<Global>) -> Result<(), yaml_error_t> {
     writer.begin_mapping(YAML_BLOCK_MAPPING_STYLE)?;
     writer.text("country")?;
@@ -25,7 +25,7 @@ fn give_values(writer: &mut Writer<Global>) -> Result<(), yaml_error_t> {
     writer.end()
 }
 
-/// A document of it.
+/// Returns a document of it.
 fn values(alloc: Global) -> Result<Vec<u8>, yaml_error_t> {
     let mut writer = Writer::new(alloc, value_settings())?;
     give_values(&mut writer)?;
@@ -43,7 +43,7 @@ fn ended(mut writer: Writer<Global>) -> Result<Vec<u8>, yaml_error_t> {
     writer.finish_after(DocumentEnd::Explicit)
 }
 
-/// A mapping of a text with an anchor and a tag, and of an alias for it.
+/// Gives a mapping of a text with an anchor and a tag, and of an alias for it.
 fn give_shared(writer: &mut Writer<Global>) -> Result<(), yaml_error_t> {
     writer.begin_mapping(YAML_BLOCK_MAPPING_STYLE)?;
     writer.text("from")?;
@@ -55,7 +55,7 @@ fn give_shared(writer: &mut Writer<Global>) -> Result<(), yaml_error_t> {
     writer.end()
 }
 
-/// A day, and a minute of it; `None` where the clock shows no such time.
+/// Returns a day, and a minute of it; `None` where the clock shows no such time.
 fn minute(date: Date, hour: u8, minute: u8) -> Option<Timestamp> {
     let time = Time::new(hour, minute, 0, 0, None)?;
     Some(Timestamp {
@@ -64,7 +64,7 @@ fn minute(date: Date, hour: u8, minute: u8) -> Option<Timestamp> {
     })
 }
 
-/// A mapping of a day and of a minute.
+/// Gives a mapping of a day and of a minute.
 fn give_times(
     writer: &mut Writer<Global>,
     date: Date,
@@ -86,7 +86,7 @@ fn send_document(writer: &mut Writer<Global>, sent: &mut Vec<u8>) -> Result<(), 
         .map_err(|_| yaml_error_t::Memory)
 }
 
-/// A list in a list, whose second item has only its tag.
+/// Gives a list in a list, whose second item has only its tag.
 fn give_begun(writer: &mut Writer<Global>) -> Result<(), yaml_error_t> {
     writer.begin_sequence(YAML_FLOW_SEQUENCE_STYLE)?;
     writer.begin_sequence(YAML_FLOW_SEQUENCE_STYLE)?;
@@ -94,7 +94,7 @@ fn give_begun(writer: &mut Writer<Global>) -> Result<(), yaml_error_t> {
     writer.tagged("!b")
 }
 
-/// Two lists are open, and a node is awaited.
+/// Checks that two lists are open, and a node is awaited.
 fn check_begun(rt: &impl Abort, writer: &mut Writer<Global>) {
     equal(rt, &give_begun(writer), &Ok(()));
     let open = (writer.depth(), writer.awaits_node());
@@ -110,7 +110,7 @@ fn values_are_written_and_what_is_open_is_ended(rt: HostRuntime) {
     answers(&rt, ended(writer), &Ok("--- [[a, !b null]]\n...\n"));
 }
 
-/// An alias, times and texts in documents that are sent one by one, but for the last.
+/// Sends an alias, times and texts in documents, one by one, but for the last.
 fn send_documents(
     writer: &mut Writer<Global>,
     sent: &mut Vec<u8>,

@@ -48,7 +48,7 @@ pub(super) fn check_row(rt: &impl Abort, heap: Heap<'_>, row: &Row) {
     drop(value);
 }
 
-/// A line of a list within so many others.
+/// Adds a line of a list within so many others.
 fn add_line(rt: &impl Abort, text: &mut String, depth: u32, line: &str) {
     for _ in 0..depth {
         text.push_str("  ").expect(rt, "no memory");
@@ -56,7 +56,7 @@ fn add_line(rt: &impl Abort, text: &mut String, depth: u32, line: &str) {
     text.push_str(line).expect(rt, "no memory");
 }
 
-/// The canonical form of so many lists, each the only item of the one around it, and of an empty list in the innermost.
+/// Returns the canonical form of so many lists, each the only item of the one around it, and of an empty list in the innermost.
 fn nested_text(rt: &impl Abort, alloc: Global, count: u32) -> String {
     let mut text = String::from_str(alloc, "---\n").expect(rt, "no memory");
     for depth in 0..count {

@@ -18,7 +18,7 @@ fn counted(rt: &impl Abort, heap: Heap<'_>, value: &Made<'_>, refused: usize) ->
     count
 }
 
-/// Why a value isn't written, which comes before anything is allocated; `None` for one that is.
+/// Returns why a value isn't written, which comes before anything is allocated; `None` for one that is.
 fn refusal<'a>(
     heap: Heap<'a>,
     value: &Made<'a>,

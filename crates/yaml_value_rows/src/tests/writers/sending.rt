@@ -6,7 +6,7 @@ use std::io;
 use std::process::Abort;
 use yaml_writer::{Writer, value_settings};
 
-/// The writer hands its bytes on; the sink fails so or not, and then has these bytes.
+/// Checks that the writer hands its bytes on; the sink fails so or not, and then has these bytes.
 fn check_sent(
     rt: &impl Abort,
     writer: &mut Writer<Global>,

@@ -225,7 +225,7 @@ pub(super) const CANONICAL: &[Call] = &[
 /// A year, a month and a day, and whether it is a date of the years 1 to 9999.
 type PartsRow = (i16, i8, i8, bool);
 
-/// A date of `jiff` is the same date.
+/// Checks that a date of `jiff` is the same date.
 fn check_civil_date(rt: &impl Abort, row: &PartsRow) {
     let civil = jiff::civil::Date::new(row.0, row.1, row.2).expect(rt, "there is such a date");
     let wanted = if row.3 {
@@ -249,7 +249,7 @@ const CIVIL_DATES: &[PartsRow] = &[
     (-1, 1, 1, false),
 ];
 
-/// A date of TOML is the same date, where there is one.
+/// Checks that a date of TOML is the same date, where there is one.
 fn check_toml_date(rt: &impl Abort, year: u16, month: u8, day: u8) {
     let date = toml_datetime::Date { year, month, day };
     equal(rt, &Date::try_from(date).ok(), &Date::new(year, month, day));
