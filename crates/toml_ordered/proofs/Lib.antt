@@ -1,5 +1,8 @@
 pub mod Trees
 pub mod DraftKeys
+pub mod FirstKeys
+pub mod Endings
+pub mod Conflicts
 pub mod Turns
 pub mod Stopping
 pub mod SortedKeys

@@ -1,10 +1,12 @@
 -- Where a text is refused: as far as its expressions are read.
-use Rattle.std.specs.Prelude.{◌≡◌, ◌⊎◌, ℕ, suc, ◌<◌, ◌≤◌, List, [], length, Option, Some, None, IfSome}
-use Rattle.toml_parser.specs.Lexical.{skip_blank}
-use Rattle.toml.specs.Parse.{skip_bom}
-use Rattle.toml_ordered.specs.Data.{no_nodes}
-use Rattle.toml_ordered.specs.Grammar.{line, lines}
-use Rattle.toml_ordered.specs.Tables.{Document, Expression, define}
+use Rattle.std.specs.Prelude.{◌≡◌, ◌⊎◌, ℕ, zero, suc, ◌<◌, ◌≤◌, List, [], ◌∷◌, ◌++◌, length, min, Option, Some, None, IfSome, option_and_then, option_map}
+use Rattle.toml_parser.specs.Lexical.{right_brace, skip_blank}
+use Rattle.toml_parser.specs.Strings.{Key}
+use Rattle.toml.specs.Parse.{after_element, key_equals, skip_bom}
+use Rattle.toml_ordered.specs.Data.{Node, Nodes, no_nodes}
+use Rattle.toml_ordered.specs.Firsts.{IfAgain, IsNewKey, PassesKey}
+use Rattle.toml_ordered.specs.Grammar.{keyval, line, val}
+use Rattle.toml_ordered.specs.Tables.{Definition, Document, Expression, define, key_value, put}
 use Rattle.toml_ordered.specs.declared.fault.Fault.{Fault}
 use Rattle.toml_ordered.specs.declared.fault.Fault.TheVariants as fault
 
@@ -14,11 +16,30 @@ place_left fault.Memory = None
 place_left (fault.NotToml left) = Some left
 place_left (fault.DefinedAgain key first second) = Some second
 
--- the text is read up to the rest, as this document: what it is as a whole, the rest makes of this document
-pub record ReadsUpTo (text : List ℕ) (doc : Document) (rest : List ℕ) : Type 0 where
-  pub most : ℕ
-  pub room : length rest < most
-  pub goes_on : lines (suc (length text)) (no_nodes, []) (skip_bom text) ≡ lines most doc rest
+-- the fault, with its place here
+abbrev pub moved_to : ℕ → Fault → Fault
+moved_to here fault.Memory = fault.Memory
+moved_to here (fault.NotToml left) = fault.NotToml here
+moved_to here (fault.DefinedAgain key first second) = fault.DefinedAgain key first here
+
+-- the fault, with its place here or behind
+abbrev pub moved_within : ℕ → Fault → Fault
+moved_within here fault.Memory = fault.Memory
+moved_within here (fault.NotToml left) = fault.NotToml (min left here)
+moved_within here (fault.DefinedAgain key first second) = fault.DefinedAgain key first (min second here)
+
+-- a document and the rest of a text after one more expression
+abbrev pub next_line : Document × List ℕ → Option (Document × List ℕ)
+next_line at = option_and_then (λ e. option_map (λ next. (next, e.1)) (define at.0 e.0)) (line (skip_blank at.1))
+
+-- the document and the rest after the first expressions of the text, so many
+abbrev pub after_lines : ℕ → (text : List ℕ) → Option (Document × List ℕ)
+after_lines zero text = Some ((no_nodes, []), skip_bom text)
+after_lines (suc count) text = option_and_then next_line (after_lines count text)
+
+-- the text is read up to the rest, as this document
+abbrev pub ReadsUpTo : (text : List ℕ) → Document → (rest : List ℕ) → Type 0
+ReadsUpTo text doc rest = (count : ℕ) × (after_lines count text ≡ Some (doc, rest))
 
 -- no expression has its line here, and the place is here or behind; or one has that defines what takes no more, and the place is here
 abbrev pub RefusesNext : Document → (start : List ℕ) → (left : ℕ) → Type 0
@@ -36,3 +57,102 @@ pub record StopsAt (text : List ℕ) (left : ℕ) : Type 0 where
 -- of a fault that has a place
 abbrev pub IsPlaced : List ℕ → Fault → Type 0
 IsPlaced text found = IfSome (place_left found) (StopsAt text)
+
+-- the text ends so
+abbrev pub EndsWith : (text end : List ℕ) → Type 0
+EndsWith text end = (front : List ℕ) × (text ≡ front ++ end)
+
+-- the parts of a key
+abbrev pub key_parts : Key → List (List ℕ)
+key_parts key = key.0 ++ key.1 ∷ []
+
+-- the whole path of what an expression defines: that of a pair goes on from the last header
+abbrev pub whole_path : Document → Key → Definition → List (List ℕ)
+whole_path doc key (key_value x) = doc.1 ++ key_parts key
+whole_path doc key header = key_parts key
+
+-- an expression begins with this much left, behind what is read as this document
+pub record ExpressionAt (text : List ℕ) (doc : Document) (e : Expression) (left : ℕ) : Type 0 where
+  pub rest : List ℕ
+  pub after : List ℕ
+  pub read : ReadsUpTo text doc rest
+  pub begins : line (skip_blank rest) ≡ Some (e, after)
+  pub here : left ≡ length (skip_blank rest)
+
+-- the expression that begins here is the first to define the key in the table at the end of the path, by itself or by what it defines inside
+pub record FirstDefines (text : List ℕ) (path : List (List ℕ)) (key : List ℕ) (left : ℕ) : Type 0 where
+  pub doc : Document
+  pub e : Expression
+  pub at : ExpressionAt text doc e left
+  pub new : IsNewKey (whole_path doc e.0 e.1) doc.0 path key
+
+-- an expression first defined the key, and one behind it, which is refused, passes the key again
+pub record ExpressionsConflict (text : List ℕ) (key : List ℕ) (first second : ℕ) : Type 0 where
+  pub path : List (List ℕ)
+  pub before : FirstDefines text path key first
+  pub doc : Document
+  pub e : Expression
+  pub at : ExpressionAt text doc e second
+  pub passes : PassesKey (whole_path doc e.0 e.1) path key
+  pub refused : define doc e ≡ None
+  pub order : second < first
+
+-- the keys and the rest of the text after one more pair of a table in braces
+abbrev pub next_pair : (depth : ℕ) → Nodes × List ℕ → Option (Nodes × List ℕ)
+next_pair depth at =
+    option_and_then (λ e. option_and_then (λ more. option_map (λ rest. (more, rest)) (after_element right_brace e.1)) (put e.0.0 e.0.1 at.0))
+    (keyval (val depth) (skip_blank at.1))
+
+-- the keys and the rest after the first pairs, so many, of the text behind a brace
+abbrev pub after_pairs : (depth : ℕ) → ℕ → (text : List ℕ) → Option (Nodes × List ℕ)
+after_pairs depth zero text = Some (no_nodes, text)
+after_pairs depth (suc count) text = option_and_then (next_pair depth) (after_pairs depth count text)
+
+-- a pair begins with this much left, behind what is read as these keys; the text is that of a table in braces, behind the brace
+pub record PairAt (depth : ℕ) (text : List ℕ) (found : Nodes) (name : Key) (left : ℕ) : Type 0 where
+  pub rest : List ℕ
+  pub after : List ℕ
+  pub ends : EndsWith text rest
+  pub count : ℕ
+  pub read : after_pairs depth count text ≡ Some (found, rest)
+  pub begins : key_equals (skip_blank rest) ≡ Some (name, after)
+  pub here : left ≡ length (skip_blank rest)
+
+-- the pair that begins here is the first to define the key in the table at the end of the path
+pub record PairFirstDefines (depth : ℕ) (text : List ℕ) (path : List (List ℕ)) (key : List ℕ) (left : ℕ) : Type 0 where
+  pub found : Nodes
+  pub name : Key
+  pub at : PairAt depth text found name left
+  pub new : IsNewKey (key_parts name) found path key
+
+-- a pair first defined the key, and one behind it in the same table in braces, which is refused, passes the key again; the table stands in the text
+pub record PairsConflict (text : List ℕ) (key : List ℕ) (first second : ℕ) : Type 0 where
+  pub depth : ℕ
+  pub inside : List ℕ
+  pub stands : EndsWith text inside
+  pub path : List (List ℕ)
+  pub before : PairFirstDefines depth inside path key first
+  pub found : Nodes
+  pub name : Key
+  pub at : PairAt depth inside found name second
+  pub value : Node
+  pub after : List ℕ
+  pub pair : keyval (val depth) (skip_blank at.rest) ≡ Some ((name, value), after)
+  pub passes : PassesKey (key_parts name) path key
+  pub refused : put name value found ≡ None
+  pub order : second < first
+
+-- the text is read up to an expression in which two pairs do so
+pub record PairsConflictIn (text : List ℕ) (key : List ℕ) (first second : ℕ) : Type 0 where
+  pub doc : Document
+  pub rest : List ℕ
+  pub read : ReadsUpTo text doc rest
+  pub pairs : PairsConflict (skip_blank rest) key first second
+
+-- two expressions define the key, or two pairs of a table in braces
+abbrev pub Conflict : (text : List ℕ) → (key : List ℕ) → (first second : ℕ) → Type 0
+Conflict text key first second = ExpressionsConflict text key first second ⊎ PairsConflictIn text key first second
+
+-- of a fault that a key is defined again
+abbrev pub IsConflict : List ℕ → Fault → Type 0
+IsConflict text found = IfAgain found (Conflict text)

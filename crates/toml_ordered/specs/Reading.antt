@@ -1,5 +1,5 @@
 -- How a result stands to what the grammar gives.
-use Rattle.std.specs.Prelude.{◌≡◌, ℕ, ◌<◌, string_bytes, List, length, Result, MatchResult, IfOk, Option, Some, None}
+use Rattle.std.specs.Prelude.{◌≡◌, ℕ, ◌<◌, string_bytes, List, [], ◌∷◌, ◌++◌, map, length, Result, MatchResult, IfOk, Option, Some, None}
 use Rattle.std.specs.Borrow.{Bor}
 use Rattle.toml_parser.specs.Lexical.{Read}
 use Rattle.toml_parser.specs.Reading.{path_view, key_view}
@@ -8,6 +8,7 @@ use Rattle.toml_parser.specs.declared.error.ParseError.TheVariants as parse
 use Rattle.toml_parser.specs.declared.key.Key as code_key
 use Rattle.toml_ordered.specs.Data.{node_view}
 use Rattle.toml_ordered.specs.Drafts.{sealed, table_view}
+use Rattle.toml_ordered.specs.Firsts.{IfAgain}
 use Rattle.toml_ordered.specs.Tables.{Definition, Document, Edit, Expression, key_value, std_table, array_table, steps, along, at_key}
 use Rattle.toml_ordered.specs.declared.route.Way.{Way}
 use Rattle.toml_ordered.specs.declared.document.Document.{Document as CodeDocument}
@@ -16,6 +17,7 @@ use Rattle.toml_ordered.specs.declared.fault.Fault.TheVariants as fault
 use Rattle.toml_ordered.specs.declared.route.Route.{Route}
 use Rattle.toml_ordered.specs.declared.tables.Definition as code_definition
 use Rattle.toml_ordered.specs.declared.tables.Entry.{Entry}
+use Rattle.toml_ordered.specs.declared.tables.Passed.{Passed}
 use Rattle.toml_ordered.specs.declared.tables.Definition.TheVariants.{Value, Table, Tables}
 
 -- an allocation failed
@@ -51,9 +53,20 @@ expression_view e = (key_view e.0, definition_view e.1)
 abbrev pub steps_of : Route → List (Way × List ℕ)
 steps_of route = steps (path_view route.header.now) (path_view route.dots.now)
 
+-- the whole path of an entry at the end of a route
+abbrev pub path_of : Route → List (List ℕ)
+path_of route = map (λ step. step.1) (steps_of route)
+
+abbrev pub whole_of : Route → Entry → List (List ℕ)
+whole_of route entry = path_of route ++ string_bytes entry.key ∷ []
+
 -- what an entry defines in the table at the end of a route
 abbrev pub along_route : Route → Entry → Edit
 along_route route entry = along (steps_of route) (at_key (string_bytes entry.key) (definition_view entry.what))
+
+-- the fault of a key that is passed, here
+abbrev pub IsPassed : Passed → (here : ℕ) → Fault → Type 0
+IsPassed passed here found = IfAgain found (λ key first second. (key ≡ passed.key.now) × (first ≡ passed.first) × (second ≡ here))
 
 -- what was read of a document
 abbrev pub document_view : CodeDocument → Document

@@ -1,11 +1,12 @@
 //! Documents, expression by expression.
-ghost use Rattle.std.specs.Prelude.{◌≡◌, ◌≤◌, IfErr, length};
-ghost use Rattle.toml_parser.specs.Reading.{key_view};
+ghost use Rattle.std.specs.Prelude.{◌≡◌, ◌≤◌, ◌++◌, IfErr, IfOk, length};
+ghost use Rattle.toml_parser.specs.Reading.{key_view, path_view};
 ghost use Rattle.toml.specs.Parse.{header_key, skip_bom};
 ghost use Rattle.toml_ordered.specs.Data.{entries_view, node_view};
-ghost use Rattle.toml_ordered.specs.Drafts.{sealed};
+ghost use Rattle.toml_ordered.specs.Drafts.{sealed, table_view};
+ghost use Rattle.toml_ordered.specs.Firsts.{AddsFirsts, IfAgain, IsAgain, keys_firsts};
 ghost use Rattle.toml_ordered.specs.Grammar as spec;
-ghost use Rattle.toml_ordered.specs.Places.{IsPlaced};
+ghost use Rattle.toml_ordered.specs.Places.{IsConflict, IsPlaced, PairsConflict, key_parts, whole_path};
 ghost use Rattle.toml_ordered.specs.Reading.{Gives, Reads, Shortens, definition_view, document_view, expression_view};
 ghost use Rattle.toml_ordered.specs.Tables.{define, defined_header, defined_pair};
 
@@ -34,7 +35,11 @@ impl Document {
         expression: (Key, Definition),
         left: usize,
     ) -> Result<(), Fault>
-        ensures { Gives (λ _. document_view self.new) result (define (document_view self.old) (expression_view expression)) }
+        ensures value { Gives (λ _. document_view self.new) result (define (document_view self.old) (expression_view expression)) }
+        ensures firsts { IfOk result (λ _. AddsFirsts (whole_path (document_view self.old) (key_view expression.0) (definition_view expression.1)) left
+            (table_view self.old.root) (keys_firsts self.old.root.keys.items) (keys_firsts self.new.root.keys.items)) }
+        ensures again { IfErr result (IsAgain (whole_path (document_view self.old) (key_view expression.0) (definition_view expression.1)) left
+            (keys_firsts self.old.root.keys.items)) }
     {
         let (key, what) = expression;
         match what {
@@ -45,7 +50,10 @@ impl Document {
 
     /// Defines a pair, in the table of the last header.
     fn define_pair(&mut self, alloc: Global, key: Key, node: Node, left: usize) -> Result<(), Fault>
-        ensures { Gives (λ _. document_view self.new) result (defined_pair (document_view self.old) (key_view key) (sealed (node_view node))) }
+        ensures value { Gives (λ _. document_view self.new) result (defined_pair (document_view self.old) (key_view key) (sealed (node_view node))) }
+        ensures firsts { IfOk result (λ _. AddsFirsts (path_view self.old.section.items ++ key_parts (key_view key)) left (table_view self.old.root)
+            (keys_firsts self.old.root.keys.items) (keys_firsts self.new.root.keys.items)) }
+        ensures again { IfErr result (IsAgain (path_view self.old.section.items ++ key_parts (key_view key)) left (keys_firsts self.old.root.keys.items)) }
     {
         let Key { path, last } = key;
         let route = Route {
@@ -74,7 +82,10 @@ impl Document {
         what: Definition,
         left: usize,
     ) -> Result<(), Fault>
-        ensures { Gives (λ _. document_view self.new) result (defined_header (document_view self.old) (key_view key) (definition_view what)) }
+        ensures value { Gives (λ _. document_view self.new) result (defined_header (document_view self.old) (key_view key) (definition_view what)) }
+        ensures firsts { IfOk result (λ _. AddsFirsts (key_parts (key_view key)) left (table_view self.old.root)
+            (keys_firsts self.old.root.keys.items) (keys_firsts self.new.root.keys.items)) }
+        ensures again { IfErr result (IsAgain (key_parts (key_view key)) left (keys_firsts self.old.root.keys.items)) }
     {
         let Key { mut path, last } = key;
         let route = Route {
@@ -108,6 +119,7 @@ impl Document {
 pub fn read_document(alloc: Global, text: &str) -> Result<Nodes, Fault>
     ensures value { Gives (λ root. entries_view root.items) result (spec.ordered_document text.now) }
     ensures placed { IfErr result (IsPlaced text.now) }
+    ensures conflict { IfErr result (IsConflict text.now) }
 {
     let mut read = Document {
         root: OpenTable::new(alloc),
@@ -146,6 +158,7 @@ fn past_mark(s: &str) -> &str
 fn line(alloc: Global, s: &str) -> Result<((Key, Definition), &str), Fault>
     ensures value { Reads expression_view result (spec.line s.now) }
     ensures shorter { Shortens s.now result }
+    ensures conflict { IfErr result (λ fault. IfAgain fault (PairsConflict s.now)) }
 {
     let (expression, rest) = expression(alloc, s)?;
     let end = skip_ws(rest);
@@ -160,6 +173,7 @@ fn line(alloc: Global, s: &str) -> Result<((Key, Definition), &str), Fault>
 fn expression(alloc: Global, s: &str) -> Result<((Key, Definition), &str), Fault>
     ensures value { Reads expression_view result (spec.expression s.now) }
     ensures shorter { Shortens s.now result }
+    ensures conflict { IfErr result (λ fault. IfAgain fault (PairsConflict s.now)) }
 {
     if first(s) == b'[' && byte_at(s, 1) == b'[' {
         let (key, rest) = header_key(alloc, skip(s, 2))?;
@@ -181,6 +195,7 @@ fn expression(alloc: Global, s: &str) -> Result<((Key, Definition), &str), Fault
 fn header_key(alloc: Global, s: &str) -> Result<(Key, &str), Fault>
     ensures value { Reads key_view result (header_key s.now) }
     ensures shorter { Shortens s.now result }
+    ensures once { IfErr result (λ fault. IfAgain fault (λ _ _ _. ⊥)) }
 {
     let (key, rest) = dotted_key(alloc, skip_ws(s))?;
     if first(rest) != b']' {

@@ -1,5 +1,5 @@
 //! Tables while a document is read. Each has an index of its keys, so that none is searched for one by one.
-ghost use Rattle.std.specs.Prelude.{◌≡◌, ◌<◌, ℕ, IfErr, IfOk, IfSome, List, MatchOption, None, OnOk, Some, bytes_eq, length, string_bytes};
+ghost use Rattle.std.specs.Prelude.{◌≡◌, ◌<◌, ℕ, [], ◌∷◌, ◌++◌, IfErr, IfOk, IfSome, List, MatchOption, None, OnOk, Some, bytes_eq, length, string_bytes};
 ghost use Rattle.std.specs.BTreeMap.{get_by_text};
 ghost use Rattle.std.specs.Map.{update};
 ghost use Rattle.toml_ordered.specs.Data.{entries_view, no_nodes, node_view};
@@ -39,7 +39,8 @@ pub(crate) struct OpenTable {
 impl OpenTable {
     /// Makes a table without keys.
     pub(crate) fn new(alloc: Global) -> OpenTable
-        ensures { spec.table_view result ≡ no_nodes }
+        ensures view { spec.table_view result ≡ no_nodes }
+        ensures keys { result.keys.items ≡ [] }
     {
         OpenTable {
             keys: Vec::new(alloc),
@@ -84,7 +85,9 @@ pub(crate) fn append(
     left: usize,
 ) -> Result<(), Fault>
     requires { get_node (string_bytes key) (keys_view keys.old.items index.old) ≡ None }
-    ensures { Gives (λ _. keys_view keys.new.items index.new) result
+    ensures last { IfOk result (λ _. keys.new.items ≡ keys.old.items ++ (key, draft, left) ∷ []) }
+    ensures failed { IfErr result IsMemory }
+    ensures value { Gives (λ _. keys_view keys.new.items index.new) result
         (Some (append (keys_view keys.old.items index.old) (string_bytes key) (draft_view draft))) }
 {
     let at = keys.len();

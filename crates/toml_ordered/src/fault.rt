@@ -1,7 +1,8 @@
 //! Why a text isn't read.
 ghost use Rattle.std.specs.Prelude.{◌≡◌, ◌≤◌, IfSome, length};
-ghost use Rattle.toml_ordered.specs.Places.{place_left};
+ghost use Rattle.toml_ordered.specs.Places.{moved_to, moved_within, place_left};
 ghost use Rattle.toml_ordered.specs.Reading.{IsMemory, fault_of};
+ghost use Rattle.toml_ordered.specs.declared.fault.Fault.TheVariants as fault;
 
 use std::alloc::{AllocError, AllocFailed};
 use toml_parser::{ErrorKind, ParseError};
@@ -28,6 +29,7 @@ impl Fault {
     pub(crate) fn here_or_behind(self, start: &str) -> Fault
         ensures memory { IsMemory self → IsMemory result }
         ensures place { IfSome (place_left result) (λ left. left ≤ length start.now) }
+        ensures moved { result ≡ moved_within (length start.now) self }
     {
         let most = start.len();
         match self {
@@ -47,6 +49,7 @@ impl Fault {
     pub(crate) fn here(self, start: &str) -> Fault
         ensures memory { IsMemory self → IsMemory result }
         ensures place { IfSome (place_left result) (λ left. left ≡ length start.now) }
+        ensures moved { result ≡ moved_to (length start.now) self }
     {
         let left = start.len();
         match self {
@@ -98,6 +101,8 @@ impl<T: Drop> From<AllocFailed<T>> for Fault {
 }
 
 /// Returns that the text can't go on where this is left of it.
-pub(crate) fn not_toml(rest: &str) -> Fault {
+pub(crate) fn not_toml(rest: &str) -> Fault
+    ensures { result ≡ fault.NotToml (length rest.now) }
+{
     Fault::NotToml { left: rest.len() }
 }

@@ -1,7 +1,8 @@
 //! The rules by which keys and headers define tables.
-ghost use Rattle.std.specs.Prelude.{◌≡◌, IfOk, option_map, string_bytes};
+ghost use Rattle.std.specs.Prelude.{◌≡◌, ◌⊎◌, [], ◌∷◌, IfErr, IfOk, IfSome, Some, option_map, string_bytes};
 ghost use Rattle.toml_ordered.specs.Drafts.{draft_view, keys_view};
-ghost use Rattle.toml_ordered.specs.Reading.{Gives, along_route, definition_view};
+ghost use Rattle.toml_ordered.specs.Firsts.{AddsFirsts, IsAgain, draft_firsts, keys_firsts, keys_in, no_firsts};
+ghost use Rattle.toml_ordered.specs.Reading.{Gives, IsPassed, along_route, definition_view, whole_of};
 ghost use Rattle.toml_ordered.specs.Tables as spec;
 
 use crate::drafts::{Draft, Index, Keys, append, find, finish};
@@ -39,7 +40,9 @@ struct Passed<'a> {
 impl Passed<'_> {
     /// Returns the fault of what takes no more.
     #[cold]
-    fn defined_again(self, alloc: Global, second: usize) -> Fault {
+    fn defined_again(self, alloc: Global, second: usize) -> Fault
+        ensures { IsPassed self.entry second result }
+    {
         match String::from_str(alloc, self.key) {
             Ok(key) => Fault::DefinedAgain {
                 key,
@@ -60,7 +63,10 @@ pub(crate) fn define_at(
     route: Route<'_>,
     entry: Entry,
 ) -> Result<(), Fault>
-    ensures { Gives (λ _. keys_view keys.new.items index.new) result (along_route route.entry entry (keys_view keys.old.items index.old)) }
+    ensures value { Gives (λ _. keys_view keys.new.items index.new) result (along_route route.entry entry (keys_view keys.old.items index.old)) }
+    ensures firsts { IfOk result (λ _. AddsFirsts (whole_of route.entry entry) entry.left (keys_view keys.old.items index.old)
+        (keys_firsts keys.old.items) (keys_firsts keys.new.items)) }
+    ensures again { IfErr result (IsAgain (whole_of route.entry entry) entry.left (keys_firsts keys.old.items)) }
 {
     let Some((way, key, rest)) = route.split() else {
         return at_key(alloc, keys, index, entry);
@@ -93,7 +99,11 @@ fn pass(
     route: Route<'_>,
     entry: Entry,
 ) -> Result<Draft, Fault>
-    ensures { Gives draft_view result (spec.passed passed.entry.way (along_route route.entry entry) (draft_view draft)) }
+    ensures value { Gives draft_view result (spec.passed passed.entry.way (along_route route.entry entry) (draft_view draft)) }
+    ensures firsts { IfOk result (λ after. AddsFirsts (whole_of route.entry entry) entry.left (keys_in (Some (draft_view draft)))
+        (draft_firsts draft) (draft_firsts after)) }
+    ensures again { IfErr result (λ fault. IsPassed passed.entry entry.left fault
+        ⊎ IsAgain (whole_of route.entry entry) entry.left (draft_firsts draft) fault) }
 {
     match draft {
         Draft::Table(origin, mut inner, mut index) => {
@@ -115,8 +125,11 @@ fn pass(
 }
 
 fn at_key(alloc: Global, keys: &mut Keys, index: &mut Index, entry: Entry) -> Result<(), Fault>
-    ensures { Gives (λ _. keys_view keys.new.items index.new) result
+    ensures value { Gives (λ _. keys_view keys.new.items index.new) result
         (spec.at_key (string_bytes entry.key) (definition_view entry.what) (keys_view keys.old.items index.old)) }
+    ensures firsts { IfOk result (λ _. AddsFirsts (string_bytes entry.key ∷ []) entry.left (keys_view keys.old.items index.old)
+        (keys_firsts keys.old.items) (keys_firsts keys.new.items)) }
+    ensures again { IfErr result (IsAgain (string_bytes entry.key ∷ []) entry.left (keys_firsts keys.old.items)) }
 {
     let Entry { key, what, left } = entry;
     match find(keys, index, key.as_str()) {
@@ -136,7 +149,8 @@ fn at_key(alloc: Global, keys: &mut Keys, index: &mut Index, entry: Entry) -> Re
 
 /// Returns a value that a header defines once more; `None` where it can't.
 fn redefine(alloc: Global, what: Definition, draft: Draft) -> Result<Option<Draft>, AllocError>
-    ensures { IfOk result (λ new. spec.redefine (definition_view what) (draft_view draft) ≡ option_map draft_view new) }
+    ensures value { IfOk result (λ new. spec.redefine (definition_view what) (draft_view draft) ≡ option_map draft_view new) }
+    ensures firsts { IfOk result (λ new. IfSome new (λ after. (draft_firsts after ≡ draft_firsts draft) ⊎ (draft_firsts after ≡ no_firsts))) }
 {
     match (what, draft) {
         (Definition::Table, Draft::Table(Origin::Implicit, inner, index)) => {
@@ -153,7 +167,8 @@ fn redefine(alloc: Global, what: Definition, draft: Draft) -> Result<Option<Draf
 
 /// Returns what a key holds that was not there.
 fn new_draft(alloc: Global, what: Definition) -> Draft
-    ensures { draft_view result ≡ spec.new_node (definition_view what) }
+    ensures value { draft_view result ≡ spec.new_node (definition_view what) }
+    ensures firsts { draft_firsts result ≡ no_firsts }
 {
     match what {
         Definition::Value(node) => Draft::Value(node),

@@ -1,10 +1,12 @@
 //! Values: strings, scalars, arrays and tables in braces.
-ghost use Rattle.std.specs.Prelude.{◌≡◌, ℕ, ◌<◌, ◌≤◌, [], ◌∷◌, ◌++◌, IfOk, length, string_bytes};
+ghost use Rattle.std.specs.Prelude.{◌≡◌, ℕ, ◌<◌, ◌≤◌, [], ◌∷◌, ◌++◌, IfErr, IfOk, length, string_bytes};
 ghost use Rattle.toml_parser.specs.Reading.{key_view};
 ghost use Rattle.toml.specs.Parse.{after_element, key_equals};
 ghost use Rattle.toml_ordered.specs.Data.{entries_view, items_view, no_items, no_nodes, node_view};
 ghost use Rattle.toml_ordered.specs.Drafts.{sealed, table_view};
+ghost use Rattle.toml_ordered.specs.Firsts.{AddsFirsts, IfAgain, IsAgain, keys_firsts};
 ghost use Rattle.toml_ordered.specs.Grammar as spec;
+ghost use Rattle.toml_ordered.specs.Places.{PairsConflict, key_parts};
 ghost use Rattle.toml_ordered.specs.Reading.{Gives, Reads, Shortens};
 ghost use Rattle.toml_ordered.specs.Tables as tables;
 
@@ -22,6 +24,7 @@ use toml_parser::{Key, Scalar, dotted_key, quoted, starts_string, unquoted};
 pub(crate) fn value(alloc: Global, s: &str, depth: usize) -> Result<(Node, &str), Fault>
     ensures value { Reads node_view result (spec.val depth s.now) }
     ensures shorter { Shortens s.now result }
+    ensures conflict { IfErr result (λ fault. IfAgain fault (PairsConflict s.now)) }
 {
     let byte = first(s);
     if byte != b'[' && byte != b'{' {
@@ -44,6 +47,7 @@ pub(crate) fn value(alloc: Global, s: &str, depth: usize) -> Result<(Node, &str)
 fn array(alloc: Global, s: &str, depth: usize) -> Result<(Vec<Node>, &str), Fault>
     ensures value { (n : ℕ) → length s.now < n → Reads (λ found. items_view found.items) result (spec.items (spec.val depth) n no_items s.now) }
     ensures shorter { Shortens s.now result }
+    ensures conflict { IfErr result (λ fault. IfAgain fault (PairsConflict s.now)) }
 {
     let mut found = Vec::new(alloc);
     let mut rest = s;
@@ -63,6 +67,7 @@ fn array(alloc: Global, s: &str, depth: usize) -> Result<(Vec<Node>, &str), Faul
 fn braces(alloc: Global, s: &str, depth: usize) -> Result<(Nodes, &str), Fault>
     ensures value { (n : ℕ) → length s.now < n → Reads (λ found. entries_view found.items) result (spec.members (spec.val depth) n no_nodes s.now) }
     ensures shorter { Shortens s.now result }
+    ensures conflict { IfErr result (λ fault. IfAgain fault (PairsConflict s.now)) }
 {
     let mut found = OpenTable::new(alloc);
     let mut rest = s;
@@ -86,7 +91,10 @@ fn put(
     value: Node,
     left: usize,
 ) -> Result<(), Fault>
-    ensures { Gives (λ _. table_view table.new) result (tables.put (key_view key) (sealed (node_view value)) (table_view table.old)) }
+    ensures value { Gives (λ _. table_view table.new) result (tables.put (key_view key) (sealed (node_view value)) (table_view table.old)) }
+    ensures firsts { IfOk result (λ _. AddsFirsts (key_parts (key_view key)) left (table_view table.old)
+        (keys_firsts table.old.keys.items) (keys_firsts table.new.keys.items)) }
+    ensures again { IfErr result (IsAgain (key_parts (key_view key)) left (keys_firsts table.old.keys.items)) }
 {
     let Key { path, last } = key;
     let route = Route {
@@ -106,6 +114,7 @@ fn put(
 fn past_element(s: &str, closing: u8) -> Result<&str, Fault>
     ensures value { Gives (λ rest. rest.now) result (after_element closing s.now) }
     ensures within { IfOk result (λ rest. length rest.now ≤ length s.now) }
+    ensures once { IfErr result (λ fault. IfAgain fault (λ _ _ _. ⊥)) }
 {
     let rest = skip_blank(s, true);
     if first(rest) == b',' {
@@ -121,6 +130,7 @@ fn past_element(s: &str, closing: u8) -> Result<&str, Fault>
 pub(crate) fn key_and_equals(alloc: Global, s: &str) -> Result<(Key, &str), Fault>
     ensures value { Reads key_view result (key_equals s.now) }
     ensures shorter { Shortens s.now result }
+    ensures once { IfErr result (λ fault. IfAgain fault (λ _ _ _. ⊥)) }
 {
     let (key, rest) = dotted_key(alloc, s)?;
     if first(rest) != b'=' {
@@ -133,6 +143,7 @@ pub(crate) fn key_and_equals(alloc: Global, s: &str) -> Result<(Key, &str), Faul
 fn atom(alloc: Global, s: &str) -> Result<(Node, &str), Fault>
     ensures value { Reads node_view result (spec.atom s.now) }
     ensures shorter { Shortens s.now result }
+    ensures once { IfErr result (λ fault. IfAgain fault (λ _ _ _. ⊥)) }
 {
     if starts_string(s) {
         let (text, rest) = quoted(alloc, s)?;

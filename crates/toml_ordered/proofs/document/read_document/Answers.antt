@@ -1,7 +1,10 @@
 use Rattle.std.proofs.Common.{◌≡◌, ◌==◌, ◌≤◌, ◌-◌, suc, length, false, inl, inr, ◌∙◌, rules, arith}
 use Rattle.std.proofs.lemmas.Grind.{common_steps}
 use Rattle.toml_parser.specs.Lexical.{skip_blank}
+use Rattle.std.proofs.Common.{ap}
+use Rattle.toml_ordered.proofs.Conflicts.{braces_conflict, expressions_conflict, knows_more, knows_none, reads_more}
 use Rattle.toml_ordered.proofs.Stopping.{placed}
+use Rattle.toml_ordered.specs.Firsts.{keys_firsts}
 use Rattle.toml_ordered.proofs.Turns.{document_none, document_some, lines_end, lines_more, lines_bad, lines_again}
 use Rattle.toml_ordered.specs.Reading.{IsMemory, document_view}
 use Rattle.toml_ordered.specs.Tables.{Document}
@@ -13,7 +16,9 @@ lines-init c = (
   c.past_mark-rest.ensures.within,
   suc (length c.args.text.now),
   omega (arith, c.past_mark-rest.ensures.within),
-  rw (c.past_mark-rest.ensures.rest, c.new.ensures, c.new-2.ensures.items),
+  rw (c.past_mark-rest.ensures.rest, c.new.ensures.view, c.new-2.ensures.items),
+  knows_none c.args.text.now c.past_mark-rest.result.now _ (ap keys_firsts c.new.ensures.keys),
+  (0, rw (c.past_mark-rest.ensures.rest, c.new.ensures.view, c.new-2.ensures.items)),
 )
 
 pub returns-then-is_empty-clause-value : goal.returns-then-is_empty-clause-value
@@ -47,7 +52,7 @@ returns-in-Err-clause-placed c =
     c.here_or_behind.ensures.place λ real left within. record {
       doc = document_view l.read;
       rest = l.rest.now;
-      read = record { most = l.invariant.2; room = l.invariant.3; goes_on = l.invariant.4 };
+      read = l.invariant.6;
       refused = inl (rw start_is at (c.in-Err.ensures.value real), rw start_is at within);
     }
 
@@ -62,7 +67,7 @@ returns-in-Err-define-clause-value c refused =
     let other : (length (skip_blank l.rest.now) == 0) ≡ false = grind (arith, common_steps) in
     let read = rw start_is at c.in-Ok.ensures.value in
     let real : IsMemory c.in-Err-define.fault → ⊥ = λ memory. refused (c.here.ensures.memory memory) in
-    document_none c.args.text.now (loop ∙ lines_again m doc l.rest.now _ _ (omega arith) other read (c.in-Err-define.ensures real))
+    document_none c.args.text.now (loop ∙ lines_again m doc l.rest.now _ _ (omega arith) other read (c.in-Err-define.ensures.value real))
 
 pub returns-in-Err-define-clause-placed : goal.returns-in-Err-define-clause-placed
 returns-in-Err-define-clause-placed c =
@@ -73,8 +78,8 @@ returns-in-Err-define-clause-placed c =
     c.here.ensures.place λ real left here. record {
       doc = document_view l.read;
       rest = l.rest.now;
-      read = record { most = l.invariant.2; room = l.invariant.3; goes_on = l.invariant.4 };
-      refused = inr (_, _, read, c.in-Err-define.ensures real, rw start_is at here);
+      read = l.invariant.6;
+      refused = inr (_, _, read, c.in-Err-define.ensures.value real, rw start_is at here);
     }
 
 pub lines-preserved : goal.lines-preserved
@@ -88,5 +93,41 @@ lines-preserved c =
     let other : (length (skip_blank l.rest.now) == 0) ≡ false = grind (arith, common_steps) in
     let read = rw start_is at c.in-Ok.ensures.value in
     let shorter = c.in-Ok.ensures.shorter in
-    let before = c.skip_blank-start.ensures.within in
-    (search rules, omega (arith, l.invariant.1), m - 1, omega arith, loop ∙ lines_more m doc _ l.rest.now _ _ (omega arith) other read c.in_default.ensures)
+    let before = c.skip_blank-start.ensures.within in (
+      search rules,
+      omega (arith, l.invariant.1),
+      m - 1,
+      omega arith,
+      loop ∙ lines_more m doc _ l.rest.now _ _ (omega arith) other read c.in_default.ensures.value,
+      knows_more c.args.text.now l.rest.now c.in-Ok.found.1.now doc _ (length c.skip_blank-start.result.now) _ _ l.invariant.5
+          (record {
+            rest = l.rest.now;
+            after = c.in-Ok.found.1.now;
+            read = l.invariant.6;
+            begins = read;
+            here = ap length start_is;
+          }) before shorter c.in_default.ensures.firsts,
+      reads_more c.args.text.now doc _ l.rest.now _ _ l.invariant.6 read c.in_default.ensures.value,
+    )
+
+pub returns-in-Err-clause-conflict : goal.returns-in-Err-clause-conflict
+returns-in-Err-clause-conflict c =
+    let l = c.lines in
+    let start_is = c.skip_blank-start.ensures.rest in
+    braces_conflict c.args.text.now l.rest.now (document_view l.read) c.in-Err.fault c.here_or_behind.result
+    l.invariant.6
+    (rw start_is at c.in-Err.ensures.conflict) (rw start_is at c.here_or_behind.ensures.moved)
+
+pub returns-in-Err-define-clause-conflict : goal.returns-in-Err-define-clause-conflict
+returns-in-Err-define-clause-conflict c =
+    let l = c.lines in
+    let start_is = c.skip_blank-start.ensures.rest in
+    let read = rw start_is at c.in-Ok.ensures.value in
+    expressions_conflict c.args.text.now l.rest.now (document_view l.read) _ (length c.skip_blank-start.result.now) _ c.in-Err-define.fault c.here.result l.invariant.5
+    (record {
+      rest = l.rest.now;
+      after = c.in-Ok.found.1.now;
+      read = l.invariant.6;
+      begins = read;
+      here = ap length start_is;
+    }) c.skip_blank-start.ensures.within c.in-Err-define.ensures.value c.in-Err-define.ensures.again c.here.ensures.moved

@@ -7,8 +7,8 @@ use Rattle.toml_ordered.specs.Data.{Nodes}
 use Rattle.toml_ordered.specs.Drafts.{keys_view}
 use Rattle.toml_ordered.proofs.drafts.append.Goals as goal
 
-pub returns : goal.returns
-returns c =
+pub returns-clause-value : goal.returns-clause-value
+returns-clause-value c =
     let es = c.args.keys.now.items in
     let before = c.args.index.now in
     let after = c.note.new.index in

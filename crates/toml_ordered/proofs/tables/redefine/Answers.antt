@@ -8,8 +8,8 @@ use Rattle.toml_ordered.specs.Tables.{array_table, redefine}
 use Rattle.toml_ordered.specs.declared.tree.Origin.TheVariants.{Closed}
 use Rattle.toml_ordered.proofs.tables.redefine.Goals as goal
 
-pub returns-in_ok-push-in-Tables-Tables : goal.returns-in_ok-push-in-Tables-Tables
-returns-in_ok-push-in-Tables-Tables c =
+pub returns-in_ok-push-in-Tables-Tables-clause-value : goal.returns-in_ok-push-in-Tables-Tables-clause-value
+returns-in_ok-push-in-Tables-Tables-clause-value c =
     let both = c.in-Tables-Tables in
     let last = c.in_ok-last-in-Tables-Tables.last in
     let pushed = c.in_ok-push-in-Tables-Tables.ensures.items in

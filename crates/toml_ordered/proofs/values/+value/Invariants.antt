@@ -1,9 +1,12 @@
-use Rattle.std.proofs.Common.{◌≡◌, ℕ, ◌+◌, ◌*◌, ◌<◌, ◌≤◌, length}
+use Rattle.std.proofs.Common.{◌≡◌, ℕ, ◌+◌, ◌*◌, ◌<◌, ◌≤◌, Some, length}
 use denote.Text.{Utf8}
 use denote.Shadow.{shadow}
 use Rattle.toml_ordered.specs.Data.{no_items, no_nodes, items_view}
 use Rattle.toml_ordered.specs.Drafts.{table_view}
+use Rattle.toml_ordered.specs.Firsts.{keys_firsts}
 use Rattle.toml_ordered.specs.Grammar.{val, items, members}
+use Rattle.toml_ordered.specs.Places.{EndsWith, after_pairs}
+use Rattle.toml_ordered.proofs.Conflicts.{KnowsPairs}
 use Rattle.toml_ordered.proofs.values.+value.Given as goal
 
 abbrev pub decreases-array : goal.decreases-array
@@ -21,6 +24,7 @@ invariant-array-items l =
     shadow (Utf8 l.rest) × (length l.rest ≤ length l.fn.s)
     × ((n : ℕ) → length l.fn.s < n → (m : ℕ) × (length l.rest < m)
     × (items (val l.fn.depth) n no_items l.fn.s ≡ items (val l.fn.depth) m (items_view l.found.items) l.rest))
+    × EndsWith l.fn.s l.rest
 
 abbrev pub decreases-array-items : goal.decreases-array-items
 decreases-array-items l = length l.rest
@@ -30,6 +34,8 @@ invariant-braces-members l =
     shadow (Utf8 l.rest) × (length l.rest ≤ length l.fn.s)
     × ((n : ℕ) → length l.fn.s < n → (m : ℕ) × (length l.rest < m)
     × (members (val l.fn.depth) n no_nodes l.fn.s ≡ members (val l.fn.depth) m (table_view l.found) l.rest))
+    × EndsWith l.fn.s l.rest × KnowsPairs l.fn.depth l.fn.s (keys_firsts l.found.keys.items) l.rest
+    × (count : ℕ) × (after_pairs l.fn.depth count l.fn.s ≡ Some (table_view l.found, l.rest))
 
 abbrev pub decreases-braces-members : goal.decreases-braces-members
 decreases-braces-members l = length l.rest

@@ -2,10 +2,10 @@ use Rattle.std.proofs.Common.{rules}
 use Rattle.toml_ordered.specs.Tables.{define}
 use Rattle.toml_ordered.proofs.document.Document.define.Goals as goal
 
-pub returns-in-Value : goal.returns-in-Value
+pub returns-in-Value-clause-value : goal.returns-in-Value-clause-value
 unfolding define
-returns-in-Value c = search rules
+returns-in-Value-clause-value c = search rules
 
-pub returns-in_default : goal.returns-in_default
+pub returns-in_default-clause-value : goal.returns-in_default-clause-value
 unfolding define
-returns-in_default c = search rules
+returns-in_default-clause-value c = search rules

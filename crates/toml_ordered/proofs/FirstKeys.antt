@@ -1,0 +1,198 @@
+-- Where the keys of a table were first defined, before and after a definition.
+use Rattle.std.proofs.Common.{◌≡◌, ℕ, zero, suc, List, [], ◌∷◌, ◌++◌, map, Some, None, String, Vec, Global, string_bytes, refl, sym, ap, subst, ◌∙◌}
+use Rattle.std.proofs.Common.{inl, inr, ◌⊎◌, rules, set, get_or}
+use Rattle.std.proofs.Common.{Result, Ok, Err}
+use Rattle.std.specs.Result.{IfErr, IsErrAnd}
+use Rattle.std.proofs.lemmas.Slice.Eq.{bytes_eq-Decides}
+use Rattle.toml_ordered.specs.declared.drafts.Draft.{Draft as CodeDraft, Table as DraftTable, Tables as DraftTables, Value as DraftValue}
+use Rattle.toml_ordered.specs.declared.drafts.Draft.{the_lemmas}
+use Rattle.toml_ordered.specs.declared.fault.Fault.{Fault}
+use Rattle.toml_ordered.specs.declared.fault.Fault.TheVariants as fault
+use Rattle.toml_ordered.specs.declared.tree.Node.{Node as CodeNode}
+use Rattle.toml_ordered.specs.declared.tree.Origin.{Origin}
+use Rattle.toml_ordered.proofs.DraftKeys.{Draft, Places}
+use Rattle.toml_ordered.specs.Data.{Node, Nodes, no_nodes}
+use Rattle.toml_ordered.specs.Drafts.{HasKey}
+use Rattle.toml_ordered.specs.Firsts.{Firsts, no_firsts, HasFirst, draft_firsts, keys_firsts, keys_in, keys_at, PassesKey, IsNewKey, AddsFirsts, IfAgain, IsAgain}
+use Rattle.toml_ordered.specs.Tables.{get_node, steps}
+
+pub draft_firsts-Value : (x : CodeNode) → draft_firsts (DraftValue x) ≡ no_firsts
+draft_firsts-Value x = search (rules, the_lemmas)
+
+pub draft_firsts-Table : (origin : Origin) (keys : Vec Draft Global) (index : Places) → draft_firsts (DraftTable origin keys index) ≡ keys_firsts keys.items
+draft_firsts-Table origin keys index = search (rules, the_lemmas)
+
+pub draft_firsts-Tables : (done : Vec CodeNode Global) (keys : Vec Draft Global) (index : Places)
+    → draft_firsts (DraftTables done keys index) ≡ keys_firsts keys.items
+draft_firsts-Tables done keys index = search (rules, the_lemmas)
+
+-- ---- lists of keys
+
+abbrev Path : Type 0
+Path = List (List ℕ)
+
+-- inside of a key
+abbrev Under : (step : List ℕ) → (inner : Firsts) → Path → (key : List ℕ) → (left : ℕ) → Type 0
+Under step inner path key left = (path' : Path) × (path ≡ step ∷ path') × HasFirst inner path' key left
+
+-- a key that goes last
+pub of_last : (es : List Draft) (w : Draft) (path : Path) (key : List ℕ) (left : ℕ) → HasFirst (keys_firsts (es ++ w ∷ [])) path key left
+    → HasFirst (keys_firsts es) path key left ⊎ HasFirst (keys_firsts (w ∷ [])) path key left
+of_last [] w path key left has = inr has
+of_last (e ∷ es) w [] key left (inl here) = inl (inl here)
+of_last (e ∷ es) w [] key left (inr has) = elim (of_last es w [] key left has) [
+  | inl old ↦ inl (inr old)
+  | inr new ↦ inr new
+]
+of_last (e ∷ es) w (step ∷ path) key left (inl here) = inl (inl here)
+of_last (e ∷ es) w (step ∷ path) key left (inr has) = elim (of_last es w (step ∷ path) key left has) [
+  | inl old ↦ inl (inr old)
+  | inr new ↦ inr new
+]
+
+-- another value at the place of a key
+pub of_written : (k : List ℕ) (at : ℕ) (es : List Draft) (d u w : Draft) → HasKey k at es → w.0 ≡ (get_or es at d).0 → w.2 ≡ (get_or es at d).2
+    → (path : Path) (key : List ℕ) (left : ℕ) → HasFirst (keys_firsts (set (set es at u) at w)) path key left
+    → HasFirst (keys_firsts es) path key left ⊎ Under (string_bytes w.0) (draft_firsts w.1) path key left
+of_written k at [] d u w has name place path key left first = absurd has
+of_written k zero (e ∷ es) d u w has name place [] key left (inl here) =
+    inl (inl (here.0 ∙ ap (λ (s : String Global). string_bytes s) name, here.1 ∙ place))
+of_written k zero (e ∷ es) d u w has name place [] key left (inr first) = inl (inr first)
+of_written k zero (e ∷ es) d u w has name place (step ∷ path) key left (inl here) = inr (path, ap (λ (s : List ℕ). s ∷ path) here.0, here.1)
+of_written k zero (e ∷ es) d u w has name place (step ∷ path) key left (inr first) = inl (inr first)
+of_written k (suc at) (e ∷ es) d u w has name place [] key left (inl here) = inl (inl here)
+of_written k (suc at) (e ∷ es) d u w has name place [] key left (inr first) = elim (of_written k at es d u w has name place [] key left first) [
+  | inl old ↦ inl (inr old)
+  | inr new ↦ inr new
+]
+of_written k (suc at) (e ∷ es) d u w has name place (step ∷ path) key left (inl here) = inl (inl here)
+of_written k (suc at) (e ∷ es) d u w has name place (step ∷ path) key left (inr first) =
+    elim (of_written k at es d u w has name place (step ∷ path) key left first) [
+      | inl old ↦ inl (inr old)
+      | inr new ↦ inr new
+    ]
+
+-- a key's own place, and what is inside of it
+pub has_own : (k : List ℕ) (at : ℕ) (es : List Draft) (d : Draft) → HasKey k at es → HasFirst (keys_firsts es) [] k (get_or es at d).2
+has_own k at [] d has = absurd has
+has_own k zero (e ∷ es) d has = inl ((bytes_eq-Decides k (string_bytes e.0)).0 has, refl)
+has_own k (suc at) (e ∷ es) d has = inr (has_own k at es d has)
+
+pub has_inside : (k : List ℕ) (at : ℕ) (es : List Draft) (d : Draft) → HasKey k at es → (path : Path) (key : List ℕ) (left : ℕ)
+    → HasFirst (draft_firsts (get_or es at d).1) path key left → HasFirst (keys_firsts es) (k ∷ path) key left
+has_inside k at [] d has path key left first = absurd has
+has_inside k zero (e ∷ es) d has path key left first = inl ((bytes_eq-Decides k (string_bytes e.0)).0 has, first)
+has_inside k (suc at) (e ∷ es) d has path key left first = inr (has_inside k at es d has path key left first)
+
+name_is : (k : List ℕ) (at : ℕ) (es : List Draft) (d : Draft) → HasKey k at es → k ≡ string_bytes (get_or es at d).0
+name_is k at [] d has = absurd has
+name_is k zero (e ∷ es) d has = (bytes_eq-Decides k (string_bytes e.0)).0 has
+name_is k (suc at) (e ∷ es) d has = name_is k at es d has
+
+-- ---- definitions
+
+pub passes_behind : (k : List ℕ) (whole path : Path) (key : List ℕ) → PassesKey whole path key → PassesKey (k ∷ whole) (k ∷ path) key
+passes_behind k whole path key passes = (passes.0, ap (λ (p : Path). k ∷ p) passes.1)
+
+new_behind : (k : List ℕ) (whole : Path) (ns inner : Nodes) (path : Path) (key : List ℕ) → keys_in (get_node k ns) ≡ inner → IsNewKey whole inner path key
+    → IsNewKey (k ∷ whole) ns (k ∷ path) key
+new_behind k whole ns inner path key is new =
+    (passes_behind k whole path key new.0, ap (λ (keys : Nodes). get_node key (keys_at path keys)) is ∙ new.1)
+
+-- what is defined inside of a key that is there
+pub adds_inside : (k : List ℕ) (whole : Path) (here : ℕ) (ns : Nodes) (x : Node) (at : ℕ) (es : List Draft) (e u : Draft) (after : CodeDraft)
+    → get_node k ns ≡ Some x → HasKey k at es → get_or es at e ≡ e → AddsFirsts whole here (keys_in (Some x)) (draft_firsts e.1) (draft_firsts after)
+    → AddsFirsts (k ∷ whole) here ns (keys_firsts es) (keys_firsts (set (set es at u) at (e.0, after, e.2)))
+adds_inside k whole here ns x at es e u after found has is_e inner path key left first =
+    elim (of_written k at es e u (e.0, after, e.2) has (ap (λ (d : Draft). d.0) (sym is_e)) (ap (λ (d : Draft). d.2) (sym is_e)) path key left first) [
+      | inl old ↦ inl old
+      | inr under ↦
+          let name : string_bytes e.0 ≡ k = ap (λ (d : Draft). string_bytes d.0) (sym is_e) ∙ sym (name_is k at es e has) in
+          let is : path ≡ k ∷ under.0 = under.1 ∙ ap (λ (s : List ℕ). s ∷ under.0) name in
+          elim (inner under.0 key left under.2) [
+            | inl old ↦
+                inl (subst (λ (p : Path). HasFirst (keys_firsts es) p key left) (sym is)
+                (has_inside k at es e has under.0 key left (subst (λ (d : Draft). HasFirst (draft_firsts d.1) under.0 key left) (sym is_e) old)))
+            | inr new ↦
+                inr (
+                  new.0,
+                  subst (λ (p : Path). IsNewKey (k ∷ whole) ns p key) (sym is)
+                      (new_behind k whole ns (keys_in (Some x)) under.0 key (ap keys_in found) new.1),
+                )
+          ]
+    ]
+
+-- a key that is missing, and what is defined inside of it
+pub adds_missing : (k : List ℕ) (whole : Path) (here : ℕ) (ns : Nodes) (es after : List Draft) (w : Draft) → string_bytes w.0 ≡ k → w.2 ≡ here
+    → get_node k ns ≡ None → AddsFirsts whole here no_nodes no_firsts (draft_firsts w.1) → after ≡ es ++ w ∷ []
+    → AddsFirsts (k ∷ whole) here ns (keys_firsts es) (keys_firsts after)
+adds_missing k whole here ns es after w name place none inner is path key left first =
+    elim (of_last es w path key left (subst (λ (ds : List Draft). HasFirst (keys_firsts ds) path key left) is first)) [
+      | inl old ↦ inl old
+      | inr last ↦ inr (by path last)
+    ]
+  where
+    by : (p : Path) → HasFirst (keys_firsts (w ∷ [])) p key left → (left ≡ here) × IsNewKey (k ∷ whole) ns p key
+    by [] (inl own) =
+        let same : key ≡ k = own.0 ∙ name in
+        (own.1 ∙ place, ((whole, ap (λ (j : List ℕ). j ∷ whole) (sym same)), ap (λ (j : List ℕ). get_node j ns) same ∙ none))
+    by [] (inr other) = absurd other
+    by (step ∷ p) (inl own) = elim (inner p key left own.1) [
+      | inl old ↦ absurd old
+      | inr new ↦
+          let same : step ≡ k = own.0 ∙ name in
+          (new.0, subst (λ (j : List ℕ). IsNewKey (k ∷ whole) ns (j ∷ p) key) (sym same) (new_behind k whole ns no_nodes p key (ap keys_in none) new.1))
+    ]
+    by (step ∷ p) (inr other) = absurd other
+
+-- what is no first defines none
+pub adds_none : (whole : Path) (here : ℕ) (ns : Nodes) (inner : Firsts) → inner ≡ no_firsts → AddsFirsts whole here ns no_firsts inner
+adds_none whole here ns inner is path key left first = absurd (subst (λ (f : Firsts). HasFirst f path key left) is first)
+
+-- a value in place of another, with the same inside of it, or nothing
+pub adds_nothing : (whole : Path) (here : ℕ) (ns : Nodes) (old new : Firsts) → (new ≡ old) ⊎ (new ≡ no_firsts) → AddsFirsts whole here ns old new
+adds_nothing whole here ns old new (inl same) path key left first = inl (subst (λ (f : Firsts). HasFirst f path key left) same first)
+adds_nothing whole here ns old new (inr gone) path key left first = absurd (subst (λ (f : Firsts). HasFirst f path key left) gone first)
+
+-- ---- keys that are defined again
+
+-- the error that a `?` passes on
+pub fails_so : {A : Type 0} (r : Result A Fault) (e : Fault) (Q P : Fault → Type 0) → IsErrAnd r Q → ((y : Fault) → Q y → y ≡ e) → P e → IfErr r P
+fails_so (Ok a) e Q P failed same holds = tt
+fails_so (Err y) e Q P failed same holds = subst P (sym (same y failed)) holds
+
+-- the key itself, which stands at the beginning of the whole path
+pub again_here : (k name : List ℕ) (rest : Path) (here place : ℕ) (at : ℕ) (es : List Draft) (e : Draft) (found : Fault) → HasKey k at es
+    → get_or es at e ≡ e → name ≡ k → place ≡ e.2 → IfAgain found (λ key first second. (key ≡ name) × (first ≡ place) × (second ≡ here))
+    → IsAgain (k ∷ rest) here (keys_firsts es) found
+again_here k name rest here place at es e fault.Memory has is_e is_name is_place passed = tt
+again_here k name rest here place at es e (fault.NotToml left) has is_e is_name is_place passed = tt
+again_here k name rest here place at es e (fault.DefinedAgain key first second) has is_e is_name is_place passed =
+    let is_key : string_bytes key ≡ k = passed.0 ∙ is_name in
+    let is_first : first ≡ (get_or es at e).2 = passed.1 ∙ is_place ∙ ap (λ (d : Draft). d.2) (sym is_e) in (
+      passed.2,
+      [],
+      subst (λ (l : List ℕ). HasFirst (keys_firsts es) [] l first) (sym is_key)
+          (subst (λ (n : ℕ). HasFirst (keys_firsts es) [] k n) (sym is_first) (has_own k at es e has)),
+      (rest, ap (λ (l : List ℕ). l ∷ rest) (sym is_key)),
+    )
+
+-- a key inside of it
+pub again_inside : (k : List ℕ) (whole : Path) (here : ℕ) (at : ℕ) (es : List Draft) (e : Draft) (found : Fault) → HasKey k at es → get_or es at e ≡ e
+    → IsAgain whole here (draft_firsts e.1) found → IsAgain (k ∷ whole) here (keys_firsts es) found
+again_inside k whole here at es e fault.Memory has is_e again = tt
+again_inside k whole here at es e (fault.NotToml left) has is_e again = tt
+again_inside k whole here at es e (fault.DefinedAgain key first second) has is_e again = (
+  again.0,
+  k ∷ again.1,
+  has_inside k at es e has again.1 (string_bytes key) first
+      (subst (λ (d : Draft). HasFirst (draft_firsts d.1) again.1 (string_bytes key) first) (sym is_e) again.2),
+  passes_behind k whole again.1 (string_bytes key) again.3,
+)
+
+-- ---- routes
+
+pub path_steps : (header dots : Path) → map (λ step. step.1) (steps header dots) ≡ header ++ dots
+path_steps [] [] = refl
+path_steps [] (k ∷ dots) = ap (λ (p : Path). k ∷ p) (path_steps [] dots)
+path_steps (k ∷ header) dots = ap (λ (p : Path). k ∷ p) (path_steps header dots)

@@ -1,0 +1,74 @@
+-- Where the keys of a table were first defined. A place is how much of the text was left there.
+use Rattle.std.specs.Prelude.{◌≡◌, ◌⊎◌, ℕ, List, [], ◌∷◌, ◌++◌, map, String, string_bytes, Option, Some, None}
+use Rattle.std.specs.declared.alloc.Global.{Global}
+use Rattle.toml_ordered.specs.Data.{Node, table, tables, Nodes, no_nodes}
+use Rattle.toml_ordered.specs.Tables.{get_node}
+use Rattle.toml_ordered.specs.declared.drafts.Draft.{Draft as CodeDraft, fold-Draft}
+use Rattle.toml_ordered.specs.declared.drafts.Draft.TheOpen.{Draft-F}
+use Rattle.toml_ordered.specs.declared.fault.Fault.{Fault}
+use Rattle.toml_ordered.specs.declared.fault.Fault.TheVariants as fault
+
+-- each key of a table with its place, and the keys inside of it
+pub data Firsts : Type 0 where
+  no_firsts : Firsts
+  first_of : (key : List ℕ) → (left : ℕ) → (inner others : Firsts) → Firsts
+
+-- the key in the table at the end of the path was first defined here
+abbrev pub HasFirst : Firsts → (path : List (List ℕ)) → (key : List ℕ) → (left : ℕ) → Type 0
+HasFirst no_firsts path key left = ⊥
+HasFirst (first_of k l inner others) [] key left = ((key ≡ k) × (left ≡ l)) ⊎ HasFirst others [] key left
+HasFirst (first_of k l inner others) (step ∷ path) key left = ((step ≡ k) × HasFirst inner path key left) ⊎ HasFirst others (step ∷ path) key left
+
+-- keys with what is inside of them, and their places
+abbrev pub firsts_of : List (String Global × Firsts × ℕ) → Firsts
+firsts_of [] = no_firsts
+firsts_of (m ∷ ms) = first_of (string_bytes m.0) m.2 m.1 (firsts_of ms)
+
+-- one level of a value, with what is inside of each key
+abbrev pub firsts_step : Draft-F Firsts → Firsts
+firsts_step (Draft-F.Value x) = no_firsts
+firsts_step (Draft-F.Table origin keys index) = firsts_of keys.items
+firsts_step (Draft-F.Tables done keys index) = firsts_of keys.items
+
+-- the keys inside of a value, and those of a table
+abbrev pub draft_firsts : CodeDraft → Firsts
+draft_firsts = fold-Draft Firsts firsts_step
+
+abbrev pub keys_firsts : List (String Global × CodeDraft × ℕ) → Firsts
+keys_firsts ms = firsts_of (map (λ m. (m.0, draft_firsts m.1, m.2)) ms)
+
+-- the keys of a table, or of the last of an array of tables
+abbrev pub keys_in : Option Node → Nodes
+keys_in (Some (table origin keys)) = keys
+keys_in (Some (tables done last)) = last
+keys_in other = no_nodes
+
+-- the keys of the table at the end of a path
+abbrev pub keys_at : List (List ℕ) → Nodes → Nodes
+keys_at [] keys = keys
+keys_at (step ∷ path) keys = keys_at path (keys_in (get_node step keys))
+
+-- the whole path goes along the path to the key, and maybe on
+abbrev pub PassesKey : (whole path : List (List ℕ)) → (key : List ℕ) → Type 0
+PassesKey whole path key = (more : List (List ℕ)) × (whole ≡ path ++ key ∷ more)
+
+-- what is defined along the whole path is the first to define the key: nothing stood there
+abbrev pub IsNewKey : (whole : List (List ℕ)) → (keys : Nodes) → (path : List (List ℕ)) → (key : List ℕ) → Type 0
+IsNewKey whole keys path key = PassesKey whole path key × (get_node key (keys_at path keys) ≡ None)
+
+-- after a definition along the whole path, here: what is first defined was so before, or is new and first defined here
+abbrev pub AddsFirsts : (whole : List (List ℕ)) → (here : ℕ) → (keys : Nodes) → (old new : Firsts) → Type 0
+AddsFirsts whole here keys old new =
+    (path : List (List ℕ)) (key : List ℕ) (left : ℕ) → HasFirst new path key left
+    → HasFirst old path key left ⊎ ((left ≡ here) × IsNewKey whole keys path key)
+
+-- of a fault that a key is defined again
+abbrev pub IfAgain : Fault → (List ℕ → (first second : ℕ) → Type 0) → Type 0
+IfAgain fault.Memory holds = Unit {0}
+IfAgain (fault.NotToml left) holds = Unit {0}
+IfAgain (fault.DefinedAgain key first second) holds = holds (string_bytes key) first second
+
+-- a definition along the whole path, here, passes a key that was first defined before
+abbrev pub IsAgain : (whole : List (List ℕ)) → (here : ℕ) → (old : Firsts) → Fault → Type 0
+IsAgain whole here old found =
+    IfAgain found (λ key first second. (second ≡ here) × (path : List (List ℕ)) × HasFirst old path key first × PassesKey whole path key)
