@@ -1,6 +1,6 @@
 -- The events of a document that doesn't nest too deep are an accepted list.
 use Rattle.yaml_json.proofs.Common.{suc, ℕ, ◌+◌, ◌≤◌, if◌then◌else◌, Bool, false, true, Option, None, Some, List, [], ◌++◌, ◌∷◌, refl, ◌≡◌, append-nil, append_assoc, subst, sym, arith}
-use Rattle.yaml_json.proofs.Common.{le-max_left, le-max_right, and_from, chars, Text, Event, scalar, sequence_start, sequence_end, mapping_start, mapping_end}
+use Rattle.yaml_json.proofs.Common.{and_from, chars, Text, Event, scalar, sequence_start, sequence_end, mapping_start, mapping_end}
 use Rattle.yaml_json.proofs.Common.{most_open, is_sound, open_count, IsAccepted, is_json_integer, yaml_number, bool_tag, bool_text, int_tag, word_content}
 use Rattle.yaml_json.proofs.Common.{text_content, collection_in, number_in, opening, closing, float_tag}
 use Rattle.std.specs.Fmt.{signed_decimal}

@@ -1,18 +1,18 @@
 -- What a call of a writer says to the walk.
 use Rattle.yaml_json.proofs.Common.{◌≡◌, ◌⊎◌, ◌∷◌, ◌++◌, [], List, Bool, Option, None, Some, Result, Ok, Err, IfErr, OnOk, inl, inr, refl, ap, subst, sym, ◌∙◌, append-nil, append_assoc}
-use Rattle.yaml_json.proofs.Common.{Event, State, WriterState, GaveEvent, Wrote, WroteEvent, IsBare, start_event, end_event, with_collection, EndsInnermost}
+use Rattle.yaml_json.proofs.Common.{Event, State, WriterState, GaveEvent, WroteEvent, IsBare, end_event, with_collection, EndsInnermost}
 use Rattle.yaml_json.proofs.Common.{AddsEvents, StandsTaken}
-use Rattle.yaml_json.proofs.WroteLemmas.{adds_then, ended, none_more, same_last, starts_with}
+use Rattle.yaml_json.proofs.WroteLemmas.{adds_then, ended, none_more, same_last}
 use Rattle.yaml_pen.{proofs.Composing.grows_itself, proofs.Composing.grows_then, proofs.Writing.none_from_result, specs.Wrote.Grows}
 use Rattle.yaml_emitter.proofs.Common.{some_from_result}
 use Rattle.yaml_base.specs.declared.errors.{yaml_error_t.yaml_error_t, yaml_error_t.TheVariants.Memory}
 use Rattle.yaml_base.specs.declared.kinds.CollectionKind.{CollectionKind}
-use Rattle.yaml_json.specs.Failing.{HasErrorSaid, StaysSound}
+use Rattle.yaml_json.specs.Failing.{HasErrorSaid}
 use Rattle.yaml_json.proofs.Common.{ap₂, Text, scalar, plain, is_none, is_some, ◌||◌}
 use Rattle.yaml_writer.specs.Times.{Moment, timestamp_text}
 use Rattle.yaml_writer.specs.Writing.{tag_or_default, timestamp_event, timestamp_tag}
 use Rattle.yaml_toml.specs.Events.{moment_content}
-use Rattle.yaml_toml.specs.Walk.{Answers, SoundAfter, Kept, SoundAfterStop, stop_error, IsStopOf, IsMemory, Moved, HasInnermost}
+use Rattle.yaml_toml.specs.Walk.{Answers, Kept, SoundAfterStop, stop_error, IsStopOf, IsMemory, Moved}
 use Rattle.yaml_toml.specs.declared.walk.Stop.{Stop}
 use Rattle.yaml_toml.specs.declared.walk.Stop.TheVariants as stop
 

@@ -1,7 +1,7 @@
 -- What is left fits what is allowed, as collections are begun and go on.
 use Rattle.yaml_json.proofs.Common.{◌≡◌, ℕ, suc, ◌+◌, ◌-◌, ◌<◌, ◌≤◌, arith, ◌∷◌, ◌++◌, [], List, Option, None, Some, Result, Ok, Err, IfSome, refl, ap, subst, sym, ◌∙◌, length, length-append, cases_lt, inl, inr}
 use Rattle.std.specs.Prelude.{◌↔◌, max}
-use Rattle.yaml_base.specs.declared.errors.{yaml_error_t.yaml_error_t, yaml_error_t.TheVariants.Memory}
+use Rattle.yaml_base.specs.declared.errors.{yaml_error_t.yaml_error_t}
 use Rattle.toml_ordered.specs.Data.{Node, Nodes}
 use Rattle.toml_ordered.specs.Grammar.{ordered_document}
 use Rattle.toml_ordered.specs.Places.{place_left}

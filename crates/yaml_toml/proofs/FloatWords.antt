@@ -1,14 +1,14 @@
 -- The characters of a float of TOML are a number of JSON.
-use Rattle.std.proofs.Common.{◌≡◌, ◌⊎◌, ℕ, zero, suc, ◌+◌, ◌-◌, ◌<◌, ◌≤◌, Bool, true, false, not, cond, pos, ◌^◌, ◌&&◌, ◌||◌, ◌==◌, List, [], ◌∷◌, ◌++◌, length, length-take, take, drop, slice_range, slice_index, get_or, codes, Option, None, Some, Float, refl, sym, ap, ap₂, subst, ◌∙◌, arith, inl, inr, bytes_eq, append_assoc, append-nil}
+use Rattle.std.proofs.Common.{◌≡◌, ◌⊎◌, ℕ, zero, suc, ◌+◌, ◌-◌, ◌<◌, Bool, true, false, not, cond, pos, ◌^◌, ◌&&◌, ◌||◌, ◌==◌, List, [], ◌∷◌, ◌++◌, length, length-take, take, drop, slice_range, slice_index, codes, Option, None, Some, Float, refl, sym, ap, ap₂, subst, ◌∙◌, arith, inl, inr, bytes_eq, append_assoc, append-nil}
 use Rattle.std.specs.Prelude.{nat_lt, nat_le, if◌then◌else◌}
 use Rattle.std.proofs.Math.Seq.{drop-length, drop-nil}
-use Rattle.std.proofs.lemmas.Bool.{and_parts, eqb-true, ltb-true, lt-ltb, or_cases, or_right, false≢true, cases_Bool, leb-true, ne_eqb, not_from_false, and_from}
-use Rattle.std.proofs.lemmas.List.{take-append-drop, length-drop, length-take-le, nil_from_length}
+use Rattle.std.proofs.lemmas.Bool.{and_parts, eqb-true, ltb-true, lt-ltb, or_cases, or_right, false≢true, leb-true, ne_eqb, not_from_false, and_from}
+use Rattle.std.proofs.lemmas.List.{take-append-drop, length-take-le, nil_from_length}
 use Rattle.std.proofs.lemmas.List.Folds.{length-prefix_len}
 use Rattle.std.proofs.lemmas.Str.{digit_value_digit}
-use Rattle.std.specs.List.{list_all, prefix_len}
+use Rattle.std.specs.List.{list_all}
 use Rattle.std.specs.Char.{is_ascii_digit, is_digit, digit_value}
-use Rattle.std.specs.Float.Numeral.{Parts, digits_len, digits_end, exponent_start, has_exponent, numeral_digits as digits_of, scan_numeral}
+use Rattle.std.specs.Float.Numeral.{digits_len, digits_end, exponent_start, has_exponent, numeral_digits as digits_of, scan_numeral}
 use Rattle.std.specs.Float.Ieee.{inf, nan}
 use Rattle.std.specs.Str.Parse.{digits_value}
 use Rattle.toml_parser.specs.Lexical.{first}
@@ -136,7 +136,7 @@ module _ (bs : List ℕ) (b : ℕ) where
     valid = found_digits bs c (some_at bs c digit);
     text = drop_at bs b (letter_of capital) letter (letter_some capital)
         ∙ ap (λ (more : List ℕ). letter_of capital ∷ more)
-          (signed ∙ ap (λ (more : List ℕ). signs_of sign ++ more) (last_digits bs c ends))
+        (signed ∙ ap (λ (more : List ℕ). signs_of sign ++ more) (last_digits bs c ends))
         ∙ spelled capital sign (digits_at bs c);
   }
 

@@ -1,14 +1,14 @@
 -- What was given where a walk stops.
-use Rattle.yaml_json.proofs.Common.{◌≡◌, ◌⊎◌, ℕ, suc, ◌+◌, ◌<◌, ◌≤◌, arith, ◌∷◌, ◌++◌, [], List, Bool, None, Result, Ok, Err, inl, inr, refl, ap, subst, sym, ◌∙◌, append-nil, length}
+use Rattle.yaml_json.proofs.Common.{◌≡◌, ℕ, suc, ◌≤◌, arith, ◌∷◌, ◌++◌, [], List, Bool, Result, Ok, Err, inl, inr, refl, ap, subst, sym, ◌∙◌, append-nil, length}
 use Rattle.std.specs.Prelude.{OnErr, pred, zero}
-use Rattle.yaml_json.proofs.Common.{Event, Scalar, scalar, WriterState, WroteEvent, AddsEvents, StandsTaken, FailedAt, start_event, collection_in, mapping_start, mapping_end, sequence_end}
+use Rattle.yaml_json.proofs.Common.{Event, Scalar, scalar, WriterState, WroteEvent, StandsTaken, FailedAt, start_event, collection_in, mapping_start, mapping_end, sequence_end}
 use Rattle.yaml_json.proofs.WroteLemmas.{adds_then}
 use Rattle.yaml_base.specs.declared.errors.yaml_error_t.{yaml_error_t}
 use Rattle.yaml_base.specs.declared.kinds.CollectionKind.{CollectionKind}
-use Rattle.yaml_base.specs.declared.kinds.CollectionKind.TheVariants.{Mapping, Sequence}
+use Rattle.yaml_base.specs.declared.kinds.CollectionKind.TheVariants.{Mapping}
 use Rattle.toml_ordered.specs.Data.{Node, Nodes}
 use Rattle.yaml_toml.specs.Events.{toml_events, keys_events}
-use Rattle.yaml_toml.specs.OpenCounts.{Opens, open_after}
+use Rattle.yaml_toml.specs.OpenCounts.{open_after}
 use Rattle.yaml_toml.specs.Walk.{Answers, IsStopOf, StepsStop, kind_of, kinds_of, pending, rest_events}
 use Rattle.yaml_toml.specs.declared.walk.Rest.{Rest}
 use Rattle.yaml_toml.specs.declared.walk.Stop.{Stop}

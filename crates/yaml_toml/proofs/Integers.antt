@@ -1,9 +1,9 @@
 -- Integers are numbers of JSON, so both schemas read them as themselves.
-use Rattle.yaml_json.proofs.Common.{ℕ, ◌<◌, ◌≤◌, ◌==◌, Option, None, Some, codes, length, Bool, false, not, true, ◌&&◌, ◌||◌, List, [], ◌++◌, ◌∷◌, refl, ◌≡◌, arith, ap, ap₂, sym, ◌∙◌, subst, append-nil}
-use Rattle.yaml_json.proofs.Common.{and_from, not_from_false, list_all, Text, are_digits, is_json_number, JsonNumber, yaml_number, Schema, is_empty, is_plain, ScalarStyle, plain, if◌then◌else◌}
+use Rattle.yaml_json.proofs.Common.{ℕ, ◌<◌, ◌≤◌, ◌==◌, None, codes, length, Bool, false, not, true, ◌&&◌, ◌||◌, [], ◌++◌, ◌∷◌, refl, ◌≡◌, arith, ap, ap₂, sym, ◌∙◌, subst, append-nil}
+use Rattle.yaml_json.proofs.Common.{and_from, not_from_false, list_all, Text, are_digits, is_json_number, JsonNumber, yaml_number, Schema, is_empty, is_plain, plain, if◌then◌else◌}
 use Rattle.yaml_json.proofs.Common.{fraction_or_default}
 use Rattle.yaml_base.specs.values.JsonNumbers.{value_with}
-use Rattle.yaml_base.proofs.Common.{allowances, chosen, meant_integer, meant_decimal, signed, digits_value, number_meant}
+use Rattle.yaml_base.proofs.Common.{allowances, chosen, meant_integer, meant_decimal, signed, digits_value}
 use Rattle.yaml_base.specs.values.Resolved.{is_decimal}
 use Rattle.yaml_base.specs.values.JsonNumbers.{is_whole, is_json_integer}
 use Rattle.yaml_base.specs.Words.{is_word}
@@ -12,7 +12,7 @@ use Rattle.yaml_json.proofs.Meanings.{ReadsScalars}
 use Rattle.yaml_toml.specs.Walk.{FewDigits}
 use Rattle.yaml_writer.proofs.PlainNumbers.{written_numbers}
 use Rattle.std.{proofs.Common.get_or, proofs.lemmas.Fmt.decimal_by_steps_wide, proofs.lemmas.Fmt.decimal_is_IsNumeral_wide, proofs.lemmas.Fmt.decimal_digit}
-use Rattle.std.{proofs.lemmas.List.nil_from_length, specs.Char.digit_value, specs.Fmt.decimal, specs.Fmt.signed_decimal, specs.Int.Signed.mag, specs.Str.Parse.AllDigits}
+use Rattle.std.{proofs.lemmas.List.nil_from_length, specs.Char.digit_value, specs.Fmt.decimal, specs.Fmt.signed_decimal, specs.Str.Parse.AllDigits}
 use Rattle.std.proofs.Common.{FitsSigned, w64}
 use Rattle.std.proofs.lemmas.Bool.{eqb-true, lt-ltb, or_right, ne_eqb}
 use Rattle.std.specs.Prelude.{ℤ, pos, negsuc, suc, zero, ◌^◌, ◌+◌, ◌/◌, ◌%◌, slice_index}

@@ -1,17 +1,16 @@
 -- The moments of dates of TOML, and dates by the core schema.
-use Rattle.yaml_json.proofs.Common.{ℕ, ◌<◌, ◌==◌, Option, None, Some, codes, length, Bool, false, not, true, ◌&&◌, ◌||◌, List, [], ◌++◌, ◌∷◌, refl, ◌≡◌, arith, ap, ap₂, sym, ◌∙◌, subst}
+use Rattle.yaml_json.proofs.Common.{ℕ, ◌==◌, Option, None, Some, codes, Bool, false, not, true, ◌&&◌, ◌||◌, [], ◌++◌, ◌∷◌, refl, ◌≡◌, arith, ap, subst}
 use Rattle.yaml_json.proofs.Common.{and_parts, and_from, false≢true, cond, list_all, option_and_then, Text, are_digits, resolved_by_core, if◌then◌else◌}
-use Rattle.yaml_base.proofs.Common.{is_decimal, is_point, is_exponent_letter, past_sign, is_negative, first_reading, core_integer, core_based, core_mantissa, core_decimal, Resolved, meant_text, slice_split}
-use Rattle.yaml_base.proofs.Common.{decimal_of_digits, scientific, exponent_read, or_from, nat_tests}
+use Rattle.yaml_base.proofs.Common.{is_decimal, is_point, is_exponent_letter, past_sign, first_reading, core_integer, core_based, core_decimal, Resolved, meant_text, slice_split}
+use Rattle.yaml_base.proofs.Common.{or_from, nat_tests}
 use Rattle.yaml_base.proofs.NumberCuts.{digit_unlike, no_word_of_core}
-use Rattle.yaml_base.specs.Words.{named}
-use Rattle.yaml_base.specs.values.Resolved.{words_of_core, some_if}
+use Rattle.yaml_base.specs.values.Resolved.{some_if}
 use Rattle.std.proofs.lemmas.List.{Splits.slice_split_none, Sums.AllPass-from_list_all}
 use Rattle.std.specs.List.{All}
 use Rattle.std.proofs.Common.{get_or}
-use Rattle.std.specs.Prelude.{◌+◌, ◌/◌, ◌%◌, nat_lt, nat_le, ℤ, pos, negsuc, unwrap_or, option_map}
+use Rattle.std.specs.Prelude.{◌+◌, ◌/◌, ◌%◌, nat_lt, nat_le, ℤ, unwrap_or, option_map}
 use Rattle.yaml_writer.specs.Dates.{CalendarDate, calendar_date, date_text, is_calendar_date, two_digits}
-use Rattle.yaml_writer.specs.Times.{ClockOffset, ClockTime, Moment, clock_time, is_clock_offset, is_clock_reading, is_clock_time, is_zone_offset, is_moment, is_time_or_none}
+use Rattle.yaml_writer.specs.Times.{ClockOffset, ClockTime, Moment, clock_time, is_clock_reading, is_clock_time, is_zone_offset, is_moment}
 use Rattle.yaml_writer.proofs.DateLemmas.{DateSays, date_says, date_passes, behind_first, first_digit}
 use Rattle.toml_datetime.specs.Valid.{magnitude}
 use Rattle.toml_datetime.specs.declared.datetime.{Date.Date, Time.Time, Offset.Offset, Datetime.Datetime}

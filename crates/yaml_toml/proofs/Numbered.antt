@@ -1,5 +1,5 @@
 -- Each decimal that a word of TOML writes is a number of JSON, and each integer has few digits.
-use Rattle.std.proofs.Common.{◌≡◌, ℕ, ℤ, zero, suc, ◌+◌, ◌^◌, ◌<◌, ◌≤◌, Bool, true, false, cond, not, ◌&&◌, ◌||◌, ◌==◌, List, length, drop, codes, Option, None, Some, option_map, Float, pos, neg_ℤ, refl, subst, arith, inl, inr, bytes_eq}
+use Rattle.std.proofs.Common.{◌≡◌, ℕ, ℤ, zero, suc, ◌^◌, ◌≤◌, Bool, true, false, cond, not, ◌&&◌, ◌||◌, ◌==◌, List, length, drop, codes, Option, None, Some, option_map, Float, pos, neg_ℤ, refl, subst, arith, inl, inr, bytes_eq}
 use Rattle.std.specs.Prelude.{IfSome, nat_lt}
 use Rattle.std.specs.Str.Parse.{digits_value}
 use Rattle.std.specs.List.{list_all}

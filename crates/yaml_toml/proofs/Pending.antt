@@ -1,5 +1,5 @@
 -- What is pending, as collections are begun and go on.
-use Rattle.yaml_json.proofs.Common.{◌≡◌, ℕ, suc, length, length-append, Scalar, ◌+◌, ◌<◌, ◌≤◌, arith, ◌∷◌, ◌++◌, [], List, Bool, map, refl, ap, subst, sym, ◌∙◌, append-nil, append_assoc}
+use Rattle.yaml_json.proofs.Common.{◌≡◌, ℕ, suc, length, length-append, Scalar, ◌+◌, ◌<◌, ◌≤◌, arith, ◌∷◌, ◌++◌, [], List, Bool, refl, ap, subst, sym, ◌∙◌, append-nil, append_assoc}
 use Rattle.std.specs.Prelude.{String, string_bytes}
 use Rattle.std.specs.declared.alloc.Global.{Global}
 use Rattle.yaml_json.proofs.Common.{Event, WriterState, WroteEvent, start_event, scalar, text_content, chars, sequence_end, mapping_end, mapping_start, collection_in}
@@ -14,7 +14,6 @@ use Rattle.yaml_toml.specs.Events.{toml_events, items_events, keys_events}
 use Rattle.yaml_toml.specs.OpenCounts.{Opens, open_after}
 use Rattle.yaml_toml.specs.Walk.{Moved, Steps, HasNumbers, ItemsHaveNumbers, KeysHaveNumbers, PendingHaveNumbers, RestHasNumbers, items_left, keys_left, kind_of, kinds_of, pending, rest_events, rest_size, pending_size, node_size, items_size, keys_size}
 use Rattle.yaml_toml.specs.declared.walk.Rest.{Rest}
-use Rattle.yaml_toml.specs.declared.walk.Rest.TheVariants as rest
 use Rattle.yaml_toml.proofs.Answering.{moved_event, moved_within, moved_then}
 
 module _ (canonical in_flow : Bool) where

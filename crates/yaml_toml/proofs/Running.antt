@@ -1,6 +1,6 @@
 -- The walk from its start to where it is.
-use Rattle.yaml_json.proofs.Common.{◌≡◌, ℕ, suc, zero, length, ◌≤◌, ◌+◌, ◌<◌, ◌∷◌, ◌++◌, [], List, Bool, Result, Ok, map, refl, ap, subst, sym, ◌∙◌, append-nil, append_assoc, arith}
-use Rattle.yaml_json.proofs.Common.{Event, WriterState, Wrote, IsBare, AddsEvents}
+use Rattle.yaml_json.proofs.Common.{◌≡◌, ℕ, suc, zero, length, ◌≤◌, ◌∷◌, ◌++◌, [], List, Bool, Ok, refl, ap, subst, sym, ◌∙◌, append-nil, append_assoc, arith}
+use Rattle.yaml_json.proofs.Common.{Event, WriterState, Wrote}
 use Rattle.yaml_base.specs.declared.kinds.CollectionKind.{CollectionKind}
 use Rattle.std.specs.Prelude.{String}
 use Rattle.std.specs.declared.alloc.Global.{Global}
@@ -15,7 +15,7 @@ use Rattle.yaml_emitter.proofs.AcceptedLists.{Stays, after_event, few_open}
 use Rattle.yaml_json.proofs.WroteLemmas.{adds_then}
 use Rattle.yaml_toml.specs.Failing.{GaveFirst}
 use Rattle.yaml_toml.specs.OpenCounts.{Opens, open_after}
-use Rattle.yaml_toml.specs.Walk.{Moved, Steps, StepsStop, Kept, KeysHaveNumbers, PendingHaveNumbers, RestHasNumbers, keys_left, kinds_of, kind_of, pending, rest_events, rest_size, pending_size, HasInnermost}
+use Rattle.yaml_toml.specs.Walk.{Moved, Steps, StepsStop, Kept, PendingHaveNumbers, RestHasNumbers, keys_left, kinds_of, kind_of, pending, rest_events, HasInnermost}
 use Rattle.yaml_toml.specs.declared.walk.Rest.{Rest}
 use Rattle.yaml_toml.proofs.Answering.{moved_then, kept_then}
 use Rattle.yaml_toml.proofs.Pending.{kinds-push, pending-push}

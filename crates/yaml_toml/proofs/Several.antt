@@ -1,7 +1,7 @@
 -- The streams of several documents of TOML, and what is read in them.
-use Rattle.yaml_json.proofs.Common.{ℕ, flat_map, None, Some, Option, Bool, true, false, not, List, [], map, ◌++◌, ◌∷◌, ◌||◌, refl, ◌≡◌, append-nil, append_assoc, ap, subst, sym, ◌∙◌}
+use Rattle.yaml_json.proofs.Common.{ℕ, flat_map, None, Some, Option, Bool, true, false, not, List, [], map, ◌++◌, ◌∷◌, refl, ◌≡◌, append-nil, append_assoc, ap, subst, sym, ◌∙◌}
 use Rattle.yaml_json.proofs.Common.{and_from, not_from_false, list_any, list_all, unwrap_or, Event, Document, Documents, no_documents, documents_and, Stream, directives_in_force}
-use Rattle.yaml_json.proofs.Common.{opening, closing, has_scalar_texts, IsAccepted, Settings, Effective, Tree, WriterState, StandsTaken, node_tree}
+use Rattle.yaml_json.proofs.Common.{opening, closing, has_scalar_texts, IsAccepted, Settings, Effective, Tree, StandsTaken, node_tree}
 use Rattle.yaml_base.proofs.Common.{stream_start, stream_end, document_end, document_events, documents_events, stream_events, and_right, or_from, option_map, tree_of}
 use Rattle.yaml_base.proofs.Common.{is_explicit, is_written_as_nothing, loses_document, document_has_flow_indicator, all_read_alike, reads_alike, documents_in_order}
 use Rattle.yaml_base.proofs.Common.{stream_trees, root_place, settings_for, DocumentTree}
@@ -9,15 +9,12 @@ use Rattle.yaml_base.proofs.Trees.{tree_of-stream_events}
 use Rattle.yaml_base.proofs.{stream_documents.StreamWholeReads.document_trees, stream_nodes.StreamAgrees.document_tree}
 use Rattle.yaml_emitter.proofs.layouts.StreamsReadBack.{stream_found}
 use Rattle.yaml_json.proofs.JsonReads.{IsWhole, stream_whole, whole_by_either}
-use Rattle.yaml_json.specs.Failing.{between}
 use Rattle.yaml_json.specs.Means.{plain_document}
-use Rattle.yaml_json.specs.Sent.{AddsTaking}
 use Rattle.yaml_writer.proofs.Common.{plain_start}
-use Rattle.yaml_writer.specs.Writing.{Finishes}
 use Rattle.toml_ordered.specs.Data as toml
 use Rattle.yaml_toml.specs.Events.{toml_events}
 use Rattle.yaml_toml.specs.Means.{Reader, by_11, by_core}
-use Rattle.yaml_toml.specs.Several.{AllMean, AreDocuments, DocumentsAreRead, IsYamlOfSeveral, ReadsAsTables, several_events}
+use Rattle.yaml_toml.specs.Several.{AllMean, AreDocuments, DocumentsAreRead, ReadsAsTables, several_events}
 use Rattle.yaml_toml.specs.Walk.{KeysHaveNumbers}
 use Rattle.yaml_toml.proofs.TomlTrees.{node_flat, root_of, toml_document, toml_node, value_unsigned}
 use Rattle.yaml_toml.proofs.TomlMeanings.{ReadsToml, node_means, toml_by_11, toml_by_core}

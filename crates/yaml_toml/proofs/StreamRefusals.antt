@@ -1,6 +1,6 @@
 -- Of the events of a stream, each of which is in order, none is refused but for its depth.
-use Rattle.yaml_json.proofs.Common.{ℕ, ◌<◌, ◌≤◌, is_none, unwrap_or, option_and_then, Option, None, Some, length, Bool, false, not, true, ◌&&◌, List, [], ◌++◌}
-use Rattle.yaml_json.proofs.Common.{◌∷◌, refl, ◌≡◌, append_assoc, ap, subst, sym, ◌∙◌, and_parts, list_all-append, list_all}
+use Rattle.yaml_json.proofs.Common.{◌≤◌, is_none, unwrap_or, option_and_then, Option, None, Some, length, Bool, false, not, true, ◌&&◌, List, [], ◌++◌}
+use Rattle.yaml_json.proofs.Common.{◌∷◌, refl, ◌≡◌, append_assoc, ap, sym, ◌∙◌, and_parts, list_all-append, list_all}
 use Rattle.yaml_json.proofs.Common.{stream_pushed, Event, Stream, after_stream, partial_of, most_open, begins_collection, open_count, is_sound}
 use Rattle.yaml_base.proofs.Common.{option_or, nat_lt, Partial, before_stream, push, pushed, some_if, name_or_tag_fault, content_fault, expected, place_fault}
 use Rattle.yaml_base.proofs.Common.{open_levels, depth_fault, refusal_at, refusal, stream_events}

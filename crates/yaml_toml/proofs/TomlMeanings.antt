@@ -1,22 +1,21 @@
 -- What the tree of a TOML value means, wherever each scalar stands.
-use Rattle.yaml_json.proofs.Common.{ℕ, Option, None, Some, codes, Bool, false, true, ◌&&◌, ◌||◌, List, [], ◌++◌, ◌∷◌, refl, ◌≡◌, if◌then◌else◌, is_some, length}
-use Rattle.yaml_json.proofs.Common.{append-nil, append_assoc, ap, subst, sym, ◌∙◌, and_parts, false≢true, chars, node_tree, Text}
-use Rattle.yaml_json.proofs.Common.{ScalarStyle, plain, Scalar, scalar_tag, collection_tag, scalar_node, Nodes, Pairs, no_nodes, nodes_and, no_pairs}
-use Rattle.yaml_json.proofs.Common.{pairs_and, Effective, is_empty, is_plain, Tree, JsonNumber, is_json_number, is_json_integer, number_in, IsNumber, fraction_or_default}
-use Rattle.yaml_json.proofs.Common.{yaml_number, resolved_by_core, resolved_by_11, int_tag, word_content, number_content, text_content, collection_in, Schema, float_tag, number_tag}
+use Rattle.yaml_json.proofs.Common.{ℕ, Option, None, Some, codes, Bool, false, true, List, [], ◌++◌, ◌∷◌, refl, ◌≡◌, if◌then◌else◌, is_some}
+use Rattle.yaml_json.proofs.Common.{append-nil, append_assoc, ap, subst, sym, ◌∙◌, and_parts, chars, node_tree, Text}
+use Rattle.yaml_json.proofs.Common.{plain, Scalar, scalar_tag, collection_tag, scalar_node, Nodes, Pairs, no_nodes, nodes_and, no_pairs}
+use Rattle.yaml_json.proofs.Common.{pairs_and, Effective, is_empty, is_plain, Tree, JsonNumber, is_json_number, is_json_integer, number_in, fraction_or_default}
+use Rattle.yaml_json.proofs.Common.{yaml_number, resolved_by_core, resolved_by_11, int_tag, text_content, collection_in, float_tag, number_tag}
 use Rattle.yaml_base.proofs.Common.{TagDirective, as_item, as_key, as_value, Place, has_no_nodes, has_no_pairs, is_simple, is_simple_at, charset_of, style_asked_at, choice_of}
-use Rattle.yaml_base.proofs.Common.{allowed_under, is_written_in_flow, entry_place, allowances, chosen, Stood, stood_plain, stood_quoted, Tagging, with_tag, without_tag, sequence_tree, mapping_tree}
-use Rattle.yaml_base.proofs.Common.{mapping_node, json_value, number_meant, means_number, Resolved, meant_integer, meant_decimal, meant_text, signed, not, digits_value}
-use Rattle.yaml_base.{proofs.JsonSpelling.spelling_keeps_value, specs.Settings.escapes_separators, specs.values.JsonNumbers.value_with}
+use Rattle.yaml_base.proofs.Common.{allowed_under, is_written_in_flow, entry_place, allowances, chosen, stood_plain, stood_quoted, Tagging, without_tag, sequence_tree, mapping_tree}
+use Rattle.yaml_base.proofs.Common.{mapping_node, json_value, number_meant, means_number, meant_integer, meant_decimal, signed, digits_value}
+use Rattle.yaml_base.{proofs.JsonSpelling.spelling_keeps_value, specs.values.JsonNumbers.value_with}
 use Rattle.yaml_base.proofs.PlainUnderQuotes.{plain_under}
-use Rattle.yaml_base.proofs.stream_nodes.StreamAgrees.{standing_in, tagging_in, nodes_tree, pairs_tree}
+use Rattle.yaml_base.proofs.stream_nodes.StreamAgrees.{tagging_in, nodes_tree, pairs_tree}
 use Rattle.json.specs.Json as json
-use Rattle.yaml_json.proofs.Meanings.{ReadsScalars, reads_by_11, reads_by_core, word_means, text_means, node_means as json_means}
-use Rattle.yaml_json.specs.Means.{canonical_tag, scalar_meant, in_order, pairs_in_order, MeansText, MeansNumber}
+use Rattle.yaml_json.proofs.Meanings.{ReadsScalars, reads_by_11, reads_by_core, word_means, node_means as json_means}
+use Rattle.yaml_json.specs.Means.{canonical_tag, in_order, pairs_in_order, MeansText}
 use Rattle.yaml_writer.proofs.{PlainNumbers.written_numbers, DateLemmas.dates_read, DateLemmas.dates_plain, TimeLemmas.timestamps_read}
 use Rattle.yaml_writer.specs.Dates.{CalendarDate, date_text, is_calendar_date}
 use Rattle.yaml_writer.specs.Times.{Moment, ClockTime, is_moment, moment_in, timestamp_text}
-use Rattle.yaml_writer.specs.Writing.{timestamp_tag}
 use Rattle.yaml_writer.specs.Floats.{special_text, special_meaning}
 use Rattle.yaml_writer.specs.declared.floats.SpecialFloat.{SpecialFloat}
 use Rattle.yaml_writer.specs.declared.floats.SpecialFloat.TheVariants.{Infinity, NegativeInfinity, NotANumber}
@@ -25,11 +24,10 @@ use Rattle.yaml_base.specs.values.Resolved.{meant_infinity}
 use Rattle.toml_datetime.specs.Text.{datetime_text}
 use Rattle.toml_datetime.specs.declared.datetime.Datetime.{Datetime}
 use Rattle.toml_ordered.specs.Data as toml
-use Rattle.toml_ordered.specs.declared.tree.Origin.TheVariants.{Header}
 use Rattle.yaml_writer.specs.TomlDates.{moment_of}
 use Rattle.yaml_toml.specs.Events.{json_word, integer_content, decimal_content, infinite, special_content, moment_content, date_content}
-use Rattle.yaml_toml.specs.Means.{Reader, by_11, by_core, IsDated, MeansMoment, MeansDate, Means, ItemsMean, KeysMean}
-use Rattle.yaml_toml.specs.Walk.{IsJsonWord, HasNumbers, ItemsHaveNumbers, KeysHaveNumbers}
+use Rattle.yaml_toml.specs.Means.{Reader, by_11, by_core, IsDated, MeansDate, Means, ItemsMean, KeysMean}
+use Rattle.yaml_toml.specs.Walk.{HasNumbers, ItemsHaveNumbers, KeysHaveNumbers}
 use Rattle.yaml_toml.proofs.Moments.{valid_moment, core_date}
 use Rattle.yaml_toml.proofs.Integers.{integer_read, integer_plain}
 use Rattle.yaml_toml.proofs.TomlTrees.{toml_node, items_nodes, keys_pairs}

@@ -13,7 +13,7 @@ use Rattle.toml_ordered.specs.Data as toml
 use Rattle.toml_ordered.specs.Grammar.{ordered_document}
 use Rattle.yaml_toml.specs.Depth.{NestsWithin, document_nesting}
 use Rattle.yaml_toml.specs.Events.{toml_events}
-use Rattle.yaml_toml.specs.Failing.{FailsBy, GaveFirst, NestsTooDeep, OverLimit, StopsInDocument}
+use Rattle.yaml_toml.specs.Failing.{FailsBy, GaveFirst, OverLimit, StopsInDocument}
 use Rattle.toml_ordered.specs.declared.fault.Fault.{Fault}
 use Rattle.toml_ordered.specs.declared.fault.Fault.TheVariants as fault
 use Rattle.yaml_toml.specs.Walk.{WroteToml, fault_error, writers_error}
@@ -212,7 +212,6 @@ module _ (depth : ℕ) (in_flow : Bool) (text : List ℕ) (was : WriterState) (e
   }
 
 -- ---- the writer of a text
-
 
 module _ (given : Settings) (in_flow : Bool) (depth : ℕ) (text : List ℕ) (first now : WriterState) (stands : StandsTaken given opening [] first.emitter)
     (canonical : first.canonical ≡ given.canonical) where

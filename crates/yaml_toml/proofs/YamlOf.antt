@@ -1,5 +1,5 @@
 -- The stream of a TOML document, and what is read in it.
-use Rattle.yaml_json.proofs.Common.{ℕ, None, Some, Bool, true, List, [], ◌++◌, ◌∷◌, refl, ◌≡◌, append-nil, ap, subst, sym, ◌∙◌, and_from, list_all-append, list_all}
+use Rattle.yaml_json.proofs.Common.{ℕ, None, Some, Bool, true, List, [], ◌++◌, ◌∷◌, refl, ◌≡◌, ap, subst, ◌∙◌, and_from, list_all-append, list_all}
 use Rattle.yaml_json.proofs.Common.{Event, has_scalar_texts, IsAccepted, Settings, Effective, directives_in_force, Tree, WriterState, opening, closing, StandsTaken, node_tree}
 use Rattle.yaml_base.proofs.Common.{stream_trees, root_place, settings_for}
 use Rattle.yaml_emitter.proofs.layouts.StreamsReadBack.{stream_found}

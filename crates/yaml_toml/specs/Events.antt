@@ -1,5 +1,5 @@
 -- The events of a value of TOML.
-use Rattle.std.specs.Prelude.{ℕ, ℤ, Bool, true, false, Option, None, Some, List, [], ◌∷◌, ◌++◌, codes, drop, is_some, ◌||◌, ◌==◌, if◌then◌else◌}
+use Rattle.std.specs.Prelude.{ℕ, ℤ, Bool, Option, None, Some, List, [], ◌∷◌, ◌++◌, drop, is_some, ◌||◌, ◌==◌, if◌then◌else◌}
 use Rattle.std.specs.Fmt.{signed_decimal}
 use Rattle.std.specs.Str.{chars}
 use Rattle.toml_datetime.specs.Text.{datetime_text}
@@ -7,7 +7,6 @@ use Rattle.toml_datetime.specs.declared.datetime.Datetime.{Datetime}
 use Rattle.toml_parser.specs.Lexical.{first, plus}
 use Rattle.toml_ordered.specs.Data.{Node, string, integer, decimal, infinity, not_a_number, boolean, datetime, array, table, tables, Items, no_items, item, Nodes}
 use Rattle.toml_ordered.specs.Data.{no_nodes, node}
-use Rattle.yaml_base.specs.Characters.{Text}
 use Rattle.yaml_base.specs.Event.{plain, Event, Scalar, scalar, sequence_start, sequence_end, mapping_start, mapping_end}
 use Rattle.yaml_base.specs.values.TypedValues.{int_tag}
 use Rattle.yaml_json.specs.JsonEvents.{content_with, word_content, bool_content, number_content, text_content, collection_in}

@@ -1,6 +1,5 @@
 -- What a tree that was read means by a schema, and when that is a value of TOML.
 use Rattle.std.specs.Prelude.{◌≡◌, ℕ, Bool, true, Option, None, Some, List, [], ◌∷◌, ◌++◌, is_none}
-use Rattle.std.specs.Str.{chars}
 use Rattle.toml_datetime.specs.Text.{datetime_text}
 use Rattle.toml_datetime.specs.declared.datetime.Datetime.{Datetime}
 use Rattle.toml_ordered.specs.Data.{Node, string, integer, decimal, infinity, not_a_number, boolean, datetime, array, table, tables, Items, no_items, item, Nodes}

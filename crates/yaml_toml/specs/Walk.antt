@@ -1,8 +1,8 @@
 -- What a writer is given of a document, and what is left of it.
-use Rattle.std.specs.Prelude.{◌≡◌, ◌⊎◌, ℕ, ℤ, ◌<◌, ◌+◌, ◌^◌, Bool, Option, None, Some, Result, Ok, Err, List, [], ◌∷◌, ◌++◌, map, String, length, ◌≤◌, IfErr}
+use Rattle.std.specs.Prelude.{◌≡◌, ℕ, ℤ, ◌<◌, ◌+◌, ◌^◌, Bool, Option, None, Some, Result, Ok, Err, List, [], ◌∷◌, ◌++◌, map, String, length, ◌≤◌, IfErr}
 use Rattle.std.specs.declared.alloc.Global.{Global}
 use Rattle.std.specs.Int.Signed.{mag}
-use Rattle.toml_ordered.specs.Data.{Node, integer, decimal, array, table, tables, Items, no_items, item, Nodes, no_nodes, node, items_view, entries_view, node_view}
+use Rattle.toml_ordered.specs.Data.{Node, integer, decimal, array, table, tables, Items, no_items, item, Nodes, no_nodes, node, items_view, entries_view}
 use Rattle.toml_parser.specs.Numbers.{word_value}
 use Rattle.toml_parser.specs.declared.scalar.Scalar.{Scalar}
 use Rattle.toml_ordered.specs.Grammar.{ordered_document, scalar_node}

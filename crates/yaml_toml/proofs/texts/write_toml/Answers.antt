@@ -1,6 +1,5 @@
-use Rattle.toml_ordered.specs.Data.{entries_view}
-use Rattle.yaml_toml.proofs.WhyFailed.{stops_read, stops_unread}
-use Rattle.yaml_toml.proofs.Fitting.{fault_explained, stop_explained}
+use Rattle.yaml_toml.proofs.WhyFailed.{stops_unread}
+use Rattle.yaml_toml.proofs.Fitting.{fault_explained}
 use Rattle.yaml_toml.proofs.Refusing.{denied, placed_of, said_of}
 use Rattle.yaml_toml.proofs.texts.write_toml.Goals as goal
 

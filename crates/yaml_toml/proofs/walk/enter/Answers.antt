@@ -1,7 +1,7 @@
-use Rattle.yaml_json.proofs.Common.{◌≡◌, ◌<◌, ◌≤◌, ℕ, suc, length, List, Bool, arith, sym, subst, ◌∷◌, [], start_event}
+use Rattle.yaml_json.proofs.Common.{◌<◌, ◌≤◌, ℕ, suc, length, List, Bool, arith, subst, ◌∷◌, [], start_event}
 use Rattle.yaml_json.proofs.WroteLemmas.{on_ok}
 use Rattle.yaml_base.specs.declared.kinds.CollectionKind.{CollectionKind}
-use Rattle.yaml_toml.proofs.Answering.{kept_deep, kept_memory, kept_of, ok_of}
+use Rattle.yaml_toml.proofs.Answering.{kept_memory, kept_of, ok_of}
 use Rattle.std.proofs.lemmas.Grind.{common_steps}
 use Rattle.yaml_toml.proofs.Fitting.{fits_enter, fits_memory, fits_of}
 use Rattle.yaml_toml.proofs.Halting.{halts_at_once, halts_of}

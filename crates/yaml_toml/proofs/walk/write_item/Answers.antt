@@ -1,4 +1,4 @@
-use Rattle.yaml_json.proofs.Common.{◌≡◌, ◌∷◌, ◌++◌, [], ℕ, ◌+◌, ◌<◌, List, Bool, refl, ap, subst, sym, ◌∙◌, append_assoc, sequence_end, arith}
+use Rattle.yaml_json.proofs.Common.{◌≡◌, ◌∷◌, ◌++◌, [], ◌+◌, List, refl, ap, subst, sym, ◌∙◌, append_assoc, sequence_end, arith}
 use Rattle.std.proofs.lemmas.Grind.{common_steps}
 use Rattle.toml_ordered.specs.Data.{items_view, node_view}
 use Rattle.toml_ordered.specs.declared.tree.Node.{Node as CodeNode}
@@ -6,7 +6,7 @@ use Rattle.yaml_base.specs.declared.kinds.CollectionKind.TheVariants.{Sequence}
 use Rattle.yaml_json.proofs.WroteLemmas.{on_ok}
 use Rattle.std.specs.Prelude.{length, OnErr}
 use Rattle.yaml_toml.proofs.Halting.{fewer_fit, halts_at_once, halts_next, halts_of, on_err}
-use Rattle.yaml_toml.specs.Walk.{ItemsHaveNumbers, PendingHaveNumbers, Steps, StepsStop, items_left, items_size, kinds_of, node_size, pending, pending_size}
+use Rattle.yaml_toml.specs.Walk.{ItemsHaveNumbers, PendingHaveNumbers, Steps, StepsStop, items_left, items_size, kinds_of, pending, pending_size}
 use Rattle.yaml_toml.specs.declared.walk.Rest.TheVariants as rest
 use Rattle.yaml_toml.proofs.Answering.{kept_memory, kept_of, ok_of}
 use Rattle.yaml_toml.specs.Depth.{items_nesting, nesting}

@@ -1,4 +1,4 @@
-use Rattle.yaml_json.proofs.Common.{◌≡◌, ◌∷◌, ◌++◌, [], ℕ, ◌+◌, ◌<◌, List, Bool, Event, refl, ap, subst, sym, ◌∙◌, append_assoc, mapping_end, scalar, text_content, chars, WroteEvent, Result, OnOk, arith}
+use Rattle.yaml_json.proofs.Common.{◌≡◌, ◌∷◌, ◌++◌, [], ℕ, ◌+◌, List, Event, refl, ap, subst, sym, ◌∙◌, append_assoc, mapping_end, scalar, text_content, chars, WroteEvent, Result, OnOk, arith}
 use Rattle.std.proofs.lemmas.Grind.{common_steps}
 use Rattle.std.specs.Prelude.{String, string_bytes}
 use Rattle.std.specs.declared.alloc.Global.{Global}
@@ -9,9 +9,9 @@ use Rattle.toml_ordered.specs.declared.tree.Node.{Node as CodeNode}
 use Rattle.yaml_base.specs.declared.kinds.CollectionKind.TheVariants.{Mapping}
 use Rattle.yaml_json.proofs.WroteLemmas.{on_ok}
 use Rattle.yaml_toml.specs.Events.{toml_events}
-use Rattle.yaml_toml.specs.Walk.{KeysHaveNumbers, PendingHaveNumbers, Steps, StepsStop, keys_left, keys_size, kinds_of, node_size, pending, pending_size}
+use Rattle.yaml_toml.specs.Walk.{KeysHaveNumbers, PendingHaveNumbers, Steps, StepsStop, keys_left, keys_size, kinds_of, pending, pending_size}
 use Rattle.yaml_toml.specs.declared.walk.Rest.TheVariants as rest
-use Rattle.yaml_toml.proofs.Answering.{kept_memory, kept_of, kept_then, ok_of}
+use Rattle.yaml_toml.proofs.Answering.{kept_memory, kept_of, ok_of}
 use Rattle.yaml_toml.specs.Depth.{keys_nesting, nesting}
 use Rattle.yaml_toml.specs.Fitting.{NodeFits, PendingFits, RestFits}
 use Rattle.yaml_toml.specs.Walk.{Answers, IsStopOf}

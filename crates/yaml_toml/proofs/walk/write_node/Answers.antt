@@ -1,10 +1,9 @@
-use Rattle.yaml_json.proofs.Common.{◌≡◌, ◌∷◌, [], ◌++◌, ◌+◌, ℕ, List, Bool, refl, ap, subst, sym, ◌∙◌, scalar, chars, text_content, bool_content, WroteEvent, OnOk, arith}
+use Rattle.yaml_json.proofs.Common.{◌≡◌, ◌∷◌, [], ◌++◌, ℕ, List, Bool, refl, ap, subst, ◌∙◌, scalar, chars, text_content, bool_content, WroteEvent, OnOk, arith}
 use Rattle.std.specs.Prelude.{string_bytes, FitsSigned, Result, String, max, suc}
 use Rattle.std.specs.declared.alloc.Global.{Global}
 use Rattle.std.proofs.Common.{ℤ, rules, w64}
 use Rattle.std.proofs.lemmas.Int.{to_z-of_z}
 use Rattle.std.proofs.lemmas.Grind.{common_steps}
-use Rattle.toml_datetime.specs.declared.datetime.Datetime.{Datetime}
 use Rattle.toml_ordered.specs.Data as toml
 use Rattle.toml_ordered.specs.declared.tree.Origin.TheVariants.{Header}
 use Rattle.toml_ordered.specs.Data.{items_view, entries_view, node_view}
@@ -14,7 +13,7 @@ use Rattle.yaml_writer.specs.declared.floats.SpecialFloat.{SpecialFloat}
 use Rattle.yaml_writer.specs.declared.floats.SpecialFloat.TheVariants.{NotANumber}
 use Rattle.yaml_writer.specs.TomlDates.{moment_of}
 use Rattle.yaml_toml.specs.Events.{toml_events, date_content, decimal_content, infinite, integer_content, special_content}
-use Rattle.yaml_toml.specs.Walk.{HasNumbers, PendingHaveNumbers, Steps, StepsStop, items_left, keys_left, kinds_of, pending, pending_size, IsJsonWord, FewDigits}
+use Rattle.yaml_toml.specs.Walk.{PendingHaveNumbers, StepsStop, items_left, keys_left, kinds_of, pending, pending_size, IsJsonWord, FewDigits}
 use Rattle.yaml_toml.proofs.Integers.{few_digits}
 use Rattle.yaml_toml.proofs.Answering.{kept_of, ok_of, on_both}
 use Rattle.std.specs.Prelude.{OnErr}

@@ -1,11 +1,10 @@
-use Rattle.yaml_json.proofs.Common.{◌≡◌, ◌∷◌, ◌++◌, [], ℕ, ◌+◌, ◌≤◌, List, Bool, Event, refl, ap, subst, sym, ◌∙◌, append_assoc, mapping_start, mapping_end, sequence_end, collection_in, length, arith}
-use Rattle.std.proofs.lemmas.Grind.{common_steps}
+use Rattle.yaml_json.proofs.Common.{◌≡◌, ◌∷◌, ◌++◌, [], ◌+◌, List, refl, ap, subst, sym, ◌∙◌, append_assoc, mapping_start, mapping_end, sequence_end, collection_in, arith}
 use Rattle.std.proofs.lemmas.List.{nil_from_length}
 use Rattle.toml_ordered.specs.Data.{items_view, entries_view, node_view}
 use Rattle.toml_ordered.specs.declared.tree.Node.{Node as CodeNode}
 use Rattle.yaml_json.proofs.WroteLemmas.{on_ok}
 use Rattle.yaml_toml.specs.Events.{toml_events, items_events, keys_events}
-use Rattle.yaml_toml.specs.Walk.{ItemsHaveNumbers, PendingHaveNumbers, RestHasNumbers, Steps, StepsStop, items_size, kind_of, kinds_of, node_size, pending, pending_size, rest_events, rest_size}
+use Rattle.yaml_toml.specs.Walk.{ItemsHaveNumbers, PendingHaveNumbers, RestHasNumbers, Steps, StepsStop, items_size, kind_of, kinds_of, pending, pending_size, rest_events, rest_size}
 use Rattle.yaml_toml.specs.declared.walk.Rest.{Rest}
 use Rattle.yaml_toml.specs.declared.walk.Rest.TheVariants as rest
 use Rattle.std.specs.Prelude.{max, suc}

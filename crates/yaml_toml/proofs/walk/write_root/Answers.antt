@@ -1,11 +1,11 @@
-use Rattle.yaml_json.proofs.Common.{◌≡◌, ◌∷◌, ◌++◌, [], List, Event, subst, ap, arith}
+use Rattle.yaml_json.proofs.Common.{List, Event, subst, ap, arith}
 use Rattle.toml_ordered.specs.Data.{entries_view, table}
 use Rattle.toml_ordered.specs.declared.tree.Origin.TheVariants.{Header}
 use Rattle.yaml_toml.specs.Events.{toml_events}
-use Rattle.yaml_toml.specs.Walk.{KeysHaveNumbers, pending_size, rest_size}
+use Rattle.yaml_toml.specs.Walk.{KeysHaveNumbers, pending_size}
 use Rattle.yaml_toml.specs.declared.walk.Rest.{Rest}
 use Rattle.yaml_toml.proofs.Pending.{size-push}
-use Rattle.yaml_toml.proofs.Fitting.{DocumentFits, nests_never, nests_on, nests_stopped}
+use Rattle.yaml_toml.proofs.Fitting.{DocumentFits, nests_on, nests_stopped}
 use Rattle.yaml_toml.proofs.Running.{Running, innermost, runs_on, runs_out, runs_stopped, stopped_at_root}
 use Rattle.yaml_toml.proofs.walk.write_root.Goals as goal
 
