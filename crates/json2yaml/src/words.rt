@@ -7,6 +7,8 @@ pub static WORDS: Wording = wording!(
     "JSON",
     ".json",
     "arrays and objects",
+    "write_canonical of the crate yaml_value gives, what yaml_canonical_from_json of the library yaml_c gives of JSON whose numbers are \
+    integers, and what yaml_is_canonical of that library takes",
     "Files of JSON texts; - is standard input",
     "Files of JSON texts, which are written one after another. The name - means standard input, which is also read where there is \
     no name.{n}Example: json2yaml first.json - last.json",

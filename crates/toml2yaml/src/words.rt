@@ -7,6 +7,7 @@ pub static WORDS: Wording = wording!(
     "TOML",
     ".toml",
     "arrays and tables",
+    "write_canonical of the crate yaml_value gives, and what yaml_is_canonical of the library yaml_c takes",
     "Files of TOML, a text each; - is standard input",
     "Files of TOML, a text each, which are written one after another. The name - means standard input, which is also read where there is \
     no name.{n}Example: toml2yaml first.toml - last.toml",

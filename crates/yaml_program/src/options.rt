@@ -15,11 +15,11 @@ const WIDTH_HELP: &str = "Folds texts of several words past this column [default
 
 const HEADING_HELP: &str = "Writes a text as comments before all else";
 
-/// The options without a value, each with a line of help and a longer one, of a program whose files have this ending, and whose texts hold
-/// such collections.
+/// The options without a value, each with a line of help and a longer one, of a program whose files have this ending, whose texts hold such
+/// collections, and whose help names these calls for canonical bytes.
 #[macro_export]
 macro_rules! flags {
-    ($program:literal, $ending:literal, $collections:literal) => { &[
+    ($program:literal, $ending:literal, $collections:literal, $canonical_calls:literal) => { &[
     (
         "check",
         "Writes nothing; status 1 where --output or --each would change a file",
@@ -38,9 +38,8 @@ macro_rules! flags {
         "Canonical mode: brackets, double quotes, a tag for each scalar but texts",
         concat!(
         "Writes in canonical mode: brackets, double quotes, and a tag for each scalar but texts. Texts and ", $collections, " have no tag, so \
-        these aren't the canonical bytes of a typed value, in which each node has its own: those are what write_canonical of the crate \
-        yaml_value gives, what yaml_canonical_from_json of the library yaml_c gives of JSON whose numbers are integers, and what \
-        yaml_is_canonical of that library takes.{n}Example: ", $program, " --canonical in", $ending),
+        these aren't the canonical bytes of a typed value, in which each node has its own: those are what ", $canonical_calls,
+        ".{n}Example: ", $program, " --canonical in", $ending),
     ),
     (
         "no-portable",

@@ -25,10 +25,14 @@ pub struct Wording {
     pub own_flags: &'static [(&'static str, &'static str, &'static str)],
 }
 
-/// Makes the wording of a program by its name, its format, the ending of its files, what its texts hold, and what only it says.
+/// Makes the wording of a program by its name, its format, the ending of its files, what its texts hold, which calls give or take canonical
+/// bytes, and what only it says.
 #[macro_export]
 macro_rules! wording {
-    ($program:literal, $format:literal, $ending:literal, $collections:literal, $files:literal, $files_long:literal, $own_flags:expr) => {
+    (
+        $program:literal, $format:literal, $ending:literal, $collections:literal, $canonical_calls:literal, $files:literal, $files_long:literal,
+        $own_flags:expr
+    ) => {
         $crate::Wording {
             name: $program,
             format: $format,
@@ -61,7 +65,7 @@ macro_rules! wording {
                 where all of a document stands in one line; 1000 by default.{n}Example: ",
                 $program, " --depth=5000 deep", $ending
             ),
-            flags: $crate::flags!($program, $ending, $collections),
+            flags: $crate::flags!($program, $ending, $collections, $canonical_calls),
             own_flags: $own_flags,
         }
     };
