@@ -1,4 +1,5 @@
 //! Values written, against bytes written by hand.
+mod blanks;
 mod headings;
 mod kinds;
 mod lists;
@@ -173,6 +174,7 @@ const WRITTEN: &[Table] = &[
     ("kinds", kinds::CALLS),
     ("styles", styles::CALLS),
     ("texts", texts::CALLS),
+    ("blanks", blanks::CALLS),
     ("timestamps", timestamps::CALLS),
     ("parts", parts::CALLS),
     ("refused", refused::CALLS),
@@ -181,6 +183,7 @@ const WRITTEN: &[Table] = &[
 const CANONICAL: &[Table] = &[
     ("kinds", kinds::CANONICAL),
     ("styles", styles::CANONICAL),
+    ("blanks", blanks::CANONICAL),
     ("timestamps", timestamps::CANONICAL),
 ];
 
@@ -198,6 +201,15 @@ fn values_are_written_in_double_quotes(rt: HostRuntime) {
         ..value_settings()
     };
     check_table(&rt, rt.alloc(), settings, &("styles", styles::DOUBLE));
+}
+
+#[test]
+fn values_are_written_without_literal_blanks(rt: HostRuntime) {
+    let settings = Settings {
+        literal_blanks: false,
+        ..value_settings()
+    };
+    check_table(&rt, rt.alloc(), settings, &("blanks", blanks::QUOTED));
 }
 
 #[test]
