@@ -1,6 +1,6 @@
 -- Where an error says that a text is refused.
-use Rattle.std.specs.Prelude.{ℕ, ◌-◌, List, length}
-use Rattle.toml_ordered.specs.Places.{StopsAt}
+use Rattle.std.specs.Prelude.{ℕ, ◌-◌, List, length, string_bytes}
+use Rattle.toml_ordered.specs.Places.{Conflict, StopsAt}
 use Rattle.yaml_json.specs.Places.{AreOf}
 use Rattle.yaml_toml.specs.Walk.{DeniesToml}
 use Rattle.yaml_toml.specs.declared.error.TomlError.{TomlError}
@@ -16,3 +16,10 @@ IsAt text left _ = ⊥
 -- there or behind
 abbrev pub HasPlace : (text : List ℕ) → TomlError → Type 0
 HasPlace text error = DeniesToml error → (left : ℕ) × StopsAt text left × IsAt text left error
+
+-- where an error says that a key is defined again, the text defines this key so, at both places that the error has
+abbrev pub HasConflict : (text : List ℕ) → TomlError → Type 0
+HasConflict text (errors.DefinedAgain key first_line first_column line column) =
+    (first : ℕ) × (second : ℕ) × Conflict text (string_bytes key) first second
+    × AreOf text (length text - first) first_line first_column × AreOf text (length text - second) line column
+HasConflict text _ = Unit {0}

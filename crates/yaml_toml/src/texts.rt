@@ -1,7 +1,7 @@
 //! TOML documents as YAML.
 ghost use Rattle.std.specs.Prelude.{◌≡◌, ◌-◌, IfErr, IfOk, IfSome, None, OnOk, length};
 ghost use Rattle.toml_ordered.specs.Grammar.{ordered_document};
-ghost use Rattle.toml_ordered.specs.Places.{place_left};
+ghost use Rattle.toml_ordered.specs.Places.{IsConflict, place_left};
 ghost use Rattle.yaml_emitter.specs.Given.{seen_settings};
 ghost use Rattle.yaml_json.specs.Places.{AreOf};
 ghost use Rattle.yaml_json.specs.Wrote.{IsBare};
@@ -9,7 +9,7 @@ ghost use Rattle.yaml_pen.specs.Wrote.{Grows};
 ghost use Rattle.yaml_toml.specs.Depth.{ExplainsDepth, NestsWithin};
 ghost use Rattle.yaml_toml.specs.Failing.{FailsBy, StopsInDocument};
 ghost use Rattle.yaml_toml.specs.Means.{IsYamlOf};
-ghost use Rattle.yaml_toml.specs.Places.{HasPlace, IsAt};
+ghost use Rattle.yaml_toml.specs.Places.{HasConflict, HasPlace, IsAt};
 ghost use Rattle.yaml_toml.specs.Walk.{DeniesToml, IsSound, WroteToml, fault_error, stop_error, writers_error};
 
 use crate::error::TomlError;
@@ -31,6 +31,7 @@ fn place_before(text: &str, left: usize) -> (usize, usize)
 fn error_of(text: &str, fault: Fault) -> TomlError
     ensures error { writers_error result ≡ fault_error fault }
     ensures place { IfSome (place_left fault) (λ left. IsAt text.now left result) }
+    ensures conflict { IsConflict text.now fault → HasConflict text.now result }
 {
     match fault {
         Fault::Memory => TomlError::Emitter(yaml_error_t::Memory),
@@ -89,6 +90,7 @@ pub fn write_toml<A: Allocator + Copy>(
     ensures deep { IfErr result (ExplainsDepth settings.depth text.now) }
     ensures stopped { IfErr result (λ error. StopsInDocument settings.depth settings.flow text.now writer.old error writer.new) }
     ensures place { IfErr result (HasPlace text.now) }
+    ensures conflict { IfErr result (HasConflict text.now) }
 {
     let root = match read_document(alloc, text) {
         Ok(root) => root,
@@ -118,6 +120,7 @@ pub fn yaml_from_toml(
     ensures failed { IfErr result (λ error. IfSome (writers_error error)
         (FailsBy (seen_settings settings.writer) settings.flow settings.depth text.now)) }
     ensures place { IfErr result (HasPlace text.now) }
+    ensures conflict { IfErr result (HasConflict text.now) }
 {
     let Ok(mut writer) = Writer::new(alloc, settings.writer) else {
         return Err(TomlError::Emitter(yaml_error_t::Memory));
