@@ -12,3 +12,12 @@ pub mod NameLemmas
 pub mod WalkStateLemmas
 pub mod WalkLemmas
 pub mod rows
+pub mod InOrderLemmas
+pub mod InOrderEvents
+pub mod NameNumbers
+pub mod CarrierLemmas
+pub mod CompositionLemmas
+pub mod CompositionRuns
+pub mod ComposerLemmas
+pub mod SameEventLemmas
+pub mod ComposingLemmas

@@ -1,1 +1,2 @@
 pub mod RowsKeptDocuments
+pub mod RowsComposing

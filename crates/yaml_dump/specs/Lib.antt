@@ -9,3 +9,8 @@ pub mod WalkState
 pub mod WalkSteps
 pub mod DumpsTell
 pub mod TypedDumps
+pub mod InOrder
+pub mod Composition
+pub mod SeenComposer
+pub mod SameEvents
+pub mod Composing

@@ -1,19 +1,25 @@
 //! Documents, dumped: a graph of nodes becomes the events of a document.
 #![tactic(auto)]
 
+mod anchor_numbers;
 mod anchors;
+mod composer;
+mod composing;
 mod copies;
 mod dumps;
 mod emitting;
 mod events;
 mod laws;
 mod outlines;
+mod same_events;
 mod steps;
 mod streams;
 mod tags;
 mod typed;
 mod walk;
 
+pub use composing::ComposeError;
+pub use composing::document_of_events;
 pub use dumps::document_events;
 pub use dumps::yaml_emitter_dump;
 pub use emitting::emit_each;

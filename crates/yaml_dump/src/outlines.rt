@@ -33,7 +33,7 @@ fn copied_directive<A: Allocator + Copy>(
     Ok(yaml_tag_directive_t { handle, prefix })
 }
 
-fn copied_directives<A: Allocator + Copy>(
+pub(crate) fn copied_directives<A: Allocator + Copy>(
     alloc: A,
     directives: &[yaml_tag_directive_t<A>],
 ) -> Result<Vec<yaml_tag_directive_t<A>, A>, AllocError>

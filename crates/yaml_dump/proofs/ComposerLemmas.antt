@@ -1,0 +1,116 @@
+-- What the composer's lists are, as they are seen.
+use Rattle.yaml_base.proofs.Common.{suc, ℕ, ℤ, ◌+◌, ◌*◌, ◌<◌, ◌≤◌, length, replicate, drop, slice_index_or as get_or, List, [], map, ◌∷◌, ◌++◌, refl, ◌≡◌, ap, sym, ◌∙◌, arith, pos, zero}
+use Rattle.yaml_base.proofs.Common.{map-append, append_assoc, append-nil, length-map}
+use Rattle.yaml_base.specs.declared.nodes.yaml_node_pair_t.{yaml_node_pair_t}
+use Rattle.yaml_base.specs.graphs.SeenNodes.{seen_pair}
+use Rattle.std.specs.Prelude.{take, fold}
+use Rattle.std.proofs.Common.{to_z, of_z}
+use Rattle.std.proofs.lemmas.List.Sums.{fold-append}
+use Rattle.yaml_base.specs.Seen.{seen_event}
+use Rattle.yaml_base.specs.declared.events.yaml_event_t.{yaml_event_t}
+use Rattle.yaml_dump.specs.Composition.{composed}
+use Rattle.std.specs.Prelude.{FitsSigned, slice_set, reverse}
+use Rattle.std.proofs.Common.{w32, drop-cons}
+use Rattle.std.proofs.lemmas.List.{length-drop, map-set, take_more}
+use Rattle.yaml_dump.specs.Composition.{filled, node_with, node_at_place}
+use Rattle.std.proofs.lemmas.Int.{to_z-of_z}
+use Rattle.yaml_base.specs.graphs.Meetings.{NumberPair}
+use Rattle.yaml_base.specs.graphs.SeenNodes.{seen_number, seen_node}
+use Rattle.yaml_base.specs.declared.nodes.yaml_node_t.{yaml_node_t}
+use Rattle.yaml_dump.specs.Composition.{Composition, at_start, paired}
+use Rattle.yaml_dump.specs.SeenComposer.{seen_unended}
+use Rattle.yaml_dump.specs.declared.composer.Unended.{Unended}
+
+pub carrier_set : (carriers : List ℤ) (number : ℕ) (carrier : ℤ) → FitsSigned w32 carrier
+    → map seen_number (slice_set carriers number (to_z w32 (of_z w32 carrier))) ≡ slice_set (map seen_number carriers) number (seen_number carrier)
+carrier_set carriers number carrier fits =
+    ap (λ (z : ℤ). map seen_number (slice_set carriers number z)) (to_z-of_z w32 carrier fits) ∙ map-set seen_number carriers number carrier
+
+zeros_seen : (count : ℕ) → map seen_number (replicate count (pos 0)) ≡ replicate count 0
+zeros_seen zero = refl
+zeros_seen (suc count) = ap (λ (rest : List ℕ). 0 ∷ rest) (zeros_seen count)
+
+pub starts : {A : Type 0} (count : ℕ) (nodes : List (yaml_node_t A)) (unended : List (Unended A)) (carriers : List ℤ) → nodes ≡ [] → unended ≡ []
+    → carriers ≡ replicate count (pos 0)
+    → ◌≡◌ {A = Composition} (record { nodes = map seen_node nodes; unended = reverse (map seen_unended unended); carriers = map seen_number carriers })
+    (at_start count)
+starts count nodes unended carriers none no_unended zeros =
+    ap {B = Composition} (λ list. record { nodes = map seen_node list; unended = reverse (map seen_unended unended); carriers = map seen_number carriers }) none
+    ∙ ap {B = Composition} (λ list. record { nodes = []; unended = reverse (map seen_unended list); carriers = map seen_number carriers }) no_unended
+    ∙ ap {B = Composition} (λ list. record { nodes = []; unended = []; carriers = map seen_number list }) zeros
+    ∙ ap {B = Composition} (λ list. record { nodes = []; unended = []; carriers = list }) (zeros_seen count)
+
+pub pairs_more : (numbers : List ℤ) (place : ℕ) (d : ℤ) → 2 * place + 1 < length numbers
+    → paired (map seen_number (drop (2 * place) numbers))
+    ≡ record { key = seen_number (get_or numbers (2 * place) d); value = seen_number (get_or numbers (2 * place + 1) d) }
+    ∷ paired (map seen_number (drop (2 * (place + 1)) numbers))
+pairs_more numbers place d within =
+    let next : suc (2 * place) ≡ 2 * place + 1 = omega arith in
+    let last : suc (2 * place + 1) ≡ 2 * (place + 1) = omega arith in
+    ap (λ list. paired (map seen_number list))
+    (drop-cons numbers (2 * place) d (omega (arith, within))
+    ∙ ap (λ (n : ℕ). get_or numbers (2 * place) d ∷ drop n numbers) next
+    ∙ ap (λ list. get_or numbers (2 * place) d ∷ list) (drop-cons numbers (2 * place + 1) d within)
+    ∙ ap (λ (n : ℕ). get_or numbers (2 * place) d ∷ get_or numbers (2 * place + 1) d ∷ drop n numbers) last)
+
+pub few_paired : (numbers : List ℕ) → length numbers ≤ 1 → paired numbers ≡ []
+few_paired [] few = refl
+few_paired (number ∷ []) few = refl
+few_paired (number ∷ other ∷ rest) few = absurd (omega (arith, few))
+
+pub pairs_kept : (numbers : List ℤ) (before now : List yaml_node_pair_t) (place : ℕ) (pair : yaml_node_pair_t) → now ≡ before ++ pair ∷ []
+    → paired (map seen_number (drop (2 * place) numbers)) ≡ seen_pair pair ∷ paired (map seen_number (drop (2 * (place + 1)) numbers))
+    → map seen_pair before ++ paired (map seen_number (drop (2 * place) numbers)) ≡ paired (map seen_number numbers)
+    → map seen_pair now ++ paired (map seen_number (drop (2 * (place + 1)) numbers)) ≡ paired (map seen_number numbers)
+pairs_kept numbers before now place pair is next so_far =
+    let rest = paired (map seen_number (drop (2 * (place + 1)) numbers)) in
+    ap (λ list. map seen_pair list ++ rest) is
+    ∙ ap (λ list. list ++ rest) (map-append seen_pair before (pair ∷ []))
+    ∙ append_assoc (map seen_pair before) (seen_pair pair ∷ []) rest
+    ∙ ap (λ list. map seen_pair before ++ list) (sym next)
+    ∙ so_far
+
+pub all_paired : (numbers : List ℤ) (pairs : List yaml_node_pair_t) (place : ℕ) → length numbers ≤ 2 * place + 1
+    → map seen_pair pairs ++ paired (map seen_number (drop (2 * place) numbers)) ≡ paired (map seen_number numbers)
+    → map seen_pair pairs ≡ paired (map seen_number numbers)
+all_paired numbers pairs place end so_far =
+    let left : length (map seen_number (drop (2 * place) numbers)) ≤ 1 =
+    omega (arith, length-map (drop (2 * place) numbers) seen_number, length-drop (2 * place) numbers, end) in
+    sym (append-nil (map seen_pair pairs))
+    ∙ ap (λ list. map seen_pair pairs ++ list) (sym (few_paired (map seen_number (drop (2 * place) numbers)) left))
+    ∙ so_far
+
+at_mapped : {A : Type 0} (nodes : List (yaml_node_t A)) (place : ℕ) (d : yaml_node_t A) → place < length nodes
+    → node_at_place (map seen_node nodes) place ≡ seen_node (get_or nodes place d)
+at_mapped [] place d within = absurd (omega (arith, within))
+at_mapped (node ∷ nodes) zero d within = refl
+at_mapped (node ∷ nodes) (suc place) d within = at_mapped nodes place d (omega (arith, within))
+
+pub filled_so : {A : Type 0} (nodes : List (yaml_node_t A)) (place : ℕ) (node now : yaml_node_t A) (children : List ℕ) → place < length nodes
+    → node ≡ get_or nodes place node → seen_node now ≡ node_with children (seen_node node)
+    → map seen_node (slice_set nodes place now) ≡ filled children place (map seen_node nodes)
+filled_so nodes place node now children within is with_children =
+    map-set seen_node nodes place now
+    ∙ ap (slice_set (map seen_node nodes) place)
+    (with_children ∙ ap (λ (n : yaml_node_t _). node_with children (seen_node n)) is ∙ ap (node_with children) (sym (at_mapped nodes place node within)))
+
+pub pair_seen : (key value : ℤ) → FitsSigned w32 key → FitsSigned w32 value
+    → ◌≡◌ {A = NumberPair} (record { key = seen_number key; value = seen_number value })
+    (seen_pair (record { key = to_z w32 (of_z w32 key); value = to_z w32 (of_z w32 value) }))
+pair_seen key value key_fits value_fits =
+    ap {B = NumberPair} (λ (z : ℤ). record { key = seen_number z; value = seen_number value }) (sym (to_z-of_z w32 key key_fits))
+    ∙ ap {B = NumberPair} (λ (z : ℤ). record { key = seen_number (to_z w32 (of_z w32 key)); value = seen_number z }) (sym (to_z-of_z w32 value value_fits))
+
+-- behind one more event of a list
+pub one_more : {A : Type 0} (events : List (yaml_event_t A)) (place : ℕ) (event : yaml_event_t A) (before now start : Composition) → place < length events
+    → event ≡ get_or events place event
+    → before ≡ fold composed start (map seen_event (take place events)) → now ≡ composed before (seen_event event)
+    → now ≡ fold composed start (map seen_event (take (place + 1) events))
+one_more events place event before now start within at so_far is =
+    let seen = map seen_event (take place events) in
+    is
+    ∙ ap (λ (standing : Composition). composed standing (seen_event event)) so_far
+    ∙ sym (fold-append composed start seen (seen_event event ∷ []))
+    ∙ ap (λ item. fold composed start (seen ++ seen_event item ∷ [])) at
+    ∙ ap (fold composed start)
+    (sym (map-append seen_event (take place events) (get_or events place event ∷ [])) ∙ ap (map seen_event) (sym (take_more events place event within)))

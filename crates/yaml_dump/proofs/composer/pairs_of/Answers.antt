@@ -1,0 +1,20 @@
+use Rattle.std.proofs.Common.{pos, ◌∷◌, ◌+◌, arith, ◌∙◌, ap, map, ◌*◌, drop, rules, w32, slice_index_or as get_or, FitsSigned}
+use Rattle.yaml_base.specs.graphs.SeenNodes.{seen_number}
+use Rattle.yaml_dump.specs.Composition.{paired}
+use Rattle.yaml_dump.proofs.ComposerLemmas.{pairs_kept, pairs_more, pair_seen, all_paired}
+use Rattle.yaml_dump.proofs.composer.pairs_of.Goals as goal
+
+pub loop-place-preserved : goal.loop-place-preserved
+loop-place-preserved g c =
+    let numbers = c.args.numbers.now in
+    let place = c.loop-place.place in
+    let key = get_or numbers (2 * place) (pos 0) in
+    let value = get_or numbers (2 * place + 1) (pos 0) in
+    let key_fits : FitsSigned w32 key = search (rules, c.well_formed) in
+    let value_fits : FitsSigned w32 value = search (rules, c.well_formed) in
+    pairs_kept numbers c.loop-place.pairs.items c.push.new.self.items place _ c.in_ok-push.ensures.items
+    (pairs_more numbers place (pos 0) (omega (arith, c.loop-place-test.true))
+    ∙ ap (λ pair. pair ∷ paired (map seen_number (drop (2 * (place + 1)) numbers))) (pair_seen key value key_fits value_fits)) c.loop-place.invariant
+
+pub returns : goal.returns
+returns g c = all_paired c.args.numbers.now c.loop-place.pairs.items c.loop-place.place (omega (arith, c.loop-place-test.false)) c.loop-place.invariant

@@ -1,0 +1,42 @@
+-- A graph whose nodes are numbered in the order in which its walk enters them; those that aren't reached are left out.
+use Rattle.std.specs.Prelude.{ℕ, suc, ◌==◌, Option, None, Some, List, [], map, filter_map, unwrap_or}
+use Rattle.std.specs.List.{position_or_len}
+use Rattle.yaml_base.specs.Event.{any_style}
+use Rattle.yaml_base.specs.graphs.Meetings.{Held, scalar_held, sequence_held, mapping_held, GraphNode, Graph, node_numbered, Step, enters, steps}
+
+-- the node that a step enters
+abbrev pub node_entered : Step → Option ℕ
+node_entered (enters number) = Some number
+node_entered _ = None
+
+-- the nodes in the order in which steps enter them
+abbrev pub entered : List Step → List ℕ
+entered walk = filter_map node_entered walk
+
+-- a node's place in an order, from 1 on
+abbrev pub place_in : List ℕ → ℕ → ℕ
+place_in order number = suc (position_or_len (λ other. other == number) order)
+
+-- what a node holds, by other numbers
+abbrev pub held_by : (ℕ → ℕ) → Held → Held
+held_by place (scalar_held value style) = scalar_held value style
+held_by place (sequence_held items style) = sequence_held (map place items) style
+held_by place (mapping_held pairs style) = mapping_held (map (λ pair. record { key = place pair.key; value = place pair.value }) pairs) style
+
+-- a node by other numbers
+abbrev pub node_by : (ℕ → ℕ) → GraphNode → GraphNode
+node_by place node = record { tag = node.tag; held = held_by place node.held }
+
+-- the node of a number; an empty one where there is none
+abbrev pub node_at : Graph → ℕ → GraphNode
+node_at graph number = unwrap_or (node_numbered graph number) (record { tag = []; held = scalar_held [] any_style })
+
+-- the nodes of some numbers, in this order, which are numbered by it
+abbrev pub nodes_in : Graph → List ℕ → List ℕ → List GraphNode
+nodes_in graph order numbers = map (λ number. node_by (place_in order) (node_at graph number)) numbers
+
+-- the graph with its nodes in the order in which the walk enters them
+abbrev pub in_order : Graph → Graph
+in_order graph =
+    let order = entered (steps graph) in
+    record { start = graph.start; nodes = nodes_in graph order order; end_implicit = graph.end_implicit }

@@ -1,0 +1,257 @@
+//! The nodes of a document, composed of its events.
+ghost use Rattle.std.specs.Prelude.{◌≡◌, [], ◌∷◌, IfOk, map, option_map, length, unwrap_or, fold, slice_index_or};
+ghost use Rattle.yaml_base.specs.Seen.{seen_text, seen_event};
+ghost use Rattle.yaml_base.specs.graphs.Meetings.{GraphNode};
+ghost use Rattle.yaml_base.specs.graphs.SeenNodes.{seen_number, seen_node, seen_pair};
+ghost use Rattle.yaml_dump.specs.Composition.{with_children, begun_node, opened_node, carried, at_start, composed, ended, filled, node_with, paired};
+ghost use Rattle.yaml_dump.specs.SeenComposer.{seen_composer};
+
+use crate::anchor_numbers::{number_in_name, number_of_anchor};
+use std::alloc::{AllocError, Allocator};
+use yaml_base::{yaml_event_t, yaml_node_data_t, yaml_node_pair_t, yaml_node_t};
+
+/// A collection that hasn't ended: where its node stands, and the numbers of its children so far.
+#[derive(Drop)]
+struct Unended<A: Allocator> {
+    place: usize,
+    children: Vec<i32, A>,
+}
+
+/// How far the composing came.
+#[derive(Drop)]
+struct Composer<A: Allocator> {
+    /// The nodes that have begun. A collection gets its children where it ends.
+    nodes: Vec<yaml_node_t<A>, A>,
+    /// The outermost first.
+    unended: Vec<Unended<A>, A>,
+    /// Of each number of a name the number of the node that carries it, else 0.
+    carriers: Vec<i32, A>,
+}
+
+/// Pairs of numbers that follow one another.
+fn pairs_of<A: Allocator>(alloc: A, numbers: &[i32]) -> Result<Vec<yaml_node_pair_t, A>, AllocError>
+    ensures { IfOk result (λ pairs. map seen_pair pairs.items ≡ paired (map seen_number numbers.now)) }
+{
+    let count = numbers.len() / 2;
+    let mut pairs = Vec::with_capacity(alloc, count)?;
+    for place in 0..count {
+        let key = numbers[2 * place];
+        let value = numbers[2 * place + 1];
+        pairs.push(yaml_node_pair_t { key, value })?;
+    }
+    Ok(pairs)
+}
+
+/// Gives a collection its children.
+fn fill<A: Allocator + Copy>(
+    alloc: A,
+    node: &mut yaml_node_t<A>,
+    children: Vec<i32, A>,
+) -> Result<(), AllocError>
+    ensures { IfOk result (λ _. seen_node node.new ≡ node_with (map seen_number children.items) (seen_node node.old)) }
+{
+    match &mut node.contents {
+        yaml_node_data_t::Scalar { .. } => {}
+        yaml_node_data_t::Sequence { items, .. } => *items = children,
+        yaml_node_data_t::Mapping { pairs, .. } => {
+            let Ok(filled) = pairs_of(alloc, children.as_slice()) else {
+                return Err(AllocError);
+            };
+            *pairs = filled;
+        }
+    }
+    Ok(())
+}
+
+/// Gives the collection at a place its children.
+fn fill_at<A: Allocator + Copy>(
+    alloc: A,
+    nodes: &mut Vec<yaml_node_t<A>, A>,
+    place: usize,
+    children: Vec<i32, A>,
+) -> Result<(), AllocError>
+    ensures { IfOk result (λ _. map seen_node nodes.new.items ≡ filled (map seen_number children.items) place (map seen_node nodes.old.items)) }
+{
+    if place >= nodes.len() {
+        return Ok(());
+    }
+    fill(alloc, &mut nodes[place], children)
+}
+
+/// A copy of a tag; an empty text where there is none.
+fn copied_tag<A: Allocator + Copy>(
+    alloc: A,
+    tag: &Option<String<A>>,
+) -> Result<String<A>, AllocError>
+    ensures { IfOk result (λ copy. seen_text copy ≡ unwrap_or (option_map seen_text tag.now) []) }
+{
+    match tag {
+        Some(text) => String::from_str(alloc, text.as_str()),
+        None => Ok(String::new(alloc)),
+    }
+}
+
+impl<A: Allocator> Composer<A> {
+    /// Before the first event, for so many numbers of names.
+    fn at_start(alloc: A, count: usize) -> Result<Composer<A>, AllocError>
+    where
+        A: Copy,
+        ensures { IfOk result (λ composer. seen_composer composer ≡ at_start count) }
+    {
+        Ok(Composer {
+            nodes: Vec::new(alloc),
+            unended: Vec::new(alloc),
+            carriers: vec![in alloc; 0; count]?,
+        })
+    }
+
+    /// Adds a child to the innermost collection.
+    fn add(&mut self, child: i32) -> Result<(), AllocError>
+        ensures { IfOk result (λ _. seen_composer self.new ≡ with_children (seen_number child ∷ []) (seen_composer self.old)) }
+    {
+        let Some(mut collection) = self.unended.pop() else {
+            return Ok(());
+        };
+        collection.children.push(child)?;
+        self.unended.push(collection)?;
+        Ok(())
+    }
+
+    /// The number of the node that carries a name of this number.
+    fn carrier(&self, number: usize) -> i32
+        ensures { seen_number result ≡ slice_index_or (seen_composer self.now).carriers number 0 }
+    {
+        match self.carriers.as_slice().get(number) {
+            Some(carrier) => *carrier,
+            None => 0,
+        }
+    }
+
+    /// Notes who carries a name of this number.
+    fn carry(&mut self, number: usize, carrier: i32)
+        ensures { seen_composer self.new ≡ carried number (seen_number carrier) (seen_composer self.old) }
+    {
+        if number < self.carriers.len() {
+            self.carriers[number] = carrier;
+        }
+    }
+
+    /// Begins a node whose anchor has this number.
+    fn begin(&mut self, anchor: usize, node: yaml_node_t<A>) -> Result<(), AllocError>
+        ensures { IfOk result (λ _. seen_composer self.new ≡ begun_node anchor (seen_node node) (seen_composer self.old)) }
+    {
+        let before = self.nodes.len();
+        if before >= i32::MAX as usize {
+            return Err(AllocError);
+        }
+        let number = before as i32 + 1;
+        self.carry(anchor, number);
+        self.nodes.push(node)?;
+        self.add(number)
+    }
+
+    /// Begins a collection.
+    fn open(&mut self, alloc: A, anchor: usize, node: yaml_node_t<A>) -> Result<(), AllocError>
+        ensures { IfOk result (λ _. seen_composer self.new ≡ opened_node anchor (seen_node node) (seen_composer self.old)) }
+    {
+        let place = self.nodes.len();
+        self.begin(anchor, node)?;
+        let children = Vec::new(alloc);
+        self.unended.push(Unended { place, children })?;
+        Ok(())
+    }
+
+    /// Ends the innermost collection.
+    fn end(&mut self, alloc: A) -> Result<(), AllocError>
+    where
+        A: Copy,
+        ensures { IfOk result (λ _. seen_composer self.new ≡ ended (seen_composer self.old).unended (seen_composer self.old)) }
+    {
+        let Some(collection) = self.unended.pop() else {
+            return Ok(());
+        };
+        let Unended { place, children } = collection;
+        fill_at(alloc, &mut self.nodes, place, children)
+    }
+
+    /// Takes an event.
+    fn take(&mut self, alloc: A, event: &yaml_event_t<A>) -> Result<(), AllocError>
+    where
+        A: Copy,
+        ensures { IfOk result (λ _. seen_composer self.new ≡ composed (seen_composer self.old) (seen_event event.now)) }
+    {
+        match event {
+            yaml_event_t::YAML_ALIAS_EVENT { anchor } => {
+                let child = self.carrier(number_in_name(anchor.as_str()));
+                self.add(child)
+            }
+            yaml_event_t::YAML_SCALAR_EVENT {
+                anchor,
+                tag,
+                value,
+                style,
+                ..
+            } => {
+                let tag = copied_tag(alloc, tag)?;
+                let value = String::from_str(alloc, value.as_str())?;
+                let contents = yaml_node_data_t::Scalar {
+                    value,
+                    style: *style,
+                };
+                self.begin(number_of_anchor(anchor), yaml_node_t { tag, contents })
+            }
+            yaml_event_t::YAML_SEQUENCE_START_EVENT {
+                anchor,
+                tag,
+                style,
+                ..
+            } => {
+                let tag = copied_tag(alloc, tag)?;
+                let contents = yaml_node_data_t::Sequence {
+                    items: Vec::new(alloc),
+                    style: *style,
+                };
+                self.open(
+                    alloc,
+                    number_of_anchor(anchor),
+                    yaml_node_t { tag, contents },
+                )
+            }
+            yaml_event_t::YAML_MAPPING_START_EVENT {
+                anchor,
+                tag,
+                style,
+                ..
+            } => {
+                let tag = copied_tag(alloc, tag)?;
+                let contents = yaml_node_data_t::Mapping {
+                    pairs: Vec::new(alloc),
+                    style: *style,
+                };
+                self.open(
+                    alloc,
+                    number_of_anchor(anchor),
+                    yaml_node_t { tag, contents },
+                )
+            }
+            yaml_event_t::YAML_SEQUENCE_END_EVENT => self.end(alloc),
+            yaml_event_t::YAML_MAPPING_END_EVENT => self.end(alloc),
+            _ => Ok(()),
+        }
+    }
+}
+
+/// The nodes of which these are the events, in the order in which they begin.
+pub(crate) fn composed_nodes<A: Allocator + Copy>(
+    alloc: A,
+    events: &[yaml_event_t<A>],
+) -> Result<Vec<yaml_node_t<A>, A>, AllocError>
+    ensures { IfOk result (λ nodes. map seen_node nodes.items
+        ≡ (fold composed (at_start (length events.now)) (map seen_event events.now)).nodes) }
+{
+    let mut composer = Composer::at_start(alloc, events.len())?;
+    for event in events {
+        composer.take(alloc, event)?;
+    }
+    Ok(composer.nodes)
+}
