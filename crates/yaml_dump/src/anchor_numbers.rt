@@ -6,7 +6,7 @@ ghost use Rattle.yaml_dump.specs.Composition as composition;
 
 use std::alloc::Allocator;
 
-/// A number with one more digit, where that fits. Other characters change nothing.
+/// Returns a number with one more digit, where that fits. Other characters change nothing.
 fn with_digit(number: usize, character: char) -> usize
     ensures { result ≡ composition.with_digit number character }
 {
@@ -21,7 +21,7 @@ fn with_digit(number: usize, character: char) -> usize
     }
 }
 
-/// The number that the digits of a name write.
+/// Returns the number that the digits of a name write.
 pub(crate) fn number_in_name(name: &str) -> usize
     ensures { result ≡ composition.number_in_name (chars name.now) }
 {
@@ -32,7 +32,7 @@ pub(crate) fn number_in_name(name: &str) -> usize
     number
 }
 
-/// That of an anchor; 0 without one.
+/// Returns the number in the name of an anchor; 0 without one.
 pub(crate) fn number_of_anchor<A: Allocator>(anchor: &Option<String<A>>) -> usize
     ensures { result ≡ composition.number_of_anchor (option_map seen_text anchor.now) }
 {

@@ -28,7 +28,7 @@ struct Composer<A: Allocator> {
     carriers: Vec<i32, A>,
 }
 
-/// Pairs of numbers that follow one another.
+/// Returns pairs of numbers that follow one another.
 fn pairs_of<A: Allocator>(alloc: A, numbers: &[i32]) -> Result<Vec<yaml_node_pair_t, A>, AllocError>
     ensures { IfOk result (λ pairs. map seen_pair pairs.items ≡ paired (map seen_number numbers.now)) }
 {
@@ -78,7 +78,7 @@ fn fill_at<A: Allocator + Copy>(
     fill(alloc, &mut nodes[place], children)
 }
 
-/// A copy of a tag; an empty text where there is none.
+/// Returns a copy of a tag; an empty text where there is none.
 fn copied_tag<A: Allocator + Copy>(
     alloc: A,
     tag: &Option<String<A>>,
@@ -92,7 +92,7 @@ fn copied_tag<A: Allocator + Copy>(
 }
 
 impl<A: Allocator> Composer<A> {
-    /// Before the first event, for so many numbers of names.
+    /// Returns a composer before the first event, for so many numbers of names.
     fn at_start(alloc: A, count: usize) -> Result<Composer<A>, AllocError>
     where
         A: Copy,
@@ -117,7 +117,7 @@ impl<A: Allocator> Composer<A> {
         Ok(())
     }
 
-    /// The number of the node that carries a name of this number.
+    /// Returns the number of the node that carries a name of this number.
     fn carrier(&self, number: usize) -> i32
         ensures { seen_number result ≡ slice_index_or (seen_composer self.now).carriers number 0 }
     {
@@ -241,7 +241,7 @@ impl<A: Allocator> Composer<A> {
     }
 }
 
-/// The nodes of which these are the events, in the order in which they begin.
+/// Returns the nodes of which these are the events, in the order in which they begin.
 pub(crate) fn composed_nodes<A: Allocator + Copy>(
     alloc: A,
     events: &[yaml_event_t<A>],

@@ -49,7 +49,7 @@ struct Heading<A: Allocator> {
     implicit: bool,
 }
 
-/// A copy of what a document's first event holds; none where the event begins no document.
+/// Returns a copy of what a document's first event holds; none where the event begins no document.
 fn heading_of<A: Allocator + Copy>(
     alloc: A,
     event: &yaml_event_t<A>,
@@ -75,7 +75,7 @@ fn heading_of<A: Allocator + Copy>(
     }))
 }
 
-/// Whether `...` may be left out after a document's last event; none where the event ends no document.
+/// Returns whether `...` may be left out after a document's last event; none where the event ends no document.
 fn end_of<A: Allocator>(event: &yaml_event_t<A>) -> Option<bool>
     ensures { (implicit : Bool) → seen_event event.now ≡ document_end implicit → result ≡ Some implicit }
 {
@@ -85,7 +85,7 @@ fn end_of<A: Allocator>(event: &yaml_event_t<A>) -> Option<bool>
     }
 }
 
-/// The document of these parts; none where a node holds a number that names none.
+/// Returns the document of these parts; none where a node holds a number that names none.
 fn document_of<A: Allocator>(
     heading: Heading<A>,
     nodes: Vec<yaml_node_t<A>, A>,
@@ -108,7 +108,7 @@ fn document_of<A: Allocator>(
     }
 }
 
-/// The document that has these events, if one has them; else none, or any document.
+/// Returns the document that has these events, if one has them; else none, or any document.
 fn composed_document<A: Allocator + Copy>(
     alloc: A,
     events: &[yaml_event_t<A>],

@@ -101,7 +101,7 @@ fn are_same_directives<A: Allocator>(
     true
 }
 
-/// Whether both are scalars, and the same.
+/// Returns whether both are scalars, and the same.
 fn is_same_scalar<A: Allocator>(first: &yaml_event_t<A>, second: &yaml_event_t<A>) -> bool
     ensures { Decides result (SameScalars (seen_event first.now) (seen_event second.now)) }
 {
@@ -135,7 +135,7 @@ fn is_same_scalar<A: Allocator>(first: &yaml_event_t<A>, second: &yaml_event_t<A
         & is_same_scalar_style(*style, *other_style)
 }
 
-/// Whether both begin sequences, and are the same.
+/// Returns whether both begin sequences, and are the same.
 fn is_same_sequence<A: Allocator>(first: &yaml_event_t<A>, second: &yaml_event_t<A>) -> bool
     ensures { Decides result (SameSequences (seen_event first.now) (seen_event second.now)) }
 {
@@ -163,7 +163,7 @@ fn is_same_sequence<A: Allocator>(first: &yaml_event_t<A>, second: &yaml_event_t
         & is_same_sequence_style(*style, *other_style)
 }
 
-/// Whether both begin mappings, and are the same.
+/// Returns whether both begin mappings, and are the same.
 fn is_same_mapping<A: Allocator>(first: &yaml_event_t<A>, second: &yaml_event_t<A>) -> bool
     ensures { Decides result (SameMappings (seen_event first.now) (seen_event second.now)) }
 {
@@ -191,7 +191,7 @@ fn is_same_mapping<A: Allocator>(first: &yaml_event_t<A>, second: &yaml_event_t<
         & is_same_mapping_style(*style, *other_style)
 }
 
-/// Whether both begin documents, and are the same.
+/// Returns whether both begin documents, and are the same.
 fn is_same_start<A: Allocator>(first: &yaml_event_t<A>, second: &yaml_event_t<A>) -> bool
     ensures { Decides result (SameStarts (seen_event first.now) (seen_event second.now)) }
 {
@@ -216,7 +216,7 @@ fn is_same_start<A: Allocator>(first: &yaml_event_t<A>, second: &yaml_event_t<A>
         & is_same_flag(*implicit, *other_implicit)
 }
 
-/// Whether two events are the same.
+/// Returns whether two events are the same.
 fn is_same<A: Allocator>(first: &yaml_event_t<A>, second: &yaml_event_t<A>) -> bool
     ensures { Decides result (seen_event first.now ≡ seen_event second.now) }
 {
@@ -255,7 +255,7 @@ fn is_same<A: Allocator>(first: &yaml_event_t<A>, second: &yaml_event_t<A>) -> b
     }
 }
 
-/// Whether these are the same events, in order and as many.
+/// Returns whether these are the same events, in order and as many.
 pub(crate) fn are_same<A: Allocator>(first: &[yaml_event_t<A>], second: &[yaml_event_t<A>]) -> bool
     ensures { Decides result (map seen_event first.now ≡ map seen_event second.now) }
 {
