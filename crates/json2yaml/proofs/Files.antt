@@ -17,7 +17,7 @@ use Rattle.yaml_json.specs.declared.error.StreamError.{StreamError}
 use Rattle.yaml_json.specs.declared.settings.JsonSettings.{JsonSettings}
 use Rattle.yaml_json.proofs.GivenAndTaken.{appends_then, taking_then}
 use Rattle.yaml_json.proofs.TextsInTurn.{some_text}
-use Rattle.json2yaml.specs.Conversions.{IsYamlOfFiles, SendsBehind, SentFile, SentFiles, WroteLast}
+use Rattle.json2yaml.specs.Conversions.{IsYamlOfJsonFiles, SendsBehind, SentFile, SentJsonFiles, WroteLast}
 use Rattle.yaml_program.specs.Conversions.{AreBytesOf, WroteStream, names_read}
 
 -- ---- texts behind others
@@ -61,7 +61,7 @@ module _ (settings : JsonSettings) where
   one_file : (file : List ℕ) (was now : WriterState) (before after : Option (List ℕ)) (parts : List (List ℕ × Json))
       → map (λ part. part.0) parts ≡ texts_in file → AreJson settings.depth parts → HaveNamesOnce settings.unique_names (texts_in file)
       → (handed : List ℕ) → Appends before after handed → WroteTaking was (parts_events was.canonical settings.flow parts) handed now
-      → SentFiles settings (file ∷ []) was before now after
+      → SentJsonFiles settings (file ∷ []) was before now after
   one_file file was now before after [] cut each names handed sends wrote =
       let (next, later, is) = some_text file in absurd (cc (cut ∙ is))
   one_file file was now before after (first ∷ rest) cut each names handed sends wrote =
@@ -77,14 +77,14 @@ module _ (settings : JsonSettings) where
       }
 
   pub file_sent : (file : List ℕ) (was now : WriterState) (before after : Option (List ℕ)) → SentFile settings file was before now after
-      → SentFiles settings (file ∷ []) was before now after
+      → SentJsonFiles settings (file ∷ []) was before now after
   file_sent file was now before after sent =
       one_file file was now before after sent.parts sent.cut sent.each sent.names sent.handed sent.sends sent.wrote
 
   -- and another
   pub next_sent : (files : List (List ℕ)) (file : List ℕ) (was middle begun now : WriterState) (start held holds after : Option (List ℕ))
-      → SentFiles settings files was start middle held → BeginsNext middle held begun holds → SentFile settings file begun holds now after
-      → SentFiles settings (files ++ file ∷ []) was start now after
+      → SentJsonFiles settings files was start middle held → BeginsNext middle held begun holds → SentFile settings file begun holds now after
+      → SentJsonFiles settings (files ++ file ∷ []) was start now after
   next_sent files file was middle begun now start held holds after sent begins one =
       let other = file_sent file begun now holds after one in
       let parts = sent.first ∷ sent.rest in
@@ -117,7 +117,7 @@ module _ (settings : JsonSettings) where
   pub behind_none : (writer : WriterState) (held : Option (List ℕ)) (bytes_of : List ℕ → Option (List ℕ)) (more : List (List ℕ)) → AreBytesOf bytes_of [] more
       → SendsBehind settings more writer held writer held
   behind_none writer held bytes_of [] are files was start sent =
-      subst (λ (all : List (List ℕ)). SentFiles settings all was start writer held) (sym (append-nil files)) sent
+      subst (λ (all : List (List ℕ)). SentJsonFiles settings all was start writer held) (sym (append-nil files)) sent
   behind_none writer held bytes_of (file ∷ more) are files was start sent = absurd are
 
   -- the last of them
@@ -139,7 +139,7 @@ module _ (settings : JsonSettings) where
       → (more : List (List ℕ)) → AreBytesOf bytes_of (names ++ name ∷ []) more → SendsBehind settings more first held now after
   one_more_behind bytes_of names name first writer begun now held holds later after behind begins one more are files was start sent =
       let (front, last, is, others, known) = cut_last bytes_of names name more are in
-      subst (λ (all : List (List ℕ)). SentFiles settings all was start now after)
+      subst (λ (all : List (List ℕ)). SentJsonFiles settings all was start now after)
       (append_assoc files front (last ∷ []) ∙ ap (λ (rest : List (List ℕ)). files ++ rest) (sym is))
       (next_sent (files ++ front) last was writer begun now start holds later after (behind front others files was start sent) begins (one last known))
 
@@ -162,7 +162,7 @@ module _ (settings : JsonSettings) where
   -- standard input
   pub stream_sent : (bytes_of : List ℕ → Option (List ℕ)) (names : List (Bor (List ℕ))) (was now : WriterState) (before after : Option (List ℕ))
       → length names ≡ 0 → ((file : List ℕ) → bytes_of (codes "-") ≡ Some file → SentFile settings file was before now after)
-      → (files : List (List ℕ)) → AreBytesOf bytes_of (names_read (map (λ n. n.now) names)) files → SentFiles settings files was before now after
+      → (files : List (List ℕ)) → AreBytesOf bytes_of (names_read (map (λ n. n.now) names)) files → SentJsonFiles settings files was before now after
   stream_sent bytes_of [] was now before after none one [] are = absurd are
   stream_sent bytes_of [] was now before after none one (file ∷ []) are = file_sent file was now before after (one file are.0)
   stream_sent bytes_of [] was now before after none one (file ∷ next ∷ more) are = absurd are.1
@@ -172,7 +172,7 @@ module _ (settings : JsonSettings) where
   named_from : (bytes_of : List ℕ → Option (List ℕ)) (name : List ℕ) (others : List (List ℕ)) (was middle now : WriterState)
       (start held after : Option (List ℕ)) → ((file : List ℕ) → bytes_of name ≡ Some file → SentFile settings file was start middle held)
       → ((more : List (List ℕ)) → AreBytesOf bytes_of others more → SendsBehind settings more middle held now after)
-      → (files : List (List ℕ)) → AreBytesOf bytes_of (names_read (name ∷ others)) files → SentFiles settings files was start now after
+      → (files : List (List ℕ)) → AreBytesOf bytes_of (names_read (name ∷ others)) files → SentJsonFiles settings files was start now after
   named_from bytes_of name others was middle now start held after one behind [] are = absurd are
   named_from bytes_of name others was middle now start held after one behind (file ∷ more) are =
       behind more are.1 (file ∷ []) was start (file_sent file was middle start held (one file are.0))
@@ -181,7 +181,7 @@ module _ (settings : JsonSettings) where
       (was middle now : WriterState) (start held after : Option (List ℕ)) → names ≡ name ∷ others
       → ((file : List ℕ) → bytes_of name.now ≡ Some file → SentFile settings file was start middle held)
       → ((more : List (List ℕ)) → AreBytesOf bytes_of (map (λ n. n.now) others) more → SendsBehind settings more middle held now after)
-      → (files : List (List ℕ)) → AreBytesOf bytes_of (names_read (map (λ n. n.now) names)) files → SentFiles settings files was start now after
+      → (files : List (List ℕ)) → AreBytesOf bytes_of (names_read (map (λ n. n.now) names)) files → SentJsonFiles settings files was start now after
   named_sent bytes_of names name others was middle now start held after is one behind files are =
       named_from bytes_of name.now (map (λ n. n.now) others) was middle now start held after one behind files
       (subst (λ (all : List (Bor (List ℕ))). AreBytesOf bytes_of (names_read (map (λ n. n.now) all)) files) is are)
@@ -190,7 +190,7 @@ module _ (settings : JsonSettings) where
 
   pub all_wrote : (files : List (List ℕ)) (was now : WriterState) (before middle after : Option (List ℕ))
       → StandsTaken (seen_settings settings.writer) opening [] was.emitter → was.canonical ≡ settings.writer.canonical
-      → SentFiles settings files was before now middle → WroteLast now.emitter middle after → WroteStream (IsYamlOfFiles settings) files before after
+      → SentJsonFiles settings files was before now middle → WroteLast now.emitter middle after → WroteStream (IsYamlOfJsonFiles settings) files before after
   all_wrote files was now before middle after stands canonical sent (bytes, sends, finishes) =
       let given = seen_settings settings.writer in
       let parts = sent.first ∷ sent.rest in

@@ -14,7 +14,7 @@ use Rattle.yaml_json.specs.declared.settings.JsonSettings.{JsonSettings}
 use Rattle.yaml_program.specs.Options.{AreWriterSettings, IsCountOf, IsOff, IsOn, value_of}
 
 -- the settings are those that the options ask for
-pub record AreSettings (matches : ArgMatches) (settings : JsonSettings) : Type 0 where
+pub record AreJsonSettings (matches : ArgMatches) (settings : JsonSettings) : Type 0 where
   pub writer : AreWriterSettings matches settings.writer
   pub flow : IsOn (value_of matches (codes "flow")) settings.flow
   pub names : IsOff (value_of matches (codes "allow-duplicates")) settings.unique_names
@@ -24,7 +24,7 @@ pub record AreSettings (matches : ArgMatches) (settings : JsonSettings) : Type 0
 
 -- the texts of these files, one at least, are JSON nested at most `depth` deep, with each name once in its object where that is asked
 -- for; their events were given, a document each, and the sink was given the bytes that were taken
-pub record SentFiles (settings : JsonSettings) (files : List (List ℕ)) (was : WriterState) (before : Option (List ℕ)) (now : WriterState)
+pub record SentJsonFiles (settings : JsonSettings) (files : List (List ℕ)) (was : WriterState) (before : Option (List ℕ)) (now : WriterState)
     (after : Option (List ℕ)) : Type 0 where
   pub first : List ℕ × Json
   pub rest : List (List ℕ × Json)
@@ -46,11 +46,11 @@ WroteLast emitter before after = (bytes : List ℕ) × Appends before after byte
 -- whichever files were sent, these are sent behind them
 abbrev pub SendsBehind : JsonSettings → List (List ℕ) → WriterState → Option (List ℕ) → WriterState → Option (List ℕ) → Type 0
 SendsBehind settings more before held after holds =
-    (files : List (List ℕ)) (was : WriterState) (start : Option (List ℕ)) → SentFiles settings files was start before held
-    → SentFiles settings (files ++ more) was start after holds
+    (files : List (List ℕ)) (was : WriterState) (start : Option (List ℕ)) → SentJsonFiles settings files was start before held
+    → SentJsonFiles settings (files ++ more) was start after holds
 
 -- the bytes are the stream of the texts of these files, a document each, under these settings
-pub record IsYamlOfFiles (settings : JsonSettings) (files : List (List ℕ)) (bytes : List ℕ) : Type 0 where
+pub record IsYamlOfJsonFiles (settings : JsonSettings) (files : List (List ℕ)) (bytes : List ℕ) : Type 0 where
   pub parts : List (List ℕ × Json)
   pub cut : map (λ part. part.0) parts ≡ flat_map texts_in files
   pub each : AreJson settings.depth parts

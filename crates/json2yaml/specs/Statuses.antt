@@ -6,9 +6,9 @@ use Rattle.yaml_json.specs.declared.error.StreamError.TheVariants as faults
 use Rattle.yaml_program.specs.Faults.{emitter_status}
 
 -- 1 where a text is refused, 3 where reading, writing or memory failed
-abbrev pub status_of : StreamError → ℕ
-status_of (faults.Refused (errors.Emitter error)) = emitter_status error
-status_of (faults.Refused error) = 1
-status_of (faults.NotText line column) = 1
-status_of (faults.ReadFailed error) = 3
-status_of (faults.WriteFailed error) = 3
+abbrev pub json_status : StreamError → ℕ
+json_status (faults.Refused (errors.Emitter error)) = emitter_status error
+json_status (faults.Refused error) = 1
+json_status (faults.NotText line column) = 1
+json_status (faults.ReadFailed error) = 3
+json_status (faults.WriteFailed error) = 3

@@ -1,6 +1,6 @@
 //! The conversion that the program's arguments ask for.
 ghost use Rattle.std.specs.Prelude.{IfOk};
-ghost use Rattle.json2yaml.specs.Conversions.{AreSettings};
+ghost use Rattle.json2yaml.specs.Conversions.{AreJsonSettings};
 ghost use Rattle.yaml_program.specs.Conversions.{IsAskedBy};
 
 use crate::formats::JsonFormat;
@@ -12,7 +12,7 @@ use yaml_program::{Conversion, common_settings_of, conversion_with, matches_of};
 
 /// Returns the settings that the options ask for.
 fn settings_of(matches: &ArgMatches<'_>) -> JsonSettings
-    ensures { AreSettings matches.now result }
+    ensures { AreJsonSettings matches.now result }
 {
     let common = common_settings_of(matches);
     JsonSettings {
@@ -29,7 +29,7 @@ fn conversion_by<'a>(
     matches: &ArgMatches<'a>,
 ) -> Result<Conversion<'a, JsonFormat>, AllocError>
     ensures asked { IfOk result (λ conversion. IsAskedBy matches.now conversion) }
-    ensures settings { IfOk result (λ conversion. AreSettings matches.now conversion.format.settings) }
+    ensures settings { IfOk result (λ conversion. AreJsonSettings matches.now conversion.format.settings) }
 {
     let format = JsonFormat {
         settings: settings_of(matches),

@@ -1,6 +1,6 @@
 //! JSON, as the format of the program.
 ghost use Rattle.std.specs.Prelude.{codes};
-ghost use Rattle.json2yaml.specs.Conversions.{IsYamlOfFiles};
+ghost use Rattle.json2yaml.specs.Conversions.{IsYamlOfJsonFiles};
 ghost use Rattle.yaml_program.specs.Bounds.{is_allowed};
 
 use crate::failures::failure_of;
@@ -17,7 +17,7 @@ pub struct JsonFormat {
 }
 
 impl Format for JsonFormat {
-    ghost is_yaml = { λ format. IsYamlOfFiles format.settings };
+    ghost is_yaml = { λ format. IsYamlOfJsonFiles format.settings };
 
     ghost is_bounded = { λ format. is_allowed format.settings.writer format.settings.flow format.settings.depth };
 

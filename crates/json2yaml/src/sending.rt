@@ -2,7 +2,7 @@
 ghost use Rattle.std.specs.Prelude.{◌≡◌, ℕ, List, Some, OnOk, map};
 ghost use Rattle.yaml_json.specs.Sent.{BeginsNext};
 ghost use Rattle.yaml_json.specs.Wrote.{IsBare};
-ghost use Rattle.json2yaml.specs.Conversions.{IsYamlOfFiles, SendsBehind, SentFile, SentFiles, WroteLast};
+ghost use Rattle.json2yaml.specs.Conversions.{IsYamlOfJsonFiles, SendsBehind, SentFile, SentJsonFiles, WroteLast};
 ghost use Rattle.yaml_program.specs.Conversions.{AreBytesOf, OfNames, WroteStream};
 
 use std::alloc::Global;
@@ -83,7 +83,7 @@ fn send_texts<'a, S: Sources + AllocGlobal, W: Write>(
 ) -> Result<(), (Option<&'a str>, StreamError)>
     requires { IsBare writer.old }
     ensures { OnOk result (OfNames (S.bytes_of sources.now) (map (λ name. name.now) names.now) (λ files.
-        SentFiles settings.now files writer.old (W.contents sink.old) writer.new (W.contents sink.new))) }
+        SentJsonFiles settings.now files writer.old (W.contents sink.old) writer.new (W.contents sink.new))) }
 {
     let Some((first, others)) = names.split_first() else {
         return match send_file(sources, writer, STREAM, sink, settings) {
@@ -119,7 +119,7 @@ pub fn send_all<'a, S: Sources + AllocGlobal, W: Write>(
     sink: &mut W,
 ) -> Result<(), (Option<&'a str>, StreamError)>
     ensures { OnOk result (OfNames (S.bytes_of sources.now) (map (λ name. name.now) names.now) (λ files.
-        WroteStream (IsYamlOfFiles settings.now) files (W.contents sink.old) (W.contents sink.new))) }
+        WroteStream (IsYamlOfJsonFiles settings.now) files (W.contents sink.old) (W.contents sink.new))) }
 {
     let mut writer = match Writer::new(sources.alloc(), settings.writer) {
         Ok(writer) => writer,

@@ -2,7 +2,7 @@
 use Rattle.std.proofs.Common.{ℕ, Option, List, [], ◌∷◌, ◌++◌, map, Bool, ◌≡◌, refl, ap, subst, sym, ◌∙◌, append-nil, append_assoc, Some}
 use Rattle.std.proofs.Common.{Bor, ◌+◌, ◌<◌, arith, length, take, slice_index_or as get_or, codes}
 use Rattle.std.proofs.lemmas.List.{map_push, take_more}
-use Rattle.toml_ordered.specs.Data.{Nodes}
+use Rattle.toml_ordered.specs.Data.{TomlNodes}
 use Rattle.yaml_base.proofs.Common.{map-append, Event}
 use Rattle.yaml_emitter.specs.Given.{seen_settings}
 use Rattle.yaml_writer.specs.Writing.{StandsTaken, WriterState, opening}
@@ -11,16 +11,16 @@ use Rattle.yaml_json.specs.Sent.{BeginsNext, WroteTaking}
 use Rattle.yaml_json.proofs.GivenAndTaken.{appends_nothing, appends_then, taking_then, taking_same, took_none}
 use Rattle.yaml_program.specs.Conversions.{AreBytesOf, WroteStream, names_read}
 use Rattle.yaml_toml.specs.declared.settings.TomlSettings.{TomlSettings}
-use Rattle.toml2yaml.specs.Conversions.{AreToml, IsYamlOfFiles, SendsBehind, SentFiles, WroteFile, WroteLast, parts_events, root_events}
+use Rattle.toml2yaml.specs.Conversions.{AreToml, IsYamlOfTomlFiles, SendsBehind, SentTomlFiles, WroteFile, WroteLast, parts_events, root_events}
 
 -- ---- documents behind others
 
-both_toml : (parts more : List (List ℕ × Nodes)) → AreToml parts → AreToml more → AreToml (parts ++ more)
+both_toml : (parts more : List (List ℕ × TomlNodes)) → AreToml parts → AreToml more → AreToml (parts ++ more)
 both_toml [] more each others = others
 both_toml (part ∷ parts) more each others = (each.0, both_toml parts more each.1 others)
 
 -- with a document begun between them
-both_events : (canonical in_flow : Bool) (first : List ℕ × Nodes) (rest : List (List ℕ × Nodes)) (next : List ℕ × Nodes)
+both_events : (canonical in_flow : Bool) (first : List ℕ × TomlNodes) (rest : List (List ℕ × TomlNodes)) (next : List ℕ × TomlNodes)
     → (parts_events canonical in_flow (first ∷ rest) ++ between) ++ root_events canonical in_flow next.1
     ≡ parts_events canonical in_flow (first ∷ (rest ++ next ∷ []))
 both_events canonical in_flow first [] next =
@@ -37,7 +37,7 @@ both_events canonical in_flow first (second ∷ rest) next =
 module _ (settings : TomlSettings) where
   -- a file
   pub file_sent : (file : List ℕ) (was now : WriterState) (held : Option (List ℕ)) → WroteFile settings.flow file was now
-      → SentFiles settings (file ∷ []) was held now held
+      → SentTomlFiles settings (file ∷ []) was held now held
   file_sent file was now held (utf8, wrote) =
       record {
         first = (file, wrote.root);
@@ -51,10 +51,10 @@ module _ (settings : TomlSettings) where
 
   -- and another
   pub next_sent : (files : List (List ℕ)) (file : List ℕ) (was middle begun now : WriterState) (start held holds : Option (List ℕ))
-      → SentFiles settings files was start middle held → BeginsNext middle held begun holds → WroteFile settings.flow file begun now
-      → SentFiles settings (files ++ file ∷ []) was start now holds
+      → SentTomlFiles settings files was start middle held → BeginsNext middle held begun holds → WroteFile settings.flow file begun now
+      → SentTomlFiles settings (files ++ file ∷ []) was start now holds
   next_sent files file was middle begun now start held holds sent begins (utf8, one) =
-      let next : List ℕ × Nodes = (file, one.root) in
+      let next : List ℕ × TomlNodes = (file, one.root) in
       let parts = sent.first ∷ sent.rest in
       let before = parts_events was.canonical settings.flow parts in
       let handed = sent.handed ++ begins.bytes in
@@ -62,7 +62,7 @@ module _ (settings : TomlSettings) where
       record {
         first = sent.first;
         rest = sent.rest ++ next ∷ [];
-        are = map-append (λ (part : List ℕ × Nodes). part.0) parts (next ∷ []) ∙ ap (λ (texts : List (List ℕ)). texts ++ file ∷ []) sent.are;
+        are = map-append (λ (part : List ℕ × TomlNodes). part.0) parts (next ∷ []) ∙ ap (λ (texts : List (List ℕ)). texts ++ file ∷ []) sent.are;
         each = both_toml parts (next ∷ []) sent.each ((utf8, one.read), tt);
         handed = handed;
         sends = appends_then start held holds sent.handed begins.bytes sent.sends begins.sends;
@@ -80,7 +80,7 @@ module _ (settings : TomlSettings) where
   pub behind_none : (writer : WriterState) (held : Option (List ℕ)) (bytes_of : List ℕ → Option (List ℕ)) (more : List (List ℕ)) → AreBytesOf bytes_of [] more
       → SendsBehind settings more writer held writer held
   behind_none writer held bytes_of [] are files was start sent =
-      subst (λ (all : List (List ℕ)). SentFiles settings all was start writer held) (sym (append-nil files)) sent
+      subst (λ (all : List (List ℕ)). SentTomlFiles settings all was start writer held) (sym (append-nil files)) sent
   behind_none writer held bytes_of (file ∷ more) are files was start sent = absurd are
 
   -- the last of them
@@ -101,7 +101,7 @@ module _ (settings : TomlSettings) where
       → (more : List (List ℕ)) → AreBytesOf bytes_of (names ++ name ∷ []) more → SendsBehind settings more first held now later
   one_more_behind bytes_of names name first writer begun now held holds later behind begins one more are files was start sent =
       let (front, last, is, others, known) = cut_last bytes_of names name more are in
-      subst (λ (all : List (List ℕ)). SentFiles settings all was start now later)
+      subst (λ (all : List (List ℕ)). SentTomlFiles settings all was start now later)
       (append_assoc files front (last ∷ []) ∙ ap (λ (rest : List (List ℕ)). files ++ rest) (sym is))
       (next_sent (files ++ front) last was writer begun now start holds later (behind front others files was start sent) begins (one last known))
 
@@ -124,7 +124,7 @@ module _ (settings : TomlSettings) where
   -- standard input
   pub stream_sent : (bytes_of : List ℕ → Option (List ℕ)) (names : List (Bor (List ℕ))) (was now : WriterState) (held : Option (List ℕ))
       → length names ≡ 0 → ((file : List ℕ) → bytes_of (codes "-") ≡ Some file → WroteFile settings.flow file was now)
-      → (files : List (List ℕ)) → AreBytesOf bytes_of (names_read (map (λ n. n.now) names)) files → SentFiles settings files was held now held
+      → (files : List (List ℕ)) → AreBytesOf bytes_of (names_read (map (λ n. n.now) names)) files → SentTomlFiles settings files was held now held
   stream_sent bytes_of [] was now held none one [] are = absurd are
   stream_sent bytes_of [] was now held none one (file ∷ []) are = file_sent file was now held (one file are.0)
   stream_sent bytes_of [] was now held none one (file ∷ next ∷ more) are = absurd are.1
@@ -134,7 +134,7 @@ module _ (settings : TomlSettings) where
   named_from : (bytes_of : List ℕ → Option (List ℕ)) (name : List ℕ) (others : List (List ℕ)) (was middle now : WriterState)
       (start after : Option (List ℕ)) → ((file : List ℕ) → bytes_of name ≡ Some file → WroteFile settings.flow file was middle)
       → ((more : List (List ℕ)) → AreBytesOf bytes_of others more → SendsBehind settings more middle start now after)
-      → (files : List (List ℕ)) → AreBytesOf bytes_of (names_read (name ∷ others)) files → SentFiles settings files was start now after
+      → (files : List (List ℕ)) → AreBytesOf bytes_of (names_read (name ∷ others)) files → SentTomlFiles settings files was start now after
   named_from bytes_of name others was middle now start after one behind [] are = absurd are
   named_from bytes_of name others was middle now start after one behind (file ∷ more) are =
       behind more are.1 (file ∷ []) was start (file_sent file was middle start (one file are.0))
@@ -143,7 +143,7 @@ module _ (settings : TomlSettings) where
       (was middle now : WriterState) (start after : Option (List ℕ)) → names ≡ name ∷ others
       → ((file : List ℕ) → bytes_of name.now ≡ Some file → WroteFile settings.flow file was middle)
       → ((more : List (List ℕ)) → AreBytesOf bytes_of (map (λ n. n.now) others) more → SendsBehind settings more middle start now after)
-      → (files : List (List ℕ)) → AreBytesOf bytes_of (names_read (map (λ n. n.now) names)) files → SentFiles settings files was start now after
+      → (files : List (List ℕ)) → AreBytesOf bytes_of (names_read (map (λ n. n.now) names)) files → SentTomlFiles settings files was start now after
   named_sent bytes_of names name others was middle now start after is one behind files are =
       named_from bytes_of name.now (map (λ n. n.now) others) was middle now start after one behind files
       (subst (λ (all : List (Bor (List ℕ))). AreBytesOf bytes_of (names_read (map (λ n. n.now) all)) files) is are)
@@ -152,7 +152,7 @@ module _ (settings : TomlSettings) where
 
   pub all_wrote : (files : List (List ℕ)) (was now : WriterState) (before middle after : Option (List ℕ))
       → StandsTaken (seen_settings settings.writer) opening [] was.emitter → was.canonical ≡ settings.writer.canonical
-      → SentFiles settings files was before now middle → WroteLast now.emitter middle after → WroteStream (IsYamlOfFiles settings) files before after
+      → SentTomlFiles settings files was before now middle → WroteLast now.emitter middle after → WroteStream (IsYamlOfTomlFiles settings) files before after
   all_wrote files was now before middle after stands canonical sent (bytes, sends, finishes) =
       let given = seen_settings settings.writer in
       let parts = sent.first ∷ sent.rest in

@@ -2,7 +2,7 @@
 use Rattle.std.specs.Prelude.{◌≡◌, ℕ, Option, Some, List, [], ◌∷◌, ◌++◌, codes, map, Bool, IsUtf8}
 use Rattle.std.specs.Io.KnownBytes.{Appends}
 use Rattle.clap.specs.declared.parser.matches.ArgMatches.{ArgMatches}
-use Rattle.toml_ordered.specs.Data.{Nodes, table}
+use Rattle.toml_ordered.specs.Data.{TomlNodes, table}
 use Rattle.toml_ordered.specs.Grammar.{ordered_document}
 use Rattle.toml_ordered.specs.declared.tree.Origin.TheVariants.{Header}
 use Rattle.yaml_base.specs.Event.{Event}
@@ -17,7 +17,7 @@ use Rattle.yaml_toml.specs.declared.settings.TomlSettings.{TomlSettings}
 use Rattle.yaml_program.specs.Options.{AreWriterSettings, IsCountOf, IsOn, value_of}
 
 -- the settings are those that the options ask for
-pub record AreSettings (matches : ArgMatches) (settings : TomlSettings) : Type 0 where
+pub record AreTomlSettings (matches : ArgMatches) (settings : TomlSettings) : Type 0 where
   pub writer : AreWriterSettings matches settings.writer
   pub flow : IsOn (value_of matches (codes "flow")) settings.flow
   pub depth : IsCountOf (value_of matches (codes "depth")) 1000 settings.depth
@@ -25,15 +25,15 @@ pub record AreSettings (matches : ArgMatches) (settings : TomlSettings) : Type 0
 -- ---- what is sent on
 
 -- each of some texts is UTF-8 and a document of TOML, with its root table
-abbrev pub AreToml : List (List ℕ × Nodes) → Type 0
+abbrev pub AreToml : List (List ℕ × TomlNodes) → Type 0
 AreToml [] = Unit {0}
 AreToml (part ∷ parts) = (IsUtf8 part.0 × (ordered_document part.0 ≡ Some part.1)) × AreToml parts
 
-abbrev pub root_events : (canonical in_flow : Bool) → Nodes → List Event
+abbrev pub root_events : (canonical in_flow : Bool) → TomlNodes → List Event
 root_events canonical in_flow root = toml_events canonical in_flow (table Header root)
 
 -- the events of their tables, a document each, within the start of the first document and the end of the last
-abbrev pub parts_events : (canonical in_flow : Bool) → List (List ℕ × Nodes) → List Event
+abbrev pub parts_events : (canonical in_flow : Bool) → List (List ℕ × TomlNodes) → List Event
 parts_events canonical in_flow [] = []
 parts_events canonical in_flow (part ∷ []) = root_events canonical in_flow part.1
 parts_events canonical in_flow (part ∷ next ∷ rest) = root_events canonical in_flow part.1 ++ (between ++ parts_events canonical in_flow (next ∷ rest))
@@ -44,10 +44,10 @@ WroteFile in_flow file was now = IsUtf8 file × WroteToml in_flow file was now
 
 -- these files, one at least, are documents of TOML; their events were given, a document each, and the sink was given the bytes that were
 -- taken
-pub record SentFiles (settings : TomlSettings) (files : List (List ℕ)) (was : WriterState) (before : Option (List ℕ)) (now : WriterState)
+pub record SentTomlFiles (settings : TomlSettings) (files : List (List ℕ)) (was : WriterState) (before : Option (List ℕ)) (now : WriterState)
     (after : Option (List ℕ)) : Type 0 where
-  pub first : List ℕ × Nodes
-  pub rest : List (List ℕ × Nodes)
+  pub first : List ℕ × TomlNodes
+  pub rest : List (List ℕ × TomlNodes)
   pub are : map (λ part. part.0) (first ∷ rest) ≡ files
   pub each : AreToml (first ∷ rest)
   pub handed : List ℕ
@@ -61,12 +61,12 @@ WroteLast emitter before after = (bytes : List ℕ) × Appends before after byte
 -- whichever files were sent, these are sent behind them
 abbrev pub SendsBehind : TomlSettings → List (List ℕ) → WriterState → Option (List ℕ) → WriterState → Option (List ℕ) → Type 0
 SendsBehind settings more before held after holds =
-    (files : List (List ℕ)) (was : WriterState) (start : Option (List ℕ)) → SentFiles settings files was start before held
-    → SentFiles settings (files ++ more) was start after holds
+    (files : List (List ℕ)) (was : WriterState) (start : Option (List ℕ)) → SentTomlFiles settings files was start before held
+    → SentTomlFiles settings (files ++ more) was start after holds
 
 -- the bytes are the stream of these files, a document each, under these settings
-pub record IsYamlOfFiles (settings : TomlSettings) (files : List (List ℕ)) (bytes : List ℕ) : Type 0 where
-  pub parts : List (List ℕ × Nodes)
+pub record IsYamlOfTomlFiles (settings : TomlSettings) (files : List (List ℕ)) (bytes : List ℕ) : Type 0 where
+  pub parts : List (List ℕ × TomlNodes)
   pub are : map (λ part. part.0) parts ≡ files
   pub each : AreToml parts
   pub stream : IsStream (seen_settings settings.writer)

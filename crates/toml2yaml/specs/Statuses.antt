@@ -5,6 +5,6 @@ use Rattle.yaml_toml.specs.declared.error.TomlError.TheVariants as errors
 use Rattle.yaml_program.specs.Faults.{emitter_status}
 
 -- 3 where memory failed, 1 where a text is refused
-abbrev pub status_of : TomlError → ℕ
-status_of (errors.Emitter error) = emitter_status error
-status_of error = 1
+abbrev pub toml_status : TomlError → ℕ
+toml_status (errors.Emitter error) = emitter_status error
+toml_status error = 1

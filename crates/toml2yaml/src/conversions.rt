@@ -1,6 +1,6 @@
 //! The conversion that the program's arguments ask for.
 ghost use Rattle.std.specs.Prelude.{IfOk};
-ghost use Rattle.toml2yaml.specs.Conversions.{AreSettings};
+ghost use Rattle.toml2yaml.specs.Conversions.{AreTomlSettings};
 ghost use Rattle.yaml_program.specs.Conversions.{IsAskedBy};
 
 use crate::formats::TomlFormat;
@@ -12,7 +12,7 @@ use yaml_toml::TomlSettings;
 
 /// Returns the settings that the options ask for.
 fn settings_of(matches: &ArgMatches<'_>) -> TomlSettings
-    ensures { AreSettings matches.now result }
+    ensures { AreTomlSettings matches.now result }
 {
     let common = common_settings_of(matches);
     TomlSettings {
@@ -28,7 +28,7 @@ fn conversion_by<'a>(
     matches: &ArgMatches<'a>,
 ) -> Result<Conversion<'a, TomlFormat>, AllocError>
     ensures asked { IfOk result (λ conversion. IsAskedBy matches.now conversion) }
-    ensures settings { IfOk result (λ conversion. AreSettings matches.now conversion.format.settings) }
+    ensures settings { IfOk result (λ conversion. AreTomlSettings matches.now conversion.format.settings) }
 {
     let format = TomlFormat {
         settings: settings_of(matches),

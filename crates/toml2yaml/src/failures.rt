@@ -8,7 +8,7 @@ use yaml_toml::TomlError;
 
 /// Returns the failure of a text that is refused at this place, since it is this.
 pub fn refused(line: usize, column: usize, words: &'static str) -> Failure
-    ensures { faults.status_of result ≡ 1 }
+    ensures { faults.failure_status result ≡ 1 }
 {
     Failure::Refused {
         place: Some((line, column)),
@@ -18,7 +18,7 @@ pub fn refused(line: usize, column: usize, words: &'static str) -> Failure
 
 /// Returns what an error is for the program.
 pub fn failure_of(error: TomlError) -> Failure
-    ensures { faults.status_of result ≡ statuses.status_of error }
+    ensures { faults.failure_status result ≡ statuses.toml_status error }
 {
     match error {
         TomlError::NotToml { line, column } => refused(line, column, "not TOML"),

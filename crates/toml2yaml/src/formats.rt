@@ -1,6 +1,6 @@
 //! TOML, as the format of the program.
 ghost use Rattle.std.specs.Prelude.{codes};
-ghost use Rattle.toml2yaml.specs.Conversions.{IsYamlOfFiles};
+ghost use Rattle.toml2yaml.specs.Conversions.{IsYamlOfTomlFiles};
 ghost use Rattle.yaml_program.specs.Bounds.{is_allowed};
 
 use crate::sending::send_all;
@@ -16,7 +16,7 @@ pub struct TomlFormat {
 }
 
 impl Format for TomlFormat {
-    ghost is_yaml = { λ format. IsYamlOfFiles format.settings };
+    ghost is_yaml = { λ format. IsYamlOfTomlFiles format.settings };
 
     ghost is_bounded = { λ format. is_allowed format.settings.writer format.settings.flow format.settings.depth };
 

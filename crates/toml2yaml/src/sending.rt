@@ -2,7 +2,7 @@
 ghost use Rattle.std.specs.Prelude.{◌≡◌, ℕ, List, Some, OnOk, map};
 ghost use Rattle.yaml_json.specs.Sent.{BeginsNext};
 ghost use Rattle.yaml_json.specs.Wrote.{IsBare};
-ghost use Rattle.toml2yaml.specs.Conversions.{IsYamlOfFiles, SendsBehind, SentFiles, WroteFile, WroteLast};
+ghost use Rattle.toml2yaml.specs.Conversions.{IsYamlOfTomlFiles, SendsBehind, SentTomlFiles, WroteFile, WroteLast};
 ghost use Rattle.yaml_program.specs.Conversions.{AreBytesOf, OfNames, WroteStream};
 
 use crate::failures::{failure_of, refused};
@@ -104,7 +104,7 @@ fn send_documents<'a, S: Sources + AllocGlobal, W: Write>(
 ) -> Result<(), (Option<&'a str>, Failure)>
     requires { IsBare writer.old }
     ensures { OnOk result (OfNames (S.bytes_of sources.now) (map (λ name. name.now) names.now) (λ files.
-        SentFiles settings.now files writer.old (W.contents sink.old) writer.new (W.contents sink.new))) }
+        SentTomlFiles settings.now files writer.old (W.contents sink.old) writer.new (W.contents sink.new))) }
 {
     let Some((first, others)) = names.split_first() else {
         return match write_file(sources, writer, STREAM, settings) {
@@ -139,7 +139,7 @@ pub fn send_all<'a, S: Sources + AllocGlobal, W: Write>(
     sink: &mut W,
 ) -> Result<(), (Option<&'a str>, Failure)>
     ensures { OnOk result (OfNames (S.bytes_of sources.now) (map (λ name. name.now) names.now) (λ files.
-        WroteStream (IsYamlOfFiles settings.now) files (W.contents sink.old) (W.contents sink.new))) }
+        WroteStream (IsYamlOfTomlFiles settings.now) files (W.contents sink.old) (W.contents sink.new))) }
 {
     let mut writer = match Writer::new(sources.alloc(), settings.writer) {
         Ok(writer) => writer,

@@ -7,13 +7,14 @@ use Rattle.toml.specs.Parse.{after_element}
 use Rattle.toml_ordered.specs.declared.fault.Fault.{Fault}
 use Rattle.toml_ordered.specs.declared.fault.Fault.TheVariants as fault
 use Rattle.toml_ordered.proofs.Endings.{ends_self, ends_then, skip_blank_ends}
-use Rattle.toml_ordered.specs.Data.{Node, Nodes}
+use Rattle.toml_ordered.specs.Data.{TomlNode, TomlNodes}
 use Rattle.toml_ordered.specs.Firsts.{Firsts, no_firsts, HasFirst, AddsFirsts, IfAgain, IsAgain}
 use Rattle.toml_ordered.specs.Grammar.{keyval, line, val}
-use Rattle.toml_ordered.specs.Places.{EndsWith, after_pairs, ReadsUpTo, ExpressionAt, FirstDefines, PairAt, PairFirstDefines, PairsConflict, IsConflict, moved_to}
+use Rattle.toml_ordered.specs.Places.{EndsWith, after_pairs, ReadsUpTo, ExpressionAt, FirstDefines, PairAt, PairFirstDefines, PairsConflict, IsConflict}
+use Rattle.toml_ordered.specs.Places.{moved_to}
 use Rattle.toml_ordered.specs.Places.{moved_within, key_parts, whole_path}
 use Rattle.toml_ordered.specs.Reading.{IsMemory}
-use Rattle.toml_ordered.specs.Tables.{Document, Expression, define, put}
+use Rattle.toml_ordered.specs.Tables.{TomlDocument, Expression, define, put}
 
 pub ends_within : (text end : List ℕ) → EndsWith text end → length end ≤ length text
 ends_within text end ends =
@@ -36,11 +37,11 @@ other_than holds (fault.DefinedAgain key first second) none = absurd none
 
 -- ---- how far a text is read
 
-pub reads_more : (text : List ℕ) (doc next : Document) (rest : List ℕ) (e : Expression) (after : List ℕ) → ReadsUpTo text doc rest
+pub reads_more : (text : List ℕ) (doc next : TomlDocument) (rest : List ℕ) (e : Expression) (after : List ℕ) → ReadsUpTo text doc rest
     → line (skip_blank rest) ≡ Some (e, after) → define doc e ≡ Some next → ReadsUpTo text next after
 reads_more text doc next rest e after reads read defined = (suc reads.0, rw (reads.1, read, defined))
 
-pub more_pairs : (depth count : ℕ) (text : List ℕ) (found more : Nodes) (rest : List ℕ) (name : Key) (x : Node) (after next : List ℕ)
+pub more_pairs : (depth count : ℕ) (text : List ℕ) (found more : TomlNodes) (rest : List ℕ) (name : Key) (x : TomlNode) (after next : List ℕ)
     → after_pairs depth count text ≡ Some (found, rest) → keyval (val depth) (skip_blank rest) ≡ Some ((name, x), after) → put name x found ≡ Some more
     → after_element right_brace after ≡ Some next → after_pairs depth (suc count) text ≡ Some (more, next)
 more_pairs depth count text found more rest name x after next reads read defined element = rw (reads, read, defined, element)
@@ -55,7 +56,7 @@ KnowsPairs depth text firsts rest =
 pub knows_no_pairs : (depth : ℕ) (text rest : List ℕ) (none : Firsts) → none ≡ no_firsts → KnowsPairs depth text none rest
 knows_no_pairs depth text rest none is path key left has = absurd (subst (λ (f : Firsts). HasFirst f path key left) is has)
 
-pub knows_more_pairs : (depth : ℕ) (text rest next : List ℕ) (found : Nodes) (name : Key) (here : ℕ) (old new : Firsts)
+pub knows_more_pairs : (depth : ℕ) (text rest next : List ℕ) (found : TomlNodes) (name : Key) (here : ℕ) (old new : Firsts)
     → KnowsPairs depth text old rest → PairAt depth text found name here → here ≤ length rest → length next < here → AddsFirsts (key_parts name) here found old new
     → KnowsPairs depth text new next
 knows_more_pairs depth text rest next found name here old new knows at within shorter adds path key left has = elim (adds path key left has) [
@@ -68,9 +69,9 @@ knows_more_pairs depth text rest next found name here old new knows at within sh
       (record { found = found; name = name; at = subst (λ (n : ℕ). PairAt depth text found name n) (sym is) at; new = now.1 }, omega (arith, is, shorter))
 ]
 
-pub pairs_conflict : (depth : ℕ) (text rest : List ℕ) (found : Nodes) (name : Key) (here : ℕ) (old : Firsts) (refused : Fault)
+pub pairs_conflict : (depth : ℕ) (text rest : List ℕ) (found : TomlNodes) (name : Key) (here : ℕ) (old : Firsts) (refused : Fault)
     → KnowsPairs depth text old rest → (at : PairAt depth text found name here) → here ≤ length rest
-    → (value : Node) (after : List ℕ) → keyval (val depth) (skip_blank at.rest) ≡ Some ((name, value), after)
+    → (value : TomlNode) (after : List ℕ) → keyval (val depth) (skip_blank at.rest) ≡ Some ((name, value), after)
     → ((IsMemory refused → ⊥) → put name value found ≡ None) → IsAgain (key_parts name) here old refused → IfAgain refused (PairsConflict text)
 pairs_conflict depth text rest found name here old fault.Memory knows at within value after pair denies again = tt
 pairs_conflict depth text rest found name here old (fault.NotToml left) knows at within value after pair denies again = tt
@@ -119,7 +120,7 @@ conflict_in text middle (fault.DefinedAgain key first second) ends pairs = recor
   order = pairs.order;
 }
 
-pair_within : (depth : ℕ) (text : List ℕ) (found : Nodes) (name : Key) (left : ℕ) → PairAt depth text found name left → left ≤ length text
+pair_within : (depth : ℕ) (text : List ℕ) (found : TomlNodes) (name : Key) (left : ℕ) → PairAt depth text found name left → left ≤ length text
 pair_within depth text found name left at =
     let here = at.here in
     let blank = blank_within at.rest in
@@ -136,7 +137,7 @@ KnowsFirsts text firsts rest =
 pub knows_none : (text rest : List ℕ) (none : Firsts) → none ≡ no_firsts → KnowsFirsts text none rest
 knows_none text rest none is path key left has = absurd (subst (λ (f : Firsts). HasFirst f path key left) is has)
 
-pub knows_more : (text rest next : List ℕ) (doc : Document) (e : Expression) (here : ℕ) (old new : Firsts)
+pub knows_more : (text rest next : List ℕ) (doc : TomlDocument) (e : Expression) (here : ℕ) (old new : Firsts)
     → KnowsFirsts text old rest → ExpressionAt text doc e here → here ≤ length rest → length next < here → AddsFirsts (whole_path doc e.0 e.1) here doc.0 old new
     → KnowsFirsts text new next
 knows_more text rest next doc e here old new knows at within shorter adds path key left has = elim (adds path key left has) [
@@ -150,7 +151,7 @@ knows_more text rest next doc e here old new knows at within shorter adds path k
 ]
 
 -- an expression that is refused
-pub expressions_conflict : (text rest : List ℕ) (doc : Document) (e : Expression) (here : ℕ) (old : Firsts) (refused moved : Fault)
+pub expressions_conflict : (text rest : List ℕ) (doc : TomlDocument) (e : Expression) (here : ℕ) (old : Firsts) (refused moved : Fault)
     → KnowsFirsts text old rest → ExpressionAt text doc e here → here ≤ length rest → ((IsMemory refused → ⊥) → define doc e ≡ None)
     → IsAgain (whole_path doc e.0 e.1) here old refused → moved ≡ moved_to here refused → IsConflict text moved
 expressions_conflict text rest doc e here old refused moved knows at within denied again is =
@@ -177,7 +178,7 @@ expressions_conflict text rest doc e here old refused moved knows at within deni
         other m = cc
 
 -- an expression in which a table in braces is refused
-pub braces_conflict : (text rest : List ℕ) (doc : Document) (refused moved : Fault) → ReadsUpTo text doc rest
+pub braces_conflict : (text rest : List ℕ) (doc : TomlDocument) (refused moved : Fault) → ReadsUpTo text doc rest
     → IfAgain refused (PairsConflict (skip_blank rest)) → moved ≡ moved_within (length (skip_blank rest)) refused → IsConflict text moved
 braces_conflict text rest doc refused moved read pairs is = subst (IsConflict text) (sym is) (by refused pairs)
   where

@@ -13,9 +13,9 @@ use Rattle.toml_ordered.specs.declared.tree.Node.{Node as CodeNode}
 use Rattle.toml_ordered.specs.declared.tree.Origin.{Origin}
 use Rattle.toml_ordered.specs.declared.route.Way.{Way}
 use Rattle.toml_ordered.specs.declared.route.Way.TheVariants as way
-use Rattle.toml_ordered.specs.Data.{Node, string, integer, decimal, infinity, not_a_number, boolean, datetime, array, table}
-use Rattle.toml_ordered.specs.Data.{tables, Nodes, items_view, node_view}
-use Rattle.toml_ordered.specs.Drafts.{sealed, is_place, kept, nodes_from, draft_view, drafts_view, keys_view, HasKey, IsAt}
+use Rattle.toml_ordered.specs.Data.{TomlNode, string, integer, decimal, infinity, not_a_number, boolean, datetime, array, table}
+use Rattle.toml_ordered.specs.Data.{tables, TomlNodes, items_view, node_view}
+use Rattle.toml_ordered.specs.Drafts.{sealed, is_place, kept, nodes_from, draft_view, drafts_view, keys_view, HasKey, IsIndexedAt}
 use Rattle.toml_ordered.specs.Tables.{Definition, key_value, std_table, array_table, Edit, passed, redefine, get_node, append, replace}
 
 abbrev pub Draft : Type 0
@@ -32,30 +32,30 @@ same_bytes k l e = (bytes_eq-Decides k l).0 e
 bytes_same : (k : List ℕ) → bytes_eq k k ≡ true
 bytes_same k = (bytes_eq-Decides k k).1 refl
 
-passed_over : (b : Bool) (k l : List ℕ) (x : Node) (ns : Nodes) → (b ≡ true → bytes_eq k l ≡ false) → get_node k (kept b l x ns) ≡ get_node k ns
+passed_over : (b : Bool) (k l : List ℕ) (x : TomlNode) (ns : TomlNodes) → (b ≡ true → bytes_eq k l ≡ false) → get_node k (kept b l x ns) ≡ get_node k ns
 passed_over false k l x ns other = refl
 passed_over true k l x ns other = rw (other refl)
 
-replaced_over : (b : Bool) (k l : List ℕ) (x y : Node) (ns : Nodes) → (b ≡ true → bytes_eq k l ≡ false)
+replaced_over : (b : Bool) (k l : List ℕ) (x y : TomlNode) (ns : TomlNodes) → (b ≡ true → bytes_eq k l ≡ false)
     → replace k y (kept b l x ns) ≡ kept b l x (replace k y ns)
 replaced_over false k l x y ns other = refl
 replaced_over true k l x y ns other = rw (other refl)
 
-appended_over : (b : Bool) (k l : List ℕ) (x y : Node) (ns : Nodes) → append (kept b l x ns) k y ≡ kept b l x (append ns k y)
+appended_over : (b : Bool) (k l : List ℕ) (x y : TomlNode) (ns : TomlNodes) → append (kept b l x ns) k y ≡ kept b l x (append ns k y)
 appended_over false k l x y ns = refl
 appended_over true k l x y ns = refl
 
-none_here : (b : Bool) (k l : List ℕ) (x : Node) (ns : Nodes) → get_node k (kept b l x ns) ≡ None → b ≡ true → bytes_eq k l ≡ false
+none_here : (b : Bool) (k l : List ℕ) (x : TomlNode) (ns : TomlNodes) → get_node k (kept b l x ns) ≡ None → b ≡ true → bytes_eq k l ≡ false
 none_here false k l x ns none live = absurd (false≢true live)
 none_here true k l x ns none live = elim (cases_Bool (bytes_eq k l)) [
   | inl same ↦ absurd (some_none x (sym (ap (λ (b : Bool). cond b (Some x) (get_node k ns)) same) ∙ none))
   | inr other ↦ other
 ]
   where
-    some_none : (y : Node) → Some y ≡ None → ⊥
+    some_none : (y : TomlNode) → Some y ≡ None → ⊥
     some_none y e = cc
 
-none_behind : (b : Bool) (k l : List ℕ) (x : Node) (ns : Nodes) → get_node k (kept b l x ns) ≡ None → get_node k ns ≡ None
+none_behind : (b : Bool) (k l : List ℕ) (x : TomlNode) (ns : TomlNodes) → get_node k (kept b l x ns) ≡ None → get_node k ns ≡ None
 none_behind b k l x ns none = sym (passed_over b k l x ns (none_here b k l x ns none)) ∙ none
 
 -- the place of one key is not that of another
@@ -136,14 +136,14 @@ module _ (index : Places) (k : List ℕ) where
           ap (is_place (get_by_text index k)) next ∙ none (suc at) has
 
 -- the value at the place of a key
-pub found_at : (k : List ℕ) (at : ℕ) (es : List Draft) (d : Draft) (index : Places) → IsAt k at es index
+pub found_at : (k : List ℕ) (at : ℕ) (es : List Draft) (d : Draft) (index : Places) → IsIndexedAt k at es index
     → get_node k (keys_view es index) ≡ Some (draft_view (get_or es at d).1)
 found_at k at es d index has =
     let start : at ≡ 0 + at = omega arith in
     found_from index k 0 at es d (has.0 ∙ ap (λ (m : ℕ). Some m) start) has.1
 
 -- what is left where it was moved out, and another written in its place
-pub written_at : (k : List ℕ) (at : ℕ) (es : List Draft) (d u w : Draft) (index : Places) → IsAt k at es index → w.0 ≡ (get_or es at d).0
+pub written_at : (k : List ℕ) (at : ℕ) (es : List Draft) (d u w : Draft) (index : Places) → IsIndexedAt k at es index → w.0 ≡ (get_or es at d).0
     → keys_view (set (set es at u) at w) index ≡ replace k (draft_view w.1) (keys_view es index)
 written_at k at es d u w index has same =
     let start : at ≡ 0 + at = omega arith in
@@ -334,7 +334,7 @@ pub draft_view-Tables : (done : Vec CodeNode Global) (last : Vec Draft Global) (
     → draft_view (DraftTables done last index) ≡ tables (items_view done.items) (keys_view last.items index)
 draft_view-Tables done last index = search (rules, the_lemmas)
 
-pub sealed_passes : (by : Way) (edit : Edit) (x : Node) → passed by edit (sealed x) ≡ None
+pub sealed_passes : (by : Way) (edit : Edit) (x : TomlNode) → passed by edit (sealed x) ≡ None
 sealed_passes way.Header edit (string text) = refl
 sealed_passes way.Header edit (integer z) = refl
 sealed_passes way.Header edit (decimal word) = refl
@@ -356,7 +356,7 @@ sealed_passes way.Dots edit (array items) = refl
 sealed_passes way.Dots edit (table origin keys) = refl
 sealed_passes way.Dots edit (tables done last) = refl
 
-pub sealed_stays : (what : Definition) (x : Node) → redefine what (sealed x) ≡ None
+pub sealed_stays : (what : Definition) (x : TomlNode) → redefine what (sealed x) ≡ None
 sealed_stays (key_value y) x = refl
 sealed_stays std_table (string text) = refl
 sealed_stays std_table (integer z) = refl

@@ -11,7 +11,7 @@ use Rattle.toml_parser.specs.Strings.{hex_len, hex_escape, simple_escape, escape
 use Rattle.toml_parser.specs.Strings.{body, trim_newline, one_line, quoted, starts_string, simple_key, key_after, Key, recursion_limit}
 use Rattle.toml_parser.specs.Numbers.{unquoted, word_len, word_value}
 use Rattle.toml.specs.Parse.{after_byte, after_element, key_equals}
-use Rattle.toml_ordered.specs.Data.{Node, string, Items, no_items, array, table, push_item, Nodes, no_nodes}
+use Rattle.toml_ordered.specs.Data.{TomlNode, string, Items, no_items, array, table, push_item, TomlNodes, no_nodes}
 use Rattle.toml_ordered.specs.Grammar.{scalar_node, atom, val, keyval, items, members}
 use Rattle.toml_ordered.specs.Places.{EndsWith}
 use Rattle.toml_ordered.specs.Tables.{put}
@@ -234,7 +234,7 @@ after_element_ends closing text next = by (first rest == comma) (first rest == c
     by false true is = same rest (skip_blank_ends text) is
     by false false is = absurd (cc)
 
-module _ (val : List ℕ → Read Node) (leaves : (text : List ℕ) → LeavesEnd text (val text)) where
+module _ (val : List ℕ → Read TomlNode) (leaves : (text : List ℕ) → LeavesEnd text (val text)) where
   pair_ends : (text : List ℕ) → LeavesEnd text (keyval val text)
   pair_ends text =
       leaves_then text (key_equals text) _ (key_equals_ends text)
@@ -255,7 +255,7 @@ module _ (val : List ℕ → Read Node) (leaves : (text : List ℕ) → LeavesEn
       (leaves_then (skip_blank text) (val (skip_blank text)) _ (leaves (skip_blank text))
       (λ v. past_element right_bracket v.1 (items val n (push_item found v.0)) (items_ends n (push_item found v.0)) (after_element right_bracket v.1) refl)))
 
-  members_ends : (n : ℕ) (found : Nodes) (text : List ℕ) → LeavesEnd text (members val n found text)
+  members_ends : (n : ℕ) (found : TomlNodes) (text : List ℕ) → LeavesEnd text (members val n found text)
   unfolding members
   members_ends zero found text = tt
   members_ends (suc n) found text =
@@ -264,7 +264,7 @@ module _ (val : List ℕ → Read Node) (leaves : (text : List ℕ) → LeavesEn
       (leaves_then (skip_blank text) (keyval val (skip_blank text)) _ (pair_ends (skip_blank text))
       (λ e. by (λ more. members_ends n more) e (put e.0.0 e.0.1 found))))
     where
-      by : ((more : Nodes) (t : List ℕ) → LeavesEnd t (members val n more t)) → (e : (Key × Node) × List ℕ) (o : Option Nodes)
+      by : ((more : TomlNodes) (t : List ℕ) → LeavesEnd t (members val n more t)) → (e : (Key × TomlNode) × List ℕ) (o : Option TomlNodes)
           → LeavesEnd e.1 (option_and_then (λ more. option_and_then (members val n more) (after_element right_brace e.1)) o)
       by next e None = tt
       by next e (Some more) = past_element right_brace e.1 (members val n more) (next more) (after_element right_brace e.1) refl
@@ -299,14 +299,14 @@ value_ends text rest key at ends named =
     let start = skip_blank rest in
     ends_then text rest at ends (ends_then rest start at (skip_blank_ends rest) (end_left start (key_equals start) key at (key_equals_ends start) named))
 
-pub item_left : (depth : ℕ) (rest : List ℕ) (x : Node) (after next : List ℕ) (closing : ℕ) → val depth (skip_blank rest) ≡ Some (x, after)
+pub item_left : (depth : ℕ) (rest : List ℕ) (x : TomlNode) (after next : List ℕ) (closing : ℕ) → val depth (skip_blank rest) ≡ Some (x, after)
     → after_element closing after ≡ Some next → EndsWith rest next
 item_left depth rest x after next closing read element =
     let start = skip_blank rest in
     ends_then rest start next (skip_blank_ends rest)
     (ends_then start after next (end_left start (val depth start) x after (val_ends depth start) read) (after_element_ends closing after next element))
 
-pub pair_left : (depth : ℕ) (rest : List ℕ) (key : Key) (at : List ℕ) (x : Node) (after next : List ℕ) (closing : ℕ)
+pub pair_left : (depth : ℕ) (rest : List ℕ) (key : Key) (at : List ℕ) (x : TomlNode) (after next : List ℕ) (closing : ℕ)
     → key_equals (skip_blank rest) ≡ Some (key, at) → val depth at ≡ Some (x, after) → after_element closing after ≡ Some next → EndsWith rest next
 pair_left depth rest key at x after next closing named read element =
     ends_then rest at next (value_ends rest rest key at (ends_self rest) named)

@@ -11,10 +11,11 @@ use Rattle.toml_ordered.specs.declared.fault.Fault.TheVariants as fault
 use Rattle.toml_ordered.specs.declared.tree.Node.{Node as CodeNode}
 use Rattle.toml_ordered.specs.declared.tree.Origin.{Origin}
 use Rattle.toml_ordered.proofs.DraftKeys.{Draft, Places}
-use Rattle.toml_ordered.specs.Data.{Node, Nodes, no_nodes}
+use Rattle.toml_ordered.specs.Data.{TomlNode, TomlNodes, no_nodes}
 use Rattle.toml_ordered.specs.Drafts.{HasKey}
-use Rattle.toml_ordered.specs.Firsts.{Firsts, no_firsts, HasFirst, draft_firsts, keys_firsts, keys_in, keys_at, PassesKey, IsNewKey, AddsFirsts, IfAgain, IsAgain}
-use Rattle.toml_ordered.specs.Tables.{get_node, steps}
+use Rattle.toml_ordered.specs.Firsts.{Firsts, no_firsts, HasFirst, draft_firsts, keys_firsts, keys_in, keys_at, PassesKey, IsNewKey, AddsFirsts, IfAgain}
+use Rattle.toml_ordered.specs.Firsts.{IsAgain}
+use Rattle.toml_ordered.specs.Tables.{get_node, steps_along}
 
 pub draft_firsts-Value : (x : CodeNode) → draft_firsts (DraftValue x) ≡ no_firsts
 draft_firsts-Value x = search (rules, the_lemmas)
@@ -94,13 +95,13 @@ name_is k (suc at) (e ∷ es) d has = name_is k at es d has
 pub passes_behind : (k : List ℕ) (whole path : Path) (key : List ℕ) → PassesKey whole path key → PassesKey (k ∷ whole) (k ∷ path) key
 passes_behind k whole path key passes = (passes.0, ap (λ (p : Path). k ∷ p) passes.1)
 
-new_behind : (k : List ℕ) (whole : Path) (ns inner : Nodes) (path : Path) (key : List ℕ) → keys_in (get_node k ns) ≡ inner → IsNewKey whole inner path key
+new_behind : (k : List ℕ) (whole : Path) (ns inner : TomlNodes) (path : Path) (key : List ℕ) → keys_in (get_node k ns) ≡ inner → IsNewKey whole inner path key
     → IsNewKey (k ∷ whole) ns (k ∷ path) key
 new_behind k whole ns inner path key is new =
-    (passes_behind k whole path key new.0, ap (λ (keys : Nodes). get_node key (keys_at path keys)) is ∙ new.1)
+    (passes_behind k whole path key new.0, ap (λ (keys : TomlNodes). get_node key (keys_at path keys)) is ∙ new.1)
 
 -- what is defined inside of a key that is there
-pub adds_inside : (k : List ℕ) (whole : Path) (here : ℕ) (ns : Nodes) (x : Node) (at : ℕ) (es : List Draft) (e u : Draft) (after : CodeDraft)
+pub adds_inside : (k : List ℕ) (whole : Path) (here : ℕ) (ns : TomlNodes) (x : TomlNode) (at : ℕ) (es : List Draft) (e u : Draft) (after : CodeDraft)
     → get_node k ns ≡ Some x → HasKey k at es → get_or es at e ≡ e → AddsFirsts whole here (keys_in (Some x)) (draft_firsts e.1) (draft_firsts after)
     → AddsFirsts (k ∷ whole) here ns (keys_firsts es) (keys_firsts (set (set es at u) at (e.0, after, e.2)))
 adds_inside k whole here ns x at es e u after found has is_e inner path key left first =
@@ -123,7 +124,7 @@ adds_inside k whole here ns x at es e u after found has is_e inner path key left
     ]
 
 -- a key that is missing, and what is defined inside of it
-pub adds_missing : (k : List ℕ) (whole : Path) (here : ℕ) (ns : Nodes) (es after : List Draft) (w : Draft) → string_bytes w.0 ≡ k → w.2 ≡ here
+pub adds_missing : (k : List ℕ) (whole : Path) (here : ℕ) (ns : TomlNodes) (es after : List Draft) (w : Draft) → string_bytes w.0 ≡ k → w.2 ≡ here
     → get_node k ns ≡ None → AddsFirsts whole here no_nodes no_firsts (draft_firsts w.1) → after ≡ es ++ w ∷ []
     → AddsFirsts (k ∷ whole) here ns (keys_firsts es) (keys_firsts after)
 adds_missing k whole here ns es after w name place none inner is path key left first =
@@ -146,11 +147,11 @@ adds_missing k whole here ns es after w name place none inner is path key left f
     by (step ∷ p) (inr other) = absurd other
 
 -- what is no first defines none
-pub adds_none : (whole : Path) (here : ℕ) (ns : Nodes) (inner : Firsts) → inner ≡ no_firsts → AddsFirsts whole here ns no_firsts inner
+pub adds_none : (whole : Path) (here : ℕ) (ns : TomlNodes) (inner : Firsts) → inner ≡ no_firsts → AddsFirsts whole here ns no_firsts inner
 adds_none whole here ns inner is path key left first = absurd (subst (λ (f : Firsts). HasFirst f path key left) is first)
 
 -- a value in place of another, with the same inside of it, or nothing
-pub adds_nothing : (whole : Path) (here : ℕ) (ns : Nodes) (old new : Firsts) → (new ≡ old) ⊎ (new ≡ no_firsts) → AddsFirsts whole here ns old new
+pub adds_nothing : (whole : Path) (here : ℕ) (ns : TomlNodes) (old new : Firsts) → (new ≡ old) ⊎ (new ≡ no_firsts) → AddsFirsts whole here ns old new
 adds_nothing whole here ns old new (inl same) path key left first = inl (subst (λ (f : Firsts). HasFirst f path key left) same first)
 adds_nothing whole here ns old new (inr gone) path key left first = absurd (subst (λ (f : Firsts). HasFirst f path key left) gone first)
 
@@ -192,7 +193,7 @@ again_inside k whole here at es e (fault.DefinedAgain key first second) has is_e
 
 -- ---- routes
 
-pub path_steps : (header dots : Path) → map (λ step. step.1) (steps header dots) ≡ header ++ dots
+pub path_steps : (header dots : Path) → map (λ step. step.1) (steps_along header dots) ≡ header ++ dots
 path_steps [] [] = refl
 path_steps [] (k ∷ dots) = ap (λ (p : Path). k ∷ p) (path_steps [] dots)
 path_steps (k ∷ header) dots = ap (λ (p : Path). k ∷ p) (path_steps header dots)

@@ -1,5 +1,6 @@
 -- Scalars with the words that write them: a float's characters are those of the float that `toml` reads.
-use Rattle.std.proofs.Common.{◌≡◌, ℕ, Bool, true, false, cond, ◌||◌, ◌==◌, List, [], ◌∷◌, take, drop, codes, Float as FloatValue, Option, Some, None, option_map, refl, sym, ap, subst, ◌∙◌, bytes_eq}
+use Rattle.std.proofs.Common.{◌≡◌, ℕ, Bool, true, false, cond, ◌||◌, ◌==◌, List, [], ◌∷◌, take, drop, codes, Float as FloatValue, Option, Some, None}
+use Rattle.std.proofs.Common.{option_map, refl, sym, ap, subst, ◌∙◌, bytes_eq}
 use Rattle.std.proofs.lemmas.Bool.{false≢true, eqb-true}
 use Rattle.std.proofs.lemmas.Slice.Eq.{bytes_eq-Decides}
 use Rattle.std.specs.Char.{is_digit}
@@ -7,21 +8,22 @@ use Rattle.std.specs.Float.Ieee.{inf, nan}
 use Rattle.toml_datetime.specs.Parse.{parse_datetime}
 use Rattle.toml_datetime.specs.declared.datetime.Datetime.{Datetime}
 use Rattle.toml_parser.specs.Lexical.{first}
-use Rattle.toml_parser.specs.Numbers.{unquoted, word_len, word_value, number, plain_number, decimal_number, looks_like_datetime, underscores_fit, underscore_radix}
+use Rattle.toml_parser.specs.Numbers.{unquoted, word_len, word_value, number, plain_number, decimal_number, looks_like_datetime, underscores_fit}
+use Rattle.toml_parser.specs.Numbers.{underscore_radix}
 use Rattle.toml_parser.specs.declared.scalar.Scalar.{Scalar}
 use Rattle.toml_parser.specs.declared.scalar.Scalar.TheVariants as scalar
 use Rattle.toml.specs.Data as plain
 use Rattle.toml.specs.Parse as p
 use Rattle.toml.specs.Parse.{read_map}
 use Rattle.toml_ordered.specs.Data.{infinity, not_a_number, decimal}
-use Rattle.toml_ordered.specs.Grammar.{plain_word, past_sign, float_node, scalar_node}
+use Rattle.toml_ordered.specs.Grammar.{plain_word, without_sign, float_node, scalar_node}
 use Rattle.toml_ordered.specs.Sorted.{float_in, sorted_value}
 use Rattle.toml_ordered.proofs.SortedTables.{IsComplete}
 
 -- ---- what is complete
 
 complete_float : (word : List ℕ) → IsComplete (float_node word)
-complete_float word = by (bytes_eq (past_sign word) (codes "inf")) (bytes_eq (past_sign word) (codes "nan"))
+complete_float word = by (bytes_eq (without_sign word) (codes "inf")) (bytes_eq (without_sign word) (codes "nan"))
   where
     by : (a b : Bool) → IsComplete (cond a (infinity (first word == 45)) (cond b not_a_number (decimal word)))
     by true b = refl
@@ -36,7 +38,7 @@ complete_scalar word (scalar.Datetime d) = refl
 
 -- ---- floats
 
-past_is : (c : ℕ) (rest : List ℕ) (name : List ℕ) (Q : List ℕ → Type 0) → Q (43 ∷ name) → Q (45 ∷ name) → Q name → past_sign (c ∷ rest) ≡ name → Q (c ∷ rest)
+past_is : (c : ℕ) (rest : List ℕ) (name : List ℕ) (Q : List ℕ → Type 0) → Q (43 ∷ name) → Q (45 ∷ name) → Q name → without_sign (c ∷ rest) ≡ name → Q (c ∷ rest)
 past_is c rest name Q plus minus bare = by (c == 43) refl (c == 45) refl
   where
     by : (a : Bool) → (c == 43) ≡ a → (b : Bool) → (c == 45) ≡ b → cond (a || b) rest (c ∷ rest) ≡ name → Q (c ∷ rest)
@@ -44,24 +46,24 @@ past_is c rest name Q plus minus bare = by (c == 43) refl (c == 45) refl
     by false a true is e = subst (λ (d : ℕ). Q (d ∷ rest)) (sym (eqb-true c 45 is)) (subst (λ (ds : List ℕ). Q (45 ∷ ds)) (sym e) minus)
     by false a false is e = subst Q (sym e) bare
 
-inf_number : (word : List ℕ) → past_sign word ≡ codes "inf" → plain_number word ≡ Some (scalar.Float (inf (first word == 45)))
+inf_number : (word : List ℕ) → without_sign word ≡ codes "inf" → plain_number word ≡ Some (scalar.Float (inf (first word == 45)))
 unfolding plain_number decimal_number
 inf_number [] e = absurd (cc)
 inf_number (c ∷ rest) e =
     past_is c rest (codes "inf") (λ (word : List ℕ). plain_number word ≡ Some (scalar.Float (inf (first word == 45)))) refl refl refl e
 
-nan_number : (word : List ℕ) → past_sign word ≡ codes "nan" → plain_number word ≡ Some (scalar.Float nan)
+nan_number : (word : List ℕ) → without_sign word ≡ codes "nan" → plain_number word ≡ Some (scalar.Float nan)
 unfolding plain_number decimal_number
 nan_number [] e = absurd (cc)
 nan_number (c ∷ rest) e = past_is c rest (codes "nan") (λ (word : List ℕ). plain_number word ≡ Some (scalar.Float nan)) refl refl refl e
 
 same_float : (word : List ℕ) (x : FloatValue) → plain_number word ≡ Some (scalar.Float x) → sorted_value (float_node word) ≡ plain.float x
-same_float word x reads = by (bytes_eq (past_sign word) (codes "inf")) refl (bytes_eq (past_sign word) (codes "nan")) refl
+same_float word x reads = by (bytes_eq (without_sign word) (codes "inf")) refl (bytes_eq (without_sign word) (codes "nan")) refl
   where
-    by : (a : Bool) → bytes_eq (past_sign word) (codes "inf") ≡ a → (b : Bool) → bytes_eq (past_sign word) (codes "nan") ≡ b
+    by : (a : Bool) → bytes_eq (without_sign word) (codes "inf") ≡ a → (b : Bool) → bytes_eq (without_sign word) (codes "nan") ≡ b
         → sorted_value (cond a (infinity (first word == 45)) (cond b not_a_number (decimal word))) ≡ plain.float x
-    by true a b is = ap (λ o. plain.float (float_in o)) (sym (inf_number word ((bytes_eq-Decides (past_sign word) (codes "inf")).0 a)) ∙ reads)
-    by false a true is = ap (λ o. plain.float (float_in o)) (sym (nan_number word ((bytes_eq-Decides (past_sign word) (codes "nan")).0 is)) ∙ reads)
+    by true a b is = ap (λ o. plain.float (float_in o)) (sym (inf_number word ((bytes_eq-Decides (without_sign word) (codes "inf")).0 a)) ∙ reads)
+    by false a true is = ap (λ o. plain.float (float_in o)) (sym (nan_number word ((bytes_eq-Decides (without_sign word) (codes "nan")).0 is)) ∙ reads)
     by false a false is = ap (λ o. plain.float (float_in o)) reads
 
 abbrev is_float : Option Scalar → Bool

@@ -1,5 +1,6 @@
 -- What a text writes, with the keys in order of definition and with the keys sorted: each part of the grammar reads the same.
-use Rattle.std.proofs.Common.{◌≡◌, ℕ, zero, suc, Bool, true, false, cond, ◌&&◌, ◌||◌, ◌==◌, List, [], length, take, drop, slice_index, Option, Some, None, option_map, option_and_then, refl, sym, ap, subst, ◌∙◌}
+use Rattle.std.proofs.Common.{◌≡◌, ℕ, zero, suc, Bool, true, false, cond, ◌&&◌, ◌||◌, ◌==◌, List, [], length, take, drop, slice_index, Option, Some, None}
+use Rattle.std.proofs.Common.{option_map, option_and_then, refl, sym, ap, subst, ◌∙◌}
 use Rattle.toml_parser.specs.Lexical.{Read, first, skip_ws, skip_blank}
 use Rattle.toml_parser.specs.Strings.{Key, quoted, starts_string, recursion_limit}
 use Rattle.toml_parser.specs.Numbers.{unquoted, word_len}
@@ -7,14 +8,15 @@ use Rattle.toml.specs.Data as plain
 use Rattle.toml.specs.Tables as t
 use Rattle.toml.specs.Parse as p
 use Rattle.toml.specs.Parse.{read_map, after_byte, after_element, key_equals, header_key, ends_line, skip_bom}
-use Rattle.toml_ordered.specs.Data.{Node, string, array, table, Items, no_items, Nodes, no_nodes, push_item}
+use Rattle.toml_ordered.specs.Data.{TomlNode, string, array, table, Items, no_items, TomlNodes, no_nodes, push_item}
 use Rattle.toml_ordered.specs.Grammar.{scalar_node, atom, keyval, items, members, val, expression, line, lines, ordered_document}
 use Rattle.toml_ordered.specs.Sorted.{sorted_value, sorted_items, sorted_keys}
-use Rattle.toml_ordered.specs.Tables.{key_value, std_table, array_table, Expression, Document, put, define}
+use Rattle.toml_ordered.specs.Tables.{key_value, std_table, array_table, Expression, TomlDocument, put, define}
 use Rattle.toml_ordered.specs.declared.tree.Origin.TheVariants.{Closed}
 use Rattle.toml.proofs.Turns.{val_deep}
 use Rattle.toml_ordered.proofs.SortedScalars.{same_scalar, complete_scalar}
-use Rattle.toml_ordered.proofs.SortedTables.{mapped, closed_keys, sorted-push, seen, seen_document, seen_definition, IsComplete, DefinesComplete, same_put, same_define}
+use Rattle.toml_ordered.proofs.SortedTables.{mapped, closed_keys, sorted-push, seen, seen_document, seen_definition, IsComplete, DefinesComplete, same_put}
+use Rattle.toml_ordered.proofs.SortedTables.{same_define}
 
 -- two readings, one after another
 bound : {A B C D : Type 0} (f : A → B) (g : C → D) (o : Option A) (q : Option B) (h : A → Option C) (k : B → Option D) → option_map f o ≡ q
@@ -41,27 +43,27 @@ no_some e = cc
 
 -- ---- values
 
-abbrev sorted_read : Node × List ℕ → plain.Data × List ℕ
+abbrev sorted_read : TomlNode × List ℕ → plain.Data × List ℕ
 sorted_read r = (sorted_value r.0, r.1)
 
-pub record SameRead (o : Read Node) (q : Read plain.Data) : Type 0 where
+pub record SameRead (o : Read TomlNode) (q : Read plain.Data) : Type 0 where
   pub same : option_map sorted_read o ≡ q
-  pub complete : (x : Node) (rest : List ℕ) → o ≡ Some (x, rest) → IsComplete x
+  pub complete : (x : TomlNode) (rest : List ℕ) → o ≡ Some (x, rest) → IsComplete x
 
-abbrev SameVal : (List ℕ → Read Node) → (List ℕ → Read plain.Data) → Type 0
+abbrev SameVal : (List ℕ → Read TomlNode) → (List ℕ → Read plain.Data) → Type 0
 SameVal val other = (text : List ℕ) → SameRead (val text) (other text)
 
-abbrev value_or : Node → Option (Node × List ℕ) → Node
+abbrev value_or : TomlNode → Option (TomlNode × List ℕ) → TomlNode
 value_or d None = d
 value_or d (Some r) = r.0
 
 -- what is complete however it is read
-made_complete : {A : Type 0} (make : A → Node) → ((a : A) → IsComplete (make a)) → (o : Read A) (x : Node) (rest : List ℕ)
+made_complete : {A : Type 0} (make : A → TomlNode) → ((a : A) → IsComplete (make a)) → (o : Read A) (x : TomlNode) (rest : List ℕ)
     → read_map make o ≡ Some (x, rest) → IsComplete x
 made_complete make each None x rest e = absurd (no_some e)
 made_complete make each (Some a) x rest e = subst IsComplete (ap (value_or x) e) (each a.0)
 
-same_read_map : {A B : Type 0} (f : A → B) (make : A → Node) (other : B → plain.Data) (o : Read A) (q : Read B)
+same_read_map : {A B : Type 0} (f : A → B) (make : A → TomlNode) (other : B → plain.Data) (o : Read A) (q : Read B)
     → option_map (λ r. (f r.0, r.1)) o ≡ q → ((a : A) → sorted_value (make a) ≡ other (f a)) → option_map sorted_read (read_map make o) ≡ read_map other q
 same_read_map f make other o q e each =
     mapped (λ r. (f r.0, r.1)) sorted_read (λ r. (make r.0, r.1)) (λ r. (other r.0, r.1)) o q e (λ r. ap (λ d. (d, r.1)) (each r.0))
@@ -81,7 +83,7 @@ same_atom text = by (starts_string text)
       complete = made_complete (scalar_node (take (word_len text) text)) (complete_scalar (take (word_len text) text)) (unquoted text);
     }
 
-module _ (val : List ℕ → Read Node) (other : List ℕ → Read plain.Data) (same : SameVal val other) where
+module _ (val : List ℕ → Read TomlNode) (other : List ℕ → Read plain.Data) (same : SameVal val other) where
   abbrev sorted_items_read : Items × List ℕ → plain.Items × List ℕ
   sorted_items_read r = (sorted_items r.0, r.1)
 
@@ -95,7 +97,7 @@ module _ (val : List ℕ → Read Node) (other : List ℕ → Read plain.Data) (
       (λ v is. bound_same sorted_items_read (after_element 93 v.1) _ _
       (λ next found_next. same_items n (push_item found v.0) next ∙ ap (λ xs. p.items other n xs next) (sorted-push found v.0))))
 
-  abbrev sorted_pair : (Key × Node) × List ℕ → (Key × plain.Data) × List ℕ
+  abbrev sorted_pair : (Key × TomlNode) × List ℕ → (Key × plain.Data) × List ℕ
   sorted_pair r = ((r.0.0, sorted_value r.0.1), r.1)
 
   same_keyval : (text : List ℕ) → option_map sorted_pair (keyval val text) ≡ p.keyval other text
@@ -103,26 +105,26 @@ module _ (val : List ℕ → Read Node) (other : List ℕ → Read plain.Data) (
       bound_same sorted_pair (key_equals text) _ _
       (λ k is. mapped sorted_read sorted_pair (λ r. ((k.0, r.0), r.1)) (λ r. ((k.0, r.0), r.1)) (val k.1) (other k.1) (same k.1).same (λ _. refl))
 
-  abbrev pair_or : (Key × Node) × List ℕ → Option ((Key × Node) × List ℕ) → (Key × Node) × List ℕ
+  abbrev pair_or : (Key × TomlNode) × List ℕ → Option ((Key × TomlNode) × List ℕ) → (Key × TomlNode) × List ℕ
   pair_or d None = d
   pair_or d (Some r) = r
 
-  complete_after : (k : Key × List ℕ) (e : (Key × Node) × List ℕ) (o : Read Node) → ((x : Node) (rest : List ℕ) → o ≡ Some (x, rest) → IsComplete x)
+  complete_after : (k : Key × List ℕ) (e : (Key × TomlNode) × List ℕ) (o : Read TomlNode) → ((x : TomlNode) (rest : List ℕ) → o ≡ Some (x, rest) → IsComplete x)
       → read_map (λ x. (k.0, x)) o ≡ Some e → IsComplete e.0.1
   complete_after k e None each is = absurd (no_some is)
-  complete_after k e (Some r) each is = subst (λ (found : (Key × Node) × List ℕ). IsComplete found.0.1) (ap (pair_or e) is) (each r.0 r.1 refl)
+  complete_after k e (Some r) each is = subst (λ (found : (Key × TomlNode) × List ℕ). IsComplete found.0.1) (ap (pair_or e) is) (each r.0 r.1 refl)
 
-  complete_keyval : (text : List ℕ) (e : (Key × Node) × List ℕ) → keyval val text ≡ Some e → IsComplete e.0.1
+  complete_keyval : (text : List ℕ) (e : (Key × TomlNode) × List ℕ) → keyval val text ≡ Some e → IsComplete e.0.1
   complete_keyval text e = by (key_equals text)
     where
       by : (o : Read Key) → option_and_then (λ k. read_map (λ x. (k.0, x)) (val k.1)) o ≡ Some e → IsComplete e.0.1
       by None is = absurd (no_some is)
       by (Some k) is = complete_after k e (val k.1) (same k.1).complete is
 
-  abbrev sorted_keys_read : Nodes × List ℕ → plain.Members × List ℕ
+  abbrev sorted_keys_read : TomlNodes × List ℕ → plain.Members × List ℕ
   sorted_keys_read r = (sorted_keys r.0, r.1)
 
-  same_members : (n : ℕ) (found : Nodes) (text : List ℕ)
+  same_members : (n : ℕ) (found : TomlNodes) (text : List ℕ)
       → option_map sorted_keys_read (members val n found text) ≡ p.members other n (seen found) text
   unfolding members p.members
   same_members zero found text = refl
@@ -134,7 +136,7 @@ module _ (val : List ℕ → Read Node) (other : List ℕ → Read plain.Data) (
       (same_put e.0.0 e.0.1 (complete_keyval (skip_blank text) e is) found)
       (λ more defined. bound_same sorted_keys_read (after_element 125 e.1) _ _ (λ next found_next. same_members n more next))))
 
-same_closed : (ns : Nodes) → IsComplete (table Closed ns)
+same_closed : (ns : TomlNodes) → IsComplete (table Closed ns)
 same_closed ns = ap (λ ms. t.value (plain.table ms)) (closed_keys ns)
 
 bracket_none : (text : List ℕ) → (first text == 91 || first text == 123) ≡ true → p.atom text ≡ None
@@ -207,7 +209,7 @@ complete_expression text e = by (first text == 91 && slice_index text 1 == 91) (
     once None is = absurd (no_some is)
     once (Some k) is = subst (λ (found : Expression × List ℕ). DefinesComplete found.0.1) (ap (expression_or e) is) tt
 
-    pair : (o : Read (Key × Node)) → ((r : (Key × Node) × List ℕ) → o ≡ Some r → IsComplete r.0.1) → read_map (λ r. (r.0, key_value r.1)) o ≡ Some e
+    pair : (o : Read (Key × TomlNode)) → ((r : (Key × TomlNode) × List ℕ) → o ≡ Some r → IsComplete r.0.1) → read_map (λ r. (r.0, key_value r.1)) o ≡ Some e
         → DefinesComplete e.0.1
     pair None each is = absurd (no_some is)
     pair (Some r) each is = subst (λ (found : Expression × List ℕ). DefinesComplete found.0.1) (ap (expression_or e) is) (each r refl)
@@ -238,7 +240,7 @@ complete_line text e = by (expression text) (complete_expression text)
     by None each is = absurd (no_some is)
     by (Some r) each is = ended r e (ends_line (skip_ws r.1)) (each r refl) is
 
-same_lines : (n : ℕ) (doc : Document) (text : List ℕ) → option_map seen_document (lines n doc text) ≡ p.lines n (seen_document doc) text
+same_lines : (n : ℕ) (doc : TomlDocument) (text : List ℕ) → option_map seen_document (lines n doc text) ≡ p.lines n (seen_document doc) text
 unfolding lines p.lines
 same_lines zero doc text = refl
 same_lines (suc n) doc text =

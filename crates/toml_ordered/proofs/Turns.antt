@@ -1,5 +1,6 @@
 -- The loops of the grammar, a turn at a time.
-use Rattle.std.proofs.Common.{◌≡◌, ℕ, zero, suc, ◌-◌, ◌<◌, true, false, ◌||◌, ◌==◌, List, [], ◌∷◌, length, drop, Option, Some, None, Result, Ok, Err, refl, ap, ◌∙◌, arith}
+use Rattle.std.proofs.Common.{◌≡◌, ℕ, zero, suc, ◌-◌, ◌<◌, true, false, ◌||◌, ◌==◌, List, [], ◌∷◌, length, drop, Option, Some, None, Result, Ok, Err, refl, ap}
+use Rattle.std.proofs.Common.{◌∙◌, arith}
 use Rattle.std.proofs.Common.{take, take_all, length-drop, option_map, cond, Bool, sym, subst, inl, inr, ◌⊎◌, ◌≤◌, bytes_eq, codes}
 use Rattle.std.proofs.lemmas.Bool.{cases_Bool, cases_lt}
 use Rattle.std.specs.Result.{IsErrAnd}
@@ -12,23 +13,24 @@ use Rattle.toml_parser.specs.declared.error.ParseError.TheVariants as parse
 use Rattle.toml_parser.specs.Lexical.{Read, first, skip_blank}
 use Rattle.toml_parser.specs.Strings.{Key}
 use Rattle.toml.specs.Parse.{read_map, after_element, key_equals, skip_bom}
-use Rattle.toml_ordered.specs.Data.{Node, string, decimal, infinity, not_a_number, Items, no_items, array, table, push_item, Nodes, no_nodes}
+use Rattle.toml_ordered.specs.Data.{TomlNode, string, decimal, infinity, not_a_number, Items, no_items, array, table, push_item, TomlNodes, no_nodes}
 use Rattle.toml_ordered.specs.Drafts.{sealed}
-use Rattle.toml_ordered.specs.Tables.{put, Document, Expression, define, Edit, along, passed, get_node, replace, append, made_by, Definition, redefine, new_node, at_key}
-use Rattle.toml_ordered.specs.Reading.{Gives, IsMemory, fault_of}
+use Rattle.toml_ordered.specs.Tables.{put, TomlDocument, Expression, define, Edit, along, passed, get_node, replace, append, made_by, Definition, redefine}
+use Rattle.toml_ordered.specs.Tables.{new_node, at_key}
+use Rattle.toml_ordered.specs.Reading.{ParsesTo, IsMemory, fault_of}
 use Rattle.toml_ordered.specs.declared.fault.Fault.{Fault}
 use Rattle.toml_ordered.specs.declared.route.Way.{Way}
-use Rattle.toml_ordered.specs.Grammar.{plain_word, past_sign, float_node, scalar_node, atom, val, keyval, items, members, line, lines, ordered_document}
+use Rattle.toml_ordered.specs.Grammar.{plain_word, without_sign, float_node, scalar_node, atom, val, keyval, items, members, line, lines, ordered_document}
 use Rattle.toml_ordered.specs.declared.tree.Origin.TheVariants.{Closed}
 
-module _ (val : List ℕ → Read Node) where
+module _ (val : List ℕ → Read TomlNode) where
   pub items_end : (m : ℕ) (found : Items) (text : List ℕ) → 0 < m → (first (skip_blank text) == 93) ≡ true
       → items val m found text ≡ Some (found, drop 1 (skip_blank text))
   unfolding items
   items_end zero found text some closing = absurd (omega arith)
   items_end (suc m) found text some closing = rw closing
 
-  pub items_more : (m : ℕ) (found : Items) (text : List ℕ) (x : Node) (after next : List ℕ) → 0 < m → (first (skip_blank text) == 93) ≡ false
+  pub items_more : (m : ℕ) (found : Items) (text : List ℕ) (x : TomlNode) (after next : List ℕ) → 0 < m → (first (skip_blank text) == 93) ≡ false
       → val (skip_blank text) ≡ Some (x, after) → after_element 93 after ≡ Some next
       → items val m found text ≡ items val (m - 1) (push_item found x) next
   unfolding items
@@ -43,13 +45,13 @@ module _ (val : List ℕ → Read Node) where
   items_bad zero found text some other read = absurd (omega arith)
   items_bad (suc m) found text some other read = rw (other, read)
 
-  pub items_unended : (m : ℕ) (found : Items) (text : List ℕ) (x : Node) (after : List ℕ) → 0 < m → (first (skip_blank text) == 93) ≡ false
+  pub items_unended : (m : ℕ) (found : Items) (text : List ℕ) (x : TomlNode) (after : List ℕ) → 0 < m → (first (skip_blank text) == 93) ≡ false
       → val (skip_blank text) ≡ Some (x, after) → after_element 93 after ≡ None → items val m found text ≡ None
   unfolding items
   items_unended zero found text x after some other read element = absurd (omega arith)
   items_unended (suc m) found text x after some other read element = rw (other, read, element)
 
-  pub keyval_is : (text : List ℕ) (key : Key) (at after : List ℕ) (x : Node) → key_equals text ≡ Some (key, at) → val at ≡ Some (x, after)
+  pub keyval_is : (text : List ℕ) (key : Key) (at after : List ℕ) (x : TomlNode) → key_equals text ≡ Some (key, at) → val at ≡ Some (x, after)
       → keyval val text ≡ Some ((key, x), after)
   keyval_is text key at after x named read = rw (named, read)
 
@@ -59,13 +61,13 @@ module _ (val : List ℕ → Read Node) where
   pub keyval_bad : (text : List ℕ) (key : Key) (at : List ℕ) → key_equals text ≡ Some (key, at) → val at ≡ None → keyval val text ≡ None
   keyval_bad text key at named read = rw (named, read)
 
-  pub members_end : (m : ℕ) (found : Nodes) (text : List ℕ) → 0 < m → (first (skip_blank text) == 125) ≡ true
+  pub members_end : (m : ℕ) (found : TomlNodes) (text : List ℕ) → 0 < m → (first (skip_blank text) == 125) ≡ true
       → members val m found text ≡ Some (found, drop 1 (skip_blank text))
   unfolding members
   members_end zero found text some closing = absurd (omega arith)
   members_end (suc m) found text some closing = rw closing
 
-  pub members_more : (m : ℕ) (found more : Nodes) (text : List ℕ) (key : Key) (x : Node) (after next : List ℕ) → 0 < m
+  pub members_more : (m : ℕ) (found more : TomlNodes) (text : List ℕ) (key : Key) (x : TomlNode) (after next : List ℕ) → 0 < m
       → (first (skip_blank text) == 125) ≡ false → keyval val (skip_blank text) ≡ Some ((key, x), after) → put key x found ≡ Some more
       → after_element 125 after ≡ Some next → members val m found text ≡ members val (m - 1) more next
   unfolding members
@@ -74,20 +76,20 @@ module _ (val : List ℕ → Read Node) where
       let less : suc m - 1 ≡ m = omega arith in
       rw (other, read, defined, element, less)
 
-  pub members_bad : (m : ℕ) (found : Nodes) (text : List ℕ) → 0 < m → (first (skip_blank text) == 125) ≡ false
+  pub members_bad : (m : ℕ) (found : TomlNodes) (text : List ℕ) → 0 < m → (first (skip_blank text) == 125) ≡ false
       → keyval val (skip_blank text) ≡ None → members val m found text ≡ None
   unfolding members
   members_bad zero found text some other read = absurd (omega arith)
   members_bad (suc m) found text some other read = rw (other, read)
 
-  pub members_again : (m : ℕ) (found : Nodes) (text : List ℕ) (key : Key) (x : Node) (after : List ℕ) → 0 < m
+  pub members_again : (m : ℕ) (found : TomlNodes) (text : List ℕ) (key : Key) (x : TomlNode) (after : List ℕ) → 0 < m
       → (first (skip_blank text) == 125) ≡ false → keyval val (skip_blank text) ≡ Some ((key, x), after) → put key x found ≡ None
       → members val m found text ≡ None
   unfolding members
   members_again zero found text key x after some other read defined = absurd (omega arith)
   members_again (suc m) found text key x after some other read defined = rw (other, read, defined)
 
-  pub members_unended : (m : ℕ) (found more : Nodes) (text : List ℕ) (key : Key) (x : Node) (after : List ℕ) → 0 < m
+  pub members_unended : (m : ℕ) (found more : TomlNodes) (text : List ℕ) (key : Key) (x : TomlNode) (after : List ℕ) → 0 < m
       → (first (skip_blank text) == 125) ≡ false → keyval val (skip_blank text) ≡ Some ((key, x), after) → put key x found ≡ Some more
       → after_element 125 after ≡ None → members val m found text ≡ None
   unfolding members
@@ -119,12 +121,12 @@ val_table (suc depth) text some a b =
     let less : suc depth - 1 ≡ depth = omega arith in
     rw (a, b, less)
 
-pub lines_end : (m : ℕ) (doc : Document) (text : List ℕ) → 0 < m → length (skip_blank text) ≡ 0 → lines m doc text ≡ Some doc
+pub lines_end : (m : ℕ) (doc : TomlDocument) (text : List ℕ) → 0 < m → length (skip_blank text) ≡ 0 → lines m doc text ≡ Some doc
 unfolding lines
 lines_end zero doc text some none = absurd (omega arith)
 lines_end (suc m) doc text some none = rw none
 
-pub lines_more : (m : ℕ) (doc next : Document) (text : List ℕ) (e : Expression) (after : List ℕ) → 0 < m → (length (skip_blank text) == 0) ≡ false
+pub lines_more : (m : ℕ) (doc next : TomlDocument) (text : List ℕ) (e : Expression) (after : List ℕ) → 0 < m → (length (skip_blank text) == 0) ≡ false
     → line (skip_blank text) ≡ Some (e, after) → define doc e ≡ Some next → lines m doc text ≡ lines (m - 1) next after
 unfolding lines
 lines_more zero doc next text e after some other read defined = absurd (omega arith)
@@ -132,19 +134,19 @@ lines_more (suc m) doc next text e after some other read defined =
     let less : suc m - 1 ≡ m = omega arith in
     rw (other, read, defined, less)
 
-pub lines_bad : (m : ℕ) (doc : Document) (text : List ℕ) → 0 < m → (length (skip_blank text) == 0) ≡ false → line (skip_blank text) ≡ None
+pub lines_bad : (m : ℕ) (doc : TomlDocument) (text : List ℕ) → 0 < m → (length (skip_blank text) == 0) ≡ false → line (skip_blank text) ≡ None
     → lines m doc text ≡ None
 unfolding lines
 lines_bad zero doc text some other read = absurd (omega arith)
 lines_bad (suc m) doc text some other read = rw (other, read)
 
-pub lines_again : (m : ℕ) (doc : Document) (text : List ℕ) (e : Expression) (after : List ℕ) → 0 < m → (length (skip_blank text) == 0) ≡ false
+pub lines_again : (m : ℕ) (doc : TomlDocument) (text : List ℕ) (e : Expression) (after : List ℕ) → 0 < m → (length (skip_blank text) == 0) ≡ false
     → line (skip_blank text) ≡ Some (e, after) → define doc e ≡ None → lines m doc text ≡ None
 unfolding lines
 lines_again zero doc text e after some other read defined = absurd (omega arith)
 lines_again (suc m) doc text e after some other read defined = rw (other, read, defined)
 
-pub document_some : (text : List ℕ) (doc : Document) → lines (suc (length text)) (no_nodes, []) (skip_bom text) ≡ Some doc
+pub document_some : (text : List ℕ) (doc : TomlDocument) → lines (suc (length text)) (no_nodes, []) (skip_bom text) ≡ Some doc
     → ordered_document text ≡ Some doc.0
 unfolding ordered_document
 document_some text doc read = rw read
@@ -155,21 +157,21 @@ document_none text read = rw read
 
 -- ---- keys
 
-pub along_end : (edit : Edit) (ns : Nodes) → along [] edit ns ≡ edit ns
+pub along_end : (edit : Edit) (ns : TomlNodes) → along [] edit ns ≡ edit ns
 unfolding along
 along_end edit ns = refl
 
-module _ (by : Way) (k : List ℕ) (rest : List (Way × List ℕ)) (edit : Edit) (ns : Nodes) where
-  pub along_found : (x y : Node) (new : Nodes) → get_node k ns ≡ Some x → passed by (along rest edit) x ≡ Some y → new ≡ replace k y ns
+module _ (by : Way) (k : List ℕ) (rest : List (Way × List ℕ)) (edit : Edit) (ns : TomlNodes) where
+  pub along_found : (x y : TomlNode) (new : TomlNodes) → get_node k ns ≡ Some x → passed by (along rest edit) x ≡ Some y → new ≡ replace k y ns
       → along ((by, k) ∷ rest) edit ns ≡ Some new
   unfolding along
   along_found x y new found step written = rw (found, step, written)
 
-  pub along_refused : (x : Node) → get_node k ns ≡ Some x → passed by (along rest edit) x ≡ None → along ((by, k) ∷ rest) edit ns ≡ None
+  pub along_refused : (x : TomlNode) → get_node k ns ≡ Some x → passed by (along rest edit) x ≡ None → along ((by, k) ∷ rest) edit ns ≡ None
   unfolding along
   along_refused x found step = rw (found, step)
 
-  pub along_new : (inner new : Nodes) → get_node k ns ≡ None → along rest edit no_nodes ≡ Some inner → new ≡ append ns k (table (made_by by) inner)
+  pub along_new : (inner new : TomlNodes) → get_node k ns ≡ None → along rest edit no_nodes ≡ Some inner → new ≡ append ns k (table (made_by by) inner)
       → along ((by, k) ∷ rest) edit ns ≡ Some new
   unfolding along
   along_new inner new none step written = rw (none, step, written)
@@ -178,12 +180,12 @@ module _ (by : Way) (k : List ℕ) (rest : List (Way × List ℕ)) (edit : Edit)
   unfolding along
   along_new_refused none step = rw (none, step)
 
-module _ (k : List ℕ) (what : Definition) (ns : Nodes) where
-  pub at_key_found : (x y : Node) (new : Nodes) → get_node k ns ≡ Some x → redefine what x ≡ Some y → new ≡ replace k y ns → at_key k what ns ≡ Some new
+module _ (k : List ℕ) (what : Definition) (ns : TomlNodes) where
+  pub at_key_found : (x y : TomlNode) (new : TomlNodes) → get_node k ns ≡ Some x → redefine what x ≡ Some y → new ≡ replace k y ns → at_key k what ns ≡ Some new
   unfolding at_key
   at_key_found x y new found step written = rw (found, step, written)
 
-  pub at_key_refused : (x : Node) → get_node k ns ≡ Some x → redefine what x ≡ None → at_key k what ns ≡ None
+  pub at_key_refused : (x : TomlNode) → get_node k ns ≡ Some x → redefine what x ≡ None → at_key k what ns ≡ None
   unfolding at_key
   at_key_refused x found step = rw (found, step)
 
@@ -195,7 +197,7 @@ module _ (k : List ℕ) (what : Definition) (ns : Nodes) where
 
 -- the fault that a `?` passes on
 pub gives_err : {A B : Type 0} (f : A → B) (r : Result A Fault) (expected : Option B) (e : Fault) (Q : Fault → Type 0)
-    → IsErrAnd r Q → ((y : Fault) → Q y → y ≡ e) → ((IsMemory e → ⊥) → expected ≡ None) → Gives f r expected
+    → IsErrAnd r Q → ((y : Fault) → Q y → y ≡ e) → ((IsMemory e → ⊥) → expected ≡ None) → ParsesTo f r expected
 gives_err f (Ok a) expected e Q h same refused = absurd h
 gives_err f (Err y) expected e Q h same refused = λ other. refused (λ m. other (same y h ∙ m))
 
@@ -205,7 +207,7 @@ pub made_of : {B : Type 0} (e : ParseError) (expected : Option B) → ((e ≡ pa
 made_of e expected refused other = refused (λ m. other (ap fault_of m))
 
 -- and of a refused allocation
-pub gives_memory : {A B : Type 0} (f : A → B) (r : Result A Fault) (expected : Option B) → IsErrAnd r IsMemory → Gives f r expected
+pub gives_memory : {A B : Type 0} (f : A → B) (r : Result A Fault) (expected : Option B) → IsErrAnd r IsMemory → ParsesTo f r expected
 gives_memory f (Ok a) expected h = absurd h
 gives_memory f (Err y) expected h = λ other. absurd (other h)
 
@@ -235,24 +237,24 @@ word_taken s rest n is = by (cases_lt (length s) n)
     by (inl past) = take_all (length s - length rest) s (omega (arith, left)) ∙ sym (take_all n s (omega (arith, past)))
     by (inr within) = ap (λ m. take m s) (omega (arith, left))
 
-pub atom_scalar : (s : List ℕ) (d : Scalar) (rest : List ℕ) (x : Node) → starts_string s ≡ false → unquoted s ≡ Some (d, rest)
+pub atom_scalar : (s : List ℕ) (d : Scalar) (rest : List ℕ) (x : TomlNode) → starts_string s ≡ false → unquoted s ≡ Some (d, rest)
     → x ≡ scalar_node (take (length s - length rest) s) d → atom s ≡ Some (x, rest)
 atom_scalar s d rest x other read is =
     rw (other, read) (ap (λ y. Some (y, rest)) (sym (is ∙ ap (λ w. scalar_node w d) (word_taken s rest (word_len s) (rest_is s d rest read)))))
 
 -- ---- values that were read take no more
 
-abbrev value_or : Node → Option (Node × List ℕ) → Node
+abbrev value_or : TomlNode → Option (TomlNode × List ℕ) → TomlNode
 value_or d None = d
 value_or d (Some r) = r.0
 
-read_sealed : {A : Type 0} (f : A → Node) → ((a : A) → sealed (f a) ≡ f a) → (o : Read A) (x : Node) (rest : List ℕ) → read_map f o ≡ Some (x, rest)
+read_sealed : {A : Type 0} (f : A → TomlNode) → ((a : A) → sealed (f a) ≡ f a) → (o : Read A) (x : TomlNode) (rest : List ℕ) → read_map f o ≡ Some (x, rest)
     → sealed x ≡ x
 read_sealed f all None x rest read = absurd (cc)
-read_sealed f all (Some r) x rest read = subst (λ (y : Node). sealed y ≡ y) (ap (value_or x) read) (all r.0)
+read_sealed f all (Some r) x rest read = subst (λ (y : TomlNode). sealed y ≡ y) (ap (value_or x) read) (all r.0)
 
 float_sealed : (word : List ℕ) → sealed (float_node word) ≡ float_node word
-float_sealed word = by (bytes_eq (past_sign word) (codes "inf")) (bytes_eq (past_sign word) (codes "nan"))
+float_sealed word = by (bytes_eq (without_sign word) (codes "inf")) (bytes_eq (without_sign word) (codes "nan"))
   where
     by : (a b : Bool) → sealed (cond a (infinity (first word == 45)) (cond b not_a_number (decimal word))) ≡ cond a (infinity (first word == 45)) (cond b not_a_number (decimal word))
     by true b = refl
@@ -265,17 +267,18 @@ scalar_sealed word (scalar.Integer z) = refl
 scalar_sealed word (scalar.Float x) = float_sealed (plain_word word)
 scalar_sealed word (scalar.Datetime d) = refl
 
-atom_sealed : (text : List ℕ) (x : Node) (rest : List ℕ) → atom text ≡ Some (x, rest) → sealed x ≡ x
+atom_sealed : (text : List ℕ) (x : TomlNode) (rest : List ℕ) → atom text ≡ Some (x, rest) → sealed x ≡ x
 atom_sealed text x rest = by (starts_string text)
   where
     word : List ℕ
     word = take (word_len text) text
 
-    by : (b : Bool) → cond {A = Option (Node × List ℕ)} b (read_map string (quoted text)) (read_map (scalar_node word) (unquoted text)) ≡ Some (x, rest) → sealed x ≡ x
+    by : (b : Bool) → cond {A = Option (TomlNode × List ℕ)} b (read_map string (quoted text)) (read_map (scalar_node word) (unquoted text)) ≡ Some (x, rest)
+        → sealed x ≡ x
     by true read = read_sealed string (λ s. refl) (quoted text) x rest read
     by false read = read_sealed (scalar_node word) (scalar_sealed word) (unquoted text) x rest read
 
-pub val_sealed : (depth : ℕ) (text : List ℕ) (x : Node) (rest : List ℕ) → val depth text ≡ Some (x, rest) → sealed x ≡ x
+pub val_sealed : (depth : ℕ) (text : List ℕ) (x : TomlNode) (rest : List ℕ) → val depth text ≡ Some (x, rest) → sealed x ≡ x
 val_sealed depth text x rest read = elim (cases_Bool (first text == 91)) [
   | inl a ↦ elim (cases_lt 0 depth) [
     | inl some ↦ read_sealed array (λ xs. refl) (items (val (depth - 1)) (length text) no_items (drop 1 text)) x rest (sym (val_array depth text some a) ∙ read)
@@ -298,5 +301,5 @@ val_sealed depth text x rest read = elim (cases_Bool (first text == 91)) [
   ]
 ]
   where
-    some_none : ◌≡◌ {A = Option (Node × List ℕ)} (Some (x, rest)) None → ⊥
+    some_none : ◌≡◌ {A = Option (TomlNode × List ℕ)} (Some (x, rest)) None → ⊥
     some_none e = cc

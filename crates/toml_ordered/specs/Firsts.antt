@@ -1,7 +1,7 @@
 -- Where the keys of a table were first defined. A place is how much of the text was left there.
 use Rattle.std.specs.Prelude.{◌≡◌, ◌⊎◌, ℕ, List, [], ◌∷◌, ◌++◌, map, String, string_bytes, Option, Some, None}
 use Rattle.std.specs.declared.alloc.Global.{Global}
-use Rattle.toml_ordered.specs.Data.{Node, table, tables, Nodes, no_nodes}
+use Rattle.toml_ordered.specs.Data.{TomlNode, table, tables, TomlNodes, no_nodes}
 use Rattle.toml_ordered.specs.Tables.{get_node}
 use Rattle.toml_ordered.specs.declared.drafts.Draft.{Draft as CodeDraft, fold-Draft}
 use Rattle.toml_ordered.specs.declared.drafts.Draft.TheOpen.{Draft-F}
@@ -38,13 +38,13 @@ abbrev pub keys_firsts : List (String Global × CodeDraft × ℕ) → Firsts
 keys_firsts ms = firsts_of (map (λ m. (m.0, draft_firsts m.1, m.2)) ms)
 
 -- the keys of a table, or of the last of an array of tables
-abbrev pub keys_in : Option Node → Nodes
+abbrev pub keys_in : Option TomlNode → TomlNodes
 keys_in (Some (table origin keys)) = keys
 keys_in (Some (tables done last)) = last
 keys_in other = no_nodes
 
 -- the keys of the table at the end of a path
-abbrev pub keys_at : List (List ℕ) → Nodes → Nodes
+abbrev pub keys_at : List (List ℕ) → TomlNodes → TomlNodes
 keys_at [] keys = keys
 keys_at (step ∷ path) keys = keys_at path (keys_in (get_node step keys))
 
@@ -53,11 +53,11 @@ abbrev pub PassesKey : (whole path : List (List ℕ)) → (key : List ℕ) → T
 PassesKey whole path key = (more : List (List ℕ)) × (whole ≡ path ++ key ∷ more)
 
 -- what is defined along the whole path is the first to define the key: nothing stood there
-abbrev pub IsNewKey : (whole : List (List ℕ)) → (keys : Nodes) → (path : List (List ℕ)) → (key : List ℕ) → Type 0
+abbrev pub IsNewKey : (whole : List (List ℕ)) → (keys : TomlNodes) → (path : List (List ℕ)) → (key : List ℕ) → Type 0
 IsNewKey whole keys path key = PassesKey whole path key × (get_node key (keys_at path keys) ≡ None)
 
 -- after a definition along the whole path, here: what is first defined was so before, or is new and first defined here
-abbrev pub AddsFirsts : (whole : List (List ℕ)) → (here : ℕ) → (keys : Nodes) → (old new : Firsts) → Type 0
+abbrev pub AddsFirsts : (whole : List (List ℕ)) → (here : ℕ) → (keys : TomlNodes) → (old new : Firsts) → Type 0
 AddsFirsts whole here keys old new =
     (path : List (List ℕ)) (key : List ℕ) (left : ℕ) → HasFirst new path key left
     → HasFirst old path key left ⊎ ((left ≡ here) × IsNewKey whole keys path key)

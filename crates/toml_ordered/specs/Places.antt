@@ -3,10 +3,10 @@ use Rattle.std.specs.Prelude.{◌≡◌, ◌⊎◌, ℕ, zero, suc, ◌<◌, ◌
 use Rattle.toml_parser.specs.Lexical.{right_brace, skip_blank}
 use Rattle.toml_parser.specs.Strings.{Key}
 use Rattle.toml.specs.Parse.{after_element, key_equals, skip_bom}
-use Rattle.toml_ordered.specs.Data.{Node, Nodes, no_nodes}
+use Rattle.toml_ordered.specs.Data.{TomlNode, TomlNodes, no_nodes}
 use Rattle.toml_ordered.specs.Firsts.{IfAgain, IsNewKey, PassesKey}
 use Rattle.toml_ordered.specs.Grammar.{keyval, line, val}
-use Rattle.toml_ordered.specs.Tables.{Definition, Document, Expression, define, key_value, put}
+use Rattle.toml_ordered.specs.Tables.{Definition, TomlDocument, Expression, define, key_value, put}
 use Rattle.toml_ordered.specs.declared.fault.Fault.{Fault}
 use Rattle.toml_ordered.specs.declared.fault.Fault.TheVariants as fault
 
@@ -29,34 +29,34 @@ moved_within here (fault.NotToml left) = fault.NotToml (min left here)
 moved_within here (fault.DefinedAgain key first second) = fault.DefinedAgain key first (min second here)
 
 -- a document and the rest of a text after one more expression
-abbrev pub next_line : Document × List ℕ → Option (Document × List ℕ)
+abbrev pub next_line : TomlDocument × List ℕ → Option (TomlDocument × List ℕ)
 next_line at = option_and_then (λ e. option_map (λ next. (next, e.1)) (define at.0 e.0)) (line (skip_blank at.1))
 
 -- the document and the rest after the first expressions of the text, so many
-abbrev pub after_lines : ℕ → (text : List ℕ) → Option (Document × List ℕ)
+abbrev pub after_lines : ℕ → (text : List ℕ) → Option (TomlDocument × List ℕ)
 after_lines zero text = Some ((no_nodes, []), skip_bom text)
 after_lines (suc count) text = option_and_then next_line (after_lines count text)
 
 -- the text is read up to the rest, as this document
-abbrev pub ReadsUpTo : (text : List ℕ) → Document → (rest : List ℕ) → Type 0
+abbrev pub ReadsUpTo : (text : List ℕ) → TomlDocument → (rest : List ℕ) → Type 0
 ReadsUpTo text doc rest = (count : ℕ) × (after_lines count text ≡ Some (doc, rest))
 
 -- no expression has its line here, and the place is here or behind; or one has that defines what takes no more, and the place is here
-abbrev pub RefusesNext : Document → (start : List ℕ) → (left : ℕ) → Type 0
+abbrev pub RefusesNext : TomlDocument → (start : List ℕ) → (left : ℕ) → Type 0
 RefusesNext doc start left =
     ((line start ≡ None) × (left ≤ length start))
     ⊎ ((e : Expression) × (after : List ℕ) × (line start ≡ Some (e, after)) × (define doc e ≡ None) × (left ≡ length start))
 
 -- the text is read up to an expression that is refused, with this much left
-pub record StopsAt (text : List ℕ) (left : ℕ) : Type 0 where
-  pub doc : Document
+pub record StopsAtExpression (text : List ℕ) (left : ℕ) : Type 0 where
+  pub doc : TomlDocument
   pub rest : List ℕ
   pub read : ReadsUpTo text doc rest
   pub refused : RefusesNext doc (skip_blank rest) left
 
 -- of a fault that has a place
-abbrev pub IsPlaced : List ℕ → Fault → Type 0
-IsPlaced text found = IfSome (place_left found) (StopsAt text)
+abbrev pub FaultIsPlaced : List ℕ → Fault → Type 0
+FaultIsPlaced text found = IfSome (place_left found) (StopsAtExpression text)
 
 -- the text ends so
 abbrev pub EndsWith : (text end : List ℕ) → Type 0
@@ -67,12 +67,12 @@ abbrev pub key_parts : Key → List (List ℕ)
 key_parts key = key.0 ++ key.1 ∷ []
 
 -- the whole path of what an expression defines: that of a pair goes on from the last header
-abbrev pub whole_path : Document → Key → Definition → List (List ℕ)
+abbrev pub whole_path : TomlDocument → Key → Definition → List (List ℕ)
 whole_path doc key (key_value x) = doc.1 ++ key_parts key
 whole_path doc key header = key_parts key
 
 -- an expression begins with this much left, behind what is read as this document
-pub record ExpressionAt (text : List ℕ) (doc : Document) (e : Expression) (left : ℕ) : Type 0 where
+pub record ExpressionAt (text : List ℕ) (doc : TomlDocument) (e : Expression) (left : ℕ) : Type 0 where
   pub rest : List ℕ
   pub after : List ℕ
   pub read : ReadsUpTo text doc rest
@@ -81,7 +81,7 @@ pub record ExpressionAt (text : List ℕ) (doc : Document) (e : Expression) (lef
 
 -- the expression that begins here is the first to define the key in the table at the end of the path, by itself or by what it defines inside
 pub record FirstDefines (text : List ℕ) (path : List (List ℕ)) (key : List ℕ) (left : ℕ) : Type 0 where
-  pub doc : Document
+  pub doc : TomlDocument
   pub e : Expression
   pub at : ExpressionAt text doc e left
   pub new : IsNewKey (whole_path doc e.0 e.1) doc.0 path key
@@ -90,7 +90,7 @@ pub record FirstDefines (text : List ℕ) (path : List (List ℕ)) (key : List �
 pub record ExpressionsConflict (text : List ℕ) (key : List ℕ) (first second : ℕ) : Type 0 where
   pub path : List (List ℕ)
   pub before : FirstDefines text path key first
-  pub doc : Document
+  pub doc : TomlDocument
   pub e : Expression
   pub at : ExpressionAt text doc e second
   pub passes : PassesKey (whole_path doc e.0 e.1) path key
@@ -98,18 +98,18 @@ pub record ExpressionsConflict (text : List ℕ) (key : List ℕ) (first second 
   pub order : second < first
 
 -- the keys and the rest of the text after one more pair of a table in braces
-abbrev pub next_pair : (depth : ℕ) → Nodes × List ℕ → Option (Nodes × List ℕ)
+abbrev pub next_pair : (depth : ℕ) → TomlNodes × List ℕ → Option (TomlNodes × List ℕ)
 next_pair depth at =
     option_and_then (λ e. option_and_then (λ more. option_map (λ rest. (more, rest)) (after_element right_brace e.1)) (put e.0.0 e.0.1 at.0))
     (keyval (val depth) (skip_blank at.1))
 
 -- the keys and the rest after the first pairs, so many, of the text behind a brace
-abbrev pub after_pairs : (depth : ℕ) → ℕ → (text : List ℕ) → Option (Nodes × List ℕ)
+abbrev pub after_pairs : (depth : ℕ) → ℕ → (text : List ℕ) → Option (TomlNodes × List ℕ)
 after_pairs depth zero text = Some (no_nodes, text)
 after_pairs depth (suc count) text = option_and_then (next_pair depth) (after_pairs depth count text)
 
 -- a pair begins with this much left, behind what is read as these keys; the text is that of a table in braces, behind the brace
-pub record PairAt (depth : ℕ) (text : List ℕ) (found : Nodes) (name : Key) (left : ℕ) : Type 0 where
+pub record PairAt (depth : ℕ) (text : List ℕ) (found : TomlNodes) (name : Key) (left : ℕ) : Type 0 where
   pub rest : List ℕ
   pub after : List ℕ
   pub ends : EndsWith text rest
@@ -120,7 +120,7 @@ pub record PairAt (depth : ℕ) (text : List ℕ) (found : Nodes) (name : Key) (
 
 -- the pair that begins here is the first to define the key in the table at the end of the path
 pub record PairFirstDefines (depth : ℕ) (text : List ℕ) (path : List (List ℕ)) (key : List ℕ) (left : ℕ) : Type 0 where
-  pub found : Nodes
+  pub found : TomlNodes
   pub name : Key
   pub at : PairAt depth text found name left
   pub new : IsNewKey (key_parts name) found path key
@@ -132,10 +132,10 @@ pub record PairsConflict (text : List ℕ) (key : List ℕ) (first second : ℕ)
   pub stands : EndsWith text inside
   pub path : List (List ℕ)
   pub before : PairFirstDefines depth inside path key first
-  pub found : Nodes
+  pub found : TomlNodes
   pub name : Key
   pub at : PairAt depth inside found name second
-  pub value : Node
+  pub value : TomlNode
   pub after : List ℕ
   pub pair : keyval (val depth) (skip_blank at.rest) ≡ Some ((name, value), after)
   pub passes : PassesKey (key_parts name) path key
@@ -144,7 +144,7 @@ pub record PairsConflict (text : List ℕ) (key : List ℕ) (first second : ℕ)
 
 -- the text is read up to an expression in which two pairs do so
 pub record PairsConflictIn (text : List ℕ) (key : List ℕ) (first second : ℕ) : Type 0 where
-  pub doc : Document
+  pub doc : TomlDocument
   pub rest : List ℕ
   pub read : ReadsUpTo text doc rest
   pub pairs : PairsConflict (skip_blank rest) key first second

@@ -9,7 +9,7 @@ use Rattle.toml_parser.specs.declared.key.Key as code_key
 use Rattle.toml_ordered.specs.Data.{node_view}
 use Rattle.toml_ordered.specs.Drafts.{sealed, table_view}
 use Rattle.toml_ordered.specs.Firsts.{IfAgain}
-use Rattle.toml_ordered.specs.Tables.{Definition, Document, Edit, Expression, key_value, std_table, array_table, steps, along, at_key}
+use Rattle.toml_ordered.specs.Tables.{Definition, TomlDocument, Edit, Expression, key_value, std_table, array_table, steps_along, along, at_key}
 use Rattle.toml_ordered.specs.declared.route.Way.{Way}
 use Rattle.toml_ordered.specs.declared.document.Document.{Document as CodeDocument}
 use Rattle.toml_ordered.specs.declared.fault.Fault.{Fault}
@@ -30,12 +30,12 @@ fault_of parse.OutOfMemory = fault.Memory
 fault_of (parse.At kind from to) = fault.NotToml from
 
 -- the result is what the grammar gives, seen through f, unless an allocation failed
-abbrev pub Gives : {A B : Type 0} → (A → B) → Result A Fault → Option B → Type 0
-Gives f r expected = MatchResult r (λ a. expected ≡ Some (f a)) (λ e. (IsMemory e → ⊥) → expected ≡ None)
+abbrev pub ParsesTo : {A B : Type 0} → (A → B) → Result A Fault → Option B → Type 0
+ParsesTo f r expected = MatchResult r (λ a. expected ≡ Some (f a)) (λ e. (IsMemory e → ⊥) → expected ≡ None)
 
 -- the same of a value and the text after it
-abbrev pub Reads : {A B : Type 0} → (A → B) → Result (A × Bor (List ℕ)) Fault → Read B → Type 0
-Reads f r expected = Gives (λ p. (f p.0, p.1.now)) r expected
+abbrev pub ParsesPrefixTo : {A B : Type 0} → (A → B) → Result (A × Bor (List ℕ)) Fault → Read B → Type 0
+ParsesPrefixTo f r expected = ParsesTo (λ p. (f p.0, p.1.now)) r expected
 
 -- less text is left
 abbrev pub Shortens : {A : Type 0} → List ℕ → Result (A × Bor (List ℕ)) Fault → Type 0
@@ -51,7 +51,7 @@ expression_view e = (key_view e.0, definition_view e.1)
 
 -- the keys of a route
 abbrev pub steps_of : Route → List (Way × List ℕ)
-steps_of route = steps (path_view route.header.now) (path_view route.dots.now)
+steps_of route = steps_along (path_view route.header.now) (path_view route.dots.now)
 
 -- the whole path of an entry at the end of a route
 abbrev pub path_of : Route → List (List ℕ)
@@ -69,5 +69,5 @@ abbrev pub IsPassed : Passed → (here : ℕ) → Fault → Type 0
 IsPassed passed here found = IfAgain found (λ key first second. (key ≡ passed.key.now) × (first ≡ passed.first) × (second ≡ here))
 
 -- what was read of a document
-abbrev pub document_view : CodeDocument → Document
+abbrev pub document_view : CodeDocument → TomlDocument
 document_view document = (table_view document.root, path_view document.section.items)

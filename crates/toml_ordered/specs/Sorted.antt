@@ -8,8 +8,8 @@ use Rattle.toml_parser.specs.declared.scalar.Scalar.{Scalar}
 use Rattle.toml_parser.specs.declared.scalar.Scalar.TheVariants as scalar
 use Rattle.toml.specs.Data as plain
 use Rattle.toml.specs.Parse.{parse_document}
-use Rattle.toml_ordered.specs.Data.{Node, string, integer, decimal, infinity, not_a_number, boolean, datetime, array, table, tables}
-use Rattle.toml_ordered.specs.Data.{Items, no_items, item, Nodes, no_nodes, node}
+use Rattle.toml_ordered.specs.Data.{TomlNode, string, integer, decimal, infinity, not_a_number, boolean, datetime, array, table, tables}
+use Rattle.toml_ordered.specs.Data.{Items, no_items, item, TomlNodes, no_nodes, node}
 use Rattle.toml_ordered.specs.Grammar.{ordered_document}
 
 -- the float of a decimal's characters
@@ -25,7 +25,7 @@ put_sorted k x (plain.member l y ms) =
 
 -- a value, with the tables in it sorted; a table, sorted
 abbrev mutual
-  pub sorted_value : Node → plain.Data
+  pub sorted_value : TomlNode → plain.Data
   sorted_value (string text) = plain.string text
   sorted_value (integer z) = plain.integer z
   sorted_value (decimal word) = plain.float (float_in (plain_number word))
@@ -41,7 +41,7 @@ abbrev mutual
   sorted_items no_items = plain.no_items
   sorted_items (item x xs) = plain.item (sorted_value x) (sorted_items xs)
 
-  pub sorted_keys : Nodes → plain.Members
+  pub sorted_keys : TomlNodes → plain.Members
   sorted_keys no_nodes = plain.no_members
   sorted_keys (node k x ns) = put_sorted k (sorted_value x) (sorted_keys ns)
 

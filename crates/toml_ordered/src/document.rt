@@ -6,8 +6,8 @@ ghost use Rattle.toml_ordered.specs.Data.{entries_view, node_view};
 ghost use Rattle.toml_ordered.specs.Drafts.{sealed, table_view};
 ghost use Rattle.toml_ordered.specs.Firsts.{AddsFirsts, IfAgain, IsAgain, keys_firsts};
 ghost use Rattle.toml_ordered.specs.Grammar as spec;
-ghost use Rattle.toml_ordered.specs.Places.{IsConflict, IsPlaced, PairsConflict, key_parts, whole_path};
-ghost use Rattle.toml_ordered.specs.Reading.{Gives, Reads, Shortens, definition_view, document_view, expression_view};
+ghost use Rattle.toml_ordered.specs.Places.{IsConflict, FaultIsPlaced, PairsConflict, key_parts, whole_path};
+ghost use Rattle.toml_ordered.specs.Reading.{ParsesTo, ParsesPrefixTo, Shortens, definition_view, document_view, expression_view};
 ghost use Rattle.toml_ordered.specs.Tables.{define, defined_header, defined_pair};
 
 use crate::drafts::OpenTable;
@@ -35,7 +35,7 @@ impl Document {
         expression: (Key, Definition),
         left: usize,
     ) -> Result<(), Fault>
-        ensures value { Gives (λ _. document_view self.new) result (define (document_view self.old) (expression_view expression)) }
+        ensures value { ParsesTo (λ _. document_view self.new) result (define (document_view self.old) (expression_view expression)) }
         ensures firsts { IfOk result (λ _. AddsFirsts (whole_path (document_view self.old) (key_view expression.0) (definition_view expression.1)) left
             (table_view self.old.root) (keys_firsts self.old.root.keys.items) (keys_firsts self.new.root.keys.items)) }
         ensures again { IfErr result (IsAgain (whole_path (document_view self.old) (key_view expression.0) (definition_view expression.1)) left
@@ -50,7 +50,7 @@ impl Document {
 
     /// Defines a pair, in the table of the last header.
     fn define_pair(&mut self, alloc: Global, key: Key, node: Node, left: usize) -> Result<(), Fault>
-        ensures value { Gives (λ _. document_view self.new) result (defined_pair (document_view self.old) (key_view key) (sealed (node_view node))) }
+        ensures value { ParsesTo (λ _. document_view self.new) result (defined_pair (document_view self.old) (key_view key) (sealed (node_view node))) }
         ensures firsts { IfOk result (λ _. AddsFirsts (path_view self.old.section.items ++ key_parts (key_view key)) left (table_view self.old.root)
             (keys_firsts self.old.root.keys.items) (keys_firsts self.new.root.keys.items)) }
         ensures again { IfErr result (IsAgain (path_view self.old.section.items ++ key_parts (key_view key)) left (keys_firsts self.old.root.keys.items)) }
@@ -82,7 +82,7 @@ impl Document {
         what: Definition,
         left: usize,
     ) -> Result<(), Fault>
-        ensures value { Gives (λ _. document_view self.new) result (defined_header (document_view self.old) (key_view key) (definition_view what)) }
+        ensures value { ParsesTo (λ _. document_view self.new) result (defined_header (document_view self.old) (key_view key) (definition_view what)) }
         ensures firsts { IfOk result (λ _. AddsFirsts (key_parts (key_view key)) left (table_view self.old.root)
             (keys_firsts self.old.root.keys.items) (keys_firsts self.new.root.keys.items)) }
         ensures again { IfErr result (IsAgain (key_parts (key_view key)) left (keys_firsts self.old.root.keys.items)) }
@@ -117,8 +117,8 @@ impl Document {
 /// `NotToml` where the text isn't TOML 1.1, or a key has more than 80 parts, or arrays and tables in braces nest more than 80 deep;
 /// `DefinedAgain` where a key is defined twice; `Memory` where an allocation fails.
 pub fn read_document(alloc: Global, text: &str) -> Result<Nodes, Fault>
-    ensures value { Gives (λ root. entries_view root.items) result (spec.ordered_document text.now) }
-    ensures placed { IfErr result (IsPlaced text.now) }
+    ensures value { ParsesTo (λ root. entries_view root.items) result (spec.ordered_document text.now) }
+    ensures placed { IfErr result (FaultIsPlaced text.now) }
     ensures conflict { IfErr result (IsConflict text.now) }
 {
     let mut read = Document {
@@ -156,7 +156,7 @@ fn past_mark(s: &str) -> &str
 
 /// Reads an expression that has its line to itself.
 fn line(alloc: Global, s: &str) -> Result<((Key, Definition), &str), Fault>
-    ensures value { Reads expression_view result (spec.line s.now) }
+    ensures value { ParsesPrefixTo expression_view result (spec.line s.now) }
     ensures shorter { Shortens s.now result }
     ensures conflict { IfErr result (λ fault. IfAgain fault (PairsConflict s.now)) }
 {
@@ -171,7 +171,7 @@ fn line(alloc: Global, s: &str) -> Result<((Key, Definition), &str), Fault>
 
 /// Reads a header, or a pair.
 fn expression(alloc: Global, s: &str) -> Result<((Key, Definition), &str), Fault>
-    ensures value { Reads expression_view result (spec.expression s.now) }
+    ensures value { ParsesPrefixTo expression_view result (spec.expression s.now) }
     ensures shorter { Shortens s.now result }
     ensures conflict { IfErr result (λ fault. IfAgain fault (PairsConflict s.now)) }
 {
@@ -193,7 +193,7 @@ fn expression(alloc: Global, s: &str) -> Result<((Key, Definition), &str), Fault
 
 /// Returns the key of a header, and what follows its first closing bracket.
 fn header_key(alloc: Global, s: &str) -> Result<(Key, &str), Fault>
-    ensures value { Reads key_view result (header_key s.now) }
+    ensures value { ParsesPrefixTo key_view result (header_key s.now) }
     ensures shorter { Shortens s.now result }
     ensures once { IfErr result (λ fault. IfAgain fault (λ _ _ _. ⊥)) }
 {

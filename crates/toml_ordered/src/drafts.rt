@@ -4,8 +4,8 @@ ghost use Rattle.std.specs.BTreeMap.{get_by_text};
 ghost use Rattle.std.specs.Map.{update};
 ghost use Rattle.toml_ordered.specs.Data.{entries_view, no_nodes, node_view};
 ghost use Rattle.toml_ordered.specs.Drafts as spec;
-ghost use Rattle.toml_ordered.specs.Drafts.{IsAt, draft_view, keys_view};
-ghost use Rattle.toml_ordered.specs.Reading.{Gives, IsMemory};
+ghost use Rattle.toml_ordered.specs.Drafts.{IsIndexedAt, draft_view, keys_view};
+ghost use Rattle.toml_ordered.specs.Reading.{ParsesTo, IsMemory};
 ghost use Rattle.toml_ordered.specs.Tables.{append, get_node};
 
 use crate::fault::Fault;
@@ -59,7 +59,7 @@ impl OpenTable {
 
 /// Returns where a key is.
 pub(crate) fn find(keys: &Keys, index: &Index, key: &str) -> Option<usize>
-    ensures found { MatchOption result (get_node key.now (keys_view keys.now.items index.now) ≡ None) (λ at. IsAt key.now at keys.now.items index.now) }
+    ensures found { MatchOption result (get_node key.now (keys_view keys.now.items index.now) ≡ None) (λ at. IsIndexedAt key.now at keys.now.items index.now) }
     ensures within { IfSome result (λ at. at < length keys.now.items) }
 {
     let at = match index.get(key) {
@@ -87,7 +87,7 @@ pub(crate) fn append(
     requires { get_node (string_bytes key) (keys_view keys.old.items index.old) ≡ None }
     ensures last { IfOk result (λ _. keys.new.items ≡ keys.old.items ++ (key, draft, left) ∷ []) }
     ensures failed { IfErr result IsMemory }
-    ensures value { Gives (λ _. keys_view keys.new.items index.new) result
+    ensures value { ParsesTo (λ _. keys_view keys.new.items index.new) result
         (Some (append (keys_view keys.old.items index.old) (string_bytes key) (draft_view draft))) }
 {
     let at = keys.len();

@@ -1,6 +1,6 @@
 //! The way to the table in which a key is defined.
 ghost use Rattle.std.specs.Prelude.{◌≡◌, [], ◌∷◌, MatchOption, option_and_then, option_map, string_bytes};
-ghost use Rattle.toml_ordered.specs.Data.{Nodes, table};
+ghost use Rattle.toml_ordered.specs.Data.{TomlNodes, table};
 ghost use Rattle.toml_ordered.specs.Reading.{steps_of};
 ghost use Rattle.toml_ordered.specs.Tables as spec;
 
@@ -28,7 +28,7 @@ impl Way {
 
     /// Returns what made a table, after it is passed; `None` where it lets no key pass so.
     pub(crate) fn origin_after(self, origin: Origin) -> Option<Origin>
-        ensures { (edit : spec.Edit) (inner : Nodes) → spec.passed self edit (table origin inner)
+        ensures { (edit : spec.Edit) (inner : TomlNodes) → spec.passed self edit (table origin inner)
             ≡ option_and_then (λ after. option_map (table after) (edit inner)) result }
     {
         match self {

@@ -2,7 +2,7 @@
 ghost use Rattle.std.specs.Prelude.{◌≡◌, ◌⊎◌, [], ◌∷◌, IfErr, IfOk, IfSome, Some, option_map, string_bytes};
 ghost use Rattle.toml_ordered.specs.Drafts.{draft_view, keys_view};
 ghost use Rattle.toml_ordered.specs.Firsts.{AddsFirsts, IsAgain, draft_firsts, keys_firsts, keys_in, no_firsts};
-ghost use Rattle.toml_ordered.specs.Reading.{Gives, IsPassed, along_route, definition_view, whole_of};
+ghost use Rattle.toml_ordered.specs.Reading.{ParsesTo, IsPassed, along_route, definition_view, whole_of};
 ghost use Rattle.toml_ordered.specs.Tables as spec;
 
 use crate::drafts::{Draft, Index, Keys, append, find, finish};
@@ -63,7 +63,7 @@ pub(crate) fn define_at(
     route: Route<'_>,
     entry: Entry,
 ) -> Result<(), Fault>
-    ensures value { Gives (λ _. keys_view keys.new.items index.new) result (along_route route.entry entry (keys_view keys.old.items index.old)) }
+    ensures value { ParsesTo (λ _. keys_view keys.new.items index.new) result (along_route route.entry entry (keys_view keys.old.items index.old)) }
     ensures firsts { IfOk result (λ _. AddsFirsts (whole_of route.entry entry) entry.left (keys_view keys.old.items index.old)
         (keys_firsts keys.old.items) (keys_firsts keys.new.items)) }
     ensures again { IfErr result (IsAgain (whole_of route.entry entry) entry.left (keys_firsts keys.old.items)) }
@@ -99,7 +99,7 @@ fn pass(
     route: Route<'_>,
     entry: Entry,
 ) -> Result<Draft, Fault>
-    ensures value { Gives draft_view result (spec.passed passed.entry.way (along_route route.entry entry) (draft_view draft)) }
+    ensures value { ParsesTo draft_view result (spec.passed passed.entry.way (along_route route.entry entry) (draft_view draft)) }
     ensures firsts { IfOk result (λ after. AddsFirsts (whole_of route.entry entry) entry.left (keys_in (Some (draft_view draft)))
         (draft_firsts draft) (draft_firsts after)) }
     ensures again { IfErr result (λ fault. IsPassed passed.entry entry.left fault
@@ -125,7 +125,7 @@ fn pass(
 }
 
 fn at_key(alloc: Global, keys: &mut Keys, index: &mut Index, entry: Entry) -> Result<(), Fault>
-    ensures value { Gives (λ _. keys_view keys.new.items index.new) result
+    ensures value { ParsesTo (λ _. keys_view keys.new.items index.new) result
         (spec.at_key (string_bytes entry.key) (definition_view entry.what) (keys_view keys.old.items index.old)) }
     ensures firsts { IfOk result (λ _. AddsFirsts (string_bytes entry.key ∷ []) entry.left (keys_view keys.old.items index.old)
         (keys_firsts keys.old.items) (keys_firsts keys.new.items)) }

@@ -7,7 +7,7 @@ ghost use Rattle.toml_ordered.specs.Drafts.{sealed, table_view};
 ghost use Rattle.toml_ordered.specs.Firsts.{AddsFirsts, IfAgain, IsAgain, keys_firsts};
 ghost use Rattle.toml_ordered.specs.Grammar as spec;
 ghost use Rattle.toml_ordered.specs.Places.{PairsConflict, key_parts};
-ghost use Rattle.toml_ordered.specs.Reading.{Gives, Reads, Shortens};
+ghost use Rattle.toml_ordered.specs.Reading.{ParsesTo, ParsesPrefixTo, Shortens};
 ghost use Rattle.toml_ordered.specs.Tables as tables;
 
 use crate::drafts::OpenTable;
@@ -22,7 +22,7 @@ use toml_parser::{Key, Scalar, dotted_key, quoted, starts_string, unquoted};
 /// Returns a value, in which arrays and tables in braces nest at most `depth` deep, and the text after it.
 #[cycle(value)]
 pub(crate) fn value(alloc: Global, s: &str, depth: usize) -> Result<(Node, &str), Fault>
-    ensures value { Reads node_view result (spec.val depth s.now) }
+    ensures value { ParsesPrefixTo node_view result (spec.val depth s.now) }
     ensures shorter { Shortens s.now result }
     ensures conflict { IfErr result (λ fault. IfAgain fault (PairsConflict s.now)) }
 {
@@ -45,7 +45,7 @@ pub(crate) fn value(alloc: Global, s: &str, depth: usize) -> Result<(Node, &str)
 /// Reads the rest of an array.
 #[cycle(value)]
 fn array(alloc: Global, s: &str, depth: usize) -> Result<(Vec<Node>, &str), Fault>
-    ensures value { (n : ℕ) → length s.now < n → Reads (λ found. items_view found.items) result (spec.items (spec.val depth) n no_items s.now) }
+    ensures value { (n : ℕ) → length s.now < n → ParsesPrefixTo (λ found. items_view found.items) result (spec.items (spec.val depth) n no_items s.now) }
     ensures shorter { Shortens s.now result }
     ensures conflict { IfErr result (λ fault. IfAgain fault (PairsConflict s.now)) }
 {
@@ -65,7 +65,7 @@ fn array(alloc: Global, s: &str, depth: usize) -> Result<(Vec<Node>, &str), Faul
 /// Reads the rest of a table in braces.
 #[cycle(value)]
 fn braces(alloc: Global, s: &str, depth: usize) -> Result<(Nodes, &str), Fault>
-    ensures value { (n : ℕ) → length s.now < n → Reads (λ found. entries_view found.items) result (spec.members (spec.val depth) n no_nodes s.now) }
+    ensures value { (n : ℕ) → length s.now < n → ParsesPrefixTo (λ found. entries_view found.items) result (spec.members (spec.val depth) n no_nodes s.now) }
     ensures shorter { Shortens s.now result }
     ensures conflict { IfErr result (λ fault. IfAgain fault (PairsConflict s.now)) }
 {
@@ -91,7 +91,7 @@ fn put(
     value: Node,
     left: usize,
 ) -> Result<(), Fault>
-    ensures value { Gives (λ _. table_view table.new) result (tables.put (key_view key) (sealed (node_view value)) (table_view table.old)) }
+    ensures value { ParsesTo (λ _. table_view table.new) result (tables.put (key_view key) (sealed (node_view value)) (table_view table.old)) }
     ensures firsts { IfOk result (λ _. AddsFirsts (key_parts (key_view key)) left (table_view table.old)
         (keys_firsts table.old.keys.items) (keys_firsts table.new.keys.items)) }
     ensures again { IfErr result (IsAgain (key_parts (key_view key)) left (keys_firsts table.old.keys.items)) }
@@ -112,7 +112,7 @@ fn put(
 
 /// Returns what follows a comma, or the closing bracket.
 fn past_element(s: &str, closing: u8) -> Result<&str, Fault>
-    ensures value { Gives (λ rest. rest.now) result (after_element closing s.now) }
+    ensures value { ParsesTo (λ rest. rest.now) result (after_element closing s.now) }
     ensures within { IfOk result (λ rest. length rest.now ≤ length s.now) }
     ensures once { IfErr result (λ fault. IfAgain fault (λ _ _ _. ⊥)) }
 {
@@ -128,7 +128,7 @@ fn past_element(s: &str, closing: u8) -> Result<&str, Fault>
 
 /// Reads a key, `=` and the blanks after it.
 pub(crate) fn key_and_equals(alloc: Global, s: &str) -> Result<(Key, &str), Fault>
-    ensures value { Reads key_view result (key_equals s.now) }
+    ensures value { ParsesPrefixTo key_view result (key_equals s.now) }
     ensures shorter { Shortens s.now result }
     ensures once { IfErr result (λ fault. IfAgain fault (λ _ _ _. ⊥)) }
 {
@@ -141,7 +141,7 @@ pub(crate) fn key_and_equals(alloc: Global, s: &str) -> Result<(Key, &str), Faul
 
 /// Reads a string or a scalar.
 fn atom(alloc: Global, s: &str) -> Result<(Node, &str), Fault>
-    ensures value { Reads node_view result (spec.atom s.now) }
+    ensures value { ParsesPrefixTo node_view result (spec.atom s.now) }
     ensures shorter { Shortens s.now result }
     ensures once { IfErr result (λ fault. IfAgain fault (λ _ _ _. ⊥)) }
 {
@@ -182,7 +182,7 @@ fn float_node(word: String) -> Result<Node, AllocError>
 }
 
 fn past_sign(word: &str) -> &str
-    ensures { result.now ≡ spec.past_sign word.now }
+    ensures { result.now ≡ spec.without_sign word.now }
 {
     if first(word) == b'+' || first(word) == b'-' {
         skip(word, 1)

@@ -18,7 +18,7 @@ pub use Rattle.std.specs.Prelude.{pos, refl, replicate, slice_index_or, suc, tak
 pub use Rattle.std.specs.Prelude.{◌∷◌, ◌≡◌, ◌≤◌, ◌⊎◌, if◌then◌else◌, is_some, is_none, ⊤, unwrap_or, slice_index, ◌==◌, option_map, All, Contains}
 pub use Rattle.std.specs.Prelude.{option_and_then, bytes_eq, fold, count_by}
 pub use lib.Utf8.{scalar_cases, scalars}
-pub use Rattle.yaml_base.specs.{Encoding.encode, Encoding.cut, Indicators.version_1_1, Indicators.version_1_2, Places.most_key_bytes, TidyBodies.IsTidy}
+pub use Rattle.yaml_base.specs.{Encoding.encode, Encoding.cut, Indicators.version_1_1, Indicators.version_1_2, Places.most_key_bytes, TidyBodies.BodyIsTidy}
 pub use Rattle.yaml_base.specs.{Words.is_word, Words.named, WrittenTexts.BodiesAreTidy, graphs.Dumped.AreDumped, graphs.Isomorphic.label_at}
 pub use Rattle.yaml_base.specs.{graphs.Isomorphic.Isomorphic, graphs.SeenNodes.numbers_of_pairs, graphs.SeenNodes.all_numbers, graphs.SeenNodes.first_outside}
 pub use Rattle.yaml_base.specs.{reading.ReadBytes.characters_read, reading.ReadFolding.FoldUnit, reading.ReadFolding.unit_of}
@@ -55,7 +55,7 @@ pub use Rattle.yaml_base.specs.Output.{encoding_asked, settings_for, text_writte
 pub use Rattle.yaml_base.specs.Percent.{percent_sign, is_tag_character, byte_escaped, character_written, percent_escaped, is_suffix_character, suffix_escaped}
 pub use Rattle.yaml_base.specs.Percent.{prefix_escaped}
 pub use Rattle.yaml_base.specs.Pieces.{empty_scalar, outer_missing, levels_missing, missing, missing_after, completion, list_layout, first_ends_collection}
-pub use Rattle.yaml_base.specs.Pieces.{closes_at_once}
+pub use Rattle.yaml_base.specs.Pieces.{last_closes_at_once}
 pub use Rattle.yaml_base.specs.Ready.{awaited, is_balanced, nonempty_prefixes, is_ready, written}
 pub use Rattle.yaml_base.specs.Refusal.{some_if, name_or_tag_fault, content_fault, expected, place_fault, most_open, begins_collection, ends_collection}
 pub use Rattle.yaml_base.specs.Refusal.{open_levels, depth_fault, refusal_at, refusal, is_sound, open_count, IsAccepted}
@@ -74,8 +74,9 @@ pub use Rattle.yaml_base.specs.graphs.Meetings.{opening_event_of, opening_events
 pub use Rattle.yaml_base.specs.graphs.Unfolding.{scalar_kind, sequence_kind, mapping_kind, Label, Shape, no_shapes, node_shape_of, nodes_shapes, pairs_shapes}
 pub use Rattle.yaml_base.specs.graphs.Unfolding.{Placed, alias_placed, PlacedNodes, node_placed, none_placed, placed_and, number_at, numbers_at, label_of}
 pub use Rattle.yaml_base.specs.graphs.Unfolding.{HasShape, HaveShapes, Occurrence, alias_occurrence, node_occurrence, occurrences, occurrences_below}
-pub use Rattle.yaml_base.specs.graphs.Unfolding.{has_anchor, is_occurrence_of, IsNamed, AreNamed, IsReached, first_reached, child_reached, TreeUnfolds}
-pub use Rattle.yaml_base.specs.graphs.Unfolding.{ContentUnfolds, IsDocument}
+pub use Rattle.yaml_base.specs.graphs.Unfolding.{has_anchor, is_occurrence_of, NamesItsNode, NameTheirNodes, IsReached, first_reached, child_reached}
+pub use Rattle.yaml_base.specs.graphs.Unfolding.{TreeUnfolds}
+pub use Rattle.yaml_base.specs.graphs.Unfolding.{ContentUnfolds, IsWholeGraph}
 pub use Rattle.yaml_base.specs.reading.CanonicalReader.{shorthand_read, verbatim_read, tag_read, canonical_content}
 pub use Rattle.yaml_base.specs.reading.Content.{tagged, untagged, Content, scalar_content, sequence_content, mapping_content, no_contents, contents_and}
 pub use Rattle.yaml_base.specs.reading.Content.{no_content_pairs, content_pairs_and, DocumentContent, node_content}
@@ -94,12 +95,13 @@ pub use Rattle.yaml_base.specs.scalars.Analysis.{is_special_but_tab, is_blank_to
 pub use Rattle.yaml_base.specs.scalars.BlockHeader.{ending, indentation_hint, ending_hint, render_hint, ends_in_break}
 pub use Rattle.yaml_base.specs.scalars.DoubleQuoted.{short_escapes, letter_among, escape_after_backslash, escape_text, needs_escape, character_text}
 pub use Rattle.yaml_base.specs.scalars.DoubleQuoted.{double_inside, render_quote}
-pub use Rattle.yaml_base.specs.scalars.Style.{Choice, lacks_tag_and_flags, is_plain, is_block, is_literal, requested_style, quoted_style, fitting_style, fits_plain, chosen}
+pub use Rattle.yaml_base.specs.scalars.Style.{Choice, lacks_tag_and_flags, is_plain, is_block, is_literal, requested_style, quoted_style, fitting_style}
+pub use Rattle.yaml_base.specs.scalars.Style.{fits_plain, chosen}
 pub use Rattle.yaml_base.specs.streams.StreamContent.{Stood, stood_plain, stood_quoted, stood_bare, Tagging, with_tag, without_tag, Tree, alias_tree}
 pub use Rattle.yaml_base.specs.streams.StreamContent.{scalar_tree, Trees, sequence_tree, TreePairs, mapping_tree, no_trees, trees_and, no_tree_pairs}
 pub use Rattle.yaml_base.specs.streams.StreamContent.{tree_pairs_and, DocumentTree, document_agrees, documents_in_order, agrees}
 pub use Rattle.yaml_base.specs.streams.StreamDocuments.{begins_with_marker, start_marker, end_marker, no_exclamation, marker_of, Section, Sections}
-pub use Rattle.yaml_base.specs.streams.StreamDocuments.{sections_of, Heading, no_heading, heading_of, stands_at_margin, root_below, after_heading}
+pub use Rattle.yaml_base.specs.streams.StreamDocuments.{sections_of, Heading, no_heading, heading_read, stands_at_margin, root_below, after_heading}
 pub use Rattle.yaml_base.specs.streams.StreamDocuments.{with_read_document, with_heading, section_by_kind, directive_lines, document_lines}
 pub use Rattle.yaml_base.specs.streams.StreamDocuments.{begins_with_percent, prefix_kind, lines_before_marker_read, documents_at_end, sections_read}
 pub use Rattle.yaml_base.specs.streams.StreamDocuments.{documents_of}
@@ -108,21 +110,21 @@ pub use Rattle.yaml_base.specs.streams.StreamFlow.{after_blank, after_white, Awa
 pub use Rattle.yaml_base.specs.streams.StreamFlow.{colon_awaited, FlowReading, failed, done, within, with_tree, word_step, level_opened, opened, flow_step}
 pub use Rattle.yaml_base.specs.streams.StreamFlow.{tree_at_end, flow_read}
 pub use Rattle.yaml_base.specs.streams.StreamLines.{Line, prepend_to_first_line, prepend_character, lines_of, text_of_lines, is_spaces, without_blank_lines}
-pub use Rattle.yaml_base.specs.streams.StreamLines.{begins_blank, ends_indicator, begins_with_indicator, belongs_to_entry, all_deeper, Indented}
-pub use Rattle.yaml_base.specs.streams.StreamLines.{indented_step, indented, spaces, blanked}
+pub use Rattle.yaml_base.specs.streams.StreamLines.{first_line_is_blank, ends_indicator, begins_with_indicator, belongs_to_entry, all_deeper, Indented}
+pub use Rattle.yaml_base.specs.streams.StreamLines.{indented_step, past_indentation, spaces, blanked}
 pub use Rattle.yaml_base.specs.streams.StreamNodes.{SimpleKey, without_last_space, word_but_alias, word_of_alias, key_of_text, key_ends, key_from}
-pub use Rattle.yaml_base.specs.streams.StreamNodes.{key_of_line, Reads, key_entry, value_entry, simple_entry, prepend_to_trimmed, trimmed, word_text}
+pub use Rattle.yaml_base.specs.streams.StreamNodes.{key_of_line, LinesReader, key_entry, value_entry, simple_entry, prepend_to_trimmed, trimmed, word_text}
 pub use Rattle.yaml_base.specs.streams.StreamNodes.{is_space_or_break}
 pub use Rattle.yaml_base.specs.streams.StreamNodes.{kind_of_text, text_by_kind, text_read, NodeKind, begins_sequence, begins_mapping, begins_text}
 pub use Rattle.yaml_base.specs.streams.StreamNodes.{kind_of_node, ReadsText, node_by_kind, node_at, node_lines, begins_properties, after_properties}
 pub use Rattle.yaml_base.specs.streams.StreamNodes.{text_or_properties, node_read}
 pub use Rattle.yaml_base.specs.streams.StreamScalars.{Rules, Properties, no_properties, PropertiesRead, cut_before_space, name_read, anchor_of_word}
 pub use Rattle.yaml_base.specs.streams.StreamScalars.{tag_of_word, tag_first, properties_read, collection_tag_parsed, tagging_parsed}
-pub use Rattle.yaml_base.specs.streams.StreamScalars.{style_of_first_character, standing_of, scalar_parsed, scalar_of_style, an_alias, empty_sequence}
+pub use Rattle.yaml_base.specs.streams.StreamScalars.{style_of_first_character, stood_in_style, scalar_parsed, scalar_of_style, an_alias, empty_sequence}
 pub use Rattle.yaml_base.specs.streams.StreamScalars.{empty_mapping, a_scalar, kind_of_word, word_by_kind, word_after, word_read}
 pub use Rattle.yaml_base.specs.streams.StreamTokens.{FlowToken, word, opens, symbol, blank, line_end, FlowPlace, free, FlowStep, FlowClass, is_white_blank}
 pub use Rattle.yaml_base.specs.streams.StreamTokens.{is_white_break, is_flow_indicator, begins_property, begins_double, begins_single, begins_bracket}
-pub use Rattle.yaml_base.specs.streams.StreamTokens.{begins_plain, class_of, begun, bracket_step, is_pair, flow_tokens}
+pub use Rattle.yaml_base.specs.streams.StreamTokens.{begins_plain, class_of, begun_token, bracket_step, is_pair, flow_tokens}
 pub use Rattle.yaml_base.specs.values.JsonNumbers.{JsonExponent, JsonNumber, is_json_number, minus, exponent_negative, exponent_value, json_value}
 pub use Rattle.yaml_base.specs.values.JsonNumbers.{exponent_spelled, yaml_number, number_meant, means_number}
 pub use Rattle.yaml_base.specs.values.Resolved.{Decimal, Resolved, meant_integer, meant_decimal, meant_timestamp, meant_text, first_reading, words_of_core}

@@ -6,15 +6,15 @@ use Rattle.yaml_base.proofs.Common.{Pairs, mapping_node, no_nodes, nodes_and, no
 use Rattle.yaml_base.proofs.Common.{document_events, documents_events, stream_events, AreDumped, Held, scalar_held, sequence_held, mapping_held, GraphNode}
 use Rattle.yaml_base.proofs.Common.{Graph, node_numbered, document_event_list, scalar_kind, sequence_kind, mapping_kind, Label, node_shape_of, nodes_shapes}
 use Rattle.yaml_base.proofs.Common.{pairs_shapes, Placed, alias_placed, PlacedNodes, node_placed, none_placed, placed_and, label_of, HasShape, HaveShapes}
-use Rattle.yaml_base.proofs.Common.{TreeUnfolds, ContentUnfolds, IsDocument, DocumentContent, node_content}
+use Rattle.yaml_base.proofs.Common.{TreeUnfolds, ContentUnfolds, IsWholeGraph, DocumentContent, node_content}
 use Rattle.std.specs.Prelude.{flat_map}
 use Rattle.yaml_base.{proofs.DocumentsUnfold.document_unfolds, proofs.Trees.tree_of-stream_events, specs.graphs.Dumped.ContentsUnfold}
-use Rattle.yaml_base.specs.graphs.Unfolding.{NodeKind, explicit_tag, content_shape, contents_shapes, content_pairs_shapes, kind_held}
+use Rattle.yaml_base.specs.graphs.Unfolding.{StyledKind, explicit_tag, content_shape, contents_shapes, content_pairs_shapes, kind_held}
 use Rattle.yaml_base.specs.reading.Content.{content_tag, nodes_content, pairs_content, document_content, documents_content, content_of}
 
 -- ---- without styles
 
-abbrev unstyled_kind : NodeKind → NodeKind
+abbrev unstyled_kind : StyledKind → StyledKind
 unstyled_kind (scalar_kind value style) = scalar_kind value None
 unstyled_kind (sequence_kind style) = sequence_kind None
 unstyled_kind (mapping_kind style) = mapping_kind None
@@ -29,7 +29,7 @@ kind_unstyled (mapping_held pairs style) = refl
 
 label_unstyled : (found : Option GraphNode) → option_map (label_of false) found ≡ option_map unstyled (option_map (label_of true) found)
 label_unstyled None = refl
-label_unstyled (Some node) = ap (λ (kind : NodeKind). Some (record { tag = Some node.tag; kind = kind })) (kind_unstyled node.held)
+label_unstyled (Some node) = ap (λ (kind : StyledKind). Some (record { tag = Some node.tag; kind = kind })) (kind_unstyled node.held)
 
 -- a label without its style, from the label
 labels_same : (found : Option GraphNode) (label : Label) → option_map (label_of true) found ≡ Some label
@@ -115,7 +115,7 @@ record Follow (graphs : List Graph) (before : Documents) : Type 0 where
   content : documents_content all ≡ documents_content before ++ contents
   unfolds : ContentsUnfold graphs contents
 
-follow : (graphs : List Graph) (before : Documents) → All IsDocument graphs → Follow graphs before
+follow : (graphs : List Graph) (before : Documents) → All IsWholeGraph graphs → Follow graphs before
 follow [] before are =
     record {
       all = before;
@@ -125,8 +125,8 @@ follow [] before are =
       unfolds = tt;
     }
 follow (graph ∷ graphs) before are =
-    let first = document_unfolds graph (All-head IsDocument graph graphs are) in
-    let rest = follow graphs (documents_and before first.document) (All-tail IsDocument graph graphs are) in
+    let first = document_unfolds graph (All-head IsWholeGraph graph graphs are) in
+    let rest = follow graphs (documents_and before first.document) (All-tail IsWholeGraph graph graphs are) in
     record {
       all = rest.all;
       contents = document_content first.document ∷ rest.contents;

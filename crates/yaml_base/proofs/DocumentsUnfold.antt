@@ -5,10 +5,11 @@ use Rattle.yaml_base.proofs.Common.{or-true, or_cases, same_from_decides, Decide
 use Rattle.yaml_base.proofs.Common.{filter_map-append, sum_by-append, bytes_eq-Decides, filter_map, flat_map, list_any, Text, Event, document_start}
 use Rattle.yaml_base.proofs.Common.{document_end, node_events, Graph, Step, enters, leaves, meets_again, is_entry_of, node_met_again, anchor_of, step_events}
 use Rattle.yaml_base.proofs.Common.{document_event_list, Placed, Occurrence, alias_occurrence, node_occurrence, occurrences, has_anchor, is_occurrence_of}
-use Rattle.yaml_base.proofs.Common.{IsNamed, AreNamed, IsReached, first_reached, child_reached, TreeUnfolds, IsDocument}
+use Rattle.yaml_base.proofs.Common.{NamesItsNode, NameTheirNodes, IsReached, first_reached, child_reached, TreeUnfolds, IsWholeGraph}
 use Rattle.std.specs.List.{cons_option}
 use Rattle.yaml_base.{proofs.SharedNodes.has, proofs.SharedNodes.shared_named, proofs.SharedNodes.anchors_differ, proofs.UnfoldEvents.node_at}
-use Rattle.yaml_base.{proofs.UnfoldEvents.node_at_events, proofs.UnfoldEvents.node_at_shape, specs.graphs.Meetings.steps, specs.graphs.Unfolding.EventsUnfold}
+use Rattle.yaml_base.{proofs.UnfoldEvents.node_at_events, proofs.UnfoldEvents.node_at_shape, specs.graphs.Meetings.graph_steps}
+use Rattle.yaml_base.{specs.graphs.Unfolding.EventsUnfold}
 use Rattle.yaml_base.proofs.UnfoldSteps.{is_meeting_of, FollowEntries, IsOrderly, orderly_steps}
 use Rattle.yaml_base.proofs.UnfoldTrees.{placed_steps, Fits, Walks, walk_placed, root_met, children_met, place_of, places_are}
 
@@ -117,35 +118,36 @@ place_more named before step = filter_map-append (place_of named) before (step �
 
 alias_named : (named : ℕ → Option Text) (before : List Step) (all : List Occurrence) (number : ℕ) (name : Text) → named number ≡ Some name
     → count_by (has_anchor name) all ≡ 1
-    → list_any (is_entry_of number) before ≡ true → IsNamed all (filter_map (place_of named) before) (alias_occurrence (unwrap_or (named number) []) number)
+    → list_any (is_entry_of number) before ≡ true
+    → NamesItsNode all (filter_map (place_of named) before) (alias_occurrence (unwrap_or (named number) []) number)
 alias_named named before all number name is once entered =
     let stated : unwrap_or (named number) [] ≡ name = ap (λ (o : Option Text). unwrap_or o []) is in
-    subst (λ (alias : Text). IsNamed all (filter_map (place_of named) before) (alias_occurrence alias number)) (sym stated) (
+    subst (λ (alias : Text). NamesItsNode all (filter_map (place_of named) before) (alias_occurrence alias number)) (sym stated) (
       once,
       subst (λ (anchor : Option Text). Contains (filter_map (place_of named) before) (node_occurrence anchor number)) is
           (has_place named number before entered),
     )
 
 all_named : (walk before rest : List Step) → FollowEntries before rest → ((number : ℕ) → list_any (is_again number) rest ≡ true → HasName walk number)
-    → AreNamed (filter_map (place_of (anchor_of walk)) walk) (filter_map (place_of (anchor_of walk)) before) (filter_map (place_of (anchor_of walk)) rest)
+    → NameTheirNodes (filter_map (place_of (anchor_of walk)) walk) (filter_map (place_of (anchor_of walk)) before) (filter_map (place_of (anchor_of walk)) rest)
 all_named walk before [] follow names = tt
 all_named walk before (enters number ∷ rest) follow names =
     let all = filter_map (place_of (anchor_of walk)) walk in (
       tt,
-      subst (λ (earlier : List Occurrence). AreNamed all earlier (filter_map (place_of (anchor_of walk)) rest))
+      subst (λ (earlier : List Occurrence). NameTheirNodes all earlier (filter_map (place_of (anchor_of walk)) rest))
           (place_more (anchor_of walk) before (enters number))
           (all_named walk (before ++ enters number ∷ []) rest follow.1 names),
     )
 all_named walk before (leaves number ∷ rest) follow names =
     let all = filter_map (place_of (anchor_of walk)) walk in
-    subst (λ (earlier : List Occurrence). AreNamed all earlier (filter_map (place_of (anchor_of walk)) rest))
+    subst (λ (earlier : List Occurrence). NameTheirNodes all earlier (filter_map (place_of (anchor_of walk)) rest))
     (place_more (anchor_of walk) before (leaves number) ∙ append-nil (filter_map (place_of (anchor_of walk)) before))
     (all_named walk (before ++ leaves number ∷ []) rest follow.1 names)
 all_named walk before (meets_again number ∷ rest) follow names =
     let all = filter_map (place_of (anchor_of walk)) walk in
     let has_name = names number (ap (λ (b : Bool). b || list_any (is_again number) rest) ((Decides-eqb number number).1 refl)) in (
       alias_named (anchor_of walk) before all number has_name.name has_name.is has_name.once follow.0,
-      subst (λ (earlier : List Occurrence). AreNamed all earlier (filter_map (place_of (anchor_of walk)) rest))
+      subst (λ (earlier : List Occurrence). NameTheirNodes all earlier (filter_map (place_of (anchor_of walk)) rest))
           (place_more (anchor_of walk) before (meets_again number))
           (all_named walk (before ++ meets_again number ∷ []) rest follow.1
           (λ other later. names other (ap (λ (b : Bool). number == other || b) later ∙ or-true (number == other)))),
@@ -183,7 +185,7 @@ tree_unfolds graph walk made orderly =
       placed = made.placed;
       root = made.root;
       fits = node_at_shape named graph made.placed made.fits;
-      named = subst (λ (all : List Occurrence). AreNamed all [] all) (sym at) (all_named walk [] walk orderly.follow (names_shared graph walk orderly));
+      named = subst (λ (all : List Occurrence). NameTheirNodes all [] all) (sym at) (all_named walk [] walk orderly.follow (names_shared graph walk orderly));
       once = λ number reached. counted number
           ∙ ap {B = ℕ} (λ (b : Bool). cond b 1 0) (reached_entered graph walk made.placed orderly made.fits made.adds root reached);
       no_other = λ number unreached.
@@ -195,9 +197,9 @@ pub some_nodes : (count : ℕ) → (count == 0) ≡ false → 1 ≤ count
 some_nodes count some = grind (arith, nat_tests, some)
 
 -- of a whole graph that has nodes
-pub document_unfolds : (graph : Graph) → IsDocument graph → EventsUnfold graph (document_event_list graph)
+pub document_unfolds : (graph : Graph) → IsWholeGraph graph → EventsUnfold graph (document_event_list graph)
 document_unfolds graph is =
-    let walk = steps graph in
+    let walk = graph_steps graph in
     let made = walk_placed (anchor_of walk) graph is.whole (some_nodes (length graph.nodes) is.has_nodes) in
     let orderly = orderly_steps graph (suc (length graph.nodes)) 1 first_reached in
     let root = node_at graph made.placed in

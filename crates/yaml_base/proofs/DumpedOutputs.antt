@@ -3,10 +3,11 @@ use Rattle.yaml_base.proofs.Common.{Bool, true, false, Option, None, Some, List,
 use Rattle.yaml_base.proofs.Common.{append_assoc, append-nil, codes, Text, line_feed, eqb-true, option_map, unwrap_or, flat_map-append}
 use Rattle.yaml_base.proofs.Common.{Standing, Piece, text_of, piece_text, layout, root_place, render_node}
 use Rattle.yaml_base.proofs.Common.{document_end_piece, stream_end_piece, first_standing, with_breaks_written, line_feed_break, encode, cut, utf8}
-use Rattle.yaml_base.proofs.Common.{bytes_written, output_of, Encoding, Event, stream_start, stream_end, DocumentStart, Document, Documents, Stream, documents_and}
-use Rattle.yaml_base.proofs.Common.{no_documents, document_events, stream_events, Node, Graph, document_event_list, AreDumped, IsDocument, All-head}
+use Rattle.yaml_base.proofs.Common.{bytes_written, output_of, Encoding, Event, stream_start, stream_end, DocumentStart, Document, Documents, Stream}
+use Rattle.yaml_base.proofs.Common.{documents_and}
+use Rattle.yaml_base.proofs.Common.{no_documents, document_events, stream_events, Node, Graph, document_event_list, AreDumped, IsWholeGraph, All-head}
 use Rattle.yaml_base.specs.Settings.{largest_usize}
-use Rattle.yaml_base.specs.graphs.DumpedText.{HasDumpedText, HaveText, IsBare, dumped_text, node_text}
+use Rattle.yaml_base.specs.graphs.DumpedText.{HasDumpedText, HaveText, IsBareDocument, dumped_text, node_text}
 use Rattle.yaml_base.specs.values.TypedValues.{typed_settings}
 use Rattle.yaml_base.proofs.DocumentsUnfold.{document_unfolds}
 use Rattle.yaml_base.proofs.DumpedLeaves.{Writes, force, s}
@@ -71,7 +72,7 @@ tree_output encoding implicit root =
     ∙ ap (λ t. cut largest_usize (encode (Some utf8) t)) (breaks_same (text_of (layout s stream)) ∙ layout_is encoding implicit root)
 
 -- a document that is bare
-bare_is : (document : Document) → IsBare document.start document.end_implicit → document ≡ bare_document document.start.implicit document.root
+bare_is : (document : Document) → IsBareDocument document.start document.end_implicit → document ≡ bare_document document.start.implicit document.root
 bare_is document bare =
     ap (λ v. let made : Document = record {
       start = record { version = v; directives = document.start.directives; implicit = document.start.implicit };
@@ -91,7 +92,7 @@ bare_is document bare =
 
 -- the output of a bare document is the encoding of its text
 pub text_output : (encoding : Option Encoding) (events : List Event) (text : Text) (has : HaveText events text)
-    → IsBare has.document.start has.document.end_implicit
+    → IsBareDocument has.document.start has.document.end_implicit
     → output_of typed_settings (stream_start encoding ∷ (events ++ stream_end ∷ [])) ≡ cut largest_usize (encode (Some utf8) text)
 text_output encoding events text has bare =
     let document = has.document in
@@ -101,10 +102,10 @@ text_output encoding events text has bare =
     ∙ ap (λ t. cut largest_usize (encode (Some utf8) t)) (sym has.is_text)
 
 -- a dump of such a document has a text, of which its output is the encoding
-pub dump_output : (graph : Graph) (events : List Event) → AreDumped (graph ∷ []) events → IsBare graph.start graph.end_implicit
+pub dump_output : (graph : Graph) (events : List Event) → AreDumped (graph ∷ []) events → IsBareDocument graph.start graph.end_implicit
     → (text : Text) × HasDumpedText graph text × (output_of typed_settings events ≡ cut largest_usize (encode (Some utf8) text))
 dump_output graph events dumped bare =
-    let unfolded = document_unfolds graph (All-head IsDocument graph [] dumped.documents) in
+    let unfolded = document_unfolds graph (All-head IsWholeGraph graph [] dumped.documents) in
     let document = unfolded.document in
     let text = dumped_text document.root in
     let has : HaveText (document_event_list graph) text = record { document = document; is_document = unfolded.is_document; is_text = refl } in

@@ -9,7 +9,7 @@ use Rattle.yaml_base.proofs.Common.{is_undented, render_properties, opening_or_c
 use Rattle.yaml_base.proofs.Common.{Collection}
 use Rattle.yaml_base.proofs.Common.{Node, alias_node, scalar_node, sequence_node, mapping_node, Nodes, no_nodes, nodes_and, Pairs, no_pairs, pairs_and}
 use Rattle.yaml_base.specs.Cursor.{space_if}
-use Rattle.yaml_base.specs.Indicators.{render_indicator, opening}
+use Rattle.yaml_base.specs.Indicators.{render_indicator, opening_bracket}
 use Rattle.yaml_base.specs.NodeLayout.{alias_piece, end_piece, render_collection, scalar_piece}
 use Rattle.yaml_base.specs.values.ValueText.{in_quotes, line_at}
 use Rattle.yaml_base.specs.graphs.DumpedText.{scalar_properties, collection_properties, closing_line, node_text, nodes_text}
@@ -21,15 +21,15 @@ use Rattle.yaml_base.proofs.DumpedLeaves.{writes_then}
 
 -- a bracket, a space before it where none stands
 opening_is : (bracket : Text) (cursor : Cursor)
-    → render_indicator (opening bracket) cursor
+    → render_indicator (opening_bracket bracket) cursor
     ≡ record {
       text = space_if true cursor ++ bracket;
-      cursor = record { column = (render_indicator (opening bracket) cursor).cursor.column; whitespace = true; indention = false };
+      cursor = record { column = (render_indicator (opening_bracket bracket) cursor).cursor.column; whitespace = true; indention = false };
     }
 opening_is bracket cursor =
     ap (λ b. let made : Rendered = record {
       text = space_if true cursor ++ bracket;
-      cursor = record { column = (render_indicator (opening bracket) cursor).cursor.column; whitespace = true; indention = b };
+      cursor = record { column = (render_indicator (opening_bracket bracket) cursor).cursor.column; whitespace = true; indention = b };
     } in made) (and-false cursor.indention)
 
 -- brackets with nothing between them

@@ -11,7 +11,7 @@ use Rattle.yaml_base.proofs.Common.{closing_events, step_events, document_event_
 use Rattle.std.specs.Prelude.{flat_map}
 use Rattle.yaml_base.{proofs.Accepted.pushed_next, proofs.Completions.prefix_is_partial, proofs.SharedNodes.has, proofs.SharedNodes.shared_named}
 use Rattle.yaml_base.{proofs.Trees.stream_pushed, proofs.Twins.IsIn, proofs.Twins.in_either, specs.declared.errors.yaml_error_t.yaml_error_t}
-use Rattle.yaml_base.{specs.graphs.Meetings.steps, specs.graphs.Meetings.decimal_digits}
+use Rattle.yaml_base.{specs.graphs.Meetings.graph_steps, specs.graphs.Meetings.decimal_digits}
 use Rattle.yaml_base.specs.declared.errors.yaml_error_t.TheVariants.{AnchorAlphabet, AnchorEmpty, TagEmpty, TooDeep}
 
 -- ---- events of a stream
@@ -177,18 +177,18 @@ document_writable graph none no_directives = by (length graph.nodes == 0)
         }
 
     all_writable : AreWritable
-        (document_start graph.start ∷ (flat_map (step_events graph (steps graph)) (steps graph) ++ document_end graph.end_implicit ∷ []))
+        (document_start graph.start ∷ (flat_map (step_events graph (graph_steps graph)) (graph_steps graph) ++ document_end graph.end_implicit ∷ []))
     all_writable =
         both_writable (document_start graph.start ∷ [])
-        (flat_map (step_events graph (steps graph)) (steps graph) ++ document_end graph.end_implicit ∷ [])
+        (flat_map (step_events graph (graph_steps graph)) (graph_steps graph) ++ document_end graph.end_implicit ∷ [])
         (one_writable (document_start graph.start) (start_writable graph.start none no_directives))
-        (both_writable (flat_map (step_events graph (steps graph)) (steps graph)) (document_end graph.end_implicit ∷ [])
-        (walk_writable graph (steps graph) (steps graph) (λ step within. within))
+        (both_writable (flat_map (step_events graph (graph_steps graph)) (graph_steps graph)) (document_end graph.end_implicit ∷ [])
+        (walk_writable graph (graph_steps graph) (graph_steps graph) (λ step within. within))
         (one_writable (document_end graph.end_implicit) (record { named = λ error is. cc; content = refl })))
 
     by : (empty : Bool) → AreWritable
         (if empty then [] else
-        document_start graph.start ∷ (flat_map (step_events graph (steps graph)) (steps graph) ++ document_end graph.end_implicit ∷ []))
+        document_start graph.start ∷ (flat_map (step_events graph (graph_steps graph)) (graph_steps graph) ++ document_end graph.end_implicit ∷ []))
     by true event within = absurd within
     by false event within = all_writable event within
 

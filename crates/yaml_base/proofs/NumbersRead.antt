@@ -11,7 +11,7 @@ use Rattle.yaml_base.proofs.NumberCuts.{digits_grouped, digits_ungrouped, no_poi
 use Rattle.yaml_base.proofs.NumberCuts.{no_timestamp}
 use Rattle.yaml_base.proofs.NumbersByCore.{passed, found, given, decimal_of, pointed_read, exponent_sign, exponent_read_signed, scientific_read}
 use Rattle.yaml_base.proofs.NumbersByCore.{integer_by_core, after_whole, no_letter, cut_read, scientific_of, decimal_by_core}
-use Rattle.yaml_base.specs.values.JsonNumbers.{is_whole, fraction_or_default, is_json_integer, NumbersAreRead}
+use Rattle.yaml_base.specs.values.JsonNumbers.{is_whole_part, fraction_or_default, is_json_integer, NumbersAreRead}
 
 -- The type repository of YAML 1.1
 
@@ -38,7 +38,7 @@ data Whole (c : ℕ) (digits : Text) : Type 0 where
   zero_alone : (c ∷ digits) ≡ codes "0" → Whole c digits
   leading : (c == 0x30) ≡ false → Whole c digits
 
-whole_11 : (c : ℕ) (digits : Text) → is_whole (c ∷ digits) ≡ true → Whole c digits
+whole_11 : (c : ℕ) (digits : Text) → is_whole_part (c ∷ digits) ≡ true → Whole c digits
 whole_11 c digits h = grind (arith, and_parts, bytes_eq-Decides, not-true)
 
 whole_no_octal : (negative : Bool) (c : ℕ) (digits : Text) → Whole c digits → octal_11 negative (c ∷ digits) ≡ None
@@ -104,7 +104,7 @@ decimal_by_11 negative c whole fraction exponent h g e = grind (arith, past_sign
 abbrev ReadAs : Text → Resolved → Type 0
 ReadAs text meant = (resolved_by_11 text ≡ meant) × (resolved_by_core text ≡ meant)
 
-parts_read : (negative : Bool) (whole fraction : Text) (exponent : Option JsonExponent) → is_whole whole ≡ true → list_all is_decimal fraction ≡ true
+parts_read : (negative : Bool) (whole fraction : Text) (exponent : Option JsonExponent) → is_whole_part whole ≡ true → list_all is_decimal fraction ≡ true
     → HasDigits exponent → (integer : Bool)
     → ReadAs (minus negative ++ (whole ++ (if integer then [] else after_whole fraction exponent)))
     (if integer then meant_integer (signed negative (digits_value 10 whole)) else scientific_of negative whole fraction exponent)
@@ -137,11 +137,11 @@ exponent_digits (Some exponent) h = h
 -- the spelling of a number means by both schemas what it is to mean
 pub spelling_read : (number : JsonNumber) → is_json_number number ≡ true → ReadAs (yaml_number number) (number_meant number)
 spelling_read number h =
-    let whole_fraction : Bool = is_whole number.whole && elim number.fraction as (λ _. Bool) [ None ↦ true | Some digits ↦ are_digits 10 digits ] in
+    let whole_fraction : Bool = is_whole_part number.whole && elim number.fraction as (λ _. Bool) [ None ↦ true | Some digits ↦ are_digits 10 digits ] in
     let well_exponent : Bool = elim number.exponent as (λ _. Bool) [ None ↦ true | Some exponent ↦ are_digits 10 exponent.digits ] in
     let outer : (whole_fraction ≡ true) × (well_exponent ≡ true) = and_parts whole_fraction well_exponent h in
-    let inner : (is_whole number.whole ≡ true) × (elim number.fraction as (λ _. Bool) [ None ↦ true | Some digits ↦ are_digits 10 digits ] ≡ true) =
-    and_parts (is_whole number.whole) _ outer.0 in
+    let inner : (is_whole_part number.whole ≡ true) × (elim number.fraction as (λ _. Bool) [ None ↦ true | Some digits ↦ are_digits 10 digits ] ≡ true) =
+    and_parts (is_whole_part number.whole) _ outer.0 in
     let rest : Text = if is_json_integer number then [] else after_whole (fraction_or_default (codes "0") number) number.exponent in
     let regrouped : yaml_number number ≡ minus number.negative ++ (number.whole ++ rest) = append_assoc (minus number.negative) number.whole rest in
     let read : ReadAs (minus number.negative ++ (number.whole ++ rest)) (number_meant number) =

@@ -3,7 +3,7 @@ use Rattle.yaml_base.proofs.Common.{arith, suc, unwrap_or, option_map, option_an
 use Rattle.yaml_base.proofs.Common.{◌++◌, ◌∷◌, refl, ◌≡◌, ap, sym, ◌∙◌, Event, stream_start, stream_end, document_start, document_end, alias, scalar}
 use Rattle.yaml_base.proofs.Common.{sequence_start, sequence_end, mapping_start, mapping_end, Stream, stream_events, Partial, within_document, after_stream}
 use Rattle.yaml_base.proofs.Common.{push, pushed, partial_of, finished, first_standing, layout, Standing, missing, completion, list_layout}
-use Rattle.yaml_base.proofs.Common.{first_ends_collection, closes_at_once, begins_collection, ends_collection, Effective, Stage, at_stream, at_document}
+use Rattle.yaml_base.proofs.Common.{first_ends_collection, last_closes_at_once, begins_collection, ends_collection, Effective, Stage, at_stream, at_document}
 use Rattle.yaml_base.proofs.Common.{at_node, at_document_end, step, ends_next, Steps, then_steps, steps}
 use Rattle.std.proofs.lemmas.List.{length-take-le, take_at}
 use Rattle.yaml_base.{proofs.Pushes.partial_of_events, proofs.StepLaws.stream_steps, proofs.Trees.stream_pushed, specs.Layout.OnePieceEach}
@@ -89,7 +89,7 @@ list_layout_steps events t s whole =
 
 -- A prefix's pieces in any whole list that begins with it and doesn't at once close a collection that it begins last.
 pub prefix_layout : (prefix rest : List Event) (t : Stream) (s : Effective) → partial_of (prefix ++ rest) ≡ Some (after_stream t)
-    → closes_at_once prefix rest ≡ false → take (length prefix) (list_layout s (prefix ++ rest)) ≡ (steps s false prefix at_stream first_standing).pieces
+    → last_closes_at_once prefix rest ≡ false → take (length prefix) (list_layout s (prefix ++ rest)) ≡ (steps s false prefix at_stream first_standing).pieces
 prefix_layout prefix rest t s whole other = grind (arith, list_layout_steps, prefix_pieces, open_steps)
 
 -- A completion doesn't at once close a collection.
@@ -101,10 +101,10 @@ start_not_closed (mapping_start c) p q given = cc
 start_not_closed event p q given = refl
 
 abbrev NotClosed : List Event → Partial → Partial → Type 0
-NotClosed events p q = pushed p events ≡ Some q → closes_at_once events (missing q) ≡ false
+NotClosed events p q = pushed p events ≡ Some q → last_closes_at_once events (missing q) ≡ false
 
 not_closed_next : (event : Event) (rest : List Event) (p q : Partial) (made : Option Partial) → push p event ≡ made
-    → option_and_then (λ r. pushed r rest) made ≡ Some q → ((r : Partial) → NotClosed rest r q) → closes_at_once (event ∷ rest) (missing q) ≡ false
+    → option_and_then (λ r. pushed r rest) made ≡ Some q → ((r : Partial) → NotClosed rest r q) → last_closes_at_once (event ∷ rest) (missing q) ≡ false
 not_closed_next event rest p q None is given others = cc
 not_closed_next event [] p q (Some r) is given others =
     let same : r ≡ q = cc in start_not_closed event p q (is ∙ ap (λ x. Some x) same)

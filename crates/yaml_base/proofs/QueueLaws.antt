@@ -4,7 +4,8 @@ use Rattle.yaml_base.proofs.Common.{[], ◌++◌, ◌∷◌, refl, ◌≡◌, eq
 use Rattle.yaml_base.proofs.Common.{list_any, Event, document_start, document_end, sequence_start, sequence_end, mapping_start, mapping_end, Node, nat_tests}
 use Rattle.yaml_base.proofs.Common.{alias_node, scalar_node, Nodes, sequence_node, Pairs, mapping_node, no_nodes, nodes_and, no_pairs, pairs_and, Document}
 use Rattle.yaml_base.proofs.Common.{Documents, no_documents, documents_and, Stream, node_events, nodes_events, pairs_events, document_events}
-use Rattle.yaml_base.proofs.Common.{documents_events, stream_events, first_ends_collection, closes_at_once, awaited, is_balanced, nonempty_prefixes, is_ready}
+use Rattle.yaml_base.proofs.Common.{documents_events, stream_events, first_ends_collection, last_closes_at_once, awaited, is_balanced, nonempty_prefixes}
+use Rattle.yaml_base.proofs.Common.{is_ready}
 use Rattle.yaml_base.proofs.Common.{written, begins_collection, ends_collection}
 use Rattle.yaml_base.{proofs.ReadyLaws.any_map, proofs.ReadyLaws.any_prefix, specs.Ready.is_start, specs.Ready.is_end}
 
@@ -50,7 +51,7 @@ no_start_alone (mapping_start c) ready = cc
 no_start_alone event ready = refl
 
 abbrev OpenAt : List Event → List Event → ℕ → Type 0
-OpenAt events more k = closes_at_once (take k events) (drop k events ++ more) ≡ false
+OpenAt events more k = last_closes_at_once (take k events) (drop k events ++ more) ≡ false
 
 open_next : (first next : Event) (rest more : List Event) (b : Bool) → is_ready next rest ≡ b → OpenAt (next ∷ rest) more (if b then suc (written rest) else 0)
     → OpenAt (first ∷ next ∷ rest) more (suc (if b then suc (written rest) else 0))

@@ -5,16 +5,16 @@ use Rattle.yaml_base.proofs.Common.{any_layout, DocumentStart, Event, stream_sta
 use Rattle.yaml_base.proofs.Common.{sequence_end, mapping_start, mapping_end, encoding_asked, output_of, Encoding, Settings, AreDumped, label_at, Isomorphic}
 use Rattle.yaml_base.proofs.Common.{Held, scalar_held, sequence_held, mapping_held, GraphNode, Graph, node_numbered, Step, enters, leaves, meets_again}
 use Rattle.yaml_base.proofs.Common.{anchor_of, string_tag, sequence_tag, mapping_tag, opening_event_of, opening_events, closing_event_of, closing_events}
-use Rattle.yaml_base.proofs.Common.{step_events, document_event_list, scalar_kind, sequence_kind, mapping_kind, Label, label_of, IsReached, IsDocument}
+use Rattle.yaml_base.proofs.Common.{step_events, document_event_list, scalar_kind, sequence_kind, mapping_kind, Label, label_of, IsReached, IsWholeGraph}
 use Rattle.std.specs.Prelude.{flat_map}
 use Rattle.yaml_base.{proofs.ContentsUnfold.dumped_stream, proofs.Unstyled.unstyled, proofs.Unstyled.outputs_same, specs.graphs.Isomorphic.IsWrittenAlike}
-use Rattle.yaml_base.{specs.graphs.Isomorphic.AreWrittenAlike, specs.graphs.Meetings.steps, specs.graphs.Unfolding.NodeKind}
+use Rattle.yaml_base.{specs.graphs.Isomorphic.AreWrittenAlike, specs.graphs.Meetings.graph_steps, specs.graphs.Unfolding.StyledKind}
 use Rattle.yaml_base.proofs.SameWalks.{node_of_step, AllReached, renumbered, same_walks, anchors_alike}
 use Rattle.yaml_base.proofs.DocumentsUnfold.{some_nodes}
 
 -- ---- a node's events, by its label
 
-abbrev scan_first_byte : Option Text → Text → NodeKind → Event
+abbrev scan_first_byte : Option Text → Text → StyledKind → Event
 scan_first_byte anchor tag (scalar_kind value style) =
     let implicit = bytes_eq tag string_tag in
     scalar (record { anchor = anchor; tag = Some tag; value = value; plain_implicit = implicit; quoted_implicit = implicit; style = any_style })
@@ -38,7 +38,7 @@ begins_by : (anchor : Option Text) (found : Option GraphNode)
 begins_by anchor None = refl
 begins_by anchor (Some node) = held_begins anchor node.tag node.held
 
-abbrev ended_by : NodeKind → List Event
+abbrev ended_by : StyledKind → List Event
 ended_by (scalar_kind value style) = []
 ended_by (sequence_kind style) = sequence_end ∷ []
 ended_by (mapping_kind style) = mapping_end ∷ []
@@ -87,30 +87,30 @@ steps_alike first second iso walk (step ∷ part) all reached =
 -- ---- documents
 
 abbrev events_within : Graph → List Event
-events_within graph = flat_map (step_events graph (steps graph)) (steps graph)
+events_within graph = flat_map (step_events graph (graph_steps graph)) (graph_steps graph)
 
-document_is : (graph : Graph) → IsDocument graph
+document_is : (graph : Graph) → IsWholeGraph graph
     → map unstyled (document_event_list graph)
     ≡ unstyled (document_start graph.start) ∷ (map unstyled (events_within graph) ++ document_end graph.end_implicit ∷ [])
 document_is graph is = grind (arith, map-append)
 
-within_alike : (first second : Graph) → IsDocument first → IsDocument second → Isomorphic first second
+within_alike : (first second : Graph) → IsWholeGraph first → IsWholeGraph second → Isomorphic first second
     → map unstyled (events_within second) ≡ map unstyled (events_within first)
 within_alike first second is also iso =
     let walks = same_walks first second iso is.whole also.whole (some_nodes (length first.nodes) is.has_nodes)
     (some_nodes (length second.nodes) also.has_nodes) in
     ap (λ (walk : List Step). map unstyled (flat_map (step_events second walk) walk)) walks.same
-    ∙ steps_alike first second iso (steps first) (steps first) walks.reached walks.reached
+    ∙ steps_alike first second iso (graph_steps first) (graph_steps first) walks.reached walks.reached
 
 start_alike : (first second : DocumentStart) → first.version ≡ second.version → first.directives ≡ second.directives
     → unstyled (document_start first) ≡ unstyled (document_start second)
 start_alike first second version directives = grind (arith)
 
-document_alike : (first second : Graph) → IsDocument first → IsDocument second → IsWrittenAlike first second
+document_alike : (first second : Graph) → IsWholeGraph first → IsWholeGraph second → IsWrittenAlike first second
     → map unstyled (document_event_list first) ≡ map unstyled (document_event_list second)
 document_alike first second is also alike = grind (arith, document_is, start_alike, within_alike)
 
-documents_alike : (firsts seconds : List Graph) → All IsDocument firsts → All IsDocument seconds → AreWrittenAlike firsts seconds
+documents_alike : (firsts seconds : List Graph) → All IsWholeGraph firsts → All IsWholeGraph seconds → AreWrittenAlike firsts seconds
     → map unstyled (flat_map document_event_list firsts) ≡ map unstyled (flat_map document_event_list seconds)
 documents_alike [] [] are also alike = refl
 documents_alike [] (second ∷ seconds) are also alike = absurd alike
@@ -118,9 +118,9 @@ documents_alike (first ∷ firsts) [] are also alike = absurd alike
 documents_alike (first ∷ firsts) (second ∷ seconds) are also alike =
     map-append unstyled (document_event_list first) (flat_map document_event_list firsts)
     ∙ ap (λ (events : List Event). events ++ map unstyled (flat_map document_event_list firsts))
-    (document_alike first second (All-head IsDocument first firsts are) (All-head IsDocument second seconds also) alike.0)
+    (document_alike first second (All-head IsWholeGraph first firsts are) (All-head IsWholeGraph second seconds also) alike.0)
     ∙ ap (λ (events : List Event). map unstyled (document_event_list second) ++ events)
-    (documents_alike firsts seconds (All-tail IsDocument first firsts are) (All-tail IsDocument second seconds also) alike.1)
+    (documents_alike firsts seconds (All-tail IsWholeGraph first firsts are) (All-tail IsWholeGraph second seconds also) alike.1)
     ∙ sym (map-append unstyled (document_event_list second) (flat_map document_event_list seconds))
 
 -- ---- streams

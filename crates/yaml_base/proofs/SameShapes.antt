@@ -2,7 +2,7 @@
 use Rattle.yaml_base.proofs.Common.{ℕ, ◌==◌, count_by, Option, Some, Bool, cond, false, true, List, [], map, ◌++◌, ◌∷◌, refl, ◌≡◌, eq-eqb, eqb-true}
 use Rattle.yaml_base.proofs.Common.{append_assoc, inl, inr, ap, subst, sym, ◌∙◌, arith, map-append, bytes_eq-Decides, Text, label_at, Isomorphic, Graph}
 use Rattle.yaml_base.proofs.Common.{children, Shape, number_at, numbers_at, Occurrence, alias_occurrence, node_occurrence, occurrences, has_anchor}
-use Rattle.yaml_base.proofs.Common.{is_occurrence_of, AreNamed, IsReached, first_reached}
+use Rattle.yaml_base.proofs.Common.{is_occurrence_of, NameTheirNodes, IsReached, first_reached}
 use Rattle.yaml_base.proofs.Twins.{Twin, alias_twin, Twins, node_twin, none_twins, twins_and, first_placed, firsts_placed, second_placed, seconds_placed}
 use Rattle.yaml_base.proofs.Twins.{TwinFits, TwinsFit, joined, Pair, alias_pair, node_pair, pairs, pairs_below, first_number, second_number, first_of}
 use Rattle.yaml_base.proofs.Twins.{second_of, first_occurrences, second_occurrences, IsIn, in_left, in_right, in_either, contained_in, in_map, number_in}
@@ -56,7 +56,7 @@ back_is all anchor number other within once = grind (arith, partner_is, in_map, 
 -- ---- aliases
 
 -- an alias's name is carried once, by a node of its number
-named_at : (all before rest : List Occurrence) (name : Text) (number : ℕ) → AreNamed all before rest → IsIn (alias_occurrence name number) rest
+named_at : (all before rest : List Occurrence) (name : Text) (number : ℕ) → NameTheirNodes all before rest → IsIn (alias_occurrence name number) rest
     → (count_by (has_anchor name) all ≡ 1) × IsIn (node_occurrence (Some name) number) (before ++ rest)
 named_at all before [] name number named within = absurd within
 named_at all before (first ∷ rest) name number named (inl is) = grind (arith, in_left, contained_in)
@@ -82,7 +82,7 @@ of_second (node_pair given one another ∷ all) anchor other (inr later) = let f
 
 -- so the numbers of an alias are partners, if those of the node are
 alias_matches : (all : List Pair) (name : Text) (number other : ℕ) → IsIn (alias_pair name number other) all
-    → AreNamed (map first_of all) [] (map first_of all) → AreNamed (map second_of all) [] (map second_of all)
+    → NameTheirNodes (map first_of all) [] (map first_of all) → NameTheirNodes (map second_of all) [] (map second_of all)
     → count_by (is_occurrence_of number) (map first_of all) ≡ 1 → partner_in all number ≡ other
 alias_matches all name number other within named also once =
     let one = named_at (map first_of all) [] (map first_of all) name number named (in_map first_of (alias_pair name number other) all within) in
@@ -181,8 +181,8 @@ record Both (first second : Graph) (twin : Twin) : Type 0 where
   fits : TwinFits first second twin
   root : number_at (first_placed twin) ≡ 1
   also_root : number_at (second_placed twin) ≡ 1
-  named : AreNamed (map first_of (pairs twin)) [] (map first_of (pairs twin))
-  also_named : AreNamed (map second_of (pairs twin)) [] (map second_of (pairs twin))
+  named : NameTheirNodes (map first_of (pairs twin)) [] (map first_of (pairs twin))
+  also_named : NameTheirNodes (map second_of (pairs twin)) [] (map second_of (pairs twin))
   once : (number : ℕ) → IsReached first number → count_by (is_occurrence_of number) (map first_of (pairs twin)) ≡ 1
   also_once : (number : ℕ) → IsReached second number → count_by (is_occurrence_of number) (map second_of (pairs twin)) ≡ 1
   reached : (pair : Pair) → IsIn pair (pairs twin) → IsReached first (first_number pair)
@@ -239,8 +239,8 @@ same_shape first second shape one two =
       fits = join.fits;
       root = ap number_at join.is_first ∙ one.root;
       also_root = ap number_at join.is_second ∙ two.root;
-      named = subst (λ (all : List Occurrence). AreNamed all [] all) at one.named;
-      also_named = subst (λ (all : List Occurrence). AreNamed all [] all) also two.named;
+      named = subst (λ (all : List Occurrence). NameTheirNodes all [] all) at one.named;
+      also_named = subst (λ (all : List Occurrence). NameTheirNodes all [] all) also two.named;
       once = λ number reached. ap (count_by (is_occurrence_of number)) (sym at) ∙ one.once number reached;
       also_once = λ number reached. ap (count_by (is_occurrence_of number)) (sym also) ∙ two.once number reached;
       reached = λ pair within.

@@ -6,7 +6,7 @@ use Rattle.yaml_base.proofs.Common.{◌∙◌, arith, same_from_decides, length-
 use Rattle.yaml_base.proofs.Common.{filter_map, list_any, position, position_or_len, Text, Isomorphic, Graph, children, is_whole, Step, enters, leaves}
 use Rattle.yaml_base.proofs.Common.{meets_again, is_entry_of, node_met_again, first_of_each, shared_nodes, numbered_name, anchor_of, Placed, alias_placed}
 use Rattle.yaml_base.proofs.Common.{PlacedNodes, node_placed, none_placed, placed_and, number_at, numbers_at, IsReached, first_reached, child_reached}
-use Rattle.yaml_base.{proofs.Twins.IsIn, proofs.Twins.in_either, proofs.UnfoldSteps.Keeps, proofs.UnfoldSteps.steps_keep, specs.graphs.Meetings.steps}
+use Rattle.yaml_base.{proofs.Twins.IsIn, proofs.Twins.in_either, proofs.UnfoldSteps.Keeps, proofs.UnfoldSteps.steps_keep, specs.graphs.Meetings.graph_steps}
 use Rattle.yaml_base.proofs.UnfoldTrees.{placed_steps, below_steps, Fits, AllFit, walk_placed}
 
 -- ---- each step in its turn
@@ -32,7 +32,7 @@ turns_more before (first ∷ walk) step turns now = (
 keeps_turns : (graph : Graph) → Keeps graph (AreStepsOf [])
 keeps_turns graph = grind (arith, turns_more)
 
-walk_turns : (graph : Graph) → AreStepsOf [] (steps graph)
+walk_turns : (graph : Graph) → AreStepsOf [] (graph_steps graph)
 walk_turns graph = steps_keep graph (AreStepsOf []) (keeps_turns graph) (suc (length graph.nodes)) [] 1 first_reached tt
 
 -- those of a list after its first part
@@ -211,14 +211,14 @@ mutual
 
 -- the walks, and that all nodes of the first are reached
 pub record SameWalks (first second : Graph) (iso : Isomorphic first second) : Type 0 where
-  pub same : steps second ≡ map (renumbered iso.partner) (steps first)
-  pub reached : AllReached first (steps first)
+  pub same : graph_steps second ≡ map (renumbered iso.partner) (graph_steps first)
+  pub reached : AllReached first (graph_steps first)
 
 pub same_walks : (first second : Graph) (iso : Isomorphic first second) → is_whole first ≡ true → is_whole second ≡ true → 1 ≤ length first.nodes
     → 1 ≤ length second.nodes → SameWalks first second iso
 same_walks first second iso whole also_whole some also_some =
-    let named = anchor_of (steps first) in
-    let also = anchor_of (steps second) in
+    let named = anchor_of (graph_steps first) in
+    let also = anchor_of (graph_steps second) in
     let one = walk_placed named first whole some in
     let two = walk_placed also second also_whole also_some in
     let root : IsReached first (number_at one.placed) = subst (λ (n : ℕ). IsReached first n) (sym one.root) first_reached in

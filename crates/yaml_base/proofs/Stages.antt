@@ -6,7 +6,7 @@ use Rattle.yaml_base.proofs.Common.{documents_and, Level, at_item, at_key, at_va
 use Rattle.yaml_base.proofs.Common.{after_stream, with_node, closed, push_within, push, pushed, partial_of, first_standing, Standing, Role, as_item, as_key}
 use Rattle.yaml_base.proofs.Common.{as_value, is_key, expected, ends_collection, open_levels, refusal_at, refusal, Encoding, Effective, Frame, Stage, at_stream}
 use Rattle.yaml_base.proofs.Common.{at_document, at_node, at_document_end, at_nothing, stage_after, step, ends_next, steps}
-use Rattle.yaml_base.specs.Steps.{role_after, is_item, node_allowed, stage_allows, stage_expected, open_frames, stage_refusal}
+use Rattle.yaml_base.specs.Steps.{role_after, is_item, node_allowed, stage_allows, stage_expected, frame_count, stage_refusal}
 
 -- a frame awaits what a level does
 abbrev Awaits : Level → Role → Type 0
@@ -139,7 +139,7 @@ frames_count [] [] h = refl
 frames_count (level ∷ levels) (frame ∷ frames) h = ap suc (frames_count levels frames h.1)
 frames_count levels frames h = absurd h
 
-frames_open : (p : Partial) (stage : Stage) → StandsFor p stage → open_frames stage ≡ length (open_levels p)
+frames_open : (p : Partial) (stage : Stage) → StandsFor p stage → frame_count stage ≡ length (open_levels p)
 frames_open p stage h = grind (arith, nat_tests, frames_count)
 
 -- The refusal at a stage is the refusal after the list.

@@ -39,6 +39,9 @@ space = 0x20
 abbrev pub tab : ℕ
 tab = 0x9
 
+abbrev pub backslash : ℕ
+backslash = 0x5C
+
 -- a letter or digit of ASCII, `_` or `-`
 abbrev pub is_alpha : ℕ → Bool
 is_alpha c = is_between 48 57 c || is_between 65 90 c || is_between 97 122 c || c == 95 || c == 45

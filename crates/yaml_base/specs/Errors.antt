@@ -9,10 +9,10 @@ use Rattle.yaml_base.specs.declared.errors.yaml_error_type_t.{yaml_error_type_t}
 use Rattle.yaml_base.specs.declared.errors.yaml_error_type_t.TheVariants.{YAML_MEMORY_ERROR, YAML_WRITER_ERROR, YAML_EMITTER_ERROR}
 
 -- the layer that a refusal comes from
-abbrev pub kind_of : yaml_error_t → yaml_error_type_t
-kind_of WriteError = YAML_WRITER_ERROR
-kind_of Memory = YAML_MEMORY_ERROR
-kind_of _ = YAML_EMITTER_ERROR
+abbrev pub error_type_of : yaml_error_t → yaml_error_type_t
+error_type_of WriteError = YAML_WRITER_ERROR
+error_type_of Memory = YAML_MEMORY_ERROR
+error_type_of _ = YAML_EMITTER_ERROR
 
 -- a refusal in words, a line for each; a refused growth has none
 abbrev pub problem_text : yaml_error_t → List ℕ

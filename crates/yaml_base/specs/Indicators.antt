@@ -21,16 +21,16 @@ abbrev pub spaced : Text → Indicator
 spaced text = record { text = text; needs_space = true; leaves_space = false; keeps_indention = false }
 
 -- a bracket that opens
-abbrev pub opening : Text → Indicator
-opening text = record { text = text; needs_space = true; leaves_space = true; keeps_indention = false }
+abbrev pub opening_bracket : Text → Indicator
+opening_bracket text = record { text = text; needs_space = true; leaves_space = true; keeps_indention = false }
 
 -- no space before it
 abbrev pub tight : Text → Indicator
 tight text = record { text = text; needs_space = false; leaves_space = false; keeps_indention = false }
 
 -- the indicator of an entry in a block, which may stand in indentation
-abbrev pub indented : Text → Indicator
-indented text = record { text = text; needs_space = true; leaves_space = false; keeps_indention = true }
+abbrev pub indented_indicator : Text → Indicator
+indented_indicator text = record { text = text; needs_space = true; leaves_space = false; keeps_indention = true }
 
 -- the indicator of a key that isn't simple, in flow or in a block
 abbrev pub key : (in_block : Bool) → Indicator
@@ -59,13 +59,13 @@ tag_directive = spaced (codes "%TAG")
 -- Collections in flow
 
 abbrev pub flow_sequence_start : Indicator
-flow_sequence_start = opening (codes "[")
+flow_sequence_start = opening_bracket (codes "[")
 
 abbrev pub flow_sequence_end : Indicator
 flow_sequence_end = tight (codes "]")
 
 abbrev pub flow_mapping_start : Indicator
-flow_mapping_start = opening (codes "{")
+flow_mapping_start = opening_bracket (codes "{")
 
 abbrev pub flow_mapping_end : Indicator
 flow_mapping_end = tight (codes "}")
@@ -82,13 +82,13 @@ flow_value = spaced (codes ":")
 -- Collections in blocks
 
 abbrev pub block_entry : Indicator
-block_entry = indented (codes "-")
+block_entry = indented_indicator (codes "-")
 
 abbrev pub block_key : Indicator
 block_key = key true
 
 abbrev pub block_value : Indicator
-block_value = indented (codes ":")
+block_value = indented_indicator (codes ":")
 
 -- after a simple key, in flow and in blocks
 abbrev pub simple_value : Indicator

@@ -11,7 +11,7 @@ use Rattle.yaml_base.specs.reading.ReadPlain.{is_read_white, begins_white, begin
 use Rattle.yaml_base.specs.Pieces.{list_layout}
 use Rattle.yaml_base.specs.Output.{settings_for, text_written, bytes_written, output_of}
 use Rattle.yaml_base.specs.graphs.Dumped.{AreDumped}
-use Rattle.yaml_base.specs.graphs.DumpedText.{HasDumpedText, HaveText, IsBare, dumped_text}
+use Rattle.yaml_base.specs.graphs.DumpedText.{HasDumpedText, HaveText, IsBareDocument, dumped_text}
 use Rattle.yaml_base.specs.graphs.Meetings.{Graph}
 use Rattle.yaml_base.specs.values.TypedValues.{TypedValue, typed_settings, value_node}
 use Rattle.yaml_base.specs.values.ValueText.{document_text}
@@ -60,7 +60,7 @@ BreaksAgree =
 abbrev pub CanonicalOutputIsText : Type 0
 CanonicalOutputIsText =
     (encoding : Option Encoding) (events : List Event) (text : Text) → (has : HaveText events text)
-    → IsBare has.document.start has.document.end_implicit
+    → IsBareDocument has.document.start has.document.end_implicit
     → output_of typed_settings (stream_start encoding ∷ (events ++ stream_end ∷ [])) ≡ cut largest_usize (encode (Some utf8) text)
 
 -- what a document's dump writes so has a text, of which that output is the encoding
@@ -72,7 +72,7 @@ pub record WritesDumpedText (graph : Graph) (events : List Event) : Type 0 where
 -- so it is of each graph in a stream of its own
 abbrev pub DumpsHaveTexts : Type 0
 DumpsHaveTexts =
-    (graph : Graph) (events : List Event) → AreDumped (graph ∷ []) events → IsBare graph.start graph.end_implicit → WritesDumpedText graph events
+    (graph : Graph) (events : List Event) → AreDumped (graph ∷ []) events → IsBareDocument graph.start graph.end_implicit → WritesDumpedText graph events
 
 -- events have no other text
 abbrev pub OneTextEach : Type 0

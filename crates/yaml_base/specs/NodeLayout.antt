@@ -252,7 +252,7 @@ curly = record { opening = codes "{"; closing = codes "}" }
 -- before the closing bracket stands the opening one where nothing is between them; in canonical mode a comma
 -- after the last entry, and a new line (YAML 1.1, section 5.3 Indicator Characters, c-sequence-start, c-mapping-start, c-collect-entry; where is libyaml's)
 abbrev pub empty_or_comma : Effective → Text → (empty : Bool) → Option ℕ → Cursor → Rendered
-empty_or_comma s bracket true column cursor = indicators.render_indicator (indicators.opening bracket) cursor
+empty_or_comma s bracket true column cursor = indicators.render_indicator (indicators.opening_bracket bracket) cursor
 empty_or_comma s bracket false column cursor =
     if s.canonical
     then render_then (indicators.render_indicator indicators.flow_entry cursor) (new_line (line_column column))

@@ -82,13 +82,13 @@ first_ends_collection [] = false
 first_ends_collection (event ∷ rest) = ends_collection event
 
 -- a list begins a collection last, and what follows ends it at once
-abbrev pub closes_at_once : List Event → List Event → Bool
-closes_at_once prefix rest = last_begins_collection prefix && first_ends_collection rest
+abbrev pub last_closes_at_once : List Event → List Event → Bool
+last_closes_at_once prefix rest = last_begins_collection prefix && first_ends_collection rest
 
 -- every accepted list that begins with the first so many events, and doesn't at once close a collection that they begin
 -- last, has their pieces: so they can be written before the end is known
 abbrev pub PiecesStand : Type 0
 PiecesStand =
     (s : Effective) (events rest : List Event) (k : ℕ) → k ≤ length events
-    → IsAccepted s.canonical (take k events ++ rest) → closes_at_once (take k events) rest ≡ false
+    → IsAccepted s.canonical (take k events ++ rest) → last_closes_at_once (take k events) rest ≡ false
     → take k (list_layout s (take k events ++ rest)) ≡ pieces s events k

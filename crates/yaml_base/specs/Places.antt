@@ -6,7 +6,7 @@ use Rattle.std.specs.List.{list_any}
 use Rattle.yaml_base.specs.Characters.{Text, is_break}
 use Rattle.yaml_base.specs.Settings.{Effective}
 use Rattle.yaml_base.specs.Cursor.{Cursor, Rendered, render_nothing, render_then, new_line, is_past_width}
-use Rattle.yaml_base.specs.Indicators.{render_indicator, opening, flow_entry, key, flow_value, block_entry, block_value, simple_value}
+use Rattle.yaml_base.specs.Indicators.{render_indicator, opening_bracket, flow_entry, key, flow_value, block_entry, block_value, simple_value}
 use Rattle.yaml_base.specs.Event.{TagDirective, Scalar, Collection}
 use Rattle.yaml_base.specs.Tags.{Spelling, shorthand, verbatim, spelling}
 use Rattle.yaml_base.specs.Grammar.{Node, alias_node, scalar_node, sequence_node, mapping_node, Nodes, no_nodes, nodes_and, Pairs, no_pairs, pairs_and}
@@ -140,7 +140,7 @@ flow_break s column cursor =
 -- the opening bracket before the first entry, a comma before another
 -- (YAML 1.1, section 5.3 Indicator Characters, c-sequence-start, c-mapping-start, c-collect-entry)
 abbrev pub opening_or_comma : Text → Bool → Cursor → Rendered
-opening_or_comma bracket true cursor = render_indicator (opening bracket) cursor
+opening_or_comma bracket true cursor = render_indicator (opening_bracket bracket) cursor
 opening_or_comma bracket false cursor = render_indicator flow_entry cursor
 
 -- the indicator of a key that isn't simple (YAML 1.1, section 5.3 Indicator Characters, c-mapping-key)

@@ -44,14 +44,14 @@ role_after (as_key first) simple = as_value simple
 role_after (as_value was_simple) simple = as_key false
 
 -- the place of the entry after one at this place
-abbrev pub place_after : Place → (simple : Bool) → Place
-place_after place simple = record place { role = role_after place.role simple }
+abbrev pub next_entry_place : Place → (simple : Bool) → Place
+next_entry_place place simple = record place { role = role_after place.role simple }
 
 -- after a node, which may have been a simple key
 abbrev pub stage_after : List TagDirective → List Frame → (simple : Bool) → Stage
 stage_after directives [] simple = at_document_end
 stage_after directives (frame ∷ outer) simple =
-    at_node directives (record frame { place = place_after frame.place simple } ∷ outer)
+    at_node directives (record frame { place = next_entry_place frame.place simple } ∷ outer)
 
 -- the entry is the first of its collection
 abbrev pub is_first : Role → Bool
@@ -198,9 +198,9 @@ stage_expected at_document_end = ExpectedDocumentEnd
 stage_expected at_nothing = ExpectedNothing
 
 -- how many collections are open at a stage
-abbrev pub open_frames : Stage → ℕ
-open_frames (at_node directives frames) = length frames
-open_frames _ = 0
+abbrev pub frame_count : Stage → ℕ
+frame_count (at_node directives frames) = length frames
+frame_count _ = 0
 
 -- the refusal of an event at a stage
 abbrev pub stage_refusal : Bool → Stage → Event → Option yaml_error_t
@@ -208,7 +208,7 @@ stage_refusal canonical stage event =
     option_or (name_or_tag_fault canonical event)
     (option_or (some_if (not (stage_allows stage event)) (stage_expected stage))
     (option_or (content_fault canonical event)
-    (some_if (begins_collection event && not (nat_lt (open_frames stage) most_open)) TooDeep)))
+    (some_if (begins_collection event && not (nat_lt (frame_count stage) most_open)) TooDeep)))
 
 -- Lists with events that wait
 

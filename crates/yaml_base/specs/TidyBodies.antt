@@ -5,5 +5,5 @@ use Rattle.yaml_base.specs.NodeLayout.{Body}
 use Rattle.yaml_base.specs.reading.TidyText.{is_tidy}
 
 -- a body of the layout is tidy where it stands
-abbrev pub IsTidy : Effective → Body → Type 0
-IsTidy s body = is_tidy body.style s.breaks12 body.column body.text ≡ true
+abbrev pub BodyIsTidy : Effective → Body → Type 0
+BodyIsTidy s body = is_tidy body.style s.breaks12 body.column body.text ≡ true

@@ -11,20 +11,20 @@ use Rattle.yaml_base.specs.NodeLayout.{bodies_of}
 use Rattle.yaml_base.specs.Pieces.{list_layout}
 use Rattle.yaml_base.specs.Output.{settings_for, text_written, bytes_written}
 use Rattle.yaml_base.specs.Decode.{decode}
-use Rattle.yaml_base.specs.TidyBodies.{IsTidy}
+use Rattle.yaml_base.specs.TidyBodies.{BodyIsTidy}
 
 -- U+2028 or U+2029, which break lines in YAML 1.1 and don't in YAML 1.2
 abbrev pub is_separator : ℕ → Bool
 is_separator c = c == line_separator || c == paragraph_separator
 
 -- printable, or the CR of a line break; with tabs, where blanks are literal
-abbrev pub may_stand_raw : (tabs : Bool) → ℕ → Bool
-may_stand_raw tabs c = is_printable c || c == carriage_return || (tabs && c == tab)
+abbrev pub is_written_raw : (tabs : Bool) → ℕ → Bool
+is_written_raw tabs c = is_printable c || c == carriage_return || (tabs && c == tab)
 
 -- what a text holds raw: such characters alone, which are Unicode scalar values; only ASCII where no more is kept; and
 -- where they are escaped, neither U+2028 nor U+2029
 pub record HoldsRaw (s : Effective) (text : Text) : Type 0 where
-  pub printable : list_all (may_stand_raw s.literal_blanks) text ≡ true
+  pub printable : list_all (is_written_raw s.literal_blanks) text ≡ true
   pub scalars : all_scalars text ≡ true
   pub ascii : s.unicode ≡ false → list_all is_ascii text ≡ true
   pub no_separators : escapes_separators s ≡ true → list_any is_separator text ≡ false
@@ -40,7 +40,7 @@ TextsHoldRaw =
 abbrev pub BodiesAreTidy : Type 0
 BodiesAreTidy =
     (given : Settings) (encoding : Option Encoding) (events : List Event) → IsAccepted given.canonical events
-    → All (IsTidy (effective given encoding)) (bodies_of (list_layout (effective given encoding) events))
+    → All (BodyIsTidy (effective given encoding)) (bodies_of (list_layout (effective given encoding) events))
 
 -- under settings that differ in the encoding alone the bytes of an accepted list, decoded without their mark, are one text
 abbrev pub StreamsAgree : Type 0

@@ -1,6 +1,6 @@
 //! What a call of the emitter refuses.
 ghost use Rattle.std.specs.Prelude.{◌≡◌, Some};
-ghost use Rattle.yaml_base.specs.Errors.{kind_of, problem_text, display_text};
+ghost use Rattle.yaml_base.specs.Errors.{error_type_of, problem_text, display_text};
 
 use std::error::Error;
 use std::fmt;
@@ -66,7 +66,7 @@ pub enum yaml_error_t {
 impl yaml_error_t {
     /// Returns the layer that the refusal comes from.
     pub fn kind(self) -> yaml_error_type_t
-        ensures { result ≡ kind_of self }
+        ensures { result ≡ error_type_of self }
     {
         match self {
             yaml_error_t::WriteError => yaml_error_type_t::YAML_WRITER_ERROR,

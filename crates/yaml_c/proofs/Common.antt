@@ -6,5 +6,6 @@ pub use Rattle.yaml_tool.proofs.Common.{events_in}
 pub use Rattle.std.proofs.Common.{of_z, rules, to_z, w32}
 pub use Rattle.std.proofs.lemmas.List.{at_drop_more}
 pub use Rattle.yaml_base.specs.Seen.{seen_directive}
-pub use Rattle.yaml_c.specs.{EventRecords.directives_of, EventRecords.event_of, EventRecords.events_from, JsonAnswers.IsAnswer, JsonAnswers.answer_of}
+pub use Rattle.yaml_c.specs.{EventRecords.directives_recorded, EventRecords.event_recorded, EventRecords.events_from, JsonAnswers.IsAnswer}
+pub use Rattle.yaml_c.specs.{JsonAnswers.answer_of}
 pub use Rattle.yaml_emitter.specs.Given.{seen_settings}

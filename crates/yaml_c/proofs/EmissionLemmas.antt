@@ -1,6 +1,6 @@
 -- The events of an array, given to an emitter one after another.
 use Rattle.yaml_c.proofs.Common.{ℕ, ◌+◌, ◌<◌, ◌≤◌, Option, None, Some, drop, length, slice_index_or as get_or, List, [], ◌++◌, ◌∷◌, refl, ◌≡◌, append_assoc}
-use Rattle.yaml_c.proofs.Common.{inl, ap, subst, sym, ◌∙◌, at_drop_more, Settings, event_of, events_from, StandsAfter, State, events_in}
+use Rattle.yaml_c.proofs.Common.{inl, ap, subst, sym, ◌∙◌, at_drop_more, Settings, event_recorded, events_from, StandsAfter, State, events_in}
 use Rattle.yaml_base.proofs.Common.{suc, ◌⊎◌, length-append, append-nil, inr, arith, map-append, Event}
 use Rattle.yaml_tool.proofs.Common.{RefusesAt, LastLine}
 use Rattle.std.proofs.lemmas.List.{at_drop_all}
@@ -10,7 +10,7 @@ use Rattle.yaml_c.specs.{declared.records.DirectiveRecord.DirectiveRecord, decla
 use Rattle.yaml_c.specs.declared.events.Emission.TheVariants.{BadEvent, Done, NoMemory, NoRoom, Refused}
 use Rattle.yaml_emitter.{proofs.standing.KeptDocuments.documents_without_error, proofs.standing.KeptDocuments.documents_stay, specs.Promises.Promised}
 use Rattle.yaml_pen.specs.Wrote.{Grows}
-use Rattle.yaml_tool.{proofs.RunLemmas.ended_without, proofs.RunLemmas.flushed_last, specs.Runs.EmitsAll, specs.Runs.FlushFails, specs.Runs.EndsAt}
+use Rattle.yaml_tool.{proofs.RunLemmas.ended_without, proofs.RunLemmas.flushed_last, specs.Runs.EmitsScript, specs.Runs.FlushFails, specs.Runs.EndsOnLine}
 use Rattle.yaml_tool.specs.declared.answers.run_answer_t.TheVariants as run
 
 -- an event and its number
@@ -29,7 +29,7 @@ pub record HasGiven (arena : List ℕ) (directives : List DirectiveRecord) (reco
 -- ---- the next record
 
 pub read_next : (arena : List ℕ) (directives : List DirectiveRecord) (records : List EventRecord) (i : ℕ) (d : EventRecord) (event : Event)
-    → i < length records → Some event ≡ event_of arena directives (get_or records i d)
+    → i < length records → Some event ≡ event_recorded arena directives (get_or records i d)
     → events_from i arena directives (drop i records) ≡ numbered i event ∷ events_from (i + 1) arena directives (drop (i + 1) records)
 read_next arena directives records i d event low is =
     let one : suc i ≡ i + 1 = omega arith in
@@ -52,7 +52,7 @@ with_none all given next parts is = sym (with_next all given next [] parts is �
 -- one more was given
 pub given_more : (arena : List ℕ) (directives : List DirectiveRecord) (records : List EventRecord) (first before after : State) (i number : ℕ)
     (last : Option ℕ) (d : EventRecord) (event : Event) (has : HasGiven arena directives records first i last before) → number ≡ i → i < length records
-    → Some event ≡ event_of arena directives (get_or records i d)
+    → Some event ≡ event_recorded arena directives (get_or records i d)
     → ((set : Settings) → StandsAfter set (events_in has.given) before → StandsAfter set (events_in has.given ++ event ∷ []) after)
     → HasGiven arena directives records first (i + 1) (Some number) after
 given_more arena directives records first before after i number last d event has same low is stands =
@@ -78,7 +78,7 @@ given_more arena directives records first before after i number last d event has
 -- the call that was given the next event failed
 pub refused_next : (arena : List ℕ) (directives : List DirectiveRecord) (records : List EventRecord) (first earlier state : State) (i number : ℕ)
     (last : Option ℕ) (d : EventRecord) (event : Event) (set : Settings) (error : yaml_error_t) (has : HasGiven arena directives records first i last earlier)
-    → number ≡ i → i < length records → Some event ≡ event_of arena directives (get_or records i d) → earlier.error ≡ None
+    → number ≡ i → i < length records → Some event ≡ event_recorded arena directives (get_or records i d) → earlier.error ≡ None
     → StandsAfter set (events_in has.given) earlier → Promised set (events_in has.given) earlier → state.error ≡ Some error
     → StandsAfter set (events_in has.given ++ event ∷ []) state → Promised set (events_in has.given ++ event ∷ []) state
     → Grows earlier.page state.page → RefusesAt set (events_from 0 arena directives records) number error state
@@ -111,14 +111,14 @@ only_flush : (set : Settings) (all : List Numbered) (records : List EventRecord)
 only_flush set all records number error state whole (inl refused) = inl refused
 only_flush set all records number error state whole (inr fails) = inr (whole, fails)
 
-last_line : (given : List Numbered) (last : Option ℕ) (number : ℕ) (state : State) → last ≡ Some number → LastLine given last state → EndsAt given number
+last_line : (given : List Numbered) (last : Option ℕ) (number : ℕ) (state : State) → last ≡ Some number → LastLine given last state → EndsOnLine given number
 last_line given None number state is ends = cc
-last_line given (Some other) number state is ends = let same : other ≡ number = cc in subst (EndsAt given) same ends
+last_line given (Some other) number state is ends = let same : other ≡ number = cc in subst (EndsOnLine given) same ends
 
 -- the last flush
 flushed_all : (set : Settings) (all : List Numbered) (records : List EventRecord) (number : ℕ) (emission : Emission) (before after : State)
     → HasAllRead all records → StandsAfter set (events_in all) before → Promised set (events_in all) before → before.error ≡ None
-    → EndsAt all number → FlushesAfter number before emission after → EmitsRecords set all records emission after
+    → EndsOnLine all number → FlushesAfter number before emission after → EmitsRecords set all records emission after
 flushed_all set all records number Done before after whole stood promised none ends h =
     (whole, flushed_last set all number run.Done before after stood promised none ends h)
 flushed_all set all records number (Refused report error) before after whole stood promised none ends h =
@@ -143,7 +143,7 @@ ended_flushed arena directives records first before after i number last set emis
     flushed_all set all records number emission before after whole
     (subst (λ (xs : List Numbered). StandsAfter set (events_in xs) before) same stood)
     (subst (λ (xs : List Numbered). Promised set (events_in xs) before) same promised) none
-    (subst (λ (xs : List Numbered). EndsAt xs number) same (last_line has.given last number before is has.ends)) h
+    (subst (λ (xs : List Numbered). EndsOnLine xs number) same (last_line has.given last number before is has.ends)) h
 
 -- the end of an array without events
 pub ended_empty : (arena : List ℕ) (directives : List DirectiveRecord) (records : List EventRecord) (first state : State) (i : ℕ) (last : Option ℕ)
@@ -156,12 +156,12 @@ ended_empty arena directives records first state i last set has within overwritt
     (read_all arena directives records i overwritten) in
     let count : i ≡ length records = omega arith in (
       ap length (sym same) ∙ has.count ∙ count,
-      subst (λ (xs : List Numbered). EmitsAll set xs state) same (ended_without set has.given last state is stood promised none has.ends),
+      subst (λ (xs : List Numbered). EmitsScript set xs state) same (ended_without set has.given last state is stood promised none has.ends),
     )
 
 -- the next record has no reading
 pub bad_next : (arena : List ℕ) (directives : List DirectiveRecord) (records : List EventRecord) (i : ℕ) (d : EventRecord) (given : List Numbered)
-    → i < length records → event_of arena directives (get_or records i d) ≡ None
+    → i < length records → event_recorded arena directives (get_or records i d) ≡ None
     → events_from 0 arena directives records ≡ given ++ events_from i arena directives (drop i records)
     → events_from 0 arena directives records ≡ given
 bad_next arena directives records i d given low bad parts =

@@ -16,13 +16,13 @@ abbrev pub part_of : {A : Type 0} → List A → Span → Option (List A)
 part_of all span = if nat_le (span.start + span.length) (length all) then Some (take span.length (drop span.start all)) else None
 
 -- the characters of bytes, where these are UTF-8
-abbrev pub text_of_bytes : List ℕ → Option Text
-text_of_bytes bytes = if is_utf8 bytes then Some (chars bytes) else None
+abbrev pub utf8_text : List ℕ → Option Text
+utf8_text bytes = if is_utf8 bytes then Some (chars bytes) else None
 
 -- the text of a span of the arena, where the span lies in it and its bytes are UTF-8
-abbrev pub text_at : List ℕ → Span → Option Text
-text_at arena span = option_and_then text_of_bytes (part_of arena span)
+abbrev pub text_in_arena : List ℕ → Span → Option Text
+text_in_arena arena span = option_and_then utf8_text (part_of arena span)
 
 -- a text, or none where the flag is off
 abbrev pub optional_text_at : List ℕ → (has : ℕ) → Span → Option (Option Text)
-optional_text_at arena has span = if has == 0 then Some None else option_map (λ text. Some text) (text_at arena span)
+optional_text_at arena has span = if has == 0 then Some None else option_map (λ text. Some text) (text_in_arena arena span)

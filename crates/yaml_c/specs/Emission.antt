@@ -6,7 +6,7 @@ use Rattle.yaml_base.specs.declared.errors.yaml_error_t.{yaml_error_t}
 use Rattle.yaml_base.specs.declared.errors.yaml_error_t.TheVariants as errors
 use Rattle.yaml_emitter.specs.State.{State}
 use Rattle.yaml_emitter.specs.StandsAfter.{StandsAfter}
-use Rattle.yaml_tool.specs.Runs.{EmitsAll, FlushFails, FlushesLast, RefusesAt, events_in}
+use Rattle.yaml_tool.specs.Runs.{EmitsScript, FlushFails, FlushesLast, RefusesAt, events_in}
 use Rattle.yaml_tool.specs.declared.answers.run_answer_t.TheVariants as run
 use Rattle.yaml_c.specs.Answers.{CallResults, CopiesToCaller, nothing_reported, results_done, results_failed}
 use Rattle.yaml_c.specs.EventRecords.{events_from}
@@ -43,7 +43,7 @@ pub record StopsForRoom (given : Settings) (all : List Numbered) (records : List
 
 -- what an answer says of the emitter; of the last flush only where all was given
 abbrev pub EmitsRecords : Settings → List Numbered → List EventRecord → Emission → State → Type 0
-EmitsRecords given all records Done state = HasAllRead all records × EmitsAll given all state
+EmitsRecords given all records Done state = HasAllRead all records × EmitsScript given all state
 EmitsRecords given all records (Refused number error) state =
     RefusesAt given all number error state ⊎ (HasAllRead all records × FlushFails given all number error state)
 EmitsRecords given all records (BadEvent number) state = StopsAtBad given all records number state

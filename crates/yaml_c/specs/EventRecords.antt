@@ -7,7 +7,7 @@ use Rattle.yaml_base.specs.Event.{Version, TagDirective, Scalar, Collection, Eve
 use Rattle.yaml_base.specs.Event.{sequence_start, sequence_end, mapping_start, mapping_end}
 use Rattle.yaml_base.specs.scripts.Script.{Numbered}
 use Rattle.yaml_writer.specs.TypedEvents.{typed_scalar}
-use Rattle.yaml_c.specs.Arena.{is_on, part_of, text_at, optional_text_at}
+use Rattle.yaml_c.specs.Arena.{is_on, part_of, text_in_arena, optional_text_at}
 use Rattle.yaml_c.specs.declared.arena.Span.{Span}
 use Rattle.yaml_c.specs.declared.records.DirectiveRecord.{DirectiveRecord}
 use Rattle.yaml_c.specs.declared.records.EventRecord.{EventRecord}
@@ -52,37 +52,37 @@ abbrev pub directive_from : Option Text → Option Text → Option TagDirective
 directive_from (Some handle) (Some prefix) = Some (record { handle = handle; prefix = prefix })
 directive_from handle prefix = None
 
-abbrev pub directive_of : List ℕ → DirectiveRecord → Option TagDirective
-directive_of arena directive = directive_from (text_at arena directive.handle) (text_at arena directive.prefix)
+abbrev pub directive_recorded : List ℕ → DirectiveRecord → Option TagDirective
+directive_recorded arena directive = directive_from (text_in_arena arena directive.handle) (text_in_arena arena directive.prefix)
 
 -- directives in order, where each has a reading
-abbrev pub directives_of : List ℕ → List DirectiveRecord → Option (List TagDirective)
-directives_of arena [] = Some []
-directives_of arena (first ∷ rest) =
-    option_and_then (λ directive. option_map (λ others. directive ∷ others) (directives_of arena rest)) (directive_of arena first)
+abbrev pub directives_recorded : List ℕ → List DirectiveRecord → Option (List TagDirective)
+directives_recorded arena [] = Some []
+directives_recorded arena (first ∷ rest) =
+    option_and_then (λ directive. option_map (λ others. directive ∷ others) (directives_recorded arena rest)) (directive_recorded arena first)
 
 -- those of a span of the array
 abbrev pub directives_at : List ℕ → List DirectiveRecord → Span → Option (List TagDirective)
-directives_at arena directives span = option_and_then (directives_of arena) (part_of directives span)
+directives_at arena directives span = option_and_then (directives_recorded arena) (part_of directives span)
 
 -- the version, where the event has one
-abbrev pub version_of : EventRecord → Option Version
-version_of event = if event.has_version == 0 then None else Some (record { major = event.major; minor = event.minor })
+abbrev pub version_recorded : EventRecord → Option Version
+version_recorded event = if event.has_version == 0 then None else Some (record { major = event.major; minor = event.minor })
 
 -- ---- one event
 
 -- STREAM-START has the encoding for its style
-abbrev pub stream_start_of : EventRecord → Option Event
-stream_start_of event = option_map stream_start (encoding_numbered event.style)
+abbrev pub stream_start_recorded : EventRecord → Option Event
+stream_start_recorded event = option_map stream_start (encoding_numbered event.style)
 
-abbrev pub document_start_of : List ℕ → List DirectiveRecord → EventRecord → Option Event
-document_start_of arena directives event =
-    option_map (λ all. document_start (record { version = version_of event; directives = all; implicit = is_on event.implicit }))
+abbrev pub document_start_recorded : List ℕ → List DirectiveRecord → EventRecord → Option Event
+document_start_recorded arena directives event =
+    option_map (λ all. document_start (record { version = version_recorded event; directives = all; implicit = is_on event.implicit }))
     (directives_at arena directives event.directives)
 
 -- ALIAS has the name of the node for its anchor
-abbrev pub alias_of : List ℕ → EventRecord → Option Event
-alias_of arena event = option_map alias (text_at arena event.anchor)
+abbrev pub alias_recorded : List ℕ → EventRecord → Option Event
+alias_recorded arena event = option_map alias (text_in_arena arena event.anchor)
 
 -- a scalar, with the flags and the style that keep its tag where that is asked for
 abbrev pub typed_where : (typed : Bool) → Scalar → Scalar
@@ -90,9 +90,9 @@ typed_where true content = typed_scalar content
 typed_where false content = content
 
 -- a scalar, where its style and its texts have a reading
-abbrev pub scalar_from : Option ScalarStyle → (plain_implicit quoted_implicit typed : Bool) → Option (Option Text) → Option (Option Text) → Option Text
+abbrev pub scalar_with_texts : Option ScalarStyle → (plain_implicit quoted_implicit typed : Bool) → Option (Option Text) → Option (Option Text) → Option Text
     → Option Event
-scalar_from (Some style) plain_implicit quoted_implicit typed (Some anchor) (Some tag) (Some value) =
+scalar_with_texts (Some style) plain_implicit quoted_implicit typed (Some anchor) (Some tag) (Some value) =
     Some
     (scalar
     (typed_where typed
@@ -104,12 +104,12 @@ scalar_from (Some style) plain_implicit quoted_implicit typed (Some anchor) (Som
       quoted_implicit = quoted_implicit;
       style = style;
     })))
-scalar_from style plain_implicit quoted_implicit typed anchor tag value = None
+scalar_with_texts style plain_implicit quoted_implicit typed anchor tag value = None
 
-abbrev pub scalar_of : List ℕ → EventRecord → Option Event
-scalar_of arena event =
-    scalar_from (scalar_style_numbered event.style) (is_on event.implicit) (is_on event.quoted_implicit) (is_on event.typed)
-    (optional_text_at arena event.has_anchor event.anchor) (optional_text_at arena event.has_tag event.tag) (text_at arena event.value)
+abbrev pub scalar_recorded : List ℕ → EventRecord → Option Event
+scalar_recorded arena event =
+    scalar_with_texts (scalar_style_numbered event.style) (is_on event.implicit) (is_on event.quoted_implicit) (is_on event.typed)
+    (optional_text_at arena event.has_anchor event.anchor) (optional_text_at arena event.has_tag event.tag) (text_in_arena arena event.value)
 
 -- the start of a collection, where its style and its texts have a reading
 abbrev pub collection_from : Option CollectionStyle → (implicit : Bool) → Option (Option Text) → Option (Option Text) → Option Collection
@@ -117,23 +117,23 @@ collection_from (Some style) implicit (Some anchor) (Some tag) =
     Some (record { anchor = anchor; tag = tag; implicit = implicit; style = style })
 collection_from style implicit anchor tag = None
 
-abbrev pub collection_of : List ℕ → EventRecord → Option Collection
-collection_of arena event =
+abbrev pub collection_recorded : List ℕ → EventRecord → Option Collection
+collection_recorded arena event =
     collection_from (collection_style_numbered event.style) (is_on event.implicit) (optional_text_at arena event.has_anchor event.anchor)
     (optional_text_at arena event.has_tag event.tag)
 
 -- the event of a kind of yaml_event_type_t; none for another kind, or where the style or a text has no reading
-abbrev pub event_of : List ℕ → List DirectiveRecord → EventRecord → Option Event
-event_of arena directives event =
-    if event.kind == 1 then stream_start_of event
+abbrev pub event_recorded : List ℕ → List DirectiveRecord → EventRecord → Option Event
+event_recorded arena directives event =
+    if event.kind == 1 then stream_start_recorded event
     else (if event.kind == 2 then Some stream_end
-    else (if event.kind == 3 then document_start_of arena directives event
+    else (if event.kind == 3 then document_start_recorded arena directives event
     else (if event.kind == 4 then Some (document_end (is_on event.implicit))
-    else (if event.kind == 5 then alias_of arena event
-    else (if event.kind == 6 then scalar_of arena event
-    else (if event.kind == 7 then option_map sequence_start (collection_of arena event)
+    else (if event.kind == 5 then alias_recorded arena event
+    else (if event.kind == 6 then scalar_recorded arena event
+    else (if event.kind == 7 then option_map sequence_start (collection_recorded arena event)
     else (if event.kind == 8 then Some sequence_end
-    else (if event.kind == 9 then option_map mapping_start (collection_of arena event)
+    else (if event.kind == 9 then option_map mapping_start (collection_recorded arena event)
     else (if event.kind == 10 then Some mapping_end else None)))))))))
 
 -- ---- the array
@@ -147,4 +147,4 @@ before_others number (Some event) others = record { line = number; event = event
 abbrev pub events_from : ℕ → List ℕ → List DirectiveRecord → List EventRecord → List Numbered
 events_from number arena directives [] = []
 events_from number arena directives (first ∷ rest) =
-    before_others number (event_of arena directives first) (events_from (suc number) arena directives rest)
+    before_others number (event_recorded arena directives first) (events_from (suc number) arena directives rest)

@@ -17,7 +17,7 @@ use Rattle.yaml_json.specs.declared.error.JsonError.{JsonError}
 use Rattle.yaml_json.specs.declared.expecting.Expected.TheVariants.{Utf8}
 use Rattle.yaml_json.specs.declared.error.JsonError.TheVariants as errors
 use Rattle.yaml_c.specs.Answers.{at_place, nothing_reported}
-use Rattle.yaml_c.specs.Kept.{report_of, status_of}
+use Rattle.yaml_c.specs.Kept.{report_of, error_status}
 use Rattle.yaml_c.specs.declared.results.CallResult.{CallResult}
 
 -- the text is JSON nested at most `depth` deep, with each name once where that is asked for, and its events were given
@@ -63,7 +63,7 @@ TellsJson (Err (errors.NotJson line column says)) status report = (status ≡ po
 TellsJson (Err (errors.Marked line column)) status report = (status ≡ pos 5) × (report ≡ at_place line column)
 TellsJson (Err (errors.TooDeep line column)) status report = (status ≡ pos 6) × (report ≡ at_place line column)
 TellsJson (Err (errors.DuplicateName line column)) status report = (status ≡ pos 7) × (report ≡ at_place line column)
-TellsJson (Err (errors.Emitter error)) status report = (status ≡ status_of (Some error)) × (report ≡ report_of (Some error))
+TellsJson (Err (errors.Emitter error)) status report = (status ≡ error_status (Some error)) × (report ≡ report_of (Some error))
 
 abbrev pub GivesJson : (depth : ℕ) → (unique in_flow : Bool) → List ℕ → (status : ℤ) → CallResult → State → State → Type 0
 GivesJson depth unique in_flow text status report before after =

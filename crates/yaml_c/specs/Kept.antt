@@ -21,16 +21,16 @@ Changes relation (Some before) (Some after) = (after.has_output ≡ true) × rel
 Changes relation before after = ⊥
 
 -- an emitter is open, and its output is set
-abbrev pub IsOpen : Option State → Type 0
-IsOpen None = ⊥
-IsOpen (Some state) = state.has_output ≡ true
+abbrev pub IsOpenEmitter : Option State → Type 0
+IsOpenEmitter None = ⊥
+IsOpenEmitter (Some state) = state.has_output ≡ true
 
 -- ---- what is returned
 
-abbrev pub status_of : Option yaml_error_t → ℤ
-status_of None = pos 0
-status_of (Some Memory) = pos 3
-status_of (Some error) = pos 1
+abbrev pub error_status : Option yaml_error_t → ℤ
+error_status None = pos 0
+error_status (Some Memory) = pos 3
+error_status (Some error) = pos 1
 
 abbrev pub report_of : Option yaml_error_t → CallResult
 report_of None = nothing_reported
@@ -38,7 +38,7 @@ report_of (Some error) = record nothing_reported { error = error_number error }
 
 -- a call tells the emitter's first error
 abbrev pub TellsError : Option yaml_error_t → (status : ℤ) → CallResult → Type 0
-TellsError error status report = (status ≡ status_of error) × (report ≡ report_of error)
+TellsError error status report = (status ≡ error_status error) × (report ≡ report_of error)
 
 -- ---- the calls
 

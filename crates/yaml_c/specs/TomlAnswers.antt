@@ -5,7 +5,7 @@ use Rattle.toml_ordered.specs.Grammar.{ordered_document}
 use Rattle.yaml_base.specs.Settings.{Settings}
 use Rattle.yaml_base.specs.declared.errors.yaml_error_t.TheVariants as emitter_errors
 use Rattle.yaml_base.specs.values.LinesAndColumns.{column_of, line_of}
-use Rattle.yaml_toml.specs.Means.{IsYamlOf}
+use Rattle.yaml_toml.specs.Means.{IsYamlOfToml}
 use Rattle.yaml_toml.specs.Walk.{DeniesToml}
 use Rattle.yaml_toml.specs.declared.error.TomlError.{TomlError}
 use Rattle.yaml_toml.specs.declared.error.TomlError.TheVariants as errors
@@ -49,7 +49,7 @@ pub record IsNoText (text : List ℕ) (line column : ℕ) : Type 0 where
 
 -- what `yaml_toml` promises of a text's YAML, or of an error, where the text is UTF-8
 abbrev pub IsAnswer : Settings → (in_flow : Bool) → (text : List ℕ) → Answer → Type 0
-IsAnswer given in_flow text (has_yaml yaml) = IsUtf8 text × IsYamlOf given in_flow text yaml
+IsAnswer given in_flow text (has_yaml yaml) = IsUtf8 text × IsYamlOfToml given in_flow text yaml
 IsAnswer given in_flow text (is_no_text line column) = IsNoText text line column
 IsAnswer given in_flow text (fails error) = IsUtf8 text × (DeniesToml error → ordered_document text ≡ None)
 

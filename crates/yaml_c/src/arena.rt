@@ -3,7 +3,7 @@ ghost use Rattle.std.specs.Prelude.{◌≡◌, IfOk, option_map};
 ghost use Rattle.std.specs.Str.{chars};
 ghost use Rattle.yaml_base.specs.Seen.{seen_text};
 ghost use Rattle.yaml_emitter.specs.BorrowedTexts.{seen_name};
-ghost use Rattle.yaml_c.specs.Arena.{part_of, text_of_bytes, text_at, optional_text_at};
+ghost use Rattle.yaml_c.specs.Arena.{part_of, utf8_text, text_in_arena, optional_text_at};
 
 use std::alloc::{AllocError, Allocator};
 
@@ -28,7 +28,7 @@ fn bytes_at<'a>(arena: &'a [u8], span: &Span) -> Option<&'a [u8]>
 /// Returns bytes as a text, where they are UTF-8.
 #[tactic(auto, using(crate::proofs::Utf8::text_of_utf8, crate::proofs::Utf8::no_text))]
 fn text_of(bytes: &[u8]) -> Option<&str>
-    ensures { option_map (λ text. chars text.now) result ≡ text_of_bytes bytes.now }
+    ensures { option_map (λ text. chars text.now) result ≡ utf8_text bytes.now }
 {
     match std::str::from_utf8(bytes) {
         Ok(text) => Some(text),
@@ -38,7 +38,7 @@ fn text_of(bytes: &[u8]) -> Option<&str>
 
 /// Returns the text of a span, where it lies within the arena and is UTF-8.
 pub(crate) fn borrowed_text<'a>(arena: &'a [u8], span: &Span) -> Option<&'a str>
-    ensures { option_map (λ text. chars text.now) result ≡ text_at arena.now span.now }
+    ensures { option_map (λ text. chars text.now) result ≡ text_in_arena arena.now span.now }
 {
     text_of(bytes_at(arena, span)?)
 }
@@ -63,7 +63,7 @@ pub(crate) fn owned_text<A: Allocator>(
     arena: &[u8],
     span: &Span,
 ) -> Result<Option<String<A>>, AllocError>
-    ensures { IfOk result (λ text. option_map seen_text text ≡ text_at arena.now span.now) }
+    ensures { IfOk result (λ text. option_map seen_text text ≡ text_in_arena arena.now span.now) }
 {
     match borrowed_text(arena, span) {
         Some(text) => Ok(Some(String::from_str(alloc, text)?)),

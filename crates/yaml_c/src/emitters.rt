@@ -11,7 +11,7 @@ ghost use Rattle.yaml_c.specs.Answers.{CopiesToCaller, results_done};
 ghost use Rattle.yaml_c.specs.EventRecords as meaning;
 ghost use Rattle.yaml_c.specs.GivenSettings.{settings_given};
 ghost use Rattle.yaml_c.specs.Giving.{GaveRecord};
-ghost use Rattle.yaml_c.specs.Kept.{Changes, Flushes, GivesRecord, IsOpen, MakesEmitter, TakesOutput, TellsError, status_of};
+ghost use Rattle.yaml_c.specs.Kept.{Changes, Flushes, GivesRecord, IsOpenEmitter, MakesEmitter, TakesOutput, TellsError, error_status};
 
 use crate::events::number_of;
 use crate::giving::{Giving, give_record};
@@ -59,8 +59,8 @@ pub extern "C" fn yaml_c_emitter_emit(
     texts: &[u8],
     report: &mut CallResult,
 ) -> i32
-    requires is_open { IsOpen emitter.old.state }
-    ensures { Changes (GivesRecord (meaning.event_of texts.now directives.now event.now) result report.new) emitter.old.state emitter.new.state }
+    requires is_open { IsOpenEmitter emitter.old.state }
+    ensures { Changes (GivesRecord (meaning.event_recorded texts.now directives.now event.now) result report.new) emitter.old.state emitter.new.state }
 {
     let mut boxed = emitter.take(alloc);
     let giving = give_record(alloc, &mut *boxed, texts, directives, event);
@@ -75,7 +75,7 @@ pub extern "C" fn yaml_c_emitter_flush(
     emitter: &mut EmitterHandle,
     report: &mut CallResult,
 ) -> i32
-    requires is_open { IsOpen emitter.old.state }
+    requires is_open { IsOpenEmitter emitter.old.state }
     ensures { Changes (Flushes result report.new) emitter.old.state emitter.new.state }
 {
     let mut boxed = emitter.take(alloc);
@@ -92,7 +92,7 @@ pub extern "C" fn yaml_c_emitter_take_output(
     out: &mut [u8],
     report: &mut CallResult,
 ) -> i32
-    requires is_open { IsOpen emitter.old.state }
+    requires is_open { IsOpenEmitter emitter.old.state }
     ensures { Changes (TakesOutput out.old result out.new report.new) emitter.old.state emitter.new.state }
 {
     let mut boxed = emitter.take(alloc);
@@ -104,7 +104,7 @@ pub extern "C" fn yaml_c_emitter_take_output(
 /// Frees an emitter. See the header.
 #[unsafe(no_mangle)]
 pub extern "C" fn yaml_c_emitter_delete(alloc: Global, emitter: &mut EmitterHandle)
-    requires is_open { IsOpen emitter.old.state }
+    requires is_open { IsOpenEmitter emitter.old.state }
     ensures { emitter.new.state ≡ None }
 {
     emitter.take(alloc).drop();
@@ -167,7 +167,7 @@ fn tell_giving(giving: Giving, report: &mut CallResult) -> i32
 }
 
 pub(crate) fn status_of(error: yaml_error_t) -> i32
-    ensures { result ≡ status_of (Some error) }
+    ensures { result ≡ error_status (Some error) }
 {
     match error {
         yaml_error_t::Memory => NO_MEMORY,

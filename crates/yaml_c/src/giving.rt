@@ -28,7 +28,7 @@ pub(crate) fn give_record<A: Allocator + Copy>(
     event: &EventRecord,
 ) -> Giving
     requires output { emitter.old.has_output ≡ true }
-    ensures gave { GaveRecord (meaning.event_of arena.now directives.now event.now) result emitter.old emitter.new }
+    ensures gave { GaveRecord (meaning.event_recorded arena.now directives.now event.now) result emitter.old emitter.new }
     ensures output { emitter.new.has_output ≡ true }
 {
     match event_of(alloc, arena, directives, event) {

@@ -2,7 +2,7 @@
 ghost use Rattle.std.specs.Prelude.{◌≡◌, true};
 ghost use Rattle.yaml_c.specs.JsonAnswers.{depth_given};
 ghost use Rattle.yaml_c.specs.Arena.{is_off, is_on};
-ghost use Rattle.yaml_c.specs.Kept.{Changes, IsOpen};
+ghost use Rattle.yaml_c.specs.Kept.{Changes, IsOpenEmitter};
 ghost use Rattle.yaml_c.specs.JsonEvents.{GaveJson, GivesJson, TellsJson};
 
 use crate::emitters::status_of;
@@ -26,7 +26,7 @@ pub extern "C" fn yaml_c_emitter_emit_json(
     options: &JsonOptions,
     report: &mut CallResult,
 ) -> i32
-    requires is_open { IsOpen emitter.old.state }
+    requires is_open { IsOpenEmitter emitter.old.state }
     ensures { Changes (GivesJson (depth_given options.now.depth) (is_off options.now.allow_duplicates) (is_on options.now.flow) text.now result
         report.new) emitter.old.state emitter.new.state }
 {

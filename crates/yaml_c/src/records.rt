@@ -59,7 +59,7 @@ fn directive_of<A: Allocator + Copy>(
     arena: &[u8],
     directive: &DirectiveRecord,
 ) -> Result<Option<yaml_tag_directive_t<A>>, AllocError>
-    ensures { IfOk result (λ made. option_map seen_directive made ≡ meaning.directive_of arena.now directive.now) }
+    ensures { IfOk result (λ made. option_map seen_directive made ≡ meaning.directive_recorded arena.now directive.now) }
 {
     let Some(handle) = owned_text(alloc, arena, &directive.handle)? else {
         return Ok(None);
@@ -75,7 +75,7 @@ fn directives_of<A: Allocator + Copy>(
     arena: &[u8],
     directives: &[DirectiveRecord],
 ) -> Result<Option<Vec<yaml_tag_directive_t<A>, A>>, AllocError>
-    ensures { IfOk result (λ made. option_map (λ all. map seen_directive all.items) made ≡ meaning.directives_of arena.now directives.now) }
+    ensures { IfOk result (λ made. option_map (λ all. map seen_directive all.items) made ≡ meaning.directives_recorded arena.now directives.now) }
 {
     let mut all = Vec::new(alloc);
     for directive in directives {
@@ -113,7 +113,7 @@ fn directives_at<A: Allocator + Copy>(
 }
 
 fn version_of(event: &EventRecord) -> Option<yaml_version_directive_t>
-    ensures { option_map seen_version result ≡ meaning.version_of event.now }
+    ensures { option_map seen_version result ≡ meaning.version_recorded event.now }
 {
     if event.has_version == 0 {
         return None;
@@ -125,7 +125,7 @@ fn version_of(event: &EventRecord) -> Option<yaml_version_directive_t>
 }
 
 fn stream_start_of<'a, A: Allocator>(event: &EventRecord) -> Option<GivenEvent<'a, A>>
-    ensures { option_map given_event result ≡ meaning.stream_start_of event.now }
+    ensures { option_map given_event result ≡ meaning.stream_start_recorded event.now }
 {
     let encoding = encoding(event.style)?;
     Some(GivenEvent::Owned(yaml_event_t::YAML_STREAM_START_EVENT { encoding }))
@@ -137,7 +137,7 @@ fn document_start_of<'a, A: Allocator + Copy>(
     directives: &[DirectiveRecord],
     event: &EventRecord,
 ) -> EventOrNone<'a, A>
-    ensures { IfOk result (λ made. option_map given_event made ≡ meaning.document_start_of arena.now directives.now event.now) }
+    ensures { IfOk result (λ made. option_map given_event made ≡ meaning.document_start_recorded arena.now directives.now event.now) }
 {
     match directives_at(alloc, arena, directives, &event.directives) {
         Ok(Some(tag_directives)) => Ok(Some(GivenEvent::Owned(
@@ -153,7 +153,7 @@ fn document_start_of<'a, A: Allocator + Copy>(
 }
 
 fn alias_of<'a, A: Allocator>(alloc: A, arena: &[u8], event: &EventRecord) -> EventOrNone<'a, A>
-    ensures { IfOk result (λ made. option_map given_event made ≡ meaning.alias_of arena.now event.now) }
+    ensures { IfOk result (λ made. option_map given_event made ≡ meaning.alias_recorded arena.now event.now) }
 {
     match owned_text(alloc, arena, &event.anchor) {
         Ok(Some(anchor)) => Ok(Some(GivenEvent::Owned(yaml_event_t::YAML_ALIAS_EVENT { anchor }))),
@@ -175,7 +175,7 @@ fn typed_where(typed: u32, content: ScalarContent<'_>) -> ScalarContent<'_>
 
 /// Returns a scalar, its texts borrowed from the arena.
 fn scalar_of<'a, A: Allocator>(arena: &'a [u8], event: &EventRecord) -> Option<GivenEvent<'a, A>>
-    ensures { option_map given_event result ≡ meaning.scalar_of arena.now event.now }
+    ensures { option_map given_event result ≡ meaning.scalar_recorded arena.now event.now }
 {
     let Some(style) = scalar_style(event.style) else {
         return None;
@@ -225,7 +225,7 @@ fn sequence_of<'a, A: Allocator + Copy>(
     arena: &[u8],
     event: &EventRecord,
 ) -> EventOrNone<'a, A>
-    ensures { IfOk result (λ made. option_map given_event made ≡ option_map sequence_start (meaning.collection_of arena.now event.now)) }
+    ensures { IfOk result (λ made. option_map given_event made ≡ option_map sequence_start (meaning.collection_recorded arena.now event.now)) }
 {
     let Some(style) = sequence_style(event.style) else {
         return Ok(None);
@@ -249,7 +249,7 @@ fn mapping_of<'a, A: Allocator + Copy>(
     arena: &[u8],
     event: &EventRecord,
 ) -> EventOrNone<'a, A>
-    ensures { IfOk result (λ made. option_map given_event made ≡ option_map mapping_start (meaning.collection_of arena.now event.now)) }
+    ensures { IfOk result (λ made. option_map given_event made ≡ option_map mapping_start (meaning.collection_recorded arena.now event.now)) }
 {
     let Some(style) = mapping_style(event.style) else {
         return Ok(None);
@@ -275,8 +275,8 @@ pub(crate) fn event_of<'a, A: Allocator + Copy>(
     directives: &[DirectiveRecord],
     event: &EventRecord,
 ) -> Result<Option<GivenEvent<'a, A>>, AllocError>
-    ensures read { IfOk result (λ made. option_map given_event made ≡ meaning.event_of arena.now directives.now event.now) }
-    ensures no_room { IfErr result (λ error. is_read_scalar (meaning.event_of arena.now directives.now event.now) ≡ false) }
+    ensures read { IfOk result (λ made. option_map given_event made ≡ meaning.event_recorded arena.now directives.now event.now) }
+    ensures no_room { IfErr result (λ error. is_read_scalar (meaning.event_recorded arena.now directives.now event.now) ≡ false) }
 {
     match event.kind {
         1 => Ok(stream_start_of(event)),

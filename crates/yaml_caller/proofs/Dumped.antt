@@ -1,8 +1,8 @@
 -- What the promises of a dump come to for a document that holds itself.
 use Rattle.yaml_caller.proofs.Common.{if◌then◌else◌, ◌==◌, OnOk, None, Result, Err, Ok, length, Bool, false, true, ◌||◌, List, [], ◌++◌, ◌∷◌}
 use Rattle.yaml_caller.proofs.Common.{refl, ◌≡◌, ap, subst, ◌∙◌, All-nil, All-cons, Text, any_style, block, Event, stream_start, stream_end}
-use Rattle.yaml_caller.proofs.Common.{output_of, held_back, AreDumped, GraphNode, Graph, document_event_list, IsDocument, cycle_graph, cycle_bytes}
-use Rattle.yaml_caller.proofs.Common.{cycle_settings, opening, closing, Dumps, StandsAfter, State}
+use Rattle.yaml_caller.proofs.Common.{output_of, held_back, AreDumped, GraphNode, Graph, document_event_list, IsWholeGraph, cycle_graph, cycle_bytes}
+use Rattle.yaml_caller.proofs.Common.{cycle_settings, opening_unless, closing_unless, Dumps, StandsAfter, State}
 use Rattle.yaml_base.proofs.Common.{reads_alike, NumberPair, scalar_held, mapping_held}
 use Rattle.yaml_dump.specs.Dumps.{dumped_events}
 use Rattle.std.specs.Char.{encode_utf8}
@@ -45,15 +45,15 @@ unfolding decimal_digits
 one_dumped =
     record {
       encoding = None;
-      documents = All-cons IsDocument cycle_graph [] (record { whole = refl; has_nodes = refl }) (All-nil IsDocument);
+      documents = All-cons IsWholeGraph cycle_graph [] (record { whole = refl; has_nodes = refl }) (All-nil IsWholeGraph);
       parts = refl;
     }
 
 -- what a dump on a new emitter emits
 pub dumped_is : (graph : Graph) (before : State) → before.opened ≡ false → graph ≡ cycle_graph → dumped_events before graph ≡ dumped_cycle
 dumped_is graph before unopened is =
-    ap (λ (g : Graph). opening before.opened ++ (if length g.nodes == 0 then closing before.closed else document_event_list g)) is
-    ∙ ap (λ (b : Bool). opening b ++ document_event_list cycle_graph) unopened
+    ap (λ (g : Graph). opening_unless before.opened ++ (if length g.nodes == 0 then closing_unless before.closed else document_event_list g)) is
+    ∙ ap (λ (b : Bool). opening_unless b ++ document_event_list cycle_graph) unopened
 
 -- one that returns Ok
 pub after_dump : (graph : Graph) (before after : State) (done : Unit {0}) → before.opened ≡ false → graph ≡ cycle_graph → StandsAfter cycle_settings [] before

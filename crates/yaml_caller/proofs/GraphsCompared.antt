@@ -2,7 +2,8 @@
 use Rattle.yaml_caller.proofs.Common.{ℕ, ◌<◌, if◌then◌else◌, ◌==◌, Decides, is_none, IfErr, OnOk, bytes_eq, None, Some, Result}
 use Rattle.yaml_caller.proofs.Common.{Err, Ok, length, Bool, false, true, List, [], map, ◌++◌, ◌∷◌, ◌⊎◌, refl, ◌≡◌, append-nil, append_assoc, inl, inr}
 use Rattle.yaml_caller.proofs.Common.{ap, subst, sym, ◌∙◌, arith, All-nil, All-cons, bytes_eq-Decides, Event, stream_start, stream_end, AreDumped, GraphsRead}
-use Rattle.yaml_caller.proofs.Common.{bare, GraphNode, Graph, document_event_list, IsDocument, typed_settings, graph_events, IsRefused, opening, closing}
+use Rattle.yaml_caller.proofs.Common.{bare, GraphNode, Graph, document_event_list, IsWholeGraph, typed_settings, graph_events, IsRefused, opening_unless}
+use Rattle.yaml_caller.proofs.Common.{closing_unless}
 use Rattle.yaml_caller.proofs.Common.{Dumps, RefusedAt, Promised, StandsAfter, State, result_of_error}
 use Rattle.yaml_base.proofs.Common.{suc, zero, option_map, eqb-true, ne_eqb, false≢true, label_at, Isomorphic, node_numbered, numbers_in, is_whole, label_of}
 use Rattle.yaml_base.proofs.Common.{IsReached, first_reached, child_reached}
@@ -53,15 +54,15 @@ to_bare first second iso =
 
 -- ---- by their bytes
 
-pub one_dumped : (graph : Graph) → IsDocument (bare graph) → AreDumped (bare graph ∷ []) (graph_events graph)
+pub one_dumped : (graph : Graph) → IsWholeGraph (bare graph) → AreDumped (bare graph ∷ []) (graph_events graph)
 one_dumped graph is =
     record {
       encoding = None;
-      documents = All-cons IsDocument (bare graph) [] is (All-nil IsDocument);
+      documents = All-cons IsWholeGraph (bare graph) [] is (All-nil IsWholeGraph);
       parts = ap (λ events. stream_start None ∷ (events ++ stream_end ∷ [])) (append-nil (document_event_list (bare graph)));
     }
 
-pub graphs_decide : (first second : Graph) (first_bytes second_bytes : List ℕ) (answer : Bool) → IsDocument (bare first) → IsDocument (bare second)
+pub graphs_decide : (first second : Graph) (first_bytes second_bytes : List ℕ) (answer : Bool) → IsWholeGraph (bare first) → IsWholeGraph (bare second)
     → WritesGraph first first_bytes → WritesGraph second second_bytes → answer ≡ bytes_eq first_bytes second_bytes
     → Decides answer (Isomorphic first second)
 graphs_decide first second first_bytes second_bytes answer is also writes writes_also same = (
@@ -129,7 +130,7 @@ abbrev pub Fails : List Event → yaml_error_t → State → Type 0
 Fails events error state = (error ≡ Memory) ⊎ ((length state.page.output ≡ largest_usize) ⊎ AreRefused events error)
 
 -- only an empty tag and too great a depth are refused
-pub refused_named : (graph : Graph) (error : yaml_error_t) → IsDocument (bare graph) → IsRefused graph error → (error ≡ TagEmpty) ⊎ (error ≡ TooDeep)
+pub refused_named : (graph : Graph) (error : yaml_error_t) → IsWholeGraph (bare graph) → IsRefused graph error → (error ≡ TagEmpty) ⊎ (error ≡ TooDeep)
 refused_named graph error is refused =
     let dumped = dumped_stream (bare graph ∷ []) (graph_events graph) (one_dumped graph is) in
     refused_so dumped.stream refused.prefix refused.event refused.later error (refused.parts ∙ sym dumped.is)
@@ -162,8 +163,8 @@ before_end graph = stream_start None ∷ document_event_list (bare graph)
 dumped_is : (graph : Graph) (before : State) → before.opened ≡ false → bare graph ≡ graph → (length graph.nodes == 0) ≡ false
     → dumped_events before graph ≡ before_end graph
 dumped_is graph before unopened is nonempty =
-    ap (λ (b : Bool). opening b ++ (if length graph.nodes == 0 then closing before.closed else document_event_list graph)) unopened
-    ∙ ap (λ (b : Bool). stream_start None ∷ (if b then closing before.closed else document_event_list graph)) nonempty
+    ap (λ (b : Bool). opening_unless b ++ (if length graph.nodes == 0 then closing_unless before.closed else document_event_list graph)) unopened
+    ∙ ap (λ (b : Bool). stream_start None ∷ (if b then closing_unless before.closed else document_event_list graph)) nonempty
     ∙ ap (λ (g : Graph). stream_start None ∷ document_event_list g) (sym is)
 
 pub stands_dumped : (graph : Graph) (before after : State) (done : Unit {0}) → before.opened ≡ false → bare graph ≡ graph
@@ -193,7 +194,7 @@ close_fails graph state (Ok done) promised is = tt
 close_fails graph state (Err error) promised is =
     why_failed (graph_events graph) (graph_events graph) [] state error (append-nil (graph_events graph)) promised (some_from_result state.error error is)
 
-pub close_writes : (graph : Graph) (state : State) (answer : Result (Unit {0}) yaml_error_t) → IsDocument (bare graph)
+pub close_writes : (graph : Graph) (state : State) (answer : Result (Unit {0}) yaml_error_t) → IsWholeGraph (bare graph)
     → Promised typed_settings (graph_events graph) state → answer ≡ result_of_error state.error
     → OnOk answer ((graphs : List Graph) → AreDumped graphs (graph_events graph) → GraphsRead false graphs state.page.output)
     → OnOk answer (WritesGraph graph state.page.output)
@@ -210,7 +211,7 @@ close_writes graph state (Err error) document promised is reads = tt
 pub writes_nodes : (graph : Graph) (bytes : List ℕ) → WritesGraph (bare graph) bytes → WritesGraph graph bytes
 writes_nodes graph bytes writes = record { output = writes.output; reads = writes.reads }
 
-pub is_document : (graph : Graph) → is_whole graph ≡ true → (length graph.nodes == 0) ≡ false → IsDocument (bare graph)
+pub is_document : (graph : Graph) → is_whole graph ≡ true → (length graph.nodes == 0) ≡ false → IsWholeGraph (bare graph)
 is_document graph whole some = record { whole = whole; has_nodes = some }
 
 -- the bytes of a dump that went well
@@ -234,7 +235,7 @@ dump_refused graph made error bytes output answer is failed same few why =
     by (inr (inr refused)) = inr (subst (λ g. IsRefused g error) is refused)
 
 -- a refusal's name
-pub named_so : (graph : Graph) (error : yaml_error_t) → IsDocument (bare graph) → (error ≡ Memory) ⊎ IsRefused graph error
+pub named_so : (graph : Graph) (error : yaml_error_t) → IsWholeGraph (bare graph) → (error ≡ Memory) ⊎ IsRefused graph error
     → (error ≡ Memory) ⊎ ((error ≡ TagEmpty) ⊎ (error ≡ TooDeep))
 named_so graph error is (inl memory) = inl memory
 named_so graph error is (inr refused) = inr (refused_named graph error is refused)

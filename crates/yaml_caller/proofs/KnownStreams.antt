@@ -3,14 +3,14 @@ use Rattle.yaml_caller.proofs.Common.{ℕ, OnOk, None, Result, Err, Ok, true, Li
 use Rattle.yaml_caller.proofs.Common.{Event, output_of, held_back, Settings, cycle_settings}
 use Rattle.yaml_caller.proofs.Common.{Promised, State, result_of_error}
 use Rattle.yaml_base.specs.{declared.errors.yaml_error_t.yaml_error_t}
-use Rattle.yaml_emitter.specs.Promises.{HasRoom, ends_stream, IsWritten}
+use Rattle.yaml_emitter.specs.Promises.{HasRoomAndMemory, ends_stream, IsWritten}
 use Rattle.yaml_pen.proofs.Writing.{none_from_result}
 
 -- a finished stream with no event queued and no error is written whole
 pub whole : (given : Settings) (events : List Event) (state : State) → ends_stream events ≡ true → held_back events ≡ [] → Promised given events state
     → state.error ≡ None → IsWritten given events state
 whole given events state ended ready promised none =
-    let room : HasRoom state.error = subst HasRoom (sym none) tt in
+    let room : HasRoomAndMemory state.error = subst HasRoomAndMemory (sym none) tt in
     let accepted = (promised.ends ended room).1 (none, (promised.held none).held ∙ ready) in
     promised.whole none accepted
 

@@ -3,7 +3,7 @@ use Rattle.yaml_dump.proofs.Common.{suc, zero, ℕ, ◌+◌, ◌-◌, ◌<◌, �
 use Rattle.yaml_dump.proofs.Common.{slice_index_or as get_or, slice_set as set, take, Bool, cond, false, not, true, ◌&&◌, ◌||◌, List, [], map, ◌++◌, ◌∷◌, ◌≢◌}
 use Rattle.yaml_dump.proofs.Common.{refl, ◌≡◌, length-append, length-set, get_or-set_other, get_or-set_same, append-nil, ap, subst, sym, ◌∙◌, arith}
 use Rattle.yaml_dump.proofs.Common.{nat_tests, get_or-map, length-map, map-append, Step, enters, leaves, meets_again, numbered_name, IsNumbered, is_numbered}
-use Rattle.yaml_dump.proofs.Common.{replicate, anchor_of_place, HasPlaces, Places, number_in, seen_step}
+use Rattle.yaml_dump.proofs.Common.{replicate, anchor_of_place, HasPlaces, Places, step_number, seen_step}
 use Rattle.yaml_base.proofs.Common.{nat_lt, filter_map-append, filter, filter_map, position, position_or_len, node_met_again, first_of_each, shared_nodes}
 use Rattle.yaml_base.proofs.Common.{anchor_of}
 use Rattle.std.proofs.lemmas.List.{get_or-replicate, length-replicate}
@@ -11,7 +11,7 @@ use Rattle.std.{proofs.Common.add-one, proofs.Math.Seq.take-append_seam, proofs.
 use Rattle.std.{proofs.lemmas.List.Folds.position_or_len_push, proofs.lemmas.List.Folds.list_all-map, proofs.lemmas.List.Sums.prefix_len-le-length}
 use Rattle.std.{proofs.lemmas.List.Sums.AllPass-from_list_all, specs.List.cons_option}
 use Rattle.yaml_base.proofs.SharedNodes.{has, has_first, has_position}
-use Rattle.yaml_dump.specs.{Anchors.place_in, Events.IsPlaced, declared.steps.Step.TheVariants.Enters, declared.steps.Step.TheVariants.Leaves}
+use Rattle.yaml_dump.specs.{Anchors.place_in, Events.StepIsPlaced, declared.steps.Step.TheVariants.Enters, declared.steps.Step.TheVariants.Leaves}
 use Rattle.yaml_dump.specs.{declared.steps.Step.TheVariants.MeetsAgain}
 use Rattle.yaml_dump.specs.declared.steps.Step as declared
 
@@ -207,11 +207,11 @@ pub step_numbered : (walk : List declared.Step) (count index size : ℕ) (defaul
     → index < length walk → size ≡ count
     → IsNumbered size (seen_step (get_or walk index default))
 step_numbered walk count index size default is inside same =
-    let test = λ (step : Step). nat_le 1 (number_in step) && nat_le (number_in step) count in
+    let test = λ (step : Step). nat_le 1 (step_number step) && nat_le (step_number step) count in
     let each = AllPass-from_list_all (λ (step : declared.Step). test (seen_step step)) walk
     (sym (list_all-map test seen_step walk) ∙ is) index default inside in
-    let both : (1 ≤ number_in (seen_step (get_or walk index default)))
-    × (number_in (seen_step (get_or walk index default)) ≤ count) = bounds count (number_in (seen_step (get_or walk index default))) each in
+    let both : (1 ≤ step_number (seen_step (get_or walk index default)))
+    × (step_number (seen_step (get_or walk index default)) ≤ count) = bounds count (step_number (seen_step (get_or walk index default))) each in
     record { first = both.0; last = omega (arith, both.1) }
 
 -- one more step of a walk
@@ -257,7 +257,7 @@ met_has_place walk index number default inside is =
 -- each step of a walk is numbered, and its node has a place where it is met again
 pub step_placed : (walk : List declared.Step) (count index : ℕ) (places : List ℕ) (default : declared.Step) → is_numbered count (map seen_step walk) ≡ true
     → index < length walk → length places ≡ count → HasPlaces (map seen_step walk) places
-    → IsPlaced places (seen_step (get_or walk index default))
+    → StepIsPlaced places (seen_step (get_or walk index default))
 step_placed walk count index places default is inside same has_places =
     let numbered = step_numbered walk count index (length places) default is inside same in record {
       numbered = numbered;

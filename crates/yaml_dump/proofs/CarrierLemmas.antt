@@ -1,14 +1,16 @@
 -- Which node a name stands for, at each point of a walk.
-use Rattle.yaml_base.proofs.Common.{suc, ℕ, ◌+◌, ◌<◌, ◌≤◌, ◌==◌, count_by, option_map, unwrap_or, Option, None, Some, length, Bool, cond, false, not, true, ◌||◌}
+use Rattle.yaml_base.proofs.Common.{suc, ℕ, ◌+◌, ◌<◌, ◌≤◌, ◌==◌, count_by, option_map, unwrap_or, Option, None, Some, length, Bool, cond, false, not, true}
+use Rattle.yaml_base.proofs.Common.{◌||◌}
 use Rattle.yaml_base.proofs.Common.{List, [], ◌++◌, ◌∷◌, refl, ◌≡◌, eq-eqb, eqb-true, append-nil, append_assoc, inl, inr, ap, subst, sym}
-use Rattle.yaml_base.proofs.Common.{◌∙◌, arith, filter_map, filter_map-append, list_any, list_any-append, position, position_or_len, Text, Graph, Step, enters, meets_again, is_entry_of}
+use Rattle.yaml_base.proofs.Common.{◌∙◌, arith, filter_map, filter_map-append, list_any, list_any-append, position, position_or_len, Text, Graph, Step, enters}
+use Rattle.yaml_base.proofs.Common.{meets_again, is_entry_of}
 use Rattle.yaml_base.proofs.Common.{slice_index_or as get_or, node_met_again, shared_nodes, numbered_name, anchor_of, or-true, or_cases}
 use Rattle.std.proofs.lemmas.List.Quantifiers.{position-Some}
 use Rattle.std.proofs.Common.{get_or-set_other, get_or-set_same, length-set}
 use Rattle.std.specs.Prelude.{slice_set}
 use Rattle.std.proofs.Math.Bool.{or-false}
 use Rattle.yaml_base.specs.Settings.{largest_usize}
-use Rattle.yaml_base.specs.graphs.Meetings.{steps}
+use Rattle.yaml_base.specs.graphs.Meetings.{graph_steps}
 use Rattle.yaml_base.proofs.SharedNodes.{has, shared_named}
 use Rattle.yaml_base.proofs.UnfoldSteps.{FollowEntries, IsOrderly}
 use Rattle.yaml_base.proofs.DocumentsUnfold.{count_cons}
@@ -64,10 +66,11 @@ position_behind number (x ∷ xs) ys none =
       | false ↦ λ later. omega (arith, position_behind number xs ys later)
     ]) none
 
-pub entry_place : (graph : Graph) (before rest : List Step) (number : ℕ) → IsOrderly graph (steps graph) → steps graph ≡ before ++ enters number ∷ rest
-    → place_in (entered (steps graph)) number ≡ suc (length (entered before))
+pub entry_place : (graph : Graph) (before rest : List Step) (number : ℕ) → IsOrderly graph (graph_steps graph)
+    → graph_steps graph ≡ before ++ enters number ∷ rest
+    → place_in (entered (graph_steps graph)) number ≡ suc (length (entered before))
 entry_place graph before rest number orderly is =
-    let new : has number (entered before) ≡ false = entered_has number before ∙ first_entry graph (steps graph) before rest number orderly is in
+    let new : has number (entered before) ≡ false = entered_has number before ∙ first_entry graph (graph_steps graph) before rest number orderly is in
     ap (λ (walk : List Step). place_in (entered walk) number) is
     ∙ ap (λ (order : List ℕ). place_in order number) (filter_map-append _ before (enters number ∷ rest))
     ∙ ap suc (position_behind number (entered before) (entered rest) new)
@@ -121,14 +124,14 @@ name_number walk number name few at =
 
 -- each node that was entered and has a name is what the number of its name leads to
 pub record Carries (graph : Graph) (before : List Step) (carriers : List ℕ) : Type 0 where
-  pub room : length (shared_nodes (steps graph)) < length carriers
-  pub few : length (shared_nodes (steps graph)) ≤ largest_usize
-  pub each : (number : ℕ) (name : Text) → list_any (is_entry_of number) before ≡ true → anchor_of (steps graph) number ≡ Some name
-      → get_or carriers (number_in_name name) 0 ≡ place_in (entered (steps graph)) number
+  pub room : length (shared_nodes (graph_steps graph)) < length carriers
+  pub few : length (shared_nodes (graph_steps graph)) ≤ largest_usize
+  pub each : (number : ℕ) (name : Text) → list_any (is_entry_of number) before ≡ true → anchor_of (graph_steps graph) number ≡ Some name
+      → get_or carriers (number_in_name name) 0 ≡ place_in (entered (graph_steps graph)) number
 
 -- none is entered at first
-pub carries_none : (graph : Graph) (carriers : List ℕ) → length (shared_nodes (steps graph)) < length carriers
-    → length (shared_nodes (steps graph)) ≤ largest_usize → Carries graph [] carriers
+pub carries_none : (graph : Graph) (carriers : List ℕ) → length (shared_nodes (graph_steps graph)) < length carriers
+    → length (shared_nodes (graph_steps graph)) ≤ largest_usize → Carries graph [] carriers
 carries_none graph carriers room few = record { room = room; few = few; each = λ number name there is. cc }
 
 -- where no node is entered
@@ -146,66 +149,68 @@ carries_on graph before step carriers none carries =
 
 -- the name of a node that is entered now leads to it
 now_carried : (graph : Graph) (carriers : List ℕ) (number place other : ℕ) (anchor : Option Text) (name : Text)
-    → length (shared_nodes (steps graph)) < length carriers → length (shared_nodes (steps graph)) ≤ largest_usize
-    → anchor_of (steps graph) number ≡ anchor → anchor ≡ Some name
+    → length (shared_nodes (graph_steps graph)) < length carriers → length (shared_nodes (graph_steps graph)) ≤ largest_usize
+    → anchor_of (graph_steps graph) number ≡ anchor → anchor ≡ Some name
     → get_or (slice_set carriers (number_of_anchor anchor) place) (number_in_name name) 0 ≡ place
 now_carried graph carriers number place other None name room few is also = cc
 now_carried graph carriers number place other (Some stated) name room few is also =
     let same : stated ≡ name = cc in
-    let at = place_of_name (steps graph) number name (is ∙ also) in
+    let at = place_of_name (graph_steps graph) number name (is ∙ also) in
     ap (λ (text : Text). get_or (slice_set carriers (number_in_name text) place) (number_in_name name) 0) same
-    ∙ get_or-set_same carriers (number_in_name name) place 0 (omega (arith, name_number (steps graph) number name few at, at.within, room))
+    ∙ get_or-set_same carriers (number_in_name name) place 0 (omega (arith, name_number (graph_steps graph) number name few at, at.within, room))
 
 -- the names of others lead to where they led
 still_carried : (graph : Graph) (carriers : List ℕ) (number place other : ℕ) (anchor : Option Text) (name : Text)
-    → length (shared_nodes (steps graph)) ≤ largest_usize
-    → anchor_of (steps graph) number ≡ anchor → anchor_of (steps graph) other ≡ Some name → (number ≡ other → ⊥)
+    → length (shared_nodes (graph_steps graph)) ≤ largest_usize
+    → anchor_of (graph_steps graph) number ≡ anchor → anchor_of (graph_steps graph) other ≡ Some name → (number ≡ other → ⊥)
     → get_or (slice_set carriers (number_of_anchor anchor) place) (number_in_name name) 0 ≡ get_or carriers (number_in_name name) 0
 still_carried graph carriers number place other None name few is also differ =
-    let at = place_of_name (steps graph) other name also in
-    get_or-set_other carriers 0 (number_in_name name) place 0 (λ same. omega (arith, same, name_number (steps graph) other name few at))
+    let at = place_of_name (graph_steps graph) other name also in
+    get_or-set_other carriers 0 (number_in_name name) place 0 (λ same. omega (arith, same, name_number (graph_steps graph) other name few at))
 still_carried graph carriers number place other (Some stated) name few is also differ =
-    let at = place_of_name (steps graph) number stated is in
-    let too = place_of_name (steps graph) other name also in
+    let at = place_of_name (graph_steps graph) number stated is in
+    let too = place_of_name (graph_steps graph) other name also in
     get_or-set_other carriers (number_in_name stated) (number_in_name name) place 0
     (λ same.
-    let places : at.place ≡ too.place = omega (arith, same, name_number (steps graph) number stated few at, name_number (steps graph) other name few too) in
-    differ (sym at.number_is ∙ ap (λ (n : ℕ). get_or (shared_nodes (steps graph)) n 0) places ∙ too.number_is))
+    let places : at.place
+    ≡ too.place = omega (arith, same, name_number (graph_steps graph) number stated few at, name_number (graph_steps graph) other name few too) in
+    differ (sym at.number_is ∙ ap (λ (n : ℕ). get_or (shared_nodes (graph_steps graph)) n 0) places ∙ too.number_is))
 
 -- where a node is entered
 pub carries_entry : (graph : Graph) (before : List Step) (number : ℕ) (carriers : List ℕ) → Carries graph before carriers
     → Carries graph (before ++ enters number ∷ [])
-    (slice_set carriers (number_of_anchor (anchor_of (steps graph) number)) (place_in (entered (steps graph)) number))
+    (slice_set carriers (number_of_anchor (anchor_of (graph_steps graph) number)) (place_in (entered (graph_steps graph)) number))
 carries_entry graph before number carriers carries =
-    let place = place_in (entered (steps graph)) number in
+    let place = place_in (entered (graph_steps graph)) number in
     record {
-      room = omega (arith, carries.room, length-set carriers (number_of_anchor (anchor_of (steps graph) number)) place);
+      room = omega (arith, carries.room, length-set carriers (number_of_anchor (anchor_of (graph_steps graph) number)) place);
       few = carries.few;
       each = λ other name there is.
           (elim (other == number) as (λ b. (other == number) ≡ b
-          → get_or (slice_set carriers (number_of_anchor (anchor_of (steps graph) number)) place) (number_in_name name) 0
-          ≡ place_in (entered (steps graph)) other) [
+          → get_or (slice_set carriers (number_of_anchor (anchor_of (graph_steps graph) number)) place) (number_in_name name) 0
+          ≡ place_in (entered (graph_steps graph)) other) [
             | true ↦ λ same.
                 let one : other ≡ number = eqb-true other number same in
-                now_carried graph carriers number place other (anchor_of (steps graph) number) name carries.room carries.few refl
-                (ap (anchor_of (steps graph)) (sym one) ∙ is)
-                ∙ ap (place_in (entered (steps graph))) (sym one)
+                now_carried graph carriers number place other (anchor_of (graph_steps graph) number) name carries.room carries.few refl
+                (ap (anchor_of (graph_steps graph)) (sym one) ∙ is)
+                ∙ ap (place_in (entered (graph_steps graph))) (sym one)
             | false ↦ λ differs.
                 let earlier : list_any (is_entry_of other) before ≡ true =
                 sym (list_any-append (is_entry_of other) before (enters number ∷ [])
                 ∙ ap (λ (b : Bool). list_any (is_entry_of other) before || (b || false)) differs ∙ or-false (list_any (is_entry_of other) before)) ∙ there in
-                still_carried graph carriers number place other (anchor_of (steps graph) number) name carries.few refl is
+                still_carried graph carriers number place other (anchor_of (graph_steps graph) number) name carries.few refl is
                 (λ same. let no : true ≡ false = sym (eq-eqb other number (sym same)) ∙ differs in cc)
                 ∙ carries.each other name earlier is
           ]) refl;
     }
 
 -- an alias leads to the node that it names
-pub alias_carried : (graph : Graph) (before rest : List Step) (number : ℕ) (carriers : List ℕ) → IsOrderly graph (steps graph)
-    → steps graph ≡ before ++ meets_again number ∷ rest → Carries graph before carriers
-    → get_or carriers (number_in_name (unwrap_or (anchor_of (steps graph) number) [])) 0 ≡ place_in (entered (steps graph)) number
+pub alias_carried : (graph : Graph) (before rest : List Step) (number : ℕ) (carriers : List ℕ) → IsOrderly graph (graph_steps graph)
+    → graph_steps graph ≡ before ++ meets_again number ∷ rest → Carries graph before carriers
+    → get_or carriers (number_in_name (unwrap_or (anchor_of (graph_steps graph) number) [])) 0 ≡ place_in (entered (graph_steps graph)) number
 alias_carried graph before rest number carriers orderly is carries =
-    let named = shared_named (steps graph) number (ap (λ (walk : List Step). has number (filter_map node_met_again walk)) is ∙ again_there number before rest) in
+    let named = shared_named (graph_steps graph) number
+    (ap (λ (walk : List Step). has number (filter_map node_met_again walk)) is ∙ again_there number before rest) in
     let there = entered_before number [] before rest (subst (FollowEntries []) is orderly.follow) in
     ap (λ (anchor : Option Text). get_or carriers (number_in_name (unwrap_or anchor [])) 0) named.1
     ∙ carries.each number named.0 there named.1

@@ -11,10 +11,10 @@ pub use Rattle.std.{specs.List.slice_get, specs.Vec.Iter.into_iter_items}
 pub use Rattle.std.proofs.Common.{get_or-set_other, get_or-set_same, length-set, rules, w32}
 pub use Rattle.std.specs.Prelude.{Err, FitsSigned, Ok, Result, Vec, reverse, slice_set, ◌^◌, ◌≢◌, IfSome, OnOk, flat_map}
 pub use Rattle.yaml_base.{proofs.ContentsUnfold.dumped_stream, proofs.DocumentsUnfold.document_unfolds, specs.Seen.seen_event, specs.Seen.seen_events}
-pub use Rattle.yaml_base.{specs.graphs.Documents.graph_of, specs.graphs.Dumped.ContentsUnfold, specs.graphs.Meetings.steps}
+pub use Rattle.yaml_base.{specs.graphs.Documents.graph_of, specs.graphs.Dumped.ContentsUnfold, specs.graphs.Meetings.graph_steps}
 pub use Rattle.yaml_base.{specs.graphs.SeenNodes.seen_number, specs.graphs.Unfolding.content_shape}
-pub use Rattle.yaml_dump.specs.{Events.seen_events_of, GraphTrees.tree_shape, GraphTrees.TreesUnfold, Named.IsNamed, Named.number_in, Named.AreNamed}
+pub use Rattle.yaml_dump.specs.{Events.seen_events_of, GraphTrees.tree_shape, GraphTrees.TreesUnfold, Named.IsNamed, Named.step_number, Named.AreNamed}
 pub use Rattle.yaml_dump.specs.{WalkState.seen_walker, WalkSteps.seen_step}
 pub use Rattle.yaml_dump.specs.Anchors.{IsNumbered, is_numbered, anchor_of_place, HasPlaces, Places}
-pub use Rattle.yaml_dump.specs.Dumps.{EmitsAll, FailsAt, EmitsEach, opening, closing}
+pub use Rattle.yaml_dump.specs.Dumps.{EmitsAll, FailsAt, EmitsEach, opening_unless, closing_unless}
 pub use Rattle.yaml_pen.{proofs.Composing.grows_then, proofs.Writing.none_from_result, proofs.Writing.some_from_result, specs.Wrote.Grows}

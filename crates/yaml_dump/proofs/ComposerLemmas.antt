@@ -1,5 +1,6 @@
 -- What the composer's lists are, as they are seen.
-use Rattle.yaml_base.proofs.Common.{suc, ℕ, ℤ, ◌+◌, ◌*◌, ◌<◌, ◌≤◌, length, replicate, drop, slice_index_or as get_or, List, [], map, ◌∷◌, ◌++◌, refl, ◌≡◌, ap, sym, ◌∙◌, arith, pos, zero}
+use Rattle.yaml_base.proofs.Common.{suc, ℕ, ℤ, ◌+◌, ◌*◌, ◌<◌, ◌≤◌, length, replicate, drop, slice_index_or as get_or, List, [], map, ◌∷◌, ◌++◌, refl, ◌≡◌, ap}
+use Rattle.yaml_base.proofs.Common.{sym, ◌∙◌, arith, pos, zero}
 use Rattle.yaml_base.proofs.Common.{map-append, append_assoc, append-nil, length-map}
 use Rattle.yaml_base.specs.declared.nodes.yaml_node_pair_t.{yaml_node_pair_t}
 use Rattle.yaml_base.specs.graphs.SeenNodes.{seen_pair}

@@ -1,7 +1,10 @@
 -- The document that a list of events composes.
-use Rattle.yaml_base.proofs.Common.{suc, zero, ℕ, ℤ, pos, negsuc, ◌+◌, ◌-◌, ◌≤◌, ◌&&◌, nat_le, option_map, Option, None, Some, length, Bool, cond, true, not, slice_index_or as get_or}
-use Rattle.yaml_base.proofs.Common.{List, [], map, ◌++◌, ◌∷◌, refl, ◌≡◌, and_parts, ap, sym, ◌∙◌, arith, length-append, length-map, flat_map, list_all, if◌then◌else◌}
-use Rattle.yaml_base.proofs.Common.{Event, DocumentStart, document_start, document_end, Graph, GraphNode, numbers_held, is_whole, IsDocument, document_event_list, step_events, fold}
+use Rattle.yaml_base.proofs.Common.{suc, zero, ℕ, ℤ, pos, negsuc, ◌+◌, ◌-◌, ◌≤◌, ◌&&◌, nat_le, option_map, Option, None, Some, length, Bool, cond, true, not}
+use Rattle.yaml_base.proofs.Common.{slice_index_or as get_or}
+use Rattle.yaml_base.proofs.Common.{List, [], map, ◌++◌, ◌∷◌, refl, ◌≡◌, and_parts, ap, sym, ◌∙◌, arith, length-append, length-map, flat_map, list_all}
+use Rattle.yaml_base.proofs.Common.{if◌then◌else◌}
+use Rattle.yaml_base.proofs.Common.{Event, DocumentStart, document_start, document_end, Graph, GraphNode, numbers_held, is_whole, IsWholeGraph}
+use Rattle.yaml_base.proofs.Common.{document_event_list, step_events, fold}
 use Rattle.yaml_base.proofs.Common.{numbers_of_pairs, all_numbers, first_outside, option_or}
 use Rattle.std.proofs.Math.ListN.{get_or-map}
 use Rattle.std.proofs.lemmas.List.Folds.{find-append}
@@ -13,7 +16,7 @@ use Rattle.yaml_base.specs.declared.events.yaml_event_t.{yaml_event_t}
 use Rattle.yaml_base.specs.declared.nodes.yaml_node_data_t.{yaml_node_data_t}
 use Rattle.yaml_base.specs.declared.nodes.yaml_node_pair_t.{yaml_node_pair_t}
 use Rattle.yaml_base.specs.declared.nodes.yaml_node_t.{yaml_node_t}
-use Rattle.yaml_base.specs.graphs.Meetings.{steps}
+use Rattle.yaml_base.specs.graphs.Meetings.{graph_steps}
 use Rattle.yaml_base.specs.graphs.SeenNodes.{seen_number, seen_pair, seen_held, seen_node, names_node, numbers_of}
 use Rattle.std.proofs.lemmas.Result.{IfOk-weaker}
 use Rattle.yaml_base.specs.Seen.{seen_version, seen_directive}
@@ -74,26 +77,26 @@ whole_names graph nodes whole is =
 
 -- those of a document with nodes
 abbrev inside : Graph → List Event
-inside graph = flat_map (step_events graph (steps graph)) (steps graph)
+inside graph = flat_map (step_events graph (graph_steps graph)) (graph_steps graph)
 
-document_is : (graph : Graph) → IsDocument graph
+document_is : (graph : Graph) → IsWholeGraph graph
     → document_event_list graph ≡ document_start graph.start ∷ (inside graph ++ document_end graph.end_implicit ∷ [])
 document_is graph is =
     ap (λ (none : Bool). if none then [] else document_start graph.start ∷ (inside graph ++ document_end graph.end_implicit ∷ [])) is.has_nodes
 
-pub some_events : {A : Type 0} (graph : Graph) (events : List (yaml_event_t A)) → IsDocument graph → document_event_list graph ≡ map seen_event events
+pub some_events : {A : Type 0} (graph : Graph) (events : List (yaml_event_t A)) → IsWholeGraph graph → document_event_list graph ≡ map seen_event events
     → length events ≡ 0 → ⊥
 some_events graph events is same none =
     omega (arith, none, sym (length-map events seen_event) ∙ ap length (sym same ∙ document_is graph is))
 
-pub first_is : {A : Type 0} (graph : Graph) (events : List (yaml_event_t A)) (event : yaml_event_t A) → IsDocument graph
+pub first_is : {A : Type 0} (graph : Graph) (events : List (yaml_event_t A)) (event : yaml_event_t A) → IsWholeGraph graph
     → document_event_list graph ≡ map seen_event events → event ≡ get_or events 0 event → seen_event event ≡ document_start graph.start
 first_is graph events event is same at =
     ap seen_event at
     ∙ sym (get_or-map seen_event events 0 event)
     ∙ ap (λ (list : List Event). get_or list 0 (seen_event event)) (sym same ∙ document_is graph is)
 
-pub last_is : {A : Type 0} (graph : Graph) (events : List (yaml_event_t A)) (place : ℕ) (event : yaml_event_t A) → IsDocument graph
+pub last_is : {A : Type 0} (graph : Graph) (events : List (yaml_event_t A)) (place : ℕ) (event : yaml_event_t A) → IsWholeGraph graph
     → document_event_list graph ≡ map seen_event events → place + 1 ≡ length events → event ≡ get_or events place event
     → seen_event event ≡ document_end graph.end_implicit
 last_is graph events place event is same counted at =
@@ -114,7 +117,7 @@ last_is graph events place event is same counted at =
 -- ---- the whole
 
 -- the nodes that the events compose
-pub nodes_are : {A : Type 0} (graph : Graph) (events : List (yaml_event_t A)) (nodes : List (yaml_node_t A)) → IsDocument graph
+pub nodes_are : {A : Type 0} (graph : Graph) (events : List (yaml_event_t A)) (nodes : List (yaml_node_t A)) → IsWholeGraph graph
     → document_event_list graph ≡ map seen_event events → length events ≤ largest_usize
     → map seen_node nodes ≡ (fold composed (at_start (length events)) (map seen_event events)).nodes → map seen_node nodes ≡ (in_order graph).nodes
 nodes_are graph events nodes is same fits composes =
@@ -122,7 +125,7 @@ nodes_are graph events nodes is same fits composes =
     ∙ ap (λ (list : List Event). (fold composed (at_start (length events)) list).nodes) (sym same)
     ∙ document_composes graph (length events) is (omega (arith, ap length same, length-map events seen_event)) fits
 
-pub whole_in_order : (graph : Graph) → IsDocument graph → is_whole (in_order graph) ≡ true
+pub whole_in_order : (graph : Graph) → IsWholeGraph graph → is_whole (in_order graph) ≡ true
 whole_in_order graph is = (in_order_document graph (walk_of graph is)).whole
 
 -- a document of these parts is that of the graph
@@ -158,7 +161,7 @@ none_first zero some = absurd (some refl)
 none_first (suc count) some = omega arith
 
 -- the place of the last event
-pub last_place : {A : Type 0} (graph : Graph) (events : List (yaml_event_t A)) → IsDocument graph → document_event_list graph ≡ map seen_event events
+pub last_place : {A : Type 0} (graph : Graph) (events : List (yaml_event_t A)) → IsWholeGraph graph → document_event_list graph ≡ map seen_event events
     → length events - 1 + 1 ≡ length events
 last_place graph events is same = none_first (length events) (some_events graph events is same)
 
@@ -178,7 +181,7 @@ pub composed_so : {A E : Type 0} (events : List (yaml_event_t A)) (first last : 
     → map seen_node nodes ≡ (fold composed (at_start (length events)) (map seen_event events)).nodes
     → IfOk answer (λ made. (graph : Graph) → is_whole graph ≡ true → seen_heading heading ≡ graph.start → map seen_node nodes ≡ graph.nodes
     → end ≡ graph.end_implicit → option_map graph_of made ≡ Some graph)
-    → IfOk answer (λ made. (graph : Graph) → IsDocument graph → document_event_list graph ≡ map seen_event events
+    → IfOk answer (λ made. (graph : Graph) → IsWholeGraph graph → document_event_list graph ≡ map seen_event events
     → option_map graph_of made ≡ Some (in_order graph))
 composed_so events first last found heading ended end nodes answer fits at also starts has_heading ends has_end composes made =
     IfOk-weaker answer _ _
@@ -198,7 +201,7 @@ graph_found found document graph is at =
 
 -- and has its events
 pub events_found : {A : Type 0} (found : Option (yaml_document_t A)) (document : yaml_document_t A) (graph : Graph) (events dumped : List Event)
-    → IsDocument graph → document_event_list graph ≡ events → option_map graph_of found ≡ Some (in_order graph) → found ≡ Some document
+    → IsWholeGraph graph → document_event_list graph ≡ events → option_map graph_of found ≡ Some (in_order graph) → found ≡ Some document
     → dumped ≡ document_event_list (graph_of document) → dumped ≡ events
 events_found found document graph events dumped is same known at dumps =
     dumps ∙ ap document_event_list (graph_found found document (in_order graph) known at) ∙ in_order_events graph is ∙ same

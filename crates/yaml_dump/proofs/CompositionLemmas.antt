@@ -1,14 +1,15 @@
 -- The events of a document compose its nodes, in the order of its walk.
 use Rattle.yaml_base.proofs.Common.{suc, ℕ, ◌+◌, unwrap_or, Option, Some, length}
 use Rattle.yaml_base.proofs.Common.{List, [], map, ◌++◌, ◌∷◌, refl, ◌≡◌, length-append, append-nil, append_assoc, ap, subst, sym, ◌∙◌, arith, map-append}
-use Rattle.yaml_base.proofs.Common.{flat_map, flat_map-append, filter_map-append, fold, Text, Graph, GraphNode, NumberPair, Held, scalar_held, sequence_held, mapping_held, numbers_held}
+use Rattle.yaml_base.proofs.Common.{flat_map, flat_map-append, filter_map-append, fold, Text, Graph, GraphNode, NumberPair, Held, scalar_held, sequence_held}
+use Rattle.yaml_base.proofs.Common.{mapping_held, numbers_held}
 use Rattle.yaml_base.proofs.Common.{Step, enters, leaves, meets_again, anchor_of, node_numbered, children}
 use Rattle.yaml_base.proofs.Common.{alias, opening_event_of, opening_events, closing_event_of, closing_events, step_events}
 use Rattle.yaml_base.proofs.Common.{PlacedNodes, none_placed, placed_and, number_at, numbers_at}
 use Rattle.std.specs.Prelude.{slice_set}
 use Rattle.std.proofs.lemmas.List.Sums.{fold-append}
 use Rattle.std.proofs.Math.Seq.{set-append_seam}
-use Rattle.yaml_base.specs.graphs.Meetings.{steps}
+use Rattle.yaml_base.specs.graphs.Meetings.{graph_steps}
 use Rattle.yaml_base.proofs.UnfoldSteps.{IsOrderly}
 use Rattle.yaml_dump.specs.InOrder.{entered, place_in, held_by, node_by, node_at, nodes_in}
 use Rattle.yaml_dump.specs.Composition.{Composition, Unended, adding, begun, opened, ended, composed, paired, held_with, node_at_place, number_of_anchor}
@@ -17,7 +18,7 @@ use Rattle.yaml_dump.proofs.CarrierLemmas.{Carries, carries_on, carries_entry, a
 -- ---- what a composition stands at
 
 abbrev pub order_of : Graph → List ℕ
-order_of graph = entered (steps graph)
+order_of graph = entered (graph_steps graph)
 
 -- behind some steps of the walk
 pub record StandsBehind (graph : Graph) (before : List Step) (standing : Composition) : Type 0 where
@@ -65,10 +66,10 @@ composes_then graph before first second some others standing next last one two =
 
 -- ---- a node that is met again
 
-pub alias_composes : (graph : Graph) (before after : List Step) (number : ℕ) (name : Text) (standing : Composition) → IsOrderly graph (steps graph)
-    → steps graph ≡ before ++ meets_again number ∷ after → StandsBehind graph before standing
+pub alias_composes : (graph : Graph) (before after : List Step) (number : ℕ) (name : Text) (standing : Composition) → IsOrderly graph (graph_steps graph)
+    → graph_steps graph ≡ before ++ meets_again number ∷ after → StandsBehind graph before standing
     → Composes graph before (meets_again number ∷ []) (place_in (order_of graph) number ∷ []) standing
-    (composed standing (alias (unwrap_or (anchor_of (steps graph) number) [])))
+    (composed standing (alias (unwrap_or (anchor_of (graph_steps graph) number) [])))
 alias_composes graph before after number name standing orderly is stands =
     record {
       nodes = sym (append-nil standing.nodes);
@@ -102,9 +103,9 @@ filled_by place (sequence_held items style) = refl
 filled_by place (mapping_held pairs style) = ap (λ (numbers : List NumberPair). mapping_held numbers style) (paired_numbers place pairs)
 
 -- a node begins behind the steps before
-begun_stands : (graph : Graph) (before after : List Step) (number : ℕ) (tag : Text) (held : Held) (standing : Composition) → IsOrderly graph (steps graph)
-    → steps graph ≡ before ++ enters number ∷ after → StandsBehind graph before standing
-    → StandsBehind graph (before ++ enters number ∷ []) (begun (anchor_of (steps graph) number) tag held standing)
+begun_stands : (graph : Graph) (before after : List Step) (number : ℕ) (tag : Text) (held : Held) (standing : Composition) → IsOrderly graph (graph_steps graph)
+    → graph_steps graph ≡ before ++ enters number ∷ after → StandsBehind graph before standing
+    → StandsBehind graph (before ++ enters number ∷ []) (begun (anchor_of (graph_steps graph) number) tag held standing)
 begun_stands graph before after number tag held standing orderly is stands =
     let place : place_in (order_of graph) number ≡ suc (length standing.nodes) =
     entry_place graph before after number orderly is ∙ ap suc (sym stands.counted) in
@@ -114,7 +115,7 @@ begun_stands graph before after number tag held standing orderly is stands =
           ∙ sym (length-append (entered before) (number ∷ []))
           ∙ ap length (sym (filter_map-append _ before (enters number ∷ [])));
       carries = subst (λ (child : ℕ). Carries graph (before ++ enters number ∷ [])
-          (slice_set standing.carriers (number_of_anchor (anchor_of (steps graph) number)) child)) place
+          (slice_set standing.carriers (number_of_anchor (anchor_of (graph_steps graph) number)) child)) place
           (carries_entry graph before number standing.carriers stands.carries);
     }
 
@@ -135,21 +136,22 @@ one_in_order graph number node is = ap (λ (found : Option GraphNode). node_by (
 
 -- ---- scalars
 
-pub scalar_composes : (graph : Graph) (before after : List Step) (number : ℕ) (tag : Text) (held : Held) (standing : Composition) → IsOrderly graph (steps graph)
-    → steps graph ≡ before ++ enters number ∷ (leaves number ∷ after) → StandsBehind graph before standing
+pub scalar_composes : (graph : Graph) (before after : List Step) (number : ℕ) (tag : Text) (held : Held) (standing : Composition)
+    → IsOrderly graph (graph_steps graph)
+    → graph_steps graph ≡ before ++ enters number ∷ (leaves number ∷ after) → StandsBehind graph before standing
     → node_numbered graph number ≡ Some (record { tag = tag; held = held }) → held_by (place_in (order_of graph)) held ≡ held
     → Composes graph before (enters number ∷ leaves number ∷ []) (place_in (order_of graph) number ∷ []) standing
-    (begun (anchor_of (steps graph) number) tag held standing)
+    (begun (anchor_of (graph_steps graph) number) tag held standing)
 scalar_composes graph before after number tag held standing orderly is stands node same =
     record {
       nodes = ap (λ (now : Held). standing.nodes ++ record { tag = tag; held = now } ∷ []) (sym same)
           ∙ ap (λ (nodes : List GraphNode). standing.nodes ++ nodes) (sym (one_in_order graph number (record { tag = tag; held = held }) node));
       unended = ap (λ (child : ℕ). adding (child ∷ []) standing.unended)
           (sym (entry_place graph before (leaves number ∷ after) number orderly is ∙ ap suc (sym stands.counted)));
-      stands = subst (λ (so_far : List Step). StandsBehind graph so_far (begun (anchor_of (steps graph) number) tag held standing))
+      stands = subst (λ (so_far : List Step). StandsBehind graph so_far (begun (anchor_of (graph_steps graph) number) tag held standing))
           (append_assoc before (enters number ∷ []) (leaves number ∷ []))
-          (left_stands graph (before ++ enters number ∷ []) number (begun (anchor_of (steps graph) number) tag held standing)
-          (begun (anchor_of (steps graph) number) tag held standing) refl refl
+          (left_stands graph (before ++ enters number ∷ []) number (begun (anchor_of (graph_steps graph) number) tag held standing)
+          (begun (anchor_of (graph_steps graph) number) tag held standing) refl refl
           (begun_stands graph before (leaves number ∷ after) number tag held standing orderly is stands));
     }
 
@@ -186,10 +188,10 @@ ended_so first tag held below children outer next nodes unended =
 
 -- behind a collection that was opened and its children
 pub collection_composes : (graph : Graph) (before below after : List Step) (number : ℕ) (tag : Text) (held : Held) (standing next : Composition)
-    → IsOrderly graph (steps graph) → steps graph ≡ before ++ enters number ∷ (below ++ leaves number ∷ after) → StandsBehind graph before standing
+    → IsOrderly graph (graph_steps graph) → graph_steps graph ≡ before ++ enters number ∷ (below ++ leaves number ∷ after) → StandsBehind graph before standing
     → node_numbered graph number ≡ Some (record { tag = tag; held = held })
     → Composes graph (before ++ enters number ∷ []) below (map (place_in (order_of graph)) (numbers_held held))
-    (opened (anchor_of (steps graph) number) tag (emptied held) standing) next
+    (opened (anchor_of (graph_steps graph) number) tag (emptied held) standing) next
     → Composes graph before (enters number ∷ (below ++ leaves number ∷ [])) (place_in (order_of graph) number ∷ []) standing (ended next.unended next)
 collection_composes graph before below after number tag held standing next orderly is stands node inner =
     let place = place_in (order_of graph) in
@@ -220,9 +222,10 @@ collection_composes graph before below after number tag held standing next order
     })
 
 -- a collection that opens stands as the node that begins
-pub opened_stands : (graph : Graph) (before after : List Step) (number : ℕ) (tag : Text) (held : Held) (standing : Composition) → IsOrderly graph (steps graph)
-    → steps graph ≡ before ++ enters number ∷ after → StandsBehind graph before standing
-    → StandsBehind graph (before ++ enters number ∷ []) (opened (anchor_of (steps graph) number) tag held standing)
+pub opened_stands : (graph : Graph) (before after : List Step) (number : ℕ) (tag : Text) (held : Held) (standing : Composition)
+    → IsOrderly graph (graph_steps graph)
+    → graph_steps graph ≡ before ++ enters number ∷ after → StandsBehind graph before standing
+    → StandsBehind graph (before ++ enters number ∷ []) (opened (anchor_of (graph_steps graph) number) tag held standing)
 opened_stands graph before after number tag held standing orderly is stands =
     let begins = begun_stands graph before after number tag held standing orderly is stands in
     record { counted = begins.counted; carries = begins.carries }
@@ -231,20 +234,20 @@ opened_stands graph before after number tag held standing orderly is stands =
 
 -- behind the events of some steps
 abbrev pub behind : Graph → List Step → Composition → Composition
-behind graph part standing = fold composed standing (flat_map (step_events graph (steps graph)) part)
+behind graph part standing = fold composed standing (flat_map (step_events graph (graph_steps graph)) part)
 
 pub behind_both : (graph : Graph) (first second : List Step) (standing : Composition)
     → behind graph (first ++ second) standing ≡ behind graph second (behind graph first standing)
 behind_both graph first second standing =
-    ap (fold composed standing) (flat_map-append (step_events graph (steps graph)) first second)
-    ∙ fold-append composed standing (flat_map (step_events graph (steps graph)) first) (flat_map (step_events graph (steps graph)) second)
+    ap (fold composed standing) (flat_map-append (step_events graph (graph_steps graph)) first second)
+    ∙ fold-append composed standing (flat_map (step_events graph (graph_steps graph)) first) (flat_map (step_events graph (graph_steps graph)) second)
 
 pub behind_entry : (graph : Graph) (number : ℕ) (node : GraphNode) (part : List Step) (standing : Composition) → node_numbered graph number ≡ Some node
     → behind graph (enters number ∷ part) standing
-    ≡ behind graph part (composed standing (opening_event_of (anchor_of (steps graph) number) node.tag node.held))
+    ≡ behind graph part (composed standing (opening_event_of (anchor_of (graph_steps graph) number) node.tag node.held))
 behind_entry graph number node part standing is =
     ap (λ (found : Option GraphNode). fold composed standing
-    (opening_events (anchor_of (steps graph) number) found ++ flat_map (step_events graph (steps graph)) part)) is
+    (opening_events (anchor_of (graph_steps graph) number) found ++ flat_map (step_events graph (graph_steps graph)) part)) is
 
 pub behind_leave : (graph : Graph) (number : ℕ) (node : GraphNode) (standing : Composition) → node_numbered graph number ≡ Some node
     → behind graph (leaves number ∷ []) standing ≡ fold composed standing (closing_event_of node.held)

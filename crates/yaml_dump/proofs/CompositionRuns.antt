@@ -1,23 +1,26 @@
 -- The events of a document compose the nodes that its walk enters.
 use Rattle.yaml_base.proofs.Common.{suc, ℕ, ◌<◌, ◌≤◌, ◌==◌, Option, None, Some, length, replicate, Bool, false, true, if◌then◌else◌, cond, not}
 use Rattle.yaml_base.proofs.Common.{List, [], map, ◌++◌, ◌∷◌, refl, ◌≡◌, length-append, append-nil, append_assoc, ap, subst, sym, ◌∙◌, arith, map-append}
-use Rattle.yaml_base.proofs.Common.{flat_map, filter, filter_map, fold, Text, Graph, GraphNode, Held, scalar_held, sequence_held, mapping_held, numbers_held, document_event_list}
-use Rattle.yaml_base.proofs.Common.{Step, enters, leaves, meets_again, anchor_of, shared_nodes, first_of_each, node_met_again, node_numbered, children, step_events}
+use Rattle.yaml_base.proofs.Common.{flat_map, filter, filter_map, fold, Text, Graph, GraphNode, Held, scalar_held, sequence_held, mapping_held, numbers_held}
+use Rattle.yaml_base.proofs.Common.{document_event_list}
+use Rattle.yaml_base.proofs.Common.{Step, enters, leaves, meets_again, anchor_of, shared_nodes, first_of_each, node_met_again, node_numbered, children}
+use Rattle.yaml_base.proofs.Common.{step_events}
 use Rattle.yaml_base.proofs.Common.{Event, document_start, document_end}
-use Rattle.yaml_base.proofs.Common.{Placed, alias_placed, node_placed, PlacedNodes, none_placed, placed_and, number_at, numbers_at, IsDocument}
+use Rattle.yaml_base.proofs.Common.{Placed, alias_placed, node_placed, PlacedNodes, none_placed, placed_and, number_at, numbers_at, IsWholeGraph}
 use Rattle.yaml_base.specs.Settings.{largest_usize}
 use Rattle.std.proofs.lemmas.List.Sums.{fold-append}
 use Rattle.yaml_base.proofs.Common.{ScalarStyle, opening_event_of, closing_event_of}
 use Rattle.yaml_dump.specs.Composition.{begun}
 use Rattle.std.proofs.lemmas.List.{length-replicate}
-use Rattle.yaml_base.specs.graphs.Meetings.{steps}
+use Rattle.yaml_base.specs.graphs.Meetings.{graph_steps}
 use Rattle.yaml_base.proofs.UnfoldSteps.{IsOrderly}
 use Rattle.yaml_base.proofs.UnfoldTrees.{placed_steps, below_steps, Fits, AllFit}
 use Rattle.yaml_dump.specs.InOrder.{entered, place_in, nodes_in, in_order}
 use Rattle.yaml_dump.specs.Composition.{Composition, opened, ended, composed, at_start}
 use Rattle.yaml_dump.proofs.InOrderLemmas.{walk_of}
 use Rattle.yaml_dump.proofs.CarrierLemmas.{carries_none}
-use Rattle.yaml_dump.proofs.CompositionLemmas.{order_of, StandsBehind, Composes, composes_none, composes_then, alias_composes, scalar_composes, emptied, collection_composes}
+use Rattle.yaml_dump.proofs.CompositionLemmas.{order_of, StandsBehind, Composes, composes_none, composes_then, alias_composes, scalar_composes, emptied}
+use Rattle.yaml_dump.proofs.CompositionLemmas.{collection_composes}
 use Rattle.yaml_dump.proofs.CompositionLemmas.{opened_stands, behind, behind_both, behind_entry, behind_leave, none_below}
 
 -- the steps of a node, and those after them
@@ -31,7 +34,7 @@ regrouped before below after number = ap (λ (rest : List Step). before ++ enter
 -- behind a collection: it was opened, its children came, it ended
 behind_collection : (graph : Graph) (number : ℕ) (node : GraphNode) (below : List Step) (standing first last : Composition)
     → node_numbered graph number ≡ Some node
-    → composed standing (opening_event_of (anchor_of (steps graph) number) node.tag node.held) ≡ first
+    → composed standing (opening_event_of (anchor_of (graph_steps graph) number) node.tag node.held) ≡ first
     → fold composed (behind graph below first) (closing_event_of node.held) ≡ last
     → behind graph (enters number ∷ (below ++ leaves number ∷ [])) standing ≡ last
 behind_collection graph number node below standing first last is opens closes =
@@ -42,19 +45,20 @@ behind_collection graph number node below standing first last is opens closes =
     ∙ closes
 
 collection_runs : (graph : Graph) (before after : List Step) (number : ℕ) (below : PlacedNodes) (tag : Text) (held : Held) (standing : Composition)
-    → IsOrderly graph (steps graph)
-    → steps graph ≡ before ++ (over_node number below ++ after) → StandsBehind graph before standing
+    → IsOrderly graph (graph_steps graph)
+    → graph_steps graph ≡ before ++ (over_node number below ++ after) → StandsBehind graph before standing
     → node_numbered graph number ≡ Some (record { tag = tag; held = held }) → numbers_at below ≡ numbers_held held
     → ((next : Composition) → StandsBehind graph (before ++ enters number ∷ []) next
     → Composes graph (before ++ enters number ∷ []) (below_steps below) (map (place_in (order_of graph)) (numbers_at below)) next
     (behind graph (below_steps below) next))
-    → ((next : Composition) → composed next (opening_event_of (anchor_of (steps graph) number) tag held)
-    ≡ opened (anchor_of (steps graph) number) tag (emptied held) next)
+    → ((next : Composition) → composed next (opening_event_of (anchor_of (graph_steps graph) number) tag held)
+    ≡ opened (anchor_of (graph_steps graph) number) tag (emptied held) next)
     → ((next : Composition) → fold composed next (closing_event_of held) ≡ ended next.unended next)
     → Composes graph before (over_node number below) (place_in (order_of graph) number ∷ []) standing (behind graph (over_node number below) standing)
 collection_runs graph before after number below tag held standing orderly is stands node numbers inner opens closes =
-    let turns : steps graph ≡ before ++ enters number ∷ (below_steps below ++ leaves number ∷ after) = is ∙ regrouped before (below_steps below) after number in
-    let first = opened (anchor_of (steps graph) number) tag (emptied held) standing in
+    let turns : graph_steps graph ≡ before ++ enters number ∷ (below_steps below ++ leaves number ∷ after) = is
+    ∙ regrouped before (below_steps below) after number in
+    let first = opened (anchor_of (graph_steps graph) number) tag (emptied held) standing in
     let next = behind graph (below_steps below) first in
     let all = behind_collection graph number (record { tag = tag; held = held }) (below_steps below) standing first (ended next.unended next) node (opens standing)
     (closes next) in
@@ -65,19 +69,19 @@ collection_runs graph before after number below tag held standing orderly is sta
     children))
 
 scalar_runs : (graph : Graph) (before after : List Step) (number : ℕ) (tag : Text) (value : Text) (style : ScalarStyle) (standing : Composition)
-    → IsOrderly graph (steps graph)
-    → steps graph ≡ before ++ (over_node number none_placed ++ after) → StandsBehind graph before standing
+    → IsOrderly graph (graph_steps graph)
+    → graph_steps graph ≡ before ++ (over_node number none_placed ++ after) → StandsBehind graph before standing
     → node_numbered graph number ≡ Some (record { tag = tag; held = scalar_held value style })
     → Composes graph before (over_node number none_placed) (place_in (order_of graph) number ∷ []) standing (behind graph (over_node number none_placed) standing)
 scalar_runs graph before after number tag value style standing orderly is stands node =
-    let last = begun (anchor_of (steps graph) number) tag (scalar_held value style) standing in
+    let last = begun (anchor_of (graph_steps graph) number) tag (scalar_held value style) standing in
     subst (Composes graph before (over_node number none_placed) (place_in (order_of graph) number ∷ []) standing)
     (sym (behind_collection graph number (record { tag = tag; held = scalar_held value style }) [] standing last last node refl refl))
     (scalar_composes graph before after number tag (scalar_held value style) standing orderly is stands node refl)
 
 node_runs : (graph : Graph) (before after : List Step) (number : ℕ) (below : PlacedNodes) (tag : Text) (held : Held) (standing : Composition)
-    → IsOrderly graph (steps graph)
-    → steps graph ≡ before ++ (over_node number below ++ after) → StandsBehind graph before standing
+    → IsOrderly graph (graph_steps graph)
+    → graph_steps graph ≡ before ++ (over_node number below ++ after) → StandsBehind graph before standing
     → node_numbered graph number ≡ Some (record { tag = tag; held = held }) → numbers_at below ≡ numbers_held held
     → ((next : Composition) → StandsBehind graph (before ++ enters number ∷ []) next
     → Composes graph (before ++ enters number ∷ []) (below_steps below) (map (place_in (order_of graph)) (numbers_at below)) next
@@ -88,7 +92,7 @@ node_runs graph before after number below tag (scalar_held value style) standing
     subst (λ (all : PlacedNodes). Composes graph before (over_node number all) (place_in (order_of graph) number ∷ []) standing
     (behind graph (over_node number all) standing)) (sym none)
     (scalar_runs graph before after number tag value style standing orderly
-    (subst (λ (all : PlacedNodes). steps graph ≡ before ++ (over_node number all ++ after)) none is) stands node)
+    (subst (λ (all : PlacedNodes). graph_steps graph ≡ before ++ (over_node number all ++ after)) none is) stands node)
 node_runs graph before after number below tag (sequence_held items style) standing orderly is stands node numbers inner =
     collection_runs graph before after number below tag (sequence_held items style) standing orderly is stands node numbers inner (λ next. refl) (λ next. refl)
 node_runs graph before after number below tag (mapping_held pairs style) standing orderly is stands node numbers inner =
@@ -98,8 +102,8 @@ children_of : (graph : Graph) (number : ℕ) (node : GraphNode) → node_numbere
 children_of graph number node is = ap (λ (found : Option GraphNode). elim found as (λ _. List ℕ) [ None ↦ [] | Some one ↦ numbers_held one.held ]) is
 
 mutual
-  pub tree_runs : (graph : Graph) (placed : Placed) (before after : List Step) (standing : Composition) → IsOrderly graph (steps graph)
-      → steps graph ≡ before ++ (placed_steps placed ++ after) → Fits (anchor_of (steps graph)) graph placed → StandsBehind graph before standing
+  pub tree_runs : (graph : Graph) (placed : Placed) (before after : List Step) (standing : Composition) → IsOrderly graph (graph_steps graph)
+      → graph_steps graph ≡ before ++ (placed_steps placed ++ after) → Fits (anchor_of (graph_steps graph)) graph placed → StandsBehind graph before standing
       → Composes graph before (placed_steps placed) (place_in (order_of graph) (number_at placed) ∷ []) standing (behind graph (placed_steps placed) standing)
   tree_runs graph (alias_placed name number) before after standing orderly is fits stands =
       alias_composes graph before after number name standing orderly is stands
@@ -112,8 +116,8 @@ mutual
       ∙ sym (append_assoc before (enters number ∷ []) (below_steps below ++ leaves number ∷ after)))
       fits.3 behind_entry)
 
-  below_runs : (graph : Graph) (below : PlacedNodes) (before after : List Step) (standing : Composition) → IsOrderly graph (steps graph)
-      → steps graph ≡ before ++ (below_steps below ++ after) → AllFit (anchor_of (steps graph)) graph below → StandsBehind graph before standing
+  below_runs : (graph : Graph) (below : PlacedNodes) (before after : List Step) (standing : Composition) → IsOrderly graph (graph_steps graph)
+      → graph_steps graph ≡ before ++ (below_steps below ++ after) → AllFit (anchor_of (graph_steps graph)) graph below → StandsBehind graph before standing
       → Composes graph before (below_steps below) (map (place_in (order_of graph)) (numbers_at below)) standing (behind graph (below_steps below) standing)
   below_runs graph none_placed before after standing orderly is fit stands = composes_none graph before standing stands
   below_runs graph (placed_and earlier last) before after standing orderly is fit stands =
@@ -164,21 +168,21 @@ again_fewer graph walk (meets_again number ∷ part) = omega (arith, again_fewer
 -- ---- the law
 
 -- the events of a document, from its start to its end, compose its nodes in the order of the walk
-pub document_composes : (graph : Graph) (count : ℕ) → IsDocument graph → length (document_event_list graph) ≤ count → count ≤ largest_usize
+pub document_composes : (graph : Graph) (count : ℕ) → IsWholeGraph graph → length (document_event_list graph) ≤ count → count ≤ largest_usize
     → (fold composed (at_start count) (document_event_list graph)).nodes ≡ (in_order graph).nodes
 document_composes graph count is few fits =
     let walked = walk_of graph is in
-    let inside = flat_map (step_events graph (steps graph)) (steps graph) in
+    let inside = flat_map (step_events graph (graph_steps graph)) (graph_steps graph) in
     let events : document_event_list graph ≡ document_start graph.start ∷ (inside ++ document_end graph.end_implicit ∷ []) =
     ap (λ (none : Bool). if none then [] else document_start graph.start ∷ (inside ++ document_end graph.end_implicit ∷ [])) is.has_nodes in
-    let shared : length (shared_nodes (steps graph)) < count =
+    let shared : length (shared_nodes (graph_steps graph)) < count =
     omega (
       arith,
       few,
       ap length events,
       length-append inside (document_end graph.end_implicit ∷ []),
-      again_fewer graph (steps graph) (steps graph),
-      firsts_shorter (filter_map node_met_again (steps graph)),
+      again_fewer graph (graph_steps graph) (graph_steps graph),
+      firsts_shorter (filter_map node_met_again (graph_steps graph)),
     ) in
     let stands : StandsBehind graph [] (at_start count) =
     record {

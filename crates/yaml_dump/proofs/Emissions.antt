@@ -9,9 +9,11 @@ use Rattle.yaml_pen.proofs.Writing.{some_from_result}
 use Rattle.yaml_emitter.proofs.standing.Moving.{moved_promised, moves_flagged, moves_nothing, moves_then, moves_under}
 use Rattle.yaml_emitter.proofs.standing.StandingFlagged.{stands_flagged}
 use Rattle.yaml_emitter.specs.Moves.{Moves}
-use Rattle.std.{proofs.Math.Bool.or-false, specs.Prelude.Err, specs.Prelude.Ok, specs.Prelude.Result, specs.Prelude.IsSome, specs.Prelude.OnOk, specs.Prelude.OnErr}
+use Rattle.std.{proofs.Math.Bool.or-false, specs.Prelude.Err, specs.Prelude.Ok, specs.Prelude.Result, specs.Prelude.IsSome, specs.Prelude.OnOk}
+use Rattle.std.{specs.Prelude.OnErr}
 use Rattle.yaml_base.specs.{declared.errors.yaml_error_t.yaml_error_t, declared.events.yaml_event_t.yaml_event_t}
-use Rattle.yaml_dump.specs.Dumps.{EmitsAll, FailsAt, EmitsEach, OpensFrom, ClosesFrom, Closes, DumpsEvents, has_some, opening, closing, dump_events}
+use Rattle.yaml_dump.specs.Dumps.{EmitsAll, FailsAt, EmitsEach, OpensFrom, ClosesFrom, Closes, DumpsEvents, has_some, opening_unless, closing_unless}
+use Rattle.yaml_dump.specs.Dumps.{dump_events}
 use Rattle.yaml_dump.specs.DumpsTell.{IsBegun, KeepsRest}
 
 -- a call that answers Ok found no error
@@ -36,7 +38,7 @@ closed_already before closed = subst (λ (b : Bool). ClosesFrom b before (Ok tt)
 
 -- the start, where the stream isn't opened
 pub emits_opening : (before middle : State) (done : Unit {0}) (opened : Bool) → before.opened ≡ opened → before.error ≡ None
-    → OpensFrom opened before (Ok done) middle → EmitsAll (record before { opened = true }) (opening opened) middle
+    → OpensFrom opened before (Ok done) middle → EmitsAll (record before { opened = true }) (opening_unless opened) middle
 emits_opening before middle done true is none opens =
     record {
       moves =
@@ -48,7 +50,7 @@ emits_opening before middle done false is none opens = record { moves = opens; u
 
 -- the end, where it isn't closed
 pub emits_closing : (before after : State) (answer : Result (Unit {0}) yaml_error_t) (closed : Bool) → before.error ≡ None
-    → ClosesFrom closed before answer after → EmitsEach (record before { closed = after.closed }) (closing closed) answer after
+    → ClosesFrom closed before answer after → EmitsEach (record before { closed = after.closed }) (closing_unless closed) answer after
 emits_closing before after (Ok done) true none closes =
     record {
       moves =
@@ -89,14 +91,14 @@ no_parts [] second none = (refl, none)
 no_parts (event ∷ first) second none = cc
 
 -- where the start is the first event, the stream is opened once an event was emitted
-opened_some : (opened now : Bool) (more : List Event) → now ≡ true → now ≡ (opened || has_some (opening opened ++ more))
+opened_some : (opened now : Bool) (more : List Event) → now ≡ true → now ≡ (opened || has_some (opening_unless opened ++ more))
 opened_some true now more is = is
 opened_some false now more is = is
 
 -- events behind the start
 pub dumps_then : (nodeless : Bool) (document : List Event) (before middle after : State) (closed : Bool) (more : List Event) (answer : Result (Unit {0}) yaml_error_t)
-    → EmitsAll (record before { opened = true }) (opening before.opened) middle → EmitsEach (record middle { closed = closed }) more answer after
-    → opening before.opened ++ more ≡ dump_events before nodeless document
+    → EmitsAll (record before { opened = true }) (opening_unless before.opened) middle → EmitsEach (record middle { closed = closed }) more answer after
+    → opening_unless before.opened ++ more ≡ dump_events before nodeless document
     → OnOk answer (after.closed ≡ (before.closed || nodeless)) → OnErr answer (after.closed ≡ before.closed)
     → DumpsEvents nodeless document before answer after
 dumps_then nodeless document before middle after closed more (Ok done) first then_more is by_ok by_error =
@@ -107,7 +109,7 @@ dumps_then nodeless document before middle after closed more (Ok done) first the
           subst (λ (events : List Event). Moves (record before { opened = true; closed = whole }) events (Ok tt) after) is
           (moves_then (moves_under true whole first.moves) (moves_flagged then_more.moves true whole opened by_ok));
       unchanged = λ nothing.
-          let none = no_parts (opening before.opened) more (is ∙ nothing) in
+          let none = no_parts (opening_unless before.opened) more (is ∙ nothing) in
           let same = then_more.unchanged none.1 in
           same ∙ ap (λ (s : State). record s { closed = closed }) (first.unchanged none.0)
           ∙ ap (λ (b : Bool). record before { opened = true; closed = b }) (sym (ap (λ (s : State). s.closed) same) ∙ by_ok);
@@ -118,12 +120,12 @@ dumps_then nodeless document before middle after closed more (Err error) first f
     (record {
       fails =
           record {
-            earlier = opening before.opened ++ fails.earlier;
+            earlier = opening_unless before.opened ++ fails.earlier;
             event = fails.event;
             later = fails.later;
             parts =
-                append_assoc (opening before.opened) fails.earlier (fails.event ∷ fails.later)
-                ∙ ap (λ events. opening before.opened ++ events) fails.parts ∙ is;
+                append_assoc (opening_unless before.opened) fails.earlier (fails.event ∷ fails.later)
+                ∙ ap (λ events. opening_unless before.opened ++ events) fails.parts ∙ is;
             between = record fails.between { opened = after.opened; closed = before.closed };
             moved = moves_then (moves_under after.opened before.closed first.moves) (moves_under after.opened before.closed fails.moved);
             failed = moves_flagged fails.failed after.opened before.closed refl by_error;
@@ -136,7 +138,7 @@ pub dumps_unopened : (nodeless : Bool) (document : List Event) (before after : S
     → OpensFrom opened before (Err error) after → DumpsEvents nodeless document before (Err error) after
 dumps_unopened nodeless document before after true error was none opens = absurd (let wrong = opens.0 in cc)
 dumps_unopened nodeless document before after false error was none opens =
-    let more : List Event = if nodeless then closing before.closed else document in
+    let more : List Event = if nodeless then closing_unless before.closed else document in
     inr
     (record {
       fails =
@@ -144,7 +146,7 @@ dumps_unopened nodeless document before after false error was none opens =
             earlier = [];
             event = stream_start None;
             later = more;
-            parts = ap (λ (b : Bool). opening b ++ more) (sym was);
+            parts = ap (λ (b : Bool). opening_unless b ++ more) (sym was);
             between = record before { opened = after.opened };
             moved = moves_nothing (record before { opened = after.opened }) none;
             failed = moves_flagged opens after.opened before.closed refl opens.set.closed;
@@ -154,14 +156,15 @@ dumps_unopened nodeless document before after false error was none opens =
 
 -- a document without nodes closes the stream
 pub dumps_closing : (nodeless : Bool) (document : List Event) (before middle after : State) (answer : Result (Unit {0}) yaml_error_t) → nodeless ≡ true
-    → middle.error ≡ None → EmitsAll (record before { opened = true }) (opening before.opened) middle → Closes middle answer after
+    → middle.error ≡ None → EmitsAll (record before { opened = true }) (opening_unless before.opened) middle → Closes middle answer after
     → DumpsEvents nodeless document before answer after
 dumps_closing nodeless document before middle after answer empty none first closes =
     let closed = first.moves.set.closed in
     let by = closed_by middle after answer middle.closed refl closes in
-    dumps_then nodeless document before middle after after.closed (closing middle.closed) answer first (emits_closing middle after answer middle.closed none closes)
-    (ap (λ (c : Bool). opening before.opened ++ closing c) closed
-    ∙ ap (λ (b : Bool). opening before.opened ++ (if b then closing before.closed else document)) (sym empty))
+    dumps_then nodeless document before middle after after.closed (closing_unless middle.closed) answer first
+    (emits_closing middle after answer middle.closed none closes)
+    (ap (λ (c : Bool). opening_unless before.opened ++ closing_unless c) closed
+    ∙ ap (λ (b : Bool). opening_unless before.opened ++ (if b then closing_unless before.closed else document)) (sym empty))
     (ok_then answer (λ is. is ∙ sym (ap (λ (b : Bool). before.closed || b) empty ∙ or-true before.closed)) by.0) (err_then answer (λ is. is ∙ closed) by.1)
   where
     ok_then : {P Q : Type 0} (answer : Result (Unit {0}) yaml_error_t) → (P → Q) → OnOk answer P → OnOk answer Q
@@ -175,13 +178,13 @@ dumps_closing nodeless document before middle after answer empty none first clos
 -- one with nodes is emitted
 pub dumps_document : (nodeless : Bool) (document : List Event) (before middle after : State) (events : List Event) (answer : Result (Unit {0}) yaml_error_t)
     → nodeless ≡ false → events ≡ document
-    → EmitsAll (record before { opened = true }) (opening before.opened) middle → EmitsEach middle events answer after
+    → EmitsAll (record before { opened = true }) (opening_unless before.opened) middle → EmitsEach middle events answer after
     → DumpsEvents nodeless document before answer after
 dumps_document nodeless document before middle after events answer some same first each =
     let closed = closed_as answer each ∙ first.moves.set.closed in
     dumps_then nodeless document before middle after middle.closed events answer first each
-    (ap (λ (b : Bool). opening before.opened ++ (if b then closing before.closed else events)) (sym some)
-    ∙ ap (λ (l : List Event). opening before.opened ++ (if nodeless then closing before.closed else l)) same)
+    (ap (λ (b : Bool). opening_unless before.opened ++ (if b then closing_unless before.closed else events)) (sym some)
+    ∙ ap (λ (l : List Event). opening_unless before.opened ++ (if nodeless then closing_unless before.closed else l)) same)
     (on_ok answer (closed ∙ sym (ap (λ (b : Bool). before.closed || b) some ∙ or-false before.closed))) (on_err answer closed)
   where
     closed_as : (answer : Result (Unit {0}) yaml_error_t) → EmitsEach middle events answer after → after.closed ≡ middle.closed
@@ -252,15 +255,15 @@ keeps_each before after events (Ok done) all = keeps_by before after before.open
 keeps_each before after events (Err error) fails = keeps_failing before after before.opened events error fails
 
 -- a dump without events opens and closes nothing
-opened_none : (opened : Bool) (more : List Event) → opening opened ++ more ≡ [] → opened ≡ true
+opened_none : (opened : Bool) (more : List Event) → opening_unless opened ++ more ≡ [] → opened ≡ true
 opened_none true more none = refl
 opened_none false more none = cc
 
-closed_none : (opened closed empty : Bool) (events : List Event) → opening opened ++ (if empty then closing closed else events) ≡ []
+closed_none : (opened closed empty : Bool) (events : List Event) → opening_unless opened ++ (if empty then closing_unless closed else events) ≡ []
     → (closed || empty) ≡ closed
 closed_none opened closed false events none = or-false closed
 closed_none opened true true events none = refl
-closed_none opened false true events none = let wrong = (no_parts (opening opened) (stream_end ∷ []) none).1 in cc
+closed_none opened false true events none = let wrong = (no_parts (opening_unless opened) (stream_end ∷ []) none).1 in cc
 
 pub keeps_dumping : (nodeless : Bool) (document : List Event) (before after : State) (answer : Result (Unit {0}) yaml_error_t) → DumpsEvents nodeless document before answer after
     → KeepsRest before after
@@ -269,7 +272,7 @@ keeps_dumping nodeless document before after (Ok done) all =
     (λ none.
     all.unchanged none
     ∙ ap (λ (b : Bool). record before { opened = b; closed = before.closed || nodeless }) (sym
-    (opened_none before.opened (if nodeless then closing before.closed else document) none))
+    (opened_none before.opened (if nodeless then closing_unless before.closed else document) none))
     ∙ ap (λ (b : Bool). record before { closed = b })
     (closed_none before.opened before.closed nodeless (document) none))
 keeps_dumping nodeless document before after (Err error) (inl failed) =

@@ -3,9 +3,9 @@ use Rattle.yaml_dump.proofs.Common.{suc, zero, ℕ, ◌+◌, ◌-◌, ◌<◌, f
 use Rattle.yaml_dump.proofs.Common.{length, slice_index_or as get_or, take, Bool, false, true, ◌&&◌}
 use Rattle.yaml_dump.proofs.Common.{List, [], map, ◌++◌, ◌∷◌, refl, ◌≡◌, append-nil, append_assoc, ap, sym}
 use Rattle.yaml_dump.proofs.Common.{◌∙◌, arith, nat_tests, map-append, Text, Event, seen_event}
-use Rattle.yaml_dump.proofs.Common.{seen_events, Graph, Step, steps, enters, meets_again, numbered_name, document_start, opening_events}
+use Rattle.yaml_dump.proofs.Common.{seen_events, Graph, Step, graph_steps, enters, meets_again, numbered_name, document_start, opening_events}
 use Rattle.yaml_dump.proofs.Common.{step_events, IsNumbered, is_numbered, anchor_of_place, HasPlaces}
-use Rattle.yaml_dump.proofs.Common.{seen_events_of, number_in, AreNamed, seen_step}
+use Rattle.yaml_dump.proofs.Common.{seen_events_of, step_number, AreNamed, seen_step}
 use Rattle.yaml_base.proofs.Common.{flat_map-append, node_numbered, alias, document_end}
 use Rattle.yaml_base.specs.declared.events.yaml_event_t.{yaml_event_t}
 use Rattle.yaml_base.specs.declared.events.yaml_event_t.TheVariants.{YAML_DOCUMENT_END_EVENT}
@@ -62,13 +62,13 @@ events_more of walk index default start before after inside is adds =
     ∙ append_assoc start (flat_map of so_far) (of next)
     ∙ ap (λ (events : List Event). start ++ (flat_map of so_far ++ events)) (sym (append-nil (of next)))
     ∙ ap (λ (events : List Event). start ++ events) (sym (flat_map-append of so_far (next ∷ [])))
-    ∙ ap (λ (steps : List Step). start ++ flat_map of steps) (sym (seen_more walk index default inside))
+    ∙ ap (λ (steps : List Step). start ++ flat_map of graph_steps) (sym (seen_more walk index default inside))
 
 -- the events of a walk between those of the document
 pub events_walked : {A : Type 0} (graph : Graph) (walk : List Step) (end_implicit : Bool) (begun walked ended : List (yaml_event_t A))
     → seen_events begun ≡ document_start graph.start ∷ [] → end_implicit ≡ graph.end_implicit
     → seen_events walked ≡ seen_events begun ++ flat_map (step_events graph walk) walk
-    → ended ≡ walked ++ YAML_DOCUMENT_END_EVENT end_implicit ∷ [] → walk ≡ steps graph → seen_events ended ≡ walk_events graph (steps graph)
+    → ended ≡ walked ++ YAML_DOCUMENT_END_EVENT end_implicit ∷ [] → walk ≡ graph_steps graph → seen_events ended ≡ walk_events graph (graph_steps graph)
 events_walked graph walk end_implicit begun walked ended begins ends walks last whole =
     let events = flat_map (step_events graph walk) walk in
     ap seen_events last ∙ map-append seen_event walked (YAML_DOCUMENT_END_EVENT end_implicit ∷ [])
@@ -78,7 +78,7 @@ events_walked graph walk end_implicit begun walked ended begins ends walks last 
 
 -- an outline's steps in a slice
 pub outline_walked : {A : Type 0} (graph : Graph) (outline : Outline A) (slice : List declared.Step) → slice ≡ outline.walk.items → IsOutline graph outline
-    → map seen_step slice ≡ steps graph
+    → map seen_step slice ≡ graph_steps graph
 outline_walked graph outline slice same is = ap (map seen_step) same ∙ is.walked
 
 -- the steps of a walk whose nodes are named are numbered
@@ -86,8 +86,8 @@ pub named_numbered : (count : ℕ) (walk : List declared.Step) → AreNamed coun
 named_numbered count [] named = refl
 named_numbered count (step ∷ rest) named =
     let first = named 0 step (omega arith) in
-    both_true (nat_le 1 (number_in (seen_step step)) && nat_le (number_in (seen_step step)) count) (is_numbered count (map seen_step rest))
-    (both_true (nat_le 1 (number_in (seen_step step))) (nat_le (number_in (seen_step step)) count) (grind (arith, nat_tests, first.first))
+    both_true (nat_le 1 (step_number (seen_step step)) && nat_le (step_number (seen_step step)) count) (is_numbered count (map seen_step rest))
+    (both_true (nat_le 1 (step_number (seen_step step))) (nat_le (step_number (seen_step step)) count) (grind (arith, nat_tests, first.first))
     (grind (arith, nat_tests, first.last)))
     (named_numbered count rest (λ place default inside. named (suc place) default (omega (arith, inside))))
   where

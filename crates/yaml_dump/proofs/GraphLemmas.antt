@@ -2,9 +2,9 @@
 use Rattle.yaml_dump.proofs.Common.{ℕ, ◌==◌, if◌then◌else◌, Option, None, Some, Result, Err, Ok, Vec, drop}
 use Rattle.yaml_dump.proofs.Common.{length, Bool, false, true, List, [], map, ◌++◌}
 use Rattle.yaml_dump.proofs.Common.{◌∷◌, refl, ◌≡◌, ap, subst, sym, ◌∙◌, false≢true, dumped_stream, document_unfolds, Event, stream_end, seen_event}
-use Rattle.yaml_dump.proofs.Common.{length-map, is_numbered, seen_step, seen_events, Settings, AreDumped, Graph, steps, document_event_list}
+use Rattle.yaml_dump.proofs.Common.{length-map, is_numbered, seen_step, seen_events, Settings, AreDumped, Graph, graph_steps, document_event_list}
 use Rattle.yaml_dump.proofs.Common.{DocumentTree, Promised, StandsAfter, State, append_assoc, none_from_result}
-use Rattle.yaml_base.proofs.Common.{written, IsDocument, agrees, stream_trees}
+use Rattle.yaml_base.proofs.Common.{written, IsWholeGraph, agrees, stream_trees}
 use Rattle.std.{proofs.Math.Seq.drop-length, specs.Prelude.IfOk}
 use Rattle.yaml_base.{proofs.QueueLaws.stream_written, specs.declared.events.yaml_event_t.yaml_event_t}
 use Rattle.yaml_base.{specs.graphs.Dumped.GraphsRead, specs.graphs.Unfolding.EventsUnfold}
@@ -12,16 +12,17 @@ use Rattle.yaml_dump.proofs.GraphTreeLemmas.{dumped_trees_unfold}
 use Rattle.yaml_base.specs.{declared.nodes.yaml_node_t.yaml_node_t, graphs.SeenNodes.seen_node}
 use Rattle.yaml_dump.specs.{Outlines.IsOutline, declared.outlines.Outline.Outline}
 use Rattle.yaml_dump.specs.{Dumps.ReadsGraphs, Events.HoldsTexts, Events.walk_events, GraphTrees.GraphsReadBack, GraphTrees.ReadsTrees}
-use Rattle.yaml_emitter.{proofs.standing.Moving.moved_promised, specs.Moves.Moves, proofs.EndedStreams.ends_last, specs.Promises.HasRoom, specs.Promises.IsWritten}
+use Rattle.yaml_emitter.{proofs.standing.Moving.moved_promised, specs.Moves.Moves, proofs.EndedStreams.ends_last, specs.Promises.HasRoomAndMemory}
+use Rattle.yaml_emitter.{specs.Promises.IsWritten}
 
 -- the events of a walk over nodes that hold what they need are the document's
 pub dumped_events : {A E : Type 0} (graph : Graph) (outline : Outline A) (nodes : List (yaml_node_t A)) (answer : Result (Vec (yaml_event_t A) A) E)
     → (length graph.nodes == 0) ≡ false → IsOutline graph outline → HoldsTexts graph [] (map seen_node nodes)
     → IfOk answer (λ events. (other : Graph) → IsOutline other outline → HoldsTexts other [] (map seen_node nodes)
-    → seen_events events.items ≡ walk_events other (steps other))
+    → seen_events events.items ≡ walk_events other (graph_steps other))
     → IfOk answer (λ events. map seen_event events.items ≡ document_event_list graph)
 dumped_events graph outline nodes (Ok events) some is holds walked =
-    walked graph is holds ∙ sym (ap (λ (none : Bool). if none then [] else walk_events graph (steps graph)) some)
+    walked graph is holds ∙ sym (ap (λ (none : Bool). if none then [] else walk_events graph (graph_steps graph)) some)
 dumped_events graph outline nodes (Err error) some is holds walked = tt
 
 -- an outline's steps are about the nodes of its graph
@@ -31,7 +32,7 @@ outline_numbered graph outline nodes is same =
     subst (λ (count : ℕ). is_numbered count (map seen_step outline.walk.items) ≡ true) (sym same ∙ length-map nodes seen_node) is.numbered
 
 -- a document's events unfold its graph
-pub events_unfold : {A E : Type 0} (graph : Graph) (answer : Result (Vec (yaml_event_t A) A) E) → IsDocument graph
+pub events_unfold : {A E : Type 0} (graph : Graph) (answer : Result (Vec (yaml_event_t A) A) E) → IsWholeGraph graph
     → IfOk answer (λ events. map seen_event events.items ≡ document_event_list graph)
     → IfOk answer (λ events. EventsUnfold graph (map seen_event events.items))
 events_unfold graph (Ok events) is same = subst (EventsUnfold graph) (sym same) (document_unfolds graph is)
@@ -45,7 +46,7 @@ written_whole given before graphs state promised none dumped =
     let read = dumped_stream graphs all dumped in
     let whole : written all ≡ length all = subst (λ (events : List Event). written events ≡ length events) read.is (stream_written read.stream) in
     let held : state.held ≡ [] = (promised.held none).held ∙ ap (λ count. drop count all) whole ∙ drop-length all in
-    let accepted = (promised.ends (ends_last before) (subst HasRoom (sym none) tt)).1 (none, held) in
+    let accepted = (promised.ends (ends_last before) (subst HasRoomAndMemory (sym none) tt)).1 (none, held) in
     promised.whole none accepted
 
 -- graphs that were dumped whole in canonical mode are read back

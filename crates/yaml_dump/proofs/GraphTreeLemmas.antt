@@ -1,7 +1,7 @@
 -- Documents that agree with the events of dumped graphs unfold the graphs.
 use Rattle.yaml_dump.proofs.Common.{if◌then◌else◌, ◌==◌, flat_map, unwrap_or, option_map, Option, None, Some, length, Bool, false, not, true, ◌&&◌, ◌||◌}
 use Rattle.yaml_dump.proofs.Common.{List, [], map, ◌++◌, ◌∷◌, refl, ◌≡◌, ap, subst, sym, ◌∙◌, false≢true, map-append, list_all, dumped_stream, Text, Event}
-use Rattle.yaml_dump.proofs.Common.{stream_end, document_start, AreDumped, ContentsUnfold, GraphNode, Graph, Step, enters, leaves, meets_again, steps}
+use Rattle.yaml_dump.proofs.Common.{stream_end, document_start, AreDumped, ContentsUnfold, GraphNode, Graph, Step, enters, leaves, meets_again, graph_steps}
 use Rattle.yaml_dump.proofs.Common.{opening_events, step_events, document_event_list, content_shape, DocumentTree, tree_shape, TreesUnfold}
 use Rattle.yaml_base.proofs.Common.{⊤, bytes_eq, ℤ, and_parts, and_from, Decides-int_eq, list_all-append, bytes_eq-Decides, Version, TagDirective, Scalar}
 use Rattle.yaml_base.proofs.Common.{document_end, scalar, sequence_start, sequence_end, mapping_start, mapping_end, scalar_tag, collection_tag, Node}
@@ -13,12 +13,12 @@ use Rattle.yaml_base.proofs.Common.{node_content, Tagging, with_tag, without_tag
 use Rattle.yaml_base.proofs.Common.{mapping_tree, no_trees, trees_and, no_tree_pairs, tree_pairs_and, document_agrees, documents_in_order}
 use Rattle.std.specs.Ordering.{int_eq}
 use Rattle.yaml_base.proofs.Trees.{tree_of-stream_events}
-use Rattle.yaml_base.specs.graphs.Unfolding.{NodeKind, alias_shape, Shapes, node_shape, shapes_and, explicit_tag, contents_shapes, content_pairs_shapes}
+use Rattle.yaml_base.specs.graphs.Unfolding.{StyledKind, alias_shape, Shapes, node_shape, shapes_and, explicit_tag, contents_shapes, content_pairs_shapes}
 use Rattle.yaml_base.specs.graphs.Unfolding.{Unfolds}
 use Rattle.yaml_base.specs.reading.Content.{content_tag, nodes_content, pairs_content, document_content, documents_content}
 use Rattle.yaml_base.specs.streams.StreamContent.{is_same_text, tagging_agrees, tree_agrees, trees_agree, tree_pairs_agree, is_same_version}
 use Rattle.yaml_base.specs.streams.StreamContent.{are_same_directives, documents_agree}
-use Rattle.yaml_dump.specs.GraphTrees.{scalar_tag_read, trees_shapes, tree_pairs_shapes, DumpedTreesUnfold}
+use Rattle.yaml_dump.specs.GraphTrees.{tag_or_string, trees_shapes, tree_pairs_shapes, DumpedTreesUnfold}
 
 -- ---- a dumped node has its tag, or that of its kind where none is written
 
@@ -99,15 +99,16 @@ step_keeps canonical graph walk (meets_again number) = refl
 graph_keeps : (canonical : Bool) (graph : Graph) → all_keep canonical (document_event_list graph)
 graph_keeps canonical graph = by (length graph.nodes == 0)
   where
-    inside_keeps : all_keep canonical (flat_map (step_events graph (steps graph)) (steps graph))
-    inside_keeps = keep_each canonical (step_events graph (steps graph)) (step_keeps canonical graph (steps graph)) (steps graph)
+    inside_keeps : all_keep canonical (flat_map (step_events graph (graph_steps graph)) (graph_steps graph))
+    inside_keeps = keep_each canonical (step_events graph (graph_steps graph)) (step_keeps canonical graph (graph_steps graph)) (graph_steps graph)
 
     by : (none : Bool)
         → all_keep canonical
         (if none then []
-        else document_start graph.start ∷ (flat_map (step_events graph (steps graph)) (steps graph) ++ document_end graph.end_implicit ∷ []))
+        else document_start graph.start ∷ (flat_map (step_events graph (graph_steps graph)) (graph_steps graph) ++ document_end graph.end_implicit ∷ []))
     by true = refl
-    by false = keep_both canonical (flat_map (step_events graph (steps graph)) (steps graph)) (document_end graph.end_implicit ∷ []) inside_keeps refl
+    by false =
+        keep_both canonical (flat_map (step_events graph (graph_steps graph)) (graph_steps graph)) (document_end graph.end_implicit ∷ []) inside_keeps refl
 
 pub dumped_keep : (canonical : Bool) (graphs : List Graph) (events : List Event) → AreDumped graphs events → all_keep canonical events
 dumped_keep canonical graphs events dumped =
@@ -117,7 +118,7 @@ dumped_keep canonical graphs events dumped =
 
 -- ---- a tree that agrees with a node has the shape of its content
 
-abbrev shape_with : Option Text → Option Text → NodeKind → Shapes → Shape
+abbrev shape_with : Option Text → Option Text → StyledKind → Shapes → Shape
 shape_with anchor tag kind shapes = node_shape anchor (record { tag = tag; kind = kind }) shapes
 
 same_option : (a b : Option Text) → is_same_text a b ≡ true → a ≡ b
@@ -128,7 +129,7 @@ same_option (Some a) (Some b) is = ap (λ text. Some text) (from_bytes a b is)
 
 -- the tag that was read, or that of the kind
 scalar_tag_is : (content : Scalar) (written : Option Text) (tagging : Tagging) → tagging_agrees content written tagging ≡ true
-    → scalar_tag_read tagging ≡ unwrap_or written string_tag
+    → tag_or_string tagging ≡ unwrap_or written string_tag
 scalar_tag_is content None (without_tag standing) is = refl
 scalar_tag_is content None (with_tag tag) is = absurd (false≢true is)
 scalar_tag_is content (Some tag) (with_tag read) is = sym (from_bytes tag read is)
@@ -140,7 +141,7 @@ stated_tag_is None text implicit is = cc
 stated_tag_is (Some other) text implicit is = is
 
 -- equal parts make equal shapes
-shapes_same : (a b : Option Text) (s t : Option Text) (k l : NodeKind) (x y : Shapes) → a ≡ b → s ≡ t → k ≡ l → x ≡ y
+shapes_same : (a b : Option Text) (s t : Option Text) (k l : StyledKind) (x y : Shapes) → a ≡ b → s ≡ t → k ≡ l → x ≡ y
     → shape_with a s k x ≡ shape_with b t l y
 shapes_same a b s t k l x y anchors tags kinds below =
     ap (λ a. shape_with a s k x) anchors ∙ ap (λ s. shape_with b s k x) tags ∙ ap (λ k. shape_with b t k x) kinds ∙ ap (shape_with b t l) below
@@ -164,7 +165,7 @@ mutual
       let value_too = and_parts (is_same_text content.anchor anchor && tagging_agrees content written tagging) (bytes_eq content.value value) agree in
       let anchor_too = and_parts (is_same_text content.anchor anchor) (tagging_agrees content written tagging) value_too.0 in
       let kept = same_option (Some (unwrap_or written string_tag)) content.tag (and_parts (keeps_tag written string_tag content.tag) true keep).0 in
-      shapes_same anchor content.anchor (Some (scalar_tag_read tagging)) (explicit_tag (content_tag content.tag content.quoted_implicit))
+      shapes_same anchor content.anchor (Some (tag_or_string tagging)) (explicit_tag (content_tag content.tag content.quoted_implicit))
       (scalar_kind value None) (scalar_kind content.value None) no_shapes no_shapes
       (sym (same_option content.anchor anchor anchor_too.0))
       (ap (λ tag. Some tag) (scalar_tag_is content written tagging anchor_too.1)

@@ -3,7 +3,7 @@ use Rattle.yaml_dump.proofs.Common.{suc, zero, ℕ, ◌+◌, ◌-◌, ◌<◌, �
 use Rattle.yaml_dump.proofs.Common.{None, Some, drop, length, slice_index_or as get_or, slice_set as set}
 use Rattle.yaml_dump.proofs.Common.{slice_get, take, Bool, cond, false, true, ◌||◌, List, [], map, ◌++◌, ◌∷◌, ◌≢◌, refl, ◌≡◌, length-set, get_or-set_same, ap}
 use Rattle.yaml_dump.proofs.Common.{subst, sym, ◌∙◌, arith, nat_tests, length-map, map-append, list_any, Text, GraphNode}
-use Rattle.yaml_dump.proofs.Common.{Graph, Step, enters, is_entry_of, steps}
+use Rattle.yaml_dump.proofs.Common.{Graph, Step, enters, is_entry_of, graph_steps}
 use Rattle.yaml_dump.proofs.Common.{opening_events, get_or-map, seen_step, IsNamed}
 use Rattle.yaml_base.proofs.Common.{count_by, node_numbered, opening_event_of, closing_event_of, closing_events, first_reached, Held}
 use Rattle.yaml_base.proofs.Common.{scalar_held, sequence_held, mapping_held}
@@ -32,7 +32,7 @@ none_counted test (step ∷ rest) none =
 once_before : (test : Step → Bool) (walk : List Step) (index : ℕ) (default : Step) → count_by test walk ≤ 1 → index < length walk
     → test (get_or walk index default) ≡ true → list_any test (take index walk) ≡ false
 once_before test walk index default few inside is =
-    let counted = λ (steps : List Step). count_by test steps in
+    let counted = λ (steps : List Step). count_by test graph_steps in
     let whole : counted (take (index + 1) walk) + counted (drop (index + 1) walk) ≡ counted walk =
     sym (sum_by-append (λ (other : Step). cond (test other) 1 0) (take (index + 1) walk) (drop (index + 1) walk))
     ∙ ap counted (take-append-drop (index + 1) walk) in
@@ -43,21 +43,22 @@ at_most_one true = omega arith
 at_most_one false = omega arith
 
 -- no step of a graph's walk enters a node again
-first_entry : (graph : Graph) (walk : List Step) (index number : ℕ) (default : Step) → walk ≡ steps graph → index < length walk
+first_entry : (graph : Graph) (walk : List Step) (index number : ℕ) (default : Step) → walk ≡ graph_steps graph → index < length walk
     → get_or walk index default ≡ enters number → list_any (is_entry_of number) (take index walk) ≡ false
 first_entry graph walk index number default whole inside is =
     let orderly = orderly_steps graph (suc (length graph.nodes)) 1 first_reached in
     let few : count_by (is_entry_of number) walk ≤ 1 = subst (λ (all : List Step). count_by (is_entry_of number) all ≤ 1) (sym whole)
-    (subst (λ (n : ℕ). n ≤ 1) (sym (orderly.once number)) (at_most_one (list_any (is_entry_of number) (steps graph)))) in
+    (subst (λ (n : ℕ). n ≤ 1) (sym (orderly.once number)) (at_most_one (list_any (is_entry_of number) (graph_steps graph)))) in
     let itself : (number == number) ≡ true = grind (arith, nat_tests) in
     once_before (is_entry_of number) walk index default few inside (ap (is_entry_of number) is ∙ itself)
 
 -- the next step is the first to enter its node, if it enters one
-pub next_is_first : (graph : Graph) (walk : List declared.Step) (index : ℕ) (default : declared.Step) → map seen_step walk ≡ steps graph → index < length walk
+pub next_is_first : (graph : Graph) (walk : List declared.Step) (index : ℕ) (default : declared.Step) → map seen_step walk ≡ graph_steps graph
+    → index < length walk
     → IsFirstEntry (map seen_step (take index walk)) (seen_step (get_or walk index default))
 next_is_first graph walk index default whole inside number is =
     let within : index < length (map seen_step walk) = omega (arith, length-map walk seen_step) in
-    subst (λ (steps : List Step). list_any (is_entry_of number) steps ≡ false) (take-map seen_step index walk)
+    subst (λ (steps : List Step). list_any (is_entry_of number) graph_steps ≡ false) (take-map seen_step index walk)
     (first_entry graph (map seen_step walk) index number (seen_step default) whole within
     (get_or-map seen_step walk index default (seen_step default) inside ∙ is))
 

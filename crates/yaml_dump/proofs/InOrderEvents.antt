@@ -4,9 +4,10 @@ use Rattle.yaml_base.proofs.Common.{List, [], map, ◌++◌, ◌∷◌, refl, �
 use Rattle.yaml_base.proofs.Common.{◌∙◌, arith, length-map, Contains-append_right, flat_map}
 use Rattle.yaml_base.proofs.Common.{list_all, Graph, GraphNode, children, is_whole, Step, enters, leaves}
 use Rattle.yaml_base.proofs.Common.{meets_again, Event, document_start, document_end, alias, step_events, document_event_list}
-use Rattle.yaml_base.proofs.Common.{IsReached, first_reached, child_reached, IsDocument, and_from, numbers_held, node_numbered, opening_events, closing_events}
+use Rattle.yaml_base.proofs.Common.{IsReached, first_reached, child_reached, IsWholeGraph, and_from, numbers_held, node_numbered, opening_events}
+use Rattle.yaml_base.proofs.Common.{closing_events}
 use Rattle.yaml_base.proofs.Common.{eq-eqb, ne_eqb, or-true}
-use Rattle.yaml_base.specs.graphs.Meetings.{steps}
+use Rattle.yaml_base.specs.graphs.Meetings.{graph_steps}
 use Rattle.yaml_base.proofs.SharedNodes.{has}
 use Rattle.yaml_base.proofs.DocumentsUnfold.{some_nodes}
 use Rattle.yaml_base.proofs.SameWalks.{node_of_step, AllReached, renumbered, same_walks, anchors_alike}
@@ -47,12 +48,12 @@ names_one order count number is there =
 
 in_order_whole : (graph : Graph) → HasWalk graph → is_whole (in_order graph) ≡ true
 in_order_whole graph walked =
-    let order = entered (steps graph) in
+    let order = entered (graph_steps graph) in
     let count : length (in_order graph).nodes ≡ length order = length-map order (λ (number : ℕ). node_by (place_in order) (node_at graph number)) in
     all_mapped (λ (number : ℕ). node_by (place_in order) (node_at graph number))
     (λ node. list_all (λ number. nat_le 1 number && nat_le number (length (in_order graph).nodes)) (numbers_held node.held)) order
     (λ number within.
-    let reached = walked.orderly.reached number (sym (entered_has number (steps graph)) ∙ entered_of (steps graph) number within) in
+    let reached = walked.orderly.reached number (sym (entered_has number (graph_steps graph)) ∙ entered_of (graph_steps graph) number within) in
     let has_node = walked.node number reached in
     let held : numbers_held (node_at graph number).held ≡ children graph number =
     ap (λ (found : Option GraphNode). numbers_held (unwrap_or found (node_at graph 0)).held) has_node.is
@@ -66,9 +67,9 @@ some_placed : (xs : List ℕ) (number : ℕ) → has number xs ≡ true → (len
 some_placed [] number is = cc
 some_placed (x ∷ xs) number is = ne_eqb (suc (length xs)) 0 (λ same. omega (arith, same))
 
-pub in_order_document : (graph : Graph) → HasWalk graph → IsDocument (in_order graph)
+pub in_order_document : (graph : Graph) → HasWalk graph → IsWholeGraph (in_order graph)
 in_order_document graph walked =
-    let order = entered (steps graph) in
+    let order = entered (graph_steps graph) in
     record {
       whole = in_order_whole graph walked;
       has_nodes =
@@ -79,9 +80,9 @@ in_order_document graph walked =
 -- ---- the events
 
 begins_same : (graph : Graph) (walked : HasWalk graph) (number : ℕ) (anchor other : Option _) → IsReached graph number → anchor ≡ other
-    → opening_events anchor (node_numbered (in_order graph) (place_in (entered (steps graph)) number)) ≡ opening_events other (node_numbered graph number)
+    → opening_events anchor (node_numbered (in_order graph) (place_in (entered (graph_steps graph)) number)) ≡ opening_events other (node_numbered graph number)
 begins_same graph walked number anchor other reached is =
-    let order = entered (steps graph) in
+    let order = entered (graph_steps graph) in
     let has_node = walked.node number reached in
     ap (opening_events anchor) (node_placed_at graph number has_node.node (walked.reached number reached) has_node.is)
     ∙ ap (λ (event : Event). event ∷ []) (opening_by (place_in order) anchor has_node.node.tag has_node.node.held)
@@ -89,51 +90,54 @@ begins_same graph walked number anchor other reached is =
     ∙ ap (λ (a : Option _). opening_events a (node_numbered graph number)) is
 
 ends_same : (graph : Graph) (walked : HasWalk graph) (number : ℕ) → IsReached graph number
-    → closing_events (node_numbered (in_order graph) (place_in (entered (steps graph)) number)) ≡ closing_events (node_numbered graph number)
+    → closing_events (node_numbered (in_order graph) (place_in (entered (graph_steps graph)) number)) ≡ closing_events (node_numbered graph number)
 ends_same graph walked number reached =
-    let order = entered (steps graph) in
+    let order = entered (graph_steps graph) in
     let has_node = walked.node number reached in
     ap closing_events (node_placed_at graph number has_node.node (walked.reached number reached) has_node.is)
     ∙ closing_by (place_in order) has_node.node.held
     ∙ ap closing_events (sym has_node.is)
 
-step_same : (graph : Graph) (walked : HasWalk graph) (step : Step) → AllReached graph (steps graph) → IsReached graph (node_of_step step)
-    → step_events (in_order graph) (map (renumbered (place_in (entered (steps graph)))) (steps graph)) (renumbered (place_in (entered (steps graph))) step)
-    ≡ step_events graph (steps graph) step
+step_same : (graph : Graph) (walked : HasWalk graph) (step : Step) → AllReached graph (graph_steps graph) → IsReached graph (node_of_step step)
+    → step_events (in_order graph) (map (renumbered (place_in (entered (graph_steps graph)))) (graph_steps graph))
+    (renumbered (place_in (entered (graph_steps graph))) step)
+    ≡ step_events graph (graph_steps graph) step
 unfolding isomorphic_in_order
 step_same graph walked (enters number) all reached =
-    begins_same graph walked number _ _ reached (anchors_alike graph (in_order graph) (isomorphic_in_order graph walked) (steps graph) number all reached)
+    begins_same graph walked number _ _ reached (anchors_alike graph (in_order graph) (isomorphic_in_order graph walked) (graph_steps graph) number all reached)
 step_same graph walked (leaves number) all reached = ends_same graph walked number reached
 step_same graph walked (meets_again number) all reached =
     ap (λ (anchor : Option _). alias (unwrap_or anchor []) ∷ [])
-    (anchors_alike graph (in_order graph) (isomorphic_in_order graph walked) (steps graph) number all reached)
+    (anchors_alike graph (in_order graph) (isomorphic_in_order graph walked) (graph_steps graph) number all reached)
 
-steps_same : (graph : Graph) (walked : HasWalk graph) (part : List Step) → AllReached graph (steps graph) → AllReached graph part
-    → flat_map (step_events (in_order graph) (map (renumbered (place_in (entered (steps graph)))) (steps graph)))
-    (map (renumbered (place_in (entered (steps graph)))) part)
-    ≡ flat_map (step_events graph (steps graph)) part
+steps_same : (graph : Graph) (walked : HasWalk graph) (part : List Step) → AllReached graph (graph_steps graph) → AllReached graph part
+    → flat_map (step_events (in_order graph) (map (renumbered (place_in (entered (graph_steps graph)))) (graph_steps graph)))
+    (map (renumbered (place_in (entered (graph_steps graph)))) part)
+    ≡ flat_map (step_events graph (graph_steps graph)) part
 steps_same graph walked [] all reached = refl
 steps_same graph walked (step ∷ part) all reached =
-    let place = place_in (entered (steps graph)) in
+    let place = place_in (entered (graph_steps graph)) in
     ap (λ (events : List Event). events
-    ++ flat_map (step_events (in_order graph) (map (renumbered place) (steps graph))) (map (renumbered place) part))
+    ++ flat_map (step_events (in_order graph) (map (renumbered place) (graph_steps graph))) (map (renumbered place) part))
     (step_same graph walked step all (reached step (inl refl)))
-    ∙ ap (λ (events : List Event). step_events graph (steps graph) step ++ events)
+    ∙ ap (λ (events : List Event). step_events graph (graph_steps graph) step ++ events)
     (steps_same graph walked part all (λ other within. reached other (inr within)))
 
-pub in_order_events : (graph : Graph) → IsDocument graph → document_event_list (in_order graph) ≡ document_event_list graph
+pub in_order_events : (graph : Graph) → IsWholeGraph graph → document_event_list (in_order graph) ≡ document_event_list graph
 unfolding isomorphic_in_order
 in_order_events graph is =
     let walked = walk_of graph is in
     let also = in_order_document graph walked in
     let walks = same_walks graph (in_order graph) (isomorphic_in_order graph walked) is.whole also.whole (some_nodes (length graph.nodes) is.has_nodes)
     (some_nodes (length (in_order graph).nodes) also.has_nodes) in
-    let inside : flat_map (step_events (in_order graph) (steps (in_order graph))) (steps (in_order graph)) ≡ flat_map (step_events graph (steps graph)) (steps graph) =
+    let inside : flat_map (step_events (in_order graph) (graph_steps (in_order graph))) (graph_steps (in_order graph))
+    ≡ flat_map (step_events graph (graph_steps graph)) (graph_steps graph) =
     ap (λ (walk : List Step). flat_map (step_events (in_order graph) walk) walk) walks.same
-    ∙ steps_same graph walked (steps graph) walks.reached walks.reached in
+    ∙ steps_same graph walked (graph_steps graph) walks.reached walks.reached in
     ap (λ (none : Bool). if none then [] else
-    document_start graph.start ∷ (flat_map (step_events (in_order graph) (steps (in_order graph))) (steps (in_order graph)) ++ document_end graph.end_implicit ∷ []))
+    document_start graph.start ∷ (flat_map (step_events (in_order graph) (graph_steps (in_order graph)))
+    (graph_steps (in_order graph)) ++ document_end graph.end_implicit ∷ []))
     also.has_nodes
     ∙ ap (λ (events : List Event). document_start graph.start ∷ (events ++ document_end graph.end_implicit ∷ [])) inside
     ∙ sym (ap (λ (none : Bool). if none then [] else
-    document_start graph.start ∷ (flat_map (step_events graph (steps graph)) (steps graph) ++ document_end graph.end_implicit ∷ [])) is.has_nodes)
+    document_start graph.start ∷ (flat_map (step_events graph (graph_steps graph)) (graph_steps graph) ++ document_end graph.end_implicit ∷ [])) is.has_nodes)

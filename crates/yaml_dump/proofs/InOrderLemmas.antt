@@ -1,13 +1,16 @@
 -- A graph and the same in the order of its walk are isomorphic, styles and all, so they have the same events.
-use Rattle.yaml_base.proofs.Common.{suc, zero, ℕ, ◌+◌, ◌≤◌, ◌==◌, Contains, option_map, unwrap_or, Option, None, Some, length, Bool, cond, false, not, true, ◌||◌}
+use Rattle.yaml_base.proofs.Common.{suc, zero, ℕ, ◌+◌, ◌≤◌, ◌==◌, Contains, option_map, unwrap_or, Option, None, Some, length, Bool, cond, false, not, true}
+use Rattle.yaml_base.proofs.Common.{◌||◌}
 use Rattle.yaml_base.proofs.Common.{List, [], map, ◌++◌, ◌∷◌, refl, ◌≡◌, eq-eqb, eqb-true, inl, inr, ap, subst, sym}
 use Rattle.yaml_base.proofs.Common.{◌∙◌, arith, same_from_decides, Contains-append_right, nat_tests, flat_map, ltb-true}
 use Rattle.yaml_base.proofs.Common.{list_any, position_or_len, Text, Isomorphic, Graph, GraphNode, children, Step, enters, leaves}
 use Rattle.yaml_base.proofs.Common.{meets_again, is_entry_of, anchor_of, Placed, alias_placed, slice_index_or as get_or}
-use Rattle.yaml_base.proofs.Common.{PlacedNodes, node_placed, none_placed, placed_and, number_at, IsReached, first_reached, child_reached, IsDocument, or_cases}
-use Rattle.yaml_base.proofs.Common.{Held, scalar_held, sequence_held, mapping_held, NumberPair, numbers_held, node_numbered, label_at, opening_event_of, closing_event_of, label_of}
+use Rattle.yaml_base.proofs.Common.{PlacedNodes, node_placed, none_placed, placed_and, number_at, IsReached, first_reached, child_reached, IsWholeGraph}
+use Rattle.yaml_base.proofs.Common.{or_cases}
+use Rattle.yaml_base.proofs.Common.{Held, scalar_held, sequence_held, mapping_held, NumberPair, numbers_held, node_numbered, label_at, opening_event_of}
+use Rattle.yaml_base.proofs.Common.{closing_event_of, label_of}
 use Rattle.std.specs.List.{slice_get}
-use Rattle.yaml_base.specs.graphs.Meetings.{steps}
+use Rattle.yaml_base.specs.graphs.Meetings.{graph_steps}
 use Rattle.yaml_base.proofs.SharedNodes.{has, has_position}
 use Rattle.yaml_base.proofs.UnfoldSteps.{is_meeting_of, FollowEntries, IsOrderly, orderly_steps, none_added}
 use Rattle.yaml_base.proofs.UnfoldTrees.{placed_steps, below_steps, HasNode, Fits, AllFit, Walks, walk_placed, root_met, children_met}
@@ -103,14 +106,14 @@ mutual
 
 -- the walk over a document, and what is known of it
 pub record HasWalk (graph : Graph) : Type 0 where
-  pub made : Walks (anchor_of (steps graph)) graph [] (steps graph) 1
-  pub orderly : IsOrderly graph (steps graph)
-  pub reached : (number : ℕ) → IsReached graph number → has number (entered (steps graph)) ≡ true
+  pub made : Walks (anchor_of (graph_steps graph)) graph [] (graph_steps graph) 1
+  pub orderly : IsOrderly graph (graph_steps graph)
+  pub reached : (number : ℕ) → IsReached graph number → has number (entered (graph_steps graph)) ≡ true
   pub node : (number : ℕ) → IsReached graph number → HasNode graph number
 
-pub walk_of : (graph : Graph) → IsDocument graph → HasWalk graph
+pub walk_of : (graph : Graph) → IsWholeGraph graph → HasWalk graph
 walk_of graph is =
-    let walk = steps graph in
+    let walk = graph_steps graph in
     let made = walk_placed (anchor_of walk) graph is.whole (some_nodes (length graph.nodes) is.has_nodes) in
     let orderly = orderly_steps graph (suc (length graph.nodes)) 1 first_reached in
     let entry = λ (number : ℕ) (reached : IsReached graph number). reached_entered graph walk made.placed orderly made.fits made.adds made.root reached in
@@ -152,10 +155,10 @@ label_by place tag (sequence_held items style) = refl
 label_by place tag (mapping_held pairs style) = refl
 
 -- the node of a place in the new order
-pub node_placed_at : (graph : Graph) (number : ℕ) (node : GraphNode) → has number (entered (steps graph)) ≡ true → node_numbered graph number ≡ Some node
-    → node_numbered (in_order graph) (place_in (entered (steps graph)) number) ≡ Some (node_by (place_in (entered (steps graph))) node)
+pub node_placed_at : (graph : Graph) (number : ℕ) (node : GraphNode) → has number (entered (graph_steps graph)) ≡ true → node_numbered graph number ≡ Some node
+    → node_numbered (in_order graph) (place_in (entered (graph_steps graph)) number) ≡ Some (node_by (place_in (entered (graph_steps graph))) node)
 node_placed_at graph number node there is =
-    let order = entered (steps graph) in
+    let order = entered (graph_steps graph) in
     mapped_at (λ (other : ℕ). node_by (place_in order) (node_at graph other)) number order there
     ∙ ap (λ (found : Option GraphNode). Some (node_by (place_in order) (unwrap_or found (node_at graph 0)))) is
 
@@ -169,9 +172,9 @@ contained_map f (x ∷ xs) y (suc k, within, is) =
     (found.0, Contains-append_right (x ∷ []) xs found.0 found.1, found.2)
 
 pub kept_in_order : (graph : Graph) → HasWalk graph → (number : ℕ) → IsReached graph number
-    → children (in_order graph) (place_in (entered (steps graph)) number) ≡ map (place_in (entered (steps graph))) (children graph number)
+    → children (in_order graph) (place_in (entered (graph_steps graph)) number) ≡ map (place_in (entered (graph_steps graph))) (children graph number)
 kept_in_order graph walked number reached =
-    let order = entered (steps graph) in
+    let order = entered (graph_steps graph) in
     let has_node = walked.node number reached in
     ap (λ (found : Option GraphNode). elim found as (λ _. List ℕ) [ None ↦ [] | Some node ↦ numbers_held node.held ])
     (node_placed_at graph number has_node.node (walked.reached number reached) has_node.is)
@@ -179,9 +182,9 @@ kept_in_order graph walked number reached =
     ∙ ap (λ (found : Option GraphNode). map (place_in order) (elim found as (λ _. List ℕ) [ None ↦ [] | Some node ↦ numbers_held node.held ])) (sym has_node.is)
 
 pub labels_in_order : (graph : Graph) → HasWalk graph → (number : ℕ) → IsReached graph number
-    → label_at (in_order graph) (place_in (entered (steps graph)) number) ≡ label_at graph number
+    → label_at (in_order graph) (place_in (entered (graph_steps graph)) number) ≡ label_at graph number
 labels_in_order graph walked number reached =
-    let order = entered (steps graph) in
+    let order = entered (graph_steps graph) in
     let has_node = walked.node number reached in
     ap (option_map (label_of false)) (node_placed_at graph number has_node.node (walked.reached number reached) has_node.is)
     ∙ ap Some (label_by (place_in order) has_node.node.tag has_node.node.held)
@@ -193,20 +196,20 @@ root_first graph (alias_placed name number) is follow = absurd (let no : false �
 root_first graph (node_placed anchor number below) is follow =
     ap (λ (b : Bool). suc (cond (not b) (1 + position_or_len (λ other. other == 1) (entered (below_steps below ++ leaves number ∷ []))) 0)) (eq-eqb number 1 is)
 
-pub reached_back : (graph : Graph) (walked : HasWalk graph) → place_in (entered (steps graph)) 1 ≡ 1 → {number : ℕ} → IsReached (in_order graph) number
-    → (first : ℕ) × IsReached graph first × (place_in (entered (steps graph)) first ≡ number)
+pub reached_back : (graph : Graph) (walked : HasWalk graph) → place_in (entered (graph_steps graph)) 1 ≡ 1 → {number : ℕ} → IsReached (in_order graph) number
+    → (first : ℕ) × IsReached graph first × (place_in (entered (graph_steps graph)) first ≡ number)
 reached_back graph walked root first_reached = (1, first_reached, root)
 reached_back graph walked root (child_reached {number = parent} {child = child} reached within) =
     let before = reached_back graph walked root reached in
-    let held : children (in_order graph) parent ≡ map (place_in (entered (steps graph))) (children graph before.0) =
+    let held : children (in_order graph) parent ≡ map (place_in (entered (graph_steps graph))) (children graph before.0) =
     ap (children (in_order graph)) (sym before.2) ∙ kept_in_order graph walked before.0 before.1 in
-    let found = contained_map (place_in (entered (steps graph))) (children graph before.0) child
+    let found = contained_map (place_in (entered (graph_steps graph))) (children graph before.0) child
     (subst (λ (numbers : List ℕ). Contains numbers child) held within) in
     (found.0, child_reached before.1 found.1, found.2)
 
 unfoldable pub isomorphic_in_order : (graph : Graph) → HasWalk graph → Isomorphic graph (in_order graph)
 isomorphic_in_order graph walked =
-    let order = entered (steps graph) in
+    let order = entered (graph_steps graph) in
     let root : place_in order 1 ≡ 1 =
     ap (λ (walk : List Step). place_in (entered walk) 1) walked.made.adds
     ∙ root_first graph walked.made.placed walked.made.root (subst (FollowEntries []) walked.made.adds walked.orderly.follow) in

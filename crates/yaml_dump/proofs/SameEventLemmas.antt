@@ -1,5 +1,6 @@
 -- Two lists that are compared place by place.
-use Rattle.yaml_base.proofs.Common.{ℕ, ◌+◌, ◌<◌, ◌≤◌, length, take, slice_index_or as get_or, List, [], map, ◌++◌, ◌∷◌, ◌≡◌, ap, sym, ◌∙◌, arith, map-append, suc, zero, refl}
+use Rattle.yaml_base.proofs.Common.{ℕ, ◌+◌, ◌<◌, ◌≤◌, length, take, slice_index_or as get_or, List, [], map, ◌++◌, ◌∷◌, ◌≡◌, ap, sym, ◌∙◌, arith, map-append}
+use Rattle.yaml_base.proofs.Common.{suc, zero, refl}
 use Rattle.std.proofs.Common.{take_all}
 use Rattle.std.proofs.lemmas.List.{take_more, get_or-map}
 

@@ -1,9 +1,12 @@
 -- What is read of documents that were dumped with their types unfolds their graphs with all tags.
-use Rattle.yaml_dump.proofs.Common.{if◌then◌else◌, unwrap_or, Option, None, Some, drop, length, Bool, false, true, List, [], map, ◌++◌, ◌∷◌, refl, ◌≡◌, ap, subst}
+use Rattle.yaml_dump.proofs.Common.{if◌then◌else◌, unwrap_or, Option, None, Some, drop, length, Bool, false, true, List, [], map, ◌++◌, ◌∷◌, refl, ◌≡◌, ap}
+use Rattle.yaml_dump.proofs.Common.{subst}
 use Rattle.yaml_dump.proofs.Common.{sym, ◌∙◌, false≢true, list_all, dumped_stream, Text, Event, stream_end, Settings, AreDumped, Graph, DocumentTree, Promised}
 use Rattle.yaml_dump.proofs.Common.{StandsAfter, State, TreesUnfold}
-use Rattle.yaml_base.proofs.Common.{ℕ, option_map, is_some, and_parts, and_from, scalar, sequence_start, mapping_start, scalar_tag, Stream, stream_events, stream_start}
-use Rattle.yaml_base.proofs.Common.{documents_events, written, IsAccepted, agrees, stream_trees, effective, bytes_written, list_layout, encoding_asked, settings_for}
+use Rattle.yaml_base.proofs.Common.{ℕ, option_map, is_some, and_parts, and_from, scalar, sequence_start, mapping_start, scalar_tag, Stream, stream_events}
+use Rattle.yaml_base.proofs.Common.{stream_start}
+use Rattle.yaml_base.proofs.Common.{documents_events, written, IsAccepted, agrees, stream_trees, effective, bytes_written, list_layout, encoding_asked}
+use Rattle.yaml_base.proofs.Common.{settings_for}
 use Rattle.yaml_base.proofs.Common.{resolved_by_core, resolved_by_11, reads_alike}
 use Rattle.std.proofs.Common.{take_all}
 use Rattle.std.proofs.Math.Seq.{drop-length}
@@ -11,7 +14,7 @@ use Rattle.yaml_base.proofs.QueueLaws.{stream_written}
 use Rattle.yaml_base.specs.graphs.Meetings.{string_tag}
 use Rattle.yaml_base.specs.streams.StreamContent.{is_same_text}
 use Rattle.yaml_base.specs.values.CanonicalTags.{Schema}
-use Rattle.yaml_emitter.{proofs.EndedStreams.ends_last, specs.Promises.HasRoom, specs.Promises.IsWritten, specs.Promises.ends_stream}
+use Rattle.yaml_emitter.{proofs.EndedStreams.ends_last, specs.Promises.HasRoomAndMemory, specs.Promises.IsWritten, specs.Promises.ends_stream}
 use Rattle.yaml_writer.proofs.TypedTrees.{typed_stream, stream_typed, typed_read}
 use Rattle.yaml_writer.specs.TypedEvents.{typed_event, document_by, says_tag, ReadsTags}
 use Rattle.yaml_dump.proofs.GraphTreeLemmas.{has_kept_tag, dumped_keep, dumped_trees_unfold}
@@ -74,7 +77,7 @@ module _ (promised : (given : Settings) (all : List Event) (state : State) → S
       subst (λ (all : List Event). written all ≡ length all) typed_is (stream_written (typed_stream stream))
       in
       let held : state.held ≡ [] = (kept.held none).held ∙ ap (λ (count : ℕ). drop count typed) whole ∙ drop-length typed in
-      (kept.ends ends (subst HasRoom (sym none) tt)).1 (none, held)
+      (kept.ends ends (subst HasRoomAndMemory (sym none) tt)).1 (none, held)
 
   bytes : state.page.output ≡ bytes_written (settings_for given typed) (list_layout (settings_for given typed) typed)
   bytes =

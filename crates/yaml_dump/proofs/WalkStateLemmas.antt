@@ -6,11 +6,11 @@ use Rattle.std.{proofs.Common.reverse, proofs.Common.set, proofs.Common.◌≢�
 use Rattle.std.{proofs.lemmas.List.Elements.All-push, proofs.lemmas.List.Folds.sum_by-replicate, proofs.lemmas.List.Sums.sum_by-set, specs.List.sum_by}
 use Rattle.std.{specs.Prelude.Vec, specs.Prelude.IfSome}
 use Rattle.std.proofs.lemmas.List.{get_or-replicate, get_or-set_other, get_or-set_same, length-replicate, length-set, reverse-append, length_push, get_or-map}
-use Rattle.yaml_base.{proofs.UnfoldSteps.none_added, proofs.UnfoldSteps.one_added, specs.graphs.Meetings.steps}
-use Rattle.yaml_dump.{proofs.ChildLemmas.child_named, specs.Named.IsNamed, specs.Named.number_in, specs.Named.AreNamed, specs.WalkSteps.seen_step}
+use Rattle.yaml_base.{proofs.UnfoldSteps.none_added, proofs.UnfoldSteps.one_added, specs.graphs.Meetings.graph_steps}
+use Rattle.yaml_dump.{proofs.ChildLemmas.child_named, specs.Named.IsNamed, specs.Named.step_number, specs.Named.AreNamed, specs.WalkSteps.seen_step}
 use Rattle.yaml_dump.{specs.declared.steps.Step.Step, specs.declared.walk.Visit.Visit, specs.declared.walk.Walker.Walker}
 use Rattle.yaml_dump.proofs.WalkLemmas.{finish, finish_longer, finish_left, finish_met, finish_again, finish_entered}
-use Rattle.yaml_dump.specs.WalkState.{WalkState, seen_walker, at_start, with_step, push_visit, with_node, with_meeting, child_of, with_child, with_turn}
+use Rattle.yaml_dump.specs.WalkState.{WalkState, seen_walker, at_start, with_step, push_visit, met_or_entered, with_meeting, child_of, with_child, with_turn}
 use Rattle.yaml_base.specs.graphs.Meetings as meetings
 
 -- how many nodes were not entered yet
@@ -27,16 +27,16 @@ pub record IsSound (graph : Graph) (standing : WalkState) : Type 0 where
   pub flagged : (place : ℕ) → place < length graph.nodes → get_or standing.entered place false ≡ list_any (is_entry_of (suc place)) standing.steps
   pub room : length standing.visits + unentered standing.entered ≤ length graph.nodes
   pub visits_named : All (λ visit. IsNamed (length graph.nodes) visit.number) standing.visits
-  pub steps_named : All (λ step. IsNamed (length graph.nodes) (number_in step)) standing.steps
+  pub steps_named : All (λ step. IsNamed (length graph.nodes) (step_number step)) standing.steps
 
 -- the visits' ends make the steps those of the whole walk
 pub record Stands (graph : Graph) (standing : WalkState) : Type 0 where
-  pub finished : finish (depth_of graph standing) graph standing.visits standing.steps ≡ steps graph
+  pub finished : finish (depth_of graph standing) graph standing.visits standing.steps ≡ graph_steps graph
   pub sound : IsSound graph standing
 
 -- a walk from a node, and then the visits' ends make them so
 pub record Meets (graph : Graph) (number : ℕ) (standing : WalkState) : Type 0 where
-  pub finished : finish (depth_of graph standing) graph standing.visits (steps_from (depth_of graph standing) graph standing.steps number) ≡ steps graph
+  pub finished : finish (depth_of graph standing) graph standing.visits (steps_from (depth_of graph standing) graph standing.steps number) ≡ graph_steps graph
   pub named : IsNamed (length graph.nodes) number
   pub sound : IsSound graph standing
 
@@ -44,14 +44,14 @@ pub record Meets (graph : Graph) (number : ℕ) (standing : WalkState) : Type 0 
 
 -- a step that enters none
 sound_step : (graph : Graph) (standing : WalkState) (step : meetings.Step) → IsSound graph standing → ((number : ℕ) → is_entry_of number step ≡ false)
-    → IsNamed (length graph.nodes) (number_in step)
+    → IsNamed (length graph.nodes) (step_number step)
     → IsSound graph (with_step step standing)
 sound_step graph standing step sound enters_none named = record {
   counted = sound.counted;
   flagged = λ place within. sound.flagged place within ∙ sym (none_added (is_entry_of (suc place)) standing.steps step (enters_none (suc place)));
   room = sound.room;
   visits_named = sound.visits_named;
-  steps_named = All-push (λ other. IsNamed (length graph.nodes) (number_in other)) standing.steps step sound.steps_named named;
+  steps_named = All-push (λ other. IsNamed (length graph.nodes) (step_number other)) standing.steps step sound.steps_named named;
 }
 
 -- ---- a turn without a child
@@ -136,7 +136,7 @@ unentered_set flags place within is =
 -- a node that was not entered
 sound_entered : (graph : Graph) (standing : WalkState) (number : ℕ) → IsSound graph standing → IsNamed (length graph.nodes) number
     → get_or standing.entered (number - 1) false ≡ false
-    → IsSound graph (with_node false number standing)
+    → IsSound graph (met_or_entered false number standing)
 sound_entered graph standing number sound named entered =
     let first = named.first in
     let last = named.last in
@@ -153,17 +153,17 @@ sound_entered graph standing number sound named entered =
       room = omega (arith, fewer);
       visits_named = All-cons (λ visit. IsNamed (length graph.nodes) visit.number)
           (record { number = number; met = 0 }) standing.visits named sound.visits_named;
-      steps_named = All-push (λ step. IsNamed (length graph.nodes) (number_in step)) standing.steps (enters number) sound.steps_named named;
+      steps_named = All-push (λ step. IsNamed (length graph.nodes) (step_number step)) standing.steps (enters number) sound.steps_named named;
     }
 
 -- it is entered and visited
 stands_entered : (graph : Graph) (standing : WalkState) (number : ℕ) → Meets graph number standing → get_or standing.entered (number - 1) false ≡ false
-    → Stands graph (with_node false number standing)
+    → Stands graph (met_or_entered false number standing)
 stands_entered graph standing number meets entered =
     let depth = length graph.nodes - length standing.visits in
     let is : depth_of graph standing ≡ suc depth = omega (arith, meets.sound.room) in
     let sound = sound_entered graph standing number meets.sound meets.named entered in
-    let deeper : depth_of graph (with_node false number standing) ≡ depth = omega (arith, sound.room) in
+    let deeper : depth_of graph (met_or_entered false number standing) ≡ depth = omega (arith, sound.room) in
     record {
       finished =
           ap (λ (d : ℕ). finish d graph (record { number = number; met = 0 } ∷ standing.visits) (standing.steps ++ enters number ∷ [])) deeper
@@ -176,7 +176,7 @@ stands_entered graph standing number meets entered =
 -- by its flag
 stands_flagged : (graph : Graph) (standing : WalkState) (number : ℕ) (entered : Bool) → Meets graph number standing
     → get_or standing.entered (number - 1) false ≡ entered
-    → Stands graph (with_node entered number standing)
+    → Stands graph (met_or_entered entered number standing)
 stands_flagged graph standing number true meets entered = stands_again graph standing number meets entered
 stands_flagged graph standing number false meets entered = stands_entered graph standing number meets entered
 
@@ -226,7 +226,7 @@ unfolding unentered
 unentered-replicate count = sum_by-replicate (λ (entered : Bool). cond entered 0 1) count false ∙ omega arith
 
 -- the walk from the root is the whole walk
-root_finished : (graph : Graph) → finish (suc (length graph.nodes) - 0) graph [] (steps_from (suc (length graph.nodes) - 0) graph [] 1) ≡ steps graph
+root_finished : (graph : Graph) → finish (suc (length graph.nodes) - 0) graph [] (steps_from (suc (length graph.nodes) - 0) graph [] 1) ≡ graph_steps graph
 unfolding finish
 root_finished graph = let same : suc (length graph.nodes) - 0 ≡ suc (length graph.nodes) = omega arith in ap (λ (depth : ℕ). steps_from depth graph [] 1) same
 
@@ -242,20 +242,20 @@ meets_root graph some =
         flagged = λ place within. get_or-replicate (length graph.nodes) place false false within;
         room = omega (arith, none_entered);
         visits_named = All-nil (λ visit. IsNamed (length graph.nodes) visit.number);
-        steps_named = All-nil (λ step. IsNamed (length graph.nodes) (number_in step));
+        steps_named = All-nil (λ step. IsNamed (length graph.nodes) (step_number step));
       };
     }
 
 -- ---- what a standing tells
 
 -- no visit is left: the walk is whole
-pub steps_whole : (graph : Graph) (standing : WalkState) → standing.visits ≡ [] → Stands graph standing → standing.steps ≡ steps graph
+pub steps_whole : (graph : Graph) (standing : WalkState) → standing.visits ≡ [] → Stands graph standing → standing.steps ≡ graph_steps graph
 unfolding finish
 steps_whole graph standing none stands =
     sym (ap (λ (visits : List Visit). finish (suc (length graph.nodes) - length visits) graph visits standing.steps) none) ∙ stands.finished
 
 -- there are no more steps than the walk's
-steps_within : (graph : Graph) (standing : WalkState) → Stands graph standing → length standing.steps ≤ length (steps graph)
+steps_within : (graph : Graph) (standing : WalkState) → Stands graph standing → length standing.steps ≤ length (graph_steps graph)
 steps_within graph standing stands =
     omega (arith, ap length stands.finished, finish_longer (depth_of graph standing) graph standing.visits standing.steps)
 
@@ -264,7 +264,7 @@ one_more : (visit : Visit) (child : Option ℕ) (standing : WalkState) → lengt
 one_more visit None standing = length_push standing.steps (leaves visit.number)
 one_more visit (Some child) standing = at_flag (get_or standing.entered (child - 1) false)
   where
-    at_flag : (entered : Bool) → length (with_node entered child (push_visit (record { number = visit.number; met = visit.met + 1 }) standing)).steps
+    at_flag : (entered : Bool) → length (met_or_entered entered child (push_visit (record { number = visit.number; met = visit.met + 1 }) standing)).steps
         ≡ length standing.steps + 1
     at_flag true = length_push standing.steps (meets_again child)
     at_flag false = length_push standing.steps (enters child)
@@ -296,7 +296,7 @@ stands_behind graph visit before after whole stands is =
 
 -- a visit's turn leaves fewer steps to come
 pub steps_fewer : (graph : Graph) (visit : Visit) (before after : WalkState) → is_whole graph ≡ true → Stands graph (push_visit visit before)
-    → after ≡ with_turn graph visit before → length (steps graph) - length after.steps < length (steps graph) - length before.steps
+    → after ≡ with_turn graph visit before → length (graph_steps graph) - length after.steps < length (graph_steps graph) - length before.steps
 steps_fewer graph visit before after whole stands is =
     let within = steps_within graph after (stands_behind graph visit before after whole stands is) in
     let more = ap (λ (standing : WalkState). length standing.steps) is ∙ one_more visit (child_of graph visit) before in
@@ -307,8 +307,8 @@ pub innermost_named : (graph : Graph) (visit : Visit) (outer : WalkState) → St
 innermost_named graph visit outer stands = visit_named graph outer visit stands.sound
 
 -- the numbers in a walk's steps
-pub walk_named : (count : ℕ) (walk : List Step) → All (λ step. IsNamed count (number_in step)) (map seen_step walk) → AreNamed count walk
+pub walk_named : (count : ℕ) (walk : List Step) → All (λ step. IsNamed count (step_number step)) (map seen_step walk) → AreNamed count walk
 walk_named count walk all = λ place default within.
     let seen_within : place < length (map seen_step walk) = omega (arith, length-map walk seen_step) in
-    subst (λ (step : meetings.Step). IsNamed count (number_in step)) (get_or-map seen_step walk place default (seen_step default) within)
+    subst (λ (step : meetings.Step). IsNamed count (step_number step)) (get_or-map seen_step walk place default (seen_step default) within)
     (all place (seen_step default) seen_within)

@@ -4,15 +4,15 @@ use Rattle.std.specs.Prelude.{slice_index}
 use Rattle.std.specs.List.{list_all}
 use Rattle.yaml_base.specs.Characters.{Text}
 use Rattle.yaml_base.specs.graphs.Meetings.{Step, shared_nodes, numbered_name}
-use Rattle.yaml_dump.specs.Named.{IsNamed, number_in}
+use Rattle.yaml_dump.specs.Named.{IsNamed, step_number}
 
 -- a step is about one of so many nodes
 abbrev pub IsNumbered : ℕ → Step → Type 0
-IsNumbered count step = IsNamed count (number_in step)
+IsNumbered count step = IsNamed count (step_number step)
 
 -- each step of a walk is about one of so many nodes
 abbrev pub is_numbered : ℕ → List Step → Bool
-is_numbered count walk = list_all (λ step. nat_le 1 (number_in step) && nat_le (number_in step) count) walk
+is_numbered count walk = list_all (λ step. nat_le 1 (step_number step) && nat_le (step_number step) count) walk
 
 -- where a number first stands in a list, from 1 on; 0 where it doesn't
 abbrev pub place_in : List ℕ → ℕ → ℕ

@@ -1,5 +1,6 @@
 -- Where the composing of a document stands, which takes its events one by one.
-use Rattle.std.specs.Prelude.{ℕ, suc, ◌+◌, ◌-◌, ◌*◌, ◌/◌, ◌&&◌, nat_le, Option, None, Some, List, [], ◌∷◌, ◌++◌, length, replicate, unwrap_or, if◌then◌else◌, fold}
+use Rattle.std.specs.Prelude.{ℕ, suc, ◌+◌, ◌-◌, ◌*◌, ◌/◌, ◌&&◌, nat_le, Option, None, Some, List, [], ◌∷◌, ◌++◌, length, replicate, unwrap_or, if◌then◌else◌}
+use Rattle.std.specs.Prelude.{fold}
 use Rattle.std.specs.Prelude.{slice_index_or, slice_set}
 use Rattle.yaml_base.specs.Characters.{Text}
 use Rattle.yaml_base.specs.Settings.{largest_usize}

@@ -48,17 +48,17 @@ has_some [] = false
 has_some (event ∷ rest) = true
 
 -- what opens a stream that isn't opened
-abbrev pub opening : Bool → List Event
-opening opened = if opened then [] else stream_start None ∷ []
+abbrev pub opening_unless : Bool → List Event
+opening_unless opened = if opened then [] else stream_start None ∷ []
 
 -- what a document without nodes emits: the stream's end, where it isn't closed
-abbrev pub closing : Bool → List Event
-closing closed = if closed then [] else stream_end ∷ []
+abbrev pub closing_unless : Bool → List Event
+closing_unless closed = if closed then [] else stream_end ∷ []
 
 -- what a dump emits: the document's events, after the stream's start where it isn't opened; a document without nodes
 -- closes the stream
 abbrev pub dump_events : State → (nodeless : Bool) → List Event → List Event
-dump_events state nodeless document = opening state.opened ++ (if nodeless then closing state.closed else document)
+dump_events state nodeless document = opening_unless state.opened ++ (if nodeless then closing_unless state.closed else document)
 
 abbrev pub dumped_events : State → Graph → List Event
 dumped_events state graph = dump_events state (length graph.nodes == 0) (document_event_list graph)

@@ -3,7 +3,7 @@ use Rattle.std.specs.Prelude.{Bool, ◌≡◌, ◌⊎◌, true, Result, Ok, Err,
 use Rattle.yaml_base.specs.Settings.{Settings}
 use Rattle.yaml_base.specs.Event.{Event, stream_end}
 use Rattle.yaml_base.specs.graphs.Meetings.{Graph, document_event_list}
-use Rattle.yaml_base.specs.graphs.Unfolding.{EventsUnfold, IsDocument}
+use Rattle.yaml_base.specs.graphs.Unfolding.{EventsUnfold, IsWholeGraph}
 use Rattle.yaml_base.specs.declared.errors.yaml_error_t.{yaml_error_t}
 use Rattle.yaml_pen.specs.Wrote.{Grows}
 use Rattle.yaml_emitter.specs.State.{State, KeepsSet}
@@ -37,7 +37,7 @@ pub record DumpsTell : Type 0 where
   pub unclosed : (nodeless : Bool) (document : List Event) (before after : State) (error : yaml_error_t)
       → DumpsEvents nodeless document before (Err error) after
       → after.closed ≡ before.closed
-  pub unfolds : (graph : Graph) → IsDocument graph → EventsUnfold graph (document_event_list graph)
+  pub unfolds : (graph : Graph) → IsWholeGraph graph → EventsUnfold graph (document_event_list graph)
   pub reads : (before after : State) (events : List Event) → Moves before (events ++ stream_end ∷ []) (Ok tt) after
       → (given : Settings) (all : List Event) → StandsAfter given all before
       → ReadsGraphs given (all ++ (events ++ stream_end ∷ [])) after × ReadsTrees given (all ++ (events ++ stream_end ∷ [])) after

@@ -6,7 +6,7 @@ use Rattle.yaml_base.specs.Output.{encoding_asked, output_of}
 use Rattle.yaml_base.specs.graphs.Meetings.{Graph}
 use Rattle.yaml_base.specs.graphs.Dumped.{AreDumped, GraphsRead}
 use Rattle.yaml_base.specs.graphs.Isomorphic.{AllAreEquivalent, AreWrittenAlike}
-use Rattle.yaml_emitter.specs.Uncut.{IsWhole, IsReadable}
+use Rattle.yaml_emitter.specs.Uncut.{IsWrittenWhole, IsReadable}
 use Rattle.yaml_dump.specs.GraphTrees.{GraphsReadBack}
 
 -- bytes in which the canonical reader finds graphs hold no others
@@ -25,7 +25,7 @@ OneReadingBack =
 abbrev pub EqualBytesTellGraphs : Type 0
 EqualBytesTellGraphs =
     (given : Settings) (firsts seconds : List Graph) (first second : List Event) → AreDumped firsts first → AreDumped seconds second
-    → IsWhole given first → IsWhole given second → output_of given first ≡ output_of given second → AllAreEquivalent firsts seconds
+    → IsWrittenWhole given first → IsWrittenWhole given second → output_of given first ≡ output_of given second → AllAreEquivalent firsts seconds
 
 -- so do equal outputs in every mode, of streams that read back
 abbrev pub EqualReadableBytesTellGraphs : Type 0

@@ -15,7 +15,7 @@ seen_events_of None = []
 seen_events_of (Some event) = seen_event event ∷ []
 
 -- the node of a step is numbered, and has a place where it is met again
-pub record IsPlaced (places : List ℕ) (step : Step) : Type 0 where
+pub record StepIsPlaced (places : List ℕ) (step : Step) : Type 0 where
   pub numbered : IsNumbered (length places) step
   pub shared : (number : ℕ) → step ≡ meets_again number → 0 < slice_index places (number - 1)
 

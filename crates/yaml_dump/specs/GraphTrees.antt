@@ -14,16 +14,16 @@ use Rattle.yaml_base.specs.streams.StreamReader.{stream_trees}
 use Rattle.yaml_emitter.specs.State.{State}
 
 -- the tag of a scalar that was read: without one, that of texts
-abbrev pub scalar_tag_read : Tagging → Text
-scalar_tag_read (with_tag tag) = tag
-scalar_tag_read (without_tag standing) = string_tag
+abbrev pub tag_or_string : Tagging → Text
+tag_or_string (with_tag tag) = tag
+tag_or_string (without_tag standing) = string_tag
 
 -- the shape of a tree that was read, without styles
 abbrev mutual
   pub tree_shape : Tree → Shape
   tree_shape (alias_tree name) = alias_shape name
   tree_shape (scalar_tree anchor tagging value) =
-      node_shape anchor (record { tag = Some (scalar_tag_read tagging); kind = scalar_kind value None }) no_shapes
+      node_shape anchor (record { tag = Some (tag_or_string tagging); kind = scalar_kind value None }) no_shapes
   tree_shape (sequence_tree anchor tag trees) =
       node_shape anchor (record { tag = Some (unwrap_or tag sequence_tag); kind = sequence_kind None }) (trees_shapes trees)
   tree_shape (mapping_tree anchor tag pairs) =

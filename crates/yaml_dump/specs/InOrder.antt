@@ -2,7 +2,7 @@
 use Rattle.std.specs.Prelude.{ℕ, suc, ◌==◌, Option, None, Some, List, [], map, filter_map, unwrap_or}
 use Rattle.std.specs.List.{position_or_len}
 use Rattle.yaml_base.specs.Event.{any_style}
-use Rattle.yaml_base.specs.graphs.Meetings.{Held, scalar_held, sequence_held, mapping_held, GraphNode, Graph, node_numbered, Step, enters, steps}
+use Rattle.yaml_base.specs.graphs.Meetings.{Held, scalar_held, sequence_held, mapping_held, GraphNode, Graph, node_numbered, Step, enters, graph_steps}
 
 -- the node that a step enters
 abbrev pub node_entered : Step → Option ℕ
@@ -38,5 +38,5 @@ nodes_in graph order numbers = map (λ number. node_by (place_in order) (node_at
 -- the graph with its nodes in the order in which the walk enters them
 abbrev pub in_order : Graph → Graph
 in_order graph =
-    let order = entered (steps graph) in
+    let order = entered (graph_steps graph) in
     record { start = graph.start; nodes = nodes_in graph order order; end_implicit = graph.end_implicit }

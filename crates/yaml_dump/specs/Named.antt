@@ -11,11 +11,11 @@ pub record IsNamed (count number : ℕ) : Type 0 where
   pub last : number ≤ count
 
 -- the node that a step speaks of
-abbrev pub number_in : meetings.Step → ℕ
-number_in (enters number) = number
-number_in (leaves number) = number
-number_in (meets_again number) = number
+abbrev pub step_number : meetings.Step → ℕ
+step_number (enters number) = number
+step_number (leaves number) = number
+step_number (meets_again number) = number
 
 -- each step speaks of one of so many nodes
 abbrev pub AreNamed : ℕ → List Step → Type 0
-AreNamed count walk = All (λ step. IsNamed count (number_in (seen_step step))) walk
+AreNamed count walk = All (λ step. IsNamed count (step_number (seen_step step))) walk

@@ -29,14 +29,14 @@ abbrev pub push_visit : Visit → WalkState → WalkState
 push_visit visit standing = record standing { visits = visit ∷ standing.visits }
 
 -- behind the meeting of a node that was entered or not
-abbrev pub with_node : Bool → ℕ → WalkState → WalkState
-with_node true number standing = with_step (meets_again number) standing
-with_node false number standing = push_visit (record { number = number; met = 0 })
+abbrev pub met_or_entered : Bool → ℕ → WalkState → WalkState
+met_or_entered true number standing = with_step (meets_again number) standing
+met_or_entered false number standing = push_visit (record { number = number; met = 0 })
     (with_step (enters number) (record standing { entered = slice_set standing.entered (number - 1) true }))
 
 -- behind the meeting of a node
 abbrev pub with_meeting : ℕ → WalkState → WalkState
-with_meeting number standing = with_node (slice_index_or standing.entered (number - 1) false) number standing
+with_meeting number standing = met_or_entered (slice_index_or standing.entered (number - 1) false) number standing
 
 -- the child that a visit meets next, if there is one
 abbrev pub child_of : Graph → Visit → Option ℕ

@@ -5,7 +5,7 @@ ghost use Rattle.yaml_base.specs.Seen.{seen_event};
 ghost use Rattle.yaml_base.specs.graphs.Documents.{graph_of};
 ghost use Rattle.yaml_base.specs.graphs.Meetings.{Graph, document_event_list, is_whole};
 ghost use Rattle.yaml_base.specs.graphs.SeenNodes.{seen_node};
-ghost use Rattle.yaml_base.specs.graphs.Unfolding.{IsDocument};
+ghost use Rattle.yaml_base.specs.graphs.Unfolding.{IsWholeGraph};
 ghost use Rattle.yaml_dump.specs.Composing.{seen_heading};
 ghost use Rattle.yaml_dump.specs.InOrder.{in_order};
 
@@ -113,7 +113,7 @@ fn composed_document<A: Allocator + Copy>(
     alloc: A,
     events: &[yaml_event_t<A>],
 ) -> Result<Option<yaml_document_t<A>>, AllocError>
-    ensures { IfOk result (λ found. (graph : Graph) → IsDocument graph → document_event_list graph ≡ map seen_event events.now
+    ensures { IfOk result (λ found. (graph : Graph) → IsWholeGraph graph → document_event_list graph ≡ map seen_event events.now
         → option_map graph_of found ≡ Some (in_order graph)) }
 {
     if events.is_empty() {
@@ -148,7 +148,7 @@ pub fn document_of_events<A: Allocator + Copy>(
     events: &[yaml_event_t<A>],
 ) -> Result<yaml_document_t<A>, ComposeError>
     ensures has_events { IfOk result (λ document. document_event_list (graph_of document) ≡ map seen_event events.now) }
-    ensures composes { (graph : Graph) → IsDocument graph → document_event_list graph ≡ map seen_event events.now
+    ensures composes { (graph : Graph) → IsWholeGraph graph → document_event_list graph ≡ map seen_event events.now
         → MatchResult result (λ document. graph_of document ≡ in_order graph) (λ error. error ≡ ComposeError.Memory) }
 {
     let Ok(found) = composed_document(alloc, events) else {

@@ -10,7 +10,7 @@ ghost use Rattle.yaml_base.specs.graphs.Meetings.{Graph};
 ghost use Rattle.yaml_base.specs.Seen.{seen_text, seen_event, seen_events, seen_scalar_style, seen_sequence_style, seen_mapping_style};
 ghost use Rattle.yaml_base.specs.graphs.SeenNodes.{seen_node, seen_held};
 ghost use Rattle.yaml_dump.specs.Anchors.{is_numbered, HasPlaces, anchor_of_place};
-ghost use Rattle.yaml_dump.specs.Events.{seen_events_of, HoldsTexts, IsFirstEntry, IsPlaced, walk_events};
+ghost use Rattle.yaml_dump.specs.Events.{seen_events_of, HoldsTexts, IsFirstEntry, StepIsPlaced, walk_events};
 ghost use Rattle.yaml_dump.specs.Named.{IsNamed};
 ghost use Rattle.yaml_dump.specs.Outlines.{IsOutline};
 ghost use Rattle.yaml_dump.specs.WalkSteps.{seen_step};
@@ -185,7 +185,7 @@ fn step_event<A: Allocator + Copy>(
     step: Step,
 ) -> Result<Option<yaml_event_t<A>>, AllocError>
     requires counted { length places.now ≡ length nodes.old }
-    requires placed { IsPlaced places.now (seen_step step) }
+    requires placed { StepIsPlaced places.now (seen_step step) }
     ensures event { IfOk result (λ event. (graph : Graph) (walk before : List meetings.Step) → HasPlaces walk places.now
         → HoldsTexts graph before (map seen_node nodes.old) → IsFirstEntry before (seen_step step)
         → seen_events_of event ≡ meetings.step_events graph walk (seen_step step)) }
@@ -216,7 +216,7 @@ fn push_event<A: Allocator + Copy>(
     events: &mut Vec<yaml_event_t<A>, A>,
 ) -> Result<(), AllocError>
     requires counted { length places.now ≡ length nodes.old }
-    requires placed { IsPlaced places.now (seen_step step) }
+    requires placed { StepIsPlaced places.now (seen_step step) }
     ensures event { IfOk result (λ _. (graph : Graph) (walk before : List meetings.Step) → HasPlaces walk places.now
         → HoldsTexts graph before (map seen_node nodes.old) → IsFirstEntry before (seen_step step)
         → seen_events events.new.items ≡ seen_events events.old.items ++ meetings.step_events graph walk (seen_step step)) }
@@ -243,7 +243,7 @@ fn push_events<A: Allocator + Copy>(
     requires counted { length places.now ≡ length nodes.old }
     requires numbered { is_numbered (length nodes.old) (map seen_step walk.now) ≡ true }
     requires placed { HasPlaces (map seen_step walk.now) places.now }
-    ensures { IfOk result (λ _. (graph : Graph) → map seen_step walk.now ≡ meetings.steps graph → HoldsTexts graph [] (map seen_node nodes.old)
+    ensures { IfOk result (λ _. (graph : Graph) → map seen_step walk.now ≡ meetings.graph_steps graph → HoldsTexts graph [] (map seen_node nodes.old)
         → seen_events events.new.items
         ≡ seen_events events.old.items ++ flat_map (meetings.step_events graph (map seen_step walk.now)) (map seen_step walk.now)) }
 {
@@ -263,7 +263,7 @@ fn push_walk<A: Allocator + Copy>(
     events: &mut Vec<yaml_event_t<A>, A>,
 ) -> Result<(), AllocError>
     requires { is_numbered (length nodes.old) (map seen_step walk.now) ≡ true }
-    ensures { IfOk result (λ _. (graph : Graph) → map seen_step walk.now ≡ meetings.steps graph → HoldsTexts graph [] (map seen_node nodes.old)
+    ensures { IfOk result (λ _. (graph : Graph) → map seen_step walk.now ≡ meetings.graph_steps graph → HoldsTexts graph [] (map seen_node nodes.old)
         → seen_events events.new.items
         ≡ seen_events events.old.items ++ flat_map (meetings.step_events graph (map seen_step walk.now)) (map seen_step walk.now)) }
 {
@@ -282,7 +282,7 @@ pub(crate) fn events_of_walk<A: Allocator + Copy>(
 ) -> Result<Vec<yaml_event_t<A>, A>, AllocError>
     requires { is_numbered (length nodes.items) (map seen_step outline.walk.items) ≡ true }
     ensures { IfOk result (λ events. (graph : Graph) → IsOutline graph outline → HoldsTexts graph [] (map seen_node nodes.items)
-        → seen_events events.items ≡ walk_events graph (meetings.steps graph)) }
+        → seen_events events.items ≡ walk_events graph (meetings.graph_steps graph)) }
 {
     let Outline {
         mut events,

@@ -2,7 +2,8 @@
 ghost use Rattle.std.specs.Prelude.{◌≡◌, map, option_map, length};
 ghost use Rattle.std.specs.Bool.{Decides};
 ghost use Rattle.std.specs.Str.{chars};
-ghost use Rattle.yaml_base.specs.Seen.{seen_text, seen_event, seen_directive, seen_version, seen_encoding, seen_scalar_style, seen_sequence_style, seen_mapping_style};
+ghost use Rattle.yaml_base.specs.Seen.{seen_text, seen_event, seen_directive, seen_version, seen_encoding, seen_scalar_style, seen_sequence_style};
+ghost use Rattle.yaml_base.specs.Seen.{seen_mapping_style};
 ghost use Rattle.yaml_dump.specs.SameEvents.{SameScalars, SameSequences, SameMappings, SameStarts};
 
 use std::alloc::Allocator;

@@ -133,7 +133,7 @@ pub(crate) fn walk<A: Allocator + Copy>(
     document: &yaml_document_t<A>,
 ) -> Result<Vec<Step, A>, AllocError>
     requires nonempty { (length (graph_of document.now).nodes == 0) ≡ false }
-    ensures walked { IfOk result (λ walk. map seen_step walk.items ≡ meetings.steps (graph_of document.now)) }
+    ensures walked { IfOk result (λ walk. map seen_step walk.items ≡ meetings.graph_steps (graph_of document.now)) }
     ensures named { IfOk result (λ walk. AreNamed (length (graph_of document.now).nodes) walk.items) }
 {
     // A law: the numbers that nodes hold are numbers of nodes.

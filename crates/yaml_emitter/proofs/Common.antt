@@ -47,7 +47,7 @@ pub use Rattle.yaml_base.{specs.Pieces.last_begins_collection, specs.Prefix.IsPr
 pub use Rattle.yaml_base.specs.Settings.{nothing_given}
 pub use Rattle.yaml_base.{specs.Refusal.BeginsAccepted, specs.Tags.last_from, specs.Tags.without_last, specs.Tags.default_directives}
 pub use Rattle.yaml_base.{specs.WrittenTexts.HoldsRaw, specs.reading.Content.documents_content, specs.scalars.Analysis.begins_with}
-pub use Rattle.yaml_base.{specs.scalars.Analysis.allows_plain, specs.scalars.DoubleQuoted.quote, specs.scalars.DoubleQuoted.backslash}
+pub use Rattle.yaml_base.{specs.scalars.Analysis.allows_plain, specs.scalars.DoubleQuoted.quote, specs.Characters.backslash}
 pub use Rattle.yaml_base.{specs.scalars.DoubleQuoted.double_quoted_body}
 pub use Rattle.yaml_base.proofs.PieceLaws.{steps-append, steps_same, list_layout_steps, prefix_layout}
 pub use Rattle.yaml_base.proofs.TagForms.{IsHandle, handle_form, AreFound, spelling_is, in_force_found}
@@ -58,10 +58,11 @@ pub use Rattle.yaml_base.specs.Steps.{is_first, node_step, stage_refusal, progre
 pub use Rattle.yaml_base.specs.reading.CanonicalReader.{node_awaited, Head, Reading, within, token_read, documents_read}
 pub use Rattle.yaml_base.specs.reading.CanonicalTokens.{Token, version_line, tag_line, document_begins, document_ends, anchor_token, alias_token, tag_token}
 pub use Rattle.yaml_base.specs.reading.CanonicalTokens.{scalar_token, opens_sequence, closes_sequence, opens_mapping, closes_mapping, key_token, value_token}
-pub use Rattle.yaml_base.specs.reading.CanonicalTokens.{comma, free, goes_to, step_between_tokens, tokens_from}
+pub use Rattle.yaml_base.specs.reading.CanonicalTokens.{comma, free, moves_to, step_between_tokens, tokens_from}
 pub use Rattle.yaml_emitter.specs.{Atoms.name_breaks, Atoms.some_handle_breaks, BorrowedTexts.seen_name, BorrowedTexts.seen_scalar}
 pub use Rattle.yaml_emitter.specs.{BorrowedTexts.seen_collection, Given.seen_effective, Inside.state_of, Inside.IsEmitter}
-pub use Rattle.yaml_emitter.specs.{MachineInside.machine_state, MachineInside.IsMachine, NodeEvents.start_event, NodeEvents.end_event, NodeEvents.brackets_of}
+pub use Rattle.yaml_emitter.specs.{MachineInside.machine_state, MachineInside.IsMachine, NodeEvents.start_of_kind, NodeEvents.end_of_kind}
+pub use Rattle.yaml_emitter.specs.{NodeEvents.brackets_of}
 pub use Rattle.yaml_emitter.specs.{Queue.is_head_ready, ScalarTexts.render_scalar_text, ScalarTexts.style_fits, Stages.seen_stage, StaysFlushed.StaysFlushed}
 pub use Rattle.yaml_emitter.specs.{StaysFlushed.whole_documents, StaysFlushed.KeepsDocuments, Uncut.IsUncut, SimpleAsciiScalars.StandsPlain}
 pub use Rattle.yaml_emitter.specs.{WrittenPieces.piece_at}
@@ -72,7 +73,7 @@ pub use Rattle.yaml_emitter.specs.Processing.{partly_written, CutShort, Processe
 pub use Rattle.yaml_emitter.specs.Promises.{RefusedAt, BeginsOutput, OutputBegins, IsRefusal, ends_stream, EndsExactly, Promised}
 pub use Rattle.yaml_emitter.specs.StandsAfter.{IsPage, HoldsPiecesWith, HoldsPieces, HasProgress, StandsWithoutError, FailedAt, closes_last, StandsRefused}
 pub use Rattle.yaml_emitter.specs.StandsAfter.{HoldsCut, holds_before, holds_part, StandsCut, StandsUnflushed, StandsStopped, at_event, between_events}
-pub use Rattle.yaml_emitter.specs.StandsAfter.{StandsFailed, MachineStands, StateStands, StandsAfter, Reached, failed_by, ReachedOn, ProcessedFirst}
+pub use Rattle.yaml_emitter.specs.StandsAfter.{StandsFailed, MachineStands, StateStands, StandsAfter, HasReached, failed_by, ReachedOn, ProcessedFirst}
 pub use Rattle.yaml_emitter.specs.State.{State, MachineState, machine_of, new_machine, standing_of, FitsPage, with_all_taken, is_at_stream, KeepsGiven}
 pub use Rattle.yaml_emitter.specs.State.{KeepsSet}
 pub use Rattle.yaml_emitter.specs.WrittenAtoms.{seen_indicator, render_atoms, seen_tag, render_spelled_tag, spelled_count}

@@ -8,7 +8,7 @@ use Rattle.yaml_base.specs.declared.errors.yaml_error_t.TheVariants.{Memory}
 use Rattle.yaml_pen.specs.Page.{result_of_error}
 use Rattle.yaml_pen.specs.Wrote.{Grows}
 use Rattle.yaml_emitter.specs.State.{MachineState, State, KeepsGiven, KeepsSet, machine_of}
-use Rattle.yaml_emitter.specs.StandsAfter.{MachineStands, Reached, ReachedOn, StandsAfter, failed_by}
+use Rattle.yaml_emitter.specs.StandsAfter.{MachineStands, HasReached, ReachedOn, StandsAfter, failed_by}
 use Rattle.yaml_emitter.specs.Promises.{Promised}
 use Rattle.yaml_emitter.specs.Moves.{Moves}
 use Rattle.yaml_emitter.specs.Queue.{are_ready_by_one_more, is_head_ready}
@@ -44,7 +44,7 @@ pub record Settled (before : State) (last : Event) (after : State) : Type 0 wher
 -- one of them failed
 pub record SettlingFailed (before : State) (last : Event) (error : yaml_error_t) (after : State) : Type 0 where
   pub ready : is_head_ready (before.held ++ last ∷ []) ≡ true
-  pub stands : (given : Settings) (all prefix : List Event) → Reached given all prefix (before.held ++ last ∷ []) (machine_of before)
+  pub stands : (given : Settings) (all prefix : List Event) → HasReached given all prefix (before.held ++ last ∷ []) (machine_of before)
       → MachineStands given all (Some error) after.held (machine_of after)
   pub grows : Grows before.page after.page
   pub set : KeepsSet before after
@@ -57,7 +57,7 @@ Settles before last (Err error) after = SettlingFailed before last error after
 
 -- a machine was given an event that is ready, where none waits
 pub record WroteAlone (before : MachineState) (event : Event) (answer : Result (Unit {0}) yaml_error_t) (after : MachineState) : Type 0 where
-  pub stands : (given : Settings) (all prefix : List Event) → Reached given all prefix (event ∷ []) before
+  pub stands : (given : Settings) (all prefix : List Event) → HasReached given all prefix (event ∷ []) before
       → MachineStands given all after.error [] after
   pub grows : Grows before.page after.page
   pub set : KeepsGiven before after

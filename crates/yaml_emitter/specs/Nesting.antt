@@ -2,7 +2,7 @@
 use Rattle.std.specs.Prelude.{◌+◌, ◌*◌, ◌≤◌, ◌≡◌, Bool, Option, None, Some, List, [], ◌∷◌, length, map, reverse}
 use Rattle.yaml_base.specs.Layout.{line_column}
 use Rattle.yaml_base.specs.Refusal.{most_open}
-use Rattle.yaml_base.specs.Steps.{Frame, place_after}
+use Rattle.yaml_base.specs.Steps.{Frame, next_entry_place}
 use Rattle.yaml_emitter.specs.Places.{seen_frame}
 use Rattle.yaml_emitter.specs.declared.place.Frame as frame
 
@@ -25,4 +25,4 @@ pub record AreFrames (innermost : Option frame.Frame) (outer : List frame.Frame)
 -- the innermost collection after one of its nodes
 abbrev pub advanced : Bool → List Frame → List Frame
 advanced simple [] = []
-advanced simple (frame ∷ outer) = record frame { place = place_after frame.place simple } ∷ outer
+advanced simple (frame ∷ outer) = record frame { place = next_entry_place frame.place simple } ∷ outer

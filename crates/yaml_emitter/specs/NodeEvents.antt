@@ -22,14 +22,14 @@ bare_scalar value style =
     record { anchor = None; tag = None; value = value; plain_implicit = true; quoted_implicit = true; style = style }
 
 -- the start of a mapping, or of a sequence
-abbrev pub start_event : (mapping : Bool) → Collection → Event
-start_event true start = mapping_start start
-start_event false start = sequence_start start
+abbrev pub start_of_kind : (mapping : Bool) → Collection → Event
+start_of_kind true start = mapping_start start
+start_of_kind false start = sequence_start start
 
 -- the end of a mapping, or of a sequence
-abbrev pub end_event : (mapping : Bool) → Event
-end_event true = mapping_end
-end_event false = sequence_end
+abbrev pub end_of_kind : (mapping : Bool) → Event
+end_of_kind true = mapping_end
+end_of_kind false = sequence_end
 
 -- the brackets of a mapping or a sequence
 abbrev pub brackets_of : (mapping : Bool) → Brackets

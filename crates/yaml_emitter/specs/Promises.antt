@@ -16,7 +16,7 @@ use Rattle.yaml_base.specs.StreamLaw.{reads_alike}
 use Rattle.yaml_base.specs.streams.StreamReader.{stream_trees}
 use Rattle.yaml_base.specs.reading.Content.{content_of}
 use Rattle.yaml_base.specs.reading.CanonicalReader.{canonical_content}
-use Rattle.yaml_base.specs.TidyBodies.{IsTidy}
+use Rattle.yaml_base.specs.TidyBodies.{BodyIsTidy}
 use Rattle.yaml_base.specs.WrittenTexts.{HoldsRaw}
 use Rattle.yaml_base.specs.declared.errors.yaml_error_t.{yaml_error_t}
 use Rattle.yaml_base.specs.declared.errors.yaml_error_t.TheVariants.{WriteError, Memory}
@@ -113,9 +113,9 @@ IsRefusal Memory = ⊥
 IsRefusal error = Unit {0}
 
 -- neither the output's limit nor memory gave out
-abbrev pub HasRoom : Option yaml_error_t → Type 0
-HasRoom None = Unit {0}
-HasRoom (Some error) = IsRefusal error
+abbrev pub HasRoomAndMemory : Option yaml_error_t → Type 0
+HasRoomAndMemory None = Unit {0}
+HasRoomAndMemory (Some error) = IsRefusal error
 
 -- nothing failed but for want of memory
 abbrev pub FailsOnlyByMemory : Option yaml_error_t → Type 0
@@ -131,7 +131,7 @@ ends_stream (event ∷ rest) = ends_stream rest
 -- where there is room, a list that ends the stream is accepted exactly if no event was refused and none waits
 abbrev pub EndsExactly : Settings → List Event → State → Type 0
 EndsExactly given all state =
-    HasRoom state.error → IsAccepted given.canonical all ↔ ((state.error ≡ None) × (state.held ≡ []))
+    HasRoomAndMemory state.error → IsAccepted given.canonical all ↔ ((state.error ≡ None) × (state.held ≡ []))
 
 -- of no pieces there are no bytes, not even a byte order mark
 abbrev pub bytes_of_some : ℕ → List ℕ → List ℕ
@@ -164,7 +164,7 @@ pub record IsWritten (given : Settings) (all : List Event) (state : State) : Typ
   pub reads_by_either : given.portable ≡ true → (breaks12 : Bool)
       → agrees given.canonical all (stream_trees breaks12 state.page.output) ≡ true
   pub raw : HoldsRaw (settings_for given all) state.page.text
-  pub tidy : All (IsTidy (settings_for given all)) (bodies_of (list_layout (settings_for given all) all))
+  pub tidy : All (BodyIsTidy (settings_for given all)) (bodies_of (list_layout (settings_for given all) all))
 
 -- what a caller may rely on wherever an emitter stands
 pub record Promised (given : Settings) (all : List Event) (state : State) : Type 0 where

@@ -144,7 +144,7 @@ pub record StandsAfter (given : Settings) (all : List Event) (state : State) : T
   pub so : StateStands given all state
 
 -- on the way: a prefix of the events is written, the others wait
-pub record Reached (given : Settings) (all prefix rest : List Event) (machine : MachineState) : Type 0 where
+pub record HasReached (given : Settings) (all prefix rest : List Event) (machine : MachineState) : Type 0 where
   pub parts : prefix ++ rest ≡ all
   pub ready : written all ≡ length prefix + written rest
   pub progress : HasProgress given all prefix (steps (settings_for given all) (closes_last prefix rest) prefix at_stream first_standing) machine
@@ -156,13 +156,13 @@ failed_by error machine = record machine { error = Some error }
 -- every list that `before` has reached, `after` reaches with more written
 abbrev pub ReachedOn : (waiting : List Event) → MachineState → (left : List Event) → MachineState → Type 0
 ReachedOn waiting before left after =
-    (given : Settings) (all prefix : List Event) → Reached given all prefix waiting before
-    → (next : List Event) × Reached given all next left after
+    (given : Settings) (all prefix : List Event) → HasReached given all prefix waiting before
+    → (next : List Event) × HasReached given all next left after
 
 -- one of these failed, wherever the machine had come
 abbrev pub FailedReady : (waiting : List Event) → (error : yaml_error_t) → (before after : MachineState) → Type 0
 FailedReady waiting error before after =
-    (given : Settings) (all prefix : List Event) → Reached given all prefix waiting before → StandsFailed given all error (failed_by error after)
+    (given : Settings) (all prefix : List Event) → HasReached given all prefix waiting before → StandsFailed given all error (failed_by error after)
 
 -- the first event that waits was processed
 pub record ProcessedFirst (waiting : List Event) (before after : MachineState) (answer : Result (Unit {0}) yaml_error_t) : Type 0 where

@@ -19,7 +19,7 @@ IsUncut given events =
     length (bytes_written (settings_for given events) (list_layout (settings_for given events) events)) ≤ given.limit
 
 -- a list that is written whole in canonical mode
-pub record IsWhole (given : Settings) (events : List Event) : Type 0 where
+pub record IsWrittenWhole (given : Settings) (events : List Event) : Type 0 where
   pub canonical : given.canonical ≡ true
   pub accepted : IsAccepted given.canonical events
   pub scalars : list_all has_scalar_texts events ≡ true
@@ -27,12 +27,12 @@ pub record IsWhole (given : Settings) (events : List Event) : Type 0 where
 
 -- its output reads as its content
 abbrev pub OutputReads : Settings → List Event → Type 0
-OutputReads given events = IsWhole given events → canonical_content given.breaks12 (output_of given events) ≡ content_of events
+OutputReads given events = IsWrittenWhole given events → canonical_content given.breaks12 (output_of given events) ≡ content_of events
 
 -- under equal settings equal outputs come only from equal contents
 abbrev pub OutputTells : Settings → (first second : List Event) → Type 0
 OutputTells given first second =
-    IsWhole given first → IsWhole given second → output_of given first ≡ output_of given second
+    IsWrittenWhole given first → IsWrittenWhole given second → output_of given first ≡ output_of given second
     → content_of first ≡ content_of second
 
 -- a list that is written whole, in any mode, as all readers of YAML read it

@@ -6,7 +6,7 @@ ghost use Rattle.yaml_base.specs.Event.{CollectionStyle, scalar};
 ghost use Rattle.yaml_base.specs.Refusal.{name_or_tag_fault, properties_fault};
 ghost use Rattle.yaml_base.specs.Tags.{alias_fault, anchor_fault, tag_fault};
 ghost use Rattle.yaml_emitter.specs.BorrowedTexts.{seen_collection, seen_name, seen_scalar};
-ghost use Rattle.yaml_emitter.specs.NodeEvents.{start_event};
+ghost use Rattle.yaml_emitter.specs.NodeEvents.{start_of_kind};
 
 use crate::writing::{CollectionContent, ScalarContent, writes_collection_tag, writes_scalar_tag};
 use yaml_base::yaml_error_t;
@@ -31,7 +31,7 @@ pub(crate) fn check_collection_names(
     content: &CollectionContent,
 ) -> Result<(), yaml_error_t>
     ensures { (mapping : Bool) (style : CollectionStyle)
-        → refused result ≡ name_or_tag_fault canonical (start_event mapping (seen_collection content.now style)) }
+        → refused result ≡ name_or_tag_fault canonical (start_of_kind mapping (seen_collection content.now style)) }
 {
     let written = writes_collection_tag(canonical, content.implicit);
     check_properties(content.anchor, content.tag, written)

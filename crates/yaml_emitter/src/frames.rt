@@ -7,15 +7,14 @@ ghost use Rattle.yaml_base.specs.Steps as steps;
 ghost use Rattle.yaml_emitter.specs.Places.{is_mapping, seen_frame, seen_place};
 ghost use Rattle.yaml_base.specs.Refusal.{most_open};
 ghost use Rattle.yaml_emitter.specs.Nesting.{advanced};
-ghost use Rattle.yaml_emitter.specs.NodeEvents.{end_event};
+ghost use Rattle.yaml_emitter.specs.NodeEvents.{end_of_kind};
 ghost use Rattle.yaml_emitter.specs.Stages.{seen_stage};
 
-use yaml_base::CollectionKind;
 use crate::place::{Frame, Place};
 use crate::stage::Stage;
 use std::alloc::Allocator;
 use std::marker::Model;
-use yaml_base::yaml_error_t;
+use yaml_base::{CollectionKind, yaml_error_t};
 
 /// The maximum nesting depth.
 const MOST_OPEN: usize = 1_000_000;
@@ -76,7 +75,7 @@ impl<A: Allocator> Frames<A> {
 
     /// Returns whether the end of a mapping, or of a sequence, may come next.
     pub(crate) fn may_end(&self, kind: CollectionKind) -> bool
-        ensures { result ≡ steps.node_allowed self.now (end_event (is_mapping kind)) }
+        ensures { result ≡ steps.node_allowed self.now (end_of_kind (is_mapping kind)) }
     {
         self.innermost
             .is_some_and(|frame| frame.place.role.may_end(kind))

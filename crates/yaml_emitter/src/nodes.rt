@@ -14,7 +14,7 @@ ghost use Rattle.yaml_pen.specs.Wrote.{Wrote};
 ghost use Rattle.yaml_scalar.specs.SimpleAsciiTexts.{IsSimpleAscii};
 ghost use Rattle.yaml_emitter.specs.BorrowedTexts.{seen_collection, seen_scalar};
 ghost use Rattle.yaml_emitter.specs.Given.{seen_effective};
-ghost use Rattle.yaml_emitter.specs.NodeEvents.{bare_scalar, end_event, first_entry, is_at_node, start_event, starts_undented};
+ghost use Rattle.yaml_emitter.specs.NodeEvents.{bare_scalar, end_of_kind, first_entry, is_at_node, start_of_kind, starts_undented};
 ghost use Rattle.yaml_emitter.specs.Places.{is_mapping, seen_frame, seen_place, seen_role};
 ghost use Rattle.yaml_emitter.specs.Processing.{Processed};
 ghost use Rattle.yaml_emitter.specs.Reach.{most_column};
@@ -23,8 +23,6 @@ ghost use Rattle.yaml_emitter.specs.WrittenPieces.{piece_at};
 
 use crate::check::{check_alias, check_collection_names, check_scalar_names};
 use crate::machine::Machine;
-use yaml_base::CollectionKind::{Mapping, Sequence};
-use yaml_base::CollectionKind;
 use crate::place::{Frame, Place, Role};
 use crate::stage::Stage;
 use crate::writing::{
@@ -34,9 +32,10 @@ use crate::writing::{
     write_simple_ascii, written_collection_tag, written_scalar_tag,
 };
 use std::alloc::Allocator;
+use yaml_base::CollectionKind::{Mapping, Sequence};
 use yaml_base::{
-    YAML_FLOW_MAPPING_STYLE, YAML_FLOW_SEQUENCE_STYLE, yaml_error_t, yaml_mapping_style_t,
-    yaml_scalar_style_t, yaml_sequence_style_t,
+    CollectionKind, YAML_FLOW_MAPPING_STYLE, YAML_FLOW_SEQUENCE_STYLE, yaml_error_t,
+    yaml_mapping_style_t, yaml_scalar_style_t, yaml_sequence_style_t,
 };
 use yaml_pen::Pen;
 
@@ -157,7 +156,7 @@ impl<A: Allocator + Copy> Machine<A> {
         empty: bool,
     ) -> Result<(), yaml_error_t>
         ensures { (style : CollectionStyle) → asks_flow style ≡ flow_asked
-            → Processed (start_event (is_mapping kind) (seen_collection content.now style)) empty self.old self.new result }
+            → Processed (start_of_kind (is_mapping kind) (seen_collection content.now style)) empty self.old self.new result }
     {
         check_collection_names(self.settings.canonical, content)?;
         if !self.is_at_node() {
@@ -175,9 +174,9 @@ impl<A: Allocator + Copy> Machine<A> {
         empty: bool,
     ) -> Result<(), yaml_error_t>
         requires stage { is_at_node self.old.stage ≡ true }
-        requires names { name_or_tag_fault self.old.given.canonical (start_event (is_mapping kind) (seen_collection content.now any_layout)) ≡ None }
+        requires names { name_or_tag_fault self.old.given.canonical (start_of_kind (is_mapping kind) (seen_collection content.now any_layout)) ≡ None }
         ensures { (style : CollectionStyle) → asks_flow style ≡ flow_asked
-            → Processed (start_event (is_mapping kind) (seen_collection content.now style)) empty self.old self.new result }
+            → Processed (start_of_kind (is_mapping kind) (seen_collection content.now style)) empty self.old self.new result }
     {
         if self.frames.is_full() {
             return Err(yaml_error_t::TooDeep);
@@ -205,7 +204,7 @@ impl<A: Allocator + Copy> Machine<A> {
 
     /// Returns whether the end of a collection of this kind may come next.
     fn may_end(&self, kind: CollectionKind) -> bool
-        ensures { result ≡ stage_allows self.now.stage (end_event (is_mapping kind)) }
+        ensures { result ≡ stage_allows self.now.stage (end_of_kind (is_mapping kind)) }
     {
         match self.stage {
             Stage::Node => self.frames.may_end(kind),
@@ -215,7 +214,7 @@ impl<A: Allocator + Copy> Machine<A> {
 
     /// Processes the end of a collection.
     pub(crate) fn end_collection(&mut self, kind: CollectionKind) -> Result<(), yaml_error_t>
-        ensures { (empty : Bool) → Processed (end_event (is_mapping kind)) empty self.old self.new result }
+        ensures { (empty : Bool) → Processed (end_of_kind (is_mapping kind)) empty self.old self.new result }
     {
         if !self.may_end(kind) {
             return Err(self.stage.refusal());

@@ -54,8 +54,8 @@ impl Role {
         ensures { result ≡ (if is_mapping kind then is_key (seen_role self) else is_item (seen_role self)) }
     {
         match self {
-            Role::Item { .. } => !kind.is_mapping(),
-            Role::Key { .. } => kind.is_mapping(),
+            Role::Item { .. } => matches!(kind, CollectionKind::Sequence),
+            Role::Key { .. } => matches!(kind, CollectionKind::Mapping),
             _ => false,
         }
     }

@@ -15,13 +15,13 @@ use crate::directives::next_directives;
 use crate::effective::EffectiveSettings;
 use crate::machine::Machine;
 use crate::nodes::{collection_content, is_flow_mapping, is_flow_sequence, scalar_content};
-use yaml_base::CollectionKind::{Mapping, Sequence};
 use crate::stage::Stage;
 use crate::writing::{
     OpenEnded, StartContent, write_document_end, write_document_start, write_stream_end,
 };
 use std::alloc::Allocator;
 use std::mem;
+use yaml_base::CollectionKind::{Mapping, Sequence};
 use yaml_base::{
     YAML_ALIAS_EVENT, YAML_DOCUMENT_END_EVENT, YAML_DOCUMENT_START_EVENT, YAML_MAPPING_END_EVENT,
     YAML_MAPPING_START_EVENT, YAML_SCALAR_EVENT, YAML_SEQUENCE_END_EVENT,

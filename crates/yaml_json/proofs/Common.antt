@@ -21,16 +21,17 @@ pub use Rattle.yaml_base.{proofs.Trees.stream_pushed, proofs.stream_nodes.Stream
 pub use Rattle.yaml_base.{specs.values.JsonNumbers.fraction_or_default, specs.values.JsonNumbers.is_json_integer}
 pub use Rattle.yaml_base.specs.values.TypedValues.{null_tag, bool_tag, int_tag, bool_text}
 pub use Rattle.yaml_emitter.{proofs.Common.some_from_result, specs.Promises.RefusedAt, specs.StandsAfter.StateStands, specs.State.State}
-pub use Rattle.yaml_json.specs.{Begins.BeginsValue, Begins.NoneGoesOn, Cuts.HasScanned, Cuts.CutsAt, HeldNames.HaveNames, HeldNames.HoldsNames}
+pub use Rattle.yaml_json.specs.{Begins.BeginsWithinDepth, Begins.NoneGoesOn, Cuts.HasScanned, Cuts.CutsAt, HeldNames.HaveNames, HeldNames.HoldsNames}
 pub use Rattle.yaml_json.specs.{HeldNames.AddsName, Means.Schema, Texts.after_byte, Texts.texts_in, Texts.CutsFirstText, TokenEvents.token_events}
 pub use Rattle.yaml_json.specs.{TokenEvents.tokens_events}
-pub use Rattle.yaml_json.specs.Failing.{failure_of, emitter_error_of, FailedWith, FailedAt, FailedInText, between, events_with_separators}
+pub use Rattle.yaml_json.specs.Failing.{failure_of, emitter_error_of, FailedWith, FailedGiving, FailedInText, between, events_with_separators}
 pub use Rattle.yaml_json.specs.JsonEvents.{word_content, null_content, bool_content, number_content, text_content, collection_in, json_events, items_events}
 pub use Rattle.yaml_json.specs.JsonEvents.{members_events}
 pub use Rattle.yaml_json.specs.Names.{IsNewName, inner_names, names_after, NamesOnce, all_names_after}
-pub use Rattle.yaml_json.specs.Refused.{RefusesText, BreaksOff, OpensTooDeep, NamesTwice, ExplainsError, HaveNamesOnce}
+pub use Rattle.yaml_json.specs.Refused.{RefusesText, TokensBreakOff, OpensTooDeep, NamesTwice, ExplainsError, HaveNamesOnce}
 pub use Rattle.yaml_json.specs.Sent.{Advances, StopsWithin, IsScanned}
-pub use Rattle.yaml_json.specs.Walk.{unwind, Stands, IsScalar, opener, closer, KeepsNames, FitsNames, Keeps, HasUniqueNames, BeganValue, BeginFailed}
+pub use Rattle.yaml_json.specs.Walk.{unwind, LeavesOpen, IsScalar, opener, closer, KeepsNames, FitsNames, KeepsNamesAfter, HasUniqueNames, BeganValue}
+pub use Rattle.yaml_json.specs.Walk.{BeginFailed}
 pub use Rattle.yaml_json.specs.Walk.{RefusesToken, BeganFirstValue, FirstFailed, RefusesFirst, WhyStopped, Refuses, WalkProgress}
 pub use Rattle.yaml_json.specs.Wrote.{IsBare, Wrote, WroteEvent, start_event, WroteText, AreJson, parts_events, ReadsTexts}
 pub use Rattle.yaml_writer.{proofs.PartLemmas.number_found, specs.NumberParts.number_in, specs.NumberParts.IsNumber}

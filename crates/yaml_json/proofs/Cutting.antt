@@ -4,7 +4,7 @@ use Rattle.yaml_json.proofs.Common.{refl, ◌≡◌, length-append, length-drop,
 use Rattle.yaml_json.proofs.Common.{subst, sym, ◌∙◌, arith, HasScanned, CutsAt, after_byte, texts_in, CutsFirstText}
 use Rattle.std.{proofs.Common.drop-cons, proofs.lemmas.List.take-append-le, proofs.lemmas.List.take_more, specs.Str.IsCharBoundary}
 use Rattle.yaml_json.specs.{Cuts.all_onto, Cuts.Scanned, declared.cuts.Cut.Cut, declared.cuts.Mode.Mode, declared.cuts.Scan.Scan}
-use Rattle.yaml_json.specs.Texts.{scan_first_byte, scan_within, scan_in_string, onto_first, cut_before, texts_after}
+use Rattle.yaml_json.specs.Texts.{scan_first_byte, scan_within, scan_in_string, onto_first, cut_text_before, texts_after}
 use Rattle.yaml_json.specs.declared.cuts.Mode.TheVariants.{AfterBackslash, Before, Behind, InString, InWord, Within}
 
 onto_one_more : (bytes : List ℕ) (byte : ℕ) (texts : List (List ℕ)) → all_onto (bytes ++ byte ∷ []) texts ≡ all_onto bytes (onto_first byte texts)
@@ -32,9 +32,9 @@ step_few Behind levels byte next is = grind arith
 
 module _ (done : List ℕ) (scan : Scan) (byte : ℕ) (scanned : Scanned done scan) where
   by_next : (found : Option Scan) → after_byte scan byte ≡ found → (more : List ℕ)
-      → texts_in (done ++ byte ∷ more) ≡ all_onto done (cut_before byte found (λ next. texts_after next more))
+      → texts_in (done ++ byte ∷ more) ≡ all_onto done (cut_text_before byte found (λ next. texts_after next more))
   by_next found is more =
-      scanned.texts (byte ∷ more) ∙ ap (λ (found : Option Scan). all_onto done (cut_before byte found (λ next. texts_after next more))) is
+      scanned.texts (byte ∷ more) ∙ ap (λ (found : Option Scan). all_onto done (cut_text_before byte found (λ next. texts_after next more))) is
 
   -- the byte goes on with the text
   pub scan_goes_on : (next : Scan) → after_byte scan byte ≡ Some next → Scanned (done ++ byte ∷ []) next

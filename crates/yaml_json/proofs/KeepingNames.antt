@@ -1,7 +1,7 @@
 -- The names that are kept while the tokens of a value are walked over.
 use Rattle.yaml_json.proofs.Common.{ℕ, length, Bool, false, true, List, [], ◌++◌, ◌∷◌, refl, ◌≡◌, length-append, append_assoc, inl, inr, ap, subst, sym, ◌∙◌}
 use Rattle.yaml_json.proofs.Common.{arith, both_ways, Token, HaveNames, HoldsNames, AddsName, IsNewName, inner_names, names_after, NamesOnce, all_names_after}
-use Rattle.yaml_json.proofs.Common.{IsScalar, opener, closer, KeepsNames, FitsNames, Keeps, HasUniqueNames}
+use Rattle.yaml_json.proofs.Common.{IsScalar, opener, closer, KeepsNames, FitsNames, KeepsNamesAfter, HasUniqueNames}
 use Rattle.std.proofs.lemmas.Bool.{cases_Bool}
 use Rattle.yaml_json.proofs.NameLemmas.{once_both, names_after_both}
 use Rattle.yaml_json.specs.{Names.outer_names, Walk.KeepsTo, Walk.LeavesNames, declared.names.Names.Names}
@@ -43,7 +43,7 @@ module _ {A : Type 0} where
       )
 
   -- a scalar
-  pub keeps_scalar : (token : Token) (held : Names A) → IsScalar token → Keeps held (token ∷ []) held
+  pub keeps_scalar : (token : Token) (held : Names A) → IsScalar token → KeepsNamesAfter held (token ∷ []) held
   keeps_scalar token held is so =
       let levels = all_names_after [] so in
       kept_on so token held held refl (λ also. (scalar_names token is levels).0)
@@ -51,14 +51,14 @@ module _ {A : Type 0} where
 
   -- a collection begins
   pub keeps_opener : (kind : CollectionKind) (held later : Names A) → later.are_kept ≡ held.are_kept
-      → ((names : Taken) → HoldsNames names held → HoldsNames ([] ∷ names) later) → Keeps held (opener kind ∷ []) later
+      → ((names : Taken) → HoldsNames names held → HoldsNames ([] ∷ names) later) → KeepsNamesAfter held (opener kind ∷ []) later
   keeps_opener kind held later same enters so =
       let levels = all_names_after [] so in
       kept_on so (opener kind) held later same (λ also. (opener_names kind levels).0)
       (λ holds. subst (λ (names : Taken). HoldsNames names later) (sym (opener_names kind levels).1) (enters levels holds))
 
   -- or ends
-  pub keeps_closer : (kind : CollectionKind) (held later : Names A) → LeavesNames held later → Keeps held (closer kind ∷ []) later
+  pub keeps_closer : (kind : CollectionKind) (held later : Names A) → LeavesNames held later → KeepsNamesAfter held (closer kind ∷ []) later
   keeps_closer kind held later leaves so =
       let levels = all_names_after [] so in
       kept_on so (closer kind) held later leaves.0 (λ also. (closer_names kind levels).0)
@@ -85,7 +85,7 @@ module _ {A : Type 0} where
         (λ again. subst (HaveNames held.few.items held.levels.items) (there so kept also) (kept again).1)
 
     -- a name that is new
-    pub keeps_name : new ≡ true → Keeps held (Token.key name ∷ []) later
+    pub keeps_name : new ≡ true → KeepsNamesAfter held (Token.key name ∷ []) later
     keeps_name fresh so kept wanted =
         let also = sym same ∙ wanted in
         let all = added so kept also in (
@@ -106,8 +106,8 @@ module _ {A : Type 0} where
           both_ways held.are_kept none (sym same ∙ returned.0)
 
   -- some tokens, and then others
-  pub keeps_then : (held between later : Names A) (one other : List Token) → Keeps held one between → Keeps between other later
-      → Keeps held (one ++ other) later
+  pub keeps_then : (held between later : Names A) (one other : List Token) → KeepsNamesAfter held one between → KeepsNamesAfter between other later
+      → KeepsNamesAfter held (one ++ other) later
   keeps_then held between later one other first second so kept =
       subst (λ (all : List Token). KeepsNames all later) (append_assoc so one other) (second (so ++ one) (first so kept))
 

@@ -8,7 +8,8 @@ use Rattle.yaml_json.proofs.Common.{yaml_number, resolved_by_core, resolved_by_1
 use Rattle.yaml_json.proofs.Common.{bool_content, number_content, text_content, collection_in, Schema, number_in, float_tag, number_tag, text_style}
 use Rattle.yaml_base.proofs.Common.{not, digits_value, any_style, single_quoted, double_quoted, literal, folded, TagDirective, as_item, as_key, as_value, Place}
 use Rattle.yaml_base.proofs.Common.{has_no_nodes, has_no_pairs, is_simple, is_simple_at, charset_of, style_asked_at, choice_of, is_written_in_flow, entry_place}
-use Rattle.yaml_base.proofs.Common.{Allowances, allowances, allowed_under, is_block, requested_style, fitting_style, fits_plain, Choice, chosen, Stood, stood_plain}
+use Rattle.yaml_base.proofs.Common.{Allowances, allowances, allowed_under, is_block, requested_style, fitting_style, fits_plain, Choice, chosen, Stood}
+use Rattle.yaml_base.proofs.Common.{stood_plain}
 use Rattle.yaml_base.proofs.Common.{stood_quoted, Tagging, with_tag, without_tag, sequence_tree, mapping_tree}
 use Rattle.yaml_base.proofs.Common.{json_value, number_meant, means_number, Resolved, meant_integer, meant_decimal, meant_text, signed}
 use Rattle.json.specs.Tree.{ItemsHaveNumbers, MembersHaveNumbers}

@@ -6,7 +6,7 @@ use Rattle.yaml_json.proofs.Common.{IsNumber}
 use Rattle.yaml_base.proofs.Common.{take_while-cons, leb-true, or_right, agree_below_at, take_while, nat_le, is_word, JsonExponent, is_decimal}
 use Rattle.std.{proofs.lemmas.List.Folds.length-prefix_len, specs.Char.is_ascii_digit, specs.List.prefix_len}
 use Rattle.json.specs.Word.{after_digits, after_minus, after_sign, after_whole, after_fraction, after_exponent, after_number}
-use Rattle.yaml_base.specs.values.JsonNumbers.{is_whole, exponent_text}
+use Rattle.yaml_base.specs.values.JsonNumbers.{is_whole_part, exponent_text}
 use Rattle.json.specs.Print as json
 
 -- Parts that were passed over
@@ -73,13 +73,13 @@ digits_got text rest e = by (count == 0) refl e
 record Whole (text rest : Text) : Type 0 where
   digits : Text
   joined : text ≡ digits ++ rest
-  is : is_whole digits ≡ true
+  is : is_whole_part digits ≡ true
 
 abbrev first_or : ℕ → Text → ℕ
 first_or none [] = none
 first_or none (c ∷ rest) = c
 
-leading : (c : ℕ) (text rest digits : Text) → (c == 0x30) ≡ false → (c ∷ text) ≡ digits ++ rest → are_digits 10 digits ≡ true → is_whole digits ≡ true
+leading : (c : ℕ) (text rest digits : Text) → (c == 0x30) ≡ false → (c ∷ text) ≡ digits ++ rest → are_digits 10 digits ≡ true → is_whole_part digits ≡ true
 leading c text rest [] other joined are = absurd (false≢true are)
 leading c text rest (d ∷ digits) other joined are =
     and_from (are_digits 10 (d ∷ digits)) (is_word (d ∷ digits) (codes "0") || not (d == 0x30)) are
@@ -207,8 +207,8 @@ all_parts text unsigned after_it later negative signed whole fraction exponent =
   record { negative = negative; whole = whole.digits; fraction = fraction.fraction; exponent = exponent.exponent },
   record {
     valid =
-        and_from (is_whole whole.digits && is_fraction fraction.fraction) (is_exponent exponent.exponent)
-        (and_from (is_whole whole.digits) (is_fraction fraction.fraction) whole.is fraction.is) exponent.is;
+        and_from (is_whole_part whole.digits && is_fraction fraction.fraction) (is_exponent exponent.exponent)
+        (and_from (is_whole_part whole.digits) (is_fraction fraction.fraction) whole.is fraction.is) exponent.is;
     text_is =
         signed ∙ ap (λ (t : Text). minus negative ++ t) whole.joined
         ∙ ap (λ (t : Text). minus negative ++ (whole.digits ++ t)) fraction.joined

@@ -4,7 +4,7 @@ use Rattle.std.proofs.Common.{arith}
 use Rattle.std.proofs.lemmas.Bool.Decides.{nat_tests}
 use Rattle.std.proofs.lemmas.List.{at_drop_more, drop_all}
 use Rattle.yaml_base.specs.declared.kinds.CollectionKind.{CollectionKind}
-use Rattle.yaml_json.specs.Expected.{IsDepth, IsFront, Standing, innermost, kind_at, standing_after, standing_over, start}
+use Rattle.yaml_json.specs.Expected.{IsDepth, IsFront, StandingInJson, innermost, kind_at, standing_after, standing_over, start}
 use Rattle.yaml_json.specs.declared.expecting.Depth.{Depth}
 use Rattle.yaml_json.specs.declared.expecting.Front.{Front}
 
@@ -37,12 +37,12 @@ closed_there deep (kind ∷ outer) depth after is all count none =
 
 -- the bytes before this place lead here, and those from it on lead from here to where all lead
 pub record StandsBefore (bytes : List ℕ) (deep at : ℕ) (front : Front) : Type 0 where
-  pub standing : Standing
+  pub standing : StandingInJson
   pub is : IsFront deep standing front
   pub whole : standing_over standing (drop at bytes) ≡ standing_over start bytes
 
 pub one_byte : (bytes : List ℕ) (deep at : ℕ) (front next : Front) → at < length bytes → (so : StandsBefore bytes deep at front)
-    → ((standing : Standing) → IsFront deep standing front → IsFront deep (standing_after standing (get_or bytes at 0)) next)
+    → ((standing : StandingInJson) → IsFront deep standing front → IsFront deep (standing_after standing (get_or bytes at 0)) next)
     → StandsBefore bytes deep (at + 1) next
 one_byte bytes deep at front next less so goes =
     record {
@@ -54,5 +54,5 @@ one_byte bytes deep at front next less so goes =
 pub all_bytes : (bytes : List ℕ) (deep at : ℕ) (front : Front) → length bytes ≤ at → StandsBefore bytes deep at front
     → IsFront deep (standing_over start bytes) front
 all_bytes bytes deep at front all so =
-    subst (λ (s : Standing). IsFront deep s front)
+    subst (λ (s : StandingInJson). IsFront deep s front)
     (sym (ap (standing_over so.standing) (drop_all at bytes all)) ∙ so.whole) so.is

@@ -9,20 +9,20 @@ use Rattle.std.proofs.lemmas.Simd.{get_or-chunk}
 use lib.Lanes.{chunk}
 use Rattle.std.specs.Int.{bit_at, trailing_zeros}
 use Rattle.yaml_json.specs.declared.{cuts.Cut.Cut, cuts.Scan.Scan}
-use Rattle.yaml_json.specs.Specials.{IsInside, MayBeSpecial, is_special}
+use Rattle.yaml_json.specs.Specials.{IsInside, MayBeSpecial, may_change_scan}
 use Rattle.yaml_json.proofs.LowestBit.{lowest_cleared}
 use Rattle.yaml_json.proofs.Cutting.{within_stays, string_stays, one_scanned}
 
-plain_stays : (scan : Scan) (byte : ℕ) → IsInside scan → is_special byte ≡ false → after_byte scan byte ≡ Some scan
+plain_stays : (scan : Scan) (byte : ℕ) → IsInside scan → may_change_scan byte ≡ false → after_byte scan byte ≡ Some scan
 plain_stays scan byte inside none =
     elim inside [
       | inl within ↦ within_stays scan byte within (grind arith)
-      | inr string ↦ string_stays scan byte string (λ e. true≢false (ap is_special (sym e) ∙ none)) (λ e. true≢false (ap is_special (sym e) ∙ none))
+      | inr string ↦ string_stays scan byte string (λ e. true≢false (ap may_change_scan (sym e) ∙ none)) (λ e. true≢false (ap may_change_scan (sym e) ∙ none))
     ]
 
 -- over bytes that aren't special
 passes : (text : List ℕ) (cut : Cut) (n : ℕ) → IsInside cut.scan → HasScanned text cut → cut.scanned + n ≤ length text
-    → ((k : ℕ) → k < n → is_special (get_or text (cut.scanned + k) 0) ≡ false)
+    → ((k : ℕ) → k < n → may_change_scan (get_or text (cut.scanned + k) 0) ≡ false)
     → HasScanned text (record { scan = cut.scan; scanned = cut.scanned + n })
 passes text cut zero inside has room each =
     let none : cut.scanned ≡ cut.scanned + 0 = omega arith in
@@ -42,7 +42,7 @@ pub record Left (text : List ℕ) (from : ℕ) (scan : Scan) (left : ℕ) : Type
   pub scanned : HasScanned text (record { scan = scan; scanned = from + count })
   pub small : left < 2 ^ 32
   pub clear : (k : ℕ) → k < count → bit_at left k ≡ 0
-  pub specials : (k : ℕ) → count ≤ k → k < 32 → bit_at left k ≡ 0 → is_special (get_or text (from + k) 0) ≡ false
+  pub specials : (k : ℕ) → count ≤ k → k < 32 → bit_at left k ≡ 0 → may_change_scan (get_or text (from + k) 0) ≡ false
 
 pub left_first : (text : List ℕ) (cut : Cut) (found : ℕ) → IsInside cut.scan → HasScanned text cut → found < 2 ^ 32
     → cut.scanned + 32 ≤ length text → MayBeSpecial (chunk cut.scanned 32 text) found
@@ -56,7 +56,7 @@ left_first text cut found inside has small room specials =
       scanned = subst (λ (at : ℕ). HasScanned text (record { scan = cut.scan; scanned = at })) none has;
       small = small;
       clear = λ k low. let never : ⊥ = omega arith in absurd never;
-      specials = λ k low high none. ap is_special (sym (get_or-chunk cut.scanned 32 text k 0 high)) ∙ specials k high none;
+      specials = λ k low high none. ap may_change_scan (sym (get_or-chunk cut.scanned 32 text k 0 high)) ∙ specials k high none;
     }
 
 module _ (text : List ℕ) (from : ℕ) (scan : Scan) (left : ℕ) (held : Left text from scan left) (room : from + 32 ≤ length text) where
@@ -69,7 +69,7 @@ module _ (text : List ℕ) (from : ℕ) (scan : Scan) (left : ℕ) (held : Left 
       subst (λ (at : ℕ). HasScanned text (record { scan = scan; scanned = at })) back
       (passes text (record { scan = scan; scanned = from + count }) (end - count) held.inside held.scanned (omega (arith, further, within, room))
       (λ k low. let same : from + count + k ≡ from + (count + k) = omega arith in
-      ap (λ (at : ℕ). is_special (get_or text at 0)) same
+      ap (λ (at : ℕ). may_change_scan (get_or text at 0)) same
       ∙ held.specials (count + k) (omega arith) (omega (arith, low, further, within)) (none (count + k) (omega (arith, low, further, within)))))
 
   pub left_none : left ≡ 0 → HasScanned text (record { scan = scan; scanned = from + 32 })

@@ -11,10 +11,10 @@ use Rattle.yaml_json.specs.Begins.{BeginsAllowed, NoneGoesOn}
 use Rattle.yaml_json.specs.Offsets.{IsOffset, IsPast}
 use Rattle.yaml_json.specs.Places.{CannotStandAt, IsAny, IsWithinDepth}
 use Rattle.yaml_json.specs.Reached.{AreFrom}
-use Rattle.yaml_json.specs.Refused.{BreaksAt, NamesTwiceAt, OpensTooDeepAt}
+use Rattle.yaml_json.specs.Refused.{TokensBreakAt, NamesTwiceAt, OpensTooDeepAt}
 use Rattle.yaml_writer.specs.Writing.{WriterState}
 use Rattle.yaml_json.specs.Offsets.{StopsAtLexeme}
-use Rattle.yaml_json.specs.Walk.{StopsWriting}
+use Rattle.yaml_json.specs.Walk.{TextStopsWriting}
 use Rattle.yaml_json.specs.declared.values.Spot.TheVariants.{At, PastString, PastValue}
 use Rattle.yaml_json.specs.declared.values.Stop.{Stop}
 use Rattle.yaml_json.specs.declared.values.Stop.TheVariants as stops
@@ -44,7 +44,7 @@ module _ (depth : ℕ) (unique in_flow : Bool) (text : List ℕ) (before : List 
       at_token allowed text taken left last here goes.begins.json is goes.token goes.is_beginner goes.begins.begins
       (none_here allowed text taken left last here (lex between (drop last text)) refl other ends stands)
 
-  past_other : (taken left : List Token) → before ≡ left → taken ++ left ≡ tokens text → BreaksAt depth unique taken left → CouldStandOther taken left
+  past_other : (taken left : List Token) → before ≡ left → taken ++ left ≡ tokens text → TokensBreakAt depth unique taken left → CouldStandOther taken left
       → IsPast text last at → CannotStandAt IsAny text at
   past_other taken left were parts breaks (s, (after, inl (is, some))) past =
       past_string text taken left last at (reader_here taken left were parts breaks.begins) past true s after is breaks.breaks some
@@ -78,7 +78,7 @@ module _ (depth : ℕ) (unique in_flow : Bool) (text : List ℕ) (before : List 
       goes.token goes.is_beginner goes.begins.begins
       (none_again text taken twice.name twice.after last here twice.twice (no_string twice.name twice.after twice.first) (lex between (drop last text)) refl)
 
-  pub stops_at_lexeme : (stop : Stop) → StopsWriting depth unique in_flow (tokens text) before was stop now → IsOffset text last stop at
+  pub stops_at_lexeme : (stop : Stop) → TextStopsWriting depth unique in_flow (tokens text) before was stop now → IsOffset text last stop at
       → StopsAtLexeme depth text at stop
   stops_at_lexeme (stops.NotJson At) so is =
       subst (CannotStandAt IsAny text) (sym is)

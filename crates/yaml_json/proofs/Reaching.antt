@@ -7,7 +7,7 @@ use Rattle.json.specs.Reads.{token_of}
 use Rattle.json.specs.Token.{Token}
 use Rattle.yaml_json.specs.Ahead.{IsTidy, IsTrimmed, Passes, PassesOrEnds, ReadsFirst, ahead, place_of}
 use Rattle.yaml_json.specs.Lexing.{Leads}
-use Rattle.yaml_json.specs.Reached.{AreFrom, HasRead, HaveTokens, IsReader, LastRead, Passed, Reader, last_bytes}
+use Rattle.yaml_json.specs.Reached.{AreFrom, HasReadTokens, HaveTokens, IsReader, LastRead, Passed, Reader, last_bytes}
 use Rattle.yaml_json.specs.declared.tokens.Stage.{Stage}
 use Rattle.yaml_json.specs.declared.tokens.Stage.TheVariants.{Open, Behind, Owed, Over}
 use Rattle.yaml_json.specs.declared.tokens.Step.{Step}
@@ -26,7 +26,7 @@ last_is text front rest parts =
     let count : length text - length rest ≡ length front = omega (arith, size) in
     ap (λ n. drop n text) count ∙ ap (drop (length front)) (sym parts) ∙ drop_front front rest
 
-pub left_is : (text taken_rest : List ℕ) (taken : List Token) (stage : Stage) → HasRead text taken stage taken_rest
+pub left_is : (text taken_rest : List ℕ) (taken : List Token) (stage : Stage) → HasReadTokens text taken stage taken_rest
     → last_bytes text (length taken_rest) ≡ taken_rest
 left_is text rest taken stage has = last_is text has.leads.1.passed rest has.leads.1.parts
 
@@ -50,7 +50,7 @@ open_behind : Open ≡ Behind → ⊥
 open_behind e = cc
 
 -- before the first token
-pub reads_none : (text rest : List ℕ) → lex between rest ≡ lex between text → Leads text rest → IsTrimmed rest → HasRead text [] Open rest
+pub reads_none : (text rest : List ℕ) → lex between rest ≡ lex between text → Leads text rest → IsTrimmed rest → HasReadTokens text [] Open rest
 reads_none text rest same leads trimmed = record {
   all = ap (punctuate fresh) same;
   passed = record { passed = []; parts = same; reads = λ more f. refl };
@@ -80,8 +80,8 @@ one_passed text taken stage rest step some passed (inr passes) =
     placed text (taken ++ token_of step.token ∷ []) step.stage step.rest.now passes.good
     (further text taken (place_of stage) rest step (is_placed text taken stage rest some passed) passes)
 
-pub reads_on : (text : List ℕ) (taken : List Token) (stage : Stage) (rest : List ℕ) (step : Step) → (stage ≡ Over → ⊥) → HasRead text taken stage rest
-    → ReadsFirst stage rest step → Leads rest step.rest.now → HasRead text (taken ++ token_of step.token ∷ []) step.stage step.rest.now
+pub reads_on : (text : List ℕ) (taken : List Token) (stage : Stage) (rest : List ℕ) (step : Step) → (stage ≡ Over → ⊥) → HasReadTokens text taken stage rest
+    → ReadsFirst stage rest step → Leads rest step.rest.now → HasReadTokens text (taken ++ token_of step.token ∷ []) step.stage step.rest.now
 reads_on text taken stage rest step some has reads leads =
     let next = leads has.leads.0 has.leads.2 in
     record {
@@ -139,14 +139,14 @@ pub new_reader : (text rest : List ℕ) → lex between rest ≡ lex between tex
     → IsReader text Open rest Open (length rest)
 new_reader text rest same leads trimmed =
     let none = reads_none text rest same leads trimmed in
-    record { taken = []; stands = none; once = []; stood = subst (HasRead text [] Open) (sym (left_is text rest [] Open none)) none }
+    record { taken = []; stands = none; once = []; stood = subst (HasReadTokens text [] Open) (sym (left_is text rest [] Open none)) none }
 
 module _ (text : List ℕ) (stage : Stage) (rest : List ℕ) (was : Stage) (left : ℕ) (reader : IsReader text stage rest was left) where
   pub still_ahead : ahead stage (last_bytes text (length rest)) ≡ ahead stage rest
   still_ahead = ap (ahead stage) (left_is text rest reader.taken stage reader.stands)
 
-  stood_there : HasRead text reader.taken stage (last_bytes text (length rest))
-  stood_there = subst (HasRead text reader.taken stage) (sym (left_is text rest reader.taken stage reader.stands)) reader.stands
+  stood_there : HasReadTokens text reader.taken stage (last_bytes text (length rest))
+  stood_there = subst (HasReadTokens text reader.taken stage) (sym (left_is text rest reader.taken stage reader.stands)) reader.stands
 
   -- nothing more is read
   pub reads_no_more : IsReader text stage rest stage (length rest)

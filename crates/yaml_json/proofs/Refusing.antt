@@ -2,12 +2,12 @@
 use Rattle.yaml_json.proofs.Common.{suc, ℕ, ◌-◌, ◌<◌, ◌≤◌, IfErr, None, Some, Result, Err, Ok, length, Bool, true, List, [], ◌++◌, ◌∷◌, ◌⊎◌, refl, ◌≡◌}
 use Rattle.yaml_json.proofs.Common.{append-nil, append_assoc, inl, inr, ap, subst, sym, ◌∙◌, arith, le-max_left, le-max_right, append_cancel_right, left}
 use Rattle.yaml_json.proofs.Common.{value_is, members_no_key, value-depth, Json, read_key, value, skip_value, tokens, Token, json_tokens, depth as nesting}
-use Rattle.yaml_json.proofs.Common.{IsPrefix, NoneGoesOn, IsNewName, inner_names, NamesOnce, all_names_after, RefusesText, BreaksOff, OpensTooDeep}
-use Rattle.yaml_json.proofs.Common.{ExplainsError, unwind, Stands, opener, HasUniqueNames, RefusesToken, RefusesFirst, WhyStopped}
+use Rattle.yaml_json.proofs.Common.{IsPrefix, NoneGoesOn, IsNewName, inner_names, NamesOnce, all_names_after, RefusesText, TokensBreakOff, OpensTooDeep}
+use Rattle.yaml_json.proofs.Common.{ExplainsError, unwind, LeavesOpen, opener, HasUniqueNames, RefusesToken, RefusesFirst, WhyStopped}
 use Rattle.std.specs.Prelude.{max}
 use Rattle.json.proofs.Printed.Trees.{value-json_tokens}
 use Rattle.yaml_json.{proofs.TokenLemmas.value_spelled, specs.Refused.DeniesJson, specs.Refused.IsNotJson, specs.Walk.BeginsNone}
-use Rattle.yaml_json.specs.Refused.{BreaksAt, OpensTooDeepAt, NamesTwiceAt}
+use Rattle.yaml_json.specs.Refused.{TokensBreakAt, OpensTooDeepAt, NamesTwiceAt}
 use Rattle.yaml_json.{specs.declared.error.JsonError.JsonError, specs.declared.values.Stop.Stop}
 use Rattle.yaml_json.proofs.NameLemmas.{once_first, once_second, once_is_unique, unique_is_once}
 use Rattle.yaml_json.proofs.Walking.{unwind_none, unwind_inner, Awaits, opener_too_deep, next_stands_at, closes_value, closes_allowed, value_begins_at}
@@ -66,7 +66,7 @@ begins_none d Token.null more isn't = absurd (isn't.0 tt)
 begins_none d Token.bad more isn't = ap left (value_is d (Token.bad ∷ more))
 
 nothing_left : (depth : ℕ) (unique : Bool) (taken : List Token) (levels : List CollectionKind) → Awaiting depth taken levels []
-    → (unique ≡ true → NamesOnce [] taken) → BreaksAt depth unique taken []
+    → (unique ≡ true → NamesOnce [] taken) → TokensBreakAt depth unique taken []
 nothing_left depth unique taken levels place once =
     record {
       begins = closes_allowed depth unique taken place.begins once;
@@ -76,7 +76,7 @@ nothing_left depth unique taken levels place once =
 
 token_breaks : (depth : ℕ) (unique : Bool) (taken : List Token) (levels : List CollectionKind) (token : Token) (after : List Token)
     → Awaiting depth taken levels (token ∷ after) → (unique ≡ true → NamesOnce [] taken) → BeginsNone token
-    → BreaksAt depth unique taken (token ∷ after)
+    → TokensBreakAt depth unique taken (token ∷ after)
 token_breaks depth unique taken levels token after place once isn't =
     record {
       begins = closes_allowed depth unique taken place.begins once;
@@ -139,7 +139,7 @@ first_refused depth unique taken levels (token ∷ after) stop place once isn't 
 -- ---- where a key is next
 
 no_key : (depth : ℕ) (taken : List Token) (levels outer : List CollectionKind) (ahead : List Token)
-    → levels ≡ outer ++ Mapping ∷ [] → Stands depth taken levels → read_key ahead ≡ None → (deep : ℕ) → depth ≤ deep
+    → levels ≡ outer ++ Mapping ∷ [] → LeavesOpen depth taken levels → read_key ahead ≡ None → (deep : ℕ) → depth ≤ deep
     → skip_value deep (taken ++ ahead) ≡ None
 no_key depth taken levels outer ahead is stands none deep so =
     (stands deep so).1 ahead ∙ ap (λ (all : List CollectionKind). unwind deep all (Some ahead)) is ∙ unwind_inner deep outer Mapping (Some ahead)
@@ -162,15 +162,15 @@ unnamed Token.null more isn't = refl
 unnamed Token.bad more isn't = refl
 
 module _ (depth : ℕ) (unique : Bool) (taken : List Token) (levels outer : List CollectionKind) (is : levels ≡ outer ++ Mapping ∷ [])
-    (stands : Stands depth taken levels) (once : unique ≡ true → NamesOnce [] taken) where
-  pub no_member_left : BreaksAt depth unique taken []
+    (stands : LeavesOpen depth taken levels) (once : unique ≡ true → NamesOnce [] taken) where
+  pub no_member_left : TokensBreakAt depth unique taken []
   no_member_left =
       record {
         begins = closes_allowed depth unique taken (value_closes depth taken levels stands) once;
         breaks = none_ends depth taken (no_key depth taken levels outer [] is stands refl);
       }
 
-  pub key_refused : (token : Token) (after : List Token) → IsNoKey token → BreaksAt depth unique taken (token ∷ after)
+  pub key_refused : (token : Token) (after : List Token) → IsNoKey token → TokensBreakAt depth unique taken (token ∷ after)
   key_refused token after isn't =
       record {
         begins = closes_allowed depth unique taken (value_closes depth taken levels stands) once;
@@ -180,7 +180,7 @@ module _ (depth : ℕ) (unique : Bool) (taken : List Token) (levels outer : List
 
 -- a name comes again
 pub name_refused : (depth : ℕ) (unique : Bool) (taken : List Token) (levels outer : List CollectionKind) (name : List ℕ) (after : List Token)
-    → levels ≡ outer ++ Mapping ∷ [] → Stands depth taken levels → unique ≡ true → NamesOnce [] taken
+    → levels ≡ outer ++ Mapping ∷ [] → LeavesOpen depth taken levels → unique ≡ true → NamesOnce [] taken
     → (IsNewName (inner_names (all_names_after [] taken)) name → ⊥) → NamesTwiceAt depth unique taken (Token.key name ∷ after)
 name_refused depth unique taken levels outer name after is stands wanted once again =
     record {
@@ -286,7 +286,7 @@ new_is_new names = let size = zeros_length (suc (all_lengths names)) in longer_i
 
 -- where a key is next
 module _ (depth : ℕ) (unique : Bool) (taken : List Token) (levels outer : List CollectionKind) (is : levels ≡ outer ++ Mapping ∷ [])
-    (stands : Stands depth taken levels) (once : unique ≡ true → NamesOnce [] taken) where
+    (stands : LeavesOpen depth taken levels) (once : unique ≡ true → NamesOnce [] taken) where
   pub member_goes_on : GoesOn depth unique taken
   member_goes_on =
       let name = new_name (inner_names (all_names_after [] taken)) in
@@ -321,7 +321,7 @@ nothing_past json token some =
 
 pub past_refused : (depth : ℕ) (unique : Bool) (all : List Token) (json : Json) (token : Token) (after : List Token)
     → value depth all ≡ Some (json, token ∷ after) → (unique ≡ true → NamesOnce [] (json_tokens json))
-    → BreaksAt depth unique (json_tokens json) (token ∷ after)
+    → TokensBreakAt depth unique (json_tokens json) (token ∷ after)
 past_refused depth unique all json token after read once =
     record {
       begins = record {
@@ -343,7 +343,7 @@ value_names depth unique before after json read once is =
 -- ---- what is said
 
 -- what breaks off, or nests too deep, is no value nested at most `depth` deep
-broken_is_none : (depth : ℕ) (unique : Bool) (all : List Token) → BreaksOff depth unique all → (json : Json) → value depth all ≡ Some (json, []) → ⊥
+broken_is_none : (depth : ℕ) (unique : Bool) (all : List Token) → TokensBreakOff depth unique all → (json : Json) → value depth all ≡ Some (json, []) → ⊥
 broken_is_none depth unique all broken json read =
     goes_on broken.left (broken.parts ∙ value_spelled depth all [] json read ∙ append-nil (json_tokens json)) broken.breaks where
       goes_on : (left : List Token) → broken.taken ++ left ≡ json_tokens json → NoneGoesOn broken.taken left → ⊥

@@ -3,7 +3,7 @@ use Rattle.std.proofs.Common.{ap, append-nil, append_assoc, ap₂, arith, drop, 
 use Rattle.std.specs.Prelude.{Bool, List, [], ◌++◌, ◌∷◌, ◌⊎◌}
 use Rattle.json.specs.{Json.Json, Token.Token, Token.key, Tree.json_tokens, Tree.depth as nesting}
 use Rattle.yaml_base.{proofs.Prefixes.prefix_then, specs.Prefix.IsPrefix}
-use Rattle.yaml_json.specs.{Begins.BeginsSome, Begins.IsAllowed, Begins.NoneGoesOn, Refused.BreaksOff, Refused.OpensTooDeep, Refused.NamesTwice}
+use Rattle.yaml_json.specs.{Begins.BeginsSome, Begins.IsAllowed, Begins.NoneGoesOn, Refused.TokensBreakOff, Refused.OpensTooDeep, Refused.NamesTwice}
 
 -- of two prefixes of a list one is a prefix of the other
 either_prefix : {A : Type 0} (a b c d : List A) → a ++ b ≡ c ++ d
@@ -27,7 +27,7 @@ begins_too prefix r taken all is begins = prefix_then (record { rest = r; parts 
 
 -- some value begins with the first tokens, and none that is allowed: the text doesn't break off before
 module _ (depth : ℕ) (unique : Bool) (all prefix later : List Token) (parts : prefix ++ later ≡ all) (some : BeginsSome prefix)
-    (none : (json : Json) → IsAllowed depth unique json → IsPrefix prefix (json_tokens json) → ⊥) (broken : BreaksOff depth unique all) where
+    (none : (json : Json) → IsAllowed depth unique json → IsPrefix prefix (json_tokens json) → ⊥) (broken : TokensBreakOff depth unique all) where
   past : (r : List Token) → broken.taken ≡ prefix ++ r → ⊥
   past r is =
       none broken.begins.json broken.begins.allowed (begins_too prefix r broken.taken (json_tokens broken.begins.json) is broken.begins.begins)
@@ -55,12 +55,12 @@ module _ (depth : ℕ) (unique : Bool) (all : List Token) where
       let less = deep.deeper json begins in
       omega (arith, less, fits)
 
-  pub not_deep : BreaksOff depth unique all → OpensTooDeep depth unique all → ⊥
+  pub not_deep : TokensBreakOff depth unique all → OpensTooDeep depth unique all → ⊥
   not_deep broken deep =
       goes_on depth unique all (deep.taken ++ deep.next ∷ []) deep.left (append_assoc deep.taken (deep.next ∷ []) deep.left ∙ deep.parts) deep.some
       (λ json allowed begins. too_deep deep json begins allowed.nested) broken
 
-  pub not_twice : BreaksOff depth unique all → NamesTwice depth unique all → ⊥
+  pub not_twice : TokensBreakOff depth unique all → NamesTwice depth unique all → ⊥
   not_twice broken named =
       goes_on depth unique all (named.taken ++ key named.name ∷ []) named.left (append_assoc named.taken (key named.name ∷ []) named.left ∙ named.parts)
       (named.some.json, named.some.begins) (λ json allowed begins. named.twice json begins (allowed.names named.wanted)) broken

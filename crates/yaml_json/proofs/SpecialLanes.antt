@@ -7,7 +7,7 @@ use Rattle.std.proofs.lemmas.Simd.{zip2_splat, zip2_of_maps, splat_is_map, map-m
 use Rattle.std.specs.Int.{bit_at}
 use lib.Bits.{bit_and, bit_or}
 use lib.Lanes.{zip2, mask_l, top}
-use Rattle.yaml_json.specs.Specials.{is_special}
+use Rattle.yaml_json.specs.Specials.{may_change_scan}
 
 abbrev equal : ℕ → ℕ → ℕ
 equal a b = cond (eqb a b) 255 0
@@ -63,7 +63,7 @@ module _ (v : List ℕ) (long : length v ≡ 32) where
 other : (byte value : ℕ) → may_be_special value ≡ true → may_be_special byte ≡ false → eqb byte value ≡ false
 other byte value is none = ne_eqb byte value (λ e. true≢false (sym is ∙ ap may_be_special (sym e) ∙ none))
 
-not_special : (byte : ℕ) → may_be_special byte ≡ false → is_special byte ≡ false
+not_special : (byte : ℕ) → may_be_special byte ≡ false → may_change_scan byte ≡ false
 not_special byte none =
     rw (other byte 34 refl none, other byte 92 refl none, other byte 123 refl none, other byte 91 refl none, other byte 125 refl none, other byte 93 refl none)
 
@@ -71,7 +71,7 @@ clear : (b : Bool) → cond b 1 0 ≡ zero → b ≡ false
 clear true none = let never : ⊥ = omega arith in absurd never
 clear false none = refl
 
-pub only_specials : (v : List ℕ) (long : length v ≡ 32) (k : ℕ) → k < 32 → bit_at (mask v long) k ≡ 0 → is_special (get_or v k 0) ≡ false
+pub only_specials : (v : List ℕ) (long : length v ≡ 32) (k : ℕ) → k < 32 → bit_at (mask v long) k ≡ 0 → may_change_scan (get_or v k 0) ≡ false
 only_specials v long k small none =
     let unset : cond (get_or (map may_be_special v) k false) 1 0 ≡ zero =
     sym (bit_mask_l (map may_be_special v) k) ∙ ap (λ m. bit_at m k) (sym (specials_masked v long)) ∙ none in

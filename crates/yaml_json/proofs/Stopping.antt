@@ -1,12 +1,12 @@
 -- What a writer was given when it failed.
 use Rattle.yaml_json.proofs.Common.{IfSome, IfErr, OnOk, Option, None, Some, Result, Ok, Err, List, [], ◌++◌, ◌∷◌, ◌⊎◌, ◌≡◌, inl, inr, subst, sym, ◌∙◌}
 use Rattle.yaml_json.proofs.Common.{unwrap_or, Event, some_from_result, failure_of, emitter_error_of, RefusesText}
-use Rattle.yaml_json.specs.{Failing.FailedAtEnd, Failing.IsAnswer, Failing.Kept, Failing.SoundAfter, Failing.TellsOf, Refused.IsByText}
+use Rattle.yaml_json.specs.{Failing.FailedAtEnd, Failing.IsWritersAnswer, Failing.Kept, Failing.SoundAfter, Failing.TellsOf, Refused.IsByText}
 use Rattle.yaml_json.specs.{Walk.ReadsNone, declared.values.Stop.Stop}
 use Rattle.yaml_json.proofs.Common.{Token, refl, ap, State}
 use Rattle.yaml_pen.{proofs.Composing.grows_itself, proofs.Composing.grows_then, proofs.Writing.none_from_result, specs.Wrote.Grows}
 use Rattle.yaml_json.specs.declared.values.Stop.TheVariants as stops
-use Rattle.yaml_json.proofs.Common.{FailedWith, FailedAt, WriterState, end_event, with_collection, StandsTaken, AddsEvents, GaveEvent, EndsInnermost}
+use Rattle.yaml_json.proofs.Common.{FailedWith, FailedGiving, WriterState, end_event, with_collection, StandsTaken, AddsEvents, GaveEvent, EndsInnermost}
 use Rattle.yaml_base.specs.declared.errors.{yaml_error_t.yaml_error_t, yaml_error_t.TheVariants.Memory, yaml_error_t.TheVariants.ExpectedDocumentEnd}
 use Rattle.yaml_json.proofs.WroteLemmas.{adds_then, none_more, on_err, same_last}
 use Rattle.yaml_base.specs.declared.kinds.CollectionKind.{CollectionKind}
@@ -46,26 +46,26 @@ CodeOf now error = (error ≡ Memory) ⊎ (now.emitter.error ≡ Some error)
 
 -- what holds where a call succeeds, that it doesn't refuse the text, and what holds of its error
 answered : (P : Type 0) (Q : yaml_error_t → Type 0) (now : WriterState) (answer : Result (Unit {0}) yaml_error_t) (result : Result (Unit {0}) Stop)
-    → IsAnswer answer result → OnOk answer P → IfErr answer (λ error. CodeOf now error × Q error)
+    → IsWritersAnswer answer result → OnOk answer P → IfErr answer (λ error. CodeOf now error × Q error)
     → OnOk result P × (RefusesText result → ⊥) × IfSome (emitter_error_of now result) Q
 answered P Q now (Ok done) (Ok same) is held failed = (held, (λ refused. refused), tt)
 answered P Q now (Ok done) (Err stop) is held failed = absurd is
 answered P Q now (Err error) (Ok same) is held failed = absurd is
 answered P Q now (Err error) (Err stop) is held failed = (tt, never_by_text error stop is, told Q now error stop is failed.0 failed.1)
 
-code_at : (before after : WriterState) (event : Event) (error : yaml_error_t) → FailedAt before event error after → CodeOf after error
+code_at : (before after : WriterState) (event : Event) (error : yaml_error_t) → FailedGiving before event error after → CodeOf after error
 code_at before after event error (inl memory) = inl memory.0
 code_at before after event error (inr failed) = failed.is_error
 
 pub answered_at : (P : Type 0) (before after : WriterState) (event : Event) (answer : Result (Unit {0}) yaml_error_t) (result : Result (Unit {0}) Stop)
-    → IsAnswer answer result → OnOk answer P → IfErr answer (λ error. FailedAt before event error after)
-    → OnOk result P × (RefusesText result → ⊥) × IfSome (emitter_error_of after result) (λ error. FailedAt before event error after)
+    → IsWritersAnswer answer result → OnOk answer P → IfErr answer (λ error. FailedGiving before event error after)
+    → OnOk result P × (RefusesText result → ⊥) × IfSome (emitter_error_of after result) (λ error. FailedGiving before event error after)
 answered_at P before after event answer result is held failed =
-    answered P (λ error. FailedAt before event error after) after answer result is held
+    answered P (λ error. FailedGiving before event error after) after answer result is held
     (on_err answer (λ error at. (code_at before after event error at, at)) failed)
 
 -- so of a collection's end
-pub answered_end : (before after : WriterState) (answer : Result (Unit {0}) yaml_error_t) (result : Result (Unit {0}) Stop) → IsAnswer answer result
+pub answered_end : (before after : WriterState) (answer : Result (Unit {0}) yaml_error_t) (result : Result (Unit {0}) Stop) → IsWritersAnswer answer result
     → EndsInnermost before answer after
     → OnOk result (EndsInnermost before (Ok tt) after) × (RefusesText result → ⊥)
     × IfSome (emitter_error_of after result) (λ error. FailedAtEnd before error after)
@@ -95,7 +95,7 @@ failed_then before between after first second error one other =
 
 -- a call that was to give one event
 pub event_failed : (before after : WriterState) (event same : Event) (error : yaml_error_t) → event ≡ same → Failed before event error after
-    → FailedAt before same error after
+    → FailedGiving before same error after
 event_failed before after event same error is (inl gave) = inr (record {
   adds = λ given all sent stands. subst (λ (e : Event). StandsTaken given (all ++ e ∷ []) sent after.emitter) is (gave.adds given all sent stands);
   is_error = inr gave.error_is;
@@ -116,7 +116,7 @@ end_failed outer kind before after error levels (inr end) =
 
 -- the start of a collection that failed
 pub start_failed : (kind : CollectionKind) (before after : WriterState) (event same : Event) (error : yaml_error_t) → event ≡ same
-    → GaveEvent (with_collection before kind) event (Some error) after ⊎ ((error ≡ Memory) × (after ≡ before)) → FailedAt before same error after
+    → GaveEvent (with_collection before kind) event (Some error) after ⊎ ((error ≡ Memory) × (after ≡ before)) → FailedGiving before same error after
 start_failed kind before after event same error is (inl gave) = inr (record {
   adds = λ given all sent stands. subst (λ (e : Event). StandsTaken given (all ++ e ∷ []) sent after.emitter) is (gave.adds given all sent stands);
   is_error = inr gave.error_is;
@@ -187,7 +187,7 @@ module _ (before after : WriterState) where
 
   -- that gives an event
   pub kept_event : (first : WriterState) → first.emitter ≡ before.emitter → (event : Event) (answer : Result (Unit {0}) yaml_error_t)
-      (result : Result (Unit {0}) Stop) → IsAnswer answer result
+      (result : Result (Unit {0}) Stop) → IsWritersAnswer answer result
       → OnOk answer (GaveEvent first event None after)
       → IfErr answer (λ error. GaveEvent first event (Some error) after ⊎ ((error ≡ Memory) × (after ≡ before))) → Kept before result after
   kept_event first is event (Ok done) (Ok same) answers gave failed =
@@ -199,7 +199,7 @@ module _ (before after : WriterState) where
   kept_event first is event (Err error) (Err stop) answers gave (inr memory) = kept_still error stop answers memory.1
 
   -- that ends a collection
-  pub kept_end : (answer : Result (Unit {0}) yaml_error_t) (result : Result (Unit {0}) Stop) → IsAnswer answer result → EndsInnermost before answer after
+  pub kept_end : (answer : Result (Unit {0}) yaml_error_t) (result : Result (Unit {0}) Stop) → IsWritersAnswer answer result → EndsInnermost before answer after
       → Kept before result after
   kept_end (Ok done) (Ok same) answers (inl none) = absurd (not_both (Ok done) done ExpectedDocumentEnd refl none.1)
   kept_end (Ok done) (Ok same) answers (inr end) = record { grows = end.grows; sound = none_from_result after.emitter.error end.answered }

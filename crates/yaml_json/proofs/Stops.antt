@@ -1,14 +1,14 @@
 -- The stops of the walk, turn by turn.
 use Rattle.yaml_json.proofs.Common.{ℕ, Bool, false, true, List, [], ◌++◌, ◌∷◌, ◌≡◌, ap, append-nil, subst, sym, ◌∙◌, Token, HoldsNames, AddsName, FitsNames}
 use Rattle.yaml_json.proofs.Common.{IfSome, failure_of, refl, WriterState, RefusesToken, RefusesFirst, WhyStopped, Refuses, tokens_events, AddsEvents}
-use Rattle.yaml_json.proofs.Common.{Stands, KeepsNames}
-use Rattle.yaml_json.specs.{Refused.IsByText, Walk.Gives, Walk.Stood}
+use Rattle.yaml_json.proofs.Common.{LeavesOpen, KeepsNames}
+use Rattle.yaml_json.specs.{Refused.IsByText, Walk.Gives, Walk.GaveTokens}
 use Rattle.yaml_json.proofs.KeepingNames.{keeps_name, name_again, names_once}
 use Rattle.yaml_json.proofs.Refusing.{IsNoKey, first_placed, first_refused, key_could_stand, key_refused, member_goes_on, name_refused, no_member_left}
 use Rattle.yaml_json.proofs.Refusing.{no_string_stands}
 use Rattle.yaml_json.proofs.Walking.{Awaiting, awaiting_item, awaiting_named, awaiting_no_item, awaiting_whole}
 use Rattle.yaml_json.proofs.Common.{IsScalar}
-use Rattle.yaml_json.specs.Walk.{IsInside, NoStringNext, StopsWriting, WereLeft, WhereStopped, spot_of}
+use Rattle.yaml_json.specs.Walk.{StopsInside, NoStringNext, TextStopsWriting, WereLeft, WhereStopped, spot_of}
 use Rattle.yaml_json.specs.declared.values.Spot.{Spot}
 use Rattle.yaml_json.specs.declared.values.Spot.TheVariants.{At, PastString, PastValue}
 use Rattle.yaml_base.specs.declared.errors.yaml_error_t.TheVariants.{Memory}
@@ -25,7 +25,7 @@ unread_memory ahead now stops.Memory none = refl
 unread_memory ahead now stops.Failed none = absurd none
 
 -- what is refused within a value
-spot_inside : (token : Token) → IsInside (stops.NotJson (spot_of token))
+spot_inside : (token : Token) → StopsInside (stops.NotJson (spot_of token))
 spot_inside Token.begin_object = tt
 spot_inside Token.end_object = tt
 spot_inside Token.begin_array = tt
@@ -37,15 +37,15 @@ spot_inside (Token.boolean flag) = tt
 spot_inside Token.null = tt
 spot_inside Token.bad = tt
 
-inside_token : (depth : ℕ) (levels : List CollectionKind) (token : Token) (stop : Stop) → RefusesToken depth levels token stop → IsInside stop
-inside_token depth levels token (stops.NotJson spot) refuses = subst (λ (s : Spot). IsInside (stops.NotJson s)) (sym refuses.1) (spot_inside token)
+inside_token : (depth : ℕ) (levels : List CollectionKind) (token : Token) (stop : Stop) → RefusesToken depth levels token stop → StopsInside stop
+inside_token depth levels token (stops.NotJson spot) refuses = subst (λ (s : Spot). StopsInside (stops.NotJson s)) (sym refuses.1) (spot_inside token)
 inside_token depth levels token stops.TooDeep refuses = tt
 inside_token depth levels token stops.NameAgain refuses = tt
 inside_token depth levels token stops.Memory refuses = tt
 inside_token depth levels token stops.Failed refuses = tt
 
-pub inside_first : (depth : ℕ) (levels : List CollectionKind) (ahead : List Token) (stop : Stop) → RefusesFirst depth levels ahead stop → IsInside stop
-inside_first depth levels [] (stops.NotJson spot) refuses = subst (λ (s : Spot). IsInside (stops.NotJson s)) (sym refuses) tt
+pub inside_first : (depth : ℕ) (levels : List CollectionKind) (ahead : List Token) (stop : Stop) → RefusesFirst depth levels ahead stop → StopsInside stop
+inside_first depth levels [] (stops.NotJson spot) refuses = subst (λ (s : Spot). StopsInside (stops.NotJson s)) (sym refuses) tt
 inside_first depth levels [] stops.TooDeep refuses = tt
 inside_first depth levels [] stops.NameAgain refuses = tt
 inside_first depth levels [] stops.Memory refuses = tt
@@ -53,7 +53,7 @@ inside_first depth levels [] stops.Failed refuses = tt
 inside_first depth levels (token ∷ after) stop refuses = inside_token depth levels token stop refuses
 
 -- where it isn't whole, all is left
-pub all_left : (stop : Stop) (taken left : List Token) → IsInside stop → WereLeft stop taken left left
+pub all_left : (stop : Stop) (taken left : List Token) → StopsInside stop → WereLeft stop taken left left
 all_left (stops.NotJson At) taken left inside = refl
 all_left (stops.NotJson PastString) taken left inside = refl
 all_left (stops.NotJson PastValue) taken left inside = absurd inside
@@ -84,7 +84,7 @@ first_stopped depth levels ahead token after first stop refuses = subst (λ (all
 
 -- nothing more was given
 pub adds_none : (in_flow : Bool) (levels : List CollectionKind) (before now : WriterState) → now ≡ before → (was : WriterState) (so : List Token)
-    → Stood in_flow was so levels before → AddsEvents was.emitter (tokens_events was.canonical in_flow (so ++ [])) now.emitter
+    → GaveTokens in_flow was so levels before → AddsEvents was.emitter (tokens_events was.canonical in_flow (so ++ [])) now.emitter
 adds_none in_flow levels before now same was so stood =
     subst (λ (writer : WriterState). AddsEvents was.emitter (tokens_events was.canonical in_flow (so ++ [])) writer.emitter) (sym same)
     (subst (λ (all : List Token). AddsEvents was.emitter (tokens_events was.canonical in_flow all) before.emitter) (sym (append-nil so)) stood.adds)
@@ -93,8 +93,8 @@ module _ {A : Type 0} (depth : ℕ) (unique in_flow : Bool) (levels outer : List
     (ahead : List Token) (before now : WriterState) where
   -- where nothing was given
   module _ (same : now ≡ before) (last : List Token) (were : last ≡ ahead) where
-    at_once : (left : List Token) → ahead ≡ left → (stop : Stop) → IsInside stop
-        → ((so : List Token) → Stands depth so levels → KeepsNames so held
+    at_once : (left : List Token) → ahead ≡ left → (stop : Stop) → StopsInside stop
+        → ((so : List Token) → LeavesOpen depth so levels → KeepsNames so held
         → WhyStopped depth unique so left stop × WhereStopped depth unique so left stop)
         → Refuses depth unique in_flow levels held ahead last before stop now
     at_once left is stop inside why =
@@ -112,7 +112,7 @@ module _ {A : Type 0} (depth : ℕ) (unique in_flow : Bool) (levels outer : List
     -- ---- within an array
 
     module _ (is : levels ≡ outer ++ Sequence ∷ []) where
-      item_awaits : (so : List Token) → Stands depth so levels → (token : Token) → IsScalar token → Awaiting depth so levels (token ∷ [])
+      item_awaits : (so : List Token) → LeavesOpen depth so levels → (token : Token) → IsScalar token → Awaiting depth so levels (token ∷ [])
       item_awaits so stands token scalar = awaiting_item depth so levels outer token [] is stands (no_scalar_closes token scalar)
 
       item_none : ahead ≡ [] → Refuses depth unique in_flow levels held ahead last before (stops.NotJson At) now
@@ -224,7 +224,7 @@ module _ {A : Type 0} (depth : ℕ) (unique in_flow : Bool) (levels outer : List
 -- the first token of all
 pub first_stopped_writing : (depth : ℕ) (unique in_flow : Bool) (ahead last : List Token) → last ≡ ahead → (was now : WriterState) (stop : Stop)
     → RefusesFirst depth [] ahead stop → AddsEvents was.emitter (tokens_events was.canonical in_flow []) now.emitter
-    → StopsWriting depth unique in_flow ahead last was stop now
+    → TextStopsWriting depth unique in_flow ahead last was stop now
 first_stopped_writing depth unique in_flow ahead last were was now stop refuses adds =
     record {
       taken = [];

@@ -1,6 +1,6 @@
 -- What the writer was given while the tokens of a value are walked over.
 use Rattle.yaml_json.proofs.Common.{ℕ, ◌-◌, ◌<◌, length, take, Bool, List, [], ◌++◌, ◌∷◌, refl, ◌≡◌, append-nil, append_assoc, inl, inr, ap, subst, sym, ◌∙◌}
-use Rattle.yaml_json.proofs.Common.{arith, Token, Event, BeginsValue, FailedWith, FailedAt, token_events, tokens_events, Stands, IsScalar, opener}
+use Rattle.yaml_json.proofs.Common.{arith, Token, Event, BeginsWithinDepth, FailedWith, FailedGiving, token_events, tokens_events, LeavesOpen, IsScalar, opener}
 use Rattle.yaml_json.proofs.Common.{closer, BeganValue, BeginFailed, BeganFirstValue, FirstFailed, IsBare, WroteEvent, start_event, IfSome, failure_of}
 use Rattle.yaml_json.proofs.Common.{WriterState, end_event, StandsTaken, AddsEvents, GaveEvent, with_collection, None, Ok, EndsInnermost}
 use Rattle.std.proofs.Math.Seq.{take-append_seam}
@@ -13,13 +13,13 @@ use Rattle.yaml_json.proofs.WroteLemmas.{adds_then, ended}
 use Rattle.yaml_json.specs.Failing.{FailedAtEnd}
 use Rattle.yaml_json.specs.declared.values.Stop.{Stop}
 use Rattle.yaml_json.proofs.Walking.{longer, closed_stands, closes_value, value_begins, awaiting_item, awaiting_named, next_stands}
-use Rattle.yaml_json.specs.Walk.{ReadsNone, Stood, Gives, FailsGiving, Stepped, StepFailed}
+use Rattle.yaml_json.specs.Walk.{ReadsNone, GaveTokens, Gives, FailsGiving, WalkedOn, StepFailed}
 use Rattle.yaml_base.specs.declared.kinds.CollectionKind.{CollectionKind}
 use Rattle.yaml_base.specs.declared.kinds.CollectionKind.TheVariants.{Mapping, Sequence}
 
 -- ---- the writer
 
-pub stood_nothing : (in_flow : Bool) (was : WriterState) → IsBare was → Stood in_flow was [] [] was
+pub stood_nothing : (in_flow : Bool) (was : WriterState) → IsBare was → GaveTokens in_flow was [] [] was
 stood_nothing in_flow was bare =
     record {
       adds = λ given all sent stands. subst (λ (events : List Event). StandsTaken given events sent was.emitter) (sym (append-nil all)) stands;
@@ -94,7 +94,7 @@ failed_on in_flow was now later so token event error one is gave =
 
 pub fails_scalar : (in_flow : Bool) (levels : List CollectionKind) (before after : WriterState) (token : Token) (event : Bool → Event)
     (error : yaml_error_t) → ((canonical : Bool) → token_events canonical in_flow token ≡ event canonical ∷ [])
-    → FailedAt before (event before.canonical) error after → FailsGiving in_flow levels before (token ∷ []) error after
+    → FailedGiving before (event before.canonical) error after → FailsGiving in_flow levels before (token ∷ []) error after
 fails_scalar in_flow levels before after token event error is (inl memory) = inl memory
 fails_scalar in_flow levels before after token event error is (inr gave) =
     inr
@@ -102,7 +102,7 @@ fails_scalar in_flow levels before after token event error is (inr gave) =
     (is was.canonical ∙ ap (λ c. event c ∷ []) (sym stood.canonical)) gave)
 
 pub fails_start : (in_flow : Bool) (levels : List CollectionKind) (before after : WriterState) (kind : CollectionKind) (error : yaml_error_t)
-    → FailedAt before (start_event in_flow kind) error after → FailsGiving in_flow levels before (opener kind ∷ []) error after
+    → FailedGiving before (start_event in_flow kind) error after → FailsGiving in_flow levels before (opener kind ∷ []) error after
 fails_start in_flow levels before after kind error (inl memory) = inl memory
 fails_start in_flow levels before after kind error (inr gave) =
     inr
@@ -110,7 +110,7 @@ fails_start in_flow levels before after kind error (inr gave) =
     (opener_events kind was.canonical in_flow) gave)
 
 pub fails_end : (in_flow : Bool) (outer : List CollectionKind) (before after : WriterState) (kind : CollectionKind) (error : yaml_error_t)
-    → FailedAtEnd before error after → (was : WriterState) (so : List Token) → Stood in_flow was so (outer ++ kind ∷ []) before
+    → FailedAtEnd before error after → (was : WriterState) (so : List Token) → GaveTokens in_flow was so (outer ++ kind ∷ []) before
     → FailedWith was (tokens_events was.canonical in_flow (so ++ closer kind ∷ [])) error after
 fails_end in_flow outer before after kind error ends was so stood =
     (failed_on in_flow was before after so (closer kind) (end_event kind) error stood.adds (closer_events kind was.canonical in_flow)
@@ -125,7 +125,7 @@ module _ (depth : ℕ) (in_flow : Bool) (levels : List CollectionKind) (before a
     pub scalar_began : WroteEvent before (event before.canonical) after → BeganValue depth in_flow token levels before levels after
     scalar_began wrote = record { begins = inl (is, refl); gives = gives_scalar in_flow levels before after token event events wrote }
 
-    pub scalar_failed : (error : yaml_error_t) → FailedAt before (event before.canonical) error after
+    pub scalar_failed : (error : yaml_error_t) → FailedGiving before (event before.canonical) error after
         → BeginFailed depth in_flow token levels before error after
     scalar_failed error failed =
         record {
@@ -144,7 +144,7 @@ module _ (depth : ℕ) (in_flow : Bool) (levels : List CollectionKind) (before a
             (gives_start in_flow levels before after kind starts);
       }
 
-  pub opener_failed : (kind : CollectionKind) → length levels < depth → (error : yaml_error_t) → FailedAt before (start_event in_flow kind) error after
+  pub opener_failed : (kind : CollectionKind) → length levels < depth → (error : yaml_error_t) → FailedGiving before (start_event in_flow kind) error after
       → BeginFailed depth in_flow (opener kind) levels before error after
   opener_failed kind fits error failed =
       record {
@@ -171,7 +171,7 @@ module _ (depth : ℕ) (in_flow : Bool) (ahead : List Token) (levels outer : Lis
     (is : levels ≡ outer ++ kind ∷ []) (before : WriterState) where
   -- a collection is closed
   pub step_closes : (after : List Token) (opened : List CollectionKind) (now : WriterState) → ahead ≡ closer kind ∷ after
-      → opened ≡ take (length levels - 1) levels → EndsInnermost before (Ok tt) now → Stepped depth in_flow ahead levels before after opened now
+      → opened ≡ take (length levels - 1) levels → EndsInnermost before (Ok tt) now → WalkedOn depth in_flow ahead levels before after opened now
   step_closes after opened now first rest ends =
       let same = innermost_gone levels outer opened kind is rest in
       record {
@@ -181,8 +181,8 @@ module _ (depth : ℕ) (in_flow : Bool) (ahead : List Token) (levels outer : Lis
         gives = subst (λ (all : List CollectionKind). Gives in_flow all before (closer kind ∷ []) opened now) (sym is)
             (subst (λ (all : List CollectionKind). Gives in_flow (outer ++ kind ∷ []) before (closer kind ∷ []) all now) (sym same)
             (gives_end in_flow outer before now kind ends));
-        moves = λ so stands. subst (Stands depth (so ++ closer kind ∷ [])) (sym same)
-            (closed_stands depth so outer kind (subst (Stands depth so) is stands));
+        moves = λ so stands. subst (LeavesOpen depth (so ++ closer kind ∷ [])) (sym same)
+            (closed_stands depth so outer kind (subst (LeavesOpen depth so) is stands));
       }
 
   pub step_unclosed : (after : List Token) (error : yaml_error_t) (now : WriterState) → ahead ≡ closer kind ∷ after
@@ -193,9 +193,9 @@ module _ (depth : ℕ) (in_flow : Bool) (ahead : List Token) (levels outer : Lis
         left = after;
         parts = sym first;
         fails = λ was so stood. fails_end in_flow outer before now kind error ends was so
-            (subst (λ (all : List CollectionKind). Stood in_flow was so all before) is stood);
+            (subst (λ (all : List CollectionKind). GaveTokens in_flow was so all before) is stood);
         begins = λ so stands. value_begins depth (so ++ closer kind ∷ []) outer
-            (closed_stands depth so outer kind (subst (Stands depth so) is stands));
+            (closed_stands depth so outer kind (subst (LeavesOpen depth so) is stands));
       }
 
 -- an allocation failed before anything was given
@@ -207,13 +207,13 @@ step_without_memory depth in_flow ahead levels before now same =
       left = ahead;
       parts = refl;
       fails = λ was so stood. record { adds = adds_none in_flow levels before now same was so stood; is_error = inl refl };
-      begins = λ so stands. subst (BeginsValue depth) (sym (append-nil so)) (value_begins depth so levels stands);
+      begins = λ so stands. subst (BeginsWithinDepth depth) (sym (append-nil so)) (value_begins depth so levels stands);
     }
 
 -- what failed at the first token, or before it
 step_at_first : (depth : ℕ) (in_flow : Bool) (ahead : List Token) (levels : List CollectionKind) (before : WriterState) (token : Token)
     (after : List Token) (error : yaml_error_t) (now : WriterState) → ahead ≡ token ∷ after → FailsGiving in_flow levels before (token ∷ []) error now
-    → ((so : List Token) → Stands depth so levels → BeginsValue depth (so ++ token ∷ [])) → StepFailed depth in_flow ahead levels before error now
+    → ((so : List Token) → LeavesOpen depth so levels → BeginsWithinDepth depth (so ++ token ∷ [])) → StepFailed depth in_flow ahead levels before error now
 step_at_first depth in_flow ahead levels before token after error now first (inl memory) begins =
     subst (λ (code : yaml_error_t). StepFailed depth in_flow ahead levels before code now) (sym memory.0)
     (step_without_memory depth in_flow ahead levels before now memory.1)
@@ -233,7 +233,7 @@ step_unread depth in_flow ahead levels before stop none =
 module _ (depth : ℕ) (in_flow : Bool) (levels outer : List CollectionKind) (is : levels ≡ outer ++ Sequence ∷ []) (token : Token)
     (isn't : token ≡ Token.end_array → ⊥) (before : WriterState) (ahead after : List Token) (first : ahead ≡ token ∷ after) where
   pub step_item : (opened : List CollectionKind) (now : WriterState) → BeganValue depth in_flow token levels before opened now
-      → Stepped depth in_flow ahead levels before after opened now
+      → WalkedOn depth in_flow ahead levels before after opened now
   step_item opened now began =
       record {
         taken = token ∷ [];
@@ -256,12 +256,12 @@ gives_both : (in_flow : Bool) (levels between opened : List CollectionKind) (bef
     → Gives in_flow levels before one between middle → Gives in_flow between middle other opened now
     → Gives in_flow levels before (one ++ other) opened now
 gives_both in_flow levels between opened before middle now one other first second was so stood =
-    subst (λ (all : List Token). Stood in_flow was all opened now) (append_assoc so one other) (second was (so ++ one) (first was so stood))
+    subst (λ (all : List Token). GaveTokens in_flow was all opened now) (append_assoc so one other) (second was (so ++ one) (first was so stood))
 
 -- a key, and the value after it begins
 module _ (depth : ℕ) (in_flow : Bool) (levels outer : List CollectionKind) (is : levels ≡ outer ++ Mapping ∷ []) (key : List ℕ)
     (before : WriterState) (ahead inner : List Token) (first : ahead ≡ Token.key key ∷ inner) where
-  named_begins : (so : List Token) → Stands depth so levels → BeginsValue depth (so ++ Token.key key ∷ [])
+  named_begins : (so : List Token) → LeavesOpen depth so levels → BeginsWithinDepth depth (so ++ Token.key key ∷ [])
   named_begins so stands = closes_value depth (so ++ Token.key key ∷ []) (awaiting_named depth so levels outer key is stands inner).begins
 
   pub step_unnamed : (error : yaml_error_t) (now : WriterState) → FailsGiving in_flow levels before (Token.key key ∷ []) error now
@@ -270,7 +270,7 @@ module _ (depth : ℕ) (in_flow : Bool) (levels outer : List CollectionKind) (is
 
   module _ (named : WriterState) (gave : Gives in_flow levels before (Token.key key ∷ []) levels named) where
     pub step_member : (after : List Token) (opened : List CollectionKind) (now : WriterState)
-        → BeganFirstValue depth in_flow inner levels named after opened now → Stepped depth in_flow ahead levels before after opened now
+        → BeganFirstValue depth in_flow inner levels named after opened now → WalkedOn depth in_flow ahead levels before after opened now
     step_member after opened now began =
         let whole : ahead ≡ Token.key key ∷ began.token ∷ after = first ∙ ap (λ (all : List Token). Token.key key ∷ all) began.first in
         record {
@@ -278,7 +278,7 @@ module _ (depth : ℕ) (in_flow : Bool) (levels outer : List CollectionKind) (is
           parts = whole;
           shorter = omega (arith, ap length whole);
           gives = gives_both in_flow levels levels opened before named now (Token.key key ∷ []) (began.token ∷ []) gave began.began.gives;
-          moves = λ so stands. subst (λ (all : List Token). Stands depth all opened) (append_assoc so (Token.key key ∷ []) (began.token ∷ []))
+          moves = λ so stands. subst (λ (all : List Token). LeavesOpen depth all opened) (append_assoc so (Token.key key ∷ []) (began.token ∷ []))
               (next_stands depth (so ++ Token.key key ∷ []) levels opened began.token after
               (awaiting_named depth so levels outer key is stands (began.token ∷ after)) began.began.begins);
         }
@@ -300,7 +300,7 @@ module _ (depth : ℕ) (in_flow : Bool) (levels outer : List CollectionKind) (is
 
     step_valued : (error : yaml_error_t) (now : WriterState) (token : Token) (after : List Token) → inner ≡ token ∷ after
         → FailsGiving in_flow levels named (token ∷ []) error now
-        → ((so : List Token) → Stands depth so levels → BeginsValue depth ((so ++ Token.key key ∷ []) ++ token ∷ []))
+        → ((so : List Token) → LeavesOpen depth so levels → BeginsWithinDepth depth ((so ++ Token.key key ∷ []) ++ token ∷ []))
         → StepFailed depth in_flow ahead levels before error now
     step_valued error now token after next (inl memory) begins = step_named_only error now memory.0 memory.1
     step_valued error now token after next (inr fails) begins =
@@ -311,7 +311,7 @@ module _ (depth : ℕ) (in_flow : Bool) (levels outer : List CollectionKind) (is
           fails = λ was so stood.
               subst (λ (all : List Token). FailedWith was (tokens_events was.canonical in_flow all) error now)
               (append_assoc so (Token.key key ∷ []) (token ∷ [])) (fails was (so ++ Token.key key ∷ []) (gave was so stood));
-          begins = λ so stands. subst (BeginsValue depth) (append_assoc so (Token.key key ∷ []) (token ∷ [])) (begins so stands);
+          begins = λ so stands. subst (BeginsWithinDepth depth) (append_assoc so (Token.key key ∷ []) (token ∷ [])) (begins so stands);
         }
 
     pub step_no_member : (error : yaml_error_t) (now : WriterState) → FirstFailed depth in_flow inner levels named error now

@@ -4,9 +4,9 @@ use Rattle.yaml_json.proofs.Common.{◌∙◌, ◌++◌, ◌⊎◌}
 use Rattle.yaml_json.proofs.Common.{WriterState, Token, ExplainsError, WhyStopped}
 use Rattle.yaml_base.specs.declared.errors.{yaml_error_t.yaml_error_t, yaml_error_t.TheVariants.Memory}
 use Rattle.yaml_json.specs.{Failing.HasErrorSaid, Failing.Kept, Failing.SoundAfter, Failing.writers_error, Refused.IsByText}
-use Rattle.yaml_json.specs.{Refused.StopsAt, Stopped.StopsInText, Walk.MatchesStop, Walk.StopsText, declared.error.JsonError.JsonError}
+use Rattle.yaml_json.specs.{Refused.TokensStopAt, Stopped.StopsInText, Walk.MatchesStop, Walk.StopsText, declared.error.JsonError.JsonError}
 use Rattle.yaml_json.proofs.Common.{◌+◌, ◌≤◌, [], arith, length}
-use Rattle.yaml_json.specs.{Offsets.StopsAtLexeme, Places.AreOf, Places.HasPlaceAfter, Places.HasPlaceWithin, Places.IsAt, Places.IsPlaced}
+use Rattle.yaml_json.specs.{Offsets.StopsAtLexeme, Places.AreOf, Places.HasPlaceAfter, Places.HasPlaceWithin, Places.IsAt, Places.IsPlacedAt}
 use Rattle.yaml_json.specs.Expected.{SaysExpected}
 use Rattle.std.specs.Str.{IsValidUpTo}
 use Rattle.yaml_json.specs.declared.error.StreamError.TheVariants as faults
@@ -16,7 +16,7 @@ use Rattle.yaml_json.specs.declared.values.Stop.TheVariants as stops
 
 module _ (depth : ℕ) (unique in_flow : Bool) (text : List ℕ) (was now : WriterState) where
   why_returned : (taken left : List Token) (stop : Stop) (error : JsonError) → MatchesStop text stop error → IsByText stop
-      → WhyStopped depth unique taken left stop → StopsAt depth unique text taken left error
+      → WhyStopped depth unique taken left stop → TokensStopAt depth unique text taken left error
   why_returned taken left (stops.NotJson spot) (errors.NotJson line column says) same is why = (why, same)
   why_returned taken left (stops.NotJson spot) (errors.Marked line column) same is why = (why, same)
   why_returned taken left (stops.NotJson spot) (errors.TooDeep line column) same is why = absurd same
@@ -140,7 +140,7 @@ said_as was now stop found is kept = subst (λ (f : Option yaml_error_t). HasErr
 
 -- the error is where the stop is
 pub placed_as : (depth : ℕ) (part text : List ℕ) (at : ℕ) (stop : Stop) (error : JsonError) → MatchesStop part stop error
-    → (IsByText stop → StopsAtLexeme depth text at stop) → SaysExpected text at error → IsPlaced depth text at error
+    → (IsByText stop → StopsAtLexeme depth text at stop) → SaysExpected text at error → IsPlacedAt depth text at error
 placed_as depth part text at (stops.NotJson spot) (errors.NotJson line column says) same placed expects = (placed tt, expects)
 placed_as depth part text at (stops.NotJson spot) (errors.Marked line column) same placed expects = placed tt
 placed_as depth part text at (stops.NotJson spot) (errors.TooDeep line column) same placed expects = absurd same
@@ -202,7 +202,7 @@ placed_after depth text part front at whole stops.Failed (errors.DuplicateName l
 placed_after depth text part front at whole stops.Failed (errors.Emitter returned) same placed is sum expects = (0, (tt, tt))
 
 -- in a text before which none came
-pub placed_first : (depth : ℕ) (text : List ℕ) (at : ℕ) (error : JsonError) → IsAt text at error → IsPlaced depth text at error
+pub placed_first : (depth : ℕ) (text : List ℕ) (at : ℕ) (error : JsonError) → IsAt text at error → IsPlacedAt depth text at error
     → HasPlaceWithin depth [] text (faults.Refused error)
 placed_first depth text at error is placed =
     let e : at ≡ length {A = ℕ} [] + at = omega arith in (at, ((λ less. subst (λ n. IsAt text n error) e is), placed))

@@ -3,11 +3,11 @@ use Rattle.yaml_json.proofs.Common.{ℕ, ◌<◌, ◌==◌, flat_map, Some, Resu
 use Rattle.yaml_json.proofs.Common.{append-nil, append_assoc, inl, inr, ap, subst, sym, ◌∙◌, false≢true, flat_map-append, map-append, Json, value, tokens}
 use Rattle.yaml_json.proofs.Common.{Option, None, json_tokens, Event, between, events_with_separators}
 use Rattle.yaml_json.proofs.Common.{json_events, NamesOnce, HaveNamesOnce, texts_in, after_byte, CutsFirstText, tokens_events, IsBare, Wrote, WroteText}
-use Rattle.yaml_json.proofs.Common.{AreJson, BeginsValue, parts_events, ReadsTexts, WriterState, PassedEvents, AddsEvents}
+use Rattle.yaml_json.proofs.Common.{AreJson, BeginsWithinDepth, parts_events, ReadsTexts, WriterState, PassedEvents, AddsEvents}
 use Rattle.std.proofs.lemmas.List.{nil_from_length}
 use Rattle.yaml_base.specs.declared.errors.yaml_error_t.{yaml_error_t}
 use Rattle.yaml_json.{proofs.NameLemmas.once_is_unique, proofs.TokenLemmas.value_spelled, proofs.Walking.awaiting_whole, proofs.Walking.closes_value}
-use Rattle.yaml_json.specs.Texts.{texts_after, onto_first, cut_before, scan_first_byte}
+use Rattle.yaml_json.specs.Texts.{texts_after, onto_first, cut_text_before, scan_first_byte}
 use Rattle.yaml_json.specs.declared.cuts.{Mode.TheVariants.Before, Scan.Scan}
 use Rattle.yaml_json.specs.declared.error.JsonError.TheVariants as errors
 use Rattle.yaml_json.{proofs.WroteLemmas.adds_then, proofs.WroteLemmas.wrote_nothing, proofs.WroteLemmas.wrote_then, proofs.WroteLemmas.wrote_same}
@@ -73,7 +73,7 @@ first_onto byte [] = (byte ∷ [], [], refl)
 first_onto byte (text ∷ texts) = (byte ∷ text, texts, refl)
 
 first_cut : (byte : ℕ) (found : Option Scan) (more : Scan → List (List ℕ))
-    → (next : List ℕ) × (later : List (List ℕ)) × (cut_before byte found more ≡ next ∷ later)
+    → (next : List ℕ) × (later : List (List ℕ)) × (cut_text_before byte found more ≡ next ∷ later)
 first_cut byte None more = ([], onto_first byte (more (scan_first_byte byte)), refl)
 first_cut byte (Some scan) more = first_onto byte (more scan)
 
@@ -85,7 +85,7 @@ pub some_text : (text : List ℕ) → (next : List ℕ) × (later : List (List �
 some_text text = first_after (record { mode = Before; levels = 0 }) text
 
 -- a value begins with no token
-pub begins_nothing : (depth : ℕ) → BeginsValue depth []
+pub begins_nothing : (depth : ℕ) → BeginsWithinDepth depth []
 begins_nothing depth = closes_value depth [] (awaiting_whole depth []).begins
 
 -- some texts were given, and a document was begun after each

@@ -1,7 +1,8 @@
 -- The calls of a walk over the tokens of a text, from what the calls of its writer and its lists do.
 use Rattle.yaml_json.proofs.Common.{suc, ℕ, ◌-◌, ◌<◌, IfSome, OnOk, Result, Ok, Err, length, take, Bool, true, List, [], ◌++◌, ◌∷◌, refl, ◌≡◌, inl, inr, ap}
 use Rattle.yaml_json.proofs.Common.{sym, ◌∙◌, arith, chars, Event, scalar, Token, token_events, HoldsNames, AddsName, text_content, failure_of}
-use Rattle.yaml_json.proofs.Common.{emitter_error_of, FailedAt, RefusesText, IsScalar, opener, closer, Keeps, BeganValue, BeginFailed, RefusesToken, Refuses}
+use Rattle.yaml_json.proofs.Common.{emitter_error_of, FailedGiving, RefusesText, IsScalar, opener, closer, KeepsNamesAfter, BeganValue, BeginFailed}
+use Rattle.yaml_json.proofs.Common.{RefusesToken, Refuses}
 use Rattle.yaml_json.proofs.Common.{append-nil, subst, Some, NamesOnce, IsBare, WroteEvent, start_event, WriterState, text_event, with_collection}
 use Rattle.yaml_json.proofs.Common.{EndsInnermost, GaveEvent, None}
 use Rattle.yaml_base.specs.declared.errors.yaml_error_t.{yaml_error_t}
@@ -20,12 +21,12 @@ use Rattle.yaml_json.proofs.Taking.{scalar_failed, step_closes, step_item, step_
 use Rattle.yaml_json.proofs.Taking.{step_unread, step_without_memory}
 use Rattle.yaml_json.proofs.Walking.{longer}
 use Rattle.yaml_json.proofs.WroteLemmas.{on_err, on_ok, text_is, wrote_event}
-use Rattle.yaml_json.specs.Failing.{IsAnswer, Kept}
+use Rattle.yaml_json.specs.Failing.{IsWritersAnswer, Kept}
 use Rattle.yaml_json.specs.Nests.{IsNesting}
 use Rattle.yaml_json.specs.Reached.{Reader}
 use Rattle.yaml_json.specs.Refused.{IsByText}
 use Rattle.yaml_json.specs.Walk.{Gives as GivesTokens, LeavesNames, ReadsNone, StepFailed}
-use Rattle.yaml_json.specs.WalkSteps.{FirstStep, OnlyGiven, TokenStep, ValueGiven, WalkState, WalkStep, at}
+use Rattle.yaml_json.specs.WalkSteps.{FirstStep, OnlyGiven, TokenStep, ValueGiven, JsonWalk, WalkStep, at}
 use Rattle.yaml_json.specs.declared.names.Names.{Names}
 use Rattle.yaml_json.specs.declared.settings.JsonSettings.{JsonSettings}
 use Rattle.yaml_json.specs.declared.values.Nesting.{Nesting}
@@ -36,9 +37,9 @@ use Rattle.yaml_json.specs.declared.values.Stop.TheVariants as stops
 -- ---- by their results
 
 -- a call that doesn't refuse its token
-unrefused_step : {A : Type 0} (settings : JsonSettings) (token : Token) (before after : WalkState A) (result : Result (Unit {0}) Stop)
+unrefused_step : {A : Type 0} (settings : JsonSettings) (token : Token) (before after : JsonWalk A) (result : Result (Unit {0}) Stop)
     → OnOk result (BeganValue settings.depth settings.flow token before.nest.kinds.items before.writer after.nest.kinds.items after.writer)
-    → IsNesting settings.depth settings.unique_names after.nest → Keeps before.nest.names (token ∷ []) after.nest.names → (RefusesText result → ⊥)
+    → IsNesting settings.depth settings.unique_names after.nest → KeepsNamesAfter before.nest.names (token ∷ []) after.nest.names → (RefusesText result → ⊥)
     → Kept before.writer result after.writer
     → IfSome (emitter_error_of after.writer result)
     (λ error. BeginFailed settings.depth settings.flow token before.nest.kinds.items before.writer error after.writer)
@@ -59,7 +60,7 @@ unrefused_step settings token before after (Err stop) began fits names never kep
 pub scalar_step : {A : Type 0} (settings : JsonSettings) (token : Token) (event : Bool → Event) → IsScalar token
     → ((canonical : Bool) → token_events canonical settings.flow token ≡ event canonical ∷ []) → (nest : Nesting A)
     → IsNesting settings.depth settings.unique_names nest → (before after : WriterState) (given : Event) → given ≡ event before.canonical
-    → (answer : Result (Unit {0}) yaml_error_t) (result : Result (Unit {0}) Stop) → IsAnswer answer result → Gives before given answer after
+    → (answer : Result (Unit {0}) yaml_error_t) (result : Result (Unit {0}) Stop) → IsWritersAnswer answer result → Gives before given answer after
     → TokenStep settings token (at nest before) result (at nest after)
 scalar_step settings token event is events nest fits before after given same answer result answers gives =
     let ok = gives_ok before after given answer gives in
@@ -73,10 +74,10 @@ scalar_step settings token event is events nest fits before after given same ans
     (if_some (emitter_error_of after result) (scalar_failed settings.depth settings.flow nest.kinds.items before after token event is events) all.2)
 
 -- a collection begins, for which there is room
-pub opener_step : {A : Type 0} (settings : JsonSettings) (kind : CollectionKind) (before after : WalkState A)
+pub opener_step : {A : Type 0} (settings : JsonSettings) (kind : CollectionKind) (before after : JsonWalk A)
     → length before.nest.kinds.items < settings.depth → after.nest.kinds.items ≡ before.nest.kinds.items ++ kind ∷ []
-    → IsNesting settings.depth settings.unique_names after.nest → Keeps before.nest.names (opener kind ∷ []) after.nest.names
-    → (answer : Result (Unit {0}) yaml_error_t) (result : Result (Unit {0}) Stop) → IsAnswer answer result
+    → IsNesting settings.depth settings.unique_names after.nest → KeepsNamesAfter before.nest.names (opener kind ∷ []) after.nest.names
+    → (answer : Result (Unit {0}) yaml_error_t) (result : Result (Unit {0}) Stop) → IsWritersAnswer answer result
     → Begins kind before.writer (start_event settings.flow kind) answer after.writer → TokenStep settings (opener kind) before result after
 opener_step settings kind before after room opened fits names answer result answers begins =
     let event = start_event settings.flow kind in
@@ -111,7 +112,7 @@ refused_step settings token nest writer spot refused =
 -- ---- the first token of a reader
 
 module _ {A : Type 0} (settings : JsonSettings) (reader left : Reader) where
-  pub first_step : (before after : WalkState A) (token : Token) → reader.ahead ≡ token ∷ left.ahead → (result : Result (Unit {0}) Stop)
+  pub first_step : (before after : JsonWalk A) (token : Token) → reader.ahead ≡ token ∷ left.ahead → (result : Result (Unit {0}) Stop)
       → TokenStep settings token before result after → FirstStep settings reader before result left after
   first_step before after token first (Ok done) step =
       record {
@@ -143,7 +144,7 @@ module _ {A : Type 0} (settings : JsonSettings) (reader left : Reader) where
 -- ---- an item, a member, or an end
 
 -- the text stops the walk at the next token, or an allocation failed before it
-module _ {A : Type 0} (settings : JsonSettings) (reader left : Reader) (before : WalkState A) (nest : Nesting A) where
+module _ {A : Type 0} (settings : JsonSettings) (reader left : Reader) (before : JsonWalk A) (nest : Nesting A) where
   pub walk_refused : (stop : Stop) → IsByText stop
       → Refuses settings.depth settings.unique_names settings.flow before.nest.kinds.items before.nest.names reader.ahead left.before before.writer stop
       before.writer
@@ -161,7 +162,7 @@ module _ {A : Type 0} (settings : JsonSettings) (reader left : Reader) (before :
         failed = step_without_memory settings.depth settings.flow reader.ahead before.nest.kinds.items before.writer before.writer refl;
       }
 
-module _ {A : Type 0} (settings : JsonSettings) (reader left : Reader) (before after : WalkState A) (outer : List CollectionKind)
+module _ {A : Type 0} (settings : JsonSettings) (reader left : Reader) (before after : JsonWalk A) (outer : List CollectionKind)
     (fits : IsNesting settings.depth settings.unique_names before.nest) where
   -- no token is left
   pub walk_missing : (kind : CollectionKind) → before.nest.kinds.items ≡ outer ++ kind ∷ [] → left.before ≡ reader.ahead → (stop : Stop)
@@ -192,7 +193,7 @@ module _ {A : Type 0} (settings : JsonSettings) (reader left : Reader) (before a
   pub walk_closed : (kind : CollectionKind) → before.nest.kinds.items ≡ outer ++ kind ∷ [] → reader.ahead ≡ closer kind ∷ left.ahead
       → left.before ≡ reader.ahead → after.nest.kinds.items ≡ take (length before.nest.kinds.items - 1) before.nest.kinds.items
       → LeavesNames before.nest.names after.nest.names → (answer : Result (Unit {0}) yaml_error_t) (result : Result (Unit {0}) Stop)
-      → IsAnswer answer result → EndsInnermost before.writer answer after.writer → WalkStep settings reader before result left after
+      → IsWritersAnswer answer result → EndsInnermost before.writer answer after.writer → WalkStep settings reader before result left after
   walk_closed kind is first were rest leaves answer (Ok done) answers ends =
       let kept = kept_end before.writer after.writer answer (Ok done) answers ends in
       record {
@@ -240,12 +241,12 @@ module _ {A : Type 0} (settings : JsonSettings) (reader left : Reader) (before a
 
 -- a key
 module _ (before after : WriterState) (key : List ℕ) (bare : IsBare before) (answer : Result (Unit {0}) yaml_error_t) (result : Result (Unit {0}) Stop)
-    (answers : IsAnswer answer result) (gives : Gives before (text_event before (chars key)) answer after) where
+    (answers : IsWritersAnswer answer result) (gives : Gives before (text_event before (chars key)) answer after) where
   abbrev key_event : Event
   key_event = scalar (text_content (chars key))
 
   pub key_wrote : OnOk result (WroteEvent before key_event after) × (RefusesText result → ⊥)
-      × IfSome (emitter_error_of after result) (λ error. FailedAt before key_event error after)
+      × IfSome (emitter_error_of after result) (λ error. FailedGiving before key_event error after)
   key_wrote =
       let given = text_event before (chars key) in
       let same = text_is before (chars key) bare in
@@ -258,12 +259,12 @@ module _ (before after : WriterState) (key : List ℕ) (bare : IsBare before) (a
       let given = text_event before (chars key) in
       kept_event before after before refl given answer result answers (gives_ok before after given answer gives) (gives_err before after given answer gives)
 
-module _ {A : Type 0} (settings : JsonSettings) (reader middle left : Reader) (before after : WalkState A) (outer : List CollectionKind)
+module _ {A : Type 0} (settings : JsonSettings) (reader middle left : Reader) (before after : JsonWalk A) (outer : List CollectionKind)
     (fits : IsNesting settings.depth settings.unique_names before.nest) (is : before.nest.kinds.items ≡ outer ++ Mapping ∷ []) (key : List ℕ)
     (first : reader.ahead ≡ Token.key key ∷ middle.ahead) (later : Names A) (named : WriterState) where
   -- at which the writer failed
   pub walk_unnamed : (stop : Stop) → (IsByText stop → ⊥) → Kept before.writer (Err stop) named
-      → IfSome (failure_of named stop) (λ error. FailedAt before.writer (scalar (text_content (chars key))) error named)
+      → IfSome (failure_of named stop) (λ error. FailedGiving before.writer (scalar (text_content (chars key))) error named)
       → WalkStep settings reader before (Err stop) middle (at (record before.nest { names = later }) named)
   walk_unnamed stop never kept failed =
       record {
@@ -323,7 +324,7 @@ module _ {A : Type 0} (settings : JsonSettings) (reader middle left : Reader) (b
 -- ---- a value
 
 -- nothing is left behind it
-pub only_value : {A : Type 0} (settings : JsonSettings) (reader left : Reader) (before after : WalkState A) → left.ahead ≡ []
+pub only_value : {A : Type 0} (settings : JsonSettings) (reader left : Reader) (before after : JsonWalk A) → left.ahead ≡ []
     → ValueGiven settings reader before left after → OnlyGiven settings reader before after
 only_value settings reader left before after none given =
     record {

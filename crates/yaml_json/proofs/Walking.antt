@@ -2,12 +2,12 @@
 use Rattle.yaml_json.proofs.Common.{suc, zero, ℕ, ◌-◌, ◌<◌, ◌≤◌, option_and_then, Option, None, Some, length, Bool, true, List, [], ◌++◌, ◌∷◌, refl, ◌≡◌}
 use Rattle.yaml_json.proofs.Common.{append-nil, append_assoc, inl, inr, ap, subst, sym, ◌∙◌, arith, left, value_is, members_no_key, left_some, value-depth}
 use Rattle.yaml_json.proofs.Common.{Json, array, object, item, member, parse_map, after_end_array, read_key, value, skip_value, Token, json_tokens}
-use Rattle.yaml_json.proofs.Common.{depth as nesting, BeginsValue, NamesOnce, all_names_after, unwind, Stands, IsScalar, opener, closer}
+use Rattle.yaml_json.proofs.Common.{depth as nesting, BeginsWithinDepth, NamesOnce, all_names_after, unwind, LeavesOpen, IsScalar, opener, closer}
 use Rattle.json.proofs.Grammar.{left-parse_map, value-begin_array, value-begin_object, read_key-shorter, items_end, items_fail, items_more, members_end}
 use Rattle.json.proofs.Grammar.{members_fail, members_more, skip_value-shorter}
 use Rattle.json.specs.{Json.items, Json.members, Reads.skip_items, Reads.skip_members}
 use Rattle.yaml_json.{proofs.NameLemmas.once_both, proofs.NameLemmas.once_is_unique, proofs.TokenLemmas.value_spelled, specs.Begins.BeginsAllowed}
-use Rattle.yaml_json.{specs.Walk.skip_rest, specs.Walk.StandsAt, specs.Walk.Begins}
+use Rattle.yaml_json.{specs.Walk.skip_rest, specs.Walk.LeavesOpenAt, specs.Walk.Begins}
 use Rattle.yaml_emitter.specs.declared.place.{CollectionKind.CollectionKind, CollectionKind.TheVariants.Mapping, CollectionKind.TheVariants.Sequence}
 
 -- ---- the number that bounds the turns plays no part
@@ -118,7 +118,7 @@ Awaits depth taken levels ahead = skip_value depth (taken ++ ahead) ≡ unwind d
 awaits_whole : (depth : ℕ) (ahead : List Token) → Awaits depth [] [] ahead
 awaits_whole depth ahead = let e : depth ≡ depth - 0 = omega arith in ap (λ d. skip_value d ahead) e
 
-awaits_item : (depth : ℕ) (taken : List Token) (levels : List CollectionKind) (ahead : List Token) → StandsAt depth taken (levels ++ Sequence ∷ [])
+awaits_item : (depth : ℕ) (taken : List Token) (levels : List CollectionKind) (ahead : List Token) → LeavesOpenAt depth taken (levels ++ Sequence ∷ [])
     → after_end_array ahead ≡ None → Awaits depth taken (levels ++ Sequence ∷ []) ahead
 awaits_item depth taken levels ahead stands unclosed =
     let e : depth - length levels - 1 ≡ depth - length (levels ++ Sequence ∷ []) = omega (arith, longer levels Sequence) in
@@ -128,7 +128,7 @@ awaits_item depth taken levels ahead stands unclosed =
     ∙ ap (λ d. unwind depth (levels ++ Sequence ∷ []) (skip_value d ahead)) e
 
 awaits_named : (depth : ℕ) (taken : List Token) (levels : List CollectionKind) (key : List ℕ) (ahead : List Token)
-    → StandsAt depth taken (levels ++ Mapping ∷ []) → Awaits depth (taken ++ Token.key key ∷ []) (levels ++ Mapping ∷ []) ahead
+    → LeavesOpenAt depth taken (levels ++ Mapping ∷ []) → Awaits depth (taken ++ Token.key key ∷ []) (levels ++ Mapping ∷ []) ahead
 awaits_named depth taken levels key ahead stands =
     let e : depth - length levels - 1 ≡ depth - length (levels ++ Mapping ∷ []) = omega (arith, longer levels Mapping) in
     ap (skip_value depth) (append_assoc taken (Token.key key ∷ []) ahead)
@@ -169,13 +169,13 @@ one_more depth taken token more = ap (skip_value depth) (append_assoc taken (tok
 -- a value begins with the token
 pub next_stands_at : (depth : ℕ) (taken : List Token) (levels : List CollectionKind) (token : Token) (now : List CollectionKind)
     → length levels ≤ depth → ((more : List Token) → Awaits depth taken levels (token ∷ more)) → Begins depth levels token now
-    → StandsAt depth (taken ++ token ∷ []) now
+    → LeavesOpenAt depth (taken ++ token ∷ []) now
 next_stands_at depth taken levels token now few awaits (inl (is, same)) =
-    subst (StandsAt depth (taken ++ token ∷ [])) (sym same)
+    subst (LeavesOpenAt depth (taken ++ token ∷ [])) (sym same)
     (few, λ more. one_more depth taken token more ∙ awaits more ∙ ap (unwind depth levels) (scalar_taken (depth - length levels) token more is))
 next_stands_at depth taken levels token now few awaits (inr (kind, is, deep, opens)) =
     let fits : length (levels ++ kind ∷ []) ≤ depth = omega (arith, longer levels kind, deep) in
-    subst (StandsAt depth (taken ++ token ∷ [])) (sym opens) (
+    subst (LeavesOpenAt depth (taken ++ token ∷ [])) (sym opens) (
       fits,
       λ more. one_more depth taken token more ∙ awaits more
           ∙ ap (λ (t : Token). unwind depth levels (skip_value (depth - length levels) (t ∷ more))) is
@@ -190,8 +190,8 @@ closer_taken Sequence d more =
 closer_taken Mapping d more =
     ap left (members_end (value d) (length (Token.end_object ∷ more)) (Token.end_object ∷ more) more (omega arith) refl)
 
-closed_at : (depth : ℕ) (taken : List Token) (levels : List CollectionKind) (kind : CollectionKind) → StandsAt depth taken (levels ++ kind ∷ [])
-    → StandsAt depth (taken ++ closer kind ∷ []) levels
+closed_at : (depth : ℕ) (taken : List Token) (levels : List CollectionKind) (kind : CollectionKind) → LeavesOpenAt depth taken (levels ++ kind ∷ [])
+    → LeavesOpenAt depth (taken ++ closer kind ∷ []) levels
 closed_at depth taken levels kind stands =
     let fits : length levels ≤ depth = omega (arith, longer levels kind, stands.0) in (
       fits,
@@ -200,8 +200,8 @@ closed_at depth taken levels kind stands =
           ∙ ap (unwind depth levels) (closer_taken kind (depth - length levels - 1) more),
     )
 
-pub closed_stands : (depth : ℕ) (taken : List Token) (levels : List CollectionKind) (kind : CollectionKind) → Stands depth taken (levels ++ kind ∷ [])
-    → Stands depth (taken ++ closer kind ∷ []) levels
+pub closed_stands : (depth : ℕ) (taken : List Token) (levels : List CollectionKind) (kind : CollectionKind) → LeavesOpen depth taken (levels ++ kind ∷ [])
+    → LeavesOpen depth (taken ++ closer kind ∷ []) levels
 closed_stands depth taken levels kind stands deep more = closed_at deep taken levels kind (stands deep more)
 
 -- ---- all that is open may be closed here
@@ -235,7 +235,7 @@ pub record Closes (depth : ℕ) (taken : List Token) : Type 0 where
   pub parts : taken ++ rest ≡ json_tokens json
   pub nameless : (names : List (List (List ℕ))) → NamesOnce names rest
 
-pub closes_value : (depth : ℕ) (taken : List Token) → Closes depth taken → BeginsValue depth taken
+pub closes_value : (depth : ℕ) (taken : List Token) → Closes depth taken → BeginsWithinDepth depth taken
 closes_value depth taken closes =
     record { json = closes.json; nested = closes.nested; begins = record { rest = closes.rest; parts = closes.parts } }
 
@@ -254,7 +254,7 @@ closes_allowed depth unique taken closes once =
     }
 
 -- so a value begins with what was taken
-pub value_begins_at : (depth : ℕ) (taken : List Token) (levels : List CollectionKind) → StandsAt depth taken levels → Closes depth taken
+pub value_begins_at : (depth : ℕ) (taken : List Token) (levels : List CollectionKind) → LeavesOpenAt depth taken levels → Closes depth taken
 value_begins_at depth taken levels stands =
     let whole = taken ++ (closers levels ++ []) in
     let found = left_some (value depth whole) [] (stands.1 (closers levels ++ []) ∙ unwind_closers depth levels []) in
@@ -266,10 +266,10 @@ value_begins_at depth taken levels stands =
       nameless = λ names. subst (NamesOnce names) (sym (append-nil (closers levels))) (closers_once levels names);
     }
 
-pub value_closes : (depth : ℕ) (taken : List Token) (levels : List CollectionKind) → Stands depth taken levels → Closes depth taken
+pub value_closes : (depth : ℕ) (taken : List Token) (levels : List CollectionKind) → LeavesOpen depth taken levels → Closes depth taken
 value_closes depth taken levels stands = value_begins_at depth taken levels (stands depth (omega arith))
 
-pub value_begins : (depth : ℕ) (taken : List Token) (levels : List CollectionKind) → Stands depth taken levels → BeginsValue depth taken
+pub value_begins : (depth : ℕ) (taken : List Token) (levels : List CollectionKind) → LeavesOpen depth taken levels → BeginsWithinDepth depth taken
 value_begins depth taken levels stands = closes_value depth taken (value_closes depth taken levels stands)
 
 -- ---- the places where a value is next
@@ -311,35 +311,35 @@ unclosed Token.null more isn't = refl
 unclosed Token.bad more isn't = refl
 
 pub awaiting_item : (depth : ℕ) (taken : List Token) (levels outer : List CollectionKind) (token : Token) (after : List Token)
-    → levels ≡ outer ++ Sequence ∷ [] → Stands depth taken levels → (token ≡ Token.end_array → ⊥) → Awaiting depth taken levels (token ∷ after)
+    → levels ≡ outer ++ Sequence ∷ [] → LeavesOpen depth taken levels → (token ≡ Token.end_array → ⊥) → Awaiting depth taken levels (token ∷ after)
 awaiting_item depth taken levels outer token after is stands isn't =
     record {
       begins = value_closes depth taken levels stands;
       few = (stands depth (omega arith)).0;
       awaits = λ deep so more. subst (λ (all : List CollectionKind). Awaits deep taken all (token ∷ more)) (sym is)
-          (awaits_item deep taken outer (token ∷ more) (subst (StandsAt deep taken) is (stands deep so)) (unclosed token more isn't));
+          (awaits_item deep taken outer (token ∷ more) (subst (LeavesOpenAt deep taken) is (stands deep so)) (unclosed token more isn't));
     }
 
 pub awaiting_no_item : (depth : ℕ) (taken : List Token) (levels outer : List CollectionKind)
-    → levels ≡ outer ++ Sequence ∷ [] → Stands depth taken levels → Awaiting depth taken levels []
+    → levels ≡ outer ++ Sequence ∷ [] → LeavesOpen depth taken levels → Awaiting depth taken levels []
 awaiting_no_item depth taken levels outer is stands =
     record {
       begins = value_closes depth taken levels stands;
       few = (stands depth (omega arith)).0;
       awaits = λ deep so. subst (λ (all : List CollectionKind). Awaits deep taken all []) (sym is)
-          (awaits_item deep taken outer [] (subst (StandsAt deep taken) is (stands deep so)) refl);
+          (awaits_item deep taken outer [] (subst (LeavesOpenAt deep taken) is (stands deep so)) refl);
     }
 
 -- the value of a key
 module _ (depth : ℕ) (taken : List Token) (levels outer : List CollectionKind) (key : List ℕ) (is : levels ≡ outer ++ Mapping ∷ [])
-    (stands : Stands depth taken levels) where
+    (stands : LeavesOpen depth taken levels) where
   abbrev named : List Token
   named = taken ++ Token.key key ∷ []
 
   awaits_value : (deep : ℕ) → depth ≤ deep → (ahead : List Token) → Awaits deep named levels ahead
   awaits_value deep so ahead =
       subst (λ (all : List CollectionKind). Awaits deep named all ahead) (sym is)
-      (awaits_named deep taken outer key ahead (subst (StandsAt deep taken) is (stands deep so)))
+      (awaits_named deep taken outer key ahead (subst (LeavesOpenAt deep taken) is (stands deep so)))
 
   first_value : (deep : ℕ) → depth ≤ deep → (ahead : List Token) → AwaitsFirst deep named levels ahead
   first_value deep so [] = awaits_value deep so []
@@ -370,7 +370,7 @@ deeper_begins depth deep levels now token more (inl (is, same)) = inl (is, same)
 deeper_begins depth deep levels now token more (inr (kind, is, fits, opens)) = inr (kind, is, omega (arith, fits, more), opens)
 
 pub next_stands : (depth : ℕ) (taken : List Token) (levels now : List CollectionKind) (token : Token) (after : List Token)
-    → Awaiting depth taken levels (token ∷ after) → Begins depth levels token now → Stands depth (taken ++ token ∷ []) now
+    → Awaiting depth taken levels (token ∷ after) → Begins depth levels token now → LeavesOpen depth (taken ++ token ∷ []) now
 next_stands depth taken levels now token after place begins deep more =
     let few = place.few in
     next_stands_at deep taken levels token now (omega (arith, few, more)) (place.awaits deep more)

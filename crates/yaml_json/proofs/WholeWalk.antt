@@ -1,7 +1,7 @@
 -- The whole walk over the tokens of a value.
 use Rattle.yaml_json.proofs.Taking.{stood_nothing}
 use Rattle.yaml_json.proofs.Common.{ℕ, Bool, List, [], ◌++◌, ◌∷◌, refl, ◌≡◌, append-nil, append_assoc, inl, inr, ap, subst, sym, ◌∙◌, arith}
-use Rattle.yaml_json.proofs.Common.{append_cancel_right, left_some, value, skip_value, Token, json_tokens, Event, BeginsValue, tokens_events, Stands}
+use Rattle.yaml_json.proofs.Common.{append_cancel_right, left_some, value, skip_value, Token, json_tokens, Event, BeginsWithinDepth, tokens_events, LeavesOpen}
 use Rattle.yaml_json.proofs.Common.{KeepsNames, BeganFirstValue, FirstFailed, Refuses, WalkProgress, IsBare, WriterState, AddsEvents}
 use Rattle.yaml_base.specs.declared.errors.yaml_error_t.{yaml_error_t}
 use Rattle.yaml_base.specs.declared.errors.yaml_error_t.TheVariants.{Memory}
@@ -13,7 +13,7 @@ use Rattle.yaml_json.specs.Wrote.{WroteValue}
 use Rattle.yaml_json.specs.declared.names.Names.{Names}
 use Rattle.yaml_json.specs.declared.values.Stop.{Stop}
 use Rattle.yaml_json.proofs.Walking.{closes_value, value_begins, awaiting_whole, next_stands}
-use Rattle.yaml_json.specs.Walk.{Stood, StopsWriting, FailsGiving, Stepped, StepFailed}
+use Rattle.yaml_json.specs.Walk.{GaveTokens, TextStopsWriting, FailsGiving, WalkedOn, StepFailed}
 use Rattle.yaml_base.specs.declared.kinds.CollectionKind.{CollectionKind}
 
 module _ (depth : ℕ) (in_flow : Bool) (start : List Token) (was : WriterState) where
@@ -43,7 +43,7 @@ module _ (depth : ℕ) (in_flow : Bool) (start : List Token) (was : WriterState)
   )
 
   first_given : (error : yaml_error_t) (now : WriterState) → IsBare was → (token : Token) (after : List Token) → start ≡ token ∷ after
-      → FailsGiving in_flow [] was (token ∷ []) error now → BeginsValue depth (token ∷ []) → FailedInValue depth in_flow start was error now
+      → FailsGiving in_flow [] was (token ∷ []) error now → BeginsWithinDepth depth (token ∷ []) → FailedInValue depth in_flow start was error now
   first_given error now bare token after first (inl memory) begins = nothing_given error now bare memory.0 memory.1
   first_given error now bare token after first (inr fails) begins =
       (token ∷ [], (record { left = after; parts = sym first; gave = fails was [] (stood_nothing in_flow was bare) }, begins))
@@ -59,7 +59,7 @@ module _ (depth : ℕ) (in_flow : Bool) (start : List Token) (was : WriterState)
   module _ (ahead : List Token) (levels : List CollectionKind) (now : WriterState) (so_far : WalkProgress depth in_flow start was ahead levels now) where
     -- a step was made
     pub steps_on : (after : List Token) (opened : List CollectionKind) (later : WriterState)
-        → Stepped depth in_flow ahead levels now after opened later → WalkProgress depth in_flow start was after opened later
+        → WalkedOn depth in_flow ahead levels now after opened later → WalkProgress depth in_flow start was after opened later
     steps_on after opened later step =
         record {
           taken = so_far.taken ++ step.taken;
@@ -85,7 +85,7 @@ module _ (depth : ℕ) (in_flow : Bool) (start : List Token) (was : WriterState)
     -- or the text stops it
     pub step_stopped : {A : Type 0} (unique : Bool) (held : Names A) → NamesSoFar start ahead held → (stop : Stop) (later : WriterState)
         → (left : List Token) → Refuses depth unique in_flow levels held ahead left now stop later
-        → StopsWriting depth unique in_flow start left was stop later
+        → TextStopsWriting depth unique in_flow start left was stop later
     step_stopped unique held names stop later left refuses =
         let same = append_cancel_right names.taken so_far.taken ahead (names.parts ∙ sym so_far.parts) in
         record {
@@ -101,8 +101,8 @@ module _ (depth : ℕ) (in_flow : Bool) (start : List Token) (was : WriterState)
     -- nothing is open: the value was given
     pub all_written : levels ≡ [] → WroteValue depth in_flow start was ahead now
     all_written none =
-        let stood = subst (λ (all : List CollectionKind). Stood in_flow was so_far.taken all now) none so_far.stood in
-        let stands = subst (Stands depth so_far.taken) none so_far.stands in
+        let stood = subst (λ (all : List CollectionKind). GaveTokens in_flow was so_far.taken all now) none so_far.stood in
+        let stands = subst (LeavesOpen depth so_far.taken) none so_far.stands in
         let found = left_some (value depth start) ahead (ap (skip_value depth) (sym so_far.parts) ∙ (stands depth (omega arith)).1 ahead) in
         let same = append_cancel_right so_far.taken (json_tokens found.0) ahead (so_far.parts ∙ value_spelled depth start ahead found.0 found.1) in
         record {

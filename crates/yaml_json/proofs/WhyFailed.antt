@@ -1,7 +1,7 @@
 -- Why a writer failed that was given the events of a text.
 use Rattle.yaml_json.proofs.Common.{ℕ, Option, None, Some, Bool, true, List, [], ◌++◌, ◌∷◌, ◌⊎◌, refl, ◌≡◌, append-nil, append_assoc, inl, inr, ap, subst}
 use Rattle.yaml_json.proofs.Common.{sym, ◌∙◌, arith, value-depth, Json, value, tokens, Token, json_tokens, Event, IsPrefix, Settings, RefusedAt, StateStands}
-use Rattle.yaml_json.proofs.Common.{State, BeginsValue, FailedInText, json_events, tokens_events, WroteText, WriterState, opening, closing, StandsTaken}
+use Rattle.yaml_json.proofs.Common.{State, BeginsWithinDepth, FailedInText, json_events, tokens_events, WroteText, WriterState, opening, closing, StandsTaken}
 use Rattle.yaml_emitter.proofs.Common.{IsRefusal, StandsAfter}
 use Rattle.yaml_base.specs.declared.errors.{yaml_error_t.yaml_error_t, yaml_error_t.TheVariants.Memory, yaml_error_t.TheVariants.WriteError}
 use Rattle.yaml_emitter.proofs.standing.{StandingMore.failed_more, StandingPromises.promises_refusal}
@@ -78,7 +78,7 @@ module _ (given : Settings) (in_flow : Bool) (depth : ℕ) (text : List ℕ) whe
     refused : IsRefusal error → RefusedAt given (opening ++ events_of taken) error state
     refused refusal = promises_refusal given (opening ++ events_of taken) state error stands.so is refusal
 
-    too_deep : IsRefusal error → BeginsValue depth taken → NestsTooDeep depth text
+    too_deep : IsRefusal error → BeginsWithinDepth depth taken → NestsTooDeep depth text
     too_deep refusal found =
         let all = opening ++ events_of taken in
         let fits = found.nested in
@@ -88,7 +88,7 @@ module _ (given : Settings) (in_flow : Bool) (depth : ℕ) (text : List ℕ) whe
           deeper = λ json read. nests_deeper given in_flow json all error state (stream_begins json (text_begins json read)) (refused refusal);
         }
 
-    by_kind : BeginsValue depth taken → (error ≡ Memory) ⊎ ((error ≡ WriteError) ⊎ IsRefusal error) → FailsBy given in_flow depth text error
+    by_kind : BeginsWithinDepth depth taken → (error ≡ Memory) ⊎ ((error ≡ WriteError) ⊎ IsRefusal error) → FailsBy given in_flow depth text error
     by_kind found (inl memory) = inl memory
     by_kind found (inr (inl same)) = inr (inl (same, full same))
     by_kind found (inr (inr refusal)) =
@@ -98,7 +98,7 @@ module _ (given : Settings) (in_flow : Bool) (depth : ℕ) (text : List ℕ) whe
           too_deep refusal found,
         ))
 
-    failed_after : BeginsValue depth taken → FailsBy given in_flow depth text error
+    failed_after : BeginsWithinDepth depth taken → FailsBy given in_flow depth text error
     failed_after found = by_kind found (which error)
 
   -- ---- the writer of a text
@@ -122,7 +122,7 @@ module _ (given : Settings) (in_flow : Bool) (depth : ℕ) (text : List ℕ) whe
           (subst (λ (c : Bool). StandsTaken given (opening ++ json_events c in_flow wrote.json) [] now.emitter) canonical
           (wrote.wrote.adds given opening [] stands)).stands
 
-      whole : BeginsValue depth (tokens text)
+      whole : BeginsWithinDepth depth (tokens text)
       whole =
           record {
             json = wrote.json;

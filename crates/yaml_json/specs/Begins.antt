@@ -11,7 +11,7 @@ abbrev pub BeginsSome : List Token → Type 0
 BeginsSome taken = (json : Json) × IsPrefix taken (json_tokens json)
 
 -- some value nested at most `depth` deep begins with these tokens
-pub record BeginsValue (depth : ℕ) (taken : List Token) : Type 0 where
+pub record BeginsWithinDepth (depth : ℕ) (taken : List Token) : Type 0 where
   pub json : Json
   pub nested : nesting json ≤ depth
   pub begins : IsPrefix taken (json_tokens json)

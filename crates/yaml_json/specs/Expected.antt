@@ -19,12 +19,12 @@ use Rattle.yaml_json.specs.declared.expecting.Quoting.TheVariants.{Outside, Insi
 -- ---- where a text is after some of its bytes
 
 -- within a string or not; what stands last; which brackets are open, the innermost first
-pub record Standing : Type 0 where
+pub record StandingInJson : Type 0 where
   pub quoting : Quoting
   pub last : Last
   pub kinds : List CollectionKind
 
-abbrev pub start : Standing
+abbrev pub start : StandingInJson
 start = record { quoting = Outside; last = Nothing; kinds = [] }
 
 -- a string ends with the quote that no backslash stands before
@@ -34,13 +34,13 @@ quoting_after Inside byte = if byte == ascii.backslash then Escaped else (if byt
 quoting_after Escaped byte = Inside
 
 -- after a byte of a string or of a word
-abbrev pub begun : Last → Last
-begun Nothing = Value
-begun Opener = First
-begun Comma = First
-begun Colon = Value
-begun First = First
-begun Value = Value
+abbrev pub after_word_byte : Last → Last
+after_word_byte Nothing = Value
+after_word_byte Opener = First
+after_word_byte Comma = First
+after_word_byte Colon = Value
+after_word_byte First = First
+after_word_byte Value = Value
 
 -- blanks change nothing
 abbrev pub last_after : Last → ℕ → Last
@@ -49,7 +49,7 @@ last_after last byte =
     else (if is_opener byte then Opener
     else (if is_closer byte then Value
     else (if byte == ascii.comma then Comma
-    else (if byte == ascii.colon then Colon else begun last))))
+    else (if byte == ascii.colon then Colon else after_word_byte last))))
 
 abbrev pub kind_opened : ℕ → Option CollectionKind
 kind_opened byte = if byte == ascii.open_bracket then Some Sequence else (if byte == ascii.open_brace then Some Mapping else None)
@@ -63,15 +63,15 @@ abbrev pub open_after : List CollectionKind → ℕ → List CollectionKind
 open_after kinds byte = open_by (kind_opened byte) (is_closer byte) kinds
 
 -- within a string brackets, commas and colons are text
-abbrev pub standing_by : Quoting → Standing → ℕ → Standing
+abbrev pub standing_by : Quoting → StandingInJson → ℕ → StandingInJson
 standing_by Outside standing byte =
     record { quoting = quoting_after Outside byte; last = last_after standing.last byte; kinds = open_after standing.kinds byte }
 standing_by quoting standing byte = record standing { quoting = quoting_after quoting byte }
 
-abbrev pub standing_after : Standing → ℕ → Standing
+abbrev pub standing_after : StandingInJson → ℕ → StandingInJson
 standing_after standing byte = standing_by standing.quoting standing byte
 
-abbrev pub standing_over : Standing → List ℕ → Standing
+abbrev pub standing_over : StandingInJson → List ℕ → StandingInJson
 standing_over standing [] = standing
 standing_over standing (byte ∷ bytes) = standing_over (standing_after standing byte) bytes
 
@@ -117,7 +117,7 @@ is_nothing First = false
 is_nothing Value = false
 
 -- a text that has ended, and is blank, is none
-abbrev pub expected_of : Standing → (ended : Bool) → Expected
+abbrev pub expected_of : StandingInJson → (ended : Bool) → Expected
 expected_of standing ended =
     if is_nothing standing.last && ended then expected.Text else expected_by standing.last (innermost standing.kinds)
 
@@ -158,7 +158,7 @@ pub record IsDepth (deep : ℕ) (kinds : List CollectionKind) (depth : Depth) : 
   pub count : depth.count ≡ length kinds
   pub kind : depth.kind ≡ kind_at deep kinds
 
-pub record IsFront (deep : ℕ) (standing : Standing) (front : Front) : Type 0 where
+pub record IsFront (deep : ℕ) (standing : StandingInJson) (front : Front) : Type 0 where
   pub quoting : front.quoting ≡ standing.quoting
   pub last : front.last ≡ standing.last
   pub depth : IsDepth deep standing.kinds front.depth

@@ -13,7 +13,7 @@ use Rattle.yaml_pen.specs.Wrote.{Grows}
 use Rattle.yaml_emitter.specs.Uncut.{IsUncut}
 use Rattle.yaml_writer.specs.Unfinished.{PassesLimit}
 use Rattle.yaml_writer.specs.Writing.{AddsEvents, EndedCollection, WriterState, closing, opening, plain_start}
-use Rattle.yaml_json.specs.Begins.{BeginsValue}
+use Rattle.yaml_json.specs.Begins.{BeginsWithinDepth}
 use Rattle.yaml_json.specs.JsonEvents.{json_events}
 use Rattle.yaml_json.specs.TokenEvents.{tokens_events}
 use Rattle.yaml_json.specs.declared.error.JsonError.{JsonError}
@@ -43,11 +43,11 @@ TellsOf error stops.Memory = error ≡ Memory
 TellsOf error stops.Failed = error ≢ Memory
 
 -- the writer's answer, without its error
-abbrev pub IsAnswer : Result (Unit {0}) yaml_error_t → Result (Unit {0}) Stop → Type 0
-IsAnswer (Ok done) (Ok same) = Unit {0}
-IsAnswer (Ok done) (Err stop) = ⊥
-IsAnswer (Err error) (Ok done) = ⊥
-IsAnswer (Err error) (Err stop) = TellsOf error stop
+abbrev pub IsWritersAnswer : Result (Unit {0}) yaml_error_t → Result (Unit {0}) Stop → Type 0
+IsWritersAnswer (Ok done) (Ok same) = Unit {0}
+IsWritersAnswer (Ok done) (Err stop) = ⊥
+IsWritersAnswer (Err error) (Ok done) = ⊥
+IsWritersAnswer (Err error) (Err stop) = TellsOf error stop
 
 abbrev pub writers_error : JsonError → Option yaml_error_t
 writers_error (errors.NotJson line column says) = None
@@ -64,8 +64,8 @@ pub record FailedWith (was : WriterState) (events : List Event) (error : yaml_er
   pub is_error : (error ≡ Memory) ⊎ (now.emitter.error ≡ Some error)
 
 -- an allocation failed, and nothing changed; or this event was given to the emitter, which has this error now
-abbrev pub FailedAt : WriterState → Event → yaml_error_t → WriterState → Type 0
-FailedAt was event error now = ((error ≡ Memory) × (now ≡ was)) ⊎ FailedWith was (event ∷ []) error now
+abbrev pub FailedGiving : WriterState → Event → yaml_error_t → WriterState → Type 0
+FailedGiving was event error now = ((error ≡ Memory) × (now ≡ was)) ⊎ FailedWith was (event ∷ []) error now
 
 -- the innermost collection was ended, and the emitter has this error now; or none was open, and nothing changed
 abbrev pub FailedAtEnd : WriterState → yaml_error_t → WriterState → Type 0
@@ -81,7 +81,7 @@ pub record FailedAfter (in_flow : Bool) (taken ahead : List Token) (was : Writer
 -- tokens of these events; then an allocation failed, or the emitter has this error now
 abbrev pub FailedInValue : (depth : ℕ) → (in_flow : Bool) → List Token → WriterState → yaml_error_t → WriterState → Type 0
 FailedInValue depth in_flow ahead was error now =
-    (taken : List Token) × (FailedAfter in_flow taken ahead was error now × BeginsValue depth taken)
+    (taken : List Token) × (FailedAfter in_flow taken ahead was error now × BeginsWithinDepth depth taken)
 
 -- so of the tokens of a text
 abbrev pub FailedInText : (depth : ℕ) → (in_flow : Bool) → (text : List ℕ) → WriterState → yaml_error_t → WriterState → Type 0

@@ -63,20 +63,20 @@ IsWithinDepth depth json = nesting json ≤ depth
 
 -- the error is at the first lexeme that can't stand where it stands, or at the text's end: of any value; of one that nests at most
 -- `depth` deep; of one whose objects have each name once. Of no JSON it says what could stand there
-abbrev pub IsPlaced : (depth : ℕ) → (text : List ℕ) → (at : ℕ) → JsonError → Type 0
-IsPlaced depth text at (errors.NotJson line column says) = CannotStandAt IsAny text at × (says ≡ expected_at text at)
-IsPlaced depth text at (errors.Marked line column) = CannotStandAt IsAny text at
-IsPlaced depth text at (errors.TooDeep line column) = CannotStandAt (IsWithinDepth depth) text at
-IsPlaced depth text at (errors.DuplicateName line column) = CannotStandAt HasUniqueKeys text at
-IsPlaced depth text at (errors.Emitter error) = Unit {0}
+abbrev pub IsPlacedAt : (depth : ℕ) → (text : List ℕ) → (at : ℕ) → JsonError → Type 0
+IsPlacedAt depth text at (errors.NotJson line column says) = CannotStandAt IsAny text at × (says ≡ expected_at text at)
+IsPlacedAt depth text at (errors.Marked line column) = CannotStandAt IsAny text at
+IsPlacedAt depth text at (errors.TooDeep line column) = CannotStandAt (IsWithinDepth depth) text at
+IsPlacedAt depth text at (errors.DuplicateName line column) = CannotStandAt HasUniqueKeys text at
+IsPlacedAt depth text at (errors.Emitter error) = Unit {0}
 
 -- the line and the column of the error, where it has them, are those of that lexeme
 abbrev pub HasPlace : (depth : ℕ) → (text : List ℕ) → JsonError → Type 0
-HasPlace depth text error = (at : ℕ) × (IsAt text at error × IsPlaced depth text at error)
+HasPlace depth text error = (at : ℕ) × (IsAt text at error × IsPlacedAt depth text at error)
 
 -- so of a text that begins after these bytes of a longer one: the line and the column are those in the longer one
 abbrev pub HasPlaceAfter : (depth : ℕ) → (text front part : List ℕ) → JsonError → Type 0
-HasPlaceAfter depth text front part error = (at : ℕ) × (IsAt text (length front + at) error × IsPlaced depth part at error)
+HasPlaceAfter depth text front part error = (at : ℕ) × (IsAt text (length front + at) error × IsPlacedAt depth part at error)
 
 -- ---- texts that come part by part
 
@@ -92,7 +92,7 @@ IsPlaceAfter front place = length front < many_bytes → AreOf front (length fro
 -- which come before it
 abbrev pub HasPlaceWithin : (depth : ℕ) → (front part : List ℕ) → StreamError → Type 0
 HasPlaceWithin depth front part (faults.Refused error) =
-    (at : ℕ) × ((length front + at < many_bytes → IsAt (front ++ part) (length front + at) error) × IsPlaced depth part at error)
+    (at : ℕ) × ((length front + at < many_bytes → IsAt (front ++ part) (length front + at) error) × IsPlacedAt depth part at error)
 HasPlaceWithin depth front part (faults.NotText line column) =
     (at : ℕ) × ((length front + at < many_bytes → AreOf (front ++ part) (length front + at) line column) × IsValidUpTo part at)
 HasPlaceWithin depth front part _ = Unit {0}

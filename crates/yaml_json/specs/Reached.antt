@@ -43,7 +43,7 @@ Passed text taken Owed rest = HaveTokens text taken after_comma rest
 Passed text taken Over rest = EndsBad taken
 
 -- these tokens of the text were read, and what is left begins where a lexeme may
-pub record HasRead (text : List ℕ) (taken : List Token) (stage : Stage) (rest : List ℕ) : Type 0 where
+pub record HasReadTokens (text : List ℕ) (taken : List Token) (stage : Stage) (rest : List ℕ) : Type 0 where
   pub all : taken ++ ahead stage rest ≡ tokens text
   pub passed : Passed text taken stage rest
   pub leads : LeadsFrom between text rest
@@ -59,14 +59,14 @@ reader_of text stage rest was left = record { text = text; ahead = ahead stage r
 -- so the reader stands, and so it stood when the last token was read
 pub record IsReader (text : List ℕ) (stage : Stage) (rest : List ℕ) (was : Stage) (left : ℕ) : Type 0 where
   pub taken : List Token
-  pub stands : HasRead text taken stage rest
+  pub stands : HasReadTokens text taken stage rest
   pub once : List Token
-  pub stood : HasRead text once was (last_bytes text left)
+  pub stood : HasReadTokens text once was (last_bytes text left)
 
 -- these tokens are read from an offset of the text on
 pub record AreFrom (text : List ℕ) (before : List Token) (at : ℕ) : Type 0 where
   pub within : at ≤ length text
   pub taken : List Token
   pub stage : Stage
-  pub stood : HasRead text taken stage (drop at text)
+  pub stood : HasReadTokens text taken stage (drop at text)
   pub are : before ≡ ahead stage (drop at text)

@@ -7,7 +7,7 @@ use Rattle.json.specs.Lex.{tokens}
 use Rattle.json.specs.Json.{Json, value}
 use Rattle.json.specs.Tree.{depth as nesting, json_tokens}
 use Rattle.yaml_base.specs.Prefix.{IsPrefix}
-use Rattle.yaml_json.specs.Begins.{BeginsAllowed, BeginsSome, BeginsValue, NoneGoesOn}
+use Rattle.yaml_json.specs.Begins.{BeginsAllowed, BeginsSome, BeginsWithinDepth, NoneGoesOn}
 use Rattle.yaml_json.specs.declared.error.JsonError.{JsonError}
 use Rattle.yaml_json.specs.declared.error.JsonError.TheVariants as errors
 use Rattle.yaml_json.specs.declared.values.Stop.{Stop}
@@ -45,7 +45,7 @@ DeniesJson (errors.Emitter error) = ⊥
 -- ---- why
 
 -- the tokens are those of an allowed value up to one that can't stand there, or up to their end, which comes too early
-pub record BreaksOff (depth : ℕ) (unique : Bool) (all : List Token) : Type 0 where
+pub record TokensBreakOff (depth : ℕ) (unique : Bool) (all : List Token) : Type 0 where
   pub taken : List Token
   pub left : List Token
   pub parts : taken ++ left ≡ all
@@ -71,13 +71,13 @@ pub record NamesTwice (depth : ℕ) (unique : Bool) (all : List Token) : Type 0 
   pub left : List Token
   pub parts : taken ++ key name ∷ left ≡ all
   pub begins : BeginsAllowed depth unique taken
-  pub some : BeginsValue depth (taken ++ key name ∷ [])
+  pub some : BeginsWithinDepth depth (taken ++ key name ∷ [])
   pub twice : (json : Json) → IsPrefix (taken ++ key name ∷ []) (json_tokens json) → HasUniqueKeys json → ⊥
 
 -- ---- why, after these tokens, with those ahead
 
 -- the tokens before are those of an allowed value, and the next can't stand there, or they end too early
-pub record BreaksAt (depth : ℕ) (unique : Bool) (taken left : List Token) : Type 0 where
+pub record TokensBreakAt (depth : ℕ) (unique : Bool) (taken left : List Token) : Type 0 where
   pub begins : BeginsAllowed depth unique taken
   pub breaks : NoneGoesOn taken left
 
@@ -97,15 +97,15 @@ pub record NamesTwiceAt (depth : ℕ) (unique : Bool) (taken left : List Token) 
   pub after : List Token
   pub first : left ≡ key name ∷ after
   pub begins : BeginsAllowed depth unique taken
-  pub some : BeginsValue depth (taken ++ key name ∷ [])
+  pub some : BeginsWithinDepth depth (taken ++ key name ∷ [])
   pub twice : (json : Json) → IsPrefix (taken ++ key name ∷ []) (json_tokens json) → HasUniqueKeys json → ⊥
 
 -- no tokens have two of these faults
 abbrev pub FaultsDiffer : Type 0
 FaultsDiffer =
     (depth : ℕ) (unique : Bool) (all : List Token)
-    → (BreaksOff depth unique all → OpensTooDeep depth unique all → ⊥)
-    × (BreaksOff depth unique all → NamesTwice depth unique all → ⊥)
+    → (TokensBreakOff depth unique all → OpensTooDeep depth unique all → ⊥)
+    × (TokensBreakOff depth unique all → NamesTwice depth unique all → ⊥)
     × (OpensTooDeep depth unique all → NamesTwice depth unique all → ⊥)
 
 -- ---- that the text isn't JSON
@@ -125,20 +125,20 @@ is_marked text = starts_with nat_eq text (239 ∷ 187 ∷ 191 ∷ [])
 -- what an error says of the text: that it breaks off, without a byte order mark at its start or with one; that it opens too many
 -- arrays and objects; that a name comes twice
 abbrev pub ExplainsError : (depth : ℕ) → (unique : Bool) → (text : List ℕ) → JsonError → Type 0
-ExplainsError depth unique text (errors.NotJson line column says) = BreaksOff depth unique (tokens text) × (is_marked text ≡ false)
-ExplainsError depth unique text (errors.Marked line column) = BreaksOff depth unique (tokens text) × (is_marked text ≡ true)
+ExplainsError depth unique text (errors.NotJson line column says) = TokensBreakOff depth unique (tokens text) × (is_marked text ≡ false)
+ExplainsError depth unique text (errors.Marked line column) = TokensBreakOff depth unique (tokens text) × (is_marked text ≡ true)
 ExplainsError depth unique text (errors.TooDeep line column) = OpensTooDeep depth unique (tokens text)
 ExplainsError depth unique text (errors.DuplicateName line column) = NamesTwice depth unique (tokens text)
 ExplainsError depth unique text (errors.Emitter error) = Unit {0}
 
 -- what it says of the tokens of the text that were taken, and of those ahead; where it is the writer's, some value nested at most
 -- `depth` deep begins with the tokens that were taken
-abbrev pub StopsAt : (depth : ℕ) → (unique : Bool) → (text : List ℕ) → (taken left : List Token) → JsonError → Type 0
-StopsAt depth unique text taken left (errors.NotJson line column says) = BreaksAt depth unique taken left × (is_marked text ≡ false)
-StopsAt depth unique text taken left (errors.Marked line column) = BreaksAt depth unique taken left × (is_marked text ≡ true)
-StopsAt depth unique text taken left (errors.TooDeep line column) = OpensTooDeepAt depth unique taken left
-StopsAt depth unique text taken left (errors.DuplicateName line column) = NamesTwiceAt depth unique taken left
-StopsAt depth unique text taken left (errors.Emitter error) = BeginsValue depth taken
+abbrev pub TokensStopAt : (depth : ℕ) → (unique : Bool) → (text : List ℕ) → (taken left : List Token) → JsonError → Type 0
+TokensStopAt depth unique text taken left (errors.NotJson line column says) = TokensBreakAt depth unique taken left × (is_marked text ≡ false)
+TokensStopAt depth unique text taken left (errors.Marked line column) = TokensBreakAt depth unique taken left × (is_marked text ≡ true)
+TokensStopAt depth unique text taken left (errors.TooDeep line column) = OpensTooDeepAt depth unique taken left
+TokensStopAt depth unique text taken left (errors.DuplicateName line column) = NamesTwiceAt depth unique taken left
+TokensStopAt depth unique text taken left (errors.Emitter error) = BeginsWithinDepth depth taken
 
 -- where names are to come once, no object of the text has one twice
 abbrev pub HasNamesOnce : (unique : Bool) → (text : List ℕ) → Type 0

@@ -16,7 +16,7 @@ use Rattle.yaml_writer.specs.Writing.{AddsEvents, Finishes, StandsTaken, WriterS
 use Rattle.yaml_json.specs.Cuts.{HasScanned}
 use Rattle.yaml_json.specs.Failing.{FailedWith, HasErrorSaid, between, events_with_separators, writers_error}
 use Rattle.yaml_json.specs.Places.{HasPlaceWithin, IsPlaceAfter}
-use Rattle.yaml_json.specs.Refused.{HaveNamesOnce, IsOfText, StopsAt}
+use Rattle.yaml_json.specs.Refused.{HaveNamesOnce, IsOfText, TokensStopAt}
 use Rattle.yaml_json.specs.Texts.{texts_in}
 use Rattle.yaml_json.specs.TokenEvents.{tokens_events}
 use Rattle.yaml_json.specs.Wrote.{AreJson, IsBare, IsYamlOfTexts, parts_events}
@@ -136,7 +136,7 @@ IsByReader _ = ⊥
 -- what an error says of a text of which these tokens were taken, with those ahead: of nothing but UTF-8 a token is taken
 abbrev pub StopsPartAt : (depth : ℕ) → (unique : Bool) → (text : List ℕ) → (taken left : List Token) → StreamError → Type 0
 StopsPartAt depth unique text taken left (faults.Refused error) =
-    StopsAt depth unique text taken left error × (IsUtf8 text ⊎ ((taken ≡ []) × (IsOfText error → ⊥)))
+    TokensStopAt depth unique text taken left error × (IsUtf8 text ⊎ ((taken ≡ []) × (IsOfText error → ⊥)))
 StopsPartAt depth unique text taken left (faults.NotText line column) = (taken ≡ []) × (IsUtf8 text → ⊥)
 StopsPartAt depth unique text taken left _ = taken ≡ []
 

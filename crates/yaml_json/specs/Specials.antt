@@ -11,9 +11,9 @@ abbrev pub IsInside : Scan → Type 0
 IsInside scan = (scan.mode ≡ Within) ⊎ (scan.mode ≡ InString)
 
 -- it may change such a scan
-abbrev pub is_special : ℕ → Bool
-is_special byte = (byte == ascii.quote) || (byte == ascii.backslash) || is_opener byte || is_closer byte
+abbrev pub may_change_scan : ℕ → Bool
+may_change_scan byte = (byte == ascii.quote) || (byte == ascii.backslash) || is_opener byte || is_closer byte
 
 -- of 32 bytes, only those whose bits are set may be special
 abbrev pub MayBeSpecial : (bytes : List ℕ) (bits : ℕ) → Type 0
-MayBeSpecial bytes bits = (k : ℕ) → k < 32 → bit_at bits k ≡ 0 → is_special (get_or bytes k 0) ≡ false
+MayBeSpecial bytes bits = (k : ℕ) → k < 32 → bit_at bits k ≡ 0 → may_change_scan (get_or bytes k 0) ≡ false

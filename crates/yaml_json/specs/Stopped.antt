@@ -6,7 +6,7 @@ use Rattle.json.specs.Json.{Json}
 use Rattle.yaml_writer.specs.Writing.{AddsEvents, WriterState}
 use Rattle.yaml_json.specs.Failing.{events_with_separators}
 use Rattle.yaml_json.specs.Places.{HasPlaceAfter}
-use Rattle.yaml_json.specs.Refused.{HaveNamesOnce, StopsAt}
+use Rattle.yaml_json.specs.Refused.{HaveNamesOnce, TokensStopAt}
 use Rattle.yaml_json.specs.Texts.{texts_in}
 use Rattle.yaml_json.specs.TokenEvents.{tokens_events}
 use Rattle.yaml_json.specs.Wrote.{AreJson}
@@ -17,7 +17,7 @@ pub record StopsInText (depth : ℕ) (unique in_flow : Bool) (text : List ℕ) (
   pub taken : List Token
   pub left : List Token
   pub split : taken ++ left ≡ tokens text
-  pub why : StopsAt depth unique text taken left error
+  pub why : TokensStopAt depth unique text taken left error
   pub adds : AddsEvents was.emitter (tokens_events was.canonical in_flow taken) now.emitter
 
 -- the first of the texts in a text are allowed, and the writer was given their events, with a document begun after each, and then those of
@@ -32,7 +32,7 @@ pub record StopsInTexts (depth : ℕ) (unique in_flow : Bool) (text : List ℕ) 
   pub taken : List Token
   pub left : List Token
   pub split : taken ++ left ≡ tokens next
-  pub why : StopsAt depth unique next taken left error
+  pub why : TokensStopAt depth unique next taken left error
   pub place : HasPlaceAfter depth text (flat_map (λ part. part.0) parts) next error
   pub adds :
       AddsEvents was.emitter (events_with_separators was.canonical in_flow parts ++ tokens_events was.canonical in_flow taken) now.emitter

@@ -58,14 +58,14 @@ onto_first byte [] = (byte ∷ []) ∷ []
 onto_first byte (text ∷ texts) = (byte ∷ text) ∷ texts
 
 -- the byte goes on with the text, or begins the next one; then come more
-abbrev pub cut_before : ℕ → Option Scan → (Scan → List (List ℕ)) → List (List ℕ)
-cut_before byte None more = [] ∷ onto_first byte (more (scan_first_byte byte))
-cut_before byte (Some scan) more = onto_first byte (more scan)
+abbrev pub cut_text_before : ℕ → Option Scan → (Scan → List (List ℕ)) → List (List ℕ)
+cut_text_before byte None more = [] ∷ onto_first byte (more (scan_first_byte byte))
+cut_text_before byte (Some scan) more = onto_first byte (more scan)
 
 -- what is left of a text, and the texts after it
 abbrev pub texts_after : Scan → List ℕ → List (List ℕ)
 texts_after scan [] = [] ∷ []
-texts_after scan (byte ∷ bytes) = cut_before byte (after_byte scan byte) (λ next. texts_after next bytes)
+texts_after scan (byte ∷ bytes) = cut_text_before byte (after_byte scan byte) (λ next. texts_after next bytes)
 
 -- the texts of a text; the first may be blank
 abbrev pub texts_in : List ℕ → List (List ℕ)

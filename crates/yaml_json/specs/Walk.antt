@@ -10,9 +10,9 @@ use Rattle.yaml_base.specs.declared.errors.yaml_error_t.TheVariants.{Memory}
 use Rattle.yaml_writer.specs.Writing.{AddsEvents, WriterState}
 use Rattle.yaml_base.specs.declared.kinds.CollectionKind.{CollectionKind}
 use Rattle.yaml_base.specs.declared.kinds.CollectionKind.TheVariants.{Mapping, Sequence}
-use Rattle.yaml_json.specs.Begins.{BeginsAllowed, BeginsSome, BeginsValue}
+use Rattle.yaml_json.specs.Begins.{BeginsAllowed, BeginsSome, BeginsWithinDepth}
 use Rattle.yaml_json.specs.Failing.{FailedWith}
-use Rattle.yaml_json.specs.Refused.{BreaksAt, NamesTwiceAt, OpensTooDeepAt, is_marked}
+use Rattle.yaml_json.specs.Refused.{TokensBreakAt, NamesTwiceAt, OpensTooDeepAt, is_marked}
 use Rattle.yaml_json.specs.HeldNames.{HaveNames, HoldsNames}
 use Rattle.yaml_json.specs.Names.{NamesOnce, all_names_after, outer_names}
 use Rattle.yaml_json.specs.declared.names.Names.{Names}
@@ -38,12 +38,12 @@ unwind depth [] found = found
 unwind depth (kind ∷ inner) found = option_and_then (skip_rest kind (depth - 1)) (unwind (depth - 1) inner found)
 
 -- after these tokens of a value these collections are open: whatever follows, the value is what closes them all
-abbrev pub StandsAt : ℕ → List Token → List CollectionKind → Type 0
-StandsAt depth taken levels = (length levels ≤ depth) × ((more : List Token) → skip_value depth (taken ++ more) ≡ unwind depth levels (Some more))
+abbrev pub LeavesOpenAt : ℕ → List Token → List CollectionKind → Type 0
+LeavesOpenAt depth taken levels = (length levels ≤ depth) × ((more : List Token) → skip_value depth (taken ++ more) ≡ unwind depth levels (Some more))
 
 -- after these tokens of a value these collections are open, however much deeper values may nest
-abbrev pub Stands : ℕ → List Token → List CollectionKind → Type 0
-Stands depth taken levels = (deep : ℕ) → depth ≤ deep → StandsAt deep taken levels
+abbrev pub LeavesOpen : ℕ → List Token → List CollectionKind → Type 0
+LeavesOpen depth taken levels = (deep : ℕ) → depth ≤ deep → LeavesOpenAt deep taken levels
 
 -- the token is a whole value
 abbrev pub IsScalar : Token → Type 0
@@ -101,7 +101,7 @@ Begins depth levels token now =
 -- ---- the writer
 
 -- the events of these tokens were given, and these collections are open within those that were
-pub record Stood (in_flow : Bool) (was : WriterState) (taken : List Token) (levels : List CollectionKind) (now : WriterState) : Type 0 where
+pub record GaveTokens (in_flow : Bool) (was : WriterState) (taken : List Token) (levels : List CollectionKind) (now : WriterState) : Type 0 where
   pub adds : AddsEvents was.emitter (tokens_events was.canonical in_flow taken) now.emitter
   pub canonical : now.canonical ≡ was.canonical
   pub levels_are : now.levels ≡ was.levels ++ levels
@@ -110,14 +110,14 @@ pub record Stood (in_flow : Bool) (was : WriterState) (taken : List Token) (leve
 -- wherever the writer stood, the events of these tokens were given more
 abbrev pub Gives : (in_flow : Bool) → List CollectionKind → WriterState → List Token → List CollectionKind → WriterState → Type 0
 Gives in_flow levels before taken opened after =
-    (was : WriterState) (so : List Token) → Stood in_flow was so levels before → Stood in_flow was (so ++ taken) opened after
+    (was : WriterState) (so : List Token) → GaveTokens in_flow was so levels before → GaveTokens in_flow was (so ++ taken) opened after
 
 -- an allocation failed, and nothing changed; or, wherever the writer stood, the events of these tokens were given more, and its
 -- emitter has this error
 abbrev pub FailsGiving : (in_flow : Bool) → List CollectionKind → WriterState → List Token → yaml_error_t → WriterState → Type 0
 FailsGiving in_flow levels before taken error after =
     ((error ≡ Memory) × (after ≡ before))
-    ⊎ ((was : WriterState) (so : List Token) → Stood in_flow was so levels before
+    ⊎ ((was : WriterState) (so : List Token) → GaveTokens in_flow was so levels before
     → FailedWith was (tokens_events was.canonical in_flow (so ++ taken)) error after)
 
 -- ---- the names
@@ -131,14 +131,14 @@ abbrev pub FitsNames : {A : Type 0} → (unique : Bool) → List CollectionKind 
 FitsNames unique levels held = (held.are_kept ≡ unique) × (held.are_kept ≡ true → length held.levels.items ≡ length levels)
 
 -- wherever they were kept, they are after these tokens more
-abbrev pub Keeps : {A : Type 0} → Names A → List Token → Names A → Type 0
-Keeps held taken later = (so : List Token) → KeepsNames so held → KeepsNames (so ++ taken) later
+abbrev pub KeepsNamesAfter : {A : Type 0} → Names A → List Token → Names A → Type 0
+KeepsNamesAfter held taken later = (so : List Token) → KeepsNames so held → KeepsNames (so ++ taken) later
 
 -- names are kept after some of the tokens that were ahead
 pub record KeepsTo {A : Type 0} (held : Names A) (ahead after : List Token) (later : Names A) : Type 0 where
   pub taken : List Token
   pub parts : ahead ≡ taken ++ after
-  pub keeps : Keeps held taken later
+  pub keeps : KeepsNamesAfter held taken later
 
 -- the names of the innermost are dropped
 abbrev pub LeavesNames : {A : Type 0} → Names A → Names A → Type 0
@@ -237,13 +237,13 @@ pub record IsInnermost (kind : CollectionKind) (levels : List CollectionKind) : 
   pub is : levels ≡ outer ++ kind ∷ []
 
 -- the first tokens were given, and wherever the walk stood with these collections open, it stands with those now
-pub record Stepped (depth : ℕ) (in_flow : Bool) (ahead : List Token) (levels : List CollectionKind) (before : WriterState) (after : List Token)
+pub record WalkedOn (depth : ℕ) (in_flow : Bool) (ahead : List Token) (levels : List CollectionKind) (before : WriterState) (after : List Token)
     (opened : List CollectionKind) (now : WriterState) : Type 0 where
   pub taken : List Token
   pub parts : ahead ≡ taken ++ after
   pub shorter : length after < length ahead
   pub gives : Gives in_flow levels before taken opened now
-  pub moves : (so : List Token) → Stands depth so levels → Stands depth (so ++ taken) opened
+  pub moves : (so : List Token) → LeavesOpen depth so levels → LeavesOpen depth (so ++ taken) opened
 
 -- wherever the walk stood with these collections open, the events of the first tokens were given, with which a value begins; then an
 -- allocation failed, or the emitter
@@ -253,13 +253,13 @@ pub record StepFailed (depth : ℕ) (in_flow : Bool) (ahead : List Token) (level
   pub left : List Token
   pub parts : taken ++ left ≡ ahead
   pub fails :
-      (was : WriterState) (so : List Token) → Stood in_flow was so levels before
+      (was : WriterState) (so : List Token) → GaveTokens in_flow was so levels before
       → FailedWith was (tokens_events was.canonical in_flow (so ++ taken)) error now
-  pub begins : (so : List Token) → Stands depth so levels → BeginsValue depth (so ++ taken)
+  pub begins : (so : List Token) → LeavesOpen depth so levels → BeginsWithinDepth depth (so ++ taken)
 
 -- why the text stops the writing after these tokens, with those ahead
 abbrev pub WhyStopped : (depth : ℕ) → (unique : Bool) → (taken left : List Token) → Stop → Type 0
-WhyStopped depth unique taken left (stops.NotJson spot) = BreaksAt depth unique taken left
+WhyStopped depth unique taken left (stops.NotJson spot) = TokensBreakAt depth unique taken left
 WhyStopped depth unique taken left stops.TooDeep = OpensTooDeepAt depth unique taken left
 WhyStopped depth unique taken left stops.NameAgain = NamesTwiceAt depth unique taken left
 WhyStopped depth unique taken left stops.Memory = Unit {0}
@@ -308,13 +308,13 @@ CouldStandOther taken left =
     ⊎ ((left ≡ Token.string text ∷ after) × BeginsSome (taken ++ Token.key text ∷ []))))
 
 -- the tokens are those of a whole value
-abbrev pub IsWhole : List Token → Type 0
-IsWhole taken = (json : Json) × (json_tokens json ≡ taken)
+abbrev pub IsWholeValue : List Token → Type 0
+IsWholeValue taken = (json : Json) × (json_tokens json ≡ taken)
 
 abbrev pub IsSpot : (depth : ℕ) → (unique : Bool) → Spot → (taken left : List Token) → Type 0
 IsSpot depth unique At taken left = GoesOn depth unique taken × NoStringNext left
 IsSpot depth unique PastString taken left = CouldStandOther taken left
-IsSpot depth unique PastValue taken left = IsWhole taken × (left ≢ [])
+IsSpot depth unique PastValue taken left = IsWholeValue taken × (left ≢ [])
 
 -- the next token is no name whose string could stand there
 abbrev pub NoStringStands : (taken left : List Token) → Type 0
@@ -335,9 +335,9 @@ WereLeft (stops.NotJson PastValue) taken left before =
 WereLeft _ taken left before = before ≡ left
 
 -- the value isn't whole yet
-abbrev pub IsInside : Stop → Type 0
-IsInside (stops.NotJson PastValue) = ⊥
-IsInside _ = Unit {0}
+abbrev pub StopsInside : Stop → Type 0
+StopsInside (stops.NotJson PastValue) = ⊥
+StopsInside _ = Unit {0}
 
 -- wherever the walk stood with these collections open and these names taken, the events of the first of the tokens ahead were given,
 -- and then the text stops it, with these left
@@ -345,15 +345,15 @@ pub record Refuses {A : Type 0} (depth : ℕ) (unique in_flow : Bool) (levels : 
     (before : WriterState) (stop : Stop) (now : WriterState) : Type 0 where
   pub taken : List Token
   pub parts : taken ++ left ≡ ahead
-  pub inside : IsInside stop
+  pub inside : StopsInside stop
   pub adds :
-      (was : WriterState) (so : List Token) → Stood in_flow was so levels before
+      (was : WriterState) (so : List Token) → GaveTokens in_flow was so levels before
       → AddsEvents was.emitter (tokens_events was.canonical in_flow (so ++ taken)) now.emitter
-  pub why : (so : List Token) → Stands depth so levels → KeepsNames so held → WhyStopped depth unique (so ++ taken) left stop
-  pub place : (so : List Token) → Stands depth so levels → KeepsNames so held → WhereStopped depth unique (so ++ taken) left stop
+  pub why : (so : List Token) → LeavesOpen depth so levels → KeepsNames so held → WhyStopped depth unique (so ++ taken) left stop
+  pub place : (so : List Token) → LeavesOpen depth so levels → KeepsNames so held → WhereStopped depth unique (so ++ taken) left stop
 
 -- the text stops the writing after the first of these tokens, whose events were given; these were left when the last was read
-pub record StopsWriting (depth : ℕ) (unique in_flow : Bool) (all before : List Token) (was : WriterState) (stop : Stop) (now : WriterState)
+pub record TextStopsWriting (depth : ℕ) (unique in_flow : Bool) (all before : List Token) (was : WriterState) (stop : Stop) (now : WriterState)
     : Type 0 where
   pub taken : List Token
   pub left : List Token
@@ -365,7 +365,7 @@ pub record StopsWriting (depth : ℕ) (unique in_flow : Bool) (all before : List
 
 -- so of the tokens of a text
 abbrev pub StopsText : (depth : ℕ) → (unique in_flow : Bool) → (text : List ℕ) → WriterState → Stop → WriterState → Type 0
-StopsText depth unique in_flow text was stop now = (before : List Token) × StopsWriting depth unique in_flow (tokens text) before was stop now
+StopsText depth unique in_flow text was stop now = (before : List Token) × TextStopsWriting depth unique in_flow (tokens text) before was stop now
 
 -- ---- the whole walk
 
@@ -374,8 +374,8 @@ pub record WalkProgress (depth : ℕ) (in_flow : Bool) (start : List Token) (was
     (now : WriterState) : Type 0 where
   pub taken : List Token
   pub parts : taken ++ ahead ≡ start
-  pub stood : Stood in_flow was taken levels now
-  pub stands : Stands depth taken levels
+  pub stood : GaveTokens in_flow was taken levels now
+  pub stands : LeavesOpen depth taken levels
 
 -- ---- what is returned to a caller
 

@@ -9,32 +9,32 @@ use Rattle.yaml_json.specs.Nests.{HasNoneOpen, IsNesting}
 use Rattle.yaml_json.specs.Offsets.{StopsAtLexeme}
 use Rattle.yaml_json.specs.Reached.{LastRead, Reader}
 use Rattle.yaml_json.specs.Refused.{IsByText}
-use Rattle.yaml_json.specs.Walk.{BeganFirstValue, BeganValue, BeginFailed, FirstFailed, Keeps, KeepsTo, Refuses, RefusesFirst, RefusesToken}
-use Rattle.yaml_json.specs.Walk.{HasUniqueNames, StepFailed, Stepped, StopsText, StopsWriting}
+use Rattle.yaml_json.specs.Walk.{BeganFirstValue, BeganValue, BeginFailed, FirstFailed, KeepsNamesAfter, KeepsTo, Refuses, RefusesFirst, RefusesToken}
+use Rattle.yaml_json.specs.Walk.{HasUniqueNames, StepFailed, WalkedOn, StopsText, TextStopsWriting}
 use Rattle.yaml_json.specs.Wrote.{WroteDocument, WroteText, WroteValue}
 use Rattle.yaml_json.specs.declared.settings.JsonSettings.{JsonSettings}
 use Rattle.yaml_json.specs.declared.values.Nesting.{Nesting}
 use Rattle.yaml_json.specs.declared.values.Stop.{Stop}
 
 -- where a walk is: what is open, and the writer
-pub record WalkState (A : Type 0) : Type 0 where
+pub record JsonWalk (A : Type 0) : Type 0 where
   pub nest : Nesting A
   pub writer : WriterState
 
-abbrev pub at : {A : Type 0} → Nesting A → WriterState → WalkState A
+abbrev pub at : {A : Type 0} → Nesting A → WriterState → JsonWalk A
 at nest writer = record { nest = nest; writer = writer }
 
 -- ---- one token
 
 -- the token was given, with which a value begins
-pub record TokenGiven {A : Type 0} (settings : JsonSettings) (token : Token) (before after : WalkState A) : Type 0 where
+pub record TokenGiven {A : Type 0} (settings : JsonSettings) (token : Token) (before after : JsonWalk A) : Type 0 where
   pub began : BeganValue settings.depth settings.flow token before.nest.kinds.items before.writer after.nest.kinds.items after.writer
   pub fits : IsNesting settings.depth settings.unique_names after.nest
-  pub names : Keeps before.nest.names (token ∷ []) after.nest.names
+  pub names : KeepsNamesAfter before.nest.names (token ∷ []) after.nest.names
   pub kept : Kept before.writer (Ok tt) after.writer
 
 -- no value begins with the token, and the writer is as before; or the writer failed at it
-pub record TokenStopped {A : Type 0} (settings : JsonSettings) (token : Token) (before : WalkState A) (stop : Stop) (after : WalkState A) : Type 0 where
+pub record TokenStopped {A : Type 0} (settings : JsonSettings) (token : Token) (before : JsonWalk A) (stop : Stop) (after : JsonWalk A) : Type 0 where
   pub refused : RefusesToken settings.depth before.nest.kinds.items token stop
   pub same : IsByText stop → after.writer ≡ before.writer
   pub kept : Kept before.writer (Err stop) after.writer
@@ -42,14 +42,14 @@ pub record TokenStopped {A : Type 0} (settings : JsonSettings) (token : Token) (
       IfSome (failure_of after.writer stop)
       (λ error. BeginFailed settings.depth settings.flow token before.nest.kinds.items before.writer error after.writer)
 
-abbrev pub TokenStep : {A : Type 0} → JsonSettings → Token → WalkState A → Result (Unit {0}) Stop → WalkState A → Type 0
+abbrev pub TokenStep : {A : Type 0} → JsonSettings → Token → JsonWalk A → Result (Unit {0}) Stop → JsonWalk A → Type 0
 TokenStep settings token before (Ok done) after = TokenGiven settings token before after
 TokenStep settings token before (Err stop) after = TokenStopped settings token before stop after
 
 -- ---- the first token of a reader
 
 -- the first of the tokens ahead was given, with which a value begins
-pub record FirstGiven {A : Type 0} (settings : JsonSettings) (reader : Reader) (before : WalkState A) (left : Reader) (after : WalkState A)
+pub record FirstGiven {A : Type 0} (settings : JsonSettings) (reader : Reader) (before : JsonWalk A) (left : Reader) (after : JsonWalk A)
     : Type 0 where
   pub began :
       BeganFirstValue settings.depth settings.flow reader.ahead before.nest.kinds.items before.writer left.ahead after.nest.kinds.items after.writer
@@ -58,7 +58,7 @@ pub record FirstGiven {A : Type 0} (settings : JsonSettings) (reader : Reader) (
   pub kept : Kept before.writer (Ok tt) after.writer
 
 -- no value begins with the first of them, or there is none, and the writer is as before; or the writer failed at it
-pub record FirstStopped {A : Type 0} (settings : JsonSettings) (reader : Reader) (before : WalkState A) (stop : Stop) (after : WalkState A)
+pub record FirstStopped {A : Type 0} (settings : JsonSettings) (reader : Reader) (before : JsonWalk A) (stop : Stop) (after : JsonWalk A)
     : Type 0 where
   pub refused : RefusesFirst settings.depth before.nest.kinds.items reader.ahead stop
   pub same : IsByText stop → after.writer ≡ before.writer
@@ -67,24 +67,24 @@ pub record FirstStopped {A : Type 0} (settings : JsonSettings) (reader : Reader)
       IfSome (failure_of after.writer stop)
       (λ error. FirstFailed settings.depth settings.flow reader.ahead before.nest.kinds.items before.writer error after.writer)
 
-abbrev pub FirstStep : {A : Type 0} → JsonSettings → Reader → WalkState A → Result (Unit {0}) Stop → Reader → WalkState A → Type 0
+abbrev pub FirstStep : {A : Type 0} → JsonSettings → Reader → JsonWalk A → Result (Unit {0}) Stop → Reader → JsonWalk A → Type 0
 FirstStep settings reader before (Ok done) left after = FirstGiven settings reader before left after
 FirstStep settings reader before (Err stop) left after = FirstStopped settings reader before stop after
 
 -- ---- an item, a member, or an end
 
 -- the first of the tokens ahead were given, and wherever the walk stood, it stands after them
-pub record Walked {A : Type 0} (settings : JsonSettings) (reader : Reader) (before : WalkState A) (left : Reader) (after : WalkState A)
+pub record Walked {A : Type 0} (settings : JsonSettings) (reader : Reader) (before : JsonWalk A) (left : Reader) (after : JsonWalk A)
     : Type 0 where
-  pub stepped : Stepped settings.depth settings.flow reader.ahead before.nest.kinds.items before.writer left.ahead after.nest.kinds.items after.writer
+  pub stepped : WalkedOn settings.depth settings.flow reader.ahead before.nest.kinds.items before.writer left.ahead after.nest.kinds.items after.writer
   pub fits : IsNesting settings.depth settings.unique_names after.nest
   pub names : KeepsTo before.nest.names reader.ahead left.ahead after.nest.names
   pub last : LastRead reader left
   pub kept : Kept before.writer (Ok tt) after.writer
 
 -- the text stops the walk after the first of them, or the writer failed
-pub record WalkStopped {A : Type 0} (settings : JsonSettings) (reader : Reader) (before : WalkState A) (stop : Stop) (left : Reader)
-    (after : WalkState A) : Type 0 where
+pub record WalkStopped {A : Type 0} (settings : JsonSettings) (reader : Reader) (before : JsonWalk A) (stop : Stop) (left : Reader)
+    (after : JsonWalk A) : Type 0 where
   pub refused :
       IsByText stop
       → Refuses settings.depth settings.unique_names settings.flow before.nest.kinds.items before.nest.names reader.ahead left.before before.writer stop
@@ -94,14 +94,14 @@ pub record WalkStopped {A : Type 0} (settings : JsonSettings) (reader : Reader) 
       IfSome (failure_of after.writer stop)
       (λ error. StepFailed settings.depth settings.flow reader.ahead before.nest.kinds.items before.writer error after.writer)
 
-abbrev pub WalkStep : {A : Type 0} → JsonSettings → Reader → WalkState A → Result (Unit {0}) Stop → Reader → WalkState A → Type 0
+abbrev pub WalkStep : {A : Type 0} → JsonSettings → Reader → JsonWalk A → Result (Unit {0}) Stop → Reader → JsonWalk A → Type 0
 WalkStep settings reader before (Ok done) left after = Walked settings reader before left after
 WalkStep settings reader before (Err stop) left after = WalkStopped settings reader before stop left after
 
 -- ---- a value
 
 -- the first of the tokens ahead were a value, whose events were given; nothing is open
-pub record ValueGiven {A : Type 0} (settings : JsonSettings) (reader : Reader) (before : WalkState A) (left : Reader) (after : WalkState A)
+pub record ValueGiven {A : Type 0} (settings : JsonSettings) (reader : Reader) (before : JsonWalk A) (left : Reader) (after : JsonWalk A)
     : Type 0 where
   pub none : HasNoneOpen settings.unique_names after.nest
   pub written : WroteValue settings.depth settings.flow reader.ahead before.writer left.ahead after.writer
@@ -110,27 +110,27 @@ pub record ValueGiven {A : Type 0} (settings : JsonSettings) (reader : Reader) (
   pub kept : Kept before.writer (Ok tt) after.writer
 
 -- all of them were
-pub record OnlyGiven {A : Type 0} (settings : JsonSettings) (reader : Reader) (before after : WalkState A) : Type 0 where
+pub record OnlyGiven {A : Type 0} (settings : JsonSettings) (reader : Reader) (before after : JsonWalk A) : Type 0 where
   pub none : HasNoneOpen settings.unique_names after.nest
   pub written : WroteDocument settings.depth settings.flow reader.ahead before.writer after.writer
   pub names : settings.unique_names ≡ true → NamesOnce [] reader.ahead
   pub kept : Kept before.writer (Ok tt) after.writer
 
 -- the text stops the writing, or the writer failed
-pub record ValueStopped {A : Type 0} (settings : JsonSettings) (reader : Reader) (before : WalkState A) (stop : Stop) (left : Reader)
-    (after : WalkState A) : Type 0 where
+pub record ValueStopped {A : Type 0} (settings : JsonSettings) (reader : Reader) (before : JsonWalk A) (stop : Stop) (left : Reader)
+    (after : JsonWalk A) : Type 0 where
   pub refused :
       IsByText stop
-      → StopsWriting settings.depth settings.unique_names settings.flow reader.ahead left.before before.writer stop after.writer
+      → TextStopsWriting settings.depth settings.unique_names settings.flow reader.ahead left.before before.writer stop after.writer
   pub kept : Kept before.writer (Err stop) after.writer
   pub failed :
       IfSome (failure_of after.writer stop) (λ error. FailedInValue settings.depth settings.flow reader.ahead before.writer error after.writer)
 
-abbrev pub ValueStep : {A : Type 0} → JsonSettings → Reader → WalkState A → Result (Unit {0}) Stop → Reader → WalkState A → Type 0
+abbrev pub ValueStep : {A : Type 0} → JsonSettings → Reader → JsonWalk A → Result (Unit {0}) Stop → Reader → JsonWalk A → Type 0
 ValueStep settings reader before (Ok done) left after = ValueGiven settings reader before left after
 ValueStep settings reader before (Err stop) left after = ValueStopped settings reader before stop left after
 
-abbrev pub OnlyStep : {A : Type 0} → JsonSettings → Reader → WalkState A → Result (Unit {0}) Stop → Reader → WalkState A → Type 0
+abbrev pub OnlyStep : {A : Type 0} → JsonSettings → Reader → JsonWalk A → Result (Unit {0}) Stop → Reader → JsonWalk A → Type 0
 OnlyStep settings reader before (Ok done) left after = OnlyGiven settings reader before after
 OnlyStep settings reader before (Err stop) left after = ValueStopped settings reader before stop left after
 

@@ -113,7 +113,7 @@ fn quoting_after(quoting: Quoting, byte: u8) -> Quoting
 
 /// Returns what stands last after a byte of a string or of a word.
 fn begun(last: Last) -> Last
-    ensures { result ≡ meaning.begun last }
+    ensures { result ≡ meaning.after_word_byte last }
 {
     match last {
         Last::Opener | Last::Comma | Last::First => Last::First,
@@ -204,7 +204,7 @@ fn depth_after(depth: Depth, deep: usize, byte: u8) -> Depth
 
 fn front_after(front: Front, deep: usize, byte: u8) -> Front
     requires { front.depth.count + 1 < 2 ^ 64 }
-    ensures is { (standing : meaning.Standing) → meaning.IsFront deep standing front
+    ensures is { (standing : meaning.StandingInJson) → meaning.IsFront deep standing front
         → meaning.IsFront deep (meaning.standing_after standing byte) result }
     ensures few { result.depth.count ≤ front.depth.count + 1 }
 {

@@ -3,7 +3,7 @@ ghost use Rattle.std.specs.Prelude.{◌≡◌, ◌≢◌, [], ◌∷◌, ◌-◌
 ghost use Rattle.json.specs.Print.{IsPrintable};
 ghost use Rattle.json.specs.Reads.{token_of};
 ghost use Rattle.yaml_base.specs.Seen.{seen_mapping_style, seen_sequence_style};
-ghost use Rattle.yaml_json.specs.Failing.{IsAnswer};
+ghost use Rattle.yaml_json.specs.Failing.{IsWritersAnswer};
 ghost use Rattle.yaml_json.specs.JsonEvents.{style_of};
 ghost use Rattle.yaml_json.specs.Nests.{HasNoneOpen, IsNesting};
 ghost use Rattle.yaml_json.specs.Walk.{IsInnermost, LeavesNames, ReadsNone, closes, opener};
@@ -70,7 +70,7 @@ impl<'a, A: Allocator + Copy> Nesting<'a, A> {
 
 /// Returns the answer of a writer without its error, which its emitter has.
 fn answer_of(answer: Result<(), yaml_error_t>) -> Result<(), Stop>
-    ensures { IsAnswer answer result }
+    ensures { IsWritersAnswer answer result }
 {
     match answer {
         Ok(()) => Ok(()),

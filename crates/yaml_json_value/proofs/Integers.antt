@@ -11,7 +11,7 @@ use Rattle.std.proofs.lemmas.Slice.Eq.{bytes_eq-Decides}
 use Rattle.std.specs.Str.{bytes_eq}
 use Rattle.std.specs.Str.Parse.{AllDigits, ParsesSigned, digits_value}
 use Rattle.yaml_read.proofs.Scalars.{fits_signed}
-use Rattle.yaml_json_value.specs.Typed.{IsInteger, integer_of}
+use Rattle.yaml_json_value.specs.Typed.{IsIntegerText, integer_of}
 
 of_digits : (digits : List ℕ) → AllDigits 10 digits → integer_of digits ≡ pos (digits_value 10 digits)
 of_digits [] all = refl
@@ -30,17 +30,17 @@ spelled (negsuc n) few =
     let digits = decimal_is_IsNumeral (suc n) (omega (arith, few)) in
     ap (λ m. neg_ℤ (pos m)) digits.1
 
-pub is_integer : (text : List ℕ) (n : ℤ) → mag n < 2 ^ 63 → text ≡ signed_decimal n → IsInteger text × (n ≡ integer_of text)
+pub is_integer : (text : List ℕ) (n : ℤ) → mag n < 2 ^ 63 → text ≡ signed_decimal n → IsIntegerText text × (n ≡ integer_of text)
 is_integer text n few is =
     let same : n ≡ integer_of text = sym (spelled n few) ∙ ap integer_of (sym is) in
     (record { digits = is ∙ ap signed_decimal same; bits = subst (λ m. mag m < 2 ^ 63) same few }, same)
 
 -- an integer is parsed
-pub parsed : {E : Type 0} (text : List ℕ) (answer : Result ℤ E) → IsInteger text → ParsesSigned w64 10 text answer → answer ≡ Ok (integer_of text)
+pub parsed : {E : Type 0} (text : List ℕ) (answer : Result ℤ E) → IsIntegerText text → ParsesSigned w64 10 text answer → answer ≡ Ok (integer_of text)
 parsed text answer integer parses =
     parse-signed_decimal w64 (integer_of text) text answer (fits_signed (integer_of text) integer.bits) integer.bits integer.digits parses
 
-pub not_parsed : {E : Type 0} (text : List ℕ) (answer : Result ℤ E) (error : E) → ParsesSigned w64 10 text answer → answer ≡ Err error → IsInteger text → ⊥
+pub not_parsed : {E : Type 0} (text : List ℕ) (answer : Result ℤ E) (error : E) → ParsesSigned w64 10 text answer → answer ≡ Err error → IsIntegerText text → ⊥
 not_parsed text answer error parses is integer = apart (sym (parsed text answer integer parses) ∙ is)
   where
     apart : Ok (integer_of text) ≡ Err error → ⊥
@@ -48,7 +48,7 @@ not_parsed text answer error parses is integer = apart (sym (parsed text answer 
 
 -- what was parsed isn't spelled so
 pub not_spelled : {E : Type 0} (text : List ℕ) (n : ℤ) (answer : Result ℤ E) → ParsesSigned w64 10 text answer → answer ≡ Ok n
-    → (text ≡ signed_decimal n → ⊥) → IsInteger text → ⊥
+    → (text ≡ signed_decimal n → ⊥) → IsIntegerText text → ⊥
 not_spelled {E} text n answer parses is other integer = other (integer.digits ∙ ap signed_decimal (inside (sym (parsed text answer integer parses) ∙ is)))
   where
     inside : ◌≡◌ {A = Result ℤ E} (Ok (integer_of text)) (Ok n) → integer_of text ≡ n

@@ -6,15 +6,16 @@ use Rattle.json.specs.Token.{Token}
 use Rattle.yaml_base.specs.values.TypedValues.{TypedValue}
 use Rattle.yaml_value.specs.SeenValues.{seen_value}
 use Rattle.yaml_value.specs.declared.value.Value.{Value}
-use Rattle.yaml_json_value.specs.Standing.{OpenLevel, Standing, run, take_token, whole, within}
+use Rattle.yaml_json_value.specs.Standing.{OpenCollection, ValueStanding, run, take_token, whole, within}
 use Rattle.yaml_json_value.specs.Typed.{AreIntegers, IsIntegerToken}
-use Rattle.yaml_json_value.specs.Walked.{EndsAt, IsRoot, ReadsNone, StopsAtOther, Taken, WalkedTo}
+use Rattle.yaml_json_value.specs.Walked.{EndsAt, IsRoot, ReadsNoToken, StopsAtOther, Taken, WalkedTo}
 use Rattle.yaml_json_value.specs.declared.error.Stop.{Stop}
 use Rattle.yaml_json_value.specs.declared.error.Stop.TheVariants as stop
 use Rattle.yaml_json_value.specs.declared.levels.Level.{Level}
 
 -- what a token makes of the walk
-runs_on : (start ahead left : List Token) (token : Token) (levels : List OpenLevel) (now : Option Standing) → WalkedTo start ahead levels → ahead ≡ token ∷ left
+runs_on : (start ahead left : List Token) (token : Token) (levels : List OpenCollection) (now : Option ValueStanding) → WalkedTo start ahead levels
+    → ahead ≡ token ∷ left
     → take_token token levels ≡ now → run start (within []) ≡ option_and_then (run left) now
 runs_on start ahead left token levels now walked first taken =
     walked.runs ∙ ap (λ (ts : List Token). run ts (within levels)) first ∙ ap (option_and_then (run left)) taken
@@ -24,7 +25,7 @@ more_parts : (all ahead left before : List Token) (token : Token) → before ++ 
 more_parts all ahead left before token parts first =
     append_assoc before (token ∷ []) left ∙ ap (λ (ts : List Token). before ++ ts) (sym first) ∙ parts
 
-pub step_on : (start ahead left : List Token) (token : Token) (levels after : List OpenLevel) → WalkedTo start ahead levels → ahead ≡ token ∷ left
+pub step_on : (start ahead left : List Token) (token : Token) (levels after : List OpenCollection) → WalkedTo start ahead levels → ahead ≡ token ∷ left
     → take_token token levels ≡ Some (within after) → IsIntegerToken token → WalkedTo start left after
 step_on start ahead left token levels after walked first taken integer =
     record {
@@ -37,27 +38,28 @@ step_on start ahead left token levels after walked first taken integer =
 pub begins_walk : (all : List Token) → WalkedTo all all []
 begins_walk all = record { before = []; parts = refl; integers = All-nil IsIntegerToken; runs = refl }
 
-none_apart : (root : TypedValue) (found : Option Standing) → found ≡ None → found ≡ Some (whole root) → ⊥
+none_apart : (root : TypedValue) (found : Option ValueStanding) → found ≡ None → found ≡ Some (whole root) → ⊥
 none_apart root found none is = cc
 
-within_apart : (root : TypedValue) (levels : List OpenLevel) (found : Option Standing) → found ≡ Some (within levels) → found ≡ Some (whole root) → ⊥
+within_apart : (root : TypedValue) (levels : List OpenCollection) (found : Option ValueStanding) → found ≡ Some (within levels) → found ≡ Some (whole root) → ⊥
 within_apart root levels found none is = cc
 
 -- no token was read
-pub ends_short : (A : Type 0) (start ahead : List Token) (levels : List OpenLevel) (root : TypedValue) (why : Stop) → WalkedTo start ahead levels
-    → ReadsNone ahead why → run start (within []) ≡ Some (whole root) → IsRoot {A = A} root (Err why)
+pub ends_short : (A : Type 0) (start ahead : List Token) (levels : List OpenCollection) (root : TypedValue) (why : Stop) → WalkedTo start ahead levels
+    → ReadsNoToken ahead why → run start (within []) ≡ Some (whole root) → IsRoot {A = A} root (Err why)
 ends_short A start ahead levels root stop.Misplaced walked none runs =
     within_apart root levels (run start (within [])) (walked.runs ∙ ap (λ (ts : List Token). run ts (within levels)) none) runs
 ends_short A start ahead levels root stop.NotInteger walked none runs = tt
 ends_short A start ahead levels root stop.Memory walked none runs = tt
 
-pub no_other : (A : Type 0) (all ahead from : List Token) (why : Stop) → ReadsNone ahead why → StopsAtOther {A = A} all from (Err why)
+pub no_other : (A : Type 0) (all ahead from : List Token) (why : Stop) → ReadsNoToken ahead why → StopsAtOther {A = A} all from (Err why)
 no_other A all ahead from stop.Misplaced none = tt
 no_other A all ahead from stop.NotInteger none = absurd none
 no_other A all ahead from stop.Memory none = tt
 
 -- a token was refused
-pub refused : {A : Type 0} (start ahead left : List Token) (token : Token) (levels : List OpenLevel) (after : List (Level A)) (root : TypedValue) (why : Stop)
+pub refused : {A : Type 0} (start ahead left : List Token) (token : Token) (levels : List OpenCollection) (after : List (Level A)) (root : TypedValue)
+    (why : Stop)
     → WalkedTo start ahead levels → ahead ≡ token ∷ left → Taken token levels after (Err why) → run start (within []) ≡ Some (whole root)
     → IsRoot {A = A} root (Err why)
 refused start ahead left token levels after root stop.Misplaced walked first taken runs =
@@ -65,7 +67,7 @@ refused start ahead left token levels after root stop.Misplaced walked first tak
 refused start ahead left token levels after root stop.NotInteger walked first taken runs = tt
 refused start ahead left token levels after root stop.Memory walked first taken runs = tt
 
-pub other_first : {A : Type 0} (start ahead left from : List Token) (token : Token) (levels : List OpenLevel) (after : List (Level A)) (why : Stop)
+pub other_first : {A : Type 0} (start ahead left from : List Token) (token : Token) (levels : List OpenCollection) (after : List (Level A)) (why : Stop)
     → WalkedTo start ahead levels → from ≡ ahead → ahead ≡ token ∷ left → Taken token levels after (Err why) → StopsAtOther {A = A} start from (Err why)
 other_first start ahead left from token levels after stop.Misplaced walked at first taken = tt
 other_first start ahead left from token levels after stop.NotInteger walked at first (digits, is, none) =
@@ -81,7 +83,7 @@ other_first start ahead left from token levels after stop.NotInteger walked at f
 other_first start ahead left from token levels after stop.Memory walked at first taken = tt
 
 -- a value is whole
-pub ends_whole : {A : Type 0} (start ahead left : List Token) (token : Token) (levels : List OpenLevel) (found root : TypedValue)
+pub ends_whole : {A : Type 0} (start ahead left : List Token) (token : Token) (levels : List OpenCollection) (found root : TypedValue)
     (answer : Result (Value A) Stop)
     → WalkedTo start ahead levels → ahead ≡ token ∷ left → take_token token levels ≡ Some (whole found) → EndsAt left found answer
     → run start (within []) ≡ Some (whole root) → IsRoot root answer
@@ -89,7 +91,7 @@ ends_whole start ahead left token levels found root (Ok value) walked first take
     same root (runs_on start ahead left token levels (Some (whole found)) walked first taken
     ∙ ap (λ (ts : List Token). run ts (whole found)) ends.0) runs
   where
-    inside : (root : TypedValue) → ◌≡◌ {A = Option Standing} (Some (whole found)) (Some (whole root)) → found ≡ root
+    inside : (root : TypedValue) → ◌≡◌ {A = Option ValueStanding} (Some (whole found)) (Some (whole root)) → found ≡ root
     inside root e = cc
 
     same : (root : TypedValue) → run start (within []) ≡ Some (whole found) → run start (within []) ≡ Some (whole root) → seen_value value ≡ root
@@ -100,7 +102,8 @@ ends_whole start ahead left token levels found root (Err stop.Misplaced) walked 
 ends_whole start ahead left token levels found root (Err stop.NotInteger) walked first taken ends runs = tt
 ends_whole start ahead left token levels found root (Err stop.Memory) walked first taken ends runs = tt
 
-pub ends_integers : {A : Type 0} (start ahead left : List Token) (token : Token) (levels : List OpenLevel) (found : TypedValue) (answer : Result (Value A) Stop)
+pub ends_integers : {A : Type 0} (start ahead left : List Token) (token : Token) (levels : List OpenCollection) (found : TypedValue)
+    (answer : Result (Value A) Stop)
     → WalkedTo start ahead levels → ahead ≡ token ∷ left → IsIntegerToken token → EndsAt left found answer → OnOk answer (AreIntegers start)
 ends_integers start ahead left token levels found (Ok value) walked first integer ends =
     subst AreIntegers

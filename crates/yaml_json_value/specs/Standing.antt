@@ -7,57 +7,57 @@ use Rattle.yaml_base.specs.values.TypedValues.{values_and, TypedPairs, no_value_
 use Rattle.yaml_json_value.specs.Typed.{integer_of}
 
 -- a list or a map that is open, with what it holds: a list; a map that awaits a name; one that awaits the value of this name
-pub data OpenLevel : Type 0 where
-  items_open : TypedValues → OpenLevel
-  members_open : TypedPairs → OpenLevel
-  value_due : TypedPairs → (name : TypedValue) → OpenLevel
+pub data OpenCollection : Type 0 where
+  items_open : TypedValues → OpenCollection
+  members_open : TypedPairs → OpenCollection
+  value_due : TypedPairs → (name : TypedValue) → OpenCollection
 
 -- a value is whole, or it is within these levels, the innermost first
-pub data Standing : Type 0 where
-  whole : TypedValue → Standing
-  within : List OpenLevel → Standing
+pub data ValueStanding : Type 0 where
+  whole : TypedValue → ValueStanding
+  within : List OpenCollection → ValueStanding
 
 -- a level with a value more
-abbrev pub with_value : OpenLevel → TypedValue → Option OpenLevel
+abbrev pub with_value : OpenCollection → TypedValue → Option OpenCollection
 with_value (items_open items) value = Some (items_open (values_and items value))
 with_value (members_open pairs) value = None
 with_value (value_due pairs name) value = Some (members_open (value_pairs_and pairs name value))
 
 -- after a value
-abbrev pub give : List OpenLevel → TypedValue → Option Standing
+abbrev pub give : List OpenCollection → TypedValue → Option ValueStanding
 give [] value = Some (whole value)
 give (level ∷ outer) value = option_map (λ more. within (more ∷ outer)) (with_value level value)
 
 -- after the end of a list, of a map, and after a name
-abbrev pub end_list_in : OpenLevel → List OpenLevel → Option Standing
+abbrev pub end_list_in : OpenCollection → List OpenCollection → Option ValueStanding
 end_list_in (items_open items) outer = give outer (list_value items)
 end_list_in (members_open pairs) outer = None
 end_list_in (value_due pairs name) outer = None
 
-abbrev pub end_list : List OpenLevel → Option Standing
+abbrev pub end_list : List OpenCollection → Option ValueStanding
 end_list [] = None
 end_list (level ∷ outer) = end_list_in level outer
 
-abbrev pub end_map_in : OpenLevel → List OpenLevel → Option Standing
+abbrev pub end_map_in : OpenCollection → List OpenCollection → Option ValueStanding
 end_map_in (items_open items) outer = None
 end_map_in (members_open pairs) outer = give outer (map_value pairs)
 end_map_in (value_due pairs name) outer = None
 
-abbrev pub end_map : List OpenLevel → Option Standing
+abbrev pub end_map : List OpenCollection → Option ValueStanding
 end_map [] = None
 end_map (level ∷ outer) = end_map_in level outer
 
-abbrev pub name_member_in : OpenLevel → List OpenLevel → TypedValue → Option Standing
+abbrev pub name_member_in : OpenCollection → List OpenCollection → TypedValue → Option ValueStanding
 name_member_in (items_open items) outer name = None
 name_member_in (members_open pairs) outer name = Some (within (value_due pairs name ∷ outer))
 name_member_in (value_due pairs other) outer name = None
 
-abbrev pub name_member : List OpenLevel → TypedValue → Option Standing
+abbrev pub name_member : List OpenCollection → TypedValue → Option ValueStanding
 name_member [] name = None
 name_member (level ∷ outer) name = name_member_in level outer name
 
 -- after a token
-abbrev pub take_token : Token → List OpenLevel → Option Standing
+abbrev pub take_token : Token → List OpenCollection → Option ValueStanding
 take_token Token.begin_object levels = Some (within (members_open no_value_pairs ∷ levels))
 take_token Token.end_object levels = end_map levels
 take_token Token.begin_array levels = Some (within (items_open no_values ∷ levels))
@@ -70,11 +70,11 @@ take_token Token.null levels = give levels null_value
 take_token Token.bad levels = None
 
 -- after a token more; none may follow a whole value
-abbrev pub next : Token → Standing → Option Standing
+abbrev pub next : Token → ValueStanding → Option ValueStanding
 next token (whole value) = None
 next token (within levels) = take_token token levels
 
 -- after some tokens
-abbrev pub run : List Token → Standing → Option Standing
+abbrev pub run : List Token → ValueStanding → Option ValueStanding
 run [] standing = Some standing
 run (token ∷ tokens) standing = option_and_then (run tokens) (next token standing)

@@ -26,7 +26,7 @@ integer_of [] = pos 0
 integer_of (c ∷ digits) = if c == 0x2D then neg_ℤ (pos (digits_value 10 digits)) else pos (digits_value 10 (c ∷ digits))
 
 -- a number's text is the decimal digits of an integer of 64 bits
-pub record IsInteger (text : List ℕ) : Type 0 where
+pub record IsIntegerText (text : List ℕ) : Type 0 where
   pub digits : text ≡ signed_decimal (integer_of text)
   pub bits : mag (integer_of text) < 2 ^ 63
 
@@ -52,7 +52,7 @@ abbrev mutual
 
 -- the token is an integer of 64 bits, if it is a number
 abbrev pub IsIntegerToken : Token → Type 0
-IsIntegerToken (Token.number text) = IsInteger text
+IsIntegerToken (Token.number text) = IsIntegerText text
 IsIntegerToken _ = Unit {0}
 
 -- each number is an integer of 64 bits
@@ -93,7 +93,7 @@ pub record IsFromOtherNumber (tokens from : List Token) : Type 0 where
   pub digits : List ℕ
   pub after : List Token
   pub first : from ≡ Token.number digits ∷ after
-  pub none : IsInteger digits → ⊥
+  pub none : IsIntegerText digits → ⊥
 
 -- the text is JSON, and the first number in it that isn't an integer of 64 bits begins at this line and column
 pub record HasOtherNumber (text : List ℕ) (line column : ℕ) : Type 0 where

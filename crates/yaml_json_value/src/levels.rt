@@ -2,7 +2,7 @@
 ghost use Rattle.std.specs.Prelude.{◌∷◌, Some};
 ghost use Rattle.yaml_value.specs.SeenValues.{seen_value};
 ghost use Rattle.yaml_json_value.specs.Standing.{end_list, end_map, give, name_member, within};
-ghost use Rattle.yaml_json_value.specs.Walked.{HasMore, StandsAt, seen_level, seen_levels};
+ghost use Rattle.yaml_json_value.specs.Walked.{HasMore, StandsAt, seen_open, seen_all_open};
 
 use crate::error::Stop;
 use std::alloc::Allocator;
@@ -20,7 +20,7 @@ pub(crate) enum Level<A: Allocator> {
 
 /// Returns a list with an item more.
 fn with_item<A: Allocator>(items: Vec<Value<A>, A>, item: Value<A>) -> Result<Level<A>, Stop>
-    ensures { HasMore (seen_level (Level.Items items)) (seen_value item) result }
+    ensures { HasMore (seen_open (Level.Items items)) (seen_value item) result }
 {
     let mut items = items;
     match items.push(item) {
@@ -34,7 +34,7 @@ fn with_member<A: Allocator>(
     members: Vec<(Value<A>, Value<A>), A>,
     member: (Value<A>, Value<A>),
 ) -> Result<Level<A>, Stop>
-    ensures { HasMore (seen_level (Level.MembersAndName members member.0)) (seen_value member.1) result }
+    ensures { HasMore (seen_open (Level.MembersAndName members member.0)) (seen_value member.1) result }
 {
     let mut members = members;
     match members.push(member) {
@@ -45,7 +45,7 @@ fn with_member<A: Allocator>(
 
 /// Returns a list or a map with a value more.
 fn with_value<A: Allocator>(level: Level<A>, value: Value<A>) -> Result<Level<A>, Stop>
-    ensures { HasMore (seen_level level) (seen_value value) result }
+    ensures { HasMore (seen_open level) (seen_value value) result }
 {
     match level {
         Level::Items(items) => with_item(items, value),
@@ -59,7 +59,7 @@ pub(crate) fn enter<A: Allocator>(
     levels: &mut Vec<Level<A>, A>,
     level: Level<A>,
 ) -> Result<Option<Value<A>>, Stop>
-    ensures { StandsAt (Some (within (seen_level level ∷ seen_levels levels.old.items))) levels.new.items result }
+    ensures { StandsAt (Some (within (seen_open level ∷ seen_all_open levels.old.items))) levels.new.items result }
 {
     match levels.push(level) {
         Ok(()) => Ok(None),
@@ -73,7 +73,7 @@ fn give_to<A: Allocator>(
     level: Level<A>,
     value: Value<A>,
 ) -> Result<Option<Value<A>>, Stop>
-    ensures { StandsAt (give (seen_level level ∷ seen_levels levels.old.items) (seen_value value)) levels.new.items result }
+    ensures { StandsAt (give (seen_open level ∷ seen_all_open levels.old.items) (seen_value value)) levels.new.items result }
 {
     match with_value(level, value) {
         Ok(more) => enter(levels, more),
@@ -86,7 +86,7 @@ pub(crate) fn settle<A: Allocator>(
     levels: &mut Vec<Level<A>, A>,
     value: Value<A>,
 ) -> Result<Option<Value<A>>, Stop>
-    ensures { StandsAt (give (seen_levels levels.old.items) (seen_value value)) levels.new.items result }
+    ensures { StandsAt (give (seen_all_open levels.old.items) (seen_value value)) levels.new.items result }
 {
     match levels.pop() {
         Some(level) => give_to(levels, level, value),
@@ -98,7 +98,7 @@ fn end_list_at<A: Allocator>(
     levels: &mut Vec<Level<A>, A>,
     level: Level<A>,
 ) -> Result<Option<Value<A>>, Stop>
-    ensures { StandsAt (end_list (seen_level level ∷ seen_levels levels.old.items)) levels.new.items result }
+    ensures { StandsAt (end_list (seen_open level ∷ seen_all_open levels.old.items)) levels.new.items result }
 {
     match level {
         Level::Items(items) => settle(levels, Value::List(items)),
@@ -111,7 +111,7 @@ fn end_list_at<A: Allocator>(
 pub(crate) fn leave_list<A: Allocator>(
     levels: &mut Vec<Level<A>, A>,
 ) -> Result<Option<Value<A>>, Stop>
-    ensures { StandsAt (end_list (seen_levels levels.old.items)) levels.new.items result }
+    ensures { StandsAt (end_list (seen_all_open levels.old.items)) levels.new.items result }
 {
     match levels.pop() {
         Some(level) => end_list_at(levels, level),
@@ -123,7 +123,7 @@ fn end_map_at<A: Allocator>(
     levels: &mut Vec<Level<A>, A>,
     level: Level<A>,
 ) -> Result<Option<Value<A>>, Stop>
-    ensures { StandsAt (end_map (seen_level level ∷ seen_levels levels.old.items)) levels.new.items result }
+    ensures { StandsAt (end_map (seen_open level ∷ seen_all_open levels.old.items)) levels.new.items result }
 {
     match level {
         Level::Members(members) => settle(levels, Value::Map(members)),
@@ -136,7 +136,7 @@ fn end_map_at<A: Allocator>(
 pub(crate) fn leave_map<A: Allocator>(
     levels: &mut Vec<Level<A>, A>,
 ) -> Result<Option<Value<A>>, Stop>
-    ensures { StandsAt (end_map (seen_levels levels.old.items)) levels.new.items result }
+    ensures { StandsAt (end_map (seen_all_open levels.old.items)) levels.new.items result }
 {
     match levels.pop() {
         Some(level) => end_map_at(levels, level),
@@ -149,7 +149,7 @@ fn name_at<A: Allocator>(
     level: Level<A>,
     name: Value<A>,
 ) -> Result<Option<Value<A>>, Stop>
-    ensures { StandsAt (name_member (seen_level level ∷ seen_levels levels.old.items) (seen_value name)) levels.new.items result }
+    ensures { StandsAt (name_member (seen_open level ∷ seen_all_open levels.old.items) (seen_value name)) levels.new.items result }
 {
     match level {
         Level::Members(members) => enter(levels, Level::MembersAndName(members, name)),
@@ -163,7 +163,7 @@ pub(crate) fn give_name<A: Allocator>(
     levels: &mut Vec<Level<A>, A>,
     name: Value<A>,
 ) -> Result<Option<Value<A>>, Stop>
-    ensures { StandsAt (name_member (seen_levels levels.old.items) (seen_value name)) levels.new.items result }
+    ensures { StandsAt (name_member (seen_all_open levels.old.items) (seen_value name)) levels.new.items result }
 {
     match levels.pop() {
         Some(level) => name_at(levels, level, name),

@@ -6,7 +6,7 @@ ghost use Rattle.yaml_base.specs.values.TypedValues.{TypedValue};
 ghost use Rattle.yaml_value.specs.SeenValues.{seen_value};
 ghost use Rattle.yaml_json_value.specs.Standing.{run, whole, within};
 ghost use Rattle.yaml_json_value.specs.Typed.{AreIntegers};
-ghost use Rattle.yaml_json_value.specs.Walked.{EndsAt, IsRoot, IsText, ReadsNone, StopsAtOther, Taken, seen_levels};
+ghost use Rattle.yaml_json_value.specs.Walked.{EndsAt, IsRoot, IsText, ReadsNoToken, StopsAtOther, Taken, seen_all_open};
 
 use crate::error::Stop;
 use crate::levels::{Level, enter, give_name, leave_list, leave_map, settle};
@@ -30,7 +30,7 @@ fn take_text<A: Allocator + Copy>(
     levels: &mut Vec<Level<A>, A>,
     text: &str,
 ) -> Result<Option<Value<A>>, Stop>
-    ensures { Taken (spec.string text.now) (seen_levels levels.old.items) levels.new.items result }
+    ensures { Taken (spec.string text.now) (seen_all_open levels.old.items) levels.new.items result }
 {
     match text_of(alloc, text) {
         Ok(value) => settle(levels, value),
@@ -43,7 +43,7 @@ fn take_name<A: Allocator + Copy>(
     levels: &mut Vec<Level<A>, A>,
     name: &str,
 ) -> Result<Option<Value<A>>, Stop>
-    ensures { Taken (spec.key name.now) (seen_levels levels.old.items) levels.new.items result }
+    ensures { Taken (spec.key name.now) (seen_all_open levels.old.items) levels.new.items result }
 {
     match text_of(alloc, name) {
         Ok(name) => give_name(levels, name),
@@ -56,7 +56,7 @@ fn take_number<A: Allocator + Copy>(
     levels: &mut Vec<Level<A>, A>,
     digits: &str,
 ) -> Result<Option<Value<A>>, Stop>
-    ensures { Taken (spec.number digits.now) (seen_levels levels.old.items) levels.new.items result }
+    ensures { Taken (spec.number digits.now) (seen_all_open levels.old.items) levels.new.items result }
 {
     match integer_in(alloc, digits) {
         Ok(number) => settle(levels, Value::Int(number)),
@@ -70,7 +70,7 @@ fn take_token<'a, A: Allocator + Copy>(
     levels: &mut Vec<Level<A>, A>,
     token: Token<'a>,
 ) -> Result<Option<Value<A>>, Stop>
-    ensures { Taken (token_of token.entry) (seen_levels levels.old.items) levels.new.items result }
+    ensures { Taken (token_of token.entry) (seen_all_open levels.old.items) levels.new.items result }
 {
     match token {
         Token::Null => settle(levels, Value::Null),
@@ -88,7 +88,7 @@ fn take_token<'a, A: Allocator + Copy>(
 
 fn next_token<'a, A: Allocator + Copy>(reader: &mut Tokens<'a, A>) -> Result<Token<'a>, Stop>
     ensures first { IfOk result (λ token. reader.old.ahead ≡ token_of token ∷ reader.new.ahead) }
-    ensures none { IfErr result (ReadsNone reader.old.ahead) }
+    ensures none { IfErr result (ReadsNoToken reader.old.ahead) }
     ensures before { reader.new.before ≡ reader.old.ahead }
     ensures text { reader.new.text ≡ reader.old.text }
 {

@@ -1,6 +1,8 @@
 -- The first that passes a test, and what an index finds.
-use Rattle.yaml_mark.proofs.Common.{suc, ℕ, ◌+◌, ◌<◌, ◌==◌, bytes_eq, Option, None, Some, drop, length, slice_index_or as get_or, take, Bool, cond, false, true, ◌||◌}
-use Rattle.yaml_mark.proofs.Common.{List, [], ◌++◌, ◌∷◌, refl, ◌≡◌, ap, sym, subst, ◌∙◌, arith, and_parts, and_from, same_from_decides, bytes_eq-Decides, list_all, list_any}
+use Rattle.yaml_mark.proofs.Common.{suc, ℕ, ◌+◌, ◌<◌, ◌==◌, bytes_eq, Option, None, Some, drop, length, slice_index_or as get_or, take, Bool, cond, false, true}
+use Rattle.yaml_mark.proofs.Common.{◌||◌}
+use Rattle.yaml_mark.proofs.Common.{List, [], ◌++◌, ◌∷◌, refl, ◌≡◌, ap, sym, subst, ◌∙◌, arith, and_parts, and_from, same_from_decides, bytes_eq-Decides}
+use Rattle.yaml_mark.proofs.Common.{list_all, list_any}
 use Rattle.yaml_mark.proofs.Common.{length-append, take-append-drop, IsUtf8, IsUtf8-string_bytes, IsCharBoundary, string_bytes, position, position_or_len}
 use Rattle.yaml_base.proofs.Common.{◌≤◌, ◌-◌, ◌&&◌, if◌then◌else◌, nat_lt, option_map, option_or, is_some, le-ltb, lt-ltb, ltb-true, nat_tests, true≢false}
 use Rattle.std.proofs.lemmas.List.Folds.{list_any-append, list_all-append, list_any_more}

@@ -1,5 +1,6 @@
 -- What an index finds among some directives, by the bytes of their handles and prefixes.
-use Rattle.std.specs.Prelude.{◌≡◌, ℕ, ◌≤◌, ◌==◌, ◌&&◌, nat_le, if◌then◌else◌, Bool, true, Option, None, Some, List, length, drop, bytes_eq, string_bytes, position, MatchOption}
+use Rattle.std.specs.Prelude.{◌≡◌, ℕ, ◌≤◌, ◌==◌, ◌&&◌, nat_le, if◌then◌else◌, Bool, true, Option, None, Some, List, length, drop, bytes_eq, string_bytes}
+use Rattle.std.specs.Prelude.{position, MatchOption}
 use Rattle.std.specs.List.{list_any, list_all}
 use Rattle.std.specs.BTreeMap.{get_by_text}
 use Rattle.std.specs.BTreeSet.{contains_text}

@@ -18,5 +18,5 @@ alphabet_error Anchor = AnchorAlphabet
 alphabet_error Alias = AliasAlphabet
 
 -- the refusal of a name
-abbrev pub fault_of : Name → Text → Option yaml_error_t
-fault_of name text = name_fault (empty_error name) (alphabet_error name) text
+abbrev pub refusal_of_name : Name → Text → Option yaml_error_t
+refusal_of_name name text = name_fault (empty_error name) (alphabet_error name) text

@@ -1,5 +1,6 @@
 //! The tag directives in force in a document (YAML 1.1, section 7.1.2).
-ghost use Rattle.std.specs.Prelude.{◌≡◌, ◌^◌, true, false, Option, None, Some, List, [], ◌∷◌, ◌++◌, ◌<◌, length, encode_utf8_all, position, map, is_ok, IfErr, IfOk};
+ghost use Rattle.std.specs.Prelude.{◌≡◌, ◌^◌, true, false, Option, None, Some, List, [], ◌∷◌, ◌++◌, ◌<◌, length, encode_utf8_all, position, map, is_ok, IfErr};
+ghost use Rattle.std.specs.Prelude.{IfOk};
 ghost use Rattle.std.specs.Prelude.{slice_get, option_map, chars, bytes_eq, string_bytes, if◌then◌else◌};
 ghost use Rattle.std.specs.List.{list_any};
 ghost use Rattle.yaml_base.specs.Errors.{refused};

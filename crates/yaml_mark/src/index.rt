@@ -1,5 +1,6 @@
 //! An index of directives, by their handles and prefixes.
-ghost use Rattle.std.specs.Prelude.{◌≡◌, ℕ, Bool, List, ◌++◌, ◌∷◌, [], ◌||◌, ◌==◌, if◌then◌else◌, bytes_eq, length, string_bytes, position, OnOk, Option, None, Some};
+ghost use Rattle.std.specs.Prelude.{◌≡◌, ℕ, Bool, List, ◌++◌, ◌∷◌, [], ◌||◌, ◌==◌, if◌then◌else◌, bytes_eq, length, string_bytes, position, OnOk, Option, None};
+ghost use Rattle.std.specs.Prelude.{Some};
 ghost use Rattle.std.specs.List.{list_any};
 ghost use Rattle.std.specs.Option.{option_or};
 ghost use Rattle.std.specs.BTreeMap.{get_by_text};

@@ -5,7 +5,7 @@ ghost use Rattle.yaml_base.specs.Characters as class;
 ghost use Rattle.yaml_base.specs.Errors.{refused};
 ghost use Rattle.yaml_base.specs.Seen.{seen_version, seen_directive};
 ghost use Rattle.yaml_base.specs.Tags.{anchor_fault, alias_fault, version_fault, handle_fault, directive_fault};
-ghost use Rattle.yaml_mark.specs.Names.{alphabet_error, empty_error, fault_of};
+ghost use Rattle.yaml_mark.specs.Names.{alphabet_error, empty_error, refusal_of_name};
 
 use std::alloc::Allocator;
 use yaml_base::{is_alpha, yaml_error_t, yaml_tag_directive_t, yaml_version_directive_t};
@@ -52,7 +52,7 @@ impl Name {
 /// Refuses the name of an anchor, or of an alias, that is empty (`AnchorEmpty`, `AliasEmpty`) or has another character
 /// than `0-9`, `A-Z`, `a-z`, `_` and `-` (`AnchorAlphabet`, `AliasAlphabet`).
 pub fn analyze_name(text: &str, name: Name) -> Result<(), yaml_error_t>
-    ensures { refused result ≡ fault_of name (chars text.now) }
+    ensures { refused result ≡ refusal_of_name name (chars text.now) }
 {
     if text.is_empty() {
         return Err(name.empty_error());

@@ -1,7 +1,7 @@
 -- A pen that wrote no byte has no text.
 use Rattle.yaml_pen.proofs.Common.{min, ℕ, if◌then◌else◌, unwrap_or, Option, None, Some, Bool, false, true, List, [], refl, ◌≡◌, ap, sym, ◌∙◌, false≢true}
 use Rattle.yaml_pen.proofs.Common.{chars-nil, all_scalars, Text, column_after, character_bytes, encode, seen_encoding, seen_break, Encoding, utf8}
-use Rattle.yaml_pen.proofs.Common.{utf16_little, utf16_big, line_feed_break, Bytes, IsSound, Page, has_bom, IsFlushedOutput, page_of, IsPen}
+use Rattle.yaml_pen.proofs.Common.{utf16_little, utf16_big, line_feed_break, Bytes, HasSoundOutput, Page, has_bom, IsFlushedOutput, page_of, IsPen}
 use Rattle.yaml_base.specs.{Characters.byte_order_mark, Decode.decode, declared.encodings.yaml_break_t.yaml_break_t}
 use Rattle.yaml_base.specs.{declared.encodings.yaml_encoding_t.yaml_encoding_t}
 
@@ -110,7 +110,7 @@ pub IsPen-bom_written : (e : Encoding) (encoding : yaml_encoding_t) (line_break 
     (column : ℕ)
     → IsPen (page_of encoding due line_break bytes whitespace indention) bytes.all column → due ≡ true
     → seen_encoding encoding ≡ Some e
-    → after ≡ record bytes { all = character_bytes e byte_order_mark } → IsSound after
+    → after ≡ record bytes { all = character_bytes e byte_order_mark } → HasSoundOutput after
     → IsPen (page_of encoding false line_break after whitespace indention) after.all column
 IsPen-bom_written e encoding line_break bytes after whitespace indention due column pen is_due seen is sound =
     let empty : bytes.all ≡ [] = pen.bytes ∙ ap (λ d. if d then [] else encode (seen_encoding encoding) (decode (seen_encoding encoding) bytes.all)) is_due in

@@ -4,7 +4,7 @@ use Rattle.yaml_pen.proofs.Common.{[]}
 use Rattle.yaml_pen.proofs.Common.{◌++◌, ◌∷◌, refl, ◌≡◌, append-nil, ap, subst, sym, ◌∙◌, arith, and_from, or_parts, false≢true, encodes-chars, list_any}
 use Rattle.yaml_pen.proofs.Common.{all_scalars, chars, encode_utf8_all, Text, line_feed, is_break, Cursor, Rendered, column_after, render_text, decode}
 use Rattle.yaml_pen.proofs.Common.{character_bytes, text_bytes, encode, break_text, with_breaks_written, IsPrefix, seen_encoding, seen_break, Encoding, utf8}
-use Rattle.yaml_pen.proofs.Common.{utf16_little, utf16_big, LineBreak, line_feed_break, Bytes, IsSound, Page, has_bom, IsReady, result_of_error}
+use Rattle.yaml_pen.proofs.Common.{utf16_little, utf16_big, LineBreak, line_feed_break, Bytes, HasSoundOutput, Page, has_bom, IsReady, result_of_error}
 use Rattle.yaml_pen.proofs.Common.{IsFlushedOutput, page_of, IsPen, named_text, Wrote}
 use Rattle.std.specs.Char.{IsScalar}
 use Rattle.yaml_base.specs.{Cursor.next_column, Settings.carriage_return_break, Settings.both_break, declared.encodings.yaml_break_t.yaml_break_t}
@@ -39,7 +39,7 @@ pub record AddsEvent (e : Encoding) (raw : Text) (before after : Bytes) : Type 0
   pub limit : after.limit ≡ before.limit
   pub taken : after.taken ≡ before.taken
   pub output : IsPrefix before.output after.output
-  pub sound : IsSound after
+  pub sound : HasSoundOutput after
 
 pub AddsEvent-appended : (e : Encoding) (raw : Text) (bytes : List ℕ) (before after : Bytes)
     → Appended bytes before after (Ok tt) → bytes ≡ text_bytes e raw → AddsEvent e raw before after

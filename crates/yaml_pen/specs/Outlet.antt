@@ -25,8 +25,8 @@ bytes_of kept buffer taken left limit error =
     record { all = take kept output ++ buffer; output = output; taken = length taken; limit = limit; error = error }
 
 -- what is flushed of the bytes is sound
-abbrev pub IsSound : Bytes → Type 0
-IsSound bytes = IsFlushedOutput bytes.all bytes.output bytes.limit bytes.error
+abbrev pub HasSoundOutput : Bytes → Type 0
+HasSoundOutput bytes = IsFlushedOutput bytes.all bytes.output bytes.limit bytes.error
 
 -- an output that was kept up to a place, and a buffer of what follows; without an error all is kept; what is taken is counted
 pub record IsOutlet (kept count : ℕ) (buffer taken left : List ℕ) (limit : ℕ) (error : Option yaml_error_t) : Type 0 where
@@ -46,7 +46,7 @@ FlushesBuffer buffer before after limit (Err _) = ⊥
 pub record Emptied (before after : Bytes) (answer : Result (Unit {0}) yaml_error_t) : Type 0 where
   pub answered : answer ≡ result_of_error after.error
   pub kept : after ≡ record before { output = after.output; error = after.error }
-  pub sound_output : IsSound after
+  pub sound_output : HasSoundOutput after
   pub all : after.error ≡ None → (before.error ≡ None) × (after.output ≡ after.all)
   pub nothing : before.error ≡ None → after.error ≡ Some Memory → after.output ≡ before.output
   pub stopped : IsSome before.error → after ≡ before
@@ -57,7 +57,7 @@ pub record Appended (bytes : List ℕ) (before after : Bytes) (answer : Result (
   pub limit : after.limit ≡ before.limit
   pub taken : after.taken ≡ before.taken
   pub output : IsPrefix before.output after.output
-  pub sound_output : IsSound after
+  pub sound_output : HasSoundOutput after
   pub whole : after.error ≡ None → (before.error ≡ None) × (after.all ≡ before.all ++ bytes)
   pub none : IsSome after.error → after.all ≡ before.all
   pub stopped : IsSome before.error → after ≡ before

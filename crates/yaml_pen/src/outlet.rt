@@ -2,7 +2,7 @@
 ghost use Rattle.std.specs.Prelude.{◌≡◌, ◌≤◌, [], ◌∷◌, ◌+◌, length, drop, IfOk};
 ghost use Rattle.yaml_base.specs.Prefix.{IsPrefix};
 ghost use Rattle.yaml_pen.specs.Page.{buffer_size};
-ghost use Rattle.yaml_pen.specs.Outlet.{Appended, Emptied, FlushesBuffer, IsSound, whole_output};
+ghost use Rattle.yaml_pen.specs.Outlet.{Appended, Emptied, FlushesBuffer, HasSoundOutput, whole_output};
 
 use crate::taken::TakenBytes;
 use arrayvec::ArrayVec;
@@ -71,7 +71,7 @@ impl<A: Allocator> Outlet<A> {
         requires bytes { self.old.all ≡ [] }
         requires error { self.old.error ≡ None }
         ensures bytes { self.new ≡ record self.old { all = bytes.now } }
-        ensures sound { IsSound self.new }
+        ensures sound { HasSoundOutput self.new }
     {
         let _ = self.buffer.try_extend_from_slice(bytes);
     }

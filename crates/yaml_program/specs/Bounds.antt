@@ -2,14 +2,14 @@
 use Rattle.std.specs.Prelude.{ℕ, ℤ, pos, negsuc, Bool, true, false, not, nat_le, ◌&&◌, ◌||◌, Option, None, Some}
 use Rattle.yaml_emitter.specs.declared.settings.Settings.{Settings}
 
-abbrev pub is_negative : Option ℤ → Bool
-is_negative None = false
-is_negative (Some (pos n)) = false
-is_negative (Some (negsuc n)) = true
+abbrev pub is_below_zero : Option ℤ → Bool
+is_below_zero None = false
+is_below_zero (Some (pos n)) = false
+is_below_zero (Some (negsuc n)) = true
 
 -- no line is indented: all of a document stands in one
 abbrev pub is_in_one_line : Settings → (in_flow : Bool) → Bool
-is_in_one_line writer in_flow = in_flow && not writer.canonical && is_negative writer.width
+is_in_one_line writer in_flow = in_flow && not writer.canonical && is_below_zero writer.width
 
 -- up to 10,000 levels, and more where no line is indented
 abbrev pub is_allowed : Settings → (in_flow : Bool) → (depth : ℕ) → Bool

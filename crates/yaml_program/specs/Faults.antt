@@ -13,16 +13,16 @@ emitter_status Memory = 3
 emitter_status error = 1
 
 -- 1 where a text is refused, 3 where reading, writing or memory failed
-abbrev pub status_of : Failure → ℕ
-status_of (failures.Refused place reason) = 1
-status_of (failures.Unwritten error) = emitter_status error
-status_of (failures.ReadFailed error) = 3
-status_of (failures.WriteFailed error) = 3
+abbrev pub failure_status : Failure → ℕ
+failure_status (failures.Refused place reason) = 1
+failure_status (failures.Unwritten error) = emitter_status error
+failure_status (failures.ReadFailed error) = 3
+failure_status (failures.WriteFailed error) = 3
 
 -- 0 where all was written; `stop` has the error behind the name of a file
 abbrev pub status_of_run : {N : Type 0} → Result (Unit {0}) (N × Failure) → ℕ
 status_of_run (Ok done) = 0
-status_of_run (Err stop) = status_of stop.1
+status_of_run (Err stop) = failure_status stop.1
 
 -- where nothing is to be converted: 0 or 3 where help or the version was to be written, 3 where memory failed, else 2
 abbrev pub IsStatusOfUsage : ErrorKind → ℕ → Type 0

@@ -9,7 +9,7 @@ pub const MOST_INDENTED: usize = 10_000;
 
 /// Returns whether a width is negative, so that nothing is folded.
 fn is_negative(width: Option<i32>) -> bool
-    ensures { result ≡ bounds.is_negative width }
+    ensures { result ≡ bounds.is_below_zero width }
 {
     match width {
         Some(column) => column < 0,

@@ -88,7 +88,7 @@ impl<W: Write> Messages<W> {
 
 /// Returns the program's status: 1 where a text isn't written as YAML, 3 where reading, writing or memory failed.
 fn status_of(error: &Failure) -> u8
-    ensures status { result ≡ statuses.status_of error.now }
+    ensures status { result ≡ statuses.failure_status error.now }
     ensures some { 1 ≤ result }
     ensures known { result ≤ 3 }
 {
@@ -155,7 +155,7 @@ fn write_error<W: Write>(
 
 /// Says what went wrong, unless it is that nobody reads what is written, and returns the status.
 pub fn give_up<W: Write>(error: &Failure, name: Option<&str>, faults: &mut Messages<W>) -> u8
-    ensures status { result ≡ statuses.status_of error.now }
+    ensures status { result ≡ statuses.failure_status error.now }
     ensures some { 1 ≤ result }
     ensures known { result ≤ 3 }
 {

@@ -6,9 +6,9 @@ use Rattle.std.specs.Prelude.{Result, Ok, Err, IfErr}
 use Rattle.std.specs.Borrow.{Bor}
 use Rattle.std.specs.Result.{IsErr, IsErrAnd}
 use Rattle.yaml_base.specs.values.ValueText.{line_at}
-use Rattle.yaml_read.specs.Grammar.{either, entry_end, levels_then, line_then, nothing, word_then}
+use Rattle.yaml_read.specs.Grammar.{these_or_those, entry_end, levels_then, line_then, nothing, word_then}
 use Rattle.yaml_read.specs.Places.{BreaksAt, BreaksOff, IsHere, LacksLevel, LacksLine, no_level, no_line}
-use Rattle.yaml_read.specs.Words.{Cuts, behind}
+use Rattle.yaml_read.specs.Words.{Cuts, past_word}
 use Rattle.yaml_read.specs.declared.errors.Stop.{Stop}
 use Rattle.yaml_read.specs.declared.errors.Stop.TheVariants as stop
 use Rattle.yaml_read.proofs.Words.{at_exit, no_word}
@@ -22,28 +22,28 @@ err_exit {T} P error answer is holds = at_exit (λ (r : Result T Stop). IfErr r 
 
 -- none of these begins with a word that stands there
 pub here : (These : List (List ℕ) → Type 0) (bytes : List ℕ) (error : Stop) (due : List ℕ) (more : List (List ℕ)) → IsHere bytes error → These (due ∷ more)
-    → ((next : List ℕ) (after : List (List ℕ)) → These (next ∷ after) → behind next bytes ≡ None) → BreaksAt These bytes error
+    → ((next : List ℕ) (after : List (List ℕ)) → These (next ∷ after) → past_word next bytes ≡ None) → BreaksAt These bytes error
 here These bytes error due more place begins none =
     subst (BreaksAt These bytes) (sym place)
     (record { read = []; rest = bytes; parts = refl; place = refl; due = due; more = more; begins = begins; none = none })
 
 -- a word is missing
-pub missing : (word bytes : List ℕ) (More : List (List ℕ) → Type 0) (error : Stop) (more : List (List ℕ)) → behind word bytes ≡ None
+pub missing : (word bytes : List ℕ) (More : List (List ℕ) → Type 0) (error : Stop) (more : List (List ℕ)) → past_word word bytes ≡ None
     → IsHere bytes error → More more → BreaksAt (word_then word More) bytes error
 missing word bytes More error more none place begins =
     here (word_then word More) bytes error word more place (refl, begins)
-    (λ next after is. subst (λ (w : List ℕ). behind w bytes ≡ None) (sym is.0) none)
+    (λ next after is. subst (λ (w : List ℕ). past_word w bytes ≡ None) (sym is.0) none)
 
 -- neither of two words stands there
-pub neither : (first second bytes : List ℕ) (error : Stop) → behind first bytes ≡ None → behind second bytes ≡ None → IsHere bytes error
-    → BreaksAt (either (word_then first nothing) (word_then second nothing)) bytes error
+pub neither : (first second bytes : List ℕ) (error : Stop) → past_word first bytes ≡ None → past_word second bytes ≡ None → IsHere bytes error
+    → BreaksAt (these_or_those (word_then first nothing) (word_then second nothing)) bytes error
 neither first second bytes error none also place =
-    here (either (word_then first nothing) (word_then second nothing)) bytes error first [] place (inl (refl, tt)) lacks
+    here (these_or_those (word_then first nothing) (word_then second nothing)) bytes error first [] place (inl (refl, tt)) lacks
   where
-    lacks : (next : List ℕ) (after : List (List ℕ)) → either (word_then first nothing) (word_then second nothing) (next ∷ after)
-        → behind next bytes ≡ None
-    lacks next after (inl is) = subst (λ (w : List ℕ). behind w bytes ≡ None) (sym is.0) none
-    lacks next after (inr is) = subst (λ (w : List ℕ). behind w bytes ≡ None) (sym is.0) also
+    lacks : (next : List ℕ) (after : List (List ℕ)) → these_or_those (word_then first nothing) (word_then second nothing) (next ∷ after)
+        → past_word next bytes ≡ None
+    lacks next after (inl is) = subst (λ (w : List ℕ). past_word w bytes ≡ None) (sym is.0) none
+    lacks next after (inr is) = subst (λ (w : List ℕ). past_word w bytes ≡ None) (sym is.0) also
 
 -- ---- behind a word
 
@@ -78,30 +78,30 @@ behind_word More word bytes rest error is breaks =
 
 -- none of the others begins with a word that stands there, before words of the one were read and behind them
 none_at : (These Those : List (List ℕ) → Type 0) (bytes rest : List ℕ) → bytes ≡ rest
-    → ((next : List ℕ) (after : List (List ℕ)) → These (next ∷ after) → behind next bytes ≡ None)
-    → ((next : List ℕ) (after : List (List ℕ)) → Those (next ∷ after) → behind next rest ≡ None)
-    → (next : List ℕ) (after : List (List ℕ)) → either These Those (next ∷ after) → behind next rest ≡ None
-none_at These Those bytes rest is lacks none next after (inl these) = subst (λ (t : List ℕ). behind next t ≡ None) is (lacks next after these)
+    → ((next : List ℕ) (after : List (List ℕ)) → These (next ∷ after) → past_word next bytes ≡ None)
+    → ((next : List ℕ) (after : List (List ℕ)) → Those (next ∷ after) → past_word next rest ≡ None)
+    → (next : List ℕ) (after : List (List ℕ)) → these_or_those These Those (next ∷ after) → past_word next rest ≡ None
+none_at These Those bytes rest is lacks none next after (inl these) = subst (λ (t : List ℕ). past_word next t ≡ None) is (lacks next after these)
 none_at These Those bytes rest is lacks none next after (inr those) = none next after those
 
 none_later : (These Those : List (List ℕ) → Type 0) (bytes rest first : List ℕ) (read : List (List ℕ))
     → bytes ≡ (first ++ flat_map (λ (w : List ℕ). w) read) ++ rest
-    → ((next : List ℕ) (after : List (List ℕ)) → These (next ∷ after) → behind next bytes ≡ None)
-    → ((next : List ℕ) (after : List (List ℕ)) → Those (first ∷ (read ++ next ∷ after)) → behind next rest ≡ None)
-    → (next : List ℕ) (after : List (List ℕ)) → either These Those (first ∷ (read ++ next ∷ after)) → behind next rest ≡ None
+    → ((next : List ℕ) (after : List (List ℕ)) → These (next ∷ after) → past_word next bytes ≡ None)
+    → ((next : List ℕ) (after : List (List ℕ)) → Those (first ∷ (read ++ next ∷ after)) → past_word next rest ≡ None)
+    → (next : List ℕ) (after : List (List ℕ)) → these_or_those These Those (first ∷ (read ++ next ∷ after)) → past_word next rest ≡ None
 none_later These Those bytes rest first read is lacks none next after (inl these) =
     absurd (no_word first bytes (flat_map (λ (w : List ℕ). w) read ++ rest) (lacks first (read ++ next ∷ after) these)
     (is ∙ append_assoc first (flat_map (λ (w : List ℕ). w) read) rest))
 none_later These Those bytes rest first read is lacks none next after (inr those) = none next after those
 
 right_of : (These Those : List (List ℕ) → Type 0) (bytes : List ℕ) (left : ℕ)
-    → ((next : List ℕ) (after : List (List ℕ)) → These (next ∷ after) → behind next bytes ≡ None)
-    → BreaksOff Those bytes left → BreaksOff (either These Those) bytes left
+    → ((next : List ℕ) (after : List (List ℕ)) → These (next ∷ after) → past_word next bytes ≡ None)
+    → BreaksOff Those bytes left → BreaksOff (these_or_those These Those) bytes left
 right_of These Those bytes left lacks breaks = by breaks.read breaks.parts breaks.begins breaks.none
   where
     by : (read : List (List ℕ)) → bytes ≡ flat_map (λ (w : List ℕ). w) read ++ breaks.rest → Those (read ++ breaks.due ∷ breaks.more)
-        → ((next : List ℕ) (after : List (List ℕ)) → Those (read ++ next ∷ after) → behind next breaks.rest ≡ None)
-        → BreaksOff (either These Those) bytes left
+        → ((next : List ℕ) (after : List (List ℕ)) → Those (read ++ next ∷ after) → past_word next breaks.rest ≡ None)
+        → BreaksOff (these_or_those These Those) bytes left
     by [] parts begins none =
         record {
           read = [];
@@ -126,10 +126,10 @@ right_of These Those bytes left lacks breaks = by breaks.read breaks.parts break
         }
 
 -- the first of two words doesn't stand there, and the bytes break off behind the beginning of the second
-pub second_of : (first : List ℕ) (Those : List (List ℕ) → Type 0) (bytes : List ℕ) (error : Stop) → behind first bytes ≡ None
-    → BreaksAt Those bytes error → BreaksAt (either (word_then first nothing) Those) bytes error
+pub second_of : (first : List ℕ) (Those : List (List ℕ) → Type 0) (bytes : List ℕ) (error : Stop) → past_word first bytes ≡ None
+    → BreaksAt Those bytes error → BreaksAt (these_or_those (word_then first nothing) Those) bytes error
 second_of first Those bytes (stop.Refused left) none breaks =
-    right_of (word_then first nothing) Those bytes left (λ next after is. subst (λ (w : List ℕ). behind w bytes ≡ None) (sym is.0) none) breaks
+    right_of (word_then first nothing) Those bytes left (λ next after is. subst (λ (w : List ℕ). past_word w bytes ≡ None) (sym is.0) none) breaks
 second_of first Those bytes (stop.TooDeep left) none breaks = breaks
 second_of first Those bytes stop.Memory none breaks = tt
 
@@ -152,12 +152,12 @@ level_first level bytes rest is =
     twice = omega arith
 
 levels_lack : (depth level : ℕ) (bytes rest : List ℕ) (More : List (List ℕ) → Type 0) (error : Stop) (more : List (List ℕ)) → level < depth
-    → bytes ≡ replicate (level * 2) space ++ rest → behind (codes "  ") rest ≡ None → IsHere rest error → More more
+    → bytes ≡ replicate (level * 2) space ++ rest → past_word (codes "  ") rest ≡ None → IsHere rest error → More more
     → BreaksAt (levels_then depth More) bytes error
 levels_lack zero level bytes rest More error more below is none place begins = absurd (omega (arith, below))
 levels_lack (suc depth) zero bytes rest More error more below is none place begins =
     missing (codes "  ") bytes (levels_then depth More) error (replicate depth (codes "  ") ++ more)
-    (subst (λ (t : List ℕ). behind (codes "  ") t ≡ None) (sym is) none) (subst (λ (t : List ℕ). IsHere t error) (sym is) place)
+    (subst (λ (t : List ℕ). past_word (codes "  ") t ≡ None) (sym is) none) (subst (λ (t : List ℕ). IsHere t error) (sym is) place)
     (levels_go depth More more begins)
 levels_lack (suc depth) (suc level) bytes rest More error more below is none place begins =
     behind_word (levels_then depth More) (codes "  ") bytes (replicate (level * 2) space ++ rest) error (level_first level bytes rest is)
@@ -209,26 +209,26 @@ line_and_word n m text line word (Err error) same is lacks place =
 
 -- the words of the end of an entry
 pub entry_goes : (depth : ℕ) (lead end : List ℕ)
-    → line_then depth (either (word_then lead nothing) (word_then end nothing)) (codes "\n" ∷ (replicate depth (codes "  ") ++ lead ∷ []))
+    → line_then depth (these_or_those (word_then lead nothing) (word_then end nothing)) (codes "\n" ∷ (replicate depth (codes "  ") ++ lead ∷ []))
 entry_goes depth lead end =
-    (refl, levels_go depth (either (word_then lead nothing) (word_then end nothing)) (lead ∷ []) (inl (refl, tt)))
+    (refl, levels_go depth (these_or_those (word_then lead nothing) (word_then end nothing)) (lead ∷ []) (inl (refl, tt)))
 
 -- where the words stop
-pub no_comma : (depth : ℕ) (lead end text : List ℕ) (error : Stop) → behind (codes ",") text ≡ None → IsHere text error
+pub no_comma : (depth : ℕ) (lead end text : List ℕ) (error : Stop) → past_word (codes ",") text ≡ None → IsHere text error
     → BreaksAt (entry_end depth lead end) text error
 no_comma depth lead end text error none place =
-    missing (codes ",") text (line_then depth (either (word_then lead nothing) (word_then end nothing))) error
+    missing (codes ",") text (line_then depth (these_or_those (word_then lead nothing) (word_then end nothing))) error
     (codes "\n" ∷ (replicate depth (codes "  ") ++ lead ∷ [])) none place (entry_goes depth lead end)
 
 pub no_line_behind : (depth : ℕ) (lead end text tail : List ℕ) (error : Stop) → text ≡ codes "," ++ tail → LacksLine depth tail error
     → BreaksAt (entry_end depth lead end) text error
 no_line_behind depth lead end text tail error is lacks =
-    behind_word (line_then depth (either (word_then lead nothing) (word_then end nothing))) (codes ",") text tail error is
-    (line_lacks depth tail (either (word_then lead nothing) (word_then end nothing)) error (lead ∷ []) lacks (inl (refl, tt)))
+    behind_word (line_then depth (these_or_those (word_then lead nothing) (word_then end nothing))) (codes ",") text tail error is
+    (line_lacks depth tail (these_or_those (word_then lead nothing) (word_then end nothing)) error (lead ∷ []) lacks (inl (refl, tt)))
 
 pub no_entry : (depth : ℕ) (lead end text tail line : List ℕ) (error : Stop) → text ≡ codes "," ++ tail → tail ≡ line_at (depth * 2) ++ line
-    → behind lead line ≡ None → behind end line ≡ None → IsHere line error → BreaksAt (entry_end depth lead end) text error
+    → past_word lead line ≡ None → past_word end line ≡ None → IsHere line error → BreaksAt (entry_end depth lead end) text error
 no_entry depth lead end text tail line error is also none neither_is place =
-    behind_word (line_then depth (either (word_then lead nothing) (word_then end nothing))) (codes ",") text tail error is
-    (line_passed depth tail line (either (word_then lead nothing) (word_then end nothing)) error also
+    behind_word (line_then depth (these_or_those (word_then lead nothing) (word_then end nothing))) (codes ",") text tail error is
+    (line_passed depth tail line (these_or_those (word_then lead nothing) (word_then end nothing)) error also
     (neither lead end line error none neither_is place))

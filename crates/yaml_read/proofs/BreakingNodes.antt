@@ -13,7 +13,7 @@ use Rattle.yaml_base.specs.scalars.DoubleQuoted.{quote}
 use Rattle.yaml_base.specs.values.TypedValues.{TypedValue, TypedValues, TypedPairs, null_value, bool_value, int_value, text_value, list_value, map_value}
 use Rattle.yaml_base.specs.values.TypedValues.{most_nested, no_value_pairs, no_values, value_pairs_and, values_and}
 use Rattle.yaml_base.specs.values.ValueText.{in_quotes, line_at, value_text}
-use Rattle.yaml_read.specs.Grammar.{behind_in, behind_tag, characters, either, integer, line_then, node, nothing, quoted_text}
+use Rattle.yaml_read.specs.Grammar.{behind_in, behind_tag, characters, these_or_those, integer, line_then, node, nothing, quoted_text}
 use Rattle.yaml_read.specs.Grammar.{unless_deep, word_then}
 use Rattle.yaml_read.specs.Heads.{ListRead, MapRead, ReadsCharacter, tag_word}
 use Rattle.yaml_read.specs.Opened.{HasRead, IsOpen, OpenCanBeRead}
@@ -21,7 +21,7 @@ use Rattle.yaml_read.specs.Places.{BreaksAt, BreaksOff, IsHere, IsHereOrMemory, 
 use Rattle.yaml_read.specs.Places.{behind_node, in_node, more_follows, no_end}
 use Rattle.yaml_read.specs.Remaining.{OpenLevel, is_nested, items_open, pairs_open, value_due}
 use Rattle.yaml_read.specs.Sound.{IsCharacter, IsValue}
-use Rattle.yaml_read.specs.Words.{OrMemory, behind}
+use Rattle.yaml_read.specs.Words.{OrMemory, past_word}
 use Rattle.yaml_read.specs.declared.errors.Stop.{Stop}
 use Rattle.yaml_read.specs.declared.errors.Stop.TheVariants as stop
 use Rattle.yaml_read.specs.declared.heads.Head.{Head}
@@ -44,7 +44,7 @@ utf8_behind (c ∷ word) bytes rest utf8 is =
 
 -- no text goes on with a word
 unread : (word : Text) (bytes : List ℕ) → IsUtf8 bytes → ((rest : Text) → bytes ≡ encode_utf8_all (word ++ rest) → ⊥)
-    → behind (encode_utf8_all word) bytes ≡ None
+    → past_word (encode_utf8_all word) bytes ≡ None
 unread word bytes utf8 lacks =
     absent (encode_utf8_all word) bytes (λ rest is.
     let after = utf8_behind word bytes rest utf8 is in
@@ -71,7 +71,7 @@ passes_quote whole bytes is =
           passed quoted_text characters (codes "\"") whole bytes left is (λ words more. (refl, more)) (λ words these. these.1) breaks;
     }
 
-pub passes_character : (whole bytes rest : List ℕ) (c : ℕ) → PassesCharacters whole bytes → behind (codes "\"") bytes ≡ None
+pub passes_character : (whole bytes rest : List ℕ) (c : ℕ) → PassesCharacters whole bytes → past_word (codes "\"") bytes ≡ None
     → IsCharacter bytes c rest → PassesCharacters whole rest
 passes_character whole bytes rest c passes none character =
     record {
@@ -85,17 +85,17 @@ passes_character whole bytes rest c passes none character =
     out words (inr goes) = goes.3
 
 -- no character stands there
-pub no_character : (whole bytes : List ℕ) (error : Stop) → PassesCharacters whole bytes → IsUtf8 bytes → behind (codes "\"") bytes ≡ None
+pub no_character : (whole bytes : List ℕ) (error : Stop) → PassesCharacters whole bytes → IsUtf8 bytes → past_word (codes "\"") bytes ≡ None
     → ReadsCharacter bytes None → IsHere bytes error → BreaksAt quoted_text whole error
 no_character whole bytes error passes utf8 none reads place =
     subst (BreaksAt quoted_text whole) (sym place)
     (passes.passes (length bytes)
     (record { read = []; rest = bytes; parts = refl; place = refl; due = codes "\""; more = []; begins = inl (refl, tt); none = lacks }))
   where
-    lacks : (next : List ℕ) (after : List (List ℕ)) → characters (next ∷ after) → behind next bytes ≡ None
-    lacks next after (inl ends) = subst (λ (w : List ℕ). behind w bytes ≡ None) (sym ends.0) none
+    lacks : (next : List ℕ) (after : List (List ℕ)) → characters (next ∷ after) → past_word next bytes ≡ None
+    lacks next after (inl ends) = subst (λ (w : List ℕ). past_word w bytes ≡ None) (sym ends.0) none
     lacks next after (inr goes) =
-        subst (λ (w : List ℕ). behind w bytes ≡ None) (sym goes.2)
+        subst (λ (w : List ℕ). past_word w bytes ≡ None) (sym goes.2)
         (unread (character_text true goes.0) bytes utf8 (λ rest is. reads goes.0 rest goes.1 is))
 
 -- a text that is refused as a whole
@@ -117,7 +117,7 @@ pub no_integer : {T : Type 0} (Holds : ℤ → Text → T → Type 0) (bytes : L
 no_integer Holds bytes error utf8 (inl memory) reads = subst (BreaksAt integer bytes) (sym memory) tt
 no_integer Holds bytes error utf8 (inr place) reads =
     here integer bytes error (encode_utf8_all (in_quotes (signed_decimal (pos 0)))) [] place (pos 0, few, (refl, tt))
-    (λ next after is. subst (λ (w : List ℕ). behind w bytes ≡ None) (sym is.2.0)
+    (λ next after is. subst (λ (w : List ℕ). past_word w bytes ≡ None) (sym is.2.0)
     (unread (in_quotes (signed_decimal is.0)) bytes utf8 (λ rest starts.
     subst (λ (e : Stop). OrMemory (Holds is.0 rest) (Err e)) place (reads is.0 rest is.1 starts))))
   where
@@ -126,7 +126,7 @@ no_integer Holds bytes error utf8 (inr place) reads =
 
 -- ---- tags
 
-kinds_same : (k j : Kind) → behind (tag_word k) (tag_word j) ≡ Some [] → k ≡ j
+kinds_same : (k j : Kind) → past_word (tag_word k) (tag_word j) ≡ Some [] → k ≡ j
 kinds_same kind.Null kind.Null is = refl
 kinds_same kind.Bool kind.Bool is = refl
 kinds_same kind.Int kind.Int is = refl
@@ -140,14 +140,14 @@ kinds_same k j is = absurd (none_some is)
 
 same_kind : (k j : Kind) → tag_word k ≡ tag_word j → k ≡ j
 same_kind k j is =
-    kinds_same k j (ap (behind (tag_word k)) (sym is ∙ sym (append-nil (tag_word k))) ∙ behind_itself (tag_word k) [])
+    kinds_same k j (ap (past_word (tag_word k)) (sym is ∙ sym (append-nil (tag_word k))) ∙ behind_itself (tag_word k) [])
 
 -- no tag stands there
-pub no_tag_there : (depth : ℕ) (bytes : List ℕ) (error : Stop) → ((k : Kind) → behind (tag_word k) bytes ≡ None) → IsHere bytes error
+pub no_tag_there : (depth : ℕ) (bytes : List ℕ) (error : Stop) → ((k : Kind) → past_word (tag_word k) bytes ≡ None) → IsHere bytes error
     → BreaksAt (node depth) bytes error
 no_tag_there depth bytes error none place =
     here (node depth) bytes error (tag_word kind.Null) (codes "\"null\"" ∷ []) place (kind.Null, (refl, (refl, tt)))
-    (λ next after is. subst (λ (w : List ℕ). behind w bytes ≡ None) (sym is.1.0) (none is.0))
+    (λ next after is. subst (λ (w : List ℕ). past_word w bytes ≡ None) (sym is.1.0) (none is.0))
 
 -- the bytes break off behind a tag
 pub tag_passed : (depth : ℕ) (k read : Kind) (bytes rest : List ℕ) (error : Stop) → read ≡ k → bytes ≡ tag_word read ++ rest
@@ -171,19 +171,20 @@ pub no_list : {A : Type 0} (depth : ℕ) (bytes rest : List ℕ) (result : Resul
     → ListRead rest result → IfErr result (IsHere rest) → IfErr result (BreaksAt (node depth) bytes)
 no_list depth bytes rest (Ok found) is read place = tt
 no_list depth bytes rest (Err error) is read place =
-    let inside = words_inside depth (either (word_then (codes "]") nothing) (line_then (suc depth) nothing)) (codes "]" ∷ []) (inl (refl, tt)) in
+    let inside = words_inside depth (these_or_those (word_then (codes "]") nothing) (line_then (suc depth) nothing)) (codes "]" ∷ []) (inl (refl, tt)) in
     tag_passed depth kind.List kind.List bytes rest error refl is
-    (missing (codes "[") rest (unless_deep depth (either (word_then (codes "]") nothing) (line_then (suc depth) nothing))) error inside.0 read place
+    (missing (codes "[") rest (unless_deep depth (these_or_those (word_then (codes "]") nothing) (line_then (suc depth) nothing))) error inside.0 read place
     inside.1)
 
 pub no_map : {A : Type 0} (depth : ℕ) (bytes rest : List ℕ) (result : Result (Head A × Bor (List ℕ)) Stop) → bytes ≡ codes "!!map " ++ rest
     → MapRead rest result → IfErr result (IsHere rest) → IfErr result (BreaksAt (node depth) bytes)
 no_map depth bytes rest (Ok found) is read place = tt
 no_map depth bytes rest (Err error) is read place =
-    let inside = words_inside depth (either (word_then (codes "}") nothing) (line_then (suc depth) (word_then (codes "? ") nothing))) (codes "}" ∷ [])
+    let inside = words_inside depth (these_or_those (word_then (codes "}") nothing) (line_then (suc depth) (word_then (codes "? ") nothing))) (codes "}" ∷ [])
     (inl (refl, tt)) in
     tag_passed depth kind.Map kind.Map bytes rest error refl is
-    (missing (codes "{") rest (unless_deep depth (either (word_then (codes "}") nothing) (line_then (suc depth) (word_then (codes "? ") nothing)))) error
+    (missing (codes "{") rest
+    (unless_deep depth (these_or_those (word_then (codes "}") nothing) (line_then (suc depth) (word_then (codes "? ") nothing)))) error
     inside.0 read place inside.1)
 
 -- ---- behind a node
@@ -225,24 +226,25 @@ inside_out depth More words room (inl inside) = inside.1
 inside_out depth More words room (inr deep) = absurd (omega (arith, room, deep.0))
 
 pub list_line_breaks : (depth n : ℕ) (bytes rest : List ℕ) (error : Stop) → n ≡ depth → depth < most_nested
-    → (bytes ≡ codes "!!seq [" ++ rest) × (behind (codes "]") rest ≡ None) → BreaksAt (line_then (suc n) nothing) rest error
+    → (bytes ≡ codes "!!seq [" ++ rest) × (past_word (codes "]") rest ≡ None) → BreaksAt (line_then (suc n) nothing) rest error
     → BreaksAt (node depth) bytes error
 list_line_breaks depth n bytes rest error same room found breaks =
     tag_passed depth kind.List kind.List bytes (codes "[" ++ rest) error refl found.0
-    (passed_at (behind_tag depth kind.List) (either (word_then (codes "]") nothing) (line_then (suc depth) nothing)) (codes "[") (codes "[" ++ rest) rest
+    (passed_at (behind_tag depth kind.List) (these_or_those (word_then (codes "]") nothing) (line_then (suc depth) nothing)) (codes "[")
+    (codes "[" ++ rest) rest
     error refl (λ words more. (refl, inl (room, more)))
-    (λ words these. inside_out depth (either (word_then (codes "]") nothing) (line_then (suc depth) nothing)) words room these.1)
+    (λ words these. inside_out depth (these_or_those (word_then (codes "]") nothing) (line_then (suc depth) nothing)) words room these.1)
     (second_of (codes "]") (line_then (suc depth) nothing) rest error found.1
     (subst (λ m. BreaksAt (line_then (suc m) nothing) rest error) same breaks)))
 
 pub map_line_breaks : (depth n : ℕ) (bytes rest : List ℕ) (error : Stop) → n ≡ depth → depth < most_nested
-    → (bytes ≡ codes "!!map {" ++ rest) × (behind (codes "}") rest ≡ None)
+    → (bytes ≡ codes "!!map {" ++ rest) × (past_word (codes "}") rest ≡ None)
     → BreaksAt (line_then (suc n) (word_then (codes "? ") nothing)) rest error → BreaksAt (node depth) bytes error
 map_line_breaks depth n bytes rest error same room found breaks =
     tag_passed depth kind.Map kind.Map bytes (codes "{" ++ rest) error refl found.0
-    (passed_at (behind_tag depth kind.Map) (either (word_then (codes "}") nothing) (line_then (suc depth) (word_then (codes "? ") nothing))) (codes "{")
+    (passed_at (behind_tag depth kind.Map) (these_or_those (word_then (codes "}") nothing) (line_then (suc depth) (word_then (codes "? ") nothing))) (codes "{")
     (codes "{" ++ rest) rest error refl (λ words more. (refl, inl (room, more)))
-    (λ words these. inside_out depth (either (word_then (codes "}") nothing) (line_then (suc depth) (word_then (codes "? ") nothing))) words room
+    (λ words these. inside_out depth (these_or_those (word_then (codes "}") nothing) (line_then (suc depth) (word_then (codes "? ") nothing))) words room
     these.1)
     (second_of (codes "}") (line_then (suc depth) (word_then (codes "? ") nothing)) rest error found.1
     (subst (λ m. BreaksAt (line_then (suc m) (word_then (codes "? ") nothing)) rest error) same breaks)))

@@ -12,8 +12,9 @@ use Rattle.std.specs.String.{string_bytes}
 use Rattle.std.proofs.lemmas.Str.{cons_from_encodes, encodes-append}
 use Rattle.yaml_base.specs.Seen.{seen_text}
 use Rattle.yaml_base.specs.reading.ReadDouble.{digit_meaning, letter_meaning, meaning_among}
-use Rattle.yaml_base.specs.scalars.DoubleQuoted.{short_escapes, letter_among, needs_escape, escape_after_backslash, escape_text, quote, backslash}
+use Rattle.yaml_base.specs.scalars.DoubleQuoted.{short_escapes, letter_among, needs_escape, escape_after_backslash, escape_text, quote}
 use Rattle.yaml_base.specs.values.ValueText.{in_quotes}
+use Rattle.yaml_base.specs.Characters.{backslash}
 use Rattle.yaml_read.proofs.Encoded.{word_encoded}
 use Rattle.yaml_read.proofs.Firsts.{four_text}
 use Rattle.yaml_read.specs.Sound.{IsByNumber, IsCharacter, IsEscape}

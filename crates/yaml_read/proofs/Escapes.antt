@@ -4,7 +4,8 @@ use Rattle.yaml_base.proofs.Common.{ap, sym, ◌∙◌, arith, nat_tests, nat_lt
 use Rattle.yaml_base.proofs.Common.{Text, hex_digit}
 use Rattle.yaml_base.proofs.Common.{scalar_cases, all_scalars, character_text}
 use Rattle.yaml_base.specs.reading.ReadDouble.{letter_meaning, digit_meaning}
-use Rattle.yaml_base.specs.scalars.DoubleQuoted.{ShortEscape, short_escapes, letter_among, needs_escape, escape_after_backslash, escape_text, backslash}
+use Rattle.yaml_base.specs.Characters.{backslash}
+use Rattle.yaml_base.specs.scalars.DoubleQuoted.{ShortEscape, short_escapes, letter_among, needs_escape, escape_after_backslash, escape_text}
 
 -- an answer is there and is this number
 abbrev is_answer : Option ℕ → ℕ → Bool

@@ -4,7 +4,8 @@ use Rattle.yaml_base.proofs.Common.{true≢false, Text, encode_utf8_all, encode_
 use Rattle.std.specs.Prelude.{MatchOption, length}
 use Rattle.std.specs.Borrow.{Bor}
 use Rattle.yaml_base.specs.reading.ReadDouble.{letter_meaning}
-use Rattle.yaml_base.specs.scalars.DoubleQuoted.{short_escapes, letter_among, needs_escape, escape_after_backslash, backslash}
+use Rattle.yaml_base.specs.Characters.{backslash}
+use Rattle.yaml_base.specs.scalars.DoubleQuoted.{short_escapes, letter_among, needs_escape, escape_after_backslash}
 use Rattle.yaml_read.proofs.Escapes.{Stands, as_itself, as_escape, stands}
 use Rattle.yaml_read.proofs.Firsts.{AfterBackslash, by_letter, by_two, by_four, after_backslash, first_is, not_empty}
 

@@ -10,7 +10,7 @@ use Rattle.std.specs.Prelude.{ℤ}
 use Rattle.yaml_read.proofs.Words.{no_word, behind_word}
 use Rattle.yaml_read.proofs.Encoded.{word_encoded}
 use Rattle.yaml_read.proofs.Remaining.{items_behind, pairs_behind, items_open_text, pairs_open_text}
-use Rattle.yaml_read.specs.Words.{behind}
+use Rattle.yaml_read.specs.Words.{past_word}
 use Rattle.std.specs.Borrow.{Bor}
 use Rattle.std.specs.Prelude.{Result, Ok, Err}
 use Rattle.yaml_read.specs.Heads.{HeadRead, ListRead, MapRead, tag_word}
@@ -97,7 +97,7 @@ TailOf kind.List column value rest tail = (items : TypedValues) × (value ≡ li
 TailOf kind.Map column value rest tail = (pairs : TypedPairs) × (value ≡ map_value pairs) × (tail ≡ encode_utf8_all (map_tail column pairs rest))
 
 tail_by : (kind : Kind) (value : TypedValue) (column : ℕ) (rest : Text) (tail : List ℕ)
-    → behind (tag_word kind) (value_word value ++ encode_utf8_all (value_tail column value rest)) ≡ Some tail → TailOf kind column value rest tail
+    → past_word (tag_word kind) (value_word value ++ encode_utf8_all (value_tail column value rest)) ≡ Some tail → TailOf kind column value rest tail
 tail_by kind.Null null_value column rest tail is = (refl, cc)
 tail_by kind.Bool (bool_value b) column rest tail is = (b, refl, cc)
 tail_by kind.Int (int_value n) column rest tail is = (n, refl, cc)
@@ -113,7 +113,7 @@ pub tail_of : (kind : Kind) (column : ℕ) (value : TypedValue) (rest : Text) (b
     → bytes ≡ encode_utf8_all (value_text column value ++ rest) → bytes ≡ tag_word kind ++ tail → TailOf kind column value rest tail
 tail_of kind column value rest bytes tail is tagged =
     tail_by kind value column rest tail
-    (ap (behind (tag_word kind)) (sym (value_bytes column value rest) ∙ sym is ∙ tagged) ∙ behind_word (tag_word kind) tail)
+    (ap (past_word (tag_word kind)) (sym (value_bytes column value rest) ∙ sym is ∙ tagged) ∙ behind_word (tag_word kind) tail)
 
 -- the kind of a value
 abbrev kind_of : TypedValue → Kind
@@ -134,7 +134,7 @@ word_of_kind (map_value pairs) = refl
 
 -- a value's text begins with a tag
 pub no_tag : (column : ℕ) (value : TypedValue) (rest : Text) (bytes : List ℕ)
-    → bytes ≡ encode_utf8_all (value_text column value ++ rest) → ((k : Kind) → behind (tag_word k) bytes ≡ None) → ⊥
+    → bytes ≡ encode_utf8_all (value_text column value ++ rest) → ((k : Kind) → past_word (tag_word k) bytes ≡ None) → ⊥
 no_tag column value rest bytes is none =
     no_word (tag_word (kind_of value)) bytes (encode_utf8_all (value_tail column value rest)) (none (kind_of value))
     (is ∙ value_bytes column value rest ∙ ap (λ w. w ++ encode_utf8_all (value_tail column value rest)) (word_of_kind value))
@@ -143,7 +143,7 @@ no_tag column value rest bytes is none =
 
 -- a list's text begins with a bracket
 pub list_bracket : (column : ℕ) (items : TypedValues) (rest : Text) (tail : List ℕ) → tail ≡ encode_utf8_all (list_tail column items rest)
-    → behind (codes "[") tail ≡ None → ⊥
+    → past_word (codes "[") tail ≡ None → ⊥
 list_bracket column no_values rest tail is none =
     no_word (codes "[") tail _ none (is ∙ word_encoded (codes "[") (codes "]" ++ rest) refl)
 list_bracket column (values_and items item) rest tail is none =
@@ -152,7 +152,7 @@ list_bracket column (values_and items item) rest tail is none =
     (line_at (column + 2) ++ items_behind (column + 2) items item (codes "," ++ (line_at column ++ (codes "]" ++ rest)))) refl)
 
 pub map_bracket : (column : ℕ) (pairs : TypedPairs) (rest : Text) (tail : List ℕ) → tail ≡ encode_utf8_all (map_tail column pairs rest)
-    → behind (codes "{") tail ≡ None → ⊥
+    → past_word (codes "{") tail ≡ None → ⊥
 map_bracket column no_value_pairs rest tail is none =
     no_word (codes "{") tail _ none (is ∙ word_encoded (codes "{") (codes "}" ++ rest) refl)
 map_bracket column (value_pairs_and pairs key value) rest tail is none =
@@ -172,7 +172,7 @@ pub list_empty : (column : ℕ) (items : TypedValues) (rest : Text) (tail after 
 list_empty column no_values rest tail after is found =
     (refl, append_cancel_left (codes "[]") after (encode_utf8_all rest) (sym found ∙ is ∙ word_encoded (codes "[]") rest refl))
 list_empty column (values_and items item) rest tail after is found =
-    absurd (none_some after (ap (behind (codes "[]")) (sym (is ∙ word_encoded (codes "[" ++ (line_feed ∷ []))
+    absurd (none_some after (ap (past_word (codes "[]")) (sym (is ∙ word_encoded (codes "[" ++ (line_feed ∷ []))
     (replicate (column + 2) space ++ items_behind (column + 2) items item (codes "," ++ (line_at column ++ (codes "]" ++ rest)))) refl) ∙ found)))
 
 pub map_empty : (column : ℕ) (pairs : TypedPairs) (rest : Text) (tail after : List ℕ) → tail ≡ encode_utf8_all (map_tail column pairs rest)
@@ -180,7 +180,7 @@ pub map_empty : (column : ℕ) (pairs : TypedPairs) (rest : Text) (tail after : 
 map_empty column no_value_pairs rest tail after is found =
     (refl, append_cancel_left (codes "{}") after (encode_utf8_all rest) (sym found ∙ is ∙ word_encoded (codes "{}") rest refl))
 map_empty column (value_pairs_and pairs key value) rest tail after is found =
-    absurd (none_some after (ap (behind (codes "{}")) (sym (is ∙ word_encoded (codes "{" ++ (line_feed ∷ []))
+    absurd (none_some after (ap (past_word (codes "{}")) (sym (is ∙ word_encoded (codes "{" ++ (line_feed ∷ []))
     (replicate (column + 2) space
     ++ (codes "? " ++ pairs_behind (column + 2) pairs key value (codes "," ++ (line_at column ++ (codes "}" ++ rest))))) refl) ∙ found)))
 

@@ -7,7 +7,7 @@ use Rattle.yaml_base.specs.values.TypedValues.{list_value, map_value, most_neste
 use Rattle.yaml_base.specs.values.ValueText.{line_at, value_text, items_text, pairs_text, entry_lead, has_no_values, has_no_value_pairs, document_text}
 use Rattle.yaml_read.specs.Opened.{opened_text, IsOpen, HasRead}
 use Rattle.yaml_read.specs.Readable.{CanBeReadAt}
-use Rattle.yaml_read.specs.Remaining.{OpenLevel, items_open, pairs_open, value_due, column_of, seen_level, seen_levels}
+use Rattle.yaml_read.specs.Remaining.{OpenLevel, items_open, pairs_open, value_due, column_in, seen_level, seen_levels}
 use Rattle.yaml_read.specs.declared.levels.Level.{Level}
 use Rattle.yaml_read.proofs.SeenLevels.{level_more}
 use Rattle.yaml_read.proofs.Encoded.{are_ascii, word_encoded, line_encoded}
@@ -22,14 +22,14 @@ word_read whole bytes rest word written text is cut ascii =
 
 -- the bytes of a comma and of a line at the column of the levels
 line_bytes : (levels : List OpenLevel) (word : Text) → encode_utf8_all word ≡ word
-    → encode_utf8_all (line_at (column_of levels) ++ word) ≡ line_at (length levels * 2) ++ word
+    → encode_utf8_all (line_at (column_in levels) ++ word) ≡ line_at (length levels * 2) ++ word
 line_bytes levels word ascii =
-    line_encoded (column_of levels) word ∙ ap (λ t. line_at (column_of levels) ++ t) ascii ∙ ap (λ n. line_at n ++ word) (column_is levels)
+    line_encoded (column_in levels) word ∙ ap (λ t. line_at (column_in levels) ++ t) ascii ∙ ap (λ n. line_at n ++ word) (column_is levels)
 
 deeper_bytes : (levels : List OpenLevel) (word : Text) → encode_utf8_all word ≡ word
-    → encode_utf8_all (line_at (column_of levels + 2) ++ word) ≡ line_at (length levels * 2 + 2) ++ word
+    → encode_utf8_all (line_at (column_in levels + 2) ++ word) ≡ line_at (length levels * 2 + 2) ++ word
 deeper_bytes levels word ascii =
-    line_encoded (column_of levels + 2) word ∙ ap (λ t. line_at (column_of levels + 2) ++ t) ascii ∙ ap (λ n. line_at (n + 2) ++ word) (column_is levels)
+    line_encoded (column_in levels + 2) word ∙ ap (λ t. line_at (column_in levels + 2) ++ t) ascii ∙ ap (λ n. line_at (n + 2) ++ word) (column_is levels)
 
 -- a word of ASCII
 ascii_all : (word : Text) → are_ascii word ≡ true → encode_utf8_all word ≡ word
@@ -37,26 +37,26 @@ ascii_all word h = ap encode_utf8_all (sym (append-nil word)) ∙ word_encoded w
 
 -- behind a comma a line of the levels, and a word
 comma_line : (levels : List OpenLevel) (word : Text) → are_ascii word ≡ true
-    → encode_utf8_all (codes "," ++ (line_at (column_of levels) ++ word)) ≡ codes "," ++ (line_at (length levels * 2) ++ word)
+    → encode_utf8_all (codes "," ++ (line_at (column_in levels) ++ word)) ≡ codes "," ++ (line_at (length levels * 2) ++ word)
 comma_line levels word h =
-    word_encoded (codes ",") (line_at (column_of levels) ++ word) refl ∙ ap (λ t. codes "," ++ t) (line_bytes levels word (ascii_all word h))
+    word_encoded (codes ",") (line_at (column_in levels) ++ word) refl ∙ ap (λ t. codes "," ++ t) (line_bytes levels word (ascii_all word h))
 
 -- the same, two columns deeper
 comma_deeper : (levels : List OpenLevel) (word : Text) → are_ascii word ≡ true
-    → encode_utf8_all (codes "," ++ (line_at (column_of levels + 2) ++ word)) ≡ codes "," ++ (line_at (length levels * 2) ++ (codes "  " ++ word))
+    → encode_utf8_all (codes "," ++ (line_at (column_in levels + 2) ++ word)) ≡ codes "," ++ (line_at (length levels * 2) ++ (codes "  " ++ word))
 comma_deeper levels word h =
-    ap encode_utf8_all (ap (λ t. codes "," ++ t) (line_deeper (column_of levels) word)) ∙ comma_line levels (codes "  " ++ word) h
+    ap encode_utf8_all (ap (λ t. codes "," ++ t) (line_deeper (column_in levels) word)) ∙ comma_line levels (codes "  " ++ word) h
 
 line_deep : (levels : List OpenLevel) (word : Text) → are_ascii word ≡ true
-    → encode_utf8_all (line_at (column_of levels + 2) ++ word) ≡ line_at (length levels * 2) ++ (codes "  " ++ word)
-line_deep levels word h = ap encode_utf8_all (line_deeper (column_of levels) word) ∙ line_bytes levels (codes "  " ++ word) (ascii_all (codes "  " ++ word) h)
+    → encode_utf8_all (line_at (column_in levels + 2) ++ word) ≡ line_at (length levels * 2) ++ (codes "  " ++ word)
+line_deep levels word h = ap encode_utf8_all (line_deeper (column_in levels) word) ∙ line_bytes levels (codes "  " ++ word) (ascii_all (codes "  " ++ word) h)
 
 -- an item, and another one
 pub item_on : (whole : List ℕ) (levels : List OpenLevel) (items : TypedValues) (value : TypedValue) (bytes rest : List ℕ)
     → HasRead whole (items_open items ∷ levels) value bytes → bytes ≡ codes "," ++ (line_at (length levels * 2) ++ (codes "  " ++ rest))
     → IsOpen whole (items_open (values_and items value) ∷ levels) rest
 item_on whole levels items value bytes rest read cut =
-    let column = column_of levels + 2 in
+    let column = column_in levels + 2 in
     let line = line_at column in
     let first = entry_lead (codes "[") (has_no_values items) in
     record {
@@ -80,16 +80,16 @@ pub item_out : (whole : List ℕ) (levels : List OpenLevel) (items : TypedValues
     → HasRead whole (items_open items ∷ levels) value bytes → bytes ≡ codes "," ++ (line_at (length levels * 2) ++ (codes "]" ++ rest))
     → HasRead whole levels (list_value (values_and items value)) rest
 item_out whole levels items value bytes rest read cut =
-    let column = column_of levels + 2 in
+    let column = column_in levels + 2 in
     let line = line_at column in
     let first = entry_lead (codes "[") (has_no_values items) in
     record {
       text =
-          word_read whole bytes rest (codes "," ++ (line_at (length levels * 2) ++ codes "]")) (codes "," ++ (line_at (column_of levels) ++ codes "]"))
+          word_read whole bytes rest (codes "," ++ (line_at (length levels * 2) ++ codes "]")) (codes "," ++ (line_at (column_in levels) ++ codes "]"))
           (opened_text (items_open items ∷ levels) ++ value_text column value) read.text (cut ∙ parts (line_at (length levels * 2)) rest)
           (comma_line levels (codes "]") refl)
           ∙ ap (λ t. encode_utf8_all t ++ rest)
-          (regroup (opened_text levels) (items_text column items) first line (value_text column value) (line_at (column_of levels)));
+          (regroup (opened_text levels) (items_text column items) first line (value_text column value) (line_at (column_in levels)));
       outer = read.outer.0;
       readable = (read.outer.1.0, (read.outer.1.1, read.readable));
     }
@@ -107,7 +107,7 @@ pub key_on : (whole : List ℕ) (levels : List OpenLevel) (pairs : TypedPairs) (
     → HasRead whole (pairs_open pairs ∷ levels) key bytes → bytes ≡ line_at (length levels * 2) ++ (codes "  : " ++ rest)
     → IsOpen whole (value_due pairs key ∷ levels) rest
 key_on whole levels pairs key bytes rest read cut =
-    let column = column_of levels + 2 in
+    let column = column_in levels + 2 in
     let line = line_at column in
     let first = entry_lead (codes "{") (has_no_value_pairs pairs) in
     record {
@@ -129,7 +129,7 @@ pub pair_on : (whole : List ℕ) (levels : List OpenLevel) (pairs : TypedPairs) 
     → HasRead whole (value_due pairs key ∷ levels) value bytes → bytes ≡ codes "," ++ (line_at (length levels * 2) ++ (codes "  ? " ++ rest))
     → IsOpen whole (pairs_open (value_pairs_and pairs key value) ∷ levels) rest
 pair_on whole levels pairs key value bytes rest read cut =
-    let column = column_of levels + 2 in
+    let column = column_in levels + 2 in
     let line = line_at column in
     let first = entry_lead (codes "{") (has_no_value_pairs pairs) in
     record {
@@ -155,16 +155,16 @@ pub pair_out : (whole : List ℕ) (levels : List OpenLevel) (pairs : TypedPairs)
     → HasRead whole (value_due pairs key ∷ levels) value bytes → bytes ≡ codes "," ++ (line_at (length levels * 2) ++ (codes "}" ++ rest))
     → HasRead whole levels (map_value (value_pairs_and pairs key value)) rest
 pair_out whole levels pairs key value bytes rest read cut =
-    let column = column_of levels + 2 in
+    let column = column_in levels + 2 in
     let line = line_at column in
     let first = entry_lead (codes "{") (has_no_value_pairs pairs) in
     record {
       text =
-          word_read whole bytes rest (codes "," ++ (line_at (length levels * 2) ++ codes "}")) (codes "," ++ (line_at (column_of levels) ++ codes "}"))
+          word_read whole bytes rest (codes "," ++ (line_at (length levels * 2) ++ codes "}")) (codes "," ++ (line_at (column_in levels) ++ codes "}"))
           (opened_text (value_due pairs key ∷ levels) ++ value_text column value) read.text (cut ∙ parts (line_at (length levels * 2)) rest)
           (comma_line levels (codes "}") refl)
           ∙ ap (λ t. encode_utf8_all t ++ rest)
-          (regroup (opened_text levels) (pairs_text column pairs) first line (value_text column key) (value_text column value) (line_at (column_of levels)));
+          (regroup (opened_text levels) (pairs_text column pairs) first line (value_text column key) (value_text column value) (line_at (column_in levels)));
       outer = read.outer.0;
       readable = (read.outer.1.0, (read.outer.1.1.0, (read.outer.1.1.1, read.readable)));
     }
@@ -183,14 +183,14 @@ pub list_in : (whole : List ℕ) (levels : List OpenLevel) (bytes rest : List �
 list_in whole levels bytes rest opened deep cut =
     record {
       text =
-          word_read whole bytes rest (codes "!!seq [" ++ line_at (length levels * 2 + 2)) (codes "!!seq [" ++ line_at (column_of levels + 2))
+          word_read whole bytes rest (codes "!!seq [" ++ line_at (length levels * 2 + 2)) (codes "!!seq [" ++ line_at (column_in levels + 2))
           (opened_text levels) opened.text (cut ∙ sym (append_assoc (codes "!!seq [") (line_at (length levels * 2 + 2)) rest))
-          (word_encoded (codes "!!seq [") (line_at (column_of levels + 2)) refl ∙ ap (λ t. codes "!!seq [" ++ t) line);
+          (word_encoded (codes "!!seq [") (line_at (column_in levels + 2)) refl ∙ ap (λ t. codes "!!seq [" ++ t) line);
       readable = (opened.readable, (deep, tt));
     }
   where
-    line : encode_utf8_all (line_at (column_of levels + 2)) ≡ line_at (length levels * 2 + 2)
-    line = ap encode_utf8_all (sym (append-nil (line_at (column_of levels + 2)))) ∙ deeper_bytes levels [] refl ∙ append-nil (line_at (length levels * 2 + 2))
+    line : encode_utf8_all (line_at (column_in levels + 2)) ≡ line_at (length levels * 2 + 2)
+    line = ap encode_utf8_all (sym (append-nil (line_at (column_in levels + 2)))) ∙ deeper_bytes levels [] refl ∙ append-nil (line_at (length levels * 2 + 2))
 
 -- into a map
 pub map_in : (whole : List ℕ) (levels : List OpenLevel) (bytes rest : List ℕ) → IsOpen whole levels bytes → length levels < most_nested
@@ -199,19 +199,19 @@ map_in whole levels bytes rest opened deep cut =
     record {
       text =
           word_read whole bytes rest (codes "!!map {" ++ (line_at (length levels * 2 + 2) ++ codes "? "))
-          (codes "!!map {" ++ (line_at (column_of levels + 2) ++ codes "? ")) (opened_text levels) opened.text
+          (codes "!!map {" ++ (line_at (column_in levels + 2) ++ codes "? ")) (opened_text levels) opened.text
           (cut ∙ sym (append_assoc (codes "!!map {") (line_at (length levels * 2 + 2) ++ codes "? ") rest))
-          (word_encoded (codes "!!map {") (line_at (column_of levels + 2) ++ codes "? ") refl
+          (word_encoded (codes "!!map {") (line_at (column_in levels + 2) ++ codes "? ") refl
           ∙ ap (λ t. codes "!!map {" ++ t) (deeper_bytes levels (codes "? ") (ascii_all (codes "? ") refl)));
       readable = (opened.readable, (deep, tt));
     }
 
 -- a value on its line
 pub value_in : (whole : List ℕ) (levels : List OpenLevel) (value : TypedValue) (bytes rest : List ℕ) → IsOpen whole levels bytes
-    → bytes ≡ encode_utf8_all (value_text (column_of levels) value) ++ rest → CanBeReadAt (length levels) value → HasRead whole levels value rest
+    → bytes ≡ encode_utf8_all (value_text (column_in levels) value) ++ rest → CanBeReadAt (length levels) value → HasRead whole levels value rest
 value_in whole levels value bytes rest opened cut readable =
     record {
-      text = word_read whole bytes rest (encode_utf8_all (value_text (column_of levels) value)) (value_text (column_of levels) value) (opened_text levels)
+      text = word_read whole bytes rest (encode_utf8_all (value_text (column_in levels) value)) (value_text (column_in levels) value) (opened_text levels)
           opened.text cut refl;
       outer = opened.readable;
       readable = readable;

@@ -11,7 +11,7 @@ use Rattle.yaml_read.specs.Grammar.{behind_value, node}
 use Rattle.yaml_read.specs.Opened.{HasRead, IsOpen, opened_text}
 use Rattle.yaml_read.specs.Places.{BreaksOff}
 use Rattle.yaml_read.specs.Readable.{CanBeReadAt}
-use Rattle.yaml_read.specs.Remaining.{Completes, OpenLevel, column_of, item_follows, items_open, list_ends, map_ends, pair_follows, pairs_open, text_ends}
+use Rattle.yaml_read.specs.Remaining.{Completes, OpenLevel, column_in, item_follows, items_open, list_ends, map_ends, pair_follows, pairs_open, text_ends}
 use Rattle.yaml_read.specs.Remaining.{value_due, value_follows}
 use Rattle.yaml_read.specs.TextsAndWords.{BeginsValue}
 use Rattle.yaml_read.proofs.Encoded.{word_encoded}
@@ -26,15 +26,15 @@ abbrev IsText : (whole : List ℕ) → (root : TypedValue) → Type 0
 IsText whole root = (whole ≡ encode_utf8_all (value_text 0 root ++ line_feed ∷ [])) × CanBeReadAt 0 root
 
 value_next : (whole : List ℕ) (levels : List OpenLevel) (value : TypedValue) (rest : Text)
-    → IsOpen whole levels (encode_utf8_all (value_text (column_of levels) value ++ rest)) → CanBeReadAt (length levels) value
+    → IsOpen whole levels (encode_utf8_all (value_text (column_in levels) value ++ rest)) → CanBeReadAt (length levels) value
     → HasRead whole levels value (encode_utf8_all rest)
 value_next whole levels value rest opened readable =
-    value_in whole levels value (encode_utf8_all (value_text (column_of levels) value ++ rest)) (encode_utf8_all rest) opened
-    (encodes-append (value_text (column_of levels) value) rest) readable
+    value_in whole levels value (encode_utf8_all (value_text (column_in levels) value ++ rest)) (encode_utf8_all rest) opened
+    (encodes-append (value_text (column_in levels) value) rest) readable
 
 -- the bytes of a comma, a line and a bracket
 closing_bytes : (levels : List OpenLevel) (bracket rest text : Text) → encode_utf8_all (bracket ++ rest) ≡ bracket ++ encode_utf8_all rest
-    → text ≡ codes "," ++ (line_at (column_of levels) ++ (bracket ++ rest))
+    → text ≡ codes "," ++ (line_at (column_in levels) ++ (bracket ++ rest))
     → encode_utf8_all text ≡ codes "," ++ (line_at (length levels * 2) ++ (bracket ++ encode_utf8_all rest))
 closing_bytes levels bracket rest text ascii is =
     ap encode_utf8_all is ∙ comma_line levels (bracket ++ rest) ∙ ap (λ t. codes "," ++ (line_at (length levels * 2) ++ t)) ascii
@@ -45,7 +45,7 @@ completed whole root _ _ _ (text_ends value text same is) read =
     subst (λ (v : TypedValue). IsText whole v) same
     (value_out whole value (encode_utf8_all text) read (ap encode_utf8_all is ∙ word_encoded (codes "\n") [] refl), read.readable)
 completed whole root _ _ _ (item_follows levels items value item rest text readable is more) read =
-    let next = value_text (column_of levels + 2) item ++ rest in
+    let next = value_text (column_in levels + 2) item ++ rest in
     completed whole root (items_open (values_and items value) ∷ levels) item rest more
     (value_next whole (items_open (values_and items value) ∷ levels) item rest
     (item_on whole levels items value (encode_utf8_all text) (encode_utf8_all next) read (ap encode_utf8_all is ∙ comma_deeper levels next)) readable)
@@ -54,12 +54,12 @@ completed whole root _ _ _ (list_ends levels items value rest text is more) read
     (item_out whole levels items value (encode_utf8_all text) (encode_utf8_all rest) read
     (closing_bytes levels (codes "]") rest text (word_encoded (codes "]") rest refl) is))
 completed whole root _ _ _ (value_follows levels pairs key value rest text readable is more) read =
-    let next = value_text (column_of levels + 2) value ++ rest in
+    let next = value_text (column_in levels + 2) value ++ rest in
     completed whole root (value_due pairs key ∷ levels) value rest more
     (value_next whole (value_due pairs key ∷ levels) value rest
     (key_on whole levels pairs key (encode_utf8_all text) (encode_utf8_all next) read (ap encode_utf8_all is ∙ key_line levels next)) readable)
 completed whole root _ _ _ (pair_follows levels pairs key value next rest text readable is more) read =
-    let behind = value_text (column_of levels + 2) next ++ rest in
+    let behind = value_text (column_in levels + 2) next ++ rest in
     completed whole root (pairs_open (value_pairs_and pairs key value) ∷ levels) next rest more
     (value_next whole (pairs_open (value_pairs_and pairs key value) ∷ levels) next rest
     (pair_on whole levels pairs key value (encode_utf8_all text) (encode_utf8_all behind) read
@@ -95,9 +95,9 @@ pub node_place : (whole : List ℕ) (levels : List OpenLevel) (bytes : List ℕ)
 node_place whole levels bytes left opened room breaks =
     let begins = node_words levels (breaks.read ++ breaks.due ∷ breaks.more) room breaks.begins in
     let closed = closing levels begins.value in
-    let value = encode_utf8_all (value_text (column_of levels) begins.value) in
+    let value = encode_utf8_all (value_text (column_in levels) begins.value) in
     let opens = encode_utf8_all (opened_text levels) in
-    let other = opens ++ encode_utf8_all (value_text (column_of levels) begins.value ++ closed.text) in
+    let other = opens ++ encode_utf8_all (value_text (column_in levels) begins.value ++ closed.text) in
     let after = flat (breaks.due ∷ breaks.more) ++ begins.rest in
     let text = completed other closed.root levels begins.value closed.text closed.completes
     (value_next other levels begins.value closed.text (record { text = refl; readable = opened.readable }) begins.readable) in
@@ -109,7 +109,7 @@ node_place whole levels bytes left opened room breaks =
           sym text.0
           ∙ shared opens whole other breaks.read breaks.rest (after ++ encode_utf8_all closed.text) left
           (opened.text ∙ ap (λ b. opens ++ b) breaks.parts) breaks.place
-          (ap (λ b. opens ++ b) (encodes-append (value_text (column_of levels) begins.value) closed.text
+          (ap (λ b. opens ++ b) (encodes-append (value_text (column_in levels) begins.value) closed.text
           ∙ ap (λ b. b ++ encode_utf8_all closed.text) (words_apart breaks.read (breaks.due ∷ breaks.more) value begins.rest begins.is)
           ∙ append_assoc (flat breaks.read) after (encode_utf8_all closed.text)));
     }
@@ -119,7 +119,7 @@ pub behind_place : (whole : List ℕ) (levels : List OpenLevel) (value : TypedVa
     → BreaksOff (behind_value levels) bytes left → BeginsValue (take (length whole - left) whole)
 behind_place whole levels value bytes left read breaks =
     let goes = behind_words levels value (breaks.read ++ breaks.due ∷ breaks.more) breaks.begins in
-    let front = encode_utf8_all (opened_text levels ++ value_text (column_of levels) value) in
+    let front = encode_utf8_all (opened_text levels ++ value_text (column_in levels) value) in
     let other = front ++ encode_utf8_all goes.text in
     let after = flat (breaks.due ∷ breaks.more) ++ goes.rest in
     let text = completed other goes.root levels value goes.text goes.completes

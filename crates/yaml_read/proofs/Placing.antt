@@ -3,14 +3,14 @@ use Rattle.yaml_base.proofs.Common.{ℕ, ◌-◌, None, List, [], ◌++◌, refl
 use Rattle.std.specs.Str.{IsUtf8, IsValidUpTo}
 use Rattle.yaml_read.specs.Errors.{Tells}
 use Rattle.yaml_read.specs.Places.{HasPlaceOf, IsHere, IsNotCanonicalAt, IsPlaced, StopsAt, StopsIn}
-use Rattle.yaml_read.specs.Words.{behind}
+use Rattle.yaml_read.specs.Words.{past_word}
 use Rattle.yaml_read.specs.declared.errors.ReadError.{ReadError}
 use Rattle.yaml_read.specs.declared.errors.ReadError.TheVariants as told
 use Rattle.yaml_read.specs.declared.errors.Stop.{Stop}
 use Rattle.yaml_read.specs.declared.errors.Stop.TheVariants as stop
 
 -- a document's first line is missing
-pub marker_stops : (bytes : List ℕ) (error : Stop) → behind (codes "---\n") bytes ≡ None → IsHere bytes error → StopsAt bytes error
+pub marker_stops : (bytes : List ℕ) (error : Stop) → past_word (codes "---\n") bytes ≡ None → IsHere bytes error → StopsAt bytes error
 marker_stops bytes error none place =
     subst (StopsAt bytes) (sym place)
     (inl (record {
@@ -21,7 +21,7 @@ marker_stops bytes error none place =
       due = codes "---\n";
       more = [];
       begins = (refl, tt);
-      none = λ next after is. subst (λ (w : List ℕ). behind w bytes ≡ None) (sym is.0) none;
+      none = λ next after is. subst (λ (w : List ℕ). past_word w bytes ≡ None) (sym is.0) none;
     }))
 
 -- behind a document's first line

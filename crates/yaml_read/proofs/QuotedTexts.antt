@@ -8,13 +8,14 @@ use Rattle.yaml_base.specs.Seen.{seen_text}
 use Rattle.std.specs.Borrow.{Bor}
 use Rattle.std.proofs.lemmas.List.{append_cancel_left}
 use Rattle.std.proofs.lemmas.Str.{encode_same, encodes-append, encode_ascii}
-use Rattle.yaml_base.specs.scalars.DoubleQuoted.{needs_escape, quote, backslash}
+use Rattle.yaml_base.specs.scalars.DoubleQuoted.{needs_escape, quote}
 use Rattle.yaml_base.specs.values.ValueText.{in_quotes}
+use Rattle.yaml_base.specs.Characters.{backslash}
 use Rattle.yaml_read.proofs.Encoded.{word_encoded}
 use Rattle.yaml_read.proofs.Escapes.{Stands, as_itself, as_escape, stands}
 use Rattle.yaml_read.proofs.Words.{no_word}
 use Rattle.yaml_read.specs.Heads.{ReadsCharacter}
-use Rattle.yaml_read.specs.Words.{behind}
+use Rattle.yaml_read.specs.Words.{past_word}
 
 -- the characters between quotes, the closing quote, and a rest
 abbrev pub to_quote : Text → Text → Text
@@ -49,12 +50,12 @@ reads_first whole bytes is =
           };
     }
 
-no_opening : (whole bytes : List ℕ) (text rest : Text) → whole ≡ encode_utf8_all (in_quotes text ++ rest) → behind (codes "\"") whole ≡ None → ⊥
+no_opening : (whole bytes : List ℕ) (text rest : Text) → whole ≡ encode_utf8_all (in_quotes text ++ rest) → past_word (codes "\"") whole ≡ None → ⊥
 no_opening whole bytes text rest is none =
     no_word (codes "\"") whole _ none (is ∙ word_encoded (codes "\"") ((flat_map (character_text true) text ++ quote ∷ []) ++ rest) refl)
 
 -- a text between quotes begins with a quote
-pub opening_there : (whole : List ℕ) (text rest : Text) → whole ≡ encode_utf8_all (in_quotes text ++ rest) → behind (codes "\"") whole ≡ None → ⊥
+pub opening_there : (whole : List ℕ) (text rest : Text) → whole ≡ encode_utf8_all (in_quotes text ++ rest) → past_word (codes "\"") whole ≡ None → ⊥
 opening_there whole text rest is none = no_opening whole [] text rest is none
 
 -- no character's text begins with a quote
@@ -94,7 +95,7 @@ scalar_first c b h = and_true _ (and_parts _ _ h).0
 
 -- a character is read where the text doesn't end
 pub left_next : (text rest : Text) (value bytes : List ℕ) (found : Option (ℕ × Bor (List ℕ))) → Left text rest value bytes
-    → all_scalars text ≡ true → behind (codes "\"") bytes ≡ None → ReadsCharacter bytes found
+    → all_scalars text ≡ true → past_word (codes "\"") bytes ≡ None → ReadsCharacter bytes found
     → MatchOption found ⊥ (λ found. Left text rest (value ++ encode_utf8 found.0) found.1.now)
 left_next text rest value bytes found left scalars none reads = by left.todo left.parts left.bytes_are
   where
@@ -122,7 +123,7 @@ left_next text rest value bytes found left scalars none reads = by left.todo lef
         (is ∙ ap encode_utf8_all (append_assoc (character_text true c) (flat_map (character_text true) todo) (quote ∷ rest))))
 
 -- a character more
-pub reads_more : (whole value bytes : List ℕ) (found : Option (ℕ × Bor (List ℕ))) → ReadsOn whole value bytes → behind (codes "\"") bytes ≡ None
+pub reads_more : (whole value bytes : List ℕ) (found : Option (ℕ × Bor (List ℕ))) → ReadsOn whole value bytes → past_word (codes "\"") bytes ≡ None
     → ReadsCharacter bytes found → (text rest : Text) → all_scalars text ≡ true → whole ≡ encode_utf8_all (in_quotes text ++ rest)
     → MatchOption found ⊥ (λ found. Left text rest (value ++ encode_utf8 found.0) found.1.now)
 reads_more whole value bytes found on none reads text rest scalars is =

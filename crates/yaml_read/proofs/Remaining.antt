@@ -6,7 +6,7 @@ use Rattle.yaml_base.specs.values.TypedValues.{values_and, TypedPairs, no_value_
 use Rattle.yaml_base.specs.values.TypedValues.{nesting, values_nesting, value_pairs_nesting, most_nested}
 use Rattle.yaml_base.specs.values.ValueText.{line_at, value_text, items_text, pairs_text}
 use Rattle.yaml_read.specs.Readable.{HasScalarTexts, HaveScalarTexts, PairsHaveScalarTexts, CanBeRead, CanBeReadAt, AllCanBeReadAt, PairsCanBeReadAt}
-use Rattle.yaml_read.specs.Remaining.{OpenLevel, items_open, pairs_open, value_due, column_of, Completes, item_follows}
+use Rattle.yaml_read.specs.Remaining.{OpenLevel, items_open, pairs_open, value_due, column_in, Completes, item_follows}
 use Rattle.yaml_read.specs.Remaining.{value_follows, pair_follows}
 
 -- ---- readable values
@@ -88,12 +88,12 @@ pub record Begins (root : TypedValue) (levels : List OpenLevel) (text : Text) : 
   pub value : TypedValue
   pub rest : Text
   pub readable : CanBeReadAt (length levels) value
-  pub text_is : text ≡ value_text (column_of levels) value ++ rest
+  pub text_is : text ≡ value_text (column_in levels) value ++ rest
   pub completes : Completes root levels value rest
 
 pub items_begin : (root : TypedValue) (levels : List OpenLevel) (items : TypedValues) (item : TypedValue) (rest : Text)
     → AllCanBeReadAt (suc (length levels)) (values_and items item) → Completes root (items_open items ∷ levels) item rest
-    → Begins root (items_open no_values ∷ levels) (items_behind (column_of levels + 2) items item rest)
+    → Begins root (items_open no_values ∷ levels) (items_behind (column_in levels + 2) items item rest)
 items_begin root levels no_values item rest readable completes =
     record { value = item; rest = rest; readable = readable.1; text_is = refl; completes = completes }
 items_begin root levels (values_and items last) item rest readable completes =
@@ -101,11 +101,11 @@ items_begin root levels (values_and items last) item rest readable completes =
 
 pub pairs_begin : (root : TypedValue) (levels : List OpenLevel) (pairs : TypedPairs) (key value : TypedValue) (rest : Text)
     → PairsCanBeReadAt (suc (length levels)) (value_pairs_and pairs key value) → Completes root (value_due pairs key ∷ levels) value rest
-    → Begins root (pairs_open no_value_pairs ∷ levels) (pairs_behind (column_of levels + 2) pairs key value rest)
+    → Begins root (pairs_open no_value_pairs ∷ levels) (pairs_behind (column_in levels + 2) pairs key value rest)
 pairs_begin root levels no_value_pairs key value rest readable completes =
     record {
       value = key;
-      rest = line_at (column_of levels + 2) ++ (codes ": " ++ (value_text (column_of levels + 2) value ++ rest));
+      rest = line_at (column_in levels + 2) ++ (codes ": " ++ (value_text (column_in levels + 2) value ++ rest));
       readable = readable.1.0;
       text_is = refl;
       completes = value_follows levels no_value_pairs key value rest _ readable.1.1 refl completes;

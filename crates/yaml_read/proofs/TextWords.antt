@@ -9,11 +9,11 @@ use Rattle.yaml_base.specs.scalars.DoubleQuoted.{quote}
 use Rattle.yaml_base.specs.values.TypedValues.{TypedValue, TypedValues, TypedPairs, null_value, bool_value, int_value, text_value, list_value, map_value}
 use Rattle.yaml_base.specs.values.TypedValues.{bool_text, most_nested, no_value_pairs, no_values, value_pairs_and, values_and}
 use Rattle.yaml_base.specs.values.ValueText.{in_quotes, line_at, value_text}
-use Rattle.yaml_read.specs.Grammar.{behind_tag, behind_value, characters, either, entry_end, integer, levels_then, line_then, node, nothing}
+use Rattle.yaml_read.specs.Grammar.{behind_tag, behind_value, characters, these_or_those, entry_end, integer, levels_then, line_then, node, nothing}
 use Rattle.yaml_read.specs.Grammar.{quoted_text, truth, unless_deep, word_then}
 use Rattle.yaml_read.specs.Heads.{tag_word}
 use Rattle.yaml_read.specs.Readable.{CanBeReadAt}
-use Rattle.yaml_read.specs.Remaining.{IsDue, IsRead, OpenLevel, column_of, items_open, pairs_open, value_due}
+use Rattle.yaml_read.specs.Remaining.{IsDue, IsRead, OpenLevel, column_in, items_open, pairs_open, value_due}
 use Rattle.yaml_read.specs.TextsAndWords.{BeginsWith}
 use Rattle.yaml_read.specs.declared.heads.Kind.{Kind}
 use Rattle.yaml_read.specs.declared.heads.Kind.TheVariants as kind
@@ -100,50 +100,51 @@ truth_goes false rest =
 
 -- the line of the first entry
 pub entry_line : (levels : List OpenLevel) (rest : Text)
-    → encode_utf8_all (line_at (column_of levels + 2) ++ rest) ≡ line_at (suc (length levels) * 2) ++ encode_utf8_all rest
+    → encode_utf8_all (line_at (column_in levels + 2) ++ rest) ≡ line_at (suc (length levels) * 2) ++ encode_utf8_all rest
 entry_line levels rest =
-    line_encoded (column_of levels + 2) rest ∙ ap (λ n. line_at n ++ encode_utf8_all rest) (column_is (items_open no_values ∷ levels))
+    line_encoded (column_in levels + 2) rest ∙ ap (λ n. line_at n ++ encode_utf8_all rest) (column_is (items_open no_values ∷ levels))
 
 list_goes : (levels : List OpenLevel) (items : TypedValues) (rest : Text) → length levels < most_nested
-    → BeginsWith (behind_tag (length levels) kind.List) (encode_utf8_all (list_tail (column_of levels) items rest))
+    → BeginsWith (behind_tag (length levels) kind.List) (encode_utf8_all (list_tail (column_in levels) items rest))
 list_goes levels no_values rest room =
     let ends = word_then (codes "]") nothing in
     let goes = line_then (suc (length levels)) nothing in
-    word_goes (unless_deep (length levels) (either ends goes)) (codes "[") (encode_utf8_all (codes "[]" ++ rest)) (encode_utf8_all (codes "]" ++ rest))
+    word_goes (unless_deep (length levels) (these_or_those ends goes)) (codes "[") (encode_utf8_all (codes "[]" ++ rest)) (encode_utf8_all (codes "]" ++ rest))
     (word_encoded (codes "[") (codes "]" ++ rest) refl)
-    (goes_as ends (unless_deep (length levels) (either ends goes)) (encode_utf8_all (codes "]" ++ rest)) (λ words these. inl (room, inl these))
+    (goes_as ends (unless_deep (length levels) (these_or_those ends goes)) (encode_utf8_all (codes "]" ++ rest)) (λ words these. inl (room, inl these))
     (word_goes nothing (codes "]") (encode_utf8_all (codes "]" ++ rest)) (encode_utf8_all rest) (word_encoded (codes "]") rest refl)
     (nothing_goes (encode_utf8_all rest))))
 list_goes levels (values_and items item) rest room =
     let ends = word_then (codes "]") nothing in
     let goes = line_then (suc (length levels)) nothing in
-    let column = column_of levels in
+    let column = column_in levels in
     let inside = items_behind (column + 2) items item (codes "," ++ (line_at column ++ (codes "]" ++ rest))) in
     let line = encode_utf8_all (line_at (column + 2) ++ inside) in
-    word_goes (unless_deep (length levels) (either ends goes)) (codes "[") (encode_utf8_all (list_tail column (values_and items item) rest)) line
+    word_goes (unless_deep (length levels) (these_or_those ends goes)) (codes "[") (encode_utf8_all (list_tail column (values_and items item) rest)) line
     (word_encoded (codes "[") (line_at (column + 2) ++ inside) refl)
-    (goes_as goes (unless_deep (length levels) (either ends goes)) line (λ words these. inl (room, inr these))
+    (goes_as goes (unless_deep (length levels) (these_or_those ends goes)) line (λ words these. inl (room, inr these))
     (line_goes (suc (length levels)) nothing line (encode_utf8_all inside) (entry_line levels inside) (nothing_goes (encode_utf8_all inside))))
 
 map_goes : (levels : List OpenLevel) (pairs : TypedPairs) (rest : Text) → length levels < most_nested
-    → BeginsWith (behind_tag (length levels) kind.Map) (encode_utf8_all (map_tail (column_of levels) pairs rest))
+    → BeginsWith (behind_tag (length levels) kind.Map) (encode_utf8_all (map_tail (column_in levels) pairs rest))
 map_goes levels no_value_pairs rest room =
     let ends = word_then (codes "}") nothing in
     let goes = line_then (suc (length levels)) (word_then (codes "? ") nothing) in
-    word_goes (unless_deep (length levels) (either ends goes)) (codes "{") (encode_utf8_all (codes "{}" ++ rest)) (encode_utf8_all (codes "}" ++ rest))
+    word_goes (unless_deep (length levels) (these_or_those ends goes)) (codes "{") (encode_utf8_all (codes "{}" ++ rest)) (encode_utf8_all (codes "}" ++ rest))
     (word_encoded (codes "{") (codes "}" ++ rest) refl)
-    (goes_as ends (unless_deep (length levels) (either ends goes)) (encode_utf8_all (codes "}" ++ rest)) (λ words these. inl (room, inl these))
+    (goes_as ends (unless_deep (length levels) (these_or_those ends goes)) (encode_utf8_all (codes "}" ++ rest)) (λ words these. inl (room, inl these))
     (word_goes nothing (codes "}") (encode_utf8_all (codes "}" ++ rest)) (encode_utf8_all rest) (word_encoded (codes "}") rest refl)
     (nothing_goes (encode_utf8_all rest))))
 map_goes levels (value_pairs_and pairs key value) rest room =
     let ends = word_then (codes "}") nothing in
     let goes = line_then (suc (length levels)) (word_then (codes "? ") nothing) in
-    let column = column_of levels in
+    let column = column_in levels in
     let inside = pairs_behind (column + 2) pairs key value (codes "," ++ (line_at column ++ (codes "}" ++ rest))) in
     let line = encode_utf8_all (line_at (column + 2) ++ (codes "? " ++ inside)) in
-    word_goes (unless_deep (length levels) (either ends goes)) (codes "{") (encode_utf8_all (map_tail column (value_pairs_and pairs key value) rest)) line
+    word_goes (unless_deep (length levels) (these_or_those ends goes)) (codes "{")
+    (encode_utf8_all (map_tail column (value_pairs_and pairs key value) rest)) line
     (word_encoded (codes "{") (line_at (column + 2) ++ (codes "? " ++ inside)) refl)
-    (goes_as goes (unless_deep (length levels) (either ends goes)) line (λ words these. inl (room, inr these))
+    (goes_as goes (unless_deep (length levels) (these_or_those ends goes)) line (λ words these. inl (room, inr these))
     (line_goes (suc (length levels)) (word_then (codes "? ") nothing) line (encode_utf8_all (codes "? " ++ inside)) (entry_line levels (codes "? " ++ inside))
     (word_goes nothing (codes "? ") (encode_utf8_all (codes "? " ++ inside)) (encode_utf8_all inside) (word_encoded (codes "? ") inside refl)
     (nothing_goes (encode_utf8_all inside)))))
@@ -155,15 +156,15 @@ tag_goes : (depth : ℕ) (k : Kind) (bytes rest : List ℕ) → bytes ≡ tag_wo
 tag_goes depth k bytes rest is goes = goes_on (node depth) (behind_tag depth k) (tag_word k) bytes rest (λ words more. (k, (refl, more))) is goes
 
 tail_goes : (levels : List OpenLevel) (k : Kind) (value : TypedValue) (rest : Text) → value_word value ≡ tag_word k
-    → BeginsWith (behind_tag (length levels) k) (encode_utf8_all (value_tail (column_of levels) value rest))
-    → BeginsWith (node (length levels)) (encode_utf8_all (value_text (column_of levels) value ++ rest))
+    → BeginsWith (behind_tag (length levels) k) (encode_utf8_all (value_tail (column_in levels) value rest))
+    → BeginsWith (node (length levels)) (encode_utf8_all (value_text (column_in levels) value ++ rest))
 tail_goes levels k value rest same goes =
-    let tail = encode_utf8_all (value_tail (column_of levels) value rest) in
-    tag_goes (length levels) k (encode_utf8_all (value_text (column_of levels) value ++ rest)) tail
-    (value_bytes (column_of levels) value rest ∙ ap (λ w. w ++ tail) same) goes
+    let tail = encode_utf8_all (value_tail (column_in levels) value rest) in
+    tag_goes (length levels) k (encode_utf8_all (value_text (column_in levels) value ++ rest)) tail
+    (value_bytes (column_in levels) value rest ∙ ap (λ w. w ++ tail) same) goes
 
 node_goes : (levels : List OpenLevel) (value : TypedValue) (rest : Text) → CanBeReadAt (length levels) value
-    → BeginsWith (node (length levels)) (encode_utf8_all (value_text (column_of levels) value ++ rest))
+    → BeginsWith (node (length levels)) (encode_utf8_all (value_text (column_in levels) value ++ rest))
 node_goes levels null_value rest readable =
     tail_goes levels kind.Null null_value rest refl
     (word_goes nothing (codes "\"null\"") (encode_utf8_all (codes "\"null\"" ++ rest)) (encode_utf8_all rest) (word_encoded (codes "\"null\"") rest refl)
@@ -181,17 +182,18 @@ due_words root levels bytes due = subst (BeginsWith (node (length levels))) (sym
 -- ---- behind a node
 
 lead_goes : (lead end : List ℕ) (Due Read : List ℕ → Type 0) (tail : List ℕ) → Leads lead end Due Read tail
-    → BeginsWith (either (word_then lead nothing) (word_then end nothing)) tail
+    → BeginsWith (these_or_those (word_then lead nothing) (word_then end nothing)) tail
 lead_goes lead end Due Read tail (leads_on rest is due) =
-    goes_on (either (word_then lead nothing) (word_then end nothing)) nothing lead tail rest (λ words more. inl (refl, more)) is (nothing_goes rest)
+    goes_on (these_or_those (word_then lead nothing) (word_then end nothing)) nothing lead tail rest (λ words more. inl (refl, more)) is (nothing_goes rest)
 lead_goes lead end Due Read tail (leads_out rest is none read) =
-    goes_on (either (word_then lead nothing) (word_then end nothing)) nothing end tail rest (λ words more. inr (refl, more)) is (nothing_goes rest)
+    goes_on (these_or_those (word_then lead nothing) (word_then end nothing)) nothing end tail rest (λ words more. inr (refl, more)) is (nothing_goes rest)
 
 entry_goes : (lead end : List ℕ) (Due Read : List ℕ → Type 0) (depth : ℕ) (bytes : List ℕ) → EntryEnds lead end Due Read depth bytes
     → BeginsWith (entry_end depth lead end) bytes
 entry_goes lead end Due Read depth bytes ends =
-    word_goes (line_then depth (either (word_then lead nothing) (word_then end nothing))) (codes ",") bytes (line_at (depth * 2) ++ ends.tail) ends.bytes_are
-    (line_goes depth (either (word_then lead nothing) (word_then end nothing)) (line_at (depth * 2) ++ ends.tail) ends.tail refl
+    word_goes (line_then depth (these_or_those (word_then lead nothing) (word_then end nothing))) (codes ",") bytes
+    (line_at (depth * 2) ++ ends.tail) ends.bytes_are
+    (line_goes depth (these_or_those (word_then lead nothing) (word_then end nothing)) (line_at (depth * 2) ++ ends.tail) ends.tail refl
     (lead_goes lead end Due Read ends.tail ends.leads))
 
 -- where a value's text goes on behind a node, it goes on with the words that may stand there

@@ -3,7 +3,7 @@ use Rattle.yaml_base.proofs.Common.{List, [], ◌∷◌, subst, sym, map}
 use Rattle.std.specs.String.{string_bytes}
 use Rattle.std.proofs.lemmas.Str.{IsUtf8-string_bytes, scalars-chars}
 use Rattle.yaml_base.specs.values.TypedValues.{TypedValue, TypedValues, no_values, values_and, TypedPairs, no_value_pairs, value_pairs_and}
-use Rattle.yaml_value.specs.SeenValues.{seen_value, seen_level, values_of, pairs_of}
+use Rattle.yaml_value.specs.SeenValues.{seen_value, seen_value_level, values_of, pairs_of}
 use Rattle.yaml_value.specs.declared.value.Value.{Value}
 use Rattle.yaml_value.specs.declared.value.Value.TheFolds.{fold-roll-Value, ind-Value, map-Value}
 use Rattle.yaml_value.specs.declared.value.Value.TheOpen.{Value-F}
@@ -32,7 +32,7 @@ pairs_texts before texts (pair ∷ pairs) =
     pairs_texts (value_pairs_and before (seen_value pair.0.0) (seen_value pair.1.0)) (texts, (pair.0.1, pair.1.1)) pairs
 
 level_texts : {A : Type 0} (level : Value-F A (Held A))
-    → HasScalarTexts (seen_level (map-Value A (Value A) TypedValue seen_value (map-Value A (Held A) (Value A) (λ held. held.0) level)))
+    → HasScalarTexts (seen_value_level (map-Value A (Value A) TypedValue seen_value (map-Value A (Held A) (Value A) (λ held. held.0) level)))
 level_texts Value-F.Null = tt
 level_texts (Value-F.Bool b) = tt
 level_texts (Value-F.Int n) = tt
@@ -45,6 +45,6 @@ pub texts_of : (A : Type 0) (value : Value A) → HasScalarTexts (seen_value val
 texts_of A value =
     ind-Value A (λ value. HasScalarTexts (seen_value value))
     (λ x y is.
-    subst HasScalarTexts (sym (fold-roll-Value A TypedValue seen_level x))
-    (subst (λ level. HasScalarTexts (seen_level (map-Value A (Value A) TypedValue seen_value level))) is (level_texts y)))
+    subst HasScalarTexts (sym (fold-roll-Value A TypedValue seen_value_level x))
+    (subst (λ level. HasScalarTexts (seen_value_level (map-Value A (Value A) TypedValue seen_value level))) is (level_texts y)))
     value

@@ -11,9 +11,9 @@ use Rattle.yaml_value.specs.declared.value.Value.{Value}
 use Rattle.yaml_value.specs.declared.value.Value as declared
 use Rattle.yaml_read.specs.Entries.{EntryFound}
 use Rattle.yaml_read.specs.Readable.{CanBeRead, CanBeReadAt}
-use Rattle.yaml_read.specs.Remaining.{OpenLevel, items_open, pairs_open, value_due, column_of, Completes, text_ends, item_follows, list_ends}
+use Rattle.yaml_read.specs.Remaining.{OpenLevel, items_open, pairs_open, value_due, column_in, Completes, text_ends, item_follows, list_ends}
 use Rattle.yaml_read.specs.Remaining.{value_follows, pair_follows, map_ends, IsDue, IsRead, seen_level, seen_levels, is_nested, TurnReached, Reached}
-use Rattle.yaml_read.specs.Words.{behind, OpensAt}
+use Rattle.yaml_read.specs.Words.{past_word, OpensAt}
 use Rattle.yaml_read.specs.declared.errors.Stop.{Stop}
 use Rattle.yaml_read.specs.declared.errors.Stop.TheVariants as stop
 use Rattle.yaml_read.specs.declared.heads.Kind.TheVariants as kind
@@ -32,7 +32,7 @@ cut_is word text rest tail is also = append_cancel_left word rest tail (sym is �
 
 -- ---- columns
 
-pub column_is : (levels : List OpenLevel) → column_of levels ≡ length levels * 2
+pub column_is : (levels : List OpenLevel) → column_in levels ≡ length levels * 2
 column_is [] = refl
 column_is (level ∷ levels) = ap (λ n. n + 2) (column_is levels) ∙ twice (length levels)
   where
@@ -55,7 +55,7 @@ EntryReached Due Read (Err stop) = ⊥
 -- what stands where an entry ends: the lead of another one, or the end
 pub data Leads (lead end : List ℕ) (Due Read : List ℕ → Type 0) (tail : List ℕ) : Type 0 where
   leads_on : (rest : List ℕ) → tail ≡ lead ++ rest → Due rest → Leads lead end Due Read tail
-  leads_out : (rest : List ℕ) → tail ≡ end ++ rest → behind lead tail ≡ None → Read rest → Leads lead end Due Read tail
+  leads_out : (rest : List ℕ) → tail ≡ end ++ rest → past_word lead tail ≡ None → Read rest → Leads lead end Due Read tail
 
 pub entry_reached : (lead end : List ℕ) (Due Read : List ℕ → Type 0) (tail : List ℕ) (entry : Result Entry Stop)
     → Leads lead end Due Read tail → EntryFound lead end tail entry → EntryReached Due Read entry
@@ -74,16 +74,16 @@ pub record EntryEnds (lead end : List ℕ) (Due Read : List ℕ → Type 0) (dep
 
 -- bytes of a comma, a line and a rest
 pub comma_line : (levels : List OpenLevel) (rest : Text)
-    → encode_utf8_all (codes "," ++ (line_at (column_of levels) ++ rest)) ≡ codes "," ++ (line_at (length levels * 2) ++ encode_utf8_all rest)
+    → encode_utf8_all (codes "," ++ (line_at (column_in levels) ++ rest)) ≡ codes "," ++ (line_at (length levels * 2) ++ encode_utf8_all rest)
 comma_line levels rest =
-    word_encoded (codes ",") (line_at (column_of levels) ++ rest) refl
-    ∙ ap (λ t. codes "," ++ t) (line_encoded (column_of levels) rest ∙ ap (λ n. line_at n ++ encode_utf8_all rest) (column_is levels))
+    word_encoded (codes ",") (line_at (column_in levels) ++ rest) refl
+    ∙ ap (λ t. codes "," ++ t) (line_encoded (column_in levels) rest ∙ ap (λ n. line_at n ++ encode_utf8_all rest) (column_is levels))
 
 pub comma_deeper : (levels : List OpenLevel) (rest : Text)
-    → encode_utf8_all (codes "," ++ (line_at (column_of levels + 2) ++ rest))
+    → encode_utf8_all (codes "," ++ (line_at (column_in levels + 2) ++ rest))
     ≡ codes "," ++ (line_at (length levels * 2) ++ (codes "  " ++ encode_utf8_all rest))
 comma_deeper levels rest =
-    ap encode_utf8_all (ap (λ t. codes "," ++ t) (line_deeper (column_of levels) rest)) ∙ comma_line levels (codes "  " ++ rest)
+    ap encode_utf8_all (ap (λ t. codes "," ++ t) (line_deeper (column_in levels) rest)) ∙ comma_line levels (codes "  " ++ rest)
     ∙ ap (λ t. codes "," ++ (line_at (length levels * 2) ++ t)) (word_encoded (codes "  ") rest refl)
 
 ends_with : (lead end : List ℕ) (Due Read : List ℕ → Type 0) (levels : List OpenLevel) (bytes tail : List ℕ)
@@ -101,7 +101,7 @@ item_ends_by root levels items value bytes text is (item_follows _ _ _ item rest
 item_ends_by root levels items value bytes text is (list_ends _ _ _ rest _ text_is completes) =
     ends_with (codes "  ") (codes "]") (IsDue root (items_open (values_and items value) ∷ levels)) (IsRead root levels (list_value (values_and items value)))
     levels bytes _ (is ∙ ap encode_utf8_all text_is ∙ comma_line levels _)
-    (leads_out (encode_utf8_all rest) (word_encoded (codes "]") rest refl) (ap (behind (codes "  ")) (word_encoded (codes "]") rest refl))
+    (leads_out (encode_utf8_all rest) (word_encoded (codes "]") rest refl) (ap (past_word (codes "  ")) (word_encoded (codes "]") rest refl))
     (record { rest = rest; text = refl; completes = completes }))
 
 -- behind an item
@@ -125,7 +125,7 @@ pair_ends_by root levels pairs key value bytes text is (map_ends _ _ _ _ rest _ 
     ends_with (codes "  ? ") (codes "}") (IsDue root (pairs_open (value_pairs_and pairs key value) ∷ levels))
     (IsRead root levels (map_value (value_pairs_and pairs key value)))
     levels bytes _ (is ∙ ap encode_utf8_all text_is ∙ comma_line levels _)
-    (leads_out (encode_utf8_all rest) (word_encoded (codes "}") rest refl) (ap (behind (codes "  ? ")) (word_encoded (codes "}") rest refl))
+    (leads_out (encode_utf8_all rest) (word_encoded (codes "}") rest refl) (ap (past_word (codes "  ? ")) (word_encoded (codes "}") rest refl))
     (record { rest = rest; text = refl; completes = completes }))
 
 -- behind the value of a pair
@@ -142,9 +142,9 @@ pub record KeyEnds (root : TypedValue) (levels : List OpenLevel) (pairs : TypedP
   pub due : IsDue root (value_due pairs key ∷ levels) tail
 
 pub key_line : (levels : List OpenLevel) (rest : Text)
-    → encode_utf8_all (line_at (column_of levels + 2) ++ (codes ": " ++ rest)) ≡ line_at (length levels * 2) ++ (codes "  : " ++ encode_utf8_all rest)
+    → encode_utf8_all (line_at (column_in levels + 2) ++ (codes ": " ++ rest)) ≡ line_at (length levels * 2) ++ (codes "  : " ++ encode_utf8_all rest)
 key_line levels rest =
-    ap encode_utf8_all (line_deeper (column_of levels) (codes ": " ++ rest)) ∙ line_encoded (column_of levels) (codes "  : " ++ rest)
+    ap encode_utf8_all (line_deeper (column_in levels) (codes ": " ++ rest)) ∙ line_encoded (column_in levels) (codes "  : " ++ rest)
     ∙ ap (λ n. line_at n ++ encode_utf8_all (codes "  : " ++ rest)) (column_is levels)
     ∙ ap (λ t. line_at (length levels * 2) ++ t) (word_encoded (codes "  : ") rest refl)
 
@@ -152,8 +152,8 @@ key_ends_by : (root : TypedValue) (levels : List OpenLevel) (pairs : TypedPairs)
     → bytes ≡ encode_utf8_all text → Completes root (pairs_open pairs ∷ levels) key text → KeyEnds root levels pairs key bytes
 key_ends_by root levels pairs key bytes text is (value_follows _ _ _ value rest _ readable text_is completes) =
     record {
-      tail = encode_utf8_all (value_text (column_of levels + 2) value ++ rest);
-      bytes_are = is ∙ ap encode_utf8_all text_is ∙ key_line levels (value_text (column_of levels + 2) value ++ rest);
+      tail = encode_utf8_all (value_text (column_in levels + 2) value ++ rest);
+      bytes_are = is ∙ ap encode_utf8_all text_is ∙ key_line levels (value_text (column_in levels + 2) value ++ rest);
       due = record { value = value; rest = rest; readable = readable; text = refl; completes = completes };
     }
 
@@ -182,13 +182,13 @@ begins_due root levels text begins =
     record { value = begins.value; rest = begins.rest; readable = begins.readable; text = ap encode_utf8_all begins.text_is; completes = begins.completes }
 
 line_bytes : (levels : List OpenLevel) (rest : Text)
-    → encode_utf8_all (line_at (column_of levels + 2) ++ rest) ≡ line_at (length levels * 2 + 2) ++ encode_utf8_all rest
+    → encode_utf8_all (line_at (column_in levels + 2) ++ rest) ≡ line_at (length levels * 2 + 2) ++ encode_utf8_all rest
 line_bytes levels rest =
-    line_encoded (column_of levels + 2) rest ∙ ap (λ n. line_at (n + 2) ++ encode_utf8_all rest) (column_is levels)
+    line_encoded (column_in levels + 2) rest ∙ ap (λ n. line_at (n + 2) ++ encode_utf8_all rest) (column_is levels)
 
 list_opens_by : (root : TypedValue) (levels : List OpenLevel) (items : TypedValues) (rest : Text) (inside : List ℕ)
     → CanBeReadAt (length levels) (list_value items) → Completes root levels (list_value items) rest
-    → codes "[" ++ inside ≡ encode_utf8_all (list_tail (column_of levels) items rest) → behind (codes "]") inside ≡ None
+    → codes "[" ++ inside ≡ encode_utf8_all (list_tail (column_in levels) items rest) → past_word (codes "]") inside ≡ None
     → Opens root levels (items_open no_values ∷ levels) [] inside
 list_opens_by root levels no_values rest inside readable completes is none =
     absurd (no_word (codes "]") inside (encode_utf8_all rest) none
@@ -196,26 +196,26 @@ list_opens_by root levels no_values rest inside readable completes is none =
 list_opens_by root levels (values_and items item) rest inside readable completes is none =
     record {
       deep = readable.0;
-      tail = encode_utf8_all (items_behind (column_of levels + 2) items item (codes "," ++ (line_at (column_of levels) ++ (codes "]" ++ rest))));
+      tail = encode_utf8_all (items_behind (column_in levels + 2) items item (codes "," ++ (line_at (column_in levels) ++ (codes "]" ++ rest))));
       inside_is = append_cancel_left (codes "[") inside _ (is ∙ word_encoded (codes "[")
-          (line_at (column_of levels + 2)
-          ++ items_behind (column_of levels + 2) items item (codes "," ++ (line_at (column_of levels) ++ (codes "]" ++ rest)))) refl
+          (line_at (column_in levels + 2)
+          ++ items_behind (column_in levels + 2) items item (codes "," ++ (line_at (column_in levels) ++ (codes "]" ++ rest)))) refl
           ∙ ap (λ t. codes "[" ++ t) (line_bytes levels _));
       due = begins_due root (items_open no_values ∷ levels)
-          (items_behind (column_of levels + 2) items item (codes "," ++ (line_at (column_of levels) ++ (codes "]" ++ rest))))
+          (items_behind (column_in levels + 2) items item (codes "," ++ (line_at (column_in levels) ++ (codes "]" ++ rest))))
           (items_begin root levels items item _ readable.1 (list_ends levels items item rest _ refl completes));
     }
 
 pub list_opens : (root : TypedValue) (levels : List OpenLevel) (bytes inside : List ℕ) → IsDue root levels bytes → bytes ≡ codes "!!seq [" ++ inside
-    → behind (codes "]") inside ≡ None → Opens root levels (items_open no_values ∷ levels) [] inside
+    → past_word (codes "]") inside ≡ None → Opens root levels (items_open no_values ∷ levels) [] inside
 list_opens root levels bytes inside due is none =
-    let tail = tail_of kind.List (column_of levels) due.value due.rest bytes (codes "[" ++ inside) due.text is in
+    let tail = tail_of kind.List (column_in levels) due.value due.rest bytes (codes "[" ++ inside) due.text is in
     list_opens_by root levels tail.0 due.rest inside (subst (CanBeReadAt (length levels)) tail.1 due.readable)
     (subst (λ value. Completes root levels value due.rest) tail.1 due.completes) tail.2 none
 
 map_opens_by : (root : TypedValue) (levels : List OpenLevel) (pairs : TypedPairs) (rest : Text) (inside : List ℕ)
     → CanBeReadAt (length levels) (map_value pairs) → Completes root levels (map_value pairs) rest
-    → codes "{" ++ inside ≡ encode_utf8_all (map_tail (column_of levels) pairs rest) → behind (codes "}") inside ≡ None
+    → codes "{" ++ inside ≡ encode_utf8_all (map_tail (column_in levels) pairs rest) → past_word (codes "}") inside ≡ None
     → Opens root levels (pairs_open no_value_pairs ∷ levels) (codes "? ") inside
 map_opens_by root levels no_value_pairs rest inside readable completes is none =
     absurd (no_word (codes "}") inside (encode_utf8_all rest) none
@@ -223,21 +223,21 @@ map_opens_by root levels no_value_pairs rest inside readable completes is none =
 map_opens_by root levels (value_pairs_and pairs key value) rest inside readable completes is none =
     record {
       deep = readable.0;
-      tail = encode_utf8_all (pairs_behind (column_of levels + 2) pairs key value (codes "," ++ (line_at (column_of levels) ++ (codes "}" ++ rest))));
+      tail = encode_utf8_all (pairs_behind (column_in levels + 2) pairs key value (codes "," ++ (line_at (column_in levels) ++ (codes "}" ++ rest))));
       inside_is =
-          let inner = pairs_behind (column_of levels + 2) pairs key value (codes "," ++ (line_at (column_of levels) ++ (codes "}" ++ rest))) in
-          append_cancel_left (codes "{") inside _ (is ∙ word_encoded (codes "{") (line_at (column_of levels + 2) ++ (codes "? " ++ inner)) refl
+          let inner = pairs_behind (column_in levels + 2) pairs key value (codes "," ++ (line_at (column_in levels) ++ (codes "}" ++ rest))) in
+          append_cancel_left (codes "{") inside _ (is ∙ word_encoded (codes "{") (line_at (column_in levels + 2) ++ (codes "? " ++ inner)) refl
           ∙ ap (λ t. codes "{" ++ t)
           (line_bytes levels (codes "? " ++ inner) ∙ ap (λ t. line_at (length levels * 2 + 2) ++ t) (word_encoded (codes "? ") inner refl)));
       due = begins_due root (pairs_open no_value_pairs ∷ levels)
-          (pairs_behind (column_of levels + 2) pairs key value (codes "," ++ (line_at (column_of levels) ++ (codes "}" ++ rest))))
+          (pairs_behind (column_in levels + 2) pairs key value (codes "," ++ (line_at (column_in levels) ++ (codes "}" ++ rest))))
           (pairs_begin root levels pairs key value _ readable.1 (map_ends levels pairs key value rest _ refl completes));
     }
 
 pub map_opens : (root : TypedValue) (levels : List OpenLevel) (bytes inside : List ℕ) → IsDue root levels bytes → bytes ≡ codes "!!map {" ++ inside
-    → behind (codes "}") inside ≡ None → Opens root levels (pairs_open no_value_pairs ∷ levels) (codes "? ") inside
+    → past_word (codes "}") inside ≡ None → Opens root levels (pairs_open no_value_pairs ∷ levels) (codes "? ") inside
 map_opens root levels bytes inside due is none =
-    let tail = tail_of kind.Map (column_of levels) due.value due.rest bytes (codes "{" ++ inside) due.text is in
+    let tail = tail_of kind.Map (column_in levels) due.value due.rest bytes (codes "{" ++ inside) due.text is in
     map_opens_by root levels tail.0 due.rest inside (subst (CanBeReadAt (length levels)) tail.1 due.readable)
     (subst (λ value. Completes root levels value due.rest) tail.1 due.completes) tail.2 none
 

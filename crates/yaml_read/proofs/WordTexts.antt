@@ -8,11 +8,11 @@ use Rattle.yaml_base.specs.scalars.DoubleQuoted.{quote}
 use Rattle.yaml_base.specs.values.TypedValues.{TypedValue, null_value, bool_value, int_value, text_value, list_value, map_value}
 use Rattle.yaml_base.specs.values.TypedValues.{bool_text, most_nested, no_value_pairs, no_values, value_pairs_and, values_and}
 use Rattle.yaml_base.specs.values.ValueText.{in_quotes, line_at, value_text}
-use Rattle.yaml_read.specs.Grammar.{behind_tag, characters, either, levels_then, line_then, node, nothing, quoted_text}
+use Rattle.yaml_read.specs.Grammar.{behind_tag, characters, these_or_those, levels_then, line_then, node, nothing, quoted_text}
 use Rattle.yaml_read.specs.Grammar.{truth, unless_deep, word_then}
 use Rattle.yaml_read.specs.Heads.{tag_word}
 use Rattle.yaml_read.specs.Readable.{CanBeReadAt}
-use Rattle.yaml_read.specs.Remaining.{OpenLevel, column_of}
+use Rattle.yaml_read.specs.Remaining.{OpenLevel, column_in}
 use Rattle.yaml_read.specs.TextsAndWords.{BeginsText}
 use Rattle.yaml_read.specs.declared.heads.Kind.{Kind}
 use Rattle.yaml_read.specs.declared.heads.Kind.TheVariants as kind
@@ -114,13 +114,13 @@ record TailBegins (levels : List OpenLevel) (k : Kind) (words : List (List ℕ))
   pub readable : CanBeReadAt (length levels) value
   pub tagged : value_word value ≡ tag_word k
   pub rest : List ℕ
-  pub is : encode_utf8_all (value_tail (column_of levels) value []) ≡ flat words ++ rest
+  pub is : encode_utf8_all (value_tail (column_in levels) value []) ≡ flat words ++ rest
 
 whole : (text : Text) (words : List (List ℕ)) → flat words ≡ encode_utf8_all text → encode_utf8_all (text ++ []) ≡ flat words ++ []
 whole text words is = ap encode_utf8_all (append-nil text) ∙ sym is ∙ sym (append-nil (flat words))
 
 list_words : (levels : List OpenLevel) (words : List (List ℕ)) → length levels < most_nested
-    → unless_deep (length levels) (either (word_then (codes "]") nothing) (line_then (suc (length levels)) nothing)) words
+    → unless_deep (length levels) (these_or_those (word_then (codes "]") nothing) (line_then (suc (length levels)) nothing)) words
     → TailBegins levels kind.List (codes "[" ∷ words)
 list_words levels words room (inl (deep, inl ends)) =
     record {
@@ -131,7 +131,7 @@ list_words levels words room (inl (deep, inl ends)) =
       is = whole (codes "[]") (codes "[" ∷ words) (ap (λ t. codes "[" ++ t) (one_word (codes "]") words ends) ∙ sym (word_bytes (codes "[]") refl));
     }
 list_words levels words room (inl (deep, inr goes)) =
-    let column = column_of levels in
+    let column = column_in levels in
     let line = line_words (suc (length levels)) nothing words goes in
     let inside = items_behind (column + 2) no_values null_value (codes "," ++ (line_at column ++ (codes "]" ++ []))) in
     record {
@@ -147,7 +147,7 @@ list_words levels words room (inl (deep, inr goes)) =
 list_words levels words room (inr deep) = absurd (omega (arith, room, deep.0))
 
 map_words : (levels : List OpenLevel) (words : List (List ℕ)) → length levels < most_nested
-    → unless_deep (length levels) (either (word_then (codes "}") nothing) (line_then (suc (length levels)) (word_then (codes "? ") nothing))) words
+    → unless_deep (length levels) (these_or_those (word_then (codes "}") nothing) (line_then (suc (length levels)) (word_then (codes "? ") nothing))) words
     → TailBegins levels kind.Map (codes "{" ∷ words)
 map_words levels words room (inl (deep, inl ends)) =
     record {
@@ -158,7 +158,7 @@ map_words levels words room (inl (deep, inl ends)) =
       is = whole (codes "{}") (codes "{" ∷ words) (ap (λ t. codes "{" ++ t) (one_word (codes "}") words ends) ∙ sym (word_bytes (codes "{}") refl));
     }
 map_words levels words room (inl (deep, inr goes)) =
-    let column = column_of levels in
+    let column = column_in levels in
     let line = line_words (suc (length levels)) (word_then (codes "? ") nothing) words goes in
     let inside = pairs_behind (column + 2) no_value_pairs null_value null_value (codes "," ++ (line_at column ++ (codes "}" ++ []))) in
     record {
@@ -227,13 +227,13 @@ pub node_words : (levels : List OpenLevel) (words : List (List ℕ)) → length 
 node_words levels [] room are = absurd are.1
 node_words levels (word ∷ words) room are =
     let tail = tail_words levels are.0 words room are.1.1 in
-    let text = value_text (column_of levels) tail.value in
-    let behind = encode_utf8_all (value_tail (column_of levels) tail.value []) in
+    let text = value_text (column_in levels) tail.value in
+    let behind = encode_utf8_all (value_tail (column_in levels) tail.value []) in
     record {
       value = tail.value;
       readable = tail.readable;
       rest = tail.rest;
       is =
-          ap encode_utf8_all (sym (append-nil text)) ∙ value_bytes (column_of levels) tail.value []
+          ap encode_utf8_all (sym (append-nil text)) ∙ value_bytes (column_in levels) tail.value []
           ∙ ap (λ w. w ++ behind) (tail.tagged ∙ sym are.1.0) ∙ ap (λ t. word ++ t) tail.is ∙ sym (append_assoc word (flat words) tail.rest);
     }

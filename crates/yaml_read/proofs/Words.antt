@@ -5,60 +5,60 @@ use Rattle.std.proofs.lemmas.List.{replicate-append-replicate, append_cancel_lef
 use Rattle.std.specs.Prelude.{Result, Ok, Err, MatchResult}
 use Rattle.std.specs.Result.{IsErr, IsErrAnd}
 use Rattle.std.specs.Borrow.{Bor}
-use Rattle.yaml_read.specs.Words.{behind, Cuts, OpensAt, OrMemory}
+use Rattle.yaml_read.specs.Words.{past_word, Cuts, OpensAt, OrMemory}
 use Rattle.yaml_read.specs.declared.errors.Stop.{Stop}
 use Rattle.yaml_read.specs.declared.errors.Stop.TheVariants as stop
 
 eqb-self : (n : ℕ) → (n == n) ≡ true
 eqb-self n = grind (arith, nat_tests)
 
-pub behind_word : (word rest : List ℕ) → behind word (word ++ rest) ≡ Some rest
+pub behind_word : (word rest : List ℕ) → past_word word (word ++ rest) ≡ Some rest
 behind_word [] rest = refl
-behind_word (w ∷ word) rest = ap (λ b. if b then behind word (word ++ rest) else None) (eqb-self w) ∙ behind_word word rest
+behind_word (w ∷ word) rest = ap (λ b. if b then past_word word (word ++ rest) else None) (eqb-self w) ∙ behind_word word rest
 
-pub behind_takes : (word text rest : List ℕ) → behind word text ≡ Some rest → text ≡ word ++ rest
+pub behind_takes : (word text rest : List ℕ) → past_word word text ≡ Some rest → text ≡ word ++ rest
 behind_takes [] text rest is = cc
 behind_takes (w ∷ word) [] rest is = cc
 behind_takes (w ∷ word) (c ∷ text) rest is = by (c == w) refl is (behind_takes word text rest)
   where
-    by : (b : Bool) → (c == w) ≡ b → (if b then behind word text else None) ≡ Some rest
-        → (behind word text ≡ Some rest → text ≡ word ++ rest) → c ∷ text ≡ w ∷ (word ++ rest)
+    by : (b : Bool) → (c == w) ≡ b → (if b then past_word word text else None) ≡ Some rest
+        → (past_word word text ≡ Some rest → text ≡ word ++ rest) → c ∷ text ≡ w ∷ (word ++ rest)
     by true e is more = ap (λ d. d ∷ text) (eqb-true c w e) ∙ ap (λ t. w ∷ t) (more is)
     by false e is more = cc
 
 -- one word behind another
-pub behind_both : (first second text : List ℕ) → behind (first ++ second) text ≡ option_and_then (behind second) (behind first text)
+pub behind_both : (first second text : List ℕ) → past_word (first ++ second) text ≡ option_and_then (past_word second) (past_word first text)
 behind_both [] second text = refl
 behind_both (w ∷ first) second [] = refl
 behind_both (w ∷ first) second (c ∷ text) = by (c == w) (behind_both first second text)
   where
-    by : (b : Bool) → behind (first ++ second) text ≡ option_and_then (behind second) (behind first text)
-        → (if b then behind (first ++ second) text else None) ≡ option_and_then (behind second) (if b then behind first text else None)
+    by : (b : Bool) → past_word (first ++ second) text ≡ option_and_then (past_word second) (past_word first text)
+        → (if b then past_word (first ++ second) text else None) ≡ option_and_then (past_word second) (if b then past_word first text else None)
     by true more = more
     by false more = refl
 
 -- what doesn't stand first isn't found
-pub absent : (word text : List ℕ) → ((rest : List ℕ) → text ≡ word ++ rest → ⊥) → behind word text ≡ None
-absent word text lacks = by (behind word text) refl
+pub absent : (word text : List ℕ) → ((rest : List ℕ) → text ≡ word ++ rest → ⊥) → past_word word text ≡ None
+absent word text lacks = by (past_word word text) refl
   where
-    by : (o : Option (List ℕ)) → behind word text ≡ o → o ≡ None
+    by : (o : Option (List ℕ)) → past_word word text ≡ o → o ≡ None
     by None is = refl
     by (Some rest) is = absurd (lacks rest (behind_takes word text rest is))
 
 -- what isn't found doesn't stand first
-pub no_word : (word text rest : List ℕ) → behind word text ≡ None → text ≡ word ++ rest → ⊥
-no_word word text rest none is = absurd (apart (sym none ∙ ap (behind word) is ∙ behind_word word rest))
+pub no_word : (word text rest : List ℕ) → past_word word text ≡ None → text ≡ word ++ rest → ⊥
+no_word word text rest none is = absurd (apart (sym none ∙ ap (past_word word) is ∙ behind_word word rest))
   where
     apart : ◌≡◌ {A = Option (List ℕ)} None (Some rest) → ⊥
     apart e = cc
 
 -- a longer word isn't found where its rest isn't found behind its beginning
-pub longer_none : (first second text rest : List ℕ) → text ≡ first ++ rest → behind second rest ≡ None → behind (first ++ second) text ≡ None
+pub longer_none : (first second text rest : List ℕ) → text ≡ first ++ rest → past_word second rest ≡ None → past_word (first ++ second) text ≡ None
 longer_none first second text rest is none =
-    behind_both first second text ∙ ap (option_and_then (behind second)) (ap (behind first) is ∙ behind_word first rest) ∙ none
+    behind_both first second text ∙ ap (option_and_then (past_word second)) (ap (past_word first) is ∙ behind_word first rest) ∙ none
 
-pub first_none : (first second text : List ℕ) → behind first text ≡ None → behind (first ++ second) text ≡ None
-first_none first second text none = behind_both first second text ∙ ap (option_and_then (behind second)) none
+pub first_none : (first second text : List ℕ) → past_word first text ≡ None → past_word (first ++ second) text ≡ None
+first_none first second text none = behind_both first second text ∙ ap (option_and_then (past_word second)) none
 
 -- the spaces of one level more
 pub spaces_more : (level : ℕ) (text rest next : List ℕ) → text ≡ replicate (level * 2) space ++ rest → rest ≡ codes "  " ++ next
@@ -72,10 +72,10 @@ spaces_more level text rest next is more =
     twice = omega arith
 
 -- too few spaces
-pub spaces_lack : (level depth : ℕ) (text rest : List ℕ) → text ≡ replicate (level * 2) space ++ rest → level < depth → behind (codes "  ") rest ≡ None
-    → behind (replicate (depth * 2) space) text ≡ None
+pub spaces_lack : (level depth : ℕ) (text rest : List ℕ) → text ≡ replicate (level * 2) space ++ rest → level < depth → past_word (codes "  ") rest ≡ None
+    → past_word (replicate (depth * 2) space) text ≡ None
 spaces_lack level depth text rest is below none =
-    subst (λ (t : List ℕ). behind t text ≡ None) all
+    subst (λ (t : List ℕ). past_word t text ≡ None) all
     (longer_none (replicate (level * 2) space) (codes "  " ++ replicate ((depth - level - 1) * 2) space) text rest is
     (first_none (codes "  ") (replicate ((depth - level - 1) * 2) space) rest none))
   where
@@ -115,7 +115,7 @@ at_exit P error (Ok found) is holds = absurd (true≢false (sym is.0))
 at_exit P error (Err given) is holds = subst (λ (e : Stop). P (Err e)) (sym is.1) holds
 
 -- a word that wasn't opened
-pub opens_error : (word text : List ℕ) (error : Stop) → behind word text ≡ None → OpensAt word text (Err error)
+pub opens_error : (word text : List ℕ) (error : Stop) → past_word word text ≡ None → OpensAt word text (Err error)
 opens_error word text stop.Memory none = tt
 opens_error word text (stop.Refused n) none = none
 opens_error word text (stop.TooDeep n) none = none

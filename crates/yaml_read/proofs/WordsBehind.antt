@@ -3,8 +3,8 @@ use Rattle.yaml_base.proofs.Common.{ℕ, ◌+◌, ◌*◌, List, [], ◌∷◌, 
 use Rattle.yaml_base.proofs.Common.{append_assoc, codes, length, line_feed, encode_utf8_all, Text}
 use Rattle.yaml_base.specs.values.TypedValues.{TypedValue, TypedValues, TypedPairs, list_value, map_value, null_value, value_pairs_and, values_and}
 use Rattle.yaml_base.specs.values.ValueText.{line_at, value_text}
-use Rattle.yaml_read.specs.Grammar.{behind_value, either, entry_end, nothing, word_then}
-use Rattle.yaml_read.specs.Remaining.{Completes, OpenLevel, column_of, item_follows, items_open, list_ends, map_ends, pair_follows, pairs_open, text_ends}
+use Rattle.yaml_read.specs.Grammar.{behind_value, these_or_those, entry_end, nothing, word_then}
+use Rattle.yaml_read.specs.Remaining.{Completes, OpenLevel, column_in, item_follows, items_open, list_ends, map_ends, pair_follows, pairs_open, text_ends}
 use Rattle.yaml_read.specs.Remaining.{value_due, value_follows}
 use Rattle.yaml_read.specs.TextsAndWords.{GoesOnWith}
 use Rattle.yaml_read.proofs.Encoded.{word_encoded}
@@ -23,20 +23,20 @@ closing (items_open items ∷ levels) value =
     let outer = closing levels (list_value (values_and items value)) in
     record {
       root = outer.root;
-      text = codes "," ++ (line_at (column_of levels) ++ (codes "]" ++ outer.text));
-      completes = list_ends levels items value outer.text (codes "," ++ (line_at (column_of levels) ++ (codes "]" ++ outer.text))) refl outer.completes;
+      text = codes "," ++ (line_at (column_in levels) ++ (codes "]" ++ outer.text));
+      completes = list_ends levels items value outer.text (codes "," ++ (line_at (column_in levels) ++ (codes "]" ++ outer.text))) refl outer.completes;
     }
 closing (value_due pairs key ∷ levels) value =
     let outer = closing levels (map_value (value_pairs_and pairs key value)) in
     record {
       root = outer.root;
-      text = codes "," ++ (line_at (column_of levels) ++ (codes "}" ++ outer.text));
-      completes = map_ends levels pairs key value outer.text (codes "," ++ (line_at (column_of levels) ++ (codes "}" ++ outer.text))) refl outer.completes;
+      text = codes "," ++ (line_at (column_in levels) ++ (codes "}" ++ outer.text));
+      completes = map_ends levels pairs key value outer.text (codes "," ++ (line_at (column_in levels) ++ (codes "}" ++ outer.text))) refl outer.completes;
     }
 closing (pairs_open pairs ∷ levels) key =
     let outer = closing levels (map_value (value_pairs_and pairs key null_value)) in
-    let ends = codes "," ++ (line_at (column_of levels) ++ (codes "}" ++ outer.text)) in
-    let text = line_at (column_of levels + 2) ++ (codes ": " ++ (value_text (column_of levels + 2) null_value ++ ends)) in
+    let ends = codes "," ++ (line_at (column_in levels) ++ (codes "}" ++ outer.text)) in
+    let text = line_at (column_in levels + 2) ++ (codes ": " ++ (value_text (column_in levels + 2) null_value ++ ends)) in
     record {
       root = outer.root;
       text = text;
@@ -50,7 +50,7 @@ entry_at depth word last words more comma line one =
     ap (λ w. w ++ flat words) comma ∙ ap (λ t. codes "," ++ t) (line ∙ ap (λ t. line_at (depth * 2) ++ t) (one_word last more one))
 
 entry_by : (depth : ℕ) (lead end word : List ℕ) (words more : List (List ℕ)) → word ≡ codes "," → flat words ≡ line_at (depth * 2) ++ flat more
-    → either (word_then lead nothing) (word_then end nothing) more
+    → these_or_those (word_then lead nothing) (word_then end nothing) more
     → (flat (word ∷ words) ≡ codes "," ++ (line_at (depth * 2) ++ lead)) ⊎ (flat (word ∷ words) ≡ codes "," ++ (line_at (depth * 2) ++ end))
 entry_by depth lead end word words more comma line (inl one) = inl (entry_at depth word lead words more comma line one)
 entry_by depth lead end word words more comma line (inr one) = inr (entry_at depth word end words more comma line one)
@@ -59,7 +59,7 @@ entry_words : (depth : ℕ) (lead end : List ℕ) (words : List (List ℕ)) → 
     → (flat words ≡ codes "," ++ (line_at (depth * 2) ++ lead)) ⊎ (flat words ≡ codes "," ++ (line_at (depth * 2) ++ end))
 entry_words depth lead end [] are = absurd are
 entry_words depth lead end (word ∷ words) are =
-    let line = line_words depth (either (word_then lead nothing) (word_then end nothing)) words are.1 in
+    let line = line_words depth (these_or_those (word_then lead nothing) (word_then end nothing)) words are.1 in
     entry_by depth lead end word words line.more are.0 line.is line.are
 
 -- a word behind an entry's line
@@ -74,7 +74,7 @@ behind_item : (levels : List OpenLevel) (items : TypedValues) (value : TypedValu
     → (flat words ≡ codes "," ++ (line_at (length levels * 2) ++ codes "  ")) ⊎ (flat words ≡ codes "," ++ (line_at (length levels * 2) ++ codes "]"))
     → GoesOnWith (items_open items ∷ levels) value words
 behind_item levels items value words (inl are) =
-    let column = column_of levels + 2 in
+    let column = column_in levels + 2 in
     let closed = closing (items_open (values_and items value) ∷ levels) null_value in
     let next = value_text column null_value ++ closed.text in
     record {
@@ -87,7 +87,7 @@ behind_item levels items value words (inl are) =
     }
 behind_item levels items value words (inr are) =
     let outer = closing levels (list_value (values_and items value)) in
-    let text = codes "," ++ (line_at (column_of levels) ++ (codes "]" ++ outer.text)) in
+    let text = codes "," ++ (line_at (column_in levels) ++ (codes "]" ++ outer.text)) in
     record {
       root = outer.root;
       text = text;
@@ -102,7 +102,7 @@ behind_pair : (levels : List OpenLevel) (pairs : TypedPairs) (key value : TypedV
     → (flat words ≡ codes "," ++ (line_at (length levels * 2) ++ codes "  ? ")) ⊎ (flat words ≡ codes "," ++ (line_at (length levels * 2) ++ codes "}"))
     → GoesOnWith (value_due pairs key ∷ levels) value words
 behind_pair levels pairs key value words (inl are) =
-    let column = column_of levels + 2 in
+    let column = column_in levels + 2 in
     let closed = closing (pairs_open (value_pairs_and pairs key value) ∷ levels) null_value in
     let next = value_text column null_value ++ closed.text in
     let text = codes "," ++ (line_at column ++ (codes "? " ++ next)) in
@@ -117,7 +117,7 @@ behind_pair levels pairs key value words (inl are) =
     }
 behind_pair levels pairs key value words (inr are) =
     let outer = closing levels (map_value (value_pairs_and pairs key value)) in
-    let text = codes "," ++ (line_at (column_of levels) ++ (codes "}" ++ outer.text)) in
+    let text = codes "," ++ (line_at (column_in levels) ++ (codes "}" ++ outer.text)) in
     record {
       root = outer.root;
       text = text;
@@ -131,7 +131,7 @@ behind_pair levels pairs key value words (inr are) =
 behind_key : (levels : List OpenLevel) (pairs : TypedPairs) (key : TypedValue) (words : List (List ℕ))
     → LineWords (word_then (codes "  : ") nothing) (line_at (length levels * 2)) words → GoesOnWith (pairs_open pairs ∷ levels) key words
 behind_key levels pairs key words line =
-    let column = column_of levels + 2 in
+    let column = column_in levels + 2 in
     let closed = closing (value_due pairs key ∷ levels) null_value in
     let next = value_text column null_value ++ closed.text in
     let text = line_at column ++ (codes ": " ++ next) in

@@ -16,7 +16,7 @@ use Rattle.yaml_base.specs.Grammar.{Document}
 use Rattle.yaml_base.specs.reading.CanonicalReader.{canonical_content}
 use Rattle.yaml_base.specs.values.TypedValues.{ReadsAs, typed_output}
 use Rattle.yaml_emitter.proofs.canonical.CanonicalOutput.{output_reads}
-use Rattle.yaml_emitter.specs.Uncut.{IsWhole}
+use Rattle.yaml_emitter.specs.Uncut.{IsWrittenWhole}
 use Rattle.yaml_value.proofs.AcceptedLemmas.{value_accepted}
 use Rattle.yaml_value.proofs.ContentLemmas.{content_of-value_events, stream_tells_value}
 use Rattle.yaml_value.proofs.TextLemmas.{output_is}
@@ -112,7 +112,7 @@ written_value value bytes readable is few =
     let all = bytes_written (settings_for typed_settings (value_events value))
     (list_layout (settings_for typed_settings (value_events value)) (value_events value)) in
     let same : take largest_usize all ≡ bytes = sym typed in
-    let whole : IsWhole typed_settings (value_events value) =
+    let whole : IsWrittenWhole typed_settings (value_events value) =
     record {
       canonical = refl;
       accepted = value_accepted value (omega (arith, fits_of value 0 readable (omega arith)));

@@ -22,8 +22,8 @@ word_then first More [] = ⊥
 word_then first More (word ∷ words) = (word ≡ first) × More words
 
 -- these or those
-abbrev pub either : (These Those : List (List ℕ) → Type 0) → List (List ℕ) → Type 0
-either These Those words = These words ⊎ Those words
+abbrev pub these_or_those : (These Those : List (List ℕ) → Type 0) → List (List ℕ) → Type 0
+these_or_those These Those words = These words ⊎ Those words
 
 -- two spaces for each level, and then those
 abbrev pub levels_then : (depth : ℕ) → (More : List (List ℕ) → Type 0) → List (List ℕ) → Type 0
@@ -51,7 +51,7 @@ abbrev pub integer : List (List ℕ) → Type 0
 integer words = (n : ℤ) × (mag n < 2 ^ 63) × word_then (encode_utf8_all (in_quotes (signed_decimal n))) nothing words
 
 abbrev pub truth : List (List ℕ) → Type 0
-truth = either (word_then (codes "\"true\"") nothing) (word_then (codes "\"false\"") nothing)
+truth = these_or_those (word_then (codes "\"true\"") nothing) (word_then (codes "\"false\"") nothing)
 
 -- behind the opening bracket of a list or a map that lies in so many others: those, or no word where it lies too deep
 abbrev pub unless_deep : (depth : ℕ) → (More : List (List ℕ) → Type 0) → List (List ℕ) → Type 0
@@ -64,9 +64,9 @@ behind_tag depth kind.Bool = truth
 behind_tag depth kind.Int = integer
 behind_tag depth kind.Text = quoted_text
 behind_tag depth kind.List =
-    word_then (codes "[") (unless_deep depth (either (word_then (codes "]") nothing) (line_then (suc depth) nothing)))
+    word_then (codes "[") (unless_deep depth (these_or_those (word_then (codes "]") nothing) (line_then (suc depth) nothing)))
 behind_tag depth kind.Map =
-    word_then (codes "{") (unless_deep depth (either (word_then (codes "}") nothing) (line_then (suc depth) (word_then (codes "? ") nothing))))
+    word_then (codes "{") (unless_deep depth (these_or_those (word_then (codes "}") nothing) (line_then (suc depth) (word_then (codes "? ") nothing))))
 
 abbrev pub node : (depth : ℕ) → List (List ℕ) → Type 0
 node depth words = (k : Kind) × word_then (tag_word k) (behind_tag depth k) words
@@ -75,7 +75,7 @@ node depth words = (k : Kind) × word_then (tag_word k) (behind_tag depth k) wor
 
 -- behind an entry: up to the next one, or past the closing bracket
 abbrev pub entry_end : (depth : ℕ) → (lead end : List ℕ) → List (List ℕ) → Type 0
-entry_end depth lead end = word_then (codes ",") (line_then depth (either (word_then lead nothing) (word_then end nothing)))
+entry_end depth lead end = word_then (codes ",") (line_then depth (these_or_those (word_then lead nothing) (word_then end nothing)))
 
 -- behind a value in a list or a map that lies so deep; behind a key up to its value
 abbrev pub behind_in : (depth : ℕ) → OpenLevel → List (List ℕ) → Type 0

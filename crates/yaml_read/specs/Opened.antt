@@ -6,7 +6,7 @@ use Rattle.yaml_base.specs.values.TypedValues.{TypedValue, most_nested}
 use Rattle.yaml_base.specs.values.ValueText.{line_at, value_text, items_text, pairs_text, entry_lead, has_no_values, has_no_value_pairs}
 use Rattle.yaml_value.specs.SeenValues.{seen_value}
 use Rattle.yaml_read.specs.Readable.{CanBeReadAt, AllCanBeReadAt, PairsCanBeReadAt}
-use Rattle.yaml_read.specs.Remaining.{OpenLevel, items_open, pairs_open, value_due, column_of, seen_level}
+use Rattle.yaml_read.specs.Remaining.{OpenLevel, items_open, pairs_open, value_due, column_in, seen_level}
 use Rattle.yaml_read.specs.declared.levels.Entry.{Entry}
 use Rattle.yaml_read.specs.declared.levels.Entry.TheVariants.{Another, End}
 use Rattle.yaml_read.specs.declared.levels.Turn.{Turn}
@@ -19,16 +19,16 @@ abbrev pub opened_text : List OpenLevel → Text
 opened_text [] = []
 opened_text (items_open items ∷ levels) =
     opened_text levels
-    ++ (codes "!!seq" ++ (items_text (column_of levels + 2) items ++ (entry_lead (codes "[") (has_no_values items) ++ line_at (column_of levels + 2))))
+    ++ (codes "!!seq" ++ (items_text (column_in levels + 2) items ++ (entry_lead (codes "[") (has_no_values items) ++ line_at (column_in levels + 2))))
 opened_text (pairs_open pairs ∷ levels) =
     opened_text levels
-    ++ (codes "!!map" ++ (pairs_text (column_of levels + 2) pairs
-    ++ (entry_lead (codes "{") (has_no_value_pairs pairs) ++ (line_at (column_of levels + 2) ++ codes "? "))))
+    ++ (codes "!!map" ++ (pairs_text (column_in levels + 2) pairs
+    ++ (entry_lead (codes "{") (has_no_value_pairs pairs) ++ (line_at (column_in levels + 2) ++ codes "? "))))
 opened_text (value_due pairs key ∷ levels) =
     opened_text levels
-    ++ (codes "!!map" ++ (pairs_text (column_of levels + 2) pairs
+    ++ (codes "!!map" ++ (pairs_text (column_in levels + 2) pairs
     ++ (entry_lead (codes "{") (has_no_value_pairs pairs)
-    ++ (line_at (column_of levels + 2) ++ (codes "? " ++ (value_text (column_of levels + 2) key ++ (line_at (column_of levels + 2) ++ codes ": ")))))))
+    ++ (line_at (column_in levels + 2) ++ (codes "? " ++ (value_text (column_in levels + 2) key ++ (line_at (column_in levels + 2) ++ codes ": ")))))))
 
 -- what they hold could be written where it lies
 abbrev pub OpenCanBeRead : List OpenLevel → Type 0
@@ -46,7 +46,7 @@ pub record IsOpen (whole : List ℕ) (levels : List OpenLevel) (bytes : List ℕ
 
 -- it is that of what is open, of a value that has its place there, and these bytes
 pub record HasRead (whole : List ℕ) (levels : List OpenLevel) (value : TypedValue) (bytes : List ℕ) : Type 0 where
-  pub text : whole ≡ encode_utf8_all (opened_text levels ++ value_text (column_of levels) value) ++ bytes
+  pub text : whole ≡ encode_utf8_all (opened_text levels ++ value_text (column_in levels) value) ++ bytes
   pub outer : OpenCanBeRead levels
   pub readable : CanBeReadAt (length levels) value
 

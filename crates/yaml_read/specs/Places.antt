@@ -7,7 +7,7 @@ use Rattle.yaml_base.specs.values.TypedValues.{TypedValue, most_nested}
 use Rattle.yaml_read.specs.Grammar.{behind_value, node, nothing, word_then}
 use Rattle.yaml_read.specs.Opened.{HasRead, IsOpen}
 use Rattle.yaml_read.specs.Remaining.{OpenLevel}
-use Rattle.yaml_read.specs.Words.{behind}
+use Rattle.yaml_read.specs.Words.{past_word}
 use Rattle.yaml_read.specs.declared.errors.ReadError.{ReadError}
 use Rattle.yaml_read.specs.declared.errors.ReadError.TheVariants as told
 use Rattle.yaml_read.specs.declared.errors.Stop.{Stop}
@@ -23,7 +23,7 @@ pub record BreaksOff (These : List (List ℕ) → Type 0) (bytes : List ℕ) (le
   pub due : List ℕ
   pub more : List (List ℕ)
   pub begins : These (read ++ due ∷ more)
-  pub none : (next : List ℕ) (after : List (List ℕ)) → These (read ++ next ∷ after) → behind next rest ≡ None
+  pub none : (next : List ℕ) (after : List (List ℕ)) → These (read ++ next ∷ after) → past_word next rest ≡ None
 
 -- behind a document's first line the bytes are a value's up to a node, or up to what follows one, and a word is missing from there on;
 -- or they are a value's, and more follows
@@ -36,7 +36,7 @@ pub data BreaksInValue (whole : List ℕ) (left : ℕ) : Type 0 where
       → left ≡ length rest → BreaksInValue whole left
 
 -- they are a value's up to a list or a map within as many others as may be open
-pub record OpensTooDeep (whole : List ℕ) (left : ℕ) : Type 0 where
+pub record OpensPastDepth (whole : List ℕ) (left : ℕ) : Type 0 where
   pub levels : List OpenLevel
   pub bytes : List ℕ
   pub opened : IsOpen whole levels bytes
@@ -64,7 +64,7 @@ IsPlaced bytes (told.NotCanonical line column) =
     × (((IsUtf8 bytes → ⊥) × IsValidUpTo bytes at) ⊎ ((left : ℕ) × IsUtf8 bytes × (at ≡ length bytes - left) × CannotStand bytes left))
 IsPlaced bytes (told.TooDeep line column) =
     (at : ℕ) × (line ≡ line_of bytes at) × (column ≡ column_of bytes at)
-    × ((left : ℕ) × IsUtf8 bytes × (at ≡ length bytes - left) × IsBehindMarker bytes (λ whole. OpensTooDeep whole left))
+    × ((left : ℕ) × IsUtf8 bytes × (at ≡ length bytes - left) × IsBehindMarker bytes (λ whole. OpensPastDepth whole left))
 IsPlaced bytes told.Memory = Unit {0}
 
 -- ---- the code's answers
@@ -91,17 +91,17 @@ pub record LacksLevel (depth : ℕ) (bytes : List ℕ) (error : Stop) : Type 0 w
   pub below : level < depth
   pub rest : List ℕ
   pub text : bytes ≡ replicate (level * 2) space ++ rest
-  pub none : behind (codes "  ") rest ≡ None
+  pub none : past_word (codes "  ") rest ≡ None
   pub place : IsHere rest error
 
 -- a line's end or a level's two spaces are missing
 pub data LacksLine (depth : ℕ) (bytes : List ℕ) (error : Stop) : Type 0 where
-  no_line : behind (codes "\n") bytes ≡ None → IsHere bytes error → LacksLine depth bytes error
+  no_line : past_word (codes "\n") bytes ≡ None → IsHere bytes error → LacksLine depth bytes error
   no_level : (line : List ℕ) → bytes ≡ codes "\n" ++ line → LacksLevel depth line error → LacksLine depth bytes error
 
 -- behind the outermost value its line's end is missing, or more follows that
 pub data LacksEnd (bytes : List ℕ) (error : Stop) : Type 0 where
-  no_end : behind (codes "\n") bytes ≡ None → IsHere bytes error → LacksEnd bytes error
+  no_end : past_word (codes "\n") bytes ≡ None → IsHere bytes error → LacksEnd bytes error
   more_follows : (rest : List ℕ) → bytes ≡ codes "\n" ++ rest → 0 < length rest → IsHere rest error → LacksEnd bytes error
 
 -- the bytes break off, or memory gave out
@@ -113,12 +113,12 @@ BreaksAt These bytes stop.Memory = Unit {0}
 -- why reading stops behind a document's first line, and anywhere
 abbrev pub StopsIn : (whole : List ℕ) → Stop → Type 0
 StopsIn whole (stop.Refused left) = BreaksInValue whole left
-StopsIn whole (stop.TooDeep left) = OpensTooDeep whole left
+StopsIn whole (stop.TooDeep left) = OpensPastDepth whole left
 StopsIn whole stop.Memory = Unit {0}
 
 abbrev pub StopsAt : (bytes : List ℕ) → Stop → Type 0
 StopsAt bytes (stop.Refused left) = CannotStand bytes left
-StopsAt bytes (stop.TooDeep left) = IsBehindMarker bytes (λ whole. OpensTooDeep whole left)
+StopsAt bytes (stop.TooDeep left) = IsBehindMarker bytes (λ whole. OpensPastDepth whole left)
 StopsAt bytes stop.Memory = Unit {0}
 
 -- the error of an offset

@@ -11,7 +11,7 @@ use Rattle.yaml_base.specs.values.ValueText.{in_quotes, value_text}
 use Rattle.yaml_value.specs.SeenValues.{seen_value}
 use Rattle.yaml_read.specs.Readable.{CanBeReadAt}
 use Rattle.yaml_read.specs.Remaining.{is_nested}
-use Rattle.yaml_read.specs.Words.{behind}
+use Rattle.yaml_read.specs.Words.{past_word}
 use Rattle.yaml_read.specs.declared.heads.Head.{Head}
 use Rattle.yaml_read.specs.declared.heads.Head.TheVariants as head
 
@@ -53,5 +53,5 @@ pub record IsValue (bytes : List ℕ) (value : TypedValue) (rest : List ℕ) : T
 -- what a node begins with
 abbrev pub HeadIs : {A : Type 0} → List ℕ → Head A × Bor (List ℕ) → Type 0
 HeadIs bytes (head.Whole found, after) = IsValue bytes (seen_value found) after.now
-HeadIs bytes (head.Items, inside) = (bytes ≡ codes "!!seq [" ++ inside.now) × (behind (codes "]") inside.now ≡ None)
-HeadIs bytes (head.Pairs, inside) = (bytes ≡ codes "!!map {" ++ inside.now) × (behind (codes "}") inside.now ≡ None)
+HeadIs bytes (head.Items, inside) = (bytes ≡ codes "!!seq [" ++ inside.now) × (past_word (codes "]") inside.now ≡ None)
+HeadIs bytes (head.Pairs, inside) = (bytes ≡ codes "!!map {" ++ inside.now) × (past_word (codes "}") inside.now ≡ None)

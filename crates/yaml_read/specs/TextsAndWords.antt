@@ -5,7 +5,7 @@ use Rattle.yaml_base.specs.Characters.{Text, line_feed}
 use Rattle.yaml_base.specs.values.TypedValues.{TypedValue}
 use Rattle.yaml_base.specs.values.ValueText.{value_text}
 use Rattle.yaml_read.specs.Readable.{CanBeReadAt}
-use Rattle.yaml_read.specs.Remaining.{Completes, OpenLevel, column_of}
+use Rattle.yaml_read.specs.Remaining.{Completes, OpenLevel, column_in}
 
 -- some of these words begin the bytes
 pub record BeginsWith (These : List (List ℕ) → Type 0) (bytes : List ℕ) : Type 0 where
@@ -19,7 +19,7 @@ pub record BeginsText (levels : List OpenLevel) (words : List (List ℕ)) : Type
   pub value : TypedValue
   pub readable : CanBeReadAt (length levels) value
   pub rest : List ℕ
-  pub is : encode_utf8_all (value_text (column_of levels) value) ≡ flat_map (λ word. word) words ++ rest
+  pub is : encode_utf8_all (value_text (column_in levels) value) ≡ flat_map (λ word. word) words ++ rest
 
 -- behind a value that has its place a text goes on with the words, and completes a whole value
 pub record GoesOnWith (levels : List OpenLevel) (value : TypedValue) (words : List (List ℕ)) : Type 0 where

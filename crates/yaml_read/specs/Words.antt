@@ -5,19 +5,19 @@ use Rattle.yaml_read.specs.declared.errors.Stop.{Stop}
 use Rattle.yaml_read.specs.declared.errors.Stop.TheVariants as stop
 
 -- what follows a word at a text's beginning
-abbrev pub behind : (word text : List ℕ) → Option (List ℕ)
-behind [] text = Some text
-behind (w ∷ word) [] = None
-behind (w ∷ word) (c ∷ text) = if c == w then behind word text else None
+abbrev pub past_word : (word text : List ℕ) → Option (List ℕ)
+past_word [] text = Some text
+past_word (w ∷ word) [] = None
+past_word (w ∷ word) (c ∷ text) = if c == w then past_word word text else None
 
 -- the word stands first, and this follows it; or it doesn't stand first
 abbrev pub CutsIf : (word text : List ℕ) → Option (Bor (List ℕ)) → Type 0
 CutsIf word text (Some rest) = text ≡ word ++ rest.now
-CutsIf word text None = behind word text ≡ None
+CutsIf word text None = past_word word text ≡ None
 
 abbrev pub Cuts : (word text : List ℕ) → Result (Bor (List ℕ)) Stop → Type 0
 Cuts word text (Ok rest) = text ≡ word ++ rest.now
-Cuts word text (Err error) = behind word text ≡ None
+Cuts word text (Err error) = past_word word text ≡ None
 
 -- the answer is this, unless memory gave out
 abbrev pub OrMemory : {T : Type 0} → (T → Type 0) → Result T Stop → Type 0
@@ -29,4 +29,4 @@ OrMemory Holds (Err _) = ⊥
 abbrev pub OpensAt : (word text : List ℕ) → Result (Bor (List ℕ)) Stop → Type 0
 OpensAt word text (Ok rest) = text ≡ word ++ rest.now
 OpensAt word text (Err stop.Memory) = Unit {0}
-OpensAt word text (Err _) = behind word text ≡ None
+OpensAt word text (Err _) = past_word word text ≡ None

@@ -5,7 +5,8 @@ use Rattle.yaml_scalar.proofs.Common.{chars_past_char, encode_utf8, list_all, Te
 use Rattle.yaml_scalar.proofs.Common.{is_space, is_break, is_printable, Charset, begins_with, is_empty, is_gap, ends_word, is_special, is_trailing_space}
 use Rattle.yaml_scalar.proofs.Common.{Barred, barred_by, barred_in, none_barred, either, is_quiet, barred_by_space, last_from}
 use Rattle.yaml_base.proofs.Common.{and_left}
-use Rattle.yaml_scalar.proofs.Common.{◌≤◌, nat_tests, and_from, or_left, le-leb, false_from_ne_true, false≢true, line_feed, carriage_return, next_line, is_ordinary}
+use Rattle.yaml_scalar.proofs.Common.{◌≤◌, nat_tests, and_from, or_left, le-leb, false_from_ne_true, false≢true, line_feed, carriage_return, next_line}
+use Rattle.yaml_scalar.proofs.Common.{is_ordinary}
 use Rattle.yaml_base.specs.scalars.Analysis.{is_key_or_comment}
 use Rattle.yaml_scalar.specs.Barred.{with_indicator}
 

@@ -3,7 +3,7 @@ use Rattle.yaml_scalar.proofs.Common.{ℕ, if◌then◌else◌, chars, Option, S
 use Rattle.yaml_scalar.proofs.Common.{refl, ◌≡◌, append-nil, append_assoc, ap, subst, sym, ◌∙◌, arith, and_parts, and_from, not-true, nat_tests}
 use Rattle.yaml_scalar.proofs.Common.{list_all-append, list_all, Text, is_ascii, is_space, Cursor, Rendered, render_then, column_after, render_text}
 use Rattle.yaml_scalar.proofs.Common.{is_past_width, escape_text, needs_escape, character_text, may_fold, double_fold, double_inside, Page, Wrote, AreBatched}
-use Rattle.yaml_scalar.proofs.Common.{is_plain, last_from}
+use Rattle.yaml_scalar.proofs.Common.{is_unbroken_ascii, last_from}
 use Rattle.std.{proofs.Common.IsErrAnd, proofs.Common.IsErr, proofs.lemmas.Result.err_from_is_err_and, specs.Borrow.Bor}
 use Rattle.yaml_base.specs.declared.errors.yaml_error_t.{yaml_error_t}
 use Rattle.yaml_pen.proofs.Writing.{column_after-append}
@@ -47,25 +47,26 @@ batched_ascii unicode c is h =
 low : (c : ℕ) → is_ascii c ≡ true → nat_lt c 128 ≡ true
 low c h = grind (arith, nat_tests)
 
-character-plain : (unicode : Bool) (c : ℕ) → is_batched unicode c ≡ true → list_all is_plain (character_text unicode c) ≡ true
+character-plain : (unicode : Bool) (c : ℕ) → is_batched unicode c ≡ true → list_all is_unbroken_ascii (character_text unicode c) ≡ true
 character-plain unicode c h = go (needs_escape unicode c) refl
   where
-    go : (b : Bool) → needs_escape unicode c ≡ b → list_all is_plain (if b then escape_text c else c ∷ []) ≡ true
+    go : (b : Bool) → needs_escape unicode c ≡ b → list_all is_unbroken_ascii (if b then escape_text c else c ∷ []) ≡ true
     go true is = escape-plain c
     go false is =
         and_from _ true (and_from _ _ (low c (batched_ascii unicode c is h)) (ap not (unescaped unicode c is).no_break)) refl
 
 -- their texts are of ASCII
-characters-plain : (unicode : Bool) (prefix : Text) → list_all (is_batched unicode) prefix ≡ true → list_all is_plain (characters_text unicode prefix) ≡ true
+characters-plain : (unicode : Bool) (prefix : Text) → list_all (is_batched unicode) prefix ≡ true
+    → list_all is_unbroken_ascii (characters_text unicode prefix) ≡ true
 characters-plain unicode [] h = refl
 characters-plain unicode (c ∷ prefix) h =
     let p = and_parts (is_batched unicode c) (list_all (is_batched unicode) prefix) h in
-    list_all-append is_plain (character_text unicode c) (characters_text unicode prefix)
+    list_all-append is_unbroken_ascii (character_text unicode c) (characters_text unicode prefix)
     ∙ and_from _ _ (character-plain unicode c p.0) (characters-plain unicode prefix p.1)
 
 pub batched_plain : {unicode : Bool} {before last : ℕ} {text rest : Text} {bytes : List ℕ}
-    → AreBatched unicode before text bytes last rest → list_all is_plain bytes ≡ true
-batched_plain {unicode} are = ap (list_all is_plain) are.bytes_are ∙ characters-plain unicode are.prefix are.all
+    → AreBatched unicode before text bytes last rest → list_all is_unbroken_ascii bytes ≡ true
+batched_plain {unicode} are = ap (list_all is_unbroken_ascii) are.bytes_are ∙ characters-plain unicode are.prefix are.all
 
 -- two texts before what follows
 then-joined : (xs ys : Text) (cursor : Cursor) (next : Cursor → Rendered)

@@ -2,47 +2,48 @@
 use Rattle.yaml_scalar.proofs.Common.{suc, zero, ℕ, ◌%◌, ◌/◌, ◌≤◌, if◌then◌else◌, ◌==◌, Option, None, Some, nat_le, nat_lt, length, Bool, false, not, true}
 use Rattle.yaml_scalar.proofs.Common.{◌&&◌, List, [], ◌∷◌, refl, ◌≡◌, arith, and_parts, and_from, or_from, agree_below_at, not-true, list_all-append}
 use Rattle.yaml_scalar.proofs.Common.{list_all, list_any, IsAscii, Text, is_break, hex_digit, hex_digits, ShortEscape, short_escapes, letter_among}
-use Rattle.yaml_scalar.proofs.Common.{escape_after_backslash, escape_text, is_plain}
+use Rattle.yaml_scalar.proofs.Common.{escape_after_backslash, escape_text, is_unbroken_ascii}
 use Rattle.yaml_base.proofs.Common.{ltb-true}
 
-pub plain-unbroken : (text : Text) → list_all is_plain text ≡ true → list_any is_break text ≡ false
+pub plain-unbroken : (text : Text) → list_all is_unbroken_ascii text ≡ true → list_any is_break text ≡ false
 plain-unbroken [] h = refl
 plain-unbroken (b ∷ rest) h =
-    let p = and_parts (is_plain b) (list_all is_plain rest) h in
+    let p = and_parts (is_unbroken_ascii b) (list_all is_unbroken_ascii rest) h in
     let q = and_parts (nat_lt b 128) (not (is_break b)) p.0 in
     or_from _ _ (not-true _ q.1) (plain-unbroken rest p.1)
 
-pub plain-ascii : (text : Text) → list_all is_plain text ≡ true → IsAscii text
+pub plain-ascii : (text : Text) → list_all is_unbroken_ascii text ≡ true → IsAscii text
 plain-ascii [] h i = omega arith
 plain-ascii (b ∷ rest) h zero = grind (arith, and_parts, ltb-true)
-plain-ascii (b ∷ rest) h (suc i) = plain-ascii rest (and_parts (is_plain b) (list_all is_plain rest) h).1 i
+plain-ascii (b ∷ rest) h (suc i) = plain-ascii rest (and_parts (is_unbroken_ascii b) (list_all is_unbroken_ascii rest) h).1 i
 
 abbrev letters_plain : List ShortEscape → Bool
 letters_plain [] = true
-letters_plain (entry ∷ more) = is_plain entry.letter && letters_plain more
+letters_plain (entry ∷ more) = is_unbroken_ascii entry.letter && letters_plain more
 
-letter-here : (entry : ShortEscape) (other : Option ℕ) (letter : ℕ) (b : Bool) → is_plain entry.letter ≡ true → (other ≡ Some letter → is_plain letter ≡ true)
-    → (if b then Some entry.letter else other) ≡ Some letter → is_plain letter ≡ true
+letter-here : (entry : ShortEscape) (other : Option ℕ) (letter : ℕ) (b : Bool) → is_unbroken_ascii entry.letter ≡ true
+    → (other ≡ Some letter → is_unbroken_ascii letter ≡ true)
+    → (if b then Some entry.letter else other) ≡ Some letter → is_unbroken_ascii letter ≡ true
 letter-here entry other letter true here later h = let e : entry.letter ≡ letter = cc in rw (← e) here
 letter-here entry other letter false here later h = later h
 
-letter-found : (table : List ShortEscape) (c letter : ℕ) → letters_plain table ≡ true → letter_among table c ≡ Some letter → is_plain letter ≡ true
+letter-found : (table : List ShortEscape) (c letter : ℕ) → letters_plain table ≡ true → letter_among table c ≡ Some letter → is_unbroken_ascii letter ≡ true
 letter-found [] c letter h found = cc
 letter-found (entry ∷ more) c letter h found =
-    let p = and_parts (is_plain entry.letter) (letters_plain more) h in
+    let p = and_parts (is_unbroken_ascii entry.letter) (letters_plain more) h in
     letter-here entry (letter_among more c) letter (c == entry.character) p.0 (letter-found more c letter p.1) found
 
-digit-plain : (n : ℕ) → is_plain (hex_digit (n % 16)) ≡ true
-digit-plain n = agree_below_at (λ d. is_plain (hex_digit d)) (λ d. true) 16 (n % 16) refl (omega arith)
+digit-plain : (n : ℕ) → is_unbroken_ascii (hex_digit (n % 16)) ≡ true
+digit-plain n = agree_below_at (λ d. is_unbroken_ascii (hex_digit d)) (λ d. true) 16 (n % 16) refl (omega arith)
 
-digits-plain : (count n : ℕ) → list_all is_plain (hex_digits count n) ≡ true
+digits-plain : (count n : ℕ) → list_all is_unbroken_ascii (hex_digits count n) ≡ true
 digits-plain zero n = refl
 digits-plain (suc count) n = grind (arith, list_all-append, and_from, digit-plain, digits-plain count (n / 16))
 
 abbrev number_text : (two four : Bool) → ℕ → Text
 number_text two four c = if two then 120 ∷ hex_digits 2 c else (if four then 117 ∷ hex_digits 4 c else 85 ∷ hex_digits 8 c)
 
-number-plain : (c : ℕ) (two four : Bool) → list_all is_plain (number_text two four c) ≡ true
+number-plain : (c : ℕ) (two four : Bool) → list_all is_unbroken_ascii (number_text two four c) ≡ true
 number-plain c true four = digits-plain 2 c
 number-plain c false true = digits-plain 4 c
 number-plain c false false = digits-plain 8 c
@@ -52,7 +53,7 @@ number-short c true four = omega arith
 number-short c false true = omega arith
 number-short c false false = omega arith
 
-rest-plain : (c : ℕ) (found : Option ℕ) → letter_among short_escapes c ≡ found → list_all is_plain (escape_after_backslash found c) ≡ true
+rest-plain : (c : ℕ) (found : Option ℕ) → letter_among short_escapes c ≡ found → list_all is_unbroken_ascii (escape_after_backslash found c) ≡ true
 rest-plain c (Some letter) found = and_from _ true (letter-found short_escapes c letter refl found) refl
 rest-plain c None found = number-plain c (nat_le c 0xFF) (nat_le c 0xFFFF)
 
@@ -60,7 +61,7 @@ rest-short : (c : ℕ) (found : Option ℕ) → length (escape_after_backslash f
 rest-short c (Some letter) = omega arith
 rest-short c None = number-short c (nat_le c 0xFF) (nat_le c 0xFFFF)
 
-pub escape-plain : (c : ℕ) → list_all is_plain (escape_text c) ≡ true
+pub escape-plain : (c : ℕ) → list_all is_unbroken_ascii (escape_text c) ≡ true
 escape-plain c = rest-plain c (letter_among short_escapes c) refl
 
 pub escape-short : (c : ℕ) → length (escape_text c) ≤ 10

@@ -2,7 +2,7 @@
 use Rattle.yaml_scalar.proofs.Common.{ℕ, if◌then◌else◌, ◌==◌, chars, Option, None, Some, nat_lt, Bool, false, not, true, ◌&&◌, ◌||◌, List, [], ◌∷◌, refl, ◌≡◌}
 use Rattle.yaml_scalar.proofs.Common.{ap, ◌∙◌, arith, and_parts, and_from, not-false, not-true, nat_tests, list_all, Text, is_ascii, is_space, is_break}
 use Rattle.yaml_scalar.proofs.Common.{is_printable, Cursor, Rendered, render_then, next_column, render_text, is_past_width, quote, backslash, escape_text}
-use Rattle.yaml_scalar.proofs.Common.{needs_escape, character_text, may_fold, double_fold, double_character, double_inside, Page, is_plain, has_limit}
+use Rattle.yaml_scalar.proofs.Common.{needs_escape, character_text, may_fold, double_fold, double_character, double_inside, Page, is_unbroken_ascii, has_limit}
 use Rattle.yaml_scalar.proofs.Common.{stays_where, stays, sym, Result, Wrote, wrote_as}
 use Rattle.yaml_base.specs.declared.errors.yaml_error_t.{yaml_error_t}
 use Rattle.yaml_pen.proofs.StillToWrite.{StillToWrite}
@@ -70,7 +70,7 @@ low : (c : ℕ) → is_ascii c ≡ true → nat_lt c 128 ≡ true
 low c h = grind (arith, nat_tests)
 
 -- and it is of ASCII
-pub ascii_stays_plain : (folds : Bool) (c : ℕ) → stays_where false folds c ≡ true → is_plain c ≡ true
+pub ascii_stays_plain : (folds : Bool) (c : ℕ) → stays_where false folds c ≡ true → is_unbroken_ascii c ≡ true
 ascii_stays_plain folds c h = grind (arith, not-true, and_parts, not-false, escaped_parts, and_from, low, unescaped)
 
 -- a character that becomes a fold, and one that doesn't

@@ -1,25 +1,26 @@
 -- A short text of ASCII is rendered as it is.
 use Rattle.yaml_scalar.proofs.Common.{ℕ, ◌≤◌, IsUtf8, Option, None, length, Bool, false, true, List, [], ◌≡◌, take_all, append-nil, ap, sym, ◌∙◌}
-use Rattle.yaml_scalar.proofs.Common.{encodes-chars, list_all, Text, Cursor, Rendered, render_text, double_inside, spaces, IsFreeRun, ImpliesTest, is_plain}
+use Rattle.yaml_scalar.proofs.Common.{encodes-chars, list_all, Text, Cursor, Rendered, render_text, double_inside, spaces, IsFreeRun, ImpliesTest}
+use Rattle.yaml_scalar.proofs.Common.{is_unbroken_ascii}
 use Rattle.yaml_scalar.proofs.Common.{written_as, render_steps, most_short, IsShortRun, IsShortLine, stays}
 use Rattle.std.{proofs.lemmas.Str.encodes-IsAscii, specs.Str.chars}
 use Rattle.yaml_scalar.proofs.{ByteRuns.free_passes, EscapeBytes.plain-ascii, InsideSteps.inside_stays, StaysInLine.line_at}
 
 -- characters of ASCII are bytes
-plain_bytes : (text : List ℕ) → IsUtf8 text → list_all is_plain (chars text) ≡ true → chars text ≡ text
+plain_bytes : (text : List ℕ) → IsUtf8 text → list_all is_unbroken_ascii (chars text) ≡ true → chars text ≡ text
 plain_bytes text is_text all = sym (encodes-IsAscii (chars text) (plain-ascii (chars text) all)) ∙ encodes-chars text is_text
 
 -- a text that is one run of bytes of no class
 pub whole_run : {classes size : ℕ} {text : List ℕ} (test : ℕ → Bool) → IsUtf8 text → IsFreeRun classes text size → length text ≤ size
-    → length text ≤ most_short → ImpliesTest classes is_plain → ImpliesTest classes test → IsShortRun test text
+    → length text ≤ most_short → ImpliesTest classes is_unbroken_ascii → ImpliesTest classes test → IsShortRun test text
 whole_run {classes} {size} {text} test is_text free whole few plain tells =
     let passes : (other : ℕ → Bool) → ImpliesTest classes other → list_all other (chars text) ≡ true =
     λ other by. ap (λ l. list_all other (chars l)) (sym (take_all size text whole)) ∙ free_passes by is_text free in
-    let same = plain_bytes text is_text (passes is_plain plain) in
+    let same = plain_bytes text is_text (passes is_unbroken_ascii plain) in
     record {
       few = few;
       ascii = same;
-      plain = ap (list_all is_plain) (sym same) ∙ passes is_plain plain;
+      plain = ap (list_all is_unbroken_ascii) (sym same) ∙ passes is_unbroken_ascii plain;
       all = ap (list_all test) (sym same) ∙ passes test tells;
     }
 

@@ -2,7 +2,7 @@
 use Rattle.yaml_scalar.proofs.Common.{ℕ, ◌-◌, ◌<◌, if◌then◌else◌, ◌==◌, slice_index, IsUtf8, Option, length, Bool, false, not, true, ◌&&◌, ◌||◌, List, []}
 use Rattle.yaml_scalar.proofs.Common.{◌∷◌, refl, ◌≡◌, leb-true, true≢false, append-nil, ap, subst, sym, ◌∙◌, arith, and_parts, not-true, chars-nil, list_all}
 use Rattle.yaml_scalar.proofs.Common.{Text, space, is_space, Cursor, Charset, Allowances, begins_with, is_empty, allowances, Barred, barred_by}
-use Rattle.yaml_scalar.proofs.Common.{barred_in, none_barred, either, is_ordinary, is_quiet, allowed_by, is_free, ImpliesTest, is_plain, IsShortRun}
+use Rattle.yaml_scalar.proofs.Common.{barred_in, none_barred, either, is_ordinary, is_quiet, allowed_by, is_free, ImpliesTest, is_unbroken_ascii, IsShortRun}
 use Rattle.yaml_scalar.proofs.Common.{IsShortLine, has_simple_ascii_ends, is_simple_ascii_character, stays_in_line, last_from, HasRoom}
 use Rattle.yaml_base.proofs.Common.{chars}
 use Rattle.yaml_scalar.proofs.{Barred.quiet_run, ByteRuns.free_characters, ByteRuns.ascii_only_tells, Choices.allowed_whole, FirstCharacters.ordinary_plain}
@@ -50,10 +50,10 @@ none_allowed [] first = cc
 none_allowed (c ∷ rest) first = rw (ordinary_plain c rest first) refl
 
 pub simple_ascii : {text : List ℕ} → has_simple_ascii_ends text ≡ true
-    → ((test : ℕ → Bool) → ImpliesTest 57 is_plain → ImpliesTest 57 test → IsShortRun test text) → IsSimpleAscii text
+    → ((test : ℕ → Bool) → ImpliesTest 57 is_unbroken_ascii → ImpliesTest 57 test → IsShortRun test text) → IsSimpleAscii text
 simple_ascii {text} ends run =
     let p = and_parts (begins_with is_ordinary text) (not (is_space (last_from 0 text))) ends in
-    let returned = ascii_only_tells 57 is_plain refl refl in
+    let returned = ascii_only_tells 57 is_unbroken_ascii refl refl in
     record {
       allows = λ charset.
           let quiet = run (is_quiet charset) returned (quiet_tells charset.unicode charset.breaks12) in

@@ -9,7 +9,7 @@ use Rattle.yaml_base.specs.scalars.DoubleQuoted.{character_text, needs_escape}
 use Rattle.yaml_base.specs.declared.errors.yaml_error_t.{yaml_error_t}
 use Rattle.yaml_pen.specs.Page.{Page}
 use Rattle.yaml_pen.specs.Wrote.{Wrote}
-use Rattle.yaml_scalar.specs.WholeRuns.{last_from}
+use Rattle.yaml_base.specs.Tags.{last_from}
 
 -- the most bytes of a batch
 abbrev pub most_bytes : ℕ

@@ -36,8 +36,8 @@ abbrev pub render_fold : ℕ → Cursor → Rendered
 render_fold indent cursor = with_flags true false (new_line indent cursor)
 
 -- a fold in place of a space, or another character
-abbrev pub render_folded : Bool → ℕ → ℕ → Cursor → Rendered
-render_folded fold indent c cursor = if fold then render_fold indent cursor else render_content c cursor
+abbrev pub render_fold_or_content : Bool → ℕ → ℕ → Cursor → Rendered
+render_fold_or_content fold indent c cursor = if fold then render_fold indent cursor else render_content c cursor
 
 -- a line's first character
 abbrev pub render_first : ℕ → ℕ → Cursor → Rendered
@@ -46,7 +46,7 @@ render_first indent c cursor = render_then (new_line indent cursor) (render_cont
 -- a character that isn't a break, where it stands
 abbrev pub render_inner : (limit : Option ℕ) (indent : ℕ) → Place → ℕ → Text → Cursor → Rendered
 render_inner limit indent LineStart c rest cursor = render_first indent c cursor
-render_inner limit indent Folding c rest cursor = render_folded (folds limit cursor.column c rest) indent c cursor
+render_inner limit indent Folding c rest cursor = render_fold_or_content (folds limit cursor.column c rest) indent c cursor
 render_inner limit indent Fixed c rest cursor = render_content c cursor
 
 -- a break is doubled where it would be folded
@@ -56,13 +56,13 @@ is_doubled Folding c rest = c == line_feed && next_line_unindented (parts rest)
 is_doubled Fixed c rest = false
 
 -- a break, once or twice
-abbrev pub render_end : Bool → ℕ → Cursor → Rendered
-render_end twice c cursor = if twice then render_then (render_text (c ∷ []) cursor) (render_broken c) else render_broken c cursor
+abbrev pub render_block_break : Bool → ℕ → Cursor → Rendered
+render_block_break twice c cursor = if twice then render_then (render_text (c ∷ []) cursor) (render_broken c) else render_broken c cursor
 
 -- one character, seen with what follows it
 abbrev pub render_step : (limit : Option ℕ) (indent : ℕ) → Place → ℕ → Text → Cursor → Rendered
 render_step limit indent place c rest cursor =
-    if is_break c then render_end (is_doubled place c rest) c cursor else render_inner limit indent place c rest cursor
+    if is_break c then render_block_break (is_doubled place c rest) c cursor else render_inner limit indent place c rest cursor
 
 -- a character that is written as itself: none where a line begins, and no space that may become a fold
 abbrev pub stays_at : (limit : Option ℕ) → Place → ℕ → Bool

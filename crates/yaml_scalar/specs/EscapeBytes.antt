@@ -12,5 +12,5 @@ escape_bytes (Four bytes) = bytes
 escape_bytes (Eight bytes) = bytes
 
 -- of ASCII, and no break
-abbrev pub is_plain : ℕ → Bool
-is_plain b = nat_lt b 128 && not (is_break b)
+abbrev pub is_unbroken_ascii : ℕ → Bool
+is_unbroken_ascii b = nat_lt b 128 && not (is_break b)

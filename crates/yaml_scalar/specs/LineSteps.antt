@@ -37,9 +37,9 @@ step_text written folds indent before breaks c rest =
 step_text written folds indent before others c rest = written (c ∷ [])
 
 -- what one character of a value becomes, by what was before and what follows
-abbrev pub render_step :
+abbrev pub render_line_step :
     (written : Text → Text) (limit : Option ℕ) (indent : ℕ) (before : Kind) (c : ℕ) (rest : Text) → Cursor → Rendered
-render_step written limit indent before c rest cursor =
+render_line_step written limit indent before c rest cursor =
     render_text (step_text written (is_past_width limit cursor) indent before (kind_of c) c rest) cursor
 
 -- a value from some character on; its start counts as if a space stood before it
@@ -47,4 +47,4 @@ abbrev pub render_steps :
     (written : Text → Text) (limit : Option ℕ) (indent : ℕ) (before : Kind) → Text → Cursor → Rendered
 render_steps written limit indent before [] cursor = render_nothing cursor
 render_steps written limit indent before (c ∷ rest) cursor =
-    render_then (render_step written limit indent before c rest cursor) (render_steps written limit indent (kind_of c) rest)
+    render_then (render_line_step written limit indent before c rest cursor) (render_steps written limit indent (kind_of c) rest)

@@ -3,7 +3,7 @@ use Rattle.std.specs.Prelude.{◌≡◌, ◌≤◌, ℕ, Bool, true, false, Opti
 use Rattle.std.specs.List.{list_all}
 use Rattle.std.specs.Str.{chars}
 use Rattle.yaml_base.specs.Cursor.{Cursor}
-use Rattle.yaml_scalar.specs.EscapeBytes.{is_plain}
+use Rattle.yaml_scalar.specs.EscapeBytes.{is_unbroken_ascii}
 use Rattle.yaml_scalar.specs.WholeRuns.{HasRoom, stays_in_line}
 
 -- the most bytes of a short text
@@ -14,7 +14,7 @@ most_short = 512
 pub record IsShortRun (test : ℕ → Bool) (text : List ℕ) : Type 0 where
   pub few : length text ≤ most_short
   pub ascii : chars text ≡ text
-  pub plain : list_all is_plain text ≡ true
+  pub plain : list_all is_unbroken_ascii text ≡ true
   pub all : list_all test text ≡ true
 
 -- a short text that is one line at a cursor: none of its characters is doubled, or past the width

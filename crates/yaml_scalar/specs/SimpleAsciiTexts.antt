@@ -8,7 +8,8 @@ use Rattle.yaml_scalar.specs.Barred.{is_ordinary}
 use Rattle.yaml_scalar.specs.declared.lines.Known.{Known}
 use Rattle.yaml_scalar.specs.declared.lines.Known.TheVariants.{Nothing, SimpleAscii}
 use Rattle.yaml_scalar.specs.ShortRuns.{IsShortRun, most_short}
-use Rattle.yaml_scalar.specs.WholeRuns.{last_from, stays_in_line}
+use Rattle.yaml_scalar.specs.WholeRuns.{stays_in_line}
+use Rattle.yaml_base.specs.Tags.{last_from}
 
 -- one line, which every style may hold
 abbrev pub all_allowed : Allowances

@@ -5,6 +5,7 @@ use Rattle.std.specs.Str.{IsCharBoundary, chars}
 use Rattle.yaml_base.specs.Characters.{Text, is_break, is_space}
 use Rattle.yaml_base.specs.Cursor.{Cursor}
 use Rattle.yaml_base.specs.scalars.DoubleQuoted.{needs_escape}
+use Rattle.yaml_base.specs.Tags.{last_from}
 
 -- some column is past the width
 abbrev pub has_limit : Option ℕ → Bool
@@ -23,11 +24,6 @@ stays unicode limit c = stays_where unicode (has_limit limit) c
 -- a `'` is doubled or not
 abbrev pub stays_in_line : (folds quotes : Bool) → ℕ → Bool
 stays_in_line folds quotes c = not (is_break c || (is_space c && folds) || (quotes && c == 39))
-
--- the last character of a text, or the one before it where it is empty
-abbrev pub last_from : ℕ → Text → ℕ
-last_from before [] = before
-last_from before (c ∷ rest) = last_from c rest
 
 -- a prefix of a text, by its length in bytes, whose characters all pass a test; and the last character up to
 -- its end, from the one before the text on

@@ -243,7 +243,7 @@ fn write_end<A: Allocator>(
 ) -> Result<(), yaml_error_t>
     requires ready { IsReady pen.old }
     requires a_break { class.is_break character ≡ true }
-    ensures { Wrote (step.render_end twice character) pen.old pen.new result }
+    ensures { Wrote (step.render_block_break twice character) pen.old pen.new result }
 {
     if !twice {
         return write_broken(pen, character);

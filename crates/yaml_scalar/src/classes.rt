@@ -3,7 +3,7 @@ ghost use Rattle.std.specs.List.{list_all};
 ghost use Rattle.std.specs.Prelude.{◌≡◌, ◌≤◌, ◌+◌, true, length, take};
 ghost use Rattle.std.specs.Str.{chars};
 ghost use Rattle.yaml_scalar.specs.ByteClasses.{IsFreeRun, four_are_free, is_free};
-ghost use Rattle.yaml_scalar.specs.WholeRuns.{last_from};
+ghost use Rattle.yaml_base.specs.Tags.{last_from};
 
 /// LF, CR, and the bytes that U+0085, U+2028 and U+2029 begin with.
 pub(crate) const BREAK: u8 = 1;

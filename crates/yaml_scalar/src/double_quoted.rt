@@ -10,7 +10,7 @@ ghost use Rattle.yaml_base.specs.reading.ReadDouble.{read_double};
 ghost use Rattle.yaml_pen.specs.Page.{IsReady, natural};
 ghost use Rattle.yaml_pen.specs.Wrote.{Wrote};
 ghost use Rattle.yaml_scalar.specs.ByteClasses.{ImpliesTest};
-ghost use Rattle.yaml_scalar.specs.EscapeBytes.{is_plain};
+ghost use Rattle.yaml_scalar.specs.EscapeBytes.{is_unbroken_ascii};
 ghost use Rattle.yaml_scalar.specs.Batch.{WroteBatch};
 ghost use Rattle.yaml_scalar.specs.ReadsBack.{ReadsBack};
 ghost use Rattle.yaml_scalar.specs.ShortRuns.{IsShortRun};
@@ -258,7 +258,7 @@ fn run_after(before: char, text: &str, quoting: Quoting) -> Run
 /// Writes the texts of characters that were batched.
 fn write_batch<A: Allocator>(pen: &mut Pen<A>, bytes: &BatchBytes) -> Result<(), yaml_error_t>
     requires ready { IsReady pen.old }
-    requires plain { list_all is_plain bytes.now.items ≡ true }
+    requires plain { list_all is_unbroken_ascii bytes.now.items ≡ true }
     ensures { Wrote (render_text bytes.now.items) pen.old pen.new result }
 {
     pen.write_ascii(bytes.as_slice())

@@ -80,7 +80,7 @@ fn escape_letter(c: char) -> Option<u8>
 /// Returns an escape by number, with two, four or eight digits.
 #[inline]
 fn number_escape(n: u32) -> Escape
-    ensures { escape_bytes result ≡ spec.backslash ∷ spec.escape_after_backslash None n }
+    ensures { escape_bytes result ≡ class.backslash ∷ spec.escape_after_backslash None n }
 {
     if n <= 0xFF {
         Escape::Two([b'\\', b'x', digit_at(n / 16), digit_at(n)])

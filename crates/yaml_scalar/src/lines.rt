@@ -213,7 +213,7 @@ fn write_step<A: Allocator>(
     rest: &str,
 ) -> Result<(), yaml_error_t>
     requires { IsReady pen.old }
-    ensures { Wrote (steps.render_step (steps.written_as lines.quoted) (limit_where lines.allow_breaks lines.width) lines.indent
+    ensures { Wrote (steps.render_line_step (steps.written_as lines.quoted) (limit_where lines.allow_breaks lines.width) lines.indent
         (steps.seen_kind before) character (chars rest.now)) pen.old pen.new result }
 {
     match kind_of(character) {

@@ -2,7 +2,7 @@
 ghost use Rattle.std.specs.Prelude.{◌≡◌, ◌<◌, ◌≤◌, ℕ, Bool, Option, false};
 ghost use Rattle.yaml_base.specs.Cursor.{Cursor};
 ghost use Rattle.yaml_scalar.specs.ByteClasses.{ImpliesTest};
-ghost use Rattle.yaml_scalar.specs.EscapeBytes.{is_plain};
+ghost use Rattle.yaml_scalar.specs.EscapeBytes.{is_unbroken_ascii};
 ghost use Rattle.yaml_scalar.specs.WholeRuns.{HasRoom, IsLineRun, IsRun, stays_in_line};
 
 use crate::classes::{APOSTROPHE, BREAK, SPACE, WIDE, free_length, last_of};
@@ -36,7 +36,7 @@ fn ending_classes(ends: RunEnds) -> u8
 /// Returns the classes of bytes that a short line doesn't hold: those of breaks, of what is past ASCII, and of a `'` where it is
 /// doubled.
 pub(crate) fn short_classes(quote: bool) -> u8
-    ensures plain { ImpliesTest result is_plain }
+    ensures plain { ImpliesTest result is_unbroken_ascii }
     ensures line { ImpliesTest result (stays_in_line false quote) }
 {
     if quote {

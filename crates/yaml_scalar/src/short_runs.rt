@@ -5,7 +5,7 @@ ghost use Rattle.yaml_base.specs.Cursor.{render_text};
 ghost use Rattle.yaml_pen.specs.Page.{IsReady};
 ghost use Rattle.yaml_pen.specs.Wrote.{Wrote};
 ghost use Rattle.yaml_scalar.specs.ByteClasses.{ImpliesTest, is_free};
-ghost use Rattle.yaml_scalar.specs.EscapeBytes.{is_plain};
+ghost use Rattle.yaml_scalar.specs.EscapeBytes.{is_unbroken_ascii};
 ghost use Rattle.yaml_scalar.specs.ShortRuns.{IsShortRun, most_short};
 
 use crate::classes::free_length;
@@ -20,7 +20,7 @@ const MOST_BYTES: usize = 512;
 #[inline(always)]
 pub(crate) fn is_short_run(text: &str, classes: u8) -> bool
     ensures value { result ≡ (nat_le (length text.now) most_short && list_all (is_free classes) text.now) }
-    ensures run { result ≡ true → (test : ℕ → Bool) → ImpliesTest classes is_plain → ImpliesTest classes test → IsShortRun test text.now }
+    ensures run { result ≡ true → (test : ℕ → Bool) → ImpliesTest classes is_unbroken_ascii → ImpliesTest classes test → IsShortRun test text.now }
 {
     text.len() <= MOST_BYTES && free_length(text, classes) == text.len()
 }
@@ -33,7 +33,7 @@ pub(crate) fn write_short_run<A: Allocator>(
 ) -> Result<(), yaml_error_t>
     requires ready { IsReady pen.old }
     requires few { length text.now ≤ most_short }
-    requires plain { list_all is_plain text.now ≡ true }
+    requires plain { list_all is_unbroken_ascii text.now ≡ true }
     ensures { Wrote (render_text text.now) pen.old pen.new result }
 {
     pen.write_ascii(text.as_bytes())

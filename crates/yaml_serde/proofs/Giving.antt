@@ -24,7 +24,7 @@ use Rattle.std.specs.Prelude.{if◌then◌else◌}
 use Rattle.yaml_writer.specs.Floats.{GivesFloat}
 use Rattle.yaml_writer.specs.declared.floats.SpecialFloat.TheVariants.{Infinity, NegativeInfinity, NotANumber}
 use Rattle.yaml_serde.specs.Documents.{AppendsBeginning, GaveEvents, IsPartial, SendsEvents, end_call, number_call, special_call}
-use Rattle.yaml_serde.specs.Outlets.{Gave, HandsAll, HandsFirst, HandsNone, HasGiven, Stands, has_failed}
+use Rattle.yaml_serde.specs.Outlets.{GaveAndHandedOn, HandsAll, HandsFirst, HandsNone, HasGiven, Stands, has_failed}
 use Rattle.yaml_serde.specs.declared.error.Error.{Error}
 use Rattle.yaml_serde.specs.declared.outlet.Handing.{Handing}
 use Rattle.yaml_serde.specs.declared.outlet.Handing.TheVariants.{Kept, Open, Failed}
@@ -172,7 +172,7 @@ module _ {W : Type 0} (contents : W → Option (List ℕ)) (held : Option (List 
 
   -- what was given, with some bytes handed on
   abbrev Given : Outlet W → State → Type 0
-  Given outlet emitter = Gave contents held start.emitter outlet emitter
+  Given outlet emitter = GaveAndHandedOn contents held start.emitter outlet emitter
 
   -- a document begins
   pub stands_new : (outlet : Outlet W) (base : ℕ) (writer : WriterState) → writer ≡ start → Appends held (contents outlet.sink.now) []

@@ -74,7 +74,8 @@ pub record Handed {W : Type 0} (contents : W → Option (List ℕ)) (held : Opti
   pub kept : is_kept outlet.handing ≡ true → taken ≡ []
 
 -- the writer was given the events of some calls, and what was handed on is a beginning of its output; what was written before stays
-pub record Gave {W : Type 0} (contents : W → Option (List ℕ)) (held : Option (List ℕ)) (start : State) (outlet : Outlet W) (emitter : State) : Type 0 where
+pub record GaveAndHandedOn {W : Type 0} (contents : W → Option (List ℕ)) (held : Option (List ℕ)) (start : State) (outlet : Outlet W)
+    (emitter : State) : Type 0 where
   pub taken : List ℕ
   pub more : List ℕ
   pub handed : Handed contents held outlet taken more
@@ -85,7 +86,7 @@ pub record Gave {W : Type 0} (contents : W → Option (List ℕ)) (held : Option
 
 -- and so, whatever was given
 abbrev pub HasGiven : {W : Type 0} → (W → Option (List ℕ)) → Option (List ℕ) → State → Outlet W → State → Type 0
-HasGiven contents held start outlet emitter = ∥ Gave contents held start outlet emitter ∥₁
+HasGiven contents held start outlet emitter = ∥ GaveAndHandedOn contents held start outlet emitter ∥₁
 
 -- a document within a writer, which is handed on by the reference of this name: the collections that were open before stay so, and below the
 -- base of the document

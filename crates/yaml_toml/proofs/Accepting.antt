@@ -1,5 +1,6 @@
 -- The events of a document that doesn't nest too deep are an accepted list.
-use Rattle.yaml_json.proofs.Common.{suc, ℕ, ◌+◌, ◌≤◌, if◌then◌else◌, Bool, false, true, Option, None, Some, List, [], ◌++◌, ◌∷◌, refl, ◌≡◌, append-nil, append_assoc, subst, sym, arith}
+use Rattle.yaml_json.proofs.Common.{suc, ℕ, ◌+◌, ◌≤◌, if◌then◌else◌, Bool, false, true, Option, None, Some, List, [], ◌++◌, ◌∷◌, refl, ◌≡◌, append-nil}
+use Rattle.yaml_json.proofs.Common.{append_assoc, subst, sym, arith}
 use Rattle.yaml_json.proofs.Common.{and_from, chars, Text, Event, scalar, sequence_start, sequence_end, mapping_start, mapping_end}
 use Rattle.yaml_json.proofs.Common.{most_open, is_sound, open_count, IsAccepted, is_json_integer, yaml_number, bool_tag, bool_text, int_tag, word_content}
 use Rattle.yaml_json.proofs.Common.{text_content, collection_in, number_in, opening, closing, float_tag}
@@ -12,8 +13,9 @@ use Rattle.yaml_writer.specs.Floats.{special_text}
 use Rattle.yaml_writer.specs.Times.{Moment, ClockTime}
 use Rattle.yaml_writer.specs.TomlDates.{moment_of}
 use Rattle.yaml_writer.specs.declared.floats.SpecialFloat.TheVariants.{NotANumber}
-use Rattle.yaml_toml.specs.Depth.{document_nesting, items_nesting, keys_nesting, nesting}
-use Rattle.yaml_toml.specs.Events.{date_content, decimal_content, infinite, integer_content, items_events, json_word, keys_events, moment_content, special_content, toml_events}
+use Rattle.yaml_toml.specs.Depth.{document_nesting, items_nesting, keys_nesting, toml_nesting}
+use Rattle.yaml_toml.specs.Events.{date_content, decimal_content, infinite, integer_content, toml_items_events, json_word, keys_events, moment_content}
+use Rattle.yaml_toml.specs.Events.{special_content, toml_events}
 use Rattle.yaml_toml.proofs.TomlTrees.{all_events, root_of, stream_flat, toml_stream}
 
 -- ---- each event is in order
@@ -64,7 +66,7 @@ first_sound canonical event events one others = and_from (is_sound canonical eve
 
 module _ (canonical in_flow : Bool) where
   mutual
-    value_sound : (x : toml.Node) → sound canonical (toml_events canonical in_flow x) ≡ true
+    value_sound : (x : toml.TomlNode) → sound canonical (toml_events canonical in_flow x) ≡ true
     value_sound (toml.string text) = first_sound canonical (scalar (text_content (chars text))) [] (text_sound canonical (chars text)) refl
     value_sound (toml.integer z) = first_sound canonical (scalar (integer_content canonical z)) [] (int_sound canonical (signed_decimal z)) refl
     value_sound (toml.decimal word) =
@@ -79,9 +81,9 @@ module _ (canonical in_flow : Bool) where
     value_sound (toml.datetime date) =
         first_sound canonical (scalar (date_content canonical date (moment_of date))) [] (date_sound date canonical (moment_of date)) refl
     value_sound (toml.array items) =
-        first_sound canonical (sequence_start (collection_in in_flow)) (items_events canonical in_flow items ++ sequence_end ∷ [])
+        first_sound canonical (sequence_start (collection_in in_flow)) (toml_items_events canonical in_flow items ++ sequence_end ∷ [])
         (sequence_sound canonical in_flow)
-        (both_sound canonical (items_events canonical in_flow items) (sequence_end ∷ []) (items_sound items) refl)
+        (both_sound canonical (toml_items_events canonical in_flow items) (sequence_end ∷ []) (items_sound items) refl)
     value_sound (toml.table origin keys) =
         first_sound canonical (mapping_start (collection_in in_flow)) (keys_events canonical in_flow keys ++ mapping_end ∷ [])
         (mapping_sound canonical in_flow)
@@ -89,28 +91,28 @@ module _ (canonical in_flow : Bool) where
     value_sound (toml.tables done last) =
         let ends = mapping_end ∷ sequence_end ∷ [] in
         let behind = mapping_start (collection_in in_flow) ∷ (keys_events canonical in_flow last ++ ends) in
-        first_sound canonical (sequence_start (collection_in in_flow)) (items_events canonical in_flow done ++ behind)
+        first_sound canonical (sequence_start (collection_in in_flow)) (toml_items_events canonical in_flow done ++ behind)
         (sequence_sound canonical in_flow)
-        (both_sound canonical (items_events canonical in_flow done) behind (items_sound done)
+        (both_sound canonical (toml_items_events canonical in_flow done) behind (items_sound done)
         (first_sound canonical (mapping_start (collection_in in_flow)) (keys_events canonical in_flow last ++ ends) (mapping_sound canonical in_flow)
         (both_sound canonical (keys_events canonical in_flow last) ends (keys_sound last) refl)))
 
-    items_sound : (items : toml.Items) → sound canonical (items_events canonical in_flow items) ≡ true
+    items_sound : (items : toml.Items) → sound canonical (toml_items_events canonical in_flow items) ≡ true
     items_sound toml.no_items = refl
     items_sound (toml.item x items) =
-        both_sound canonical (toml_events canonical in_flow x) (items_events canonical in_flow items) (value_sound x) (items_sound items)
+        both_sound canonical (toml_events canonical in_flow x) (toml_items_events canonical in_flow items) (value_sound x) (items_sound items)
 
-    keys_sound : (keys : toml.Nodes) → sound canonical (keys_events canonical in_flow keys) ≡ true
+    keys_sound : (keys : toml.TomlNodes) → sound canonical (keys_events canonical in_flow keys) ≡ true
     keys_sound toml.no_nodes = refl
     keys_sound (toml.node key x keys) =
         first_sound canonical (scalar (text_content (chars key))) (toml_events canonical in_flow x ++ keys_events canonical in_flow keys)
         (text_sound canonical (chars key))
         (both_sound canonical (toml_events canonical in_flow x) (keys_events canonical in_flow keys) (value_sound x) (keys_sound keys))
 
-  pub document_sound : (root : toml.Nodes) → sound canonical (toml_events canonical in_flow (root_of root)) ≡ true
+  pub document_sound : (root : toml.TomlNodes) → sound canonical (toml_events canonical in_flow (root_of root)) ≡ true
   document_sound root = value_sound (root_of root)
 
-  pub stream_sound : (root : toml.Nodes) → sound canonical (all_events root canonical in_flow) ≡ true
+  pub stream_sound : (root : toml.TomlNodes) → sound canonical (all_events root canonical in_flow) ≡ true
   stream_sound root =
       both_sound canonical opening (toml_events canonical in_flow (root_of root) ++ closing) refl
       (both_sound canonical (toml_events canonical in_flow (root_of root)) closing (document_sound root) refl)
@@ -119,7 +121,7 @@ module _ (canonical in_flow : Bool) where
 
   module _ (most : ℕ) where
     mutual
-      value_stays : (x : toml.Node) (now : ℕ) (rest : List Event) → now + nesting x ≤ most → Stays most now rest
+      value_stays : (x : toml.TomlNode) (now : ℕ) (rest : List Event) → now + toml_nesting x ≤ most → Stays most now rest
           → Stays most now (toml_events canonical in_flow x ++ rest)
       value_stays (toml.string text) now rest fits later = (omega (arith, fits), later)
       value_stays (toml.integer z) now rest fits later = (omega (arith, fits), later)
@@ -131,7 +133,7 @@ module _ (canonical in_flow : Bool) where
       value_stays (toml.array items) now rest fits later =
           let inside : suc now + items_nesting items ≤ most = omega (arith, fits) in (
             omega (arith, fits),
-            subst (Stays most (suc now)) (sym (append_assoc (items_events canonical in_flow items) (sequence_end ∷ []) rest))
+            subst (Stays most (suc now)) (sym (append_assoc (toml_items_events canonical in_flow items) (sequence_end ∷ []) rest))
                 (items_stay items (suc now) (sequence_end ∷ rest) inside (omega (arith, fits), later)),
           )
       value_stays (toml.table origin keys) now rest fits later =
@@ -148,7 +150,7 @@ module _ (canonical in_flow : Bool) where
           let second : suc now ≤ most = omega (arith, fits) in
           let third : suc (suc now) ≤ most = omega (arith, deeper) in (
             omega (arith, fits),
-            subst (Stays most (suc now)) (sym (append_assoc (items_events canonical in_flow done) behind rest))
+            subst (Stays most (suc now)) (sym (append_assoc (toml_items_events canonical in_flow done) behind rest))
                 (items_stay done (suc now) (behind ++ rest) inside (
                   second,
                   subst (Stays most (suc (suc now))) (sym (append_assoc (keys_events canonical in_flow last) ends rest))
@@ -157,13 +159,13 @@ module _ (canonical in_flow : Bool) where
           )
 
       items_stay : (items : toml.Items) (now : ℕ) (rest : List Event) → now + items_nesting items ≤ most → Stays most now rest
-          → Stays most now (items_events canonical in_flow items ++ rest)
+          → Stays most now (toml_items_events canonical in_flow items ++ rest)
       items_stay toml.no_items now rest fits later = later
       items_stay (toml.item x items) now rest fits later =
-          subst (Stays most now) (sym (append_assoc (toml_events canonical in_flow x) (items_events canonical in_flow items) rest))
-          (value_stays x now (items_events canonical in_flow items ++ rest) (omega (arith, fits)) (items_stay items now rest (omega (arith, fits)) later))
+          subst (Stays most now) (sym (append_assoc (toml_events canonical in_flow x) (toml_items_events canonical in_flow items) rest))
+          (value_stays x now (toml_items_events canonical in_flow items ++ rest) (omega (arith, fits)) (items_stay items now rest (omega (arith, fits)) later))
 
-      keys_stay : (keys : toml.Nodes) (now : ℕ) (rest : List Event) → now + keys_nesting keys ≤ most → Stays most now rest
+      keys_stay : (keys : toml.TomlNodes) (now : ℕ) (rest : List Event) → now + keys_nesting keys ≤ most → Stays most now rest
           → Stays most now (keys_events canonical in_flow keys ++ rest)
       keys_stay toml.no_nodes now rest fits later = later
       keys_stay (toml.node key x keys) now rest fits later = (
@@ -172,18 +174,18 @@ module _ (canonical in_flow : Bool) where
             (value_stays x now (keys_events canonical in_flow keys ++ rest) (omega (arith, fits)) (keys_stay keys now rest (omega (arith, fits)) later)),
       )
 
-    stream_stays : (root : toml.Nodes) → document_nesting root ≤ most → Stays most 0 (all_events root canonical in_flow)
+    stream_stays : (root : toml.TomlNodes) → document_nesting root ≤ most → Stays most 0 (all_events root canonical in_flow)
     stream_stays root fits =
         let few : 0 ≤ most = omega arith in
         (few, (few, value_stays (root_of root) 0 closing (omega (arith, fits)) (few, (few, few))))
 
     -- no prefix leaves more open
-    pub stream_shallow : (root : toml.Nodes) → document_nesting root ≤ most → (prefix rest : List Event)
+    pub stream_shallow : (root : toml.TomlNodes) → document_nesting root ≤ most → (prefix rest : List Event)
         → prefix ++ rest ≡ all_events root canonical in_flow → open_count prefix ≤ most
     stream_shallow root fits prefix rest is = few_open most (all_events root canonical in_flow) prefix rest (stream_stays root fits) is
 
     -- the same of its document's own events
-    pub document_shallow : (root : toml.Nodes) → document_nesting root ≤ most → (prefix rest : List Event)
+    pub document_shallow : (root : toml.TomlNodes) → document_nesting root ≤ most → (prefix rest : List Event)
         → prefix ++ rest ≡ toml_events canonical in_flow (root_of root) → open_count prefix ≤ most
     document_shallow root fits prefix rest is =
         let events = toml_events canonical in_flow (root_of root) in
@@ -192,7 +194,7 @@ module _ (canonical in_flow : Bool) where
 
   -- ---- all
 
-  pub toml_accepted : (root : toml.Nodes) → document_nesting root ≤ most_open → IsAccepted canonical (all_events root canonical in_flow)
+  pub toml_accepted : (root : toml.TomlNodes) → document_nesting root ≤ most_open → IsAccepted canonical (all_events root canonical in_flow)
   toml_accepted root fits =
       record {
         stream = toml_stream root canonical in_flow;

@@ -1,5 +1,6 @@
 -- What a call of a writer says to the walk.
-use Rattle.yaml_json.proofs.Common.{◌≡◌, ◌⊎◌, ◌∷◌, ◌++◌, [], List, Bool, Option, None, Some, Result, Ok, Err, IfErr, OnOk, inl, inr, refl, ap, subst, sym, ◌∙◌, append-nil, append_assoc}
+use Rattle.yaml_json.proofs.Common.{◌≡◌, ◌⊎◌, ◌∷◌, ◌++◌, [], List, Bool, Option, None, Some, Result, Ok, Err, IfErr, OnOk, inl, inr, refl, ap, subst, sym, ◌∙◌}
+use Rattle.yaml_json.proofs.Common.{append-nil, append_assoc}
 use Rattle.yaml_json.proofs.Common.{Event, State, WriterState, GaveEvent, WroteEvent, IsBare, end_event, with_collection, EndsInnermost}
 use Rattle.yaml_json.proofs.Common.{AddsEvents, StandsTaken}
 use Rattle.yaml_json.proofs.WroteLemmas.{adds_then, ended, none_more, same_last}
@@ -12,7 +13,7 @@ use Rattle.yaml_json.proofs.Common.{ap₂, Text, scalar, plain, is_none, is_some
 use Rattle.yaml_writer.specs.Times.{Moment, timestamp_text}
 use Rattle.yaml_writer.specs.Writing.{tag_or_default, timestamp_event, timestamp_tag}
 use Rattle.yaml_toml.specs.Events.{moment_content}
-use Rattle.yaml_toml.specs.Walk.{Answers, Kept, SoundAfterStop, stop_error, IsStopOf, IsMemory, Moved}
+use Rattle.yaml_toml.specs.Walk.{Answers, KeptAfterStop, SoundAfterStop, stop_error, IsStopOf, IsOwnMemory, Moved}
 use Rattle.yaml_toml.specs.declared.walk.Stop.{Stop}
 use Rattle.yaml_toml.specs.declared.walk.Stop.TheVariants as stop
 
@@ -61,7 +62,7 @@ answers_end before after (Err error) outer kind levels (inr end) =
 -- ---- stops
 
 pub kept_of : {event : Event} (before after : WriterState) (answer : Result (Unit {0}) yaml_error_t) (result : Result (Unit {0}) Stop) → IsStopOf answer result
-    → Answers before event answer after → Kept before result after
+    → Answers before event answer after → KeptAfterStop before result after
 kept_of before after (Ok done) (Ok same) is answers = record { grows = answers.grows; sound = λ none. answers.sound }
 kept_of before after (Ok done) (Err stopped) is answers = absurd is
 kept_of before after (Err error) (Ok done) is answers = absurd is
@@ -75,16 +76,17 @@ ok_of P (Err error) (Ok done) is held = absurd is
 ok_of P (Err error) (Err stopped) is held = tt
 
 -- nothing was given
-pub kept_memory : (before : WriterState) (stopped : Stop) → IsMemory stopped → Kept before (Err stopped) before
+pub kept_memory : (before : WriterState) (stopped : Stop) → IsOwnMemory stopped → KeptAfterStop before (Err stopped) before
 kept_memory before stopped is =
     record { grows = grows_itself before.emitter.page; sound = subst (λ (s : Stop). HasErrorSaid before (stop_error s) before) (sym is) (unchanged before) }
 
-pub kept_deep : (before : WriterState) → Kept before (Err stop.TooDeep) before
+pub kept_deep : (before : WriterState) → KeptAfterStop before (Err stop.TooDeep) before
 kept_deep before = record { grows = grows_itself before.emitter.page; sound = λ none. none }
 
 -- a success, and then another call
-pub kept_then : (before between after : WriterState) (result : Result (Unit {0}) Stop) → Kept before (Ok tt) between → Kept between result after
-    → Kept before result after
+pub kept_then : (before between after : WriterState) (result : Result (Unit {0}) Stop) → KeptAfterStop before (Ok tt) between
+    → KeptAfterStop between result after
+    → KeptAfterStop before result after
 kept_then before between after result one other =
     record { grows = grows_then {between = between.emitter.page} one.grows other.grows; sound = sound_then result other.sound }
   where

@@ -1,16 +1,17 @@
 -- What is left fits what is allowed, as collections are begun and go on.
-use Rattle.yaml_json.proofs.Common.{◌≡◌, ℕ, suc, ◌+◌, ◌-◌, ◌<◌, ◌≤◌, arith, ◌∷◌, ◌++◌, [], List, Option, None, Some, Result, Ok, Err, IfSome, refl, ap, subst, sym, ◌∙◌, length, length-append, cases_lt, inl, inr}
+use Rattle.yaml_json.proofs.Common.{◌≡◌, ℕ, suc, ◌+◌, ◌-◌, ◌<◌, ◌≤◌, arith, ◌∷◌, ◌++◌, [], List, Option, None, Some, Result, Ok, Err, IfSome, refl, ap, subst}
+use Rattle.yaml_json.proofs.Common.{sym, ◌∙◌, length, length-append, cases_lt, inl, inr}
 use Rattle.std.specs.Prelude.{◌↔◌, max}
 use Rattle.yaml_base.specs.declared.errors.{yaml_error_t.yaml_error_t}
-use Rattle.toml_ordered.specs.Data.{Node, Nodes}
+use Rattle.toml_ordered.specs.Data.{TomlNode, TomlNodes}
 use Rattle.toml_ordered.specs.Grammar.{ordered_document}
 use Rattle.toml_ordered.specs.Places.{place_left}
 use Rattle.toml_ordered.specs.declared.fault.Fault.{Fault}
 use Rattle.toml_ordered.specs.declared.fault.Fault.TheVariants as fault
-use Rattle.yaml_toml.specs.Depth.{ExplainsDepth, document_nesting, nesting}
+use Rattle.yaml_toml.specs.Depth.{ExplainsDepth, document_nesting, toml_nesting}
 use Rattle.yaml_toml.specs.Fitting.{FitsAfter, NestsAfter, NodeFits, PendingFits, RestFits, rest_nesting}
-use Rattle.yaml_toml.specs.Places.{IsAt}
-use Rattle.yaml_toml.specs.Walk.{IsMemory, IsStopOf, fault_error, stop_error, writers_error}
+use Rattle.yaml_toml.specs.Places.{IsBeforeLeft}
+use Rattle.yaml_toml.specs.Walk.{IsOwnMemory, IsStopOf, fault_error, stop_error, writers_error}
 use Rattle.yaml_toml.specs.declared.error.TomlError.{TomlError}
 use Rattle.yaml_toml.specs.declared.error.TomlError.TheVariants as errors
 use Rattle.yaml_toml.specs.declared.walk.Rest.{Rest}
@@ -76,29 +77,29 @@ pub fits_failed : (depth : ℕ) (due : Type 0) (answer : Result (Unit {0}) yaml_
 fits_failed depth due (Ok done) stopped opened is = absurd is
 fits_failed depth due (Err error) stopped opened is = subst (λ (s : Stop). FitsAfter depth due (Err s) opened) (sym is) tt
 
-pub fits_memory : (depth : ℕ) (due : Type 0) (stopped : Stop) (opened : List Rest) → IsMemory stopped → FitsAfter depth due (Err stopped) opened
+pub fits_memory : (depth : ℕ) (due : Type 0) (stopped : Stop) (opened : List Rest) → IsOwnMemory stopped → FitsAfter depth due (Err stopped) opened
 fits_memory depth due stopped opened is = subst (λ (s : Stop). FitsAfter depth due (Err s) opened) (sym is) tt
 
 -- a value, by what it stands for
-pub fits_seen : (depth : ℕ) (x y : Node) (result : Result (Unit {0}) Stop) (opened after : List Rest) → x ≡ y
-    → FitsAfter depth (NodeFits depth (nesting y) opened) result after → FitsAfter depth (NodeFits depth (nesting x) opened) result after
+pub fits_seen : (depth : ℕ) (x y : TomlNode) (result : Result (Unit {0}) Stop) (opened after : List Rest) → x ≡ y
+    → FitsAfter depth (NodeFits depth (toml_nesting y) opened) result after → FitsAfter depth (NodeFits depth (toml_nesting x) opened) result after
 fits_seen depth x y result opened after is =
-    subst (λ (z : Node). FitsAfter depth (NodeFits depth (nesting z) opened) result after) (sym is)
+    subst (λ (z : TomlNode). FitsAfter depth (NodeFits depth (toml_nesting z) opened) result after) (sym is)
 
 -- a scalar was written
-pub fits_scalar : (depth : ℕ) (x y : Node) (answer : Result (Unit {0}) yaml_error_t) (result : Result (Unit {0}) Stop) (opened : List Rest) → x ≡ y
-    → nesting y ≡ 0 → IsStopOf answer result → FitsAfter depth (NodeFits depth (nesting x) opened) result opened
+pub fits_scalar : (depth : ℕ) (x y : TomlNode) (answer : Result (Unit {0}) yaml_error_t) (result : Result (Unit {0}) Stop) (opened : List Rest) → x ≡ y
+    → toml_nesting y ≡ 0 → IsStopOf answer result → FitsAfter depth (NodeFits depth (toml_nesting x) opened) result opened
 fits_scalar depth x y answer result opened is none stops =
-    fits_of depth (NodeFits depth (nesting x) opened) answer result opened stops
-    (subst (λ n. PendingFits depth 0 opened ↔ NodeFits depth n opened) (sym (ap nesting is ∙ none)) (fits_leaf depth opened))
+    fits_of depth (NodeFits depth (toml_nesting x) opened) answer result opened stops
+    (subst (λ n. PendingFits depth 0 opened ↔ NodeFits depth n opened) (sym (ap toml_nesting is ∙ none)) (fits_leaf depth opened))
 
 -- ---- a whole document
 
 -- what is left fits exactly where the document does
-abbrev pub DocumentFits : (depth : ℕ) → Nodes → List Rest → Type 0
+abbrev pub DocumentFits : (depth : ℕ) → TomlNodes → List Rest → Type 0
 DocumentFits depth root opened = PendingFits depth 0 opened ↔ (document_nesting root ≤ depth)
 
-module _ (depth : ℕ) (root : Nodes) where
+module _ (depth : ℕ) (root : TomlNodes) where
   too_deep : (document_nesting root ≤ depth → ⊥) → depth < document_nesting root
   too_deep not = elim (cases_lt depth (document_nesting root)) [
     | inl deeper ↦ deeper
@@ -141,7 +142,7 @@ IsNothing (Some error) = ⊥
 
 module _ (depth : ℕ) (text : List ℕ) where
   -- a document was read, and the walk over it stopped
-  pub stop_explained : (root : Nodes) (stopped : Stop) (error : TomlError) → ordered_document text ≡ Some root → writers_error error ≡ stop_error stopped
+  pub stop_explained : (root : TomlNodes) (stopped : Stop) (error : TomlError) → ordered_document text ≡ Some root → writers_error error ≡ stop_error stopped
       → NestsAfter depth root (Err stopped) → ExplainsDepth depth text error
   stop_explained root stop.TooDeep errors.TooDeep read is nests = record { root = root; read = read; deeper = nests }
   stop_explained root (stop.Failed failure) errors.TooDeep read is nests = absurd (subst IsNothing is tt)
@@ -151,7 +152,7 @@ module _ (depth : ℕ) (text : List ℕ) where
 
   -- none was read
   pub fault_explained : (found : Fault) (error : TomlError) → writers_error error ≡ fault_error found
-      → IfSome (place_left found) (λ left. IsAt text left error) → ExplainsDepth depth text error
+      → IfSome (place_left found) (λ left. IsBeforeLeft text left error) → ExplainsDepth depth text error
   fault_explained fault.Memory errors.TooDeep is at = absurd (subst IsNothing is tt)
   fault_explained (fault.NotToml left) errors.TooDeep is at = absurd at
   fault_explained (fault.DefinedAgain key first second) errors.TooDeep is at = absurd at

@@ -1,5 +1,7 @@
 -- The characters of a float of TOML are a number of JSON.
-use Rattle.std.proofs.Common.{◌≡◌, ◌⊎◌, ℕ, zero, suc, ◌+◌, ◌-◌, ◌<◌, Bool, true, false, not, cond, pos, ◌^◌, ◌&&◌, ◌||◌, ◌==◌, List, [], ◌∷◌, ◌++◌, length, length-take, take, drop, slice_range, slice_index, codes, Option, None, Some, Float, refl, sym, ap, ap₂, subst, ◌∙◌, arith, inl, inr, bytes_eq, append_assoc, append-nil}
+use Rattle.std.proofs.Common.{◌≡◌, ◌⊎◌, ℕ, zero, suc, ◌+◌, ◌-◌, ◌<◌, Bool, true, false, not, cond, pos, ◌^◌, ◌&&◌, ◌||◌, ◌==◌, List, [], ◌∷◌, ◌++◌, length}
+use Rattle.std.proofs.Common.{length-take, take, drop, slice_range, slice_index, codes, Option, None, Some, Float, refl, sym, ap, ap₂, subst, ◌∙◌, arith, inl}
+use Rattle.std.proofs.Common.{inr, bytes_eq, append_assoc, append-nil}
 use Rattle.std.specs.Prelude.{nat_lt, nat_le, if◌then◌else◌}
 use Rattle.std.proofs.Math.Seq.{drop-length, drop-nil}
 use Rattle.std.proofs.lemmas.Bool.{and_parts, eqb-true, ltb-true, lt-ltb, or_cases, or_right, false≢true, leb-true, ne_eqb, not_from_false, and_from}
@@ -17,7 +19,7 @@ use Rattle.toml_parser.specs.declared.scalar.Scalar.{Scalar}
 use Rattle.toml_parser.specs.declared.scalar.Scalar.TheVariants as scalar
 use Rattle.yaml_base.specs.Characters.{Text}
 use Rattle.yaml_base.specs.Words.{is_word}
-use Rattle.yaml_base.specs.values.JsonNumbers.{JsonExponent, JsonNumber, exponent_text, is_json_number, is_whole, json_text, minus}
+use Rattle.yaml_base.specs.values.JsonNumbers.{JsonExponent, JsonNumber, exponent_text, is_json_number, is_whole_part, json_text, minus}
 use Rattle.yaml_base.specs.values.Resolved.{are_digits}
 use Rattle.yaml_writer.proofs.PartLemmas.{number_found}
 use Rattle.yaml_writer.specs.NumberParts.{IsNumber, number_in}
@@ -223,7 +225,7 @@ first_digit c rest (inl one) =
     let none = nil_from_length rest (omega (arith, short)) in
     subst (λ (ds : List ℕ). (is_word (c ∷ ds) (codes "0") || not (c == 48)) ≡ true) (sym none) (lone_zero c (c == 48) refl)
 
-whole_of : (digits : List ℕ) → are_digits 10 digits ≡ true → (length digits == 1 || not (first digits == 48)) ≡ true → is_whole digits ≡ true
+whole_of : (digits : List ℕ) → are_digits 10 digits ≡ true → (length digits == 1 || not (first digits == 48)) ≡ true → is_whole_part digits ≡ true
 whole_of [] some lone = absurd (false≢true some)
 whole_of (c ∷ rest) some lone =
     and_from (are_digits 10 (c ∷ rest)) (is_word (c ∷ rest) (codes "0") || not (c == 48)) some
@@ -233,7 +235,8 @@ whole_of (c ∷ rest) some lone =
 abbrev HasNumber : List ℕ → Type 0
 HasNumber text = (number : JsonNumber) × (is_json_number number ≡ true) × (text ≡ json_text number)
 
-number_from : (negative : Bool) (bs digits : List ℕ) (a : ℕ) → bs ≡ digits ++ drop a bs → is_whole digits ≡ true → FractionAt bs a → HasNumber (minus negative ++ bs)
+number_from : (negative : Bool) (bs digits : List ℕ) (a : ℕ) → bs ≡ digits ++ drop a bs → is_whole_part digits ≡ true → FractionAt bs a
+    → HasNumber (minus negative ++ bs)
 number_from negative bs digits a cut whole more = (
   record { negative = negative; whole = digits; fraction = more.fraction; exponent = more.exponent },
   valid_by more.fraction more.exponent more.valid more.exponent_valid_is,
@@ -242,13 +245,13 @@ number_from negative bs digits a cut whole more = (
   where
     valid_by : (fraction : Option Text) (exponent : Option JsonExponent) → fraction_valid fraction ≡ true → exponent_valid exponent ≡ true
         → is_json_number (record { negative = negative; whole = digits; fraction = fraction; exponent = exponent }) ≡ true
-    valid_by None None first_is last_is = and_from (is_whole digits && true) true (and_from (is_whole digits) true whole refl) refl
+    valid_by None None first_is last_is = and_from (is_whole_part digits && true) true (and_from (is_whole_part digits) true whole refl) refl
     valid_by None (Some e) first_is last_is =
-        and_from (is_whole digits && true) (are_digits 10 e.digits) (and_from (is_whole digits) true whole refl) last_is
+        and_from (is_whole_part digits && true) (are_digits 10 e.digits) (and_from (is_whole_part digits) true whole refl) last_is
     valid_by (Some f) None first_is last_is =
-        and_from (is_whole digits && are_digits 10 f) true (and_from (is_whole digits) (are_digits 10 f) whole first_is) refl
+        and_from (is_whole_part digits && are_digits 10 f) true (and_from (is_whole_part digits) (are_digits 10 f) whole first_is) refl
     valid_by (Some f) (Some e) first_is last_is =
-        and_from (is_whole digits && are_digits 10 f) (are_digits 10 e.digits) (and_from (is_whole digits) (are_digits 10 f) whole first_is) last_is
+        and_from (is_whole_part digits && are_digits 10 f) (are_digits 10 e.digits) (and_from (is_whole_part digits) (are_digits 10 f) whole first_is) last_is
 
     text_by : (fraction : Option Text) (exponent : Option JsonExponent)
         → minus negative ++ (digits ++ (fraction_text fraction ++ exponent_text exponent))

@@ -1,15 +1,17 @@
 -- What was given where a walk stops.
-use Rattle.yaml_json.proofs.Common.{◌≡◌, ℕ, suc, ◌≤◌, arith, ◌∷◌, ◌++◌, [], List, Bool, Result, Ok, Err, inl, inr, refl, ap, subst, sym, ◌∙◌, append-nil, length}
+use Rattle.yaml_json.proofs.Common.{◌≡◌, ℕ, suc, ◌≤◌, arith, ◌∷◌, ◌++◌, [], List, Bool, Result, Ok, Err, inl, inr, refl, ap, subst, sym, ◌∙◌, append-nil}
+use Rattle.yaml_json.proofs.Common.{length}
 use Rattle.std.specs.Prelude.{OnErr, pred, zero}
-use Rattle.yaml_json.proofs.Common.{Event, Scalar, scalar, WriterState, WroteEvent, StandsTaken, FailedAt, start_event, collection_in, mapping_start, mapping_end, sequence_end}
+use Rattle.yaml_json.proofs.Common.{Event, Scalar, scalar, WriterState, WroteEvent, StandsTaken, FailedGiving, start_event, collection_in, mapping_start}
+use Rattle.yaml_json.proofs.Common.{mapping_end, sequence_end}
 use Rattle.yaml_json.proofs.WroteLemmas.{adds_then}
 use Rattle.yaml_base.specs.declared.errors.yaml_error_t.{yaml_error_t}
 use Rattle.yaml_base.specs.declared.kinds.CollectionKind.{CollectionKind}
 use Rattle.yaml_base.specs.declared.kinds.CollectionKind.TheVariants.{Mapping}
-use Rattle.toml_ordered.specs.Data.{Node, Nodes}
+use Rattle.toml_ordered.specs.Data.{TomlNode, TomlNodes}
 use Rattle.yaml_toml.specs.Events.{toml_events, keys_events}
 use Rattle.yaml_toml.specs.OpenCounts.{open_after}
-use Rattle.yaml_toml.specs.Walk.{Answers, IsStopOf, StepsStop, kind_of, kinds_of, pending, rest_events}
+use Rattle.yaml_toml.specs.Walk.{Answers, IsStopOf, StepsStop, rest_kind, kinds_of, pending, rest_events}
 use Rattle.yaml_toml.specs.declared.walk.Rest.{Rest}
 use Rattle.yaml_toml.specs.declared.walk.Stop.{Stop}
 use Rattle.yaml_toml.proofs.Pending.{due_last, due_next, kinds-push}
@@ -36,7 +38,7 @@ module _ (most : ℕ) (was : WriterState) where
   module _ (now : WriterState) where
     -- an event was given, or nothing
     halts_at : (event : Event) (due : List Event) (before : List CollectionKind) (error : yaml_error_t)
-        → (length before ≤ most → open_after event (length before) ≤ most) → FailedAt was event error now → StepsStop most was (event ∷ due) before now
+        → (length before ≤ most → open_after event (length before) ≤ most) → FailedGiving was event error now → StepsStop most was (event ∷ due) before now
     halts_at event due before error room (inl memory) =
         subst (λ (after : WriterState). StepsStop most was (event ∷ due) before after) (sym memory.1) (halts_at_once (event ∷ due) before)
     halts_at event due before error room (inr failed) = record {
@@ -63,7 +65,7 @@ module _ (most : ℕ) (was : WriterState) where
 
     module _ (in_flow : Bool) (opened : List Rest) where
       -- a scalar
-      pub halts_scalar : (x y : Node) (content : Scalar) (answer : Result (Unit {0}) yaml_error_t) (result : Result (Unit {0}) Stop) → x ≡ y
+      pub halts_scalar : (x y : TomlNode) (content : Scalar) (answer : Result (Unit {0}) yaml_error_t) (result : Result (Unit {0}) Stop) → x ≡ y
           → scalar content ∷ [] ≡ toml_events was.canonical in_flow y → IsStopOf answer result → Answers was (scalar content) answer now
           → OnErr result (StepsStop most was (toml_events was.canonical in_flow x ++ pending was.canonical in_flow opened) (kinds_of opened) now)
       halts_scalar x y content answer result is same stops answers =
@@ -73,37 +75,37 @@ module _ (most : ℕ) (was : WriterState) where
           (halts_of (scalar content) rest (kinds_of opened) answer result (λ fits. fits) stops answers)
 
       -- a value, by what it stands for
-      pub halts_seen : (x y : Node) (result : Result (Unit {0}) Stop) → x ≡ y
+      pub halts_seen : (x y : TomlNode) (result : Result (Unit {0}) Stop) → x ≡ y
           → OnErr result (StepsStop most was (toml_events was.canonical in_flow y ++ pending was.canonical in_flow opened) (kinds_of opened) now)
           → OnErr result (StepsStop most was (toml_events was.canonical in_flow x ++ pending was.canonical in_flow opened) (kinds_of opened) now)
       halts_seen x y result is =
-          subst (λ (z : Node). OnErr result (StepsStop most was (toml_events was.canonical in_flow z ++ pending was.canonical in_flow opened)
+          subst (λ (z : TomlNode). OnErr result (StepsStop most was (toml_events was.canonical in_flow z ++ pending was.canonical in_flow opened)
           (kinds_of opened) now)) (sym is)
 
       -- in a value that is next, of a collection of which this is left behind it
-      pub halts_next : (r : Rest) (kept : List Rest) (x : Node) (due : List Event) → kept ≡ opened ++ r ∷ []
+      pub halts_next : (r : Rest) (kept : List Rest) (x : TomlNode) (due : List Event) → kept ≡ opened ++ r ∷ []
           → toml_events was.canonical in_flow x ++ rest_events was.canonical in_flow r ≡ due
           → StepsStop most was (toml_events was.canonical in_flow x ++ pending was.canonical in_flow kept) (kinds_of kept) now
-          → StepsStop most was (due ++ pending was.canonical in_flow opened) (kinds_of opened ++ kind_of r ∷ []) now
+          → StepsStop most was (due ++ pending was.canonical in_flow opened) (kinds_of opened ++ rest_kind r ∷ []) now
       halts_next r kept x due is parts stop =
           let c = was.canonical in
-          halts_same (toml_events c in_flow x ++ pending c in_flow kept) (due ++ pending c in_flow opened) (kinds_of kept) (kinds_of opened ++ kind_of r ∷ [])
+          halts_same (toml_events c in_flow x ++ pending c in_flow kept) (due ++ pending c in_flow opened) (kinds_of kept) (kinds_of opened ++ rest_kind r ∷ [])
           (ap (λ (all : List Rest). toml_events c in_flow x ++ pending c in_flow all) is ∙ due_next c in_flow r opened x due parts)
           (ap kinds_of is ∙ kinds-push opened r) stop
 
       -- at the last table of an array
-      pub halts_last : (empty last : Rest) (kept : List Rest) (keys : Nodes) (due : List Event) → kept ≡ opened ++ empty ∷ [] → kind_of last ≡ Mapping
+      pub halts_last : (empty last : Rest) (kept : List Rest) (keys : TomlNodes) (due : List Event) → kept ≡ opened ++ empty ∷ [] → rest_kind last ≡ Mapping
           → rest_events was.canonical in_flow last ≡ keys_events was.canonical in_flow keys ++ mapping_end ∷ []
           → rest_events was.canonical in_flow empty ≡ sequence_end ∷ []
           → mapping_start (collection_in in_flow) ∷ (keys_events was.canonical in_flow keys ++ mapping_end ∷ sequence_end ∷ []) ≡ due
-          → StepsStop most was (start_event in_flow (kind_of last) ∷ (rest_events was.canonical in_flow last ++ pending was.canonical in_flow kept))
+          → StepsStop most was (start_event in_flow (rest_kind last) ∷ (rest_events was.canonical in_flow last ++ pending was.canonical in_flow kept))
           (kinds_of kept) now
-          → StepsStop most was (due ++ pending was.canonical in_flow opened) (kinds_of opened ++ kind_of empty ∷ []) now
+          → StepsStop most was (due ++ pending was.canonical in_flow opened) (kinds_of opened ++ rest_kind empty ∷ []) now
       halts_last empty last kept keys due is mapping lasts empties parts stop =
           let c = was.canonical in
-          halts_same (start_event in_flow (kind_of last) ∷ (rest_events c in_flow last ++ pending c in_flow kept)) (due ++ pending c in_flow opened)
-          (kinds_of kept) (kinds_of opened ++ kind_of empty ∷ [])
-          (ap (λ (all : List Rest). start_event in_flow (kind_of last) ∷ (rest_events c in_flow last ++ pending c in_flow all)) is
+          halts_same (start_event in_flow (rest_kind last) ∷ (rest_events c in_flow last ++ pending c in_flow kept)) (due ++ pending c in_flow opened)
+          (kinds_of kept) (kinds_of opened ++ rest_kind empty ∷ [])
+          (ap (λ (all : List Rest). start_event in_flow (rest_kind last) ∷ (rest_events c in_flow last ++ pending c in_flow all)) is
           ∙ due_last c in_flow empty last opened keys due mapping lasts empties parts)
           (ap kinds_of is ∙ kinds-push opened empty) stop
 

@@ -1,11 +1,13 @@
 -- Integers are numbers of JSON, so both schemas read them as themselves.
-use Rattle.yaml_json.proofs.Common.{ℕ, ◌<◌, ◌≤◌, ◌==◌, None, codes, length, Bool, false, not, true, ◌&&◌, ◌||◌, [], ◌++◌, ◌∷◌, refl, ◌≡◌, arith, ap, ap₂, sym, ◌∙◌, subst, append-nil}
-use Rattle.yaml_json.proofs.Common.{and_from, not_from_false, list_all, Text, are_digits, is_json_number, JsonNumber, yaml_number, Schema, is_empty, is_plain, plain, if◌then◌else◌}
+use Rattle.yaml_json.proofs.Common.{ℕ, ◌<◌, ◌≤◌, ◌==◌, None, codes, length, Bool, false, not, true, ◌&&◌, ◌||◌, [], ◌++◌, ◌∷◌, refl, ◌≡◌, arith, ap, ap₂, sym}
+use Rattle.yaml_json.proofs.Common.{◌∙◌, subst, append-nil}
+use Rattle.yaml_json.proofs.Common.{and_from, not_from_false, list_all, Text, are_digits, is_json_number, JsonNumber, yaml_number, Schema, is_empty, is_plain}
+use Rattle.yaml_json.proofs.Common.{plain, if◌then◌else◌}
 use Rattle.yaml_json.proofs.Common.{fraction_or_default}
 use Rattle.yaml_base.specs.values.JsonNumbers.{value_with}
 use Rattle.yaml_base.proofs.Common.{allowances, chosen, meant_integer, meant_decimal, signed, digits_value}
 use Rattle.yaml_base.specs.values.Resolved.{is_decimal}
-use Rattle.yaml_base.specs.values.JsonNumbers.{is_whole, is_json_integer}
+use Rattle.yaml_base.specs.values.JsonNumbers.{is_whole_part, is_json_integer}
 use Rattle.yaml_base.specs.Words.{is_word}
 use Rattle.yaml_base.proofs.NumberCuts.{some_digits}
 use Rattle.yaml_json.proofs.Meanings.{ReadsScalars}
@@ -29,7 +31,7 @@ are_some [] some h = absurd (omega arith)
 are_some (c ∷ digits) some h = some_digits c digits (digits_pass (c ∷ digits) h)
 
 -- digits of which the first is `0` only where it is alone
-whole_is : (digits : Text) → 0 < length digits → AllDigits 10 digits → (slice_index digits 0 ≡ 48 → length digits ≡ 1) → is_whole digits ≡ true
+whole_is : (digits : Text) → 0 < length digits → AllDigits 10 digits → (slice_index digits 0 ≡ 48 → length digits ≡ 1) → is_whole_part digits ≡ true
 whole_is [] some h lone = absurd (omega arith)
 whole_is (c ∷ rest) some h lone =
     and_from (are_digits 10 (c ∷ rest)) (is_word (c ∷ rest) (codes "0") || not (c == 48)) (are_some (c ∷ rest) some h) (by (c == 48) refl)
@@ -66,7 +68,7 @@ lone_zero : (n : ℕ) → n < 10 ^ 64 → slice_index (decimal n) 0 ≡ 48 → l
 lone_zero zero h e = ap length (decimal_digit 0 (omega arith))
 lone_zero (suc n) h e = let first = first_digit (suc n) h (omega arith) in absurd (omega (arith, first, e))
 
-whole_decimal : (n : ℕ) → n < 10 ^ 64 → is_whole (decimal n) ≡ true
+whole_decimal : (n : ℕ) → n < 10 ^ 64 → is_whole_part (decimal n) ≡ true
 whole_decimal n h = let digits = decimal_is_IsNumeral_wide n h in whole_is (decimal n) digits.0.0 digits.0.1 (lone_zero n h)
 
 -- an integer by its sign and its digits
@@ -74,7 +76,7 @@ abbrev integer : Bool → Text → JsonNumber
 integer negative digits = record { negative = negative; whole = digits; fraction = None; exponent = None }
 
 valid_integer : (negative : Bool) (n : ℕ) → n < 10 ^ 64 → is_json_number (integer negative (decimal n)) ≡ true
-valid_integer negative n h = all_true (is_whole (decimal n)) true true (whole_decimal n h) refl refl
+valid_integer negative n h = all_true (is_whole_part (decimal n)) true true (whole_decimal n h) refl refl
 
 -- no integer but 0 is written `0`
 not_zero : (n : ℕ) → suc n < 10 ^ 64 → is_word (decimal (suc n)) (codes "0") ≡ false

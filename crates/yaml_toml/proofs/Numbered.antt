@@ -1,5 +1,6 @@
 -- Each decimal that a word of TOML writes is a number of JSON, and each integer has few digits.
-use Rattle.std.proofs.Common.{◌≡◌, ℕ, ℤ, zero, suc, ◌^◌, ◌≤◌, Bool, true, false, cond, not, ◌&&◌, ◌||◌, ◌==◌, List, length, drop, codes, Option, None, Some, option_map, Float, pos, neg_ℤ, refl, subst, arith, inl, inr, bytes_eq}
+use Rattle.std.proofs.Common.{◌≡◌, ℕ, ℤ, zero, suc, ◌^◌, ◌≤◌, Bool, true, false, cond, not, ◌&&◌, ◌||◌, ◌==◌, List, length, drop, codes, Option, None, Some}
+use Rattle.std.proofs.Common.{option_map, Float, pos, neg_ℤ, refl, subst, arith, inl, inr, bytes_eq}
 use Rattle.std.specs.Prelude.{IfSome, nat_lt}
 use Rattle.std.specs.Str.Parse.{digits_value}
 use Rattle.std.specs.List.{list_all}
@@ -10,11 +11,12 @@ use Rattle.std.specs.Float.Numeral.{nearest_float as nearest, numeral_digits as 
 use Rattle.std.proofs.lemmas.Bool.{and_parts, eqb-true, ltb-true, or_cases}
 use Rattle.toml_datetime.specs.Parse.{parse_datetime}
 use Rattle.toml_parser.specs.Lexical.{first}
-use Rattle.toml_parser.specs.Numbers.{decimal_number, float_of, integer_of, is_decimal, looks_like_datetime, number, plain_number, prefixed_integer, radix_of, underscore_radix, underscores_fit, word_value}
+use Rattle.toml_parser.specs.Numbers.{decimal_number, float_of, integer_of, is_decimal, looks_like_datetime, number, plain_number, prefixed_integer, radix_of}
+use Rattle.toml_parser.specs.Numbers.{underscore_radix, underscores_fit, word_value}
 use Rattle.toml_parser.specs.declared.scalar.Scalar.{Scalar}
 use Rattle.toml_parser.specs.declared.scalar.Scalar.TheVariants as scalar
 use Rattle.toml_ordered.specs.Data.{decimal, infinity, not_a_number}
-use Rattle.toml_ordered.specs.Grammar.{float_node, past_sign, plain_word, scalar_node}
+use Rattle.toml_ordered.specs.Grammar.{float_node, without_sign, plain_word, scalar_node}
 use Rattle.yaml_toml.specs.Walk.{FewDigits, HasNumbers, ScalarsHaveNumbers}
 use Rattle.yaml_toml.proofs.FloatWords.{float_word}
 
@@ -95,9 +97,9 @@ small_plain word =
 
 -- a float that is read, by its word without underscores
 float_numbers : (word : List ℕ) (x : Float) → plain_number word ≡ Some (scalar.Float x) → HasNumbers (float_node word)
-float_numbers word x read = by (bytes_eq (past_sign word) (codes "inf")) refl (bytes_eq (past_sign word) (codes "nan")) refl
+float_numbers word x read = by (bytes_eq (without_sign word) (codes "inf")) refl (bytes_eq (without_sign word) (codes "nan")) refl
   where
-    by : (a : Bool) → bytes_eq (past_sign word) (codes "inf") ≡ a → (b : Bool) → bytes_eq (past_sign word) (codes "nan") ≡ b
+    by : (a : Bool) → bytes_eq (without_sign word) (codes "inf") ≡ a → (b : Bool) → bytes_eq (without_sign word) (codes "nan") ≡ b
         → HasNumbers (cond a (infinity (first word == 45)) (cond b not_a_number (decimal word)))
     by true a b is = tt
     by false a true is = tt

@@ -1,18 +1,21 @@
 -- What is pending, as collections are begun and go on.
-use Rattle.yaml_json.proofs.Common.{◌≡◌, ℕ, suc, length, length-append, Scalar, ◌+◌, ◌<◌, ◌≤◌, arith, ◌∷◌, ◌++◌, [], List, Bool, refl, ap, subst, sym, ◌∙◌, append-nil, append_assoc}
+use Rattle.yaml_json.proofs.Common.{◌≡◌, ℕ, suc, length, length-append, Scalar, ◌+◌, ◌<◌, ◌≤◌, arith, ◌∷◌, ◌++◌, [], List, Bool, refl, ap, subst, sym, ◌∙◌}
+use Rattle.yaml_json.proofs.Common.{append-nil, append_assoc}
 use Rattle.std.specs.Prelude.{String, string_bytes}
 use Rattle.std.specs.declared.alloc.Global.{Global}
-use Rattle.yaml_json.proofs.Common.{Event, WriterState, WroteEvent, start_event, scalar, text_content, chars, sequence_end, mapping_end, mapping_start, collection_in}
+use Rattle.yaml_json.proofs.Common.{Event, WriterState, WroteEvent, start_event, scalar, text_content, chars, sequence_end, mapping_end, mapping_start}
+use Rattle.yaml_json.proofs.Common.{collection_in}
 use Rattle.yaml_base.specs.declared.kinds.CollectionKind.{CollectionKind}
 use Rattle.yaml_base.specs.declared.kinds.CollectionKind.TheVariants.{Mapping, Sequence}
 use Rattle.toml_ordered.specs.Data as toml
-use Rattle.toml_ordered.specs.Data.{Node, items_view, entries_view, node_view, table}
+use Rattle.toml_ordered.specs.Data.{TomlNode, items_view, entries_view, node_view, table}
 use Rattle.toml_ordered.specs.declared.tree.Node.{Node as CodeNode}
 use Rattle.toml_ordered.specs.declared.tree.Origin.{Origin}
 use Rattle.std.proofs.lemmas.List.{length-map}
-use Rattle.yaml_toml.specs.Events.{toml_events, items_events, keys_events}
+use Rattle.yaml_toml.specs.Events.{toml_events, toml_items_events, keys_events}
 use Rattle.yaml_toml.specs.OpenCounts.{Opens, open_after}
-use Rattle.yaml_toml.specs.Walk.{Moved, Steps, HasNumbers, ItemsHaveNumbers, KeysHaveNumbers, PendingHaveNumbers, RestHasNumbers, items_left, keys_left, kind_of, kinds_of, pending, rest_events, rest_size, pending_size, node_size, items_size, keys_size}
+use Rattle.yaml_toml.specs.Walk.{Moved, GaveSome, HasNumbers, ItemsHaveNumbers, KeysHaveNumbers, PendingHaveNumbers, RestHasNumbers, items_left, keys_left}
+use Rattle.yaml_toml.specs.Walk.{rest_kind, kinds_of, pending, rest_events, rest_size, pending_size, node_size, items_size, keys_size}
 use Rattle.yaml_toml.specs.declared.walk.Rest.{Rest}
 use Rattle.yaml_toml.proofs.Answering.{moved_event, moved_within, moved_then}
 
@@ -26,7 +29,7 @@ module _ (canonical in_flow : Bool) where
 
   -- an item, and those after it
   pub items_left-more : (x : CodeNode) (xs : List CodeNode) → items_left canonical in_flow (x ∷ xs) ≡ toml_events canonical in_flow (node_view x) ++ items_left canonical in_flow xs
-  items_left-more x xs = append_assoc (toml_events canonical in_flow (node_view x)) (items_events canonical in_flow (items_view xs)) (sequence_end ∷ [])
+  items_left-more x xs = append_assoc (toml_events canonical in_flow (node_view x)) (toml_items_events canonical in_flow (items_view xs)) (sequence_end ∷ [])
 
   pub keys_left-more : (m : String Global × CodeNode × ℕ) (ms : List (String Global × CodeNode × ℕ))
       → keys_left canonical in_flow (m ∷ ms)
@@ -35,9 +38,9 @@ module _ (canonical in_flow : Bool) where
       ap (λ (events : List Event). scalar (text_content (chars (string_bytes m.0))) ∷ events)
       (append_assoc (toml_events canonical in_flow (node_view m.1)) (keys_events canonical in_flow (entries_view ms)) (mapping_end ∷ []))
 
-pub kinds-push : (opened : List Rest) (r : Rest) → kinds_of (opened ++ r ∷ []) ≡ kinds_of opened ++ kind_of r ∷ []
+pub kinds-push : (opened : List Rest) (r : Rest) → kinds_of (opened ++ r ∷ []) ≡ kinds_of opened ++ rest_kind r ∷ []
 kinds-push [] r = refl
-kinds-push (outer ∷ inner) r = ap (λ (ks : List CollectionKind). kind_of outer ∷ ks) (kinds-push inner r)
+kinds-push (outer ∷ inner) r = ap (λ (ks : List CollectionKind). rest_kind outer ∷ ks) (kinds-push inner r)
 
 pub numbers-push : (opened : List Rest) (r : Rest) → PendingHaveNumbers (opened ++ r ∷ []) → RestHasNumbers r × PendingHaveNumbers opened
 numbers-push [] r have = (have.0, tt)
@@ -50,10 +53,10 @@ size-push (outer ∷ inner) r = ap (λ n. rest_size outer + n) (size-push inner 
 -- ---- how many are open
 
 pub kinds_length : (opened : List Rest) → length (kinds_of opened) ≡ length opened
-kinds_length opened = length-map opened kind_of
+kinds_length opened = length-map opened rest_kind
 
 pushed_length : (opened : List Rest) (r : Rest) → length (kinds_of (opened ++ r ∷ [])) ≡ suc (length (kinds_of opened))
-pushed_length opened r = ap length (kinds-push opened r) ∙ length-append (kinds_of opened) (kind_of r ∷ []) ∙ omega arith
+pushed_length opened r = ap length (kinds-push opened r) ∙ length-append (kinds_of opened) (rest_kind r ∷ []) ∙ omega arith
 
 pub entered : (in_flow : Bool) (kind : CollectionKind) (most before behind : ℕ) → before ≤ most → suc before ≤ most → behind ≡ suc before
     → Opens most before (start_event in_flow kind ∷ []) behind
@@ -71,7 +74,7 @@ left_open event most before behind fits falls is =
 module _ (most : ℕ) (in_flow : Bool) (was now : WriterState) where
   -- a scalar was written
   pub steps_leaf : (content : Scalar) (numbers : Type 0) (opened : List Rest) → numbers → WroteEvent was (scalar content) now
-      → Steps most in_flow was (scalar content ∷ pending was.canonical in_flow opened) (kinds_of opened) (numbers × PendingHaveNumbers opened)
+      → GaveSome most in_flow was (scalar content ∷ pending was.canonical in_flow opened) (kinds_of opened) (numbers × PendingHaveNumbers opened)
       (1 + pending_size opened) now opened
   steps_leaf content numbers opened have wrote = record {
     given = scalar content ∷ [];
@@ -83,28 +86,31 @@ module _ (most : ℕ) (in_flow : Bool) (was now : WriterState) where
   }
 
   -- a collection was begun, of which this is left
-  pub steps_enter : (r : Rest) (opened after : List Rest) → after ≡ opened ++ r ∷ [] → length opened < most → Moved was (start_event in_flow (kind_of r) ∷ []) [] (kind_of r ∷ []) now
-      → Steps most in_flow was (start_event in_flow (kind_of r) ∷ (rest_events was.canonical in_flow r ++ pending was.canonical in_flow opened)) (kinds_of opened)
+  pub steps_enter : (r : Rest) (opened after : List Rest) → after ≡ opened ++ r ∷ [] → length opened < most
+      → Moved was (start_event in_flow (rest_kind r) ∷ []) [] (rest_kind r ∷ []) now
+      → GaveSome most in_flow was (start_event in_flow (rest_kind r) ∷ (rest_events was.canonical in_flow r ++ pending was.canonical in_flow opened))
+      (kinds_of opened)
       (RestHasNumbers r × PendingHaveNumbers opened) (1 + (rest_size r + pending_size opened)) now after
-  steps_enter r opened after is room moved = subst (λ (all : List Rest). Steps most in_flow was (start_event in_flow (kind_of r)
+  steps_enter r opened after is room moved = subst (λ (all : List Rest). GaveSome most in_flow was (start_event in_flow (rest_kind r)
       ∷ (rest_events was.canonical in_flow r ++ pending was.canonical in_flow opened)) (kinds_of opened) (RestHasNumbers r × PendingHaveNumbers opened) (1 + (rest_size r + pending_size opened)) now all) (sym is)
       (record {
-        given = start_event in_flow (kind_of r) ∷ [];
+        given = start_event in_flow (rest_kind r) ∷ [];
         moved =
-            subst (λ (ks : List CollectionKind). Moved was (start_event in_flow (kind_of r) ∷ []) (kinds_of opened) ks now) (sym (kinds-push opened r))
-            (subst (λ (ks : List CollectionKind). Moved was (start_event in_flow (kind_of r) ∷ []) ks (kinds_of opened ++ kind_of r ∷ []) now) (append-nil (kinds_of opened))
-            (moved_within was now (start_event in_flow (kind_of r) ∷ []) (kinds_of opened) [] (kind_of r ∷ []) moved));
-        parts = ap (λ (events : List Event). start_event in_flow (kind_of r) ∷ events) (pending-push was.canonical in_flow opened r);
+            subst (λ (ks : List CollectionKind). Moved was (start_event in_flow (rest_kind r) ∷ []) (kinds_of opened) ks now) (sym (kinds-push opened r))
+            (subst (λ (ks : List CollectionKind). Moved was (start_event in_flow (rest_kind r) ∷ []) ks (kinds_of opened ++ rest_kind r ∷ []) now)
+            (append-nil (kinds_of opened))
+            (moved_within was now (start_event in_flow (rest_kind r) ∷ []) (kinds_of opened) [] (rest_kind r ∷ []) moved));
+        parts = ap (λ (events : List Event). start_event in_flow (rest_kind r) ∷ events) (pending-push was.canonical in_flow opened r);
         numbers_in = numbers-push opened r;
         less = omega (arith, size-push opened r);
-        few = λ fits. entered in_flow (kind_of r) most (length (kinds_of opened)) (length (kinds_of (opened ++ r ∷ []))) fits
+        few = λ fits. entered in_flow (rest_kind r) most (length (kinds_of opened)) (length (kinds_of (opened ++ r ∷ []))) fits
             (omega (arith, room, kinds_length opened)) (pushed_length opened r);
       })
 
   -- the innermost was ended, of which nothing was left
   pub steps_end : (event : Event) (kind : CollectionKind) (numbers : Type 0) (opened : List Rest) → numbers
       → ((n : ℕ) → open_after event (suc n) ≡ n) → Moved was (event ∷ []) (kind ∷ []) [] now
-      → Steps most in_flow was (event ∷ pending was.canonical in_flow opened) (kinds_of opened ++ kind ∷ []) (numbers × PendingHaveNumbers opened)
+      → GaveSome most in_flow was (event ∷ pending was.canonical in_flow opened) (kinds_of opened ++ kind ∷ []) (numbers × PendingHaveNumbers opened)
       (1 + pending_size opened) now opened
   steps_end event kind numbers opened have falls moved = record {
     given = event ∷ [];
@@ -120,8 +126,8 @@ module _ (most : ℕ) (in_flow : Bool) (was now : WriterState) where
 
   -- the same events were due, by other words
   pub steps_same : (due same : List Event) (before these : List CollectionKind) (numbers others : Type 0) (size limit : ℕ) (opened : List Rest)
-      → due ≡ same → before ≡ these → (numbers → others) → size ≤ limit → Steps most in_flow was due before numbers size now opened
-      → Steps most in_flow was same these others limit now opened
+      → due ≡ same → before ≡ these → (numbers → others) → size ≤ limit → GaveSome most in_flow was due before numbers size now opened
+      → GaveSome most in_flow was same these others limit now opened
   steps_same due same before these numbers others size limit opened is kinds follows within steps = record {
     given = steps.given;
     moved = subst (λ (ks : List CollectionKind). Moved was steps.given ks (kinds_of opened) now) kinds steps.moved;
@@ -133,8 +139,8 @@ module _ (most : ℕ) (in_flow : Bool) (was now : WriterState) where
 
 -- an event, and then steps
 pub steps_after : (most : ℕ) (in_flow : Bool) (was between now : WriterState) (content : Scalar) (due : List Event) (kinds : List CollectionKind) (numbers : Type 0)
-    (size : ℕ) (opened : List Rest) → WroteEvent was (scalar content) between → Steps most in_flow between due kinds numbers size now opened
-    → Steps most in_flow was (scalar content ∷ due) kinds numbers size now opened
+    (size : ℕ) (opened : List Rest) → WroteEvent was (scalar content) between → GaveSome most in_flow between due kinds numbers size now opened
+    → GaveSome most in_flow was (scalar content ∷ due) kinds numbers size now opened
 steps_after most in_flow was between now content due kinds numbers size opened wrote steps = record {
   given = scalar content ∷ steps.given;
   moved = moved_then was between now (scalar content ∷ []) steps.given kinds kinds (kinds_of opened) (moved_event was between (scalar content) kinds wrote)
@@ -148,7 +154,7 @@ steps_after most in_flow was between now content due kinds numbers size opened w
 }
 
 -- a value that is next, of a collection of which this is left behind it
-pub due_next : (canonical in_flow : Bool) (r : Rest) (opened : List Rest) (x : Node) (due : List Event)
+pub due_next : (canonical in_flow : Bool) (r : Rest) (opened : List Rest) (x : TomlNode) (due : List Event)
     → toml_events canonical in_flow x ++ rest_events canonical in_flow r ≡ due
     → toml_events canonical in_flow x ++ pending canonical in_flow (opened ++ r ∷ []) ≡ due ++ pending canonical in_flow opened
 due_next canonical in_flow r opened x due parts =
@@ -157,18 +163,20 @@ due_next canonical in_flow r opened x due parts =
     ∙ ap (λ (events : List Event). events ++ pending canonical in_flow opened) parts
 
 module _ (most : ℕ) (in_flow : Bool) (was now : WriterState) (r : Rest) (opened kept after : List Rest) (is : kept ≡ opened ++ r ∷ []) where
-  pub steps_next : (x : Node) (due : List Event) (numbers : Type 0) (size : ℕ) → toml_events was.canonical in_flow x ++ rest_events was.canonical in_flow r ≡ due
+  pub steps_next : (x : TomlNode) (due : List Event) (numbers : Type 0) (size : ℕ)
+      → toml_events was.canonical in_flow x ++ rest_events was.canonical in_flow r ≡ due
       → (HasNumbers x → RestHasNumbers r → numbers) → node_size x + rest_size r ≤ size
-      → Steps most in_flow was (toml_events was.canonical in_flow x ++ pending was.canonical in_flow kept) (kinds_of kept) (HasNumbers x × PendingHaveNumbers kept)
+      → GaveSome most in_flow was (toml_events was.canonical in_flow x ++ pending was.canonical in_flow kept) (kinds_of kept)
+      (HasNumbers x × PendingHaveNumbers kept)
       (node_size x + pending_size kept) now after
-      → Steps most in_flow was (due ++ pending was.canonical in_flow opened) (kinds_of opened ++ kind_of r ∷ []) (numbers × PendingHaveNumbers opened)
+      → GaveSome most in_flow was (due ++ pending was.canonical in_flow opened) (kinds_of opened ++ rest_kind r ∷ []) (numbers × PendingHaveNumbers opened)
       (size + pending_size opened) now after
   steps_next x due numbers size parts follows within steps =
       let c = was.canonical in
-      let pushed = subst (λ (all : List Rest). Steps most in_flow was (toml_events c in_flow x ++ pending c in_flow all) (kinds_of all)
+      let pushed = subst (λ (all : List Rest). GaveSome most in_flow was (toml_events c in_flow x ++ pending c in_flow all) (kinds_of all)
       (HasNumbers x × PendingHaveNumbers all) (node_size x + pending_size all) now after) is steps in
       steps_same most in_flow was now (toml_events c in_flow x ++ pending c in_flow (opened ++ r ∷ [])) (due ++ pending c in_flow opened)
-      (kinds_of (opened ++ r ∷ [])) (kinds_of opened ++ kind_of r ∷ []) (HasNumbers x × PendingHaveNumbers (opened ++ r ∷ []))
+      (kinds_of (opened ++ r ∷ [])) (kinds_of opened ++ rest_kind r ∷ []) (HasNumbers x × PendingHaveNumbers (opened ++ r ∷ []))
       (numbers × PendingHaveNumbers opened) (node_size x + pending_size (opened ++ r ∷ [])) (size + pending_size opened) after
       (due_next c in_flow r opened x due parts)
       (kinds-push opened r)
@@ -178,18 +186,18 @@ module _ (most : ℕ) (in_flow : Bool) (was now : WriterState) (r : Rest) (opene
 -- the same, behind a key
 pub steps_named : (most : ℕ) (in_flow : Bool) (was between now : WriterState) (content : Scalar) (due : (canonical : Bool) → List Event) (kinds : List CollectionKind)
     (numbers : Type 0) (size : ℕ) (opened after : List Rest) → WroteEvent was (scalar content) between
-    → Steps most in_flow between (due between.canonical ++ pending between.canonical in_flow opened) kinds numbers size now after
-    → Steps most in_flow was (scalar content ∷ (due was.canonical ++ pending was.canonical in_flow opened)) kinds numbers size now after
+    → GaveSome most in_flow between (due between.canonical ++ pending between.canonical in_flow opened) kinds numbers size now after
+    → GaveSome most in_flow was (scalar content ∷ (due was.canonical ++ pending was.canonical in_flow opened)) kinds numbers size now after
 steps_named most in_flow was between now content due kinds numbers size opened after wrote steps =
-    subst (λ (c : Bool). Steps most in_flow was (scalar content ∷ (due c ++ pending c in_flow opened)) kinds numbers size now after) wrote.canonical
+    subst (λ (c : Bool). GaveSome most in_flow was (scalar content ∷ (due c ++ pending c in_flow opened)) kinds numbers size now after) wrote.canonical
     (steps_after most in_flow was between now content (due between.canonical ++ pending between.canonical in_flow opened) kinds numbers size after wrote steps)
 
 -- the last table of an array is begun, behind which nothing is left
-pub due_last : (canonical in_flow : Bool) (empty last : Rest) (opened : List Rest) (keys : toml.Nodes) (due : List Event) → kind_of last ≡ Mapping
+pub due_last : (canonical in_flow : Bool) (empty last : Rest) (opened : List Rest) (keys : toml.TomlNodes) (due : List Event) → rest_kind last ≡ Mapping
     → rest_events canonical in_flow last ≡ keys_events canonical in_flow keys ++ mapping_end ∷ []
     → rest_events canonical in_flow empty ≡ sequence_end ∷ []
     → mapping_start (collection_in in_flow) ∷ (keys_events canonical in_flow keys ++ mapping_end ∷ sequence_end ∷ []) ≡ due
-    → start_event in_flow (kind_of last) ∷ (rest_events canonical in_flow last ++ pending canonical in_flow (opened ++ empty ∷ []))
+    → start_event in_flow (rest_kind last) ∷ (rest_events canonical in_flow last ++ pending canonical in_flow (opened ++ empty ∷ []))
     ≡ due ++ pending canonical in_flow opened
 due_last canonical in_flow empty last opened keys due mapping lasts empties parts =
     let all = pending canonical in_flow opened in
@@ -204,22 +212,25 @@ due_last canonical in_flow empty last opened keys due mapping lasts empties part
     ∙ ap (λ (events : List Event). events ++ all) parts
 
 module _ (most : ℕ) (in_flow : Bool) (was now : WriterState) (empty last : Rest) (opened kept after : List Rest) (is : kept ≡ opened ++ empty ∷ []) where
-  pub steps_last : (keys : toml.Nodes) (due : List Event) (numbers : Type 0) (size : ℕ) → kind_of last ≡ Mapping
+  pub steps_last : (keys : toml.TomlNodes) (due : List Event) (numbers : Type 0) (size : ℕ) → rest_kind last ≡ Mapping
       → rest_events was.canonical in_flow last ≡ keys_events was.canonical in_flow keys ++ mapping_end ∷ []
       → rest_events was.canonical in_flow empty ≡ sequence_end ∷ []
       → mapping_start (collection_in in_flow) ∷ (keys_events was.canonical in_flow keys ++ mapping_end ∷ sequence_end ∷ []) ≡ due
       → (RestHasNumbers last → numbers) → 1 + (rest_size last + rest_size empty) ≤ size
-      → Steps most in_flow was (start_event in_flow (kind_of last) ∷ (rest_events was.canonical in_flow last ++ pending was.canonical in_flow kept)) (kinds_of kept)
+      → GaveSome most in_flow was (start_event in_flow (rest_kind last) ∷ (rest_events was.canonical in_flow last ++ pending was.canonical in_flow kept))
+      (kinds_of kept)
       (RestHasNumbers last × PendingHaveNumbers kept) (1 + (rest_size last + pending_size kept)) now after
-      → Steps most in_flow was (due ++ pending was.canonical in_flow opened) (kinds_of opened ++ kind_of empty ∷ []) (numbers × PendingHaveNumbers opened)
+      → GaveSome most in_flow was (due ++ pending was.canonical in_flow opened) (kinds_of opened ++ rest_kind empty ∷ []) (numbers × PendingHaveNumbers opened)
       (size + pending_size opened) now after
   steps_last keys due numbers size mapping lasts empties parts follows within steps =
       let c = was.canonical in
       let all = pending c in_flow opened in
-      let pushed = subst (λ (open_now : List Rest). Steps most in_flow was (start_event in_flow (kind_of last) ∷ (rest_events c in_flow last ++ pending c in_flow open_now))
+      let pushed = subst
+      (λ (open_now : List Rest). GaveSome most in_flow was (start_event in_flow (rest_kind last) ∷ (rest_events c in_flow last ++ pending c in_flow open_now))
       (kinds_of open_now) (RestHasNumbers last × PendingHaveNumbers open_now) (1 + (rest_size last + pending_size open_now)) now after) is steps in
-      steps_same most in_flow was now (start_event in_flow (kind_of last) ∷ (rest_events c in_flow last ++ pending c in_flow (opened ++ empty ∷ []))) (due ++ all)
-      (kinds_of (opened ++ empty ∷ [])) (kinds_of opened ++ kind_of empty ∷ []) (RestHasNumbers last × PendingHaveNumbers (opened ++ empty ∷ []))
+      steps_same most in_flow was now (start_event in_flow (rest_kind last) ∷ (rest_events c in_flow last ++ pending c in_flow (opened ++ empty ∷ [])))
+      (due ++ all)
+      (kinds_of (opened ++ empty ∷ [])) (kinds_of opened ++ rest_kind empty ∷ []) (RestHasNumbers last × PendingHaveNumbers (opened ++ empty ∷ []))
       (numbers × PendingHaveNumbers opened) (1 + (rest_size last + pending_size (opened ++ empty ∷ []))) (size + pending_size opened) after
       (due_last c in_flow empty last opened keys due mapping lasts empties parts)
       (kinds-push opened empty)
@@ -232,12 +243,14 @@ Entry = String Global × CodeNode × ℕ
 
 module _ (most : ℕ) (in_flow : Bool) (was now : WriterState) (opened after : List Rest) where
   pub begun_table : (origin : Origin) (ms keys : List Entry) → ms ≡ keys
-      → Steps most in_flow was (start_event in_flow Mapping ∷ (keys_left was.canonical in_flow ms ++ pending was.canonical in_flow opened)) (kinds_of opened)
+      → GaveSome most in_flow was (start_event in_flow Mapping ∷ (keys_left was.canonical in_flow ms ++ pending was.canonical in_flow opened)) (kinds_of opened)
       (KeysHaveNumbers (entries_view ms) × PendingHaveNumbers opened) (1 + (1 + keys_size (entries_view ms) + pending_size opened)) now after
-      → Steps most in_flow was (toml_events was.canonical in_flow (table origin (entries_view keys)) ++ pending was.canonical in_flow opened) (kinds_of opened)
+      → GaveSome most in_flow was (toml_events was.canonical in_flow (table origin (entries_view keys)) ++ pending was.canonical in_flow opened)
+      (kinds_of opened)
       (KeysHaveNumbers (entries_view keys) × PendingHaveNumbers opened) (2 + keys_size (entries_view keys) + pending_size opened) now after
   begun_table origin ms keys is steps =
-      subst (λ (es : List Entry). Steps most in_flow was (toml_events was.canonical in_flow (table origin (entries_view es)) ++ pending was.canonical in_flow opened)
+      subst (λ (es : List Entry). GaveSome most in_flow was
+      (toml_events was.canonical in_flow (table origin (entries_view es)) ++ pending was.canonical in_flow opened)
       (kinds_of opened) (KeysHaveNumbers (entries_view es) × PendingHaveNumbers opened) (2 + keys_size (entries_view es) + pending_size opened) now after) is
       (steps_same most in_flow was now (start_event in_flow Mapping ∷ (keys_left was.canonical in_flow ms ++ pending was.canonical in_flow opened))
       (start_event in_flow Mapping ∷ (keys_left was.canonical in_flow ms ++ pending was.canonical in_flow opened)) (kinds_of opened) (kinds_of opened)
@@ -247,21 +260,22 @@ module _ (most : ℕ) (in_flow : Bool) (was now : WriterState) (opened after : L
 
   abbrev tables_left : List CodeNode → List Entry → List Event
   tables_left done last =
-      items_events was.canonical in_flow (items_view done)
+      toml_items_events was.canonical in_flow (items_view done)
       ++ mapping_start (collection_in in_flow) ∷ (keys_events was.canonical in_flow (entries_view last) ++ mapping_end ∷ sequence_end ∷ [])
 
   pub begun_tables : (ds : List CodeNode) (ms : List Entry) (done : List CodeNode) (last : List Entry) → ds ≡ done → ms ≡ last
-      → Steps most in_flow was (start_event in_flow Sequence ∷ (tables_left ds ms ++ pending was.canonical in_flow opened)) (kinds_of opened)
+      → GaveSome most in_flow was (start_event in_flow Sequence ∷ (tables_left ds ms ++ pending was.canonical in_flow opened)) (kinds_of opened)
       ((ItemsHaveNumbers (items_view ds) × KeysHaveNumbers (entries_view ms)) × PendingHaveNumbers opened)
       (1 + (4 + (items_size (items_view ds) + keys_size (entries_view ms)) + pending_size opened)) now after
-      → Steps most in_flow was (toml_events was.canonical in_flow (toml.tables (items_view done) (entries_view last)) ++ pending was.canonical in_flow opened)
+      → GaveSome most in_flow was
+      (toml_events was.canonical in_flow (toml.tables (items_view done) (entries_view last)) ++ pending was.canonical in_flow opened)
       (kinds_of opened) ((ItemsHaveNumbers (items_view done) × KeysHaveNumbers (entries_view last)) × PendingHaveNumbers opened)
       (5 + (items_size (items_view done) + keys_size (entries_view last)) + pending_size opened) now after
   begun_tables ds ms done last first second steps =
-      subst (λ (es : List Entry). Steps most in_flow was (toml_events was.canonical in_flow (toml.tables (items_view done) (entries_view es))
+      subst (λ (es : List Entry). GaveSome most in_flow was (toml_events was.canonical in_flow (toml.tables (items_view done) (entries_view es))
       ++ pending was.canonical in_flow opened) (kinds_of opened) ((ItemsHaveNumbers (items_view done) × KeysHaveNumbers (entries_view es)) × PendingHaveNumbers opened)
       (5 + (items_size (items_view done) + keys_size (entries_view es)) + pending_size opened) now after) second
-      (subst (λ (xs : List CodeNode). Steps most in_flow was (toml_events was.canonical in_flow (toml.tables (items_view xs) (entries_view ms))
+      (subst (λ (xs : List CodeNode). GaveSome most in_flow was (toml_events was.canonical in_flow (toml.tables (items_view xs) (entries_view ms))
       ++ pending was.canonical in_flow opened) (kinds_of opened) ((ItemsHaveNumbers (items_view xs) × KeysHaveNumbers (entries_view ms)) × PendingHaveNumbers opened)
       (5 + (items_size (items_view xs) + keys_size (entries_view ms)) + pending_size opened) now after) first
       (steps_same most in_flow was now (start_event in_flow Sequence ∷ (tables_left ds ms ++ pending was.canonical in_flow opened))

@@ -4,12 +4,12 @@ use Rattle.yaml_base.specs.declared.errors.{yaml_error_t.yaml_error_t, yaml_erro
 use Rattle.yaml_json.proofs.Common.{inl}
 use Rattle.yaml_json.specs.Failing.{HasErrorSaid}
 use Rattle.std.specs.Prelude.{IfSome}
-use Rattle.toml_ordered.specs.Places.{IsPlaced, place_left}
+use Rattle.toml_ordered.specs.Places.{FaultIsPlaced, place_left}
 use Rattle.toml_ordered.specs.Reading.{IsMemory}
 use Rattle.toml_ordered.specs.declared.fault.Fault.{Fault}
 use Rattle.toml_ordered.specs.declared.fault.Fault.TheVariants as fault
 use Rattle.yaml_toml.specs.Walk.{DeniesToml, fault_error, writers_error}
-use Rattle.yaml_toml.specs.Places.{HasConflict, HasPlace, IsAt}
+use Rattle.yaml_toml.specs.Places.{HasConflict, HasTomlPlace, IsBeforeLeft}
 use Rattle.yaml_toml.specs.declared.error.TomlError.{TomlError}
 use Rattle.yaml_toml.specs.declared.error.TomlError.TheVariants as errors
 
@@ -40,8 +40,8 @@ pub denied : (found : Fault) (error : TomlError) → writers_error error ≡ fau
 denied found error is denies memory = subst IsNothing (sym (writers_none error denies) ∙ is ∙ ap fault_error memory) tt
 
 -- an error of the text has the place of its fault
-pub placed_of : (text : List ℕ) (found : Fault) (error : TomlError) → writers_error error ≡ fault_error found → IsPlaced text found
-    → IfSome (place_left found) (λ left. IsAt text left error) → HasPlace text error
+pub placed_of : (text : List ℕ) (found : Fault) (error : TomlError) → writers_error error ≡ fault_error found → FaultIsPlaced text found
+    → IfSome (place_left found) (λ left. IsBeforeLeft text left error) → HasTomlPlace text error
 placed_of text fault.Memory error is stops at = λ denies. absurd (denied fault.Memory error is denies refl)
 placed_of text (fault.NotToml left) error is stops at = λ denies. (left, stops, at)
 placed_of text (fault.DefinedAgain key first second) error is stops at = λ denies. (second, stops, at)

@@ -15,7 +15,8 @@ use Rattle.yaml_emitter.proofs.AcceptedLists.{Stays, after_event, few_open}
 use Rattle.yaml_json.proofs.WroteLemmas.{adds_then}
 use Rattle.yaml_toml.specs.Failing.{GaveFirst}
 use Rattle.yaml_toml.specs.OpenCounts.{Opens, open_after}
-use Rattle.yaml_toml.specs.Walk.{Moved, Steps, StepsStop, Kept, PendingHaveNumbers, RestHasNumbers, keys_left, kinds_of, kind_of, pending, rest_events, HasInnermost}
+use Rattle.yaml_toml.specs.Walk.{Moved, GaveSome, StepsStop, KeptAfterStop, PendingHaveNumbers, RestHasNumbers, keys_left, kinds_of, rest_kind, pending}
+use Rattle.yaml_toml.specs.Walk.{rest_events, HasInnermost}
 use Rattle.yaml_toml.specs.declared.walk.Rest.{Rest}
 use Rattle.yaml_toml.proofs.Answering.{moved_then, kept_then}
 use Rattle.yaml_toml.proofs.Pending.{kinds-push, pending-push}
@@ -82,11 +83,12 @@ pub record Running (most : ℕ) (in_flow : Bool) (start : WriterState) (all : Li
   pub moved : Moved start given [] (kinds_of opened) now
   pub parts : given ++ pending start.canonical in_flow opened ≡ all
   pub numbers_in : PendingHaveNumbers opened → numbers
-  pub kept : Kept start (Ok tt) now
+  pub kept : KeptAfterStop start (Ok tt) now
   pub few : Opens most 0 given (length (kinds_of opened))
 
-pub runs_first : (most : ℕ) (in_flow : Bool) (start now : WriterState) (all : List Event) (numbers : Type 0) (size : ℕ) (opened : List Rest) → Steps most in_flow start all [] numbers size now opened
-    → Kept start (Ok tt) now → Running most in_flow start all numbers now opened
+pub runs_first : (most : ℕ) (in_flow : Bool) (start now : WriterState) (all : List Event) (numbers : Type 0) (size : ℕ) (opened : List Rest)
+    → GaveSome most in_flow start all [] numbers size now opened
+    → KeptAfterStop start (Ok tt) now → Running most in_flow start all numbers now opened
 runs_first most in_flow start now all numbers size opened steps kept =
     record { given = steps.given; moved = steps.moved; parts = steps.parts; numbers_in = steps.numbers_in; kept = kept; few = steps.few (omega arith) }
 
@@ -100,26 +102,29 @@ module _ (most : ℕ) (in_flow : Bool) (start between now : WriterState) (all : 
       ap (λ (c : Bool). so.given ++ (rest_events c in_flow r ++ pending c in_flow left)) same
       ∙ ap (λ (events : List Event). so.given ++ events) (sym (pending-push start.canonical in_flow left r)) ∙ so.parts
 
-  so_few : Opens most 0 so.given (length (kinds_of left ++ kind_of r ∷ []))
+  so_few : Opens most 0 so.given (length (kinds_of left ++ rest_kind r ∷ []))
   so_few = subst (λ (ks : List CollectionKind). Opens most 0 so.given (length ks)) (kinds-push left r) so.few
 
   -- the walk stopped
-  pub runs_stopped : StepsStop most between (rest_events between.canonical in_flow r ++ pending between.canonical in_flow left) (kinds_of left ++ kind_of r ∷ [])
+  pub runs_stopped : StepsStop most between (rest_events between.canonical in_flow r ++ pending between.canonical in_flow left)
+      (kinds_of left ++ rest_kind r ∷ [])
       now → GaveFirst most all start now
   runs_stopped stop =
-      let few = stop.few (opens_fit most 0 (length (kinds_of left ++ kind_of r ∷ [])) so.given so_few) in
+      let few = stop.few (opens_fit most 0 (length (kinds_of left ++ rest_kind r ∷ [])) so.given so_few) in
       record {
         given = so.given ++ stop.given;
         begins = record {
           rest = stop.begins.rest;
           parts = append_assoc so.given stop.given stop.begins.rest ∙ ap (λ (events : List Event). so.given ++ events) stop.begins.parts ∙ due_is;
         };
-        few = few_of most few.0 (so.given ++ stop.given) (opens_then most 0 (length (kinds_of left ++ kind_of r ∷ [])) few.0 so.given stop.given so_few few.1);
+        few =
+            few_of most few.0 (so.given ++ stop.given) (opens_then most 0 (length (kinds_of left ++ rest_kind r ∷ [])) few.0 so.given stop.given so_few few.1);
         adds = adds_then start.emitter between.emitter now.emitter so.given stop.given so.moved.adds stop.adds;
       }
 
-  pub runs_on : (size : ℕ) → Steps most in_flow between (rest_events between.canonical in_flow r ++ pending between.canonical in_flow left) (kinds_of left ++ kind_of r ∷ [])
-      (RestHasNumbers r × PendingHaveNumbers left) size now after → Kept between (Ok tt) now → Running most in_flow start all numbers now after
+  pub runs_on : (size : ℕ)
+      → GaveSome most in_flow between (rest_events between.canonical in_flow r ++ pending between.canonical in_flow left) (kinds_of left ++ rest_kind r ∷ [])
+      (RestHasNumbers r × PendingHaveNumbers left) size now after → KeptAfterStop between (Ok tt) now → Running most in_flow start all numbers now after
   runs_on size steps kept = record {
     given = so.given ++ steps.given;
     moved = moved_then start between now so.given steps.given [] (kinds_of (left ++ r ∷ [])) (kinds_of after) so.moved
@@ -130,12 +135,12 @@ module _ (most : ℕ) (in_flow : Bool) (start between now : WriterState) (all : 
         ∙ ap (λ (events : List Event). so.given ++ events) steps.parts ∙ due_is;
     numbers_in = λ have. let both = steps.numbers_in have in so.numbers_in (numbers-pull left r both.0 both.1);
     kept = kept_then start between now (Ok tt) so.kept kept;
-    few = opens_then most 0 (length (kinds_of left ++ kind_of r ∷ [])) (length (kinds_of after)) so.given steps.given so_few
-        (steps.few (opens_fit most 0 (length (kinds_of left ++ kind_of r ∷ [])) so.given so_few));
+    few = opens_then most 0 (length (kinds_of left ++ rest_kind r ∷ [])) (length (kinds_of after)) so.given steps.given so_few
+        (steps.few (opens_fit most 0 (length (kinds_of left ++ rest_kind r ∷ [])) so.given so_few));
   }
 
   -- the innermost is of its kind
-  pub innermost : HasInnermost between (kinds_of left) (kind_of r)
+  pub innermost : HasInnermost between (kinds_of left) (rest_kind r)
   innermost =
       (start.levels, so.moved.levels start.levels (sym (append-nil start.levels)) ∙ ap (λ (ks : List CollectionKind). start.levels ++ ks) (kinds-push left r))
 

@@ -1,9 +1,13 @@
 -- The streams of several documents of TOML, and what is read in them.
-use Rattle.yaml_json.proofs.Common.{ℕ, flat_map, None, Some, Option, Bool, true, false, not, List, [], map, ◌++◌, ◌∷◌, refl, ◌≡◌, append-nil, append_assoc, ap, subst, sym, ◌∙◌}
-use Rattle.yaml_json.proofs.Common.{and_from, not_from_false, list_any, list_all, unwrap_or, Event, Document, Documents, no_documents, documents_and, Stream, directives_in_force}
+use Rattle.yaml_json.proofs.Common.{ℕ, flat_map, None, Some, Option, Bool, true, false, not, List, [], map, ◌++◌, ◌∷◌, refl, ◌≡◌, append-nil, append_assoc, ap}
+use Rattle.yaml_json.proofs.Common.{subst, sym, ◌∙◌}
+use Rattle.yaml_json.proofs.Common.{and_from, not_from_false, list_any, list_all, unwrap_or, Event, Document, Documents, no_documents, documents_and, Stream}
+use Rattle.yaml_json.proofs.Common.{directives_in_force}
 use Rattle.yaml_json.proofs.Common.{opening, closing, has_scalar_texts, IsAccepted, Settings, Effective, Tree, StandsTaken, node_tree}
-use Rattle.yaml_base.proofs.Common.{stream_start, stream_end, document_end, document_events, documents_events, stream_events, and_right, or_from, option_map, tree_of}
-use Rattle.yaml_base.proofs.Common.{is_explicit, is_written_as_nothing, loses_document, document_has_flow_indicator, all_read_alike, reads_alike, documents_in_order}
+use Rattle.yaml_base.proofs.Common.{stream_start, stream_end, document_end, document_events, documents_events, stream_events, and_right, or_from, option_map}
+use Rattle.yaml_base.proofs.Common.{tree_of}
+use Rattle.yaml_base.proofs.Common.{is_explicit, is_written_as_nothing, loses_document, document_has_flow_indicator, all_read_alike, reads_alike}
+use Rattle.yaml_base.proofs.Common.{documents_in_order}
 use Rattle.yaml_base.proofs.Common.{stream_trees, root_place, settings_for, DocumentTree}
 use Rattle.yaml_base.proofs.Trees.{tree_of-stream_events}
 use Rattle.yaml_base.proofs.{stream_documents.StreamWholeReads.document_trees, stream_nodes.StreamAgrees.document_tree}
@@ -13,7 +17,7 @@ use Rattle.yaml_json.specs.Means.{plain_document}
 use Rattle.yaml_writer.proofs.Common.{plain_start}
 use Rattle.toml_ordered.specs.Data as toml
 use Rattle.yaml_toml.specs.Events.{toml_events}
-use Rattle.yaml_toml.specs.Means.{Reader, by_11, by_core}
+use Rattle.yaml_toml.specs.Means.{SchemaReader, by_11, by_core}
 use Rattle.yaml_toml.specs.Several.{AllMean, AreDocuments, DocumentsAreRead, ReadsAsTables, several_events}
 use Rattle.yaml_toml.specs.Walk.{KeysHaveNumbers}
 use Rattle.yaml_toml.proofs.TomlTrees.{node_flat, root_of, toml_document, toml_node, value_unsigned}
@@ -23,18 +27,18 @@ use Rattle.yaml_toml.proofs.YamlOf.{texts_closed}
 -- ---- the stream
 
 -- a document of each table, after others
-abbrev toml_documents : List toml.Nodes → (canonical in_flow : Bool) → Documents → Documents
+abbrev toml_documents : List toml.TomlNodes → (canonical in_flow : Bool) → Documents → Documents
 toml_documents [] canonical in_flow before = before
 toml_documents (root ∷ roots) canonical in_flow before = toml_documents roots canonical in_flow (documents_and before (toml_document root canonical in_flow))
 
-abbrev stream_of : List toml.Nodes → (canonical in_flow : Bool) → Stream
+abbrev stream_of : List toml.TomlNodes → (canonical in_flow : Bool) → Stream
 stream_of roots canonical in_flow = record { encoding = None; documents = toml_documents roots canonical in_flow no_documents }
 
 -- the events of a document of a table
-abbrev root_events : (canonical in_flow : Bool) → toml.Nodes → List Event
+abbrev root_events : (canonical in_flow : Bool) → toml.TomlNodes → List Event
 root_events canonical in_flow root = plain_start ∷ (toml_events canonical in_flow (root_of root) ++ document_end true ∷ [])
 
-documents_flat : (roots : List toml.Nodes) (canonical in_flow : Bool) (before : Documents)
+documents_flat : (roots : List toml.TomlNodes) (canonical in_flow : Bool) (before : Documents)
     → documents_events (toml_documents roots canonical in_flow before) ≡ documents_events before ++ flat_map (root_events canonical in_flow) roots
 documents_flat [] canonical in_flow before = sym (append-nil (documents_events before))
 documents_flat (root ∷ roots) canonical in_flow before =
@@ -46,12 +50,12 @@ documents_flat (root ∷ roots) canonical in_flow before =
     (node_flat (root_of root) canonical in_flow)
 
 abbrev Parts : Type 0
-Parts = List (List ℕ × toml.Nodes)
+Parts = List (List ℕ × toml.TomlNodes)
 
-abbrev roots_of : Parts → List toml.Nodes
+abbrev roots_of : Parts → List toml.TomlNodes
 roots_of parts = map (λ part. part.1) parts
 
-parts_flat : (canonical in_flow : Bool) (part : List ℕ × toml.Nodes) (rest : Parts)
+parts_flat : (canonical in_flow : Bool) (part : List ℕ × toml.TomlNodes) (rest : Parts)
     → flat_map (root_events canonical in_flow) (roots_of (part ∷ rest))
     ≡ plain_start ∷ (several_events canonical in_flow (part ∷ rest) ++ document_end true ∷ [])
 parts_flat canonical in_flow part [] = append-nil (root_events canonical in_flow part.1)
@@ -66,7 +70,7 @@ parts_flat canonical in_flow part (next ∷ rest) =
 abbrev all_of : Parts → (canonical in_flow : Bool) → List Event
 all_of parts canonical in_flow = opening ++ several_events canonical in_flow parts ++ closing
 
-stream_flat : (part : List ℕ × toml.Nodes) (rest : Parts) (canonical in_flow : Bool)
+stream_flat : (part : List ℕ × toml.TomlNodes) (rest : Parts) (canonical in_flow : Bool)
     → stream_events (stream_of (roots_of (part ∷ rest)) canonical in_flow) ≡ all_of (part ∷ rest) canonical in_flow
 stream_flat part rest canonical in_flow =
     ap (λ (events : List Event). stream_start None ∷ (events ++ stream_end ∷ []))
@@ -76,10 +80,10 @@ stream_flat part rest canonical in_flow =
 
 -- ---- it is written alike in every mode
 
-abbrev documents_for : List toml.Nodes → (canonical in_flow : Bool) → List Document
+abbrev documents_for : List toml.TomlNodes → (canonical in_flow : Bool) → List Document
 documents_for roots canonical in_flow = map (λ root. toml_document root canonical in_flow) roots
 
-documents_are : (roots : List toml.Nodes) (canonical in_flow : Bool) (before : Documents)
+documents_are : (roots : List toml.TomlNodes) (canonical in_flow : Bool) (before : Documents)
     → documents_in_order (toml_documents roots canonical in_flow before) ≡ documents_in_order before ++ documents_for roots canonical in_flow
 documents_are [] canonical in_flow before = sym (append-nil (documents_in_order before))
 documents_are (root ∷ roots) canonical in_flow before =
@@ -87,7 +91,7 @@ documents_are (root ∷ roots) canonical in_flow before =
     documents_are roots canonical in_flow (documents_and before document)
     ∙ append_assoc (documents_in_order before) (document ∷ []) (documents_for roots canonical in_flow)
 
-all_unsigned : (roots : List toml.Nodes) (canonical in_flow : Bool)
+all_unsigned : (roots : List toml.TomlNodes) (canonical in_flow : Bool)
     → list_any (document_has_flow_indicator canonical) (documents_for roots canonical in_flow) ≡ false
 all_unsigned [] canonical in_flow = refl
 all_unsigned (root ∷ roots) canonical in_flow =
@@ -95,7 +99,7 @@ all_unsigned (root ∷ roots) canonical in_flow =
     (list_any (document_has_flow_indicator canonical) (documents_for roots canonical in_flow)) (value_unsigned (root_of root) canonical in_flow)
     (all_unsigned roots canonical in_flow)
 
-are_read_alike : (root : toml.Nodes) (roots : List toml.Nodes) (canonical in_flow : Bool)
+are_read_alike : (root : toml.TomlNodes) (roots : List toml.TomlNodes) (canonical in_flow : Bool)
     → all_read_alike canonical (documents_for (root ∷ roots) canonical in_flow) ≡ true
 are_read_alike root roots canonical in_flow =
     let documents = documents_for (root ∷ roots) canonical in_flow in
@@ -104,7 +108,7 @@ are_read_alike root roots canonical in_flow =
     (not_from_false (loses_document canonical documents) (and_right (not (is_explicit canonical true first.start)) (is_written_as_nothing canonical first.root) refl))
     (not_from_false (list_any (document_has_flow_indicator canonical) documents) (all_unsigned (root ∷ roots) canonical in_flow))
 
-portable_several : (portable canonical in_flow : Bool) (part : List ℕ × toml.Nodes) (rest : Parts)
+portable_several : (portable canonical in_flow : Bool) (part : List ℕ × toml.TomlNodes) (rest : Parts)
     → reads_alike portable canonical (all_of (part ∷ rest) canonical in_flow) ≡ true
 portable_several true canonical in_flow part rest = refl
 portable_several false canonical in_flow part rest =
@@ -121,7 +125,7 @@ portable_several false canonical in_flow part rest =
 -- ---- what is read
 
 -- each decimal of each table is a number
-abbrev HaveNumbers : List toml.Nodes → Type 0
+abbrev HaveNumbers : List toml.TomlNodes → Type 0
 HaveNumbers [] = Unit {0}
 HaveNumbers (root ∷ roots) = KeysHaveNumbers root × HaveNumbers roots
 
@@ -130,13 +134,13 @@ have_numbers [] each = tt
 have_numbers (part ∷ parts) each = (each.0.1, have_numbers parts each.1)
 
 module _ (s : Effective) (in_flow : Bool) where
-  abbrev tree_for : toml.Nodes → Tree
+  abbrev tree_for : toml.TomlNodes → Tree
   tree_for root = node_tree (toml_node (root_of root) s.canonical in_flow) s (directives_in_force []) root_place
 
-  abbrev trees_for : List toml.Nodes → List Tree
+  abbrev trees_for : List toml.TomlNodes → List Tree
   trees_for roots = map tree_for roots
 
-  trees_after : (roots : List toml.Nodes) (before : Documents)
+  trees_after : (roots : List toml.TomlNodes) (before : Documents)
       → document_trees s (toml_documents roots s.canonical in_flow before) ≡ document_trees s before ++ map plain_document (trees_for roots)
   trees_after [] before = sym (append-nil (document_trees s before))
   trees_after (root ∷ roots) before =
@@ -144,12 +148,12 @@ module _ (s : Effective) (in_flow : Bool) where
       trees_after roots (documents_and before document)
       ∙ append_assoc (document_trees s before) (document_tree s document ∷ []) (map plain_document (trees_for roots))
 
-  trees_mean : (reader : Reader) → ReadsToml reader → (roots : List toml.Nodes) → HaveNumbers roots → AllMean reader roots (trees_for roots)
+  trees_mean : (reader : SchemaReader) → ReadsToml reader → (roots : List toml.TomlNodes) → HaveNumbers roots → AllMean reader roots (trees_for roots)
   trees_mean reader reads [] numbers = tt
   trees_mean reader reads (root ∷ roots) numbers =
       (node_means reader reads s (directives_in_force []) in_flow (root_of root) numbers.0 root_place, trees_mean reader reads roots numbers.1)
 
-module _ (given : Settings) (in_flow : Bool) (part : List ℕ × toml.Nodes) (rest : Parts) (bytes : List ℕ) (numbers : HaveNumbers (roots_of (part ∷ rest)))
+module _ (given : Settings) (in_flow : Bool) (part : List ℕ × toml.TomlNodes) (rest : Parts) (bytes : List ℕ) (numbers : HaveNumbers (roots_of (part ∷ rest)))
     (texts : list_all has_scalar_texts (all_of (part ∷ rest) given.canonical in_flow) ≡ true)
     (taken : IsAccepted given.canonical (all_of (part ∷ rest) given.canonical in_flow))
     (whole : IsWhole given (all_of (part ∷ rest) given.canonical in_flow) bytes) where
@@ -159,7 +163,7 @@ module _ (given : Settings) (in_flow : Bool) (part : List ℕ × toml.Nodes) (re
   abbrev s : Effective
   s = settings_for given all
 
-  abbrev roots : List toml.Nodes
+  abbrev roots : List toml.TomlNodes
   roots = roots_of (part ∷ rest)
 
   abbrev accepted : IsAccepted given.canonical all

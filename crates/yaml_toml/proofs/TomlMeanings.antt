@@ -4,8 +4,10 @@ use Rattle.yaml_json.proofs.Common.{append-nil, append_assoc, ap, subst, sym, �
 use Rattle.yaml_json.proofs.Common.{plain, Scalar, scalar_tag, collection_tag, scalar_node, Nodes, Pairs, no_nodes, nodes_and, no_pairs}
 use Rattle.yaml_json.proofs.Common.{pairs_and, Effective, is_empty, is_plain, Tree, JsonNumber, is_json_number, is_json_integer, number_in, fraction_or_default}
 use Rattle.yaml_json.proofs.Common.{yaml_number, resolved_by_core, resolved_by_11, int_tag, text_content, collection_in, float_tag, number_tag}
-use Rattle.yaml_base.proofs.Common.{TagDirective, as_item, as_key, as_value, Place, has_no_nodes, has_no_pairs, is_simple, is_simple_at, charset_of, style_asked_at, choice_of}
-use Rattle.yaml_base.proofs.Common.{allowed_under, is_written_in_flow, entry_place, allowances, chosen, stood_plain, stood_quoted, Tagging, without_tag, sequence_tree, mapping_tree}
+use Rattle.yaml_base.proofs.Common.{TagDirective, as_item, as_key, as_value, Place, has_no_nodes, has_no_pairs, is_simple, is_simple_at, charset_of}
+use Rattle.yaml_base.proofs.Common.{style_asked_at, choice_of}
+use Rattle.yaml_base.proofs.Common.{allowed_under, is_written_in_flow, entry_place, allowances, chosen, stood_plain, stood_quoted, Tagging, without_tag}
+use Rattle.yaml_base.proofs.Common.{sequence_tree, mapping_tree}
 use Rattle.yaml_base.proofs.Common.{mapping_node, json_value, number_meant, means_number, meant_integer, meant_decimal, signed, digits_value}
 use Rattle.yaml_base.{proofs.JsonSpelling.spelling_keeps_value, specs.values.JsonNumbers.value_with}
 use Rattle.yaml_base.proofs.PlainUnderQuotes.{plain_under}
@@ -26,14 +28,14 @@ use Rattle.toml_datetime.specs.declared.datetime.Datetime.{Datetime}
 use Rattle.toml_ordered.specs.Data as toml
 use Rattle.yaml_writer.specs.TomlDates.{moment_of}
 use Rattle.yaml_toml.specs.Events.{json_word, integer_content, decimal_content, infinite, special_content, moment_content, date_content}
-use Rattle.yaml_toml.specs.Means.{Reader, by_11, by_core, IsDated, MeansDate, Means, ItemsMean, KeysMean}
+use Rattle.yaml_toml.specs.Means.{SchemaReader, by_11, by_core, IsDated, MeansDate, MeansToml, ItemsMeanToml, KeysMean}
 use Rattle.yaml_toml.specs.Walk.{HasNumbers, ItemsHaveNumbers, KeysHaveNumbers}
 use Rattle.yaml_toml.proofs.Moments.{valid_moment, core_date}
 use Rattle.yaml_toml.proofs.Integers.{integer_read, integer_plain}
 use Rattle.yaml_toml.proofs.TomlTrees.{toml_node, items_nodes, keys_pairs}
 
 -- what a reader takes the scalars of TOML for
-pub record ReadsToml (reader : Reader) : Type 0 where
+pub record ReadsToml (reader : SchemaReader) : Type 0 where
   pub reads : ReadsScalars reader.schema
   pub specials : (value : SpecialFloat) → reader.schema (special_text value) ≡ special_meaning value
   pub dates : (date : CalendarDate) → is_calendar_date date ≡ true → reader.schema (date_text date) ≡ reader.date
@@ -139,7 +141,7 @@ untagged false in_flow = refl
 
 -- ---- dates
 
-module _ (reader : Reader) (reads : ReadsToml reader) (s : Effective) (place : Place) (simple : Bool) where
+module _ (reader : SchemaReader) (reads : ReadsToml reader) (s : Effective) (place : Place) (simple : Bool) where
   abbrev tagging_for : (canonical : Bool) → Scalar → Tagging
   tagging_for canonical content =
       tagging_in (scalar_tag canonical content)
@@ -169,7 +171,7 @@ module _ (reader : Reader) (reads : ReadsToml reader) (s : Effective) (place : P
 
 -- ---- values
 
-module _ (reader : Reader) (reads : ReadsToml reader) (s : Effective) (directives : List TagDirective) (in_flow : Bool) where
+module _ (reader : SchemaReader) (reads : ReadsToml reader) (s : Effective) (directives : List TagDirective) (in_flow : Bool) where
   abbrev simple_at : Place → Scalar → Bool
   simple_at place content = is_simple_at place s.canonical directives (scalar_node content)
 
@@ -177,9 +179,9 @@ module _ (reader : Reader) (reads : ReadsToml reader) (s : Effective) (directive
   ItemsAfter items before flow =
       (trees : List Tree)
       × (in_order (nodes_tree (items_nodes items s.canonical in_flow before) s directives flow) ≡ in_order (nodes_tree before s directives flow) ++ trees)
-      × ItemsMean reader items trees
+      × ItemsMeanToml reader items trees
 
-  abbrev KeysAfter : toml.Nodes → Pairs → (flow : Bool) → Type 0
+  abbrev KeysAfter : toml.TomlNodes → Pairs → (flow : Bool) → Type 0
   KeysAfter keys before flow =
       (trees : List (Tree × Tree))
       × (pairs_in_order (pairs_tree (keys_pairs keys s.canonical in_flow before) s directives flow) ≡ pairs_in_order
@@ -196,7 +198,7 @@ module _ (reader : Reader) (reads : ReadsToml reader) (s : Effective) (directive
       moment_means reader reads s place (simple_at place (moment_content s.canonical moment)) moment (valid_moment date moment is)
 
   mutual
-    pub node_means : (x : toml.Node) → HasNumbers x → (place : Place) → Means reader x (node_tree (toml_node x s.canonical in_flow) s directives place)
+    pub node_means : (x : toml.TomlNode) → HasNumbers x → (place : Place) → MeansToml reader x (node_tree (toml_node x s.canonical in_flow) s directives place)
     node_means (toml.string text) numbers place = text_at text place
     node_means (toml.integer z) fits place =
         word_means reader.schema s place (simple_at place (integer_content s.canonical z)) int_tag (signed_decimal z) (meant_integer z)
@@ -224,13 +226,13 @@ module _ (reader : Reader) (reads : ReadsToml reader) (s : Effective) (directive
     node_means (toml.array items) numbers place =
         let flow = is_written_in_flow s place (collection_in in_flow) (has_no_nodes (items_nodes items s.canonical in_flow no_nodes)) in
         let after = items_mean items numbers no_nodes flow in
-        subst (λ (tag : Option Text). Means reader (toml.array items) (sequence_tree None tag
+        subst (λ (tag : Option Text). MeansToml reader (toml.array items) (sequence_tree None tag
         (nodes_tree (items_nodes items s.canonical in_flow no_nodes) s directives flow)))
-        (sym (untagged s.canonical in_flow)) (subst (ItemsMean reader items) (sym after.1) after.2)
+        (sym (untagged s.canonical in_flow)) (subst (ItemsMeanToml reader items) (sym after.1) after.2)
     node_means (toml.table origin keys) numbers place =
         let flow = is_written_in_flow s place (collection_in in_flow) (has_no_pairs (keys_pairs keys s.canonical in_flow no_pairs)) in
         let after = keys_mean keys numbers no_pairs flow in
-        subst (λ (tag : Option Text). Means reader (toml.table origin keys) (mapping_tree None tag
+        subst (λ (tag : Option Text). MeansToml reader (toml.table origin keys) (mapping_tree None tag
         (pairs_tree (keys_pairs keys s.canonical in_flow no_pairs) s directives flow)))
         (sym (untagged s.canonical in_flow)) (subst (KeysMean reader keys) (sym after.1) after.2)
     node_means (toml.tables done last) numbers place =
@@ -242,7 +244,7 @@ module _ (reader : Reader) (reads : ReadsToml reader) (s : Effective) (directive
         let inner_flow = is_written_in_flow s inner (collection_in in_flow) (has_no_pairs (keys_pairs last s.canonical in_flow no_pairs)) in
         let keys = keys_mean last numbers.1 no_pairs inner_flow in
         let pairs = pairs_tree (keys_pairs last s.canonical in_flow no_pairs) s directives inner_flow in
-        subst (λ (tag : Option Text). Means reader (toml.tables done last) (sequence_tree None tag (nodes_tree (nodes_and before table) s directives flow)))
+        subst (λ (tag : Option Text). MeansToml reader (toml.tables done last) (sequence_tree None tag (nodes_tree (nodes_and before table) s directives flow)))
         (sym (untagged s.canonical in_flow)) (
           after.0,
           pairs,
@@ -264,7 +266,7 @@ module _ (reader : Reader) (reads : ReadsToml reader) (s : Effective) (directive
           (node_means x numbers.0 place, after.2),
         )
 
-    keys_mean : (keys : toml.Nodes) → KeysHaveNumbers keys → (before : Pairs) (flow : Bool) → KeysAfter keys before flow
+    keys_mean : (keys : toml.TomlNodes) → KeysHaveNumbers keys → (before : Pairs) (flow : Bool) → KeysAfter keys before flow
     keys_mean toml.no_nodes numbers before flow = ([], sym (append-nil (pairs_in_order (pairs_tree before s directives flow))), tt)
     keys_mean (toml.node key x keys) numbers before flow =
         let named = scalar_node (text_content (chars key)) in

@@ -1,7 +1,10 @@
 -- The tree of the events of a TOML document, which is written alike in every mode.
-use Rattle.yaml_json.proofs.Common.{None, Some, Option, Bool, true, false, not, List, [], ◌++◌, ◌∷◌, ◌||◌, refl, ◌≡◌, append-nil, append_assoc, ap, sym, ◌∙◌, chars}
-use Rattle.yaml_json.proofs.Common.{if◌then◌else◌, and_from, not_from_false, list_any, unwrap_or, Event, scalar, sequence_start, sequence_end, mapping_start, mapping_end, scalar_node, Nodes, Pairs, no_nodes, nodes_and, no_pairs}
-use Rattle.yaml_json.proofs.Common.{pairs_and, Document, no_documents, documents_and, Stream, collection_tag, directives_in_force, text_content, bool_content, collection_in, opening, closing, Text}
+use Rattle.yaml_json.proofs.Common.{None, Some, Option, Bool, true, false, not, List, [], ◌++◌, ◌∷◌, ◌||◌, refl, ◌≡◌, append-nil, append_assoc, ap, sym, ◌∙◌}
+use Rattle.yaml_json.proofs.Common.{chars}
+use Rattle.yaml_json.proofs.Common.{if◌then◌else◌, and_from, not_from_false, list_any, unwrap_or, Event, scalar, sequence_start, sequence_end, mapping_start}
+use Rattle.yaml_json.proofs.Common.{mapping_end, scalar_node, Nodes, Pairs, no_nodes, nodes_and, no_pairs}
+use Rattle.yaml_json.proofs.Common.{pairs_and, Document, no_documents, documents_and, Stream, collection_tag, directives_in_force, text_content, bool_content}
+use Rattle.yaml_json.proofs.Common.{collection_in, opening, closing, Text}
 use Rattle.yaml_json.proofs.Common.{bool_tag, bool_text, int_tag, float_tag, number_tag, number_in, yaml_number, is_json_integer, word_content}
 use Rattle.yaml_base.proofs.Common.{stream_start, stream_end, document_end, Node, sequence_node, mapping_node, node_events, nodes_events, pairs_events}
 use Rattle.yaml_base.proofs.Common.{stream_events, and_right, or_from, option_map, tree_of, is_explicit, is_written_as_nothing, loses_document}
@@ -18,11 +21,12 @@ use Rattle.toml_datetime.specs.declared.datetime.Datetime.{Datetime}
 use Rattle.toml_ordered.specs.Data as toml
 use Rattle.toml_ordered.specs.declared.tree.Origin.TheVariants.{Header}
 use Rattle.yaml_writer.specs.TomlDates.{moment_of}
-use Rattle.yaml_toml.specs.Events.{json_word, integer_content, decimal_content, infinite, special_content, moment_content, date_content, toml_events, items_events, keys_events}
+use Rattle.yaml_toml.specs.Events.{json_word, integer_content, decimal_content, infinite, special_content, moment_content, date_content, toml_events}
+use Rattle.yaml_toml.specs.Events.{toml_items_events, keys_events}
 
 -- a value as a node; items, and keys with their values, after others
 abbrev mutual
-  pub toml_node : toml.Node → (canonical in_flow : Bool) → Node
+  pub toml_node : toml.TomlNode → (canonical in_flow : Bool) → Node
   toml_node (toml.string text) canonical in_flow = scalar_node (text_content (chars text))
   toml_node (toml.integer z) canonical in_flow = scalar_node (integer_content canonical z)
   toml_node (toml.decimal word) canonical in_flow = scalar_node (decimal_content canonical word)
@@ -40,7 +44,7 @@ abbrev mutual
   items_nodes toml.no_items canonical in_flow before = before
   items_nodes (toml.item x items) canonical in_flow before = items_nodes items canonical in_flow (nodes_and before (toml_node x canonical in_flow))
 
-  pub keys_pairs : toml.Nodes → (canonical in_flow : Bool) → Pairs → Pairs
+  pub keys_pairs : toml.TomlNodes → (canonical in_flow : Bool) → Pairs → Pairs
   keys_pairs toml.no_nodes canonical in_flow before = before
   keys_pairs (toml.node key x keys) canonical in_flow before =
       keys_pairs keys canonical in_flow (pairs_and before (scalar_node (text_content (chars key))) (toml_node x canonical in_flow))
@@ -54,7 +58,7 @@ last_table start items keys =
     ∙ ap (λ (events : List Event). items ++ start ∷ events) (append_assoc keys (mapping_end ∷ []) (sequence_end ∷ []))
 
 mutual
-  pub node_flat : (x : toml.Node) (canonical in_flow : Bool) → node_events (toml_node x canonical in_flow) ≡ toml_events canonical in_flow x
+  pub node_flat : (x : toml.TomlNode) (canonical in_flow : Bool) → node_events (toml_node x canonical in_flow) ≡ toml_events canonical in_flow x
   node_flat (toml.string text) canonical in_flow = refl
   node_flat (toml.integer z) canonical in_flow = refl
   node_flat (toml.decimal word) canonical in_flow = refl
@@ -69,20 +73,21 @@ mutual
   node_flat (toml.tables done last) canonical in_flow =
       ap (λ (events : List Event). sequence_start (collection_in in_flow) ∷ ((events ++ (mapping_start (collection_in in_flow)
       ∷ (pairs_events (keys_pairs last canonical in_flow no_pairs) ++ mapping_end ∷ []))) ++ sequence_end ∷ [])) (items_flat done canonical in_flow no_nodes)
-      ∙ ap (λ (events : List Event). sequence_start (collection_in in_flow) ∷ ((items_events canonical in_flow done ++ (mapping_start (collection_in in_flow)
+      ∙ ap
+      (λ (events : List Event). sequence_start (collection_in in_flow) ∷ ((toml_items_events canonical in_flow done ++ (mapping_start (collection_in in_flow)
       ∷ (events ++ mapping_end ∷ []))) ++ sequence_end ∷ [])) (keys_flat last canonical in_flow no_pairs)
       ∙ ap (λ (events : List Event). sequence_start (collection_in in_flow) ∷ events)
-      (last_table (mapping_start (collection_in in_flow)) (items_events canonical in_flow done) (keys_events canonical in_flow last))
+      (last_table (mapping_start (collection_in in_flow)) (toml_items_events canonical in_flow done) (keys_events canonical in_flow last))
 
   items_flat : (items : toml.Items) (canonical in_flow : Bool) (before : Nodes)
-      → nodes_events (items_nodes items canonical in_flow before) ≡ nodes_events before ++ items_events canonical in_flow items
+      → nodes_events (items_nodes items canonical in_flow before) ≡ nodes_events before ++ toml_items_events canonical in_flow items
   items_flat toml.no_items canonical in_flow before = sym (append-nil (nodes_events before))
   items_flat (toml.item x items) canonical in_flow before =
       items_flat items canonical in_flow (nodes_and before (toml_node x canonical in_flow))
-      ∙ append_assoc (nodes_events before) (node_events (toml_node x canonical in_flow)) (items_events canonical in_flow items)
-      ∙ ap (λ (events : List Event). nodes_events before ++ (events ++ items_events canonical in_flow items)) (node_flat x canonical in_flow)
+      ∙ append_assoc (nodes_events before) (node_events (toml_node x canonical in_flow)) (toml_items_events canonical in_flow items)
+      ∙ ap (λ (events : List Event). nodes_events before ++ (events ++ toml_items_events canonical in_flow items)) (node_flat x canonical in_flow)
 
-  keys_flat : (keys : toml.Nodes) (canonical in_flow : Bool) (before : Pairs)
+  keys_flat : (keys : toml.TomlNodes) (canonical in_flow : Bool) (before : Pairs)
       → pairs_events (keys_pairs keys canonical in_flow before) ≡ pairs_events before ++ keys_events canonical in_flow keys
   keys_flat toml.no_nodes canonical in_flow before = sym (append-nil (pairs_events before))
   keys_flat (toml.node key x keys) canonical in_flow before =
@@ -94,10 +99,10 @@ mutual
       (node_flat x canonical in_flow)
 
 -- the one document of a table
-abbrev pub root_of : toml.Nodes → toml.Node
+abbrev pub root_of : toml.TomlNodes → toml.TomlNode
 root_of keys = toml.table Header keys
 
-abbrev pub toml_document : toml.Nodes → (canonical in_flow : Bool) → Document
+abbrev pub toml_document : toml.TomlNodes → (canonical in_flow : Bool) → Document
 toml_document keys canonical in_flow =
     record {
       start = record { version = None; directives = []; implicit = true };
@@ -105,13 +110,13 @@ toml_document keys canonical in_flow =
       end_implicit = true;
     }
 
-abbrev pub toml_stream : toml.Nodes → (canonical in_flow : Bool) → Stream
+abbrev pub toml_stream : toml.TomlNodes → (canonical in_flow : Bool) → Stream
 toml_stream keys canonical in_flow = record { encoding = None; documents = documents_and no_documents (toml_document keys canonical in_flow) }
 
-abbrev pub all_events : toml.Nodes → (canonical in_flow : Bool) → List Event
+abbrev pub all_events : toml.TomlNodes → (canonical in_flow : Bool) → List Event
 all_events keys canonical in_flow = opening ++ toml_events canonical in_flow (root_of keys) ++ closing
 
-pub stream_flat : (keys : toml.Nodes) (canonical in_flow : Bool) → stream_events (toml_stream keys canonical in_flow) ≡ all_events keys canonical in_flow
+pub stream_flat : (keys : toml.TomlNodes) (canonical in_flow : Bool) → stream_events (toml_stream keys canonical in_flow) ≡ all_events keys canonical in_flow
 stream_flat keys canonical in_flow =
     ap (λ (events : List Event). stream_start None ∷ plain_start ∷ ((events ++ document_end true ∷ []) ++ stream_end ∷ []))
     (node_flat (root_of keys) canonical in_flow)
@@ -154,7 +159,8 @@ collection_unsigned true in_flow = refl
 collection_unsigned false in_flow = refl
 
 mutual
-  pub value_unsigned : (x : toml.Node) (canonical in_flow : Bool) → node_has_flow_indicator canonical (directives_in_force []) (toml_node x canonical in_flow) ≡ false
+  pub value_unsigned : (x : toml.TomlNode) (canonical in_flow : Bool)
+      → node_has_flow_indicator canonical (directives_in_force []) (toml_node x canonical in_flow) ≡ false
   value_unsigned (toml.string text) canonical in_flow = text_unsigned (chars text) canonical
   value_unsigned (toml.integer z) canonical in_flow = word_unsigned int_tag refl canonical (signed_decimal z)
   value_unsigned (toml.decimal word) canonical in_flow =
@@ -192,7 +198,7 @@ mutual
       ∙ no_more (nodes_have_flow_indicator canonical (directives_in_force []) before)
       (node_has_flow_indicator canonical (directives_in_force []) (toml_node x canonical in_flow)) (value_unsigned x canonical in_flow)
 
-  keys_unsigned : (keys : toml.Nodes) (canonical in_flow : Bool) (before : Pairs)
+  keys_unsigned : (keys : toml.TomlNodes) (canonical in_flow : Bool) (before : Pairs)
       → pairs_have_flow_indicator canonical (directives_in_force []) (keys_pairs keys canonical in_flow before)
       ≡ pairs_have_flow_indicator canonical (directives_in_force []) before
   keys_unsigned toml.no_nodes canonical in_flow before = refl
@@ -205,7 +211,7 @@ mutual
       (text_unsigned (chars key) canonical)
 
 -- in portable mode or not
-pub portable_events : (portable canonical in_flow : Bool) (keys : toml.Nodes) → reads_alike portable canonical (all_events keys canonical in_flow) ≡ true
+pub portable_events : (portable canonical in_flow : Bool) (keys : toml.TomlNodes) → reads_alike portable canonical (all_events keys canonical in_flow) ≡ true
 portable_events true canonical in_flow keys = refl
 portable_events false canonical in_flow keys =
     ap (λ (tree : Option Stream). unwrap_or (option_map (λ stream. all_read_alike canonical (documents_in_order stream.documents)) tree) false) found

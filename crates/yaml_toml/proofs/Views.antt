@@ -8,7 +8,7 @@ use Rattle.toml_ordered.specs.declared.tree.Node.{Text, Integer, Decimal, Infini
 use Rattle.yaml_base.specs.declared.kinds.CollectionKind.{CollectionKind}
 use Rattle.yaml_json.proofs.Common.{Event, WriterState}
 use Rattle.yaml_toml.specs.Events.{toml_events}
-use Rattle.yaml_toml.specs.Walk.{HasNumbers, Steps, node_size}
+use Rattle.yaml_toml.specs.Walk.{HasNumbers, GaveSome, node_size}
 use Rattle.yaml_toml.specs.declared.walk.Rest.{Rest}
 
 pub node_view-Text : (s : String Global) → node_view (Text s) ≡ toml.string (string_bytes s)
@@ -33,8 +33,10 @@ pub node_view-Datetime : (d : DatetimeValue) → node_view (Datetime d) ≡ toml
 node_view-Datetime d = search (rules, the_lemmas)
 
 -- a step of a value, by what the value stands for
-pub steps_seen : (most : ℕ) (in_flow : Bool) (was now : WriterState) (x y : toml.Node) (rest : List Event) (kinds : List CollectionKind) (P : Type 0) (size : ℕ) (opened : List Rest)
-    → x ≡ y → Steps most in_flow was (toml_events was.canonical in_flow y ++ rest) kinds (HasNumbers y × P) (node_size y + size) now opened
-    → Steps most in_flow was (toml_events was.canonical in_flow x ++ rest) kinds (HasNumbers x × P) (node_size x + size) now opened
+pub steps_seen : (most : ℕ) (in_flow : Bool) (was now : WriterState) (x y : toml.TomlNode) (rest : List Event) (kinds : List CollectionKind) (P : Type 0)
+    (size : ℕ) (opened : List Rest)
+    → x ≡ y → GaveSome most in_flow was (toml_events was.canonical in_flow y ++ rest) kinds (HasNumbers y × P) (node_size y + size) now opened
+    → GaveSome most in_flow was (toml_events was.canonical in_flow x ++ rest) kinds (HasNumbers x × P) (node_size x + size) now opened
 steps_seen most in_flow was now x y rest kinds P size opened is =
-    subst (λ (z : toml.Node). Steps most in_flow was (toml_events was.canonical in_flow z ++ rest) kinds (HasNumbers z × P) (node_size z + size) now opened) (sym is)
+    subst (λ (z : toml.TomlNode). GaveSome most in_flow was (toml_events was.canonical in_flow z ++ rest) kinds (HasNumbers z × P)
+    (node_size z + size) now opened) (sym is)

@@ -1,9 +1,12 @@
 -- Why a writer failed that was given the events of a document.
-use Rattle.yaml_json.proofs.Common.{ℕ, ◌+◌, ◌≤◌, ◌<◌, Option, None, Some, Bool, true, List, [], ◌++◌, ◌∷◌, ◌⊎◌, refl, ◌≡◌, append-nil, append_assoc, inl, inr, ap, subst, sym, ◌∙◌}
-use Rattle.yaml_json.proofs.Common.{arith, cases_lt, cond, unwrap_or, IfSome, Event, IsPrefix, Settings, RefusedAt, StateStands, State, WriterState, most_open, open_count, begins_collection}
+use Rattle.yaml_json.proofs.Common.{ℕ, ◌+◌, ◌≤◌, ◌<◌, Option, None, Some, Bool, true, List, [], ◌++◌, ◌∷◌, ◌⊎◌, refl, ◌≡◌, append-nil, append_assoc, inl, inr}
+use Rattle.yaml_json.proofs.Common.{ap, subst, sym, ◌∙◌}
+use Rattle.yaml_json.proofs.Common.{arith, cases_lt, cond, unwrap_or, IfSome, Event, IsPrefix, Settings, RefusedAt, StateStands, State, WriterState, most_open}
+use Rattle.yaml_json.proofs.Common.{open_count, begins_collection}
 use Rattle.yaml_json.proofs.Common.{opening, closing, StandsTaken}
 use Rattle.yaml_base.proofs.Common.{stream_start, sum_by-append, count_by, ends_collection}
-use Rattle.yaml_base.specs.declared.errors.{yaml_error_t.yaml_error_t, yaml_error_t.TheVariants.Memory, yaml_error_t.TheVariants.WriteError, yaml_error_t.TheVariants.TooDeep}
+use Rattle.yaml_base.specs.declared.errors.{yaml_error_t.yaml_error_t, yaml_error_t.TheVariants.Memory, yaml_error_t.TheVariants.WriteError}
+use Rattle.yaml_base.specs.declared.errors.{yaml_error_t.TheVariants.TooDeep}
 use Rattle.yaml_emitter.proofs.Common.{IsRefusal, StandsAfter}
 use Rattle.yaml_emitter.proofs.standing.{StandingMore.failed_more, StandingPromises.promises_refusal}
 use Rattle.yaml_json.specs.Failing.{HasErrorSaid}
@@ -57,7 +60,7 @@ few_opened first depth few (a ∷ b ∷ prefix) rest is =
     subst (λ (e : Event). open_count (e ∷ b ∷ prefix) ≤ depth) (sym one)
     (subst (λ (e : Event). open_count (stream_start None ∷ e ∷ prefix) ≤ depth) (sym two) (omega (arith, begun, ended, few prefix rest more)))
 
-module _ (given : Settings) (in_flow : Bool) (depth : ℕ) (text : List ℕ) (root : toml.Nodes) (read : ordered_document text ≡ Some root) where
+module _ (given : Settings) (in_flow : Bool) (depth : ℕ) (text : List ℕ) (root : toml.TomlNodes) (read : ordered_document text ≡ Some root) where
   abbrev events : List Event
   events = toml_events given.canonical in_flow (root_of root)
 
@@ -170,10 +173,10 @@ module _ (given : Settings) (in_flow : Bool) (depth : ℕ) (text : List ℕ) (ro
 
 -- ---- what was given of a text
 
-same_root : (a b : toml.Nodes) → Some a ≡ Some b → a ≡ b
-same_root a b is = ap (λ (o : Option toml.Nodes). unwrap_or o a) is
+same_root : (a b : toml.TomlNodes) → Some a ≡ Some b → a ≡ b
+same_root a b is = ap (λ (o : Option toml.TomlNodes). unwrap_or o a) is
 
-some_root : (root : toml.Nodes) → ◌≡◌ {A = Option toml.Nodes} None (Some root) → ⊥
+some_root : (root : toml.TomlNodes) → ◌≡◌ {A = Option toml.TomlNodes} None (Some root) → ⊥
 some_root root is = cc
 
 -- nothing was
@@ -203,11 +206,11 @@ module _ (depth : ℕ) (in_flow : Bool) (text : List ℕ) (was : WriterState) (e
   }
 
   -- one was
-  pub stops_read : (now : WriterState) (root : toml.Nodes) → ordered_document text ≡ Some root
+  pub stops_read : (now : WriterState) (root : toml.TomlNodes) → ordered_document text ≡ Some root
       → GaveFirst depth (toml_events was.canonical in_flow (root_of root)) was now → StopsInDocument depth in_flow text was error now
   stops_read now root read gave = record {
     none = λ none. absurd (some_root root (sym none ∙ read));
-    first = λ other also. subst (λ (r : toml.Nodes). GaveFirst depth (toml_events was.canonical in_flow (root_of r)) was now)
+    first = λ other also. subst (λ (r : toml.TomlNodes). GaveFirst depth (toml_events was.canonical in_flow (root_of r)) was now)
         (same_root root other (sym read ∙ also)) gave;
   }
 
@@ -215,7 +218,7 @@ module _ (depth : ℕ) (in_flow : Bool) (text : List ℕ) (was : WriterState) (e
 
 module _ (given : Settings) (in_flow : Bool) (depth : ℕ) (text : List ℕ) (first now : WriterState) (stands : StandsTaken given opening [] first.emitter)
     (canonical : first.canonical ≡ given.canonical) where
-  by_code : (code : yaml_error_t) → StopsInDocument depth in_flow text first (errors.Emitter code) now → (found : Option toml.Nodes)
+  by_code : (code : yaml_error_t) → StopsInDocument depth in_flow text first (errors.Emitter code) now → (found : Option toml.TomlNodes)
       → ordered_document text ≡ found → now.emitter.error ≡ Some code → FailsBy given in_flow depth text code
   by_code code stops None none is = inl (stops.none none).1
   by_code code stops (Some root) read is =
@@ -239,5 +242,6 @@ module _ (given : Settings) (in_flow : Bool) (depth : ℕ) (text : List ℕ) (fi
   finish_failed wrote nests error unfinished =
       let stood = subst (λ (c : Bool). StandsTaken given (opening ++ toml_events c in_flow (root_of wrote.root)) [] now.emitter) canonical
       (wrote.wrote.adds given opening [] stands) in
-      let fits = subst (λ (root : toml.Nodes). document_nesting root ≤ depth) (same_root nests.root wrote.root (sym nests.read ∙ wrote.read)) nests.within in
+      let fits = subst (λ (root : toml.TomlNodes). document_nesting root ≤ depth)
+      (same_root nests.root wrote.root (sym nests.read ∙ wrote.read)) nests.within in
       unfinished_by given in_flow depth text wrote.root wrote.read fits now.emitter stood.stands error unfinished

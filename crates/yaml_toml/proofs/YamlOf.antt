@@ -1,6 +1,7 @@
 -- The stream of a TOML document, and what is read in it.
 use Rattle.yaml_json.proofs.Common.{ℕ, None, Some, Bool, true, List, [], ◌++◌, ◌∷◌, refl, ◌≡◌, ap, subst, ◌∙◌, and_from, list_all-append, list_all}
-use Rattle.yaml_json.proofs.Common.{Event, has_scalar_texts, IsAccepted, Settings, Effective, directives_in_force, Tree, WriterState, opening, closing, StandsTaken, node_tree}
+use Rattle.yaml_json.proofs.Common.{Event, has_scalar_texts, IsAccepted, Settings, Effective, directives_in_force, Tree, WriterState, opening, closing}
+use Rattle.yaml_json.proofs.Common.{StandsTaken, node_tree}
 use Rattle.yaml_base.proofs.Common.{stream_trees, root_place, settings_for}
 use Rattle.yaml_emitter.proofs.layouts.StreamsReadBack.{stream_found}
 use Rattle.yaml_json.proofs.JsonReads.{IsWhole, stream_whole, whole_by_either}
@@ -8,13 +9,13 @@ use Rattle.yaml_json.specs.Means.{plain_document}
 use Rattle.yaml_writer.specs.Writing.{Finishes}
 use Rattle.toml_ordered.specs.Data as toml
 use Rattle.yaml_toml.specs.Events.{toml_events}
-use Rattle.yaml_toml.specs.Means.{ReadsAsToml, IsYamlOf}
+use Rattle.yaml_toml.specs.Means.{ReadsAsToml, IsYamlOfToml}
 use Rattle.yaml_toml.specs.Walk.{KeysHaveNumbers, WroteToml}
 use Rattle.yaml_toml.proofs.TomlTrees.{toml_node, root_of, toml_stream, all_events, stream_flat, portable_events}
 use Rattle.yaml_toml.proofs.TomlMeanings.{node_means, toml_by_11, toml_by_core}
 use Rattle.yaml_toml.specs.Means.{by_11, by_core}
 
-module _ (given : Settings) (in_flow : Bool) (keys : toml.Nodes) (bytes : List ℕ) (numbers : KeysHaveNumbers keys)
+module _ (given : Settings) (in_flow : Bool) (keys : toml.TomlNodes) (bytes : List ℕ) (numbers : KeysHaveNumbers keys)
     (texts : list_all has_scalar_texts (all_events keys given.canonical in_flow) ≡ true)
     (taken : IsAccepted given.canonical (all_events keys given.canonical in_flow))
     (whole : IsWhole given (all_events keys given.canonical in_flow) bytes) where
@@ -53,7 +54,7 @@ texts_closed events texts =
 
 -- a writer at the start of its first document was given a document's events, and was finished
 pub yaml_of : (given : Settings) (in_flow : Bool) (text bytes : List ℕ) (first filled : WriterState) → StandsTaken given opening [] first.emitter
-    → first.canonical ≡ given.canonical → WroteToml in_flow text first filled → Finishes filled.emitter bytes → IsYamlOf given in_flow text bytes
+    → first.canonical ≡ given.canonical → WroteToml in_flow text first filled → Finishes filled.emitter bytes → IsYamlOfToml given in_flow text bytes
 yaml_of given in_flow text bytes first filled stands canonical wrote finishes =
     let events = opening ++ toml_events given.canonical in_flow (root_of wrote.root) in
     let stood = subst (λ (c : Bool). StandsTaken given (opening ++ toml_events c in_flow (root_of wrote.root)) [] filled.emitter) canonical

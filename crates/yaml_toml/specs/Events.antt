@@ -5,7 +5,8 @@ use Rattle.std.specs.Str.{chars}
 use Rattle.toml_datetime.specs.Text.{datetime_text}
 use Rattle.toml_datetime.specs.declared.datetime.Datetime.{Datetime}
 use Rattle.toml_parser.specs.Lexical.{first, plus}
-use Rattle.toml_ordered.specs.Data.{Node, string, integer, decimal, infinity, not_a_number, boolean, datetime, array, table, tables, Items, no_items, item, Nodes}
+use Rattle.toml_ordered.specs.Data.{TomlNode, string, integer, decimal, infinity, not_a_number, boolean, datetime, array, table, tables, Items, no_items, item}
+use Rattle.toml_ordered.specs.Data.{TomlNodes}
 use Rattle.toml_ordered.specs.Data.{no_nodes, node}
 use Rattle.yaml_base.specs.Event.{plain, Event, Scalar, scalar, sequence_start, sequence_end, mapping_start, mapping_end}
 use Rattle.yaml_base.specs.values.TypedValues.{int_tag}
@@ -47,7 +48,7 @@ date_content canonical date None = text_content (chars (datetime_text date))
 
 -- the events of a value, of the values of an array, of the keys and values of a table
 abbrev mutual
-  pub toml_events : (canonical in_flow : Bool) → Node → List Event
+  pub toml_events : (canonical in_flow : Bool) → TomlNode → List Event
   toml_events canonical in_flow (string text) = scalar (text_content (chars text)) ∷ []
   toml_events canonical in_flow (integer z) = scalar (integer_content canonical z) ∷ []
   toml_events canonical in_flow (decimal word) = scalar (decimal_content canonical word) ∷ []
@@ -56,18 +57,18 @@ abbrev mutual
   toml_events canonical in_flow (boolean flag) = scalar (bool_content canonical flag) ∷ []
   toml_events canonical in_flow (datetime date) = scalar (date_content canonical date (moment_of date)) ∷ []
   toml_events canonical in_flow (array items) =
-      sequence_start (collection_in in_flow) ∷ (items_events canonical in_flow items ++ sequence_end ∷ [])
+      sequence_start (collection_in in_flow) ∷ (toml_items_events canonical in_flow items ++ sequence_end ∷ [])
   toml_events canonical in_flow (table origin keys) =
       mapping_start (collection_in in_flow) ∷ (keys_events canonical in_flow keys ++ mapping_end ∷ [])
   toml_events canonical in_flow (tables done last) =
-      sequence_start (collection_in in_flow) ∷ (items_events canonical in_flow done
+      sequence_start (collection_in in_flow) ∷ (toml_items_events canonical in_flow done
       ++ mapping_start (collection_in in_flow) ∷ (keys_events canonical in_flow last ++ mapping_end ∷ sequence_end ∷ []))
 
-  pub items_events : (canonical in_flow : Bool) → Items → List Event
-  items_events canonical in_flow no_items = []
-  items_events canonical in_flow (item x items) = toml_events canonical in_flow x ++ items_events canonical in_flow items
+  pub toml_items_events : (canonical in_flow : Bool) → Items → List Event
+  toml_items_events canonical in_flow no_items = []
+  toml_items_events canonical in_flow (item x items) = toml_events canonical in_flow x ++ toml_items_events canonical in_flow items
 
-  pub keys_events : (canonical in_flow : Bool) → Nodes → List Event
+  pub keys_events : (canonical in_flow : Bool) → TomlNodes → List Event
   keys_events canonical in_flow no_nodes = []
   keys_events canonical in_flow (node key x keys) =
       scalar (text_content (chars key)) ∷ (toml_events canonical in_flow x ++ keys_events canonical in_flow keys)

@@ -1,6 +1,6 @@
 -- What a writer was given of a document that isn't written, and why no stream was.
 use Rattle.std.specs.Prelude.{◌≡◌, ◌⊎◌, ℕ, ◌<◌, ◌≤◌, Bool, None, Some, IfSome, List, ◌++◌}
-use Rattle.toml_ordered.specs.Data.{Nodes, table}
+use Rattle.toml_ordered.specs.Data.{TomlNodes, table}
 use Rattle.toml_ordered.specs.Grammar.{ordered_document}
 use Rattle.toml_ordered.specs.declared.tree.Origin.TheVariants.{Header}
 use Rattle.yaml_base.specs.Event.{Event}
@@ -28,16 +28,16 @@ pub record GaveFirst (depth : ℕ) (due : List Event) (was now : WriterState) : 
 -- writer's tells of an allocation
 pub record StopsInDocument (depth : ℕ) (in_flow : Bool) (text : List ℕ) (was : WriterState) (error : TomlError) (now : WriterState) : Type 0 where
   pub none : ordered_document text ≡ None → (now ≡ was) × IfSome (writers_error error) (λ code. code ≡ Memory)
-  pub first : (root : Nodes) → ordered_document text ≡ Some root → GaveFirst depth (toml_events was.canonical in_flow (table Header root)) was now
+  pub first : (root : TomlNodes) → ordered_document text ≡ Some root → GaveFirst depth (toml_events was.canonical in_flow (table Header root)) was now
 
 -- ---- why no stream was written
 
-abbrev pub stream_events_of : Settings → (in_flow : Bool) → Nodes → List Event
+abbrev pub stream_events_of : Settings → (in_flow : Bool) → TomlNodes → List Event
 stream_events_of given in_flow root = opening ++ toml_events given.canonical in_flow (table Header root) ++ closing
 
 -- the text is a document, and the bytes of its stream pass the limit
 pub record OverLimit (given : Settings) (in_flow : Bool) (text : List ℕ) : Type 0 where
-  pub root : Nodes
+  pub root : TomlNodes
   pub read : ordered_document text ≡ Some root
   pub passes : PassesLimit given (stream_events_of given in_flow root)
   pub cut : document_nesting root ≤ most_open → IsUncut given (stream_events_of given in_flow root) → ⊥

@@ -1,6 +1,6 @@
 -- Whether what is left of a document nests no deeper than is allowed.
 use Rattle.std.specs.Prelude.{◌↔◌, ℕ, suc, max, ◌<◌, ◌≤◌, ◌-◌, Result, Ok, Err, List, [], ◌∷◌, length}
-use Rattle.toml_ordered.specs.Data.{Nodes, items_view, entries_view}
+use Rattle.toml_ordered.specs.Data.{TomlNodes, items_view, entries_view}
 use Rattle.yaml_toml.specs.Depth.{document_nesting, items_nesting, keys_nesting}
 use Rattle.yaml_toml.specs.declared.walk.Rest.{Rest}
 use Rattle.yaml_toml.specs.declared.walk.Rest.TheVariants as rest
@@ -33,7 +33,7 @@ FitsAfter depth due (Err stop.TooDeep) opened = due → ⊥
 FitsAfter depth due (Err (stop.Failed error)) opened = Unit {0}
 
 -- so of a whole document
-abbrev pub NestsAfter : (depth : ℕ) → (root : Nodes) → Result (Unit {0}) Stop → Type 0
+abbrev pub NestsAfter : (depth : ℕ) → (root : TomlNodes) → Result (Unit {0}) Stop → Type 0
 NestsAfter depth root (Ok done) = document_nesting root ≤ depth
 NestsAfter depth root (Err stop.TooDeep) = depth < document_nesting root
 NestsAfter depth root (Err (stop.Failed error)) = Unit {0}

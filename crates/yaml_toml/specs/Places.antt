@@ -1,21 +1,21 @@
 -- Where an error says that a text is refused.
 use Rattle.std.specs.Prelude.{ℕ, ◌-◌, List, length, string_bytes}
-use Rattle.toml_ordered.specs.Places.{Conflict, StopsAt}
+use Rattle.toml_ordered.specs.Places.{Conflict, StopsAtExpression}
 use Rattle.yaml_json.specs.Places.{AreOf}
 use Rattle.yaml_toml.specs.Walk.{DeniesToml}
 use Rattle.yaml_toml.specs.declared.error.TomlError.{TomlError}
 use Rattle.yaml_toml.specs.declared.error.TomlError.TheVariants as errors
 
 -- an error of the text, whose line and column are those at which this much of it is left
-abbrev pub IsAt : (text : List ℕ) → (left : ℕ) → TomlError → Type 0
-IsAt text left (errors.NotToml line column) = AreOf text (length text - left) line column
-IsAt text left (errors.DefinedAgain key first_line first_column line column) = AreOf text (length text - left) line column
-IsAt text left _ = ⊥
+abbrev pub IsBeforeLeft : (text : List ℕ) → (left : ℕ) → TomlError → Type 0
+IsBeforeLeft text left (errors.NotToml line column) = AreOf text (length text - left) line column
+IsBeforeLeft text left (errors.DefinedAgain key first_line first_column line column) = AreOf text (length text - left) line column
+IsBeforeLeft text left _ = ⊥
 
 -- where an error says that the text is no document of TOML, the text is read up to an expression that is refused, and the error's place is
 -- there or behind
-abbrev pub HasPlace : (text : List ℕ) → TomlError → Type 0
-HasPlace text error = DeniesToml error → (left : ℕ) × StopsAt text left × IsAt text left error
+abbrev pub HasTomlPlace : (text : List ℕ) → TomlError → Type 0
+HasTomlPlace text error = DeniesToml error → (left : ℕ) × StopsAtExpression text left × IsBeforeLeft text left error
 
 -- where an error says that a key is defined again, the text defines this key so, at both places that the error has
 abbrev pub HasConflict : (text : List ℕ) → TomlError → Type 0

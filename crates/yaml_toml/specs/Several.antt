@@ -1,6 +1,6 @@
 -- Several documents of TOML in one stream, and what is read of them.
 use Rattle.std.specs.Prelude.{◌≡◌, ℕ, Bool, true, Some, List, [], ◌∷◌, ◌++◌, map}
-use Rattle.toml_ordered.specs.Data.{Nodes, table}
+use Rattle.toml_ordered.specs.Data.{TomlNodes, table}
 use Rattle.toml_ordered.specs.Grammar.{ordered_document}
 use Rattle.toml_ordered.specs.declared.tree.Origin.TheVariants.{Header}
 use Rattle.yaml_base.specs.Event.{Event}
@@ -13,29 +13,29 @@ use Rattle.yaml_json.specs.Sent.{AddsTaking}
 use Rattle.yaml_writer.specs.Writing.{Finishes, IsStream, StandsTaken, WriterState, closing, opening}
 use Rattle.yaml_toml.specs.Events.{toml_events}
 use Rattle.yaml_toml.specs.Walk.{KeysHaveNumbers}
-use Rattle.yaml_toml.specs.Means.{Means, Reader, by_11, by_core}
+use Rattle.yaml_toml.specs.Means.{MeansToml, SchemaReader, by_11, by_core}
 
 -- each of some texts is a document, with its root table, in which each decimal is a number
-abbrev pub AreDocuments : List (List ℕ × Nodes) → Type 0
+abbrev pub AreDocuments : List (List ℕ × TomlNodes) → Type 0
 AreDocuments [] = Unit {0}
 AreDocuments (part ∷ parts) = ((ordered_document part.0 ≡ Some part.1) × KeysHaveNumbers part.1) × AreDocuments parts
 
 -- the events of their tables, a document each, within the start of the first document and the end of the last
-abbrev pub several_events : (canonical in_flow : Bool) → List (List ℕ × Nodes) → List Event
+abbrev pub several_events : (canonical in_flow : Bool) → List (List ℕ × TomlNodes) → List Event
 several_events canonical in_flow [] = []
 several_events canonical in_flow (part ∷ []) = toml_events canonical in_flow (table Header part.1)
 several_events canonical in_flow (part ∷ next ∷ rest) =
     toml_events canonical in_flow (table Header part.1) ++ (between ++ several_events canonical in_flow (next ∷ rest))
 
 -- trees mean some tables, each its own, in order
-abbrev pub AllMean : Reader → List Nodes → List Tree → Type 0
+abbrev pub AllMean : SchemaReader → List TomlNodes → List Tree → Type 0
 AllMean reader [] [] = Unit {0}
-AllMean reader (root ∷ roots) (tree ∷ trees) = Means reader (table Header root) tree × AllMean reader roots trees
+AllMean reader (root ∷ roots) (tree ∷ trees) = MeansToml reader (table Header root) tree × AllMean reader roots trees
 AllMean reader _ _ = ⊥
 
 -- what the reader of whole streams finds in some bytes: for each of these tables one document without directives, in order, whose root
 -- means the table by the type repository of YAML 1.1 and by the core schema of YAML 1.2
-pub record ReadsAsTables (breaks12 : Bool) (bytes : List ℕ) (roots : List Nodes) : Type 0 where
+pub record ReadsAsTables (breaks12 : Bool) (bytes : List ℕ) (roots : List TomlNodes) : Type 0 where
   pub trees : List Tree
   pub read : stream_trees breaks12 bytes ≡ Some (map plain_document trees)
   pub means_by_11 : AllMean by_11 roots trees
@@ -43,7 +43,7 @@ pub record ReadsAsTables (breaks12 : Bool) (bytes : List ℕ) (roots : List Node
 
 -- the bytes are the stream of the documents of these texts, and both schemas read them as their tables, in portable mode with the line
 -- breaks of YAML 1.1 and with those of 1.2
-pub record IsYamlOfSeveral (given : Settings) (in_flow : Bool) (parts : List (List ℕ × Nodes)) (bytes : List ℕ) : Type 0 where
+pub record IsYamlOfSeveral (given : Settings) (in_flow : Bool) (parts : List (List ℕ × TomlNodes)) (bytes : List ℕ) : Type 0 where
   pub stream : IsStream given (opening ++ several_events given.canonical in_flow parts ++ closing) bytes
   pub reads : ReadsAsTables given.breaks12 bytes (map (λ part. part.1) parts)
   pub reads_by_either : given.portable ≡ true → (breaks12 : Bool) → ReadsAsTables breaks12 bytes (map (λ part. part.1) parts)
@@ -52,7 +52,7 @@ pub record IsYamlOfSeveral (given : Settings) (in_flow : Bool) (parts : List (Li
 -- taken meanwhile, the stream that it then finishes, with what was taken of it, is read as their tables, in order
 abbrev pub DocumentsAreRead : Type 0
 DocumentsAreRead =
-    (in_flow : Bool) (part : List ℕ × Nodes) (rest : List (List ℕ × Nodes)) (was now : WriterState) (taken : List ℕ)
+    (in_flow : Bool) (part : List ℕ × TomlNodes) (rest : List (List ℕ × TomlNodes)) (was now : WriterState) (taken : List ℕ)
     → AreDocuments (part ∷ rest) → AddsTaking was.emitter (several_events was.canonical in_flow (part ∷ rest)) taken now.emitter
     → (given : Settings) (sent bytes : List ℕ) → StandsTaken given opening sent was.emitter → was.canonical ≡ given.canonical → Finishes now.emitter bytes
     → IsYamlOfSeveral given in_flow (part ∷ rest) ((sent ++ taken) ++ bytes)

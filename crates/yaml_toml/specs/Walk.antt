@@ -2,7 +2,8 @@
 use Rattle.std.specs.Prelude.{◌≡◌, ℕ, ℤ, ◌<◌, ◌+◌, ◌^◌, Bool, Option, None, Some, Result, Ok, Err, List, [], ◌∷◌, ◌++◌, map, String, length, ◌≤◌, IfErr}
 use Rattle.std.specs.declared.alloc.Global.{Global}
 use Rattle.std.specs.Int.Signed.{mag}
-use Rattle.toml_ordered.specs.Data.{Node, integer, decimal, array, table, tables, Items, no_items, item, Nodes, no_nodes, node, items_view, entries_view}
+use Rattle.toml_ordered.specs.Data.{TomlNode, integer, decimal, array, table, tables, Items, no_items, item, TomlNodes, no_nodes, node, items_view}
+use Rattle.toml_ordered.specs.Data.{entries_view}
 use Rattle.toml_parser.specs.Numbers.{word_value}
 use Rattle.toml_parser.specs.declared.scalar.Scalar.{Scalar}
 use Rattle.toml_ordered.specs.Grammar.{ordered_document, scalar_node}
@@ -15,12 +16,12 @@ use Rattle.yaml_pen.specs.Wrote.{Grows}
 use Rattle.yaml_base.specs.declared.kinds.CollectionKind.{CollectionKind}
 use Rattle.yaml_base.specs.declared.kinds.CollectionKind.TheVariants.{Mapping, Sequence}
 use Rattle.yaml_base.specs.Prefix.{IsPrefix}
-use Rattle.yaml_json.specs.Failing.{FailedAt, HasErrorSaid, StaysSound}
+use Rattle.yaml_json.specs.Failing.{FailedGiving, HasErrorSaid, StaysSound}
 use Rattle.yaml_json.specs.JsonEvents.{collection_in}
 use Rattle.yaml_json.specs.Wrote.{IsBare, Wrote}
 use Rattle.yaml_writer.specs.NumberParts.{IsNumber, number_in}
 use Rattle.yaml_writer.specs.Writing.{AddsEvents, WriterState}
-use Rattle.yaml_toml.specs.Events.{toml_events, items_events, keys_events, json_word}
+use Rattle.yaml_toml.specs.Events.{toml_events, toml_items_events, keys_events, json_word}
 use Rattle.yaml_toml.specs.OpenCounts.{Opens}
 use Rattle.yaml_toml.specs.declared.walk.Rest.{Rest}
 use Rattle.yaml_toml.specs.declared.walk.Rest.TheVariants as rest
@@ -41,7 +42,7 @@ FewDigits z = mag z + 1 < 10 ^ 64
 
 -- each decimal in a value is a number, and each integer has few digits
 abbrev mutual
-  pub HasNumbers : Node → Type 0
+  pub HasNumbers : TomlNode → Type 0
   HasNumbers (integer z) = FewDigits z
   HasNumbers (decimal word) = IsJsonWord word
   HasNumbers (array items) = ItemsHaveNumbers items
@@ -53,7 +54,7 @@ abbrev mutual
   ItemsHaveNumbers no_items = Unit {0}
   ItemsHaveNumbers (item x items) = HasNumbers x × ItemsHaveNumbers items
 
-  pub KeysHaveNumbers : Nodes → Type 0
+  pub KeysHaveNumbers : TomlNodes → Type 0
   KeysHaveNumbers no_nodes = Unit {0}
   KeysHaveNumbers (node key x keys) = HasNumbers x × KeysHaveNumbers keys
 
@@ -63,13 +64,13 @@ ScalarsHaveNumbers = (word : List ℕ) (s : Scalar) → word_value word ≡ Some
 
 -- ---- what is left of a collection that was begun
 
-abbrev pub kind_of : Rest → CollectionKind
-kind_of (rest.Items items) = Sequence
-kind_of (rest.Tables done last) = Sequence
-kind_of (rest.Members keys) = Mapping
+abbrev pub rest_kind : Rest → CollectionKind
+rest_kind (rest.Items items) = Sequence
+rest_kind (rest.Tables done last) = Sequence
+rest_kind (rest.Members keys) = Mapping
 
 abbrev pub items_left : (canonical in_flow : Bool) → List CodeNode → List Event
-items_left canonical in_flow items = items_events canonical in_flow (items_view items) ++ sequence_end ∷ []
+items_left canonical in_flow items = toml_items_events canonical in_flow (items_view items) ++ sequence_end ∷ []
 
 abbrev pub keys_left : (canonical in_flow : Bool) → List (String Global × CodeNode × ℕ) → List Event
 keys_left canonical in_flow keys = keys_events canonical in_flow (entries_view keys) ++ mapping_end ∷ []
@@ -77,7 +78,7 @@ keys_left canonical in_flow keys = keys_events canonical in_flow (entries_view k
 abbrev pub rest_events : (canonical in_flow : Bool) → Rest → List Event
 rest_events canonical in_flow (rest.Items items) = items_left canonical in_flow items.now
 rest_events canonical in_flow (rest.Tables done last) =
-    items_events canonical in_flow (items_view done.now)
+    toml_items_events canonical in_flow (items_view done.now)
     ++ mapping_start (collection_in in_flow) ∷ (keys_events canonical in_flow (entries_view last.now) ++ mapping_end ∷ sequence_end ∷ [])
 rest_events canonical in_flow (rest.Members keys) = keys_left canonical in_flow keys.now
 
@@ -88,7 +89,7 @@ RestHasNumbers (rest.Members keys) = KeysHaveNumbers (entries_view keys.now)
 
 -- of all that are open, the innermost last
 abbrev pub kinds_of : List Rest → List CollectionKind
-kinds_of opened = map kind_of opened
+kinds_of opened = map rest_kind opened
 
 abbrev pub pending : (canonical in_flow : Bool) → List Rest → List Event
 pending canonical in_flow [] = []
@@ -101,7 +102,7 @@ PendingHaveNumbers (outer ∷ inner) = RestHasNumbers outer × PendingHaveNumber
 -- ---- how much is left, which each step lessens
 
 abbrev mutual
-  pub node_size : Node → ℕ
+  pub node_size : TomlNode → ℕ
   node_size (array items) = 2 + items_size items
   node_size (table origin keys) = 2 + keys_size keys
   node_size (tables done last) = 5 + (items_size done + keys_size last)
@@ -111,7 +112,7 @@ abbrev mutual
   items_size no_items = 0
   items_size (item x items) = node_size x + items_size items
 
-  pub keys_size : Nodes → ℕ
+  pub keys_size : TomlNodes → ℕ
   keys_size no_nodes = 0
   keys_size (node key x keys) = node_size x + keys_size keys
 
@@ -139,7 +140,8 @@ pub record Moved (was : WriterState) (events : List Event) (before after : List 
 
 -- some of the events that were due were given, and the others are pending; where all decimals that are pending are numbers, all that
 -- were due are; less than this is left; no more collections than the most are open meanwhile
-pub record Steps (most : ℕ) (in_flow : Bool) (was : WriterState) (due : List Event) (before : List CollectionKind) (numbers : Type 0) (size : ℕ) (now : WriterState)
+pub record GaveSome (most : ℕ) (in_flow : Bool) (was : WriterState) (due : List Event) (before : List CollectionKind) (numbers : Type 0) (size : ℕ)
+(now : WriterState)
     (opened : List Rest) : Type 0 where
   pub given : List Event
   pub moved : Moved was given before (kinds_of opened) now
@@ -166,15 +168,15 @@ SoundAfter was (Err error) now = HasErrorSaid was (Some error) now
 pub record Answers (was : WriterState) (event : Event) (result : Result (Unit {0}) yaml_error_t) (now : WriterState) : Type 0 where
   pub grows : Grows was.emitter.page now.emitter.page
   pub sound : SoundAfter was result now
-  pub failed : IfErr result (λ error. FailedAt was event error now)
+  pub failed : IfErr result (λ error. FailedGiving was event error now)
 
 abbrev pub stop_error : Stop → Option yaml_error_t
 stop_error stop.TooDeep = None
 stop_error (stop.Failed error) = Some error
 
 -- an allocation of the call's own failed
-abbrev pub IsMemory : Stop → Type 0
-IsMemory stopped = stopped ≡ stop.Failed Memory
+abbrev pub IsOwnMemory : Stop → Type 0
+IsOwnMemory stopped = stopped ≡ stop.Failed Memory
 
 -- the writer's answer
 abbrev pub IsStopOf : Result (Unit {0}) yaml_error_t → Result (Unit {0}) Stop → Type 0
@@ -186,7 +188,7 @@ abbrev pub SoundAfterStop : WriterState → Result (Unit {0}) Stop → WriterSta
 SoundAfterStop was (Ok done) now = StaysSound was now
 SoundAfterStop was (Err stopped) now = HasErrorSaid was (stop_error stopped) now
 
-pub record Kept (was : WriterState) (result : Result (Unit {0}) Stop) (now : WriterState) : Type 0 where
+pub record KeptAfterStop (was : WriterState) (result : Result (Unit {0}) Stop) (now : WriterState) : Type 0 where
   pub grows : Grows was.emitter.page now.emitter.page
   pub sound : SoundAfterStop was result now
 
@@ -203,7 +205,7 @@ IsSound was (Err error) now = HasErrorSaid was (writers_error error) now
 
 -- the text is a document of TOML; its events were given
 pub record WroteToml (in_flow : Bool) (text : List ℕ) (was now : WriterState) : Type 0 where
-  pub root : Nodes
+  pub root : TomlNodes
   pub read : ordered_document text ≡ Some root
   pub numbers : KeysHaveNumbers root
   pub wrote : Wrote was (toml_events was.canonical in_flow (table Header root)) now

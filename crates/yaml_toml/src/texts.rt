@@ -8,8 +8,8 @@ ghost use Rattle.yaml_json.specs.Wrote.{IsBare};
 ghost use Rattle.yaml_pen.specs.Wrote.{Grows};
 ghost use Rattle.yaml_toml.specs.Depth.{ExplainsDepth, NestsWithin};
 ghost use Rattle.yaml_toml.specs.Failing.{FailsBy, StopsInDocument};
-ghost use Rattle.yaml_toml.specs.Means.{IsYamlOf};
-ghost use Rattle.yaml_toml.specs.Places.{HasConflict, HasPlace, IsAt};
+ghost use Rattle.yaml_toml.specs.Means.{IsYamlOfToml};
+ghost use Rattle.yaml_toml.specs.Places.{HasConflict, HasTomlPlace, IsBeforeLeft};
 ghost use Rattle.yaml_toml.specs.Walk.{DeniesToml, IsSound, WroteToml, fault_error, stop_error, writers_error};
 
 use crate::error::TomlError;
@@ -30,7 +30,7 @@ fn place_before(text: &str, left: usize) -> (usize, usize)
 /// Returns the error that tells a caller of a fault of a text.
 fn error_of(text: &str, fault: Fault) -> TomlError
     ensures error { writers_error result ≡ fault_error fault }
-    ensures place { IfSome (place_left fault) (λ left. IsAt text.now left result) }
+    ensures place { IfSome (place_left fault) (λ left. IsBeforeLeft text.now left result) }
     ensures conflict { IsConflict text.now fault → HasConflict text.now result }
 {
     match fault {
@@ -89,7 +89,7 @@ pub fn write_toml<A: Allocator + Copy>(
     ensures refused { IfErr result (λ error. DeniesToml error → ordered_document text.now ≡ None) }
     ensures deep { IfErr result (ExplainsDepth settings.depth text.now) }
     ensures stopped { IfErr result (λ error. StopsInDocument settings.depth settings.flow text.now writer.old error writer.new) }
-    ensures place { IfErr result (HasPlace text.now) }
+    ensures place { IfErr result (HasTomlPlace text.now) }
     ensures conflict { IfErr result (HasConflict text.now) }
 {
     let root = match read_document(alloc, text) {
@@ -113,13 +113,13 @@ pub fn yaml_from_toml(
     text: &str,
     settings: TomlSettings,
 ) -> Result<Vec<u8>, TomlError>
-    ensures stream { IfOk result (λ bytes. IsYamlOf (seen_settings settings.writer) settings.flow text.now bytes.items) }
+    ensures stream { IfOk result (λ bytes. IsYamlOfToml (seen_settings settings.writer) settings.flow text.now bytes.items) }
     ensures nests { OnOk result (NestsWithin settings.depth text.now) }
     ensures refused { IfErr result (λ error. DeniesToml error → ordered_document text.now ≡ None) }
     ensures deep { IfErr result (ExplainsDepth settings.depth text.now) }
     ensures failed { IfErr result (λ error. IfSome (writers_error error)
         (FailsBy (seen_settings settings.writer) settings.flow settings.depth text.now)) }
-    ensures place { IfErr result (HasPlace text.now) }
+    ensures place { IfErr result (HasTomlPlace text.now) }
     ensures conflict { IfErr result (HasConflict text.now) }
 {
     let Ok(mut writer) = Writer::new(alloc, settings.writer) else {

@@ -1,7 +1,7 @@
 //! A walk over a document, depth first, from its tree to a writer. What is left of each array and table that is open stands in a
 //! list.
 ghost use Rattle.std.specs.Prelude.{◌≡◌, suc, ◌+◌, List, [], ◌∷◌, ◌++◌, IfErr, MatchOption, OnErr, OnOk};
-ghost use Rattle.yaml_toml.specs.Depth.{items_nesting, keys_nesting, nesting};
+ghost use Rattle.yaml_toml.specs.Depth.{items_nesting, keys_nesting, toml_nesting};
 ghost use Rattle.yaml_toml.specs.Failing.{GaveFirst};
 ghost use Rattle.yaml_toml.specs.Fitting.{FitsAfter, NestsAfter, NodeFits, RestFits, rest_nesting};
 ghost use Rattle.toml_ordered.specs.Data.{entries_view, items_view, node_view, table};
@@ -12,8 +12,9 @@ ghost use Rattle.yaml_base.specs.declared.kinds.CollectionKind.{CollectionKind};
 ghost use Rattle.yaml_json.specs.JsonEvents.{style_of};
 ghost use Rattle.yaml_json.specs.Wrote.{IsBare, Wrote, start_event};
 ghost use Rattle.yaml_toml.specs.Events.{infinite, toml_events};
-ghost use Rattle.yaml_toml.specs.Walk.{Answers, HasInnermost, HasNumbers, IsMemory, IsStopOf, ItemsHaveNumbers, Kept, KeysHaveNumbers, Moved};
-ghost use Rattle.yaml_toml.specs.Walk.{PendingHaveNumbers, RestHasNumbers, Steps, StepsStop, items_left, keys_left, items_size, keys_size, kind_of, kinds_of, node_size, pending, pending_size, rest_events, rest_size};
+ghost use Rattle.yaml_toml.specs.Walk.{Answers, HasInnermost, HasNumbers, IsOwnMemory, IsStopOf, ItemsHaveNumbers, KeptAfterStop, KeysHaveNumbers, Moved};
+ghost use Rattle.yaml_toml.specs.Walk.{PendingHaveNumbers, RestHasNumbers, GaveSome, StepsStop, items_left, keys_left, items_size, keys_size, rest_kind};
+ghost use Rattle.yaml_toml.specs.Walk.{kinds_of, node_size, pending, pending_size, rest_events, rest_size};
 ghost use Rattle.yaml_writer.specs.Writing.{end_event};
 
 use crate::scalars::{
@@ -48,7 +49,7 @@ pub(crate) enum Rest<'a> {
 
 impl Rest<'_> {
     fn kind(&self) -> CollectionKind
-        ensures { result ≡ kind_of self.now }
+        ensures { result ≡ rest_kind self.now }
     {
         match self {
             Rest::Items(_) | Rest::Tables(..) => CollectionKind::Sequence,
@@ -70,7 +71,7 @@ fn stop_of(answer: Result<(), yaml_error_t>) -> Result<(), Stop>
 /// Adds what is left of a collection to what is open.
 fn keep<'a>(opened: &mut Vec<Rest<'a>>, rest: Rest<'a>) -> Result<(), Stop>
     ensures kept { OnOk result (opened.new.items ≡ opened.old.items ++ rest.entry ∷ []) }
-    ensures failed { IfErr result IsMemory }
+    ensures failed { IfErr result IsOwnMemory }
 {
     match opened.push(rest) {
         Ok(()) => Ok(()),
@@ -140,17 +141,17 @@ fn enter<'a, A: Allocator + Copy>(
     settings: &TomlSettings,
 ) -> Result<(), Stop>
     requires { IsBare writer.old }
-    ensures entered { OnOk result (Steps settings.now.depth settings.now.flow writer.old
-        (start_event settings.now.flow (kind_of rest.entry) ∷ (rest_events writer.old.canonical settings.now.flow rest.entry
+    ensures entered { OnOk result (GaveSome settings.now.depth settings.now.flow writer.old
+        (start_event settings.now.flow (rest_kind rest.entry) ∷ (rest_events writer.old.canonical settings.now.flow rest.entry
         ++ pending writer.old.canonical settings.now.flow opened.old.items))
         (kinds_of opened.old.items) (RestHasNumbers rest.entry × PendingHaveNumbers opened.old.items)
         (1 + (rest_size rest.entry + pending_size opened.old.items)) writer.new opened.new.items) }
     ensures nests { FitsAfter settings.now.depth (NodeFits settings.now.depth (suc (rest_nesting rest.entry)) opened.old.items) result opened.new.items }
     ensures stopped { OnErr result (StepsStop settings.now.depth writer.old
-        (start_event settings.now.flow (kind_of rest.entry) ∷ (rest_events writer.old.canonical settings.now.flow rest.entry
+        (start_event settings.now.flow (rest_kind rest.entry) ∷ (rest_events writer.old.canonical settings.now.flow rest.entry
         ++ pending writer.old.canonical settings.now.flow opened.old.items))
         (kinds_of opened.old.items) writer.new) }
-    ensures kept { Kept writer.old result writer.new }
+    ensures kept { KeptAfterStop writer.old result writer.new }
 {
     if opened.len() >= settings.depth {
         return Err(Stop::TooDeep);
@@ -170,15 +171,15 @@ fn write_node<'a, A: Allocator + Copy>(
     settings: &TomlSettings,
 ) -> Result<(), Stop>
     requires { IsBare writer.old }
-    ensures written { OnOk result (Steps settings.now.depth settings.now.flow writer.old
+    ensures written { OnOk result (GaveSome settings.now.depth settings.now.flow writer.old
         (toml_events writer.old.canonical settings.now.flow (node_view node.now) ++ pending writer.old.canonical settings.now.flow opened.old.items)
         (kinds_of opened.old.items) (HasNumbers (node_view node.now) × PendingHaveNumbers opened.old.items)
         (node_size (node_view node.now) + pending_size opened.old.items) writer.new opened.new.items) }
-    ensures nests { FitsAfter settings.now.depth (NodeFits settings.now.depth (nesting (node_view node.now)) opened.old.items) result opened.new.items }
+    ensures nests { FitsAfter settings.now.depth (NodeFits settings.now.depth (toml_nesting (node_view node.now)) opened.old.items) result opened.new.items }
     ensures stopped { OnErr result (StepsStop settings.now.depth writer.old
         (toml_events writer.old.canonical settings.now.flow (node_view node.now) ++ pending writer.old.canonical settings.now.flow opened.old.items)
         (kinds_of opened.old.items) writer.new) }
-    ensures kept { Kept writer.old result writer.new }
+    ensures kept { KeptAfterStop writer.old result writer.new }
 {
     match node {
         Node::Text(text) => stop_of(write_text(writer, text.as_str())),
@@ -216,16 +217,16 @@ fn write_rest<'a, A: Allocator + Copy>(
     settings: &TomlSettings,
 ) -> Result<(), Stop>
     requires bare { IsBare writer.old }
-    requires innermost { HasInnermost writer.old (kinds_of opened.old.items) (kind_of rest) }
-    ensures written { OnOk result (Steps settings.now.depth settings.now.flow writer.old
+    requires innermost { HasInnermost writer.old (kinds_of opened.old.items) (rest_kind rest) }
+    ensures written { OnOk result (GaveSome settings.now.depth settings.now.flow writer.old
         (rest_events writer.old.canonical settings.now.flow rest.entry ++ pending writer.old.canonical settings.now.flow opened.old.items)
-        (kinds_of opened.old.items ++ kind_of rest.entry ∷ []) (RestHasNumbers rest.entry × PendingHaveNumbers opened.old.items)
+        (kinds_of opened.old.items ++ rest_kind rest.entry ∷ []) (RestHasNumbers rest.entry × PendingHaveNumbers opened.old.items)
         (rest_size rest.entry + pending_size opened.old.items) writer.new opened.new.items) }
     ensures nests { FitsAfter settings.now.depth (RestFits settings.now.depth (rest_nesting rest.entry) opened.old.items) result opened.new.items }
     ensures stopped { OnErr result (StepsStop settings.now.depth writer.old
         (rest_events writer.old.canonical settings.now.flow rest.entry ++ pending writer.old.canonical settings.now.flow opened.old.items)
-        (kinds_of opened.old.items ++ kind_of rest.entry ∷ []) writer.new) }
-    ensures kept { Kept writer.old result writer.new }
+        (kinds_of opened.old.items ++ rest_kind rest.entry ∷ []) writer.new) }
+    ensures kept { KeptAfterStop writer.old result writer.new }
 {
     match rest {
         Rest::Items(items) => write_item(alloc, writer, opened, items, settings),
@@ -257,7 +258,7 @@ fn write_item<'a, A: Allocator + Copy>(
 ) -> Result<(), Stop>
     requires bare { IsBare writer.old }
     requires innermost { HasInnermost writer.old (kinds_of opened.old.items) Sequence }
-    ensures written { OnOk result (Steps settings.now.depth settings.now.flow writer.old
+    ensures written { OnOk result (GaveSome settings.now.depth settings.now.flow writer.old
         (items_left writer.old.canonical settings.now.flow items.now ++ pending writer.old.canonical settings.now.flow opened.old.items)
         (kinds_of opened.old.items ++ Sequence ∷ []) (ItemsHaveNumbers (items_view items.now) × PendingHaveNumbers opened.old.items)
         (1 + items_size (items_view items.now) + pending_size opened.old.items) writer.new opened.new.items) }
@@ -266,7 +267,7 @@ fn write_item<'a, A: Allocator + Copy>(
     ensures stopped { OnErr result (StepsStop settings.now.depth writer.old
         (items_left writer.old.canonical settings.now.flow items.now ++ pending writer.old.canonical settings.now.flow opened.old.items)
         (kinds_of opened.old.items ++ Sequence ∷ []) writer.new) }
-    ensures kept { Kept writer.old result writer.new }
+    ensures kept { KeptAfterStop writer.old result writer.new }
 {
     match items.split_first() {
         None => stop_of(end_innermost(writer)),
@@ -289,7 +290,7 @@ fn write_member<'a, A: Allocator + Copy>(
 ) -> Result<(), Stop>
     requires bare { IsBare writer.old }
     requires innermost { HasInnermost writer.old (kinds_of opened.old.items) Mapping }
-    ensures written { OnOk result (Steps settings.now.depth settings.now.flow writer.old
+    ensures written { OnOk result (GaveSome settings.now.depth settings.now.flow writer.old
         (keys_left writer.old.canonical settings.now.flow keys.now ++ pending writer.old.canonical settings.now.flow opened.old.items)
         (kinds_of opened.old.items ++ Mapping ∷ []) (KeysHaveNumbers (entries_view keys.now) × PendingHaveNumbers opened.old.items)
         (1 + keys_size (entries_view keys.now) + pending_size opened.old.items) writer.new opened.new.items) }
@@ -298,7 +299,7 @@ fn write_member<'a, A: Allocator + Copy>(
     ensures stopped { OnErr result (StepsStop settings.now.depth writer.old
         (keys_left writer.old.canonical settings.now.flow keys.now ++ pending writer.old.canonical settings.now.flow opened.old.items)
         (kinds_of opened.old.items ++ Mapping ∷ []) writer.new) }
-    ensures kept { Kept writer.old result writer.new }
+    ensures kept { KeptAfterStop writer.old result writer.new }
 {
     match keys.split_first() {
         None => stop_of(end_innermost(writer)),
@@ -328,7 +329,7 @@ pub(crate) fn write_root<A: Allocator + Copy>(
     ensures nests { NestsAfter settings.now.depth (entries_view root.now.items) result }
     ensures stopped { OnErr result (GaveFirst settings.now.depth
         (toml_events writer.old.canonical settings.now.flow (table Header (entries_view root.now.items))) writer.old writer.new) }
-    ensures kept { Kept writer.old result writer.new }
+    ensures kept { KeptAfterStop writer.old result writer.new }
 {
     let mut opened: Vec<Rest<'_>> = Vec::new(alloc);
     if let Err(stop) = enter(

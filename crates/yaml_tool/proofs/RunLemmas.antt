@@ -9,7 +9,7 @@ use Rattle.yaml_base.specs.scripts.Script.{bad_line}
 use Rattle.yaml_base.specs.declared.errors.yaml_error_t.{yaml_error_t}
 use Rattle.yaml_emitter.{proofs.standing.KeptDocuments.documents_without_error, proofs.standing.KeptDocuments.documents_stay, specs.Promises.HasAllBytes}
 use Rattle.yaml_pen.specs.{Wrote.Grows}
-use Rattle.yaml_tool.specs.Runs.{EmitsAll, Emits, AnswersEvents, AnswersScript, WritesNothing, EndsAt, FlushesLast}
+use Rattle.yaml_tool.specs.Runs.{EmitsScript, Emits, AnswersEvents, AnswersScript, WritesNothing, EndsOnLine, FlushesLast}
 use Rattle.yaml_tool.specs.declared.{answers.run_answer_t.run_answer_t, scripts.NumberedEvent.NumberedEvent}
 use Rattle.yaml_tool.specs.declared.answers.run_answer_t.TheVariants.{BadLine, Done, NoMemory, ReadFailed, Refused, WriteFailed}
 
@@ -64,7 +64,7 @@ pub parts_more : {A : Type 0} (given : List (NumberedEvent A)) (next : NumberedE
     → left ≡ next ∷ rest → (given ++ next ∷ []) ++ rest ≡ all
 parts_more given next rest left all parts is = append_assoc given (next ∷ []) rest ∙ ap (λ left. given ++ left) (sym is) ∙ parts
 
-pub ends_more : {A : Type 0} (given : List (NumberedEvent A)) (next : NumberedEvent A) → EndsAt (map seen_numbered (given ++ next ∷ [])) next.line
+pub ends_more : {A : Type 0} (given : List (NumberedEvent A)) (next : NumberedEvent A) → EndsOnLine (map seen_numbered (given ++ next ∷ [])) next.line
 ends_more given next =
     record { before = map seen_numbered given; event = seen_event next.event; parts = sym (map-append seen_numbered given (next ∷ [])) }
 
@@ -96,7 +96,7 @@ refused_at set given next rest left all error earlier state parts is none stood 
 
 -- the last flush
 pub flushed_last : (set : Settings) (all : List Numbered) (line : ℕ) (answer : run_answer_t) (before after : State) → StandsAfter set (events_in all) before
-    → Promised set (events_in all) before → before.error ≡ None → EndsAt all line
+    → Promised set (events_in all) before → before.error ≡ None → EndsOnLine all line
     → FlushesLast line before answer after → Emits set all answer after
 flushed_last set all line Done before after stood promised none ends h =
     record {
@@ -135,10 +135,10 @@ pub ended_with : (set : Settings) (all : List Numbered) (line : ℕ) (last : Opt
 ended_with set all line None answer before after is stood promised none ends h = cc
 ended_with set all line (Some other) answer before after is stood promised none ends h =
     let same : other ≡ line = cc in
-    flushed_last set all line answer before after stood promised none (subst (EndsAt all) same ends) h
+    flushed_last set all line answer before after stood promised none (subst (EndsOnLine all) same ends) h
 
 pub ended_without : (set : Settings) (all : List Numbered) (last : Option ℕ) (state : State) → last ≡ None → StandsAfter set (events_in all) state
-    → Promised set (events_in all) state → state.error ≡ None → LastLine all last state → EmitsAll set all state
+    → Promised set (events_in all) state → state.error ≡ None → LastLine all last state → EmitsScript set all state
 ended_without set all None state is stands kept none ends =
     record {
       stands = stands;

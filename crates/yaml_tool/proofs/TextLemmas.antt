@@ -10,13 +10,13 @@ use Rattle.yaml_tool.{proofs.CharacterLemmas.passed_to, proofs.CutLemmas.neither
 use Rattle.yaml_base.specs.scripts.Script as notation
 
 -- what a turn and the characters behind it are read as
-abbrev pub read_turn : notation.TextStep → Text → Option Text
+abbrev pub read_turn : notation.QuotedStep → Text → Option Text
 read_turn (goes_on next) rest = text_from next rest
 read_turn (stands_for character) rest = option_map (λ value. character ∷ value) (text_from at_character rest)
 read_turn ends rest = if length rest == 0 then Some [] else None
 read_turn fails rest = None
 
-one_turn : (t : notation.TextStep) (rest : Text) → (elim t as (λ _. Option Text) [
+one_turn : (t : notation.QuotedStep) (rest : Text) → (elim t as (λ _. Option Text) [
   | goes_on next ↦ text_from next rest
   | stands_for character ↦ option_map (λ value. character ∷ value) (text_from at_character rest)
   | ends ↦ if length rest == 0 then Some [] else None

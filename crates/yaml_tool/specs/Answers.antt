@@ -18,13 +18,13 @@ status_of WriteFailed = 3
 status_of NoMemory = 3
 
 -- what went wrong; nothing for a whole stream
-abbrev pub fault_of : run_answer_t → Option Fault
-fault_of Done = None
-fault_of (Refused line error) = Some (faults.Refused line error)
-fault_of (BadLine line) = Some (faults.BadLine line)
-fault_of ReadFailed = Some faults.ReadFailed
-fault_of WriteFailed = Some faults.WriteFailed
-fault_of NoMemory = Some faults.NoMemory
+abbrev pub answer_fault : run_answer_t → Option Fault
+answer_fault Done = None
+answer_fault (Refused line error) = Some (faults.Refused line error)
+answer_fault (BadLine line) = Some (faults.BadLine line)
+answer_fault ReadFailed = Some faults.ReadFailed
+answer_fault WriteFailed = Some faults.WriteFailed
+answer_fault NoMemory = Some faults.NoMemory
 
 -- what went wrong, in words
 abbrev pub fault_text : Fault → Text
@@ -40,5 +40,5 @@ fault_line None = []
 fault_line (Some fault) = fault_text fault ++ line_feed ∷ []
 
 -- the program's line
-abbrev pub line_of : run_answer_t → Text
-line_of answer = fault_line (fault_of answer)
+abbrev pub answer_line : run_answer_t → Text
+answer_line answer = fault_line (answer_fault answer)

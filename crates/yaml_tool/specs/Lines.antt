@@ -7,7 +7,7 @@ use Rattle.yaml_tool.specs.declared.lines.Line.{Line}
 use Rattle.yaml_tool.specs.declared.lines.Line.TheVariants.{Nothing, Sets, Gives}
 
 -- what a line says, without its strings' room
-abbrev pub seen_line : {A : Type 0} → Line A → notation.Line
+abbrev pub seen_line : {A : Type 0} → Line A → notation.ScriptLine
 seen_line Nothing = says_nothing
 seen_line (Sets setting) = sets (seen_setting setting)
 seen_line (Gives event) = gives (seen_event event)

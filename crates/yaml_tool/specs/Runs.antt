@@ -22,7 +22,7 @@ events_in all = map (λ (numbered : Numbered). numbered.event) all
 -- ---- the emitter that a script's events were given
 
 -- no call answered an error, and all that is written is flushed
-pub record EmitsAll (given : Settings) (all : List Numbered) (state : State) : Type 0 where
+pub record EmitsScript (given : Settings) (all : List Numbered) (state : State) : Type 0 where
   pub stands : StandsAfter given (events_in all) state
   pub promised : Promised given (events_in all) state
   pub no_error : state.error ≡ None
@@ -62,7 +62,7 @@ pub record FlushFails (given : Settings) (all : List Numbered) (line : ℕ) (err
 
 -- what an answer says of the emitter
 abbrev pub Emits : Settings → List Numbered → run_answer_t → State → Type 0
-Emits given all Done state = EmitsAll given all state
+Emits given all Done state = EmitsScript given all state
 Emits given all (Refused line error) state = RefusesAt given all line error state ⊎ FlushFails given all line error state
 Emits given all answer state = ⊥
 
@@ -120,7 +120,7 @@ IsFault NoMemory script = ⊤
 IsFault answer script = ⊥
 
 -- the last of some events stands on this line
-pub record EndsAt (all : List Numbered) (line : ℕ) : Type 0 where
+pub record EndsOnLine (all : List Numbered) (line : ℕ) : Type 0 where
   pub before : List Numbered
   pub event : Event
   pub parts : before ++ record { line = line; event = event } ∷ [] ≡ all
@@ -128,7 +128,7 @@ pub record EndsAt (all : List Numbered) (line : ℕ) : Type 0 where
 -- the line of the last event, where there is one; before the first nothing is flushed
 abbrev pub LastLine : List Numbered → Option ℕ → State → Type 0
 LastLine all None state = (all ≡ []) × (state.page.output ≡ [])
-LastLine all (Some line) state = EndsAt all line
+LastLine all (Some line) state = EndsOnLine all line
 
 -- what the last flush does, given the line of its call
 abbrev pub FlushesLast : ℕ → State → run_answer_t → State → Type 0

@@ -8,7 +8,7 @@ use Rattle.yaml_tool.specs.declared.texts.TextStep.{TextStep}
 use Rattle.yaml_tool.specs.declared.texts.TextStep.TheVariants.{Ends, StandsFor, Fails}
 
 -- a character, or none, as the notation has it
-abbrev pub step_of : Option ℕ → notation.TextStep
+abbrev pub step_of : Option ℕ → notation.QuotedStep
 step_of None = fails
 step_of (Some character) = stands_for character
 

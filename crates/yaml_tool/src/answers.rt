@@ -1,7 +1,7 @@
 //! How a run ends: its result, its exit status, and its line on standard error.
 ghost use Rattle.std.specs.Prelude.{◌≡◌, IsOk, OnOk, Some};
 ghost use Rattle.std.specs.Io.KnownBytes.{Appends};
-ghost use Rattle.yaml_tool.specs.Answers.{fault_text, line_of, status_of};
+ghost use Rattle.yaml_tool.specs.Answers.{fault_text, answer_line, status_of};
 ghost use Rattle.yaml_tool.specs.Answers as answers;
 
 use std::io::Write;
@@ -64,7 +64,7 @@ impl fmt::Display for Fault {
 }
 
 fn fault_of(answer: &run_answer_t) -> Option<Fault>
-    ensures { result ≡ answers.fault_of answer.now }
+    ensures { result ≡ answers.answer_fault answer.now }
 {
     match answer {
         run_answer_t::Done => None,
@@ -83,7 +83,7 @@ fn fault_of(answer: &run_answer_t) -> Option<Fault>
 /// Returns the writer's error.
 pub fn write_line<W: Write>(answer: &run_answer_t, writer: &mut W) -> io::Result<()>
     ensures done { answer.now ≡ run_answer_t.Done → IsOk result × (W.contents writer.new ≡ W.contents writer.old) }
-    ensures line { OnOk result (Appends (W.contents writer.old) (W.contents writer.new) (line_of answer.now)) }
+    ensures line { OnOk result (Appends (W.contents writer.old) (W.contents writer.new) (answer_line answer.now)) }
 {
     match fault_of(answer) {
         None => Ok(()),

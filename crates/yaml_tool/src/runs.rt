@@ -11,8 +11,8 @@ use crate::parts::read_script_from;
 use crate::scripts::NumberedEvent;
 use std::alloc::Allocator;
 use std::io::{Read, Write};
-use yaml_emitter::{standing_is_promised, yaml_emitter_emit, yaml_emitter_flush, yaml_emitter_t};
 use yaml_base::write_to_sink;
+use yaml_emitter::{standing_is_promised, yaml_emitter_emit, yaml_emitter_flush, yaml_emitter_t};
 
 /// Reads a script to its end, emits its events, and writes the output, even if an event was refused.
 ///

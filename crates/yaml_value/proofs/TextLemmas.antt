@@ -15,7 +15,8 @@ use Rattle.yaml_base.specs.Characters.{is_space}
 use Rattle.yaml_base.specs.values.TypedValues.{TypedValue, null_value, bool_value, int_value, text_value, list_value, map_value, TypedValues, no_values}
 use Rattle.yaml_base.specs.values.TypedValues.{values_and, TypedPairs, no_value_pairs, value_pairs_and, null_tag, bool_tag, int_tag, bool_text, value_node}
 use Rattle.yaml_base.specs.values.TypedValues.{value_nodes, value_pairs, value_stream, typed_settings, tagged_collection, value_events, typed_output}
-use Rattle.yaml_base.proofs.Common.{document_start_piece, document_end_piece, stream_end_piece, first_standing, Stream, list_layout, stream_events, tree_of, with_breaks_written}
+use Rattle.yaml_base.proofs.Common.{document_start_piece, document_end_piece, stream_end_piece, first_standing, Stream, list_layout, stream_events, tree_of}
+use Rattle.yaml_base.proofs.Common.{with_breaks_written}
 use Rattle.yaml_base.proofs.Common.{line_feed_break, encode, cut, utf8, option_map, unwrap_or, bytes_written, eqb-true}
 use Rattle.yaml_base.proofs.Trees.{tree_of-stream_events}
 use Rattle.std.specs.Fmt.{signed_decimal}
@@ -26,7 +27,8 @@ use Rattle.yaml_base.specs.declared.errors.yaml_error_t.{yaml_error_t}
 use Rattle.yaml_base.specs.values.TypedValues.{WritesValue}
 use Rattle.yaml_base.proofs.Common.{arith, length, nat_tests}
 use Rattle.yaml_value.proofs.WritingLemmas.{below_limit}
-use Rattle.yaml_base.specs.values.ValueText.{in_quotes, scalar_text, line_at, has_no_values, has_no_value_pairs, entry_lead, entries_end, value_text, items_text, pairs_text}
+use Rattle.yaml_base.specs.values.ValueText.{in_quotes, scalar_text, line_at, has_no_values, has_no_value_pairs, entry_lead, entries_end, value_text}
+use Rattle.yaml_base.specs.values.ValueText.{items_text, pairs_text}
 use Rattle.yaml_base.specs.values.ValueText.{document_text}
 
 -- the settings of canonical values, and the directives in force

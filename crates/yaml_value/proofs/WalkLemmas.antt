@@ -9,7 +9,7 @@ use Rattle.yaml_base.proofs.Common.{append-nil, length-append, Option, false}
 use Rattle.yaml_base.specs.Event.{sequence_end, mapping_end}
 use Rattle.yaml_base.specs.values.TypedValues.{value_count}
 use Rattle.yaml_value.specs.{declared.value.Value.Value, declared.walk.Rest.Rest}
-use Rattle.yaml_value.specs.Walk.{items_in, values_in, count_all, count_left, Left, seen_flat, seen_rest, entered, stepped, opening, HasOwn64Bits}
+use Rattle.yaml_value.specs.Walk.{items_in, values_in, count_all, count_left, Left, seen_flat, seen_rest, entered, stepped, first_event_of, HasOwn64Bits}
 use Rattle.yaml_value.specs.Walk.{step_event, StepHas64Bits}
 
 -- ---- what lies in a value
@@ -140,19 +140,19 @@ events_left-append (left ∷ outer) inner =
     ∙ append_assoc (events_left inner) (events_left outer) (events_all left.values ++ left.end ∷ [])
 
 -- a value's events: the first, and those of what it leaves
-pub events_entered : (value : TypedValue) → opening value ∷ events_left (entered value) ≡ node_events (value_node value)
+pub events_entered : (value : TypedValue) → first_event_of value ∷ events_left (entered value) ≡ node_events (value_node value)
 events_entered null_value = refl
 events_entered (bool_value b) = refl
 events_entered (int_value n) = refl
 events_entered (text_value text) = refl
-events_entered (list_value items) = ap (λ events. opening (list_value items) ∷ (events ++ sequence_end ∷ [])) (sym (items_events items))
-events_entered (map_value pairs) = ap (λ events. opening (map_value pairs) ∷ (events ++ mapping_end ∷ [])) (sym (fields_events pairs))
+events_entered (list_value items) = ap (λ events. first_event_of (list_value items) ∷ (events ++ sequence_end ∷ [])) (sym (items_events items))
+events_entered (map_value pairs) = ap (λ events. first_event_of (map_value pairs) ∷ (events ++ mapping_end ∷ [])) (sym (fields_events pairs))
 
 events_by : (outer : List Left) (values : List TypedValue) (end : Event)
     → step_event end (after_step outer values end).0 ∷ events_left (after_step outer values end).1 ≡ events_left (with_left outer values end)
 events_by outer [] end = sym (events_left-append outer (record { values = []; end = end } ∷ []))
 events_by outer (value ∷ values) end =
-    ap (λ events. opening value ∷ events) (events_left-append outer (record { values = values; end = end } ∷ entered value))
+    ap (λ events. first_event_of value ∷ events) (events_left-append outer (record { values = values; end = end } ∷ entered value))
     ∙ ap (λ events. (events ++ (events_all values ++ end ∷ [])) ++ events_left outer) (events_entered value)
     ∙ ap (λ events. events ++ events_left outer) (sym (append_assoc (node_events (value_node value)) (events_all values) (end ∷ [])))
     ∙ sym (events_left-append outer (record { values = value ∷ values; end = end } ∷ []))
@@ -285,12 +285,12 @@ pub record Stands (before now : List Event) (value : TypedValue) (levels : List 
   pub bits : BitsLeft levels → Has64Bits value
 
 -- where a value was just entered
-pub stands_first : (before now : List Event) (value : TypedValue) (levels : List Left) → levels ≡ entered value → now ≡ before ++ opening value ∷ []
+pub stands_first : (before now : List Event) (value : TypedValue) (levels : List Left) → levels ≡ entered value → now ≡ before ++ first_event_of value ∷ []
     → HasOwn64Bits value → Stands before now value levels
 stands_first before now value levels is pushed own = record {
   events =
       ap₂ (λ now levels. now ++ events_left levels) pushed is
-      ∙ append_assoc before (opening value ∷ []) (events_left (entered value))
+      ∙ append_assoc before (first_event_of value ∷ []) (events_left (entered value))
       ∙ ap (λ events. before ++ events) (events_entered value);
   bits = λ bits. bits_entered value own (subst BitsLeft is bits);
 }

@@ -17,17 +17,17 @@ pairs_of before [] = before
 pairs_of before (pair ∷ pairs) = pairs_of (value_pairs_and before pair.0 pair.1) pairs
 
 -- one level of a value, whose inner values are seen
-abbrev pub seen_level : {A : Type 0} → Value-F A TypedValue → TypedValue
-seen_level Value-F.Null = null_value
-seen_level (Value-F.Bool b) = bool_value b
-seen_level (Value-F.Int n) = int_value n
-seen_level (Value-F.Text text) = text_value (seen_text text)
-seen_level (Value-F.List items) = list_value (values_of no_values items.items)
-seen_level (Value-F.Map pairs) = map_value (pairs_of no_value_pairs pairs.items)
+abbrev pub seen_value_level : {A : Type 0} → Value-F A TypedValue → TypedValue
+seen_value_level Value-F.Null = null_value
+seen_value_level (Value-F.Bool b) = bool_value b
+seen_value_level (Value-F.Int n) = int_value n
+seen_value_level (Value-F.Text text) = text_value (seen_text text)
+seen_value_level (Value-F.List items) = list_value (values_of no_values items.items)
+seen_value_level (Value-F.Map pairs) = map_value (pairs_of no_value_pairs pairs.items)
 
 -- a value
 abbrev pub seen_value : {A : Type 0} → Value A → TypedValue
-seen_value {A} = fold-Value A TypedValue seen_level
+seen_value {A} = fold-Value A TypedValue seen_value_level
 
 -- values in order
 abbrev pub seen_values : {A : Type 0} → List (Value A) → TypedValues

@@ -81,8 +81,8 @@ first_event (sequence_node start items) = sequence_start start
 first_event (mapping_node start pairs) = mapping_start start
 
 -- the event with which a value begins
-abbrev pub opening : TypedValue → Event
-opening value = first_event (value_node value)
+abbrev pub first_event_of : TypedValue → Event
+first_event_of value = first_event (value_node value)
 
 -- an integer, that isn't inside, has 64 bits
 abbrev pub HasOwn64Bits : TypedValue → Type 0
@@ -92,7 +92,7 @@ HasOwn64Bits _ = Unit {0}
 -- the event of a step: that of the value's beginning, or of the end of what is left
 abbrev pub step_event : Event → Option TypedValue → Event
 step_event end None = end
-step_event end (Some value) = opening value
+step_event end (Some value) = first_event_of value
 
 -- the integer that a step enters has 64 bits
 abbrev pub StepHas64Bits : Option TypedValue → Type 0

@@ -9,7 +9,7 @@ ghost use Rattle.yaml_base.specs.Seen.{seen_events, seen_text};
 ghost use Rattle.yaml_base.specs.values.TypedValues as typed;
 ghost use Rattle.yaml_base.specs.values.TypedValues.{Has64Bits, tagged_node, value_node};
 ghost use Rattle.yaml_value.specs.SeenValues.{seen_value};
-ghost use Rattle.yaml_value.specs.Walk.{HasOwn64Bits, StepHas64Bits, opening, seen_rest, step_event};
+ghost use Rattle.yaml_value.specs.Walk.{HasOwn64Bits, StepHas64Bits, first_event_of, seen_rest, step_event};
 
 use crate::tags::{YAML_BOOL_TAG, YAML_INT_TAG, YAML_NULL_TAG};
 use crate::value::Value;
@@ -85,7 +85,7 @@ fn push_opening<A: Allocator + Copy>(
     events: &mut Vec<yaml_event_t<A>, A>,
     value: &Value<A>,
 ) -> Result<(), AllocError>
-    ensures pushed { OnOk result (seen_events events.new.items ≡ seen_events events.old.items ++ opening (seen_value value.now) ∷ []) }
+    ensures pushed { OnOk result (seen_events events.new.items ≡ seen_events events.old.items ++ first_event_of (seen_value value.now) ∷ []) }
     ensures bits { OnOk result (HasOwn64Bits (seen_value value.now)) }
 {
     match value {

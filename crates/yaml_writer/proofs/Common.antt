@@ -16,11 +16,11 @@ pub use Rattle.std.specs.Prelude.{Err, Ok, Result, chars, IfErr, OnOk}
 pub use Rattle.yaml_base.proofs.{Literals.chars-literal, NumberCuts.digit_unlike, Prefixes.prefix_then, SurelyTexts.surely_text}
 pub use Rattle.yaml_base.specs.Seen.{seen_scalar_style, seen_sequence_style, seen_mapping_style, seen_text, seen_event}
 pub use Rattle.yaml_base.specs.values.{SurelyText.reserved_words, SurelyText.ascii_prefix, SurelyText.is_doubtful, TypedValues.int_tag}
-pub use Rattle.yaml_base.specs.values.JsonNumbers.{is_whole, exponent_text, json_text, fraction_or_default, is_json_integer}
-pub use Rattle.yaml_emitter.{proofs.EndedStreams.ends_last, specs.Promises.HasRoom}
+pub use Rattle.yaml_base.specs.values.JsonNumbers.{is_whole_part, exponent_text, json_text, fraction_or_default, is_json_integer}
+pub use Rattle.yaml_emitter.{proofs.EndedStreams.ends_last, specs.Promises.HasRoomAndMemory}
 pub use Rattle.yaml_pen.{proofs.Writing.none_from_result, proofs.Writing.some_from_result, specs.Page.output_left, specs.Page.result_of_error}
 pub use Rattle.yaml_pen.{specs.Wrote.Grows}
-pub use Rattle.yaml_writer.specs.{Inside.state_of, SeenNumbers.seen_parts, Spellings.is_spelled, Unfinished.RefusesOne, Unfinished.PassesLimit}
+pub use Rattle.yaml_writer.specs.{Inside.writer_state_of, SeenNumbers.seen_parts, Spellings.is_spelled, Unfinished.RefusesOne, Unfinished.PassesLimit}
 pub use Rattle.yaml_writer.specs.{Unfinished.IsUnfinishedBy, Words.is_reserved_word}
 pub use Rattle.yaml_writer.specs.NumberParts.{IsNumber, IsNoNumber, is_fraction, is_exponent}
 pub use Rattle.yaml_writer.specs.Writing.{WriterState, plain_start, is_implicit, closing_by, word_event, float_tag, end_event, StandsTaken, AddsEvents}

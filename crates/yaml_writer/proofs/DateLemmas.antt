@@ -12,7 +12,7 @@ use Rattle.yaml_base.proofs.NumberCuts.{no_word_of_11, uncut}
 use Rattle.yaml_base.proofs.no_numbers.NoNumbers.{past_cons}
 use Rattle.yaml_base.specs.values.Resolved.{counted_digits, some_if}
 use Rattle.yaml_writer.proofs.PlainNumbers.{begins_as_plain, digits_pass, is_harmless, stands_plain}
-use Rattle.yaml_writer.specs.Dates.{CalendarDate, calendar_date, is_calendar_date, days_in, four_digits, two_digits, date_text, date_of, DatesAreRead}
+use Rattle.yaml_writer.specs.Dates.{CalendarDate, calendar_date, is_calendar_date, days_in, four_digits, two_digits, date_text, date_of_parts, DatesAreRead}
 use Rattle.yaml_writer.specs.Dates.{WrittenDatesArePlain}
 
 -- ---- digits
@@ -163,7 +163,7 @@ pub dates_read : DatesAreRead
 dates_read date h =
     let parts = date_says date h in (
       reads_before date parts [] refl (stands_alone date parts),
-      ap date_of (cut date parts)
+      ap date_of_parts (cut date parts)
           ∙ ap (λ year. Some (calendar_date year (digits_value 10 (two_digits date.month)) (digits_value 10 (two_digits date.day)))) parts.year.value
           ∙ ap₂ (λ month day. Some (calendar_date date.year month day)) parts.month.value parts.day.value,
     )

@@ -1,7 +1,8 @@
 -- What it comes to that a document and its stream are ended.
 use Rattle.yaml_writer.proofs.Common.{ℕ, ◌<◌, ◌≤◌, is_some, Option, None, Some, length, Bool, false, true, ◌||◌, List, [], ◌++◌, ◌∷◌, refl, ◌≡◌, append_assoc}
 use Rattle.yaml_writer.proofs.Common.{ap, ap₂, subst, sym, ◌∙◌, arith, nil_from_length, Text, Event, stream_end, document_end, IsAccepted, Settings}
-use Rattle.yaml_writer.proofs.Common.{ends_last, IsRefusal, HasRoom, Promised, StandsAfter, State, output_left, RefusesOne, IsUnfinishedBy, WriterState}
+use Rattle.yaml_writer.proofs.Common.{ends_last, IsRefusal, HasRoomAndMemory, Promised, StandsAfter, State, output_left, RefusesOne, IsUnfinishedBy}
+use Rattle.yaml_writer.proofs.Common.{WriterState}
 use Rattle.yaml_writer.proofs.Common.{plain_start, closing_by, StandsTaken}
 use Rattle.yaml_emitter.proofs.Common.{RefusedAt, ends_stream}
 use Rattle.std.specs.Prelude.{unwrap_or, IsSome}
@@ -64,7 +65,7 @@ module _ (implicit : Bool) where
   stream_finished : (given : Settings) (all : List Event) (state : State) → Promised given (all ++ closing) state → state.error ≡ None → state.held ≡ []
       → IsStream given (all ++ closing) state.page.output
   stream_finished given all state promised none held =
-      let room : HasRoom state.error = subst HasRoom (sym none) tt in
+      let room : HasRoomAndMemory state.error = subst HasRoomAndMemory (sym none) tt in
       let accepted = (promised.ends (closing_ends all) room).1 (none, held) in
       record { accepted = accepted; state = state; written = promised.whole none accepted; output = refl }
 
@@ -72,7 +73,7 @@ module _ (implicit : Bool) where
   refused_unaccepted : (given : Settings) (all : List Event) (error : yaml_error_t) (state : State) → Promised given (all ++ closing) state
       → state.error ≡ Some error → IsRefusal error → IsAccepted given.canonical (all ++ closing) → ⊥
   refused_unaccepted given all error state promised some refusal accepted =
-      apart (sym ((promised.ends (closing_ends all) (subst HasRoom (sym some) refusal)).0 accepted).0 ∙ some)
+      apart (sym ((promised.ends (closing_ends all) (subst HasRoomAndMemory (sym some) refusal)).0 accepted).0 ∙ some)
     where
       apart : None ≡ Some error → ⊥
       apart is = cc
@@ -81,7 +82,7 @@ module _ (implicit : Bool) where
   pub waiting_unaccepted : (given : Settings) (all : List Event) (state : State) → Promised given (all ++ closing) state → state.error ≡ None
       → (state.held ≡ [] → ⊥) → IsAccepted given.canonical (all ++ closing) → ⊥
   waiting_unaccepted given all state promised none some accepted =
-      some ((promised.ends (closing_ends all) (subst HasRoom (sym none) tt)).0 accepted).1
+      some ((promised.ends (closing_ends all) (subst HasRoomAndMemory (sym none) tt)).0 accepted).1
 
   -- what an error of the emitter comes to, once document and stream were ended
   pub failed_unfinished : (before after : State) (error : yaml_error_t) → ((earlier : yaml_error_t) → before.error ≡ Some earlier → after.error ≡ Some earlier)

@@ -4,14 +4,14 @@ use Rattle.std.specs.Float.{float_is_finite, float_zero}
 use Rattle.std.specs.Float.Ieee.{Float, Format, nan, inf, fin, lt}
 use Rattle.std.specs.Prelude.{is_nan}
 use Rattle.yaml_base.specs.declared.errors.yaml_error_t.{yaml_error_t}
-use Rattle.yaml_writer.specs.Floats.{GivesFloat, ReadsAs, special_event}
+use Rattle.yaml_writer.specs.Floats.{GivesFloat, ReadsAsFloat, special_event}
 use Rattle.yaml_writer.specs.Writing.{Gives, number_event}
 use Rattle.yaml_writer.specs.declared.floats.SpecialFloat.{SpecialFloat}
 use Rattle.yaml_writer.specs.declared.floats.SpecialFloat.TheVariants.{Infinity, NegativeInfinity, NotANumber}
 
 -- a finite float, by its number
 pub gives_number : (format : Format) (before after : WriterState) (float : Float) (answer : Result (Unit {0}) yaml_error_t) → float_is_finite float ≡ true
-    → (number : JsonNumber) → ReadsAs format float number → Gives before (number_event before number) answer after
+    → (number : JsonNumber) → ReadsAsFloat format float number → Gives before (number_event before number) answer after
     → GivesFloat format before float answer after
 unfolding float_is_finite
 gives_number format before after (fin negative significand exponent) answer finite number reads gives = (number, reads, gives)

@@ -11,7 +11,7 @@ use Rattle.std.specs.Prelude.{codes, negsuc, not, suc, zero, ℤ, ◌%◌, ◌&&
 use Rattle.fast_float.specs.Text.{Parts, exponent_text as printed_exponent}
 use Rattle.ryu.specs.Plain.{IsPlain, IsPlainNumber}
 use Rattle.yaml_base.{proofs.NumberCuts.some_digits, specs.Words.is_word, specs.values.Resolved.is_decimal, specs.values.Resolved.are_digits}
-use Rattle.yaml_base.specs.values.JsonNumbers.{JsonExponent, JsonNumber, is_whole, is_json_number, minus, exponent_text, json_text}
+use Rattle.yaml_base.specs.values.JsonNumbers.{JsonExponent, JsonNumber, is_whole_part, is_json_number, minus, exponent_text, json_text}
 
 -- ---- digits
 
@@ -25,7 +25,7 @@ are_some [] some h = absurd (omega arith)
 are_some (c ∷ digits) some h = some_digits c digits (digits_pass (c ∷ digits) h)
 
 -- digits of which the first is `0` only where it is alone
-whole_is : (digits : Text) → 0 < length digits → AllDigits 10 digits → (slice_index digits 0 ≡ 48 → length digits ≡ 1) → is_whole digits ≡ true
+whole_is : (digits : Text) → 0 < length digits → AllDigits 10 digits → (slice_index digits 0 ≡ 48 → length digits ≡ 1) → is_whole_part digits ≡ true
 whole_is [] some h lone = absurd (omega arith)
 whole_is (c ∷ rest) some h lone =
     and_from (are_digits 10 (c ∷ rest)) (is_word (c ∷ rest) (codes "0") || not (c == 48)) (are_some (c ∷ rest) some h) (by (c == 48) refl)
@@ -62,7 +62,7 @@ lone_zero : (n : ℕ) → n < 10 ^ 64 → slice_index (decimal n) 0 ≡ 48 → l
 lone_zero zero h e = ap length (decimal_digit 0 (omega arith))
 lone_zero (suc n) h e = let first = first_digit (suc n) h (omega arith) in absurd (omega (arith, first, e))
 
-whole_decimal : (n : ℕ) → n < 10 ^ 64 → is_whole (decimal n) ≡ true
+whole_decimal : (n : ℕ) → n < 10 ^ 64 → is_whole_part (decimal n) ≡ true
 whole_decimal n h = let digits = decimal_is_IsNumeral_wide n h in whole_is (decimal n) digits.0.0 digits.0.1 (lone_zero n h)
 
 -- an integer by its sign and its digits
@@ -76,7 +76,7 @@ pub has_decimal : (n : ℕ) → n < 10 ^ 64 → HasNumber (decimal n)
 has_decimal n h = (
   integer false (decimal n),
   record {
-    valid = all_true (is_whole (decimal n)) true true (whole_decimal n h) refl refl;
+    valid = all_true (is_whole_part (decimal n)) true true (whole_decimal n h) refl refl;
     text_is = nothing_after (decimal n);
   },
 )
@@ -86,7 +86,7 @@ has_signed (pos n) h = has_decimal n (omega (arith, h))
 has_signed (negsuc n) h = (
   integer true (decimal (suc n)),
   record {
-    valid = all_true (is_whole (decimal (suc n))) true true (whole_decimal (suc n) (omega (arith, h))) refl refl;
+    valid = all_true (is_whole_part (decimal (suc n))) true true (whole_decimal (suc n) (omega (arith, h))) refl refl;
     text_is = nothing_after (45 ∷ decimal (suc n));
   },
 )
@@ -126,18 +126,18 @@ text_same negative true whole fraction printed exponent same =
 text_same negative false whole fraction printed exponent same =
     regroup (minus negative) whole [] printed ∙ ap (λ (e : Text). minus negative ++ whole ++ [] ++ e) same
 
-valid_is : (negative point exponent_negative : Bool) (whole fraction exponent : Text) → is_whole whole ≡ true
+valid_is : (negative point exponent_negative : Bool) (whole fraction exponent : Text) → is_whole_part whole ≡ true
     → (point ≡ true → 0 < length fraction) → AllDigits 10 fraction → AllDigits 10 exponent
     → is_json_number
     (record { negative = negative; whole = whole; fraction = fraction_of point fraction; exponent = exponent_of exponent_negative exponent }) ≡ true
 valid_is negative true en whole fraction [] is some digits power =
-    all_true (is_whole whole) (are_digits 10 fraction) true is (are_some fraction (some refl) digits) refl
+    all_true (is_whole_part whole) (are_digits 10 fraction) true is (are_some fraction (some refl) digits) refl
 valid_is negative true en whole fraction (d ∷ ds) is some digits power =
-    all_true (is_whole whole) (are_digits 10 fraction) (are_digits 10 (d ∷ ds)) is (are_some fraction (some refl) digits)
+    all_true (is_whole_part whole) (are_digits 10 fraction) (are_digits 10 (d ∷ ds)) is (are_some fraction (some refl) digits)
     (are_some (d ∷ ds) (omega arith) power)
-valid_is negative false en whole fraction [] is some digits power = all_true (is_whole whole) true true is refl refl
+valid_is negative false en whole fraction [] is some digits power = all_true (is_whole_part whole) true true is refl refl
 valid_is negative false en whole fraction (d ∷ ds) is some digits power =
-    all_true (is_whole whole) true (are_digits 10 (d ∷ ds)) is refl (are_some (d ∷ ds) (omega arith) power)
+    all_true (is_whole_part whole) true (are_digits 10 (d ∷ ds)) is refl (are_some (d ∷ ds) (omega arith) power)
 
 plain_valid : (negative : Bool) (p : Parts) → IsPlain p → is_json_number (number_of negative p) ≡ true
 plain_valid negative p plain =

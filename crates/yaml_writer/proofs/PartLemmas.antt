@@ -1,13 +1,13 @@
 -- A number of JSON has one text, and its text one number: how the parts that are cut out of a text come together.
 use Rattle.yaml_writer.proofs.Common.{suc, ℕ, ◌<◌, if◌then◌else◌, ◌==◌, option_map, Option, None, Some, codes, length, Bool, false, not, true, ◌||◌, []}
 use Rattle.yaml_writer.proofs.Common.{◌++◌, ◌∷◌, refl, ◌≡◌, eqb-true, true≢false, append-nil, append_assoc, ap, sym, ◌∙◌, arith, and_parts, and_from, or_from}
-use Rattle.yaml_writer.proofs.Common.{not_from_false, not-true, list_all-append, list_all, digit_unlike, Text, is_word, JsonExponent, JsonNumber, is_whole}
+use Rattle.yaml_writer.proofs.Common.{not_from_false, not-true, list_all-append, list_all, digit_unlike, Text, is_word, JsonExponent, JsonNumber, is_whole_part}
 use Rattle.yaml_writer.proofs.Common.{is_json_number, minus, exponent_text, json_text, is_decimal, are_digits, IsNumber, IsNoNumber, is_fraction, is_exponent}
 use Rattle.yaml_base.proofs.Common.{⊤, slice_index_or as get_or, eq-eqb, ne_eqb, past_sign, is_negative}
 use Rattle.std.proofs.Common.{◌≢◌}
 use Rattle.yaml_base.proofs.NumberCuts.{minus_read}
 use Rattle.yaml_writer.proofs.ValidNumbers.{Valid, valid_parts}
-use Rattle.yaml_writer.specs.NumberParts.{cut_at, past_minus, sign_of, exponent_in, around, exponent_cut, around_point, fraction_cut, number_in}
+use Rattle.yaml_writer.specs.NumberParts.{cut_at_first, past_minus, sign_of, exponent_in, around, exponent_cut, around_point, fraction_cut, number_in}
 
 -- Cuts
 
@@ -15,10 +15,10 @@ use Rattle.yaml_writer.specs.NumberParts.{cut_at, past_minus, sign_of, exponent_
 abbrev pub lacks : ℕ → Text → Bool
 lacks sign text = list_all (λ c. not (c == sign)) text
 
-pub cut_none : (sign : ℕ) (text : Text) → lacks sign text ≡ true → cut_at sign text ≡ None
+pub cut_none : (sign : ℕ) (text : Text) → lacks sign text ≡ true → cut_at_first sign text ≡ None
 cut_none sign [] h = refl
 cut_none sign (c ∷ rest) h =
-    ap (λ x. if x then Some ([], rest) else option_map (λ parts. (c ∷ parts.0, parts.1)) (cut_at sign rest)) (not-true (c == sign) both.0)
+    ap (λ x. if x then Some ([], rest) else option_map (λ parts. (c ∷ parts.0, parts.1)) (cut_at_first sign rest)) (not-true (c == sign) both.0)
     ∙ ap (option_map (λ parts. (c ∷ parts.0, parts.1))) (cut_none sign rest both.1)
   where
     both : (not (c == sign) ≡ true) × (lacks sign rest ≡ true)
@@ -27,10 +27,10 @@ cut_none sign (c ∷ rest) h =
 same_sign : (sign : ℕ) → (sign == sign) ≡ true
 same_sign sign = eq-eqb sign sign refl
 
-pub cut_found : (sign : ℕ) (text rest : Text) → lacks sign text ≡ true → cut_at sign (text ++ (sign ∷ rest)) ≡ Some (text, rest)
-cut_found sign [] rest h = ap (λ x. if x then Some ([], rest) else option_map (λ parts. (sign ∷ parts.0, parts.1)) (cut_at sign rest)) (same_sign sign)
+pub cut_found : (sign : ℕ) (text rest : Text) → lacks sign text ≡ true → cut_at_first sign (text ++ (sign ∷ rest)) ≡ Some (text, rest)
+cut_found sign [] rest h = ap (λ x. if x then Some ([], rest) else option_map (λ parts. (sign ∷ parts.0, parts.1)) (cut_at_first sign rest)) (same_sign sign)
 cut_found sign (c ∷ text) rest h =
-    ap (λ x. if x then Some ([], text ++ (sign ∷ rest)) else option_map (λ parts. (c ∷ parts.0, parts.1)) (cut_at sign (text ++ (sign ∷ rest))))
+    ap (λ x. if x then Some ([], text ++ (sign ∷ rest)) else option_map (λ parts. (c ∷ parts.0, parts.1)) (cut_at_first sign (text ++ (sign ∷ rest))))
     (not-true (c == sign) both.0)
     ∙ ap (option_map (λ parts. (c ∷ parts.0, parts.1))) (cut_found sign text rest both.1)
   where
@@ -42,9 +42,9 @@ abbrev Joins : ℕ → Text → Option (Text × Text) → Type 0
 Joins sign text None = ⊤
 Joins sign text (Some parts) = text ≡ parts.0 ++ (sign ∷ parts.1)
 
-pub cut_joins : (sign : ℕ) (text : Text) → Joins sign text (cut_at sign text)
+pub cut_joins : (sign : ℕ) (text : Text) → Joins sign text (cut_at_first sign text)
 cut_joins sign [] = tt
-cut_joins sign (c ∷ rest) = by (c == sign) refl (cut_at sign rest) (cut_joins sign rest)
+cut_joins sign (c ∷ rest) = by (c == sign) refl (cut_at_first sign rest) (cut_joins sign rest)
   where
     by : (x : Bool) → (c == sign) ≡ x → (o : Option (Text × Text)) → Joins sign rest o
         → Joins sign (c ∷ rest) (if x then Some ([], rest) else option_map (λ parts. (c ∷ parts.0, parts.1)) o)
@@ -76,7 +76,7 @@ sign_joins (c ∷ rest) = by (c == 0x2D) refl
     by false e = refl
 
 fraction_joins : (text : Text) → (fraction_cut text).0 ++ fraction_text (fraction_cut text).1 ≡ text
-fraction_joins text = by (cut_at 0x2E text) (cut_joins 0x2E text)
+fraction_joins text = by (cut_at_first 0x2E text) (cut_joins 0x2E text)
   where
     by : (o : Option (Text × Text)) → Joins 0x2E text o → (around_point o text).0 ++ fraction_text (around_point o text).1 ≡ text
     by None h = append-nil text
@@ -106,7 +106,7 @@ exponent_joins capital (c ∷ rest) = by capital (c == 0x2D) (c == 0x2B) refl re
     by false false false e f = refl
 
 mantissa_joins : (text : Text) → (exponent_cut text).0 ++ exponent_text (exponent_cut text).1 ≡ text
-mantissa_joins text = by (cut_at 0x65 text) (cut_at 0x45 text) (cut_joins 0x65 text) (cut_joins 0x45 text)
+mantissa_joins text = by (cut_at_first 0x65 text) (cut_at_first 0x45 text) (cut_joins 0x65 text) (cut_joins 0x45 text)
   where
     by : (small large : Option (Text × Text)) → Joins 0x65 text small → Joins 0x45 text large
         → (around false small (around true large (text, None))).0 ++ exponent_text (around false small (around true large (text, None))).1 ≡ text
@@ -207,7 +207,7 @@ exponent_cut_at : (mantissa : Text) (exponent : Option JsonExponent) → lacks 0
     → exponent_cut (mantissa ++ exponent_text exponent) ≡ (mantissa, exponent)
 exponent_cut_at mantissa None h g e =
     ap exponent_cut (append-nil mantissa)
-    ∙ ap (λ o. around false o (around true (cut_at 0x45 mantissa) (mantissa, None))) (cut_none 0x65 mantissa h)
+    ∙ ap (λ o. around false o (around true (cut_at_first 0x45 mantissa) (mantissa, None))) (cut_none 0x65 mantissa h)
     ∙ ap (λ o. around true o (mantissa, None)) (cut_none 0x45 mantissa g)
 exponent_cut_at mantissa (Some exponent) h g e = by exponent.capital
   where
@@ -223,10 +223,11 @@ exponent_cut_at mantissa (Some exponent) h g e = by exponent.capital
         → exponent_cut (mantissa ++ exponent_text (Some (record { capital = a; sign = exponent.sign; digits = exponent.digits })))
         ≡ (mantissa, Some (record { capital = a; sign = exponent.sign; digits = exponent.digits }))
     by false =
-        ap (λ o. around false o (around true (cut_at 0x45 (mantissa ++ (0x65 ∷ after))) (mantissa ++ (0x65 ∷ after), None))) (cut_found 0x65 mantissa after h)
+        ap (λ o. around false o (around true (cut_at_first 0x45 (mantissa ++ (0x65 ∷ after))) (mantissa ++ (0x65 ∷ after), None)))
+        (cut_found 0x65 mantissa after h)
         ∙ ap (λ found. (mantissa, Some found)) (exponent_found false exponent.sign exponent.digits e)
     by true =
-        ap (λ o. around false o (around true (cut_at 0x45 (mantissa ++ (0x45 ∷ after))) (mantissa ++ (0x45 ∷ after), None)))
+        ap (λ o. around false o (around true (cut_at_first 0x45 (mantissa ++ (0x45 ∷ after))) (mantissa ++ (0x45 ∷ after), None)))
         (cut_none 0x65 (mantissa ++ (0x45 ∷ after)) (lacks_both 0x65 mantissa (0x45 ∷ after) h after_lacks))
         ∙ ap (λ o. around true o (mantissa ++ (0x45 ∷ after), None)) (cut_found 0x45 mantissa after g)
         ∙ ap (λ found. (mantissa, Some found)) (exponent_found true exponent.sign exponent.digits e)
@@ -273,7 +274,8 @@ cut_of negative c whole fraction exponent h g e =
     mantissa_lacks sign other point =
         lacks_both sign (c ∷ whole) (fraction_text fraction) (digits_lack sign (c ∷ whole) other h) (fraction_lacks sign fraction other point g)
 
-cut_of_parts : (negative : Bool) (whole : Text) (fraction : Option Text) (exponent : Option JsonExponent) → is_whole whole ≡ true → is_fraction fraction ≡ true
+cut_of_parts : (negative : Bool) (whole : Text) (fraction : Option Text) (exponent : Option JsonExponent) → is_whole_part whole ≡ true
+    → is_fraction fraction ≡ true
     → is_exponent exponent ≡ true
     → number_in (minus negative ++ ((whole ++ fraction_text fraction) ++ exponent_text exponent))
     ≡ record { negative = negative; whole = whole; fraction = fraction; exponent = exponent }

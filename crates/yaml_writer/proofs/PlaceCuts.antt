@@ -8,7 +8,7 @@ use Rattle.std.proofs.lemmas.List.Folds.{length-prefix_len}
 use Rattle.std.proofs.lemmas.List.Sums.{prefix_len_passes, prefix_len_stops}
 use Rattle.std.specs.List.{prefix_len}
 use Rattle.yaml_writer.proofs.PartLemmas.{lacks, cut_none, cut_found, lacks_each}
-use Rattle.yaml_writer.specs.NumberParts.{cut_at, around, exponent_cut}
+use Rattle.yaml_writer.specs.NumberParts.{cut_at_first, around, exponent_cut}
 
 -- how many characters stand before the first that is a sign
 abbrev before : ℕ → Text → ℕ
@@ -43,31 +43,31 @@ cut_parts sign text within =
 
 -- the place of a sign tells the cut
 pub cut_by_place : (sign : ℕ) (text : Text) (place : ℕ) → place ≡ prefix_len (λ c. not (c == sign)) text → place < length text
-    → (get_or text place 0 ≡ sign) × (cut_at sign text ≡ Some (take place text, drop (place + 1) text))
+    → (get_or text place 0 ≡ sign) × (cut_at_first sign text ≡ Some (take place text, drop (place + 1) text))
 cut_by_place sign text place is =
-    subst (λ n. n < length text → (get_or text n 0 ≡ sign) × (cut_at sign text ≡ Some (take n text, drop (n + 1) text))) (sym is)
+    subst (λ n. n < length text → (get_or text n 0 ≡ sign) × (cut_at_first sign text ≡ Some (take n text, drop (n + 1) text))) (sym is)
     (λ within. (
       sign_found sign text within,
-      ap (cut_at sign) (cut_parts sign text within)
+      ap (cut_at_first sign) (cut_parts sign text within)
           ∙ cut_found sign (take (before sign text) text) (drop (before sign text + 1) text) (lacks_before sign text),
     ))
 
 -- there is none where the whole text stands before it
 pub uncut_by_place : (sign : ℕ) (text : Text) (place : ℕ) → place ≡ prefix_len (λ c. not (c == sign)) text → place ≡ length text
-    → cut_at sign text ≡ None
+    → cut_at_first sign text ≡ None
 uncut_by_place sign text place is whole =
     cut_none sign text (ap (lacks sign) (sym (take_all (before sign text) text (omega (arith, is, whole)))) ∙ lacks_before sign text)
 
 -- no letter, no exponent
-pub no_letter_cut : (sign : ℕ) (text : Text) → 0x41 ≤ sign → list_all (λ c. nat_lt c 0x41) text ≡ true → cut_at sign text ≡ None
+pub no_letter_cut : (sign : ℕ) (text : Text) → 0x41 ≤ sign → list_all (λ c. nat_lt c 0x41) text ≡ true → cut_at_first sign text ≡ None
 no_letter_cut sign [] letter none = refl
 no_letter_cut sign (c ∷ rest) letter none =
     let both = and_parts (nat_lt c 0x41) (list_all (λ d. nat_lt d 0x41) rest) none in
     let differs : (c == sign) ≡ false = grind (arith, nat_tests, both.0) in
-    ap (λ x. if x then Some ([], rest) else option_map (λ parts. (c ∷ parts.0, parts.1)) (cut_at sign rest)) differs
+    ap (λ x. if x then Some ([], rest) else option_map (λ parts. (c ∷ parts.0, parts.1)) (cut_at_first sign rest)) differs
     ∙ ap (option_map (λ parts. (c ∷ parts.0, parts.1))) (no_letter_cut sign rest letter both.1)
 
 pub no_letter_uncut : (text : Text) → list_all (λ c. nat_lt c 0x41) text ≡ true → exponent_cut text ≡ (text, None)
 no_letter_uncut text none =
-    ap (λ o. around false o (around true (cut_at 0x45 text) (text, None))) (no_letter_cut 0x65 text (omega arith) none)
+    ap (λ o. around false o (around true (cut_at_first 0x45 text) (text, None))) (no_letter_cut 0x65 text (omega arith) none)
     ∙ ap (λ o. around true o (text, None)) (no_letter_cut 0x45 text (omega arith) none)

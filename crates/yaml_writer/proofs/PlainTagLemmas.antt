@@ -1,10 +1,12 @@
 -- Texts that have a plain tag: where they stand, and how they are read.
 use Rattle.yaml_writer.proofs.Common.{if◌then◌else◌, Option, None, Some, option_map, option_or, codes, Bool, false, not, true, ◌&&◌, ◌||◌, List, [], map, ◌++◌}
 use Rattle.yaml_writer.proofs.Common.{◌∷◌, refl, ◌≡◌, ℕ, chars, ap, subst, sym, ◌∙◌, and_parts, not-true, list_all, list_any, IsUtf8, Text, is_word, is_space}
-use Rattle.yaml_writer.proofs.Common.{plain, JsonNumber, is_json_number, json_text, yaml_number, is_json_integer, fraction_or_default, is_spelled, IsNumber, IsNoNumber}
+use Rattle.yaml_writer.proofs.Common.{plain, JsonNumber, is_json_number, json_text, yaml_number, is_json_integer, fraction_or_default, is_spelled, IsNumber}
+use Rattle.yaml_writer.proofs.Common.{IsNoNumber}
 use Rattle.yaml_writer.proofs.Common.{float_tag, int_tag, encode_utf8_all, encodes-chars}
 use Rattle.yaml_base.proofs.Common.{bytes_eq, bytes_eq-Decides, list_any-append, named, slice_split, Resolved}
-use Rattle.yaml_base.proofs.Common.{words_of_core, words_of_11, resolved_by_core, resolved_by_11, number_meant, meant_integer, meant_decimal, signed, digits_value}
+use Rattle.yaml_base.proofs.Common.{words_of_core, words_of_11, resolved_by_core, resolved_by_11, number_meant, meant_integer, meant_decimal, signed}
+use Rattle.yaml_base.proofs.Common.{digits_value}
 use Rattle.yaml_base.proofs.Common.{Charset, is_empty}
 use Rattle.yaml_base.proofs.AsciiWords.{is_ascii_text, ascii_of, same_word}
 use Rattle.yaml_base.proofs.NumbersByCore.{found}
@@ -20,7 +22,7 @@ use Rattle.yaml_writer.proofs.PartLemmas.{number_found, parts_join, text_is_numb
 use Rattle.yaml_writer.proofs.PlainNumbers.{is_harmless, stands_plain, written_numbers}
 use Rattle.yaml_writer.proofs.SpellingLemmas.{same_spelling}
 use Rattle.yaml_writer.specs.NumberParts.{number_in}
-use Rattle.yaml_writer.specs.PlainTags.{word_meant, spelled_number, plain_tag, null_words, bool_words, float_words, StandsPlain}
+use Rattle.yaml_writer.specs.PlainTags.{word_meant, spelled_number, plain_tag, null_words, bool_words, float_words, IsWrittenPlain}
 use Rattle.yaml_writer.specs.PlainTags.{PlainTagsAreRead}
 use Rattle.yaml_writer.specs.Words.{is_one_of}
 use Rattle.yaml_writer.specs.Writing.{number_tag}
@@ -41,7 +43,7 @@ none_some {A} {P} {a} h = absurd (by h)
 abbrev is_harmless_text : Text → Bool
 is_harmless_text text = list_all is_harmless text && not (is_empty text) && not (begins_unlike_plain text)
 
-harmless_stands : (text : Text) → is_harmless_text text ≡ true → StandsPlain text
+harmless_stands : (text : Text) → is_harmless_text text ≡ true → IsWrittenPlain text
 harmless_stands text h charset flow simple_key =
     let both = and_parts (list_all is_harmless text && not (is_empty text)) (not (begins_unlike_plain text)) h in
     let first = and_parts (list_all is_harmless text) (not (is_empty text)) both.0 in
@@ -104,9 +106,9 @@ spelled_is text number e = by (is_json_number inside) (is_spelled inside) refl r
     by true false valid spelled is = none_some is
     by false y valid spelled is = none_some is
 
-number_stands : (text : Text) (number : JsonNumber) → Spelled text number → StandsPlain text
+number_stands : (text : Text) (number : JsonNumber) → Spelled text number → IsWrittenPlain text
 number_stands text number is =
-    subst StandsPlain (sym is.text_is)
+    subst IsWrittenPlain (sym is.text_is)
     (λ charset flow simple_key. (written_numbers number charset false true false flow simple_key is.valid refl).0)
 
 number_read : (text : Text) (number : JsonNumber) → Spelled text number
@@ -120,7 +122,7 @@ number_read text number is =
 -- ---- both
 
 abbrev IsRead : Text → Text → Type 0
-IsRead text tag = StandsPlain text × (canonical_tag (resolved_by_11 text) ≡ tag) × (canonical_tag (resolved_by_core text) ≡ tag)
+IsRead text tag = IsWrittenPlain text × (canonical_tag (resolved_by_11 text) ≡ tag) × (canonical_tag (resolved_by_core text) ≡ tag)
 
 pub plain_tags_read : PlainTagsAreRead
 plain_tags_read text tag e = by (word_meant text) (spelled_number text) refl refl e

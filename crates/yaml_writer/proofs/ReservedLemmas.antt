@@ -3,7 +3,7 @@ use Rattle.yaml_writer.proofs.Common.{suc, zero, ℕ, ◌<◌, if◌then◌else�
 use Rattle.yaml_writer.proofs.Common.{refl, ◌≡◌, ltb-true, ap, sym, ◌∙◌, arith, and_parts, take_while-cons, to_ascii_lowercase, list_all}
 use Rattle.yaml_writer.proofs.Common.{list_any, take_while, Text, is_ascii, is_space, is_word, reserved_words, ascii_prefix, is_reserved_word}
 use Rattle.yaml_base.proofs.Common.{bytes_eq, list_any-append, slice_split}
-use Rattle.yaml_writer.specs.Words.{is_one_of, null_words, truth_words, answer_words, key_words, float_words, plus_words, minus_words}
+use Rattle.yaml_writer.specs.Words.{is_one_of, nothing_words, truth_words, answer_words, key_words, special_float_words, plus_words, minus_words}
 
 -- ---- groups
 
@@ -14,13 +14,15 @@ listed words = slice_split is_space words
 -- the groups are all reserved words
 in_groups : (text : Text) → list_any (is_word text) reserved_words ≡ is_reserved_word text
 in_groups text =
-    one null_words (listed truth_words ++ (listed answer_words ++ (listed key_words ++ (listed float_words ++ (listed plus_words ++ listed minus_words)))))
-    ∙ ap (λ x. is_one_of null_words text || x)
-    (one truth_words (listed answer_words ++ (listed key_words ++ (listed float_words ++ (listed plus_words ++ listed minus_words))))
-    ∙ ap (λ x. is_one_of truth_words text || x) (one answer_words (listed key_words ++ (listed float_words ++ (listed plus_words ++ listed minus_words)))
-    ∙ ap (λ x. is_one_of answer_words text || x) (one key_words (listed float_words ++ (listed plus_words ++ listed minus_words))
-    ∙ ap (λ x. is_one_of key_words text || x) (one float_words (listed plus_words ++ listed minus_words)
-    ∙ ap (λ x. is_one_of float_words text || x) (one plus_words (listed minus_words))))))
+    one nothing_words
+    (listed truth_words ++ (listed answer_words ++ (listed key_words ++ (listed special_float_words ++ (listed plus_words ++ listed minus_words)))))
+    ∙ ap (λ x. is_one_of nothing_words text || x)
+    (one truth_words (listed answer_words ++ (listed key_words ++ (listed special_float_words ++ (listed plus_words ++ listed minus_words))))
+    ∙ ap (λ x. is_one_of truth_words text || x)
+    (one answer_words (listed key_words ++ (listed special_float_words ++ (listed plus_words ++ listed minus_words)))
+    ∙ ap (λ x. is_one_of answer_words text || x) (one key_words (listed special_float_words ++ (listed plus_words ++ listed minus_words))
+    ∙ ap (λ x. is_one_of key_words text || x) (one special_float_words (listed plus_words ++ listed minus_words)
+    ∙ ap (λ x. is_one_of special_float_words text || x) (one plus_words (listed minus_words))))))
   where
     one : (words : Text) (others : List Text) → list_any (is_word text) (listed words ++ others) ≡ (is_one_of words text || list_any (is_word text) others)
     one words others = list_any-append (is_word text) (listed words) others

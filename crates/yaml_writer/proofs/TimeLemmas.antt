@@ -16,8 +16,8 @@ use Rattle.yaml_writer.proofs.DateLemmas.{reads_before, says, says_so, splits, s
 use Rattle.yaml_writer.proofs.PlainNumbers.{digits_pass}
 use Rattle.yaml_writer.specs.Dates.{CalendarDate, date_in, date_text, is_calendar_date, two_digits}
 use Rattle.yaml_writer.specs.Times.{ClockOffset, ClockTime, Moment, TimestampsAreRead, clock_of, clock_text, decimals, fraction_text}
-use Rattle.yaml_writer.specs.Times.{is_clock_reading, is_moment, is_time_or_none, is_zone_offset, moment_of, nanoseconds_in, offset_of, seconds_of}
-use Rattle.yaml_writer.specs.Times.{seconds_text, three_digits, time_in, time_of, time_text, timestamp_text, zone_in, zone_text}
+use Rattle.yaml_writer.specs.Times.{is_clock_reading, is_moment, is_time_or_none, is_zone_offset, moment_of_parts, nanoseconds_in, offset_of_parts, seconds_of}
+use Rattle.yaml_writer.specs.Times.{seconds_text, three_digits, time_in, time_of_parts, time_text, timestamp_text, zone_in, zone_text}
 
 -- ---- decimals
 
@@ -222,8 +222,8 @@ zone_says (Some offset) h = record { ends = ends offset.west; is = is offset.wes
               hours = digits_value 10 (two_digits offset.hours);
               minutes = digits_value 10 (two_digits offset.minutes);
             }))
-        by true = ap (λ (parts : List Text). option_map (λ (offset : ClockOffset). Some offset) (offset_of true parts)) split
-        by false = ap (λ (parts : List Text). option_map (λ (offset : ClockOffset). Some offset) (offset_of false parts)) split
+        by true = ap (λ (parts : List Text). option_map (λ (offset : ClockOffset). Some offset) (offset_of_parts true parts)) split
+        by false = ap (λ (parts : List Text). option_map (λ (offset : ClockOffset). Some offset) (offset_of_parts false parts)) split
 
 -- ---- times
 
@@ -236,7 +236,7 @@ clock_value : (time : ClockTime) → TimeSays time → clock_of (slice_split is_
 clock_value time parts =
     let seconds = seconds_say time.second time.nanosecond parts.second parts.small in
     ap (λ (split : List Text). clock_of split (Some time.offset)) (cut_clock time parts)
-    ∙ ap (λ (read : Option (ℕ × ℕ)). time_of (two_digits time.hour) (two_digits time.minute) read (Some time.offset)) seconds.value
+    ∙ ap (λ (read : Option (ℕ × ℕ)). time_of_parts (two_digits time.hour) (two_digits time.minute) read (Some time.offset)) seconds.value
     ∙ ap₂ (λ h m. Some (Some (record { hour = h; minute = m; second = time.second; nanosecond = time.nanosecond; offset = time.offset })))
     parts.hour.value parts.minute.value
 
@@ -300,7 +300,7 @@ timestamps_read moment h =
     let time = time_reads moment.time both.1 in
     let split = before moment.date parts (time_text moment.time) time.ends in (
       reads_before moment.date parts (time_text moment.time) time.ends (time.fits moment.date parts),
-      ap₂ moment_of (ap date_in split.0 ∙ (dates_read moment.date both.0).1) (ap time_in split.1 ∙ time.value),
+      ap₂ moment_of_parts (ap date_in split.0 ∙ (dates_read moment.date both.0).1) (ap time_in split.1 ∙ time.value),
     )
 
 -- ---- bytes

@@ -5,7 +5,7 @@ use Rattle.yaml_writer.proofs.Common.{yaml_number, is_spelled}
 use Rattle.yaml_writer.proofs.Common.{◌==◌, list_all, nat_lt, and_parts}
 use Rattle.yaml_base.proofs.Common.{bytes_eq}
 use Rattle.yaml_writer.proofs.PlaceCuts.{no_letter_uncut}
-use Rattle.yaml_writer.specs.NumberParts.{around_point, cut_at, exponent_cut, fraction_cut, number_in}
+use Rattle.yaml_writer.specs.NumberParts.{around_point, cut_at_first, exponent_cut, fraction_cut, number_in}
 use Rattle.std.{proofs.Common.inl, proofs.Common.⊎_elim, proofs.lemmas.List.append_cancel_left, specs.Prelude.◌+◌, specs.Prelude.◌⊎◌}
 
 -- what is put together otherwise, but to the same, has the same length
@@ -98,7 +98,7 @@ with_mantissa negative mantissa = record {
 
 mantissa_spelled : (negative : Bool) (mantissa : Text) → (negative && is_word mantissa (codes "0")) ≡ false
     → is_spelled (with_mantissa negative mantissa) ≡ true
-mantissa_spelled negative mantissa other = by (cut_at 0x2E mantissa)
+mantissa_spelled negative mantissa other = by (cut_at_first 0x2E mantissa)
   where
     by : (o : Option (Text × Text))
         → is_spelled

@@ -1,10 +1,10 @@
 -- The parts of a number of JSON, each as it must be.
-use Rattle.yaml_writer.proofs.Common.{Option, None, Some, Bool, true, ◌&&◌, refl, ◌≡◌, and_parts, Text, JsonExponent, JsonNumber, is_whole, is_json_number}
+use Rattle.yaml_writer.proofs.Common.{Option, None, Some, Bool, true, ◌&&◌, refl, ◌≡◌, and_parts, Text, JsonExponent, JsonNumber, is_whole_part, is_json_number}
 use Rattle.yaml_writer.proofs.Common.{are_digits, is_fraction, is_exponent}
 
 -- the tests of which a number's is made
 pub record Valid (number : JsonNumber) : Type 0 where
-  pub whole : is_whole number.whole ≡ true
+  pub whole : is_whole_part number.whole ≡ true
   pub fraction : is_fraction number.fraction ≡ true
   pub exponent : is_exponent number.exponent ≡ true
 
@@ -17,11 +17,11 @@ valid_parts number h = record { whole = inner.0; fraction = by_fraction number.f
     exponent_valid : Bool
     exponent_valid = elim number.exponent as (λ _. Bool) [ None ↦ true | Some exponent ↦ are_digits 10 exponent.digits ]
 
-    outer : ((is_whole number.whole && fraction_valid) ≡ true) × (exponent_valid ≡ true)
-    outer = and_parts (is_whole number.whole && fraction_valid) exponent_valid h
+    outer : ((is_whole_part number.whole && fraction_valid) ≡ true) × (exponent_valid ≡ true)
+    outer = and_parts (is_whole_part number.whole && fraction_valid) exponent_valid h
 
-    inner : (is_whole number.whole ≡ true) × (fraction_valid ≡ true)
-    inner = and_parts (is_whole number.whole) fraction_valid outer.0
+    inner : (is_whole_part number.whole ≡ true) × (fraction_valid ≡ true)
+    inner = and_parts (is_whole_part number.whole) fraction_valid outer.0
 
     by_fraction : (o : Option Text) → elim o as (λ _. Bool) [ None ↦ true | Some digits ↦ are_digits 10 digits ] ≡ true → is_fraction o ≡ true
     by_fraction None g = refl

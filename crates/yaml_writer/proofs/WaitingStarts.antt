@@ -2,7 +2,7 @@
 use Rattle.yaml_writer.proofs.Common.{suc, zero, ℕ, ◌<◌, ◌≤◌, IfErr, OnOk, None, Some, Result, Err, Ok, drop, length, take, Bool, true, List, [], ◌++◌, ◌∷◌}
 use Rattle.yaml_writer.proofs.Common.{refl, ◌≡◌, length-append, append-nil, append_assoc, ap, subst, sym, ◌∙◌, arith, nil_from_length, Event, stream_end}
 use Rattle.yaml_writer.proofs.Common.{document_end, settings_for, list_layout, written, IsAccepted, Settings, Effective, ends_last, some_from_result}
-use Rattle.yaml_writer.proofs.Common.{IsRefusal, HasRoom, Promised, StandsAfter, State, none_from_result, result_of_error, RefusesOne, PassesLimit}
+use Rattle.yaml_writer.proofs.Common.{IsRefusal, HasRoomAndMemory, Promised, StandsAfter, State, none_from_result, result_of_error, RefusesOne, PassesLimit}
 use Rattle.yaml_writer.proofs.Common.{IsUnfinishedBy, closing_by}
 use Rattle.yaml_base.specs.{Output.bytes_written, Refusal.BeginsAccepted, declared.errors.yaml_error_t.yaml_error_t}
 use Rattle.yaml_emitter.proofs.standing.{Standing.settings_grown, StandingEnds.whole_accepted, StandingPromises.most_few}
@@ -154,7 +154,7 @@ module _ (implicit : Bool) where
   pub third_fails : (given : Settings) (all : List Event) (state : State) → (IsAccepted given.canonical (all ++ closing) → ⊥)
       → Promised given ((all ++ closing) ++ stream_end ∷ []) state → state.error ≡ None → ⊥
   third_fails given all state unaccepted promised none =
-      accepts_none given.canonical all unaccepted ((promised.ends (ends_last (all ++ closing)) (subst HasRoom (sym none) tt)).1 (none, held))
+      accepts_none given.canonical all unaccepted ((promised.ends (ends_last (all ++ closing)) (subst HasRoomAndMemory (sym none) tt)).1 (none, held))
     where
       same : (all ++ closing) ++ stream_end ∷ [] ≡ all ++ closed_twice
       same = append_assoc all closing (stream_end ∷ [])

@@ -11,5 +11,5 @@ date_by (pos year) month day =
 date_by (negsuc year) month day = None
 
 -- the same date
-abbrev pub date_of : civil.Date → Option CalendarDate
-date_of date = date_by date.year date.month date.day
+abbrev pub civil_date_of : civil.Date → Option CalendarDate
+civil_date_of date = date_by date.year date.month date.day

@@ -59,13 +59,13 @@ date_text date = four_digits date.year ++ codes "-" ++ two_digits date.month ++ 
 -- ---- what is read
 
 -- the date whose parts these digits are
-abbrev pub date_of : List Text → Option CalendarDate
-date_of (year ∷ month ∷ day ∷ []) = Some (calendar_date (digits_value 10 year) (digits_value 10 month) (digits_value 10 day))
-date_of _ = None
+abbrev pub date_of_parts : List Text → Option CalendarDate
+date_of_parts (year ∷ month ∷ day ∷ []) = Some (calendar_date (digits_value 10 year) (digits_value 10 month) (digits_value 10 day))
+date_of_parts _ = None
 
 -- the date that a text says
 abbrev pub date_in : Text → Option CalendarDate
-date_in text = date_of (slice_split is_hyphen text)
+date_in text = date_of_parts (slice_split is_hyphen text)
 
 -- every date is read as a timestamp of YAML 1.1, and as itself
 abbrev pub DatesAreRead : Type 0

@@ -37,7 +37,7 @@ SpecialFloatsAreRead =
     → (resolved_by_11 (special_text value) ≡ special_meaning value) × (resolved_by_core (special_text value) ≡ special_meaning value)
 
 -- a number of JSON has a text that reads as exactly this float: no other float is nearer to the number
-pub record ReadsAs (format : Format) (float : Float) (number : JsonNumber) : Type 0 where
+pub record ReadsAsFloat (format : Format) (float : Float) (number : JsonNumber) : Type 0 where
   pub text : Text
   pub is_number : IsNumber text number
   pub reads : parse_float format text ≡ Some float
@@ -48,4 +48,4 @@ GivesFloat format before nan answer after = Gives before (special_event before N
 GivesFloat format before (inf negative) answer after =
     Gives before (special_event before (if negative then NegativeInfinity else Infinity)) answer after
 GivesFloat format before (fin negative significand exponent) answer after =
-    (number : JsonNumber) × ReadsAs format (fin negative significand exponent) number × Gives before (number_event before number) answer after
+    (number : JsonNumber) × ReadsAsFloat format (fin negative significand exponent) number × Gives before (number_event before number) answer after

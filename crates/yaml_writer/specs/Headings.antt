@@ -1,5 +1,6 @@
 -- Headings: lines of comments before a stream, and how a stream is read behind them.
-use Rattle.std.specs.Prelude.{◌≡◌, ℕ, Bool, true, false, Option, List, [], ◌∷◌, ◌++◌, ◌==◌, ◌||◌, ◌&&◌, not, chars, codes, encode_utf8, encode_utf8_all, option_and_then}
+use Rattle.std.specs.Prelude.{◌≡◌, ℕ, Bool, true, false, Option, List, [], ◌∷◌, ◌++◌, ◌==◌, ◌||◌, ◌&&◌, not, chars, codes, encode_utf8, encode_utf8_all}
+use Rattle.std.specs.Prelude.{option_and_then}
 use Rattle.std.specs.Prelude.{IsUtf8, if◌then◌else◌}
 use Rattle.yaml_base.specs.Characters.{Text, is_break, is_printable, line_feed, space}
 use Rattle.yaml_base.specs.reading.ReadBytes.{utf8_read}

@@ -5,8 +5,8 @@ use Rattle.yaml_writer.specs.Writing.{WriterState}
 use Rattle.yaml_writer.specs.declared.writer.Writer.TheInside.{Inside}
 
 -- the emitter, and the properties of the next node as texts
-abbrev pub state_of : {A : Type 0} → Inside A → WriterState
-state_of w =
+abbrev pub writer_state_of : {A : Type 0} → Inside A → WriterState
+writer_state_of w =
     record {
       emitter = w.emitter;
       canonical = w.canonical;

@@ -5,9 +5,9 @@ use Rattle.yaml_base.specs.values.Resolved.{is_negative, past_sign, are_digits}
 use Rattle.yaml_base.specs.values.JsonNumbers.{JsonNumber, JsonExponent, is_json_number, json_text}
 
 -- what stands before and after the first of a sign
-abbrev pub cut_at : ℕ → Text → Option (Text × Text)
-cut_at sign [] = None
-cut_at sign (c ∷ rest) = if c == sign then Some ([], rest) else option_map (λ parts. (c ∷ parts.0, parts.1)) (cut_at sign rest)
+abbrev pub cut_at_first : ℕ → Text → Option (Text × Text)
+cut_at_first sign [] = None
+cut_at_first sign (c ∷ rest) = if c == sign then Some ([], rest) else option_map (λ parts. (c ∷ parts.0, parts.1)) (cut_at_first sign rest)
 
 -- a text without the `-` that begins it
 abbrev pub past_minus : Text → Text
@@ -30,7 +30,7 @@ around capital None none = none
 
 -- a mantissa and an exponent
 abbrev pub exponent_cut : Text → Text × Option JsonExponent
-exponent_cut text = around false (cut_at 0x65 text) (around true (cut_at 0x45 text) (text, None))
+exponent_cut text = around false (cut_at_first 0x65 text) (around true (cut_at_first 0x45 text) (text, None))
 
 -- the parts before and after a point; all, where there is none
 abbrev pub around_point : Option (Text × Text) → Text → Text × Option Text
@@ -39,7 +39,7 @@ around_point None text = (text, None)
 
 -- a whole part and a fraction
 abbrev pub fraction_cut : Text → Text × Option Text
-fraction_cut text = around_point (cut_at 0x2E text) text
+fraction_cut text = around_point (cut_at_first 0x2E text) text
 
 -- the parts of a text
 abbrev pub number_in : Text → JsonNumber

@@ -57,8 +57,8 @@ float_words = codes ".inf .Inf .INF +.inf +.Inf +.INF -.inf -.Inf -.INF .nan .Na
 -- ---- the law
 
 -- a text is written plain wherever it stands outside canonical form, and whichever characters may stand as themselves
-abbrev pub StandsPlain : Text → Type 0
-StandsPlain text =
+abbrev pub IsWrittenPlain : Text → Type 0
+IsWrittenPlain text =
     (charset : Charset) (flow simple_key : Bool)
     → (chosen (allowances charset text) plain (is_empty text) false true false flow simple_key false).style ≡ plain
 
@@ -66,4 +66,4 @@ StandsPlain text =
 abbrev pub PlainTagsAreRead : Type 0
 PlainTagsAreRead =
     (text tag : Text) → plain_tag text ≡ Some tag
-    → StandsPlain text × (canonical_tag (resolved_by_11 text) ≡ tag) × (canonical_tag (resolved_by_core text) ≡ tag)
+    → IsWrittenPlain text × (canonical_tag (resolved_by_11 text) ≡ tag) × (canonical_tag (resolved_by_core text) ≡ tag)

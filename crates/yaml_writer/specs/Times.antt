@@ -116,26 +116,26 @@ seconds_of (seconds ∷ digits ∷ []) = Some (digits_value 10 seconds, nanoseco
 seconds_of _ = None
 
 -- an offset by its sign and its parts
-abbrev pub offset_of : (west : Bool) → List Text → Option ClockOffset
-offset_of west (hours ∷ []) = Some (record { west = west; hours = digits_value 10 hours; minutes = 0 })
-offset_of west (hours ∷ minutes ∷ []) = Some (record { west = west; hours = digits_value 10 hours; minutes = digits_value 10 minutes })
-offset_of west _ = None
+abbrev pub offset_of_parts : (west : Bool) → List Text → Option ClockOffset
+offset_of_parts west (hours ∷ []) = Some (record { west = west; hours = digits_value 10 hours; minutes = 0 })
+offset_of_parts west (hours ∷ minutes ∷ []) = Some (record { west = west; hours = digits_value 10 hours; minutes = digits_value 10 minutes })
+offset_of_parts west _ = None
 
 -- the offset that a text says; none and `Z` are UTC
 abbrev pub zone_in : Text → Option (Option ClockOffset)
 zone_in [] = Some None
 zone_in (c ∷ rest) =
-    if c == 0x5A then Some None else option_map (λ (offset : ClockOffset). Some offset) (offset_of (c == 0x2D) (slice_split is_colon rest))
+    if c == 0x5A then Some None else option_map (λ (offset : ClockOffset). Some offset) (offset_of_parts (c == 0x2D) (slice_split is_colon rest))
 
 -- a time by its hours and minutes, its seconds and its offset
-abbrev pub time_of : (hour minute : Text) → Option (ℕ × ℕ) → Option (Option ClockOffset) → Option (Option ClockTime)
-time_of hour minute (Some seconds) (Some offset) =
+abbrev pub time_of_parts : (hour minute : Text) → Option (ℕ × ℕ) → Option (Option ClockOffset) → Option (Option ClockTime)
+time_of_parts hour minute (Some seconds) (Some offset) =
     Some (Some (clock_time (digits_value 10 hour) (digits_value 10 minute) seconds.0 seconds.1 offset))
-time_of hour minute _ _ = None
+time_of_parts hour minute _ _ = None
 
 -- a time by what stands between the colons
 abbrev pub clock_of : List Text → Option (Option ClockOffset) → Option (Option ClockTime)
-clock_of (hour ∷ minute ∷ seconds ∷ []) offset = time_of hour minute (seconds_of (slice_split is_point seconds)) offset
+clock_of (hour ∷ minute ∷ seconds ∷ []) offset = time_of_parts hour minute (seconds_of (slice_split is_point seconds)) offset
 clock_of _ offset = None
 
 -- the time that stands behind a date and a letter or blanks; none where nothing does
@@ -145,13 +145,13 @@ time_in (c ∷ rest) =
     let text = past is_blank rest in clock_of (slice_split is_colon (take_while in_clock text)) (zone_in (past is_blank (past in_clock text)))
 
 -- both
-abbrev pub moment_of : Option CalendarDate → Option (Option ClockTime) → Option Moment
-moment_of (Some date) (Some time) = Some (record { date = date; time = time })
-moment_of _ _ = None
+abbrev pub moment_of_parts : Option CalendarDate → Option (Option ClockTime) → Option Moment
+moment_of_parts (Some date) (Some time) = Some (record { date = date; time = time })
+moment_of_parts _ _ = None
 
 -- the date that a text says, and the time
 abbrev pub moment_in : Text → Option Moment
-moment_in text = moment_of (date_in (take_while in_date text)) (time_in (past in_date text))
+moment_in text = moment_of_parts (date_in (take_while in_date text)) (time_in (past in_date text))
 
 -- every date is read as a timestamp of YAML 1.1, with a time of day or without, and as itself
 abbrev pub TimestampsAreRead : Type 0

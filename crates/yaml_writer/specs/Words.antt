@@ -21,8 +21,8 @@ abbrev pub leaves_reserved : ℕ → Bool
 leaves_reserved c = c == 0x20 || (nat_le 0x41 c && nat_lt c 0x80 && not (is_among (codes "AEFILNORSUaefilnorsu") c))
 
 -- words for nothing
-abbrev pub null_words : Text
-null_words = codes "~ null"
+abbrev pub nothing_words : Text
+nothing_words = codes "~ null"
 
 -- true and false in both schemas
 abbrev pub truth_words : Text
@@ -37,8 +37,8 @@ abbrev pub key_words : Text
 key_words = codes "<< ="
 
 -- infinity and no number, without a sign
-abbrev pub float_words : Text
-float_words = codes ".inf .nan inf nan infinity"
+abbrev pub special_float_words : Text
+special_float_words = codes ".inf .nan inf nan infinity"
 
 -- after a plus
 abbrev pub plus_words : Text
@@ -51,7 +51,7 @@ minus_words = codes "-.inf -.nan -inf -nan -infinity"
 -- a text is one of all these
 abbrev pub is_reserved_word : Text → Bool
 is_reserved_word text =
-    is_one_of null_words text
+    is_one_of nothing_words text
     || (is_one_of truth_words text
     || (is_one_of answer_words text
-    || (is_one_of key_words text || (is_one_of float_words text || (is_one_of plus_words text || is_one_of minus_words text)))))
+    || (is_one_of key_words text || (is_one_of special_float_words text || (is_one_of plus_words text || is_one_of minus_words text)))))

@@ -132,16 +132,16 @@ abbrev pub text_event : WriterState → Text → Event
 text_event writer text = styled_event writer any_style text
 
 -- the start of a collection with the properties of the next node; its tag is written where there is one
-abbrev pub collection_of : WriterState → CollectionStyle → Collection
-collection_of writer style = record { anchor = writer.anchor; tag = writer.tag; implicit = is_none writer.tag; style = style }
+abbrev pub next_collection : WriterState → CollectionStyle → Collection
+next_collection writer style = record { anchor = writer.anchor; tag = writer.tag; implicit = is_none writer.tag; style = style }
 
 -- a mapping begins
 abbrev pub mapping_event : WriterState → CollectionStyle → Event
-mapping_event writer style = mapping_start (collection_of writer style)
+mapping_event writer style = mapping_start (next_collection writer style)
 
 -- a sequence begins
 abbrev pub sequence_event : WriterState → CollectionStyle → Event
-sequence_event writer style = sequence_start (collection_of writer style)
+sequence_event writer style = sequence_start (next_collection writer style)
 
 -- the start of a collection of this kind and this style
 abbrev pub collection_start : CollectionStart → (CollectionStyle → Collection) → Event
@@ -150,7 +150,7 @@ collection_start (start.Sequence style) make = sequence_start (make (seen_sequen
 
 -- a collection begins
 abbrev pub collection_start_event : WriterState → CollectionStart → Event
-collection_start_event writer start = collection_start start (collection_of writer)
+collection_start_event writer start = collection_start start (next_collection writer)
 
 -- a collection ends
 abbrev pub end_event : CollectionKind → Event

@@ -22,9 +22,9 @@ impl TryFrom<civil::Date> for Date {
     ghost use Rattle.std.specs.Prelude.{◌≡◌, option_map};
     ghost use Rattle.std.specs.Result.{result_ok};
     ghost use Rattle.yaml_writer.specs.SeenDates.{seen_date};
-    ghost use Rattle.yaml_writer.specs.CivilDates.{date_of};
+    ghost use Rattle.yaml_writer.specs.CivilDates.{civil_date_of};
 
-    ghost try_from_gives = { λ date made. option_map seen_date (result_ok made) ≡ date_of date };
+    ghost try_from_gives = { λ date made. option_map seen_date (result_ok made) ≡ civil_date_of date };
 
     /// Returns the same date.
     ///

@@ -57,7 +57,7 @@ fn length_before(sign: u8, text: &str) -> usize
 /// Returns what stands before and after the first of a sign.
 fn cut_at(sign: u8, text: &str) -> Option<(&str, &str)>
     requires { sign < 128 }
-    ensures { MatchOption result (parts.cut_at sign text.now ≡ None) (λ cut. parts.cut_at sign text.now ≡ Some (cut.0.now, cut.1.now)) }
+    ensures { MatchOption result (parts.cut_at_first sign text.now ≡ None) (λ cut. parts.cut_at_first sign text.now ≡ Some (cut.0.now, cut.1.now)) }
 {
     let length = length_before(sign, text);
     if length == text.len() {
@@ -182,7 +182,7 @@ fn begins_with_zero(text: &str) -> bool
 
 /// Returns whether a text is `0`, or digits of which the first isn't 0.
 fn is_whole(text: &str) -> bool
-    ensures { result ≡ json.is_whole text.now }
+    ensures { result ≡ json.is_whole_part text.now }
 {
     is_digits(text) && (!begins_with_zero(text) || text == "0")
 }

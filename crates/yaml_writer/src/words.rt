@@ -13,7 +13,7 @@ fn is_word(text: &[u8], word: &[u8]) -> bool
 
 /// Returns whether a text is `~` or `null`.
 fn is_null_word(text: &[u8]) -> bool
-    ensures { result ≡ words.is_one_of words.null_words (map to_ascii_lowercase text.now) }
+    ensures { result ≡ words.is_one_of words.nothing_words (map to_ascii_lowercase text.now) }
 {
     is_word(text, b"~") || is_word(text, b"null")
 }
@@ -46,7 +46,7 @@ fn is_key_word(text: &[u8]) -> bool
 
 /// Returns whether a text is a word for infinity or for no number.
 fn is_float_word(text: &[u8]) -> bool
-    ensures { result ≡ words.is_one_of words.float_words (map to_ascii_lowercase text.now) }
+    ensures { result ≡ words.is_one_of words.special_float_words (map to_ascii_lowercase text.now) }
 {
     is_word(text, b".inf")
         || is_word(text, b".nan")

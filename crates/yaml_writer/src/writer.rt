@@ -16,12 +16,11 @@ use crate::giving::{bare_scalar, begin, finished, scalar_content, use_up};
 use std::alloc::Allocator;
 use std::io;
 use std::marker::Model;
-use yaml_base::{yaml_error_t, yaml_scalar_style_t};
+use yaml_base::{write_to_sink, yaml_error_t, yaml_scalar_style_t};
 use yaml_emitter::{
     CollectionKind, ScalarAnswer, Settings, yaml_emitter_consume_output, yaml_emitter_emit_scalar,
     yaml_emitter_t, yaml_emitter_take_output,
 };
-use yaml_base::write_to_sink;
 
 /// Writes values, one call each, into a vector of bytes.
 pub struct Writer<A: Allocator> {
@@ -50,11 +49,11 @@ impl<A: Allocator> Drop for Writer<A> {
 
 impl<A: Allocator> Model for Writer<A> {
     ghost use Rattle.yaml_writer.specs.Writing.{WriterState};
-    ghost use Rattle.yaml_writer.specs.Inside.{state_of, IsWriter};
+    ghost use Rattle.yaml_writer.specs.Inside.{writer_state_of, IsWriter};
 
     ghost Value = { WriterState };
 
-    ghost view = { state_of };
+    ghost view = { writer_state_of };
 
     ghost invariant = { IsWriter };
 }

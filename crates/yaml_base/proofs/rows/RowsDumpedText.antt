@@ -1,5 +1,6 @@
 -- Canonical texts of dumped documents, computed.
-use Rattle.yaml_base.proofs.Common.{Bool, Option, None, Some, codes, true, false, List, [], ◌∷◌, refl, Text, any_style, any_layout, option_map, unwrap_or, Stream}
+use Rattle.yaml_base.proofs.Common.{Bool, Option, None, Some, codes, true, false, List, [], ◌∷◌, refl, Text, any_style, any_layout, option_map, unwrap_or}
+use Rattle.yaml_base.proofs.Common.{Stream}
 use Rattle.yaml_base.proofs.Common.{Documents, no_documents, documents_and, tree_of, scalar_held, GraphNode, document_event_list, Node, alias_node, scalar_node}
 use Rattle.yaml_base.proofs.Common.{sequence_node, mapping_node, nodes_and, no_nodes, pairs_and, no_pairs, Collection, node_events}
 use Rattle.std.specs.{Char.encode_utf8}

@@ -5,8 +5,8 @@ use Rattle.yaml_base.proofs.Common.{refl, ◌≡◌, ap, subst, sym, ◌∙◌, 
 use Rattle.yaml_base.proofs.Common.{sequence_node, no_nodes, nodes_and, scalar_held, sequence_held, GraphNode, Graph, node_numbered, children, string_tag}
 use Rattle.yaml_base.proofs.Common.{sequence_tag, scalar_kind, sequence_kind, mapping_kind, Label, node_shape_of, Placed, alias_placed, node_placed}
 use Rattle.yaml_base.proofs.Common.{none_placed, placed_and, number_at, label_of, HasShape, Occurrence, alias_occurrence, node_occurrence, occurrences}
-use Rattle.yaml_base.proofs.Common.{has_anchor, is_occurrence_of, AreNamed, IsReached, first_reached, child_reached, TreeUnfolds}
-use Rattle.yaml_base.specs.graphs.Unfolding.{NodeKind}
+use Rattle.yaml_base.proofs.Common.{has_anchor, is_occurrence_of, NameTheirNodes, IsReached, first_reached, child_reached, TreeUnfolds}
+use Rattle.yaml_base.specs.graphs.Unfolding.{StyledKind}
 
 abbrev string_of : Text → GraphNode
 string_of value = record { tag = string_tag; held = scalar_held value any_style }
@@ -43,7 +43,7 @@ not_before : (anchor : Option Text) (number other : ℕ) (name : Text) → ancho
 not_before anchor number other name none (zero, within, is) = let both : None ≡ Some name = sym none ∙ ap anchor_stated is in cc
 not_before anchor number other name none (suc k, within, is) = omega (arith, within)
 
-alias_first_fails : (p : Placed) → HasShape true shared p (node_shape_of alias_first) → AreNamed (occurrences p) [] (occurrences p) → ⊥
+alias_first_fails : (p : Placed) → HasShape true shared p (node_shape_of alias_first) → NameTheirNodes (occurrences p) [] (occurrences p) → ⊥
 alias_first_fails (node_placed anchor number (placed_and (placed_and none_placed (alias_placed name first)) (node_placed given second none_placed))) fits
     named =
     not_before anchor number first name fits.0 named.1.0.1
@@ -60,7 +60,7 @@ two_strings = graph_of (sequence_of (2 ∷ 3 ∷ []) ∷ string_of (codes "a") �
 abbrev exchanged : Node
 exchanged = a_sequence None (a_string None (codes "b") any_style) (a_string None (codes "a") any_style)
 
-abbrev value_in : NodeKind → Text
+abbrev value_in : StyledKind → Text
 value_in (scalar_kind value style) = value
 value_in (sequence_kind style) = []
 value_in (mapping_kind style) = []
@@ -98,7 +98,7 @@ abbrev is_quoted : Option ScalarStyle → Bool
 is_quoted (Some double_quoted) = true
 is_quoted _ = false
 
-abbrev quotes_in : NodeKind → Bool
+abbrev quotes_in : StyledKind → Bool
 quotes_in (scalar_kind value style) = is_quoted style
 quotes_in _ = false
 
@@ -140,7 +140,7 @@ none_carries a b c w x y z name is_a is_b is_c counted =
     alias_occurrence name z ∷ []) ≡ 1) is_c two in
     omega (arith, three)
 
-without_anchor_fails : (p : Placed) → HasShape true shared_below p (node_shape_of without_anchor) → AreNamed (occurrences p) [] (occurrences p) → ⊥
+without_anchor_fails : (p : Placed) → HasShape true shared_below p (node_shape_of without_anchor) → NameTheirNodes (occurrences p) [] (occurrences p) → ⊥
 without_anchor_fails (node_placed a w
     (placed_and none_placed (node_placed b x (placed_and (placed_and none_placed (node_placed c y none_placed)) (alias_placed name z))))) fits named =
     none_carries a b c w x y z name fits.0 fits.3.1.0 fits.3.1.3.0.1.0 named.1.1.1.0.0

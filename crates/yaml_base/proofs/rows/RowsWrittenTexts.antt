@@ -2,7 +2,7 @@
 use Rattle.yaml_base.proofs.Common.{codes, false, true, [], map, ◌++◌, ◌∷◌, refl, ◌≡◌, list_all, list_any, Text, plain, single_quoted, double_quoted, literal}
 use Rattle.yaml_base.proofs.Common.{folded, block, Settings}
 use Rattle.yaml_base.proofs.rows.RowEvents.{unicode_settings, untagged, leaf, sequence, mapping, alone, rendered_under}
-use Rattle.yaml_base.specs.WrittenTexts.{is_separator, may_stand_raw}
+use Rattle.yaml_base.specs.WrittenTexts.{is_separator, is_written_raw}
 
 -- U+2028 and U+2029 alone are separators
 separators : map is_separator (0xA ∷ 0x85 ∷ 0x2027 ∷ 0x2028 ∷ 0x2029 ∷ 0x202A ∷ []) ≡ false ∷ false ∷ false ∷ true ∷ true ∷ false ∷ []
@@ -10,9 +10,9 @@ separators = refl
 
 -- LF, CR, the space, letters and U+2028 may stand raw; NUL, a tab, U+0085, a surrogate and the byte order mark may not, but a tab
 -- where blanks are literal
-raw_characters : (list_all (may_stand_raw false) (codes "a b\r\n" ++ 0xE9 ∷ 0x2028 ∷ 0x1F600 ∷ []) ≡ true)
-    × (map (may_stand_raw false) (0 ∷ 9 ∷ 0x85 ∷ 0xD800 ∷ 0xFEFF ∷ 0x110000 ∷ []) ≡ false ∷ false ∷ false ∷ false ∷ false ∷ false ∷ [])
-    × (map (may_stand_raw true) (0 ∷ 9 ∷ 0x85 ∷ 13 ∷ []) ≡ false ∷ true ∷ false ∷ true ∷ [])
+raw_characters : (list_all (is_written_raw false) (codes "a b\r\n" ++ 0xE9 ∷ 0x2028 ∷ 0x1F600 ∷ []) ≡ true)
+    × (map (is_written_raw false) (0 ∷ 9 ∷ 0x85 ∷ 0xD800 ∷ 0xFEFF ∷ 0x110000 ∷ []) ≡ false ∷ false ∷ false ∷ false ∷ false ∷ false ∷ [])
+    × (map (is_written_raw true) (0 ∷ 9 ∷ 0x85 ∷ 13 ∷ []) ≡ false ∷ true ∷ false ∷ true ∷ [])
 raw_characters = (refl, refl, refl)
 
 -- all characters may be written raw, and U+2028 and U+2029 break no lines

@@ -1,7 +1,7 @@
 -- One document more of a stream: its directives, its `---` and its root, or a root without `---` at the stream's start.
 use Rattle.yaml_base.proofs.Common.{ℕ, ◌==◌, is_some, Option, None, Some, codes, length, Bool, false, not, true, ◌&&◌, List, [], ◌++◌, ◌∷◌, refl, ◌≡◌, eqb-true}
 use Rattle.yaml_base.proofs.Common.{append-nil, append_assoc, ap, subst, sym, ◌∙◌, arith, or_parts, false≢true, Text, line_feed, Version, TagDirective}
-use Rattle.yaml_base.proofs.Common.{DocumentStart, has_directives, Effective, DocumentTree, start_marker, Section, Heading, no_heading, heading_of, and-false}
+use Rattle.yaml_base.proofs.Common.{DocumentStart, has_directives, Effective, DocumentTree, start_marker, Section, Heading, no_heading, heading_read, and-false}
 use Rattle.yaml_base.proofs.Common.{after_heading, with_heading, section_by_kind, lines_of}
 use Rattle.yaml_base.proofs.stream_lines.{StreamClosed.lines_broken, StreamClosed.closed_both, StreamLineLaws.is_closed}
 use Rattle.yaml_base.proofs.stream_documents.StreamRootsStand.{heading_text, HeadingStands}
@@ -20,7 +20,7 @@ dots = codes "..." ++ (line_feed ∷ [])
 abbrev pub Awaits : (breaks12 : Bool) → ℕ → Text → List DocumentTree → (ended : Bool) → Type 0
 Awaits breaks12 depth text documents true =
     (lines : Text) (parsed : Heading) → is_closed breaks12 lines ≡ true → Percents (lines_of breaks12 lines)
-    → heading_of (lines_of breaks12 lines) ≡ Some parsed
+    → heading_read (lines_of breaks12 lines) ≡ Some parsed
     → WalkProgress breaks12 depth (text ++ lines) (record { documents = documents; place = after_heading parsed })
 Awaits breaks12 depth text documents false = WalkProgress breaks12 depth text (record { documents = documents; place = after_root })
 
@@ -38,7 +38,7 @@ awaits_ended breaks12 depth text documents so = λ lines parsed ends percents re
     (record { documents = documents; place = after_heading parsed })
     (record { text = codes "..."; ending = line_feed ∷ [] }) (lines_of breaks12 lines) so (closed_both breaks12 dots lines refl ends)
     (lines_broken breaks12 (codes "...") lines (unbroken_line breaks12 (codes "...") refl)) refl (percents_markerless (lines_of breaks12 lines) percents)
-    (ap (λ ls. with_heading documents (heading_of ls)) (percents_shown (lines_of breaks12 lines) percents) ∙ ap (with_heading documents) reads))
+    (ap (λ ls. with_heading documents (heading_read ls)) (percents_shown (lines_of breaks12 lines) percents) ∙ ap (with_heading documents) reads))
 
 -- Directives
 

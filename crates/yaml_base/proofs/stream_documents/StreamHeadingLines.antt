@@ -4,7 +4,7 @@ use Rattle.yaml_base.proofs.Common.{int_eq, append-nil, append_assoc, ap, sym, �
 use Rattle.yaml_base.proofs.Common.{Rendered, first_cursor, render_then, Version, TagDirective, DocumentStart}
 use Rattle.yaml_base.proofs.Common.{render_version, render_tag_directives, directive_scalars, Effective}
 use Rattle.yaml_base.proofs.Common.{version_fault, handle_fault, prefix_fault, directive_fault, gives_handle, next_directive_fault, directives_fault_after}
-use Rattle.yaml_base.proofs.Common.{directives_fault, heading_of, begins_with_percent, Line, lines_of, text_of_lines}
+use Rattle.yaml_base.proofs.Common.{directives_fault, heading_read, begins_with_percent, Line, lines_of, text_of_lines}
 use Rattle.yaml_base.{proofs.NoFaults.neither, proofs.PercentLaws.prefix_stands, proofs.TagForms.handle_form, proofs.TagWords.handle_ends_no_word}
 use Rattle.yaml_base.{proofs.stream_documents.StreamSoFar.Percents}
 use Rattle.yaml_base.{specs.declared.errors.yaml_error_t.TheVariants.DuplicateDirective}
@@ -123,5 +123,5 @@ heading_stands s start version directives scalars =
       ends = ap (λ (rendered : Rendered). is_closed s.breaks12 rendered.text) (heading_rendered s.portable start)
           ∙ whole_closed s.breaks12 (heading_lines s.portable start) (heading_whole s.breaks12 s.portable start directives);
       percents = ap (list_all (λ line. begins_with_percent line.text)) lines ∙ heading_percent s.portable start;
-      reads = ap heading_of lines ∙ heading_reads s.portable start version directives scalars;
+      reads = ap heading_read lines ∙ heading_reads s.portable start version directives scalars;
     }

@@ -5,7 +5,7 @@ use Rattle.yaml_base.proofs.Common.{not-true, false≢true, nat_tests, list_all-
 use Rattle.yaml_base.proofs.Common.{slice_split, all_scalars, Text, line_feed, space, is_alpha, is_space, is_blank, is_break, Version, TagDirective}
 use Rattle.yaml_base.proofs.Common.{DocumentStart, directive_scalars, is_tag_character, character_written, percent_escaped, prefix_escaped, version_fault}
 use Rattle.yaml_base.proofs.Common.{exclamation_mark, handle_fault, prefix_fault, directive_fault, gives_handle, next_directive_fault, directives_fault_after}
-use Rattle.yaml_base.proofs.Common.{directives_fault, is_uri_character, percent_read, Heading, heading_of, Line}
+use Rattle.yaml_base.proofs.Common.{directives_fault, is_uri_character, percent_read, Heading, heading_read, Line}
 use Rattle.std.proofs.lemmas.List.Splits.{slice_split_at, slice_split_none}
 use Rattle.std.proofs.lemmas.List.Sums.{fold-append}
 use Rattle.yaml_base.{proofs.NoFaults.neither, proofs.NoFaults.not_given, proofs.TagForms.IsHandle, proofs.TagForms.handle_form}
@@ -166,7 +166,7 @@ version_lines (Some version) = record { text = codes "%YAML" ++ (space ∷ (vers
 
 -- it is read as the version
 version_read : (version : Option Version) → option_and_then version_fault version ≡ None
-    → heading_of (version_lines version) ≡ Some (record { version = version; directives = [] })
+    → heading_read (version_lines version) ≡ Some (record { version = version; directives = [] })
 version_read None sound = refl
 version_read (Some version) sound = grind (arith, int_eq, version_reads)
 
@@ -179,5 +179,5 @@ heading_lines portable start = version_lines start.version ++ tag_lines portable
 -- they are read as the version and the directives
 pub heading_reads : (portable : Bool) (start : DocumentStart) → option_and_then version_fault start.version ≡ None
     → directives_fault start.directives ≡ None → list_all directive_scalars start.directives ≡ true
-    → heading_of (heading_lines portable start) ≡ Some (record { version = start.version; directives = start.directives })
+    → heading_read (heading_lines portable start) ≡ Some (record { version = start.version; directives = start.directives })
 heading_reads portable start version directives scalars = grind (arith, fold-append, version_read, tags_read)

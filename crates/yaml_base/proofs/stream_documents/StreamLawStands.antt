@@ -9,7 +9,8 @@ use Rattle.yaml_base.proofs.Common.{IsAccepted, Encoding, Settings, Effective, e
 use Rattle.yaml_base.proofs.Common.{all_read_alike, reads_alike, characters_read, lacks_tag_and_flags, DocumentTree, document_agrees, documents_in_order}
 use Rattle.yaml_base.proofs.Common.{agrees, not-true}
 use Rattle.yaml_base.proofs.Common.{documents_of, stream_trees}
-use Rattle.yaml_base.{proofs.Trees.tree_of-stream_events, proofs.stream_lines.StreamBytes.trees_of_bytes, proofs.stream_lines.StreamBytes.is_shown, specs.streams.StreamContent.documents_agree}
+use Rattle.yaml_base.{proofs.Trees.tree_of-stream_events, proofs.stream_lines.StreamBytes.trees_of_bytes, proofs.stream_lines.StreamBytes.is_shown}
+use Rattle.yaml_base.{specs.streams.StreamContent.documents_agree}
 use Rattle.yaml_base.proofs.stream_documents.StreamRootsStand.{DocumentsStand}
 use Rattle.yaml_base.proofs.stream_documents.StreamEachDocument.{AllDocuments, all_of_both, each_document}
 use Rattle.yaml_base.proofs.stream_documents.StreamWholeReads.{FirstWritten, document_trees, stream_reads}

@@ -4,7 +4,8 @@ use Rattle.yaml_base.proofs.Common.{true≢false, ap, subst, sym, ◌∙◌, ari
 use Rattle.yaml_base.proofs.Common.{Node, alias_node, scalar_node, sequence_node, mapping_node, Document, root_place, asks_flow}
 use Rattle.yaml_base.proofs.Common.{is_written_in_flow, has_no_nodes, has_no_pairs, Effective, is_written_as_nothing, directives_in_force}
 use Rattle.yaml_base.proofs.Common.{Tagging, Tree, scalar_tree, sequence_tree, mapping_tree, stands_at_margin, Line, lines_of, is_spaces, without_blank_lines}
-use Rattle.yaml_base.proofs.Common.{indented, blanked, Reads, NodeKind, begins_sequence, begins_mapping, begins_text, kind_of_node, ReadsText, node_by_kind}
+use Rattle.yaml_base.proofs.Common.{past_indentation, blanked, LinesReader, NodeKind, begins_sequence, begins_mapping, begins_text, kind_of_node, ReadsText}
+use Rattle.yaml_base.proofs.Common.{node_by_kind}
 use Rattle.yaml_base.proofs.Common.{node_at, begins_properties, text_or_properties, node_read, Rules, no_properties}
 use Rattle.yaml_base.proofs.{stream_documents.StreamRoots.marker_cursor, stream_lines.StreamClosed.closed, stream_lines.StreamCuts.none_not_some}
 use Rattle.yaml_base.proofs.{stream_lines.StreamMarkerless.items_markerless, stream_lines.StreamMarkerless.pairs_markerless}
@@ -66,12 +67,12 @@ no_scalar make none None anchor tagging value h = none_not_some h
 no_scalar make none (Some a) anchor tagging value h = grind (arith, false≢true)
 
 -- where no text may begin a scalar is read of nothing
-nothing_left : (rules : Rules) (reads : Reads) (reads_text : ReadsText) (lines : List Line) (anchor : Option Text) (tagging : Tagging) (value : Text)
+nothing_left : (rules : Rules) (reads : LinesReader) (reads_text : ReadsText) (lines : List Line) (anchor : Option Text) (tagging : Tagging) (value : Text)
     → node_at rules reads reads_text no_properties true false lines ≡ Some (scalar_tree anchor tagging value) → lines ≡ []
 nothing_left rules reads reads_text [] anchor tagging value h = refl
-nothing_left rules reads reads_text (line ∷ rest) anchor tagging value h = absurd (by (kind_of_node rules (indented line.text).text) h)
+nothing_left rules reads reads_text (line ∷ rest) anchor tagging value h = absurd (by (kind_of_node rules (past_indentation line.text).text) h)
   where
-    by : (kind : NodeKind) → node_by_kind kind rules reads reads_text no_properties true false (indented line.text) line.ending rest (line ∷ rest)
+    by : (kind : NodeKind) → node_by_kind kind rules reads reads_text no_properties true false (past_indentation line.text) line.ending rest (line ∷ rest)
         ≡ Some (scalar_tree anchor tagging value) → ⊥
     by begins_sequence h = no_scalar (sequence_tree None None) (λ a. refl) _ anchor tagging value h
     by begins_mapping h = no_scalar (mapping_tree None None) (λ a. refl) _ anchor tagging value h

@@ -1,7 +1,8 @@
 -- A root that fits reads as its document's tree: on lines of its own, on the line of `---`, and below that line.
 use Rattle.yaml_base.proofs.Common.{arith, suc, zero, ℕ, ◌≤◌, if◌then◌else◌, None, Some, codes, Bool, false, true, List, [], ◌++◌, ◌∷◌, refl, ◌≡◌, ap, sym, ◌∙◌}
 use Rattle.yaml_base.proofs.Common.{false≢true, Cursor, Rendered, root_place, Tree, stands_at_margin, root_below, Line, lines_of, is_spaces}
-use Rattle.yaml_base.proofs.Common.{without_blank_lines, begins_blank, indented, blanked, Reads, NodeKind, begins_sequence, begins_mapping, begins_text}
+use Rattle.yaml_base.proofs.Common.{without_blank_lines, first_line_is_blank, past_indentation, blanked, LinesReader, NodeKind, begins_sequence, begins_mapping}
+use Rattle.yaml_base.proofs.Common.{begins_text}
 use Rattle.yaml_base.proofs.Common.{kind_of_node, ReadsText, node_by_kind, node_at, node_read, Rules, Properties}
 use Rattle.yaml_base.proofs.stream_lines.{StreamClosed.closed, StreamClosed.margin_cursor, StreamCuts.none_not_some}
 use Rattle.yaml_base.proofs.stream_nodes.StreamFits.{Opens, Fits, blanked_lines}
@@ -20,19 +21,20 @@ root_reads rules n own tree fit margin depth deep =
     ∙ fit.reads depth deep true 0 (λ h. (refl, refl))
 
 -- what isn't blank stays so
-shown_once : (lines : List Line) → (begins_blank (without_blank_lines lines) ≡ false)
+shown_once : (lines : List Line) → (first_line_is_blank (without_blank_lines lines) ≡ false)
     × (without_blank_lines (without_blank_lines lines) ≡ without_blank_lines lines)
 shown_once [] = (refl, refl)
 shown_once (line ∷ rest) = grind (arith, shown_once rest)
 
 -- what reads where no text may begin reads where one may
-first_more : (rules : Rules) (reads : Reads) (reads_text : ReadsText) (properties : Properties) (lines : List Line) (tree : Tree)
+first_more : (rules : Rules) (reads : LinesReader) (reads_text : ReadsText) (properties : Properties) (lines : List Line) (tree : Tree)
     → node_at rules reads reads_text properties true false lines ≡ Some tree → node_at rules reads reads_text properties true true lines ≡ Some tree
 first_more rules reads reads_text properties [] tree h = h
-first_more rules reads reads_text properties (line ∷ rest) tree h = by (kind_of_node rules (indented line.text).text) h
+first_more rules reads reads_text properties (line ∷ rest) tree h = by (kind_of_node rules (past_indentation line.text).text) h
   where
-    by : (kind : NodeKind) → node_by_kind kind rules reads reads_text properties true false (indented line.text) line.ending rest (line ∷ rest) ≡ Some tree
-        → node_by_kind kind rules reads reads_text properties true true (indented line.text) line.ending rest (line ∷ rest) ≡ Some tree
+    by : (kind : NodeKind)
+        → node_by_kind kind rules reads reads_text properties true false (past_indentation line.text) line.ending rest (line ∷ rest) ≡ Some tree
+        → node_by_kind kind rules reads reads_text properties true true (past_indentation line.text) line.ending rest (line ∷ rest) ≡ Some tree
     by begins_sequence h = h
     by begins_mapping h = h
     by begins_text h = absurd (none_not_some h)

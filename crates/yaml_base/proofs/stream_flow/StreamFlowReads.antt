@@ -3,11 +3,12 @@ use Rattle.yaml_base.proofs.Common.{arith, ℕ, option_map, Option, None, Some, 
 use Rattle.yaml_base.proofs.Common.{append_assoc, ap, sym, ◌∙◌, and_parts, false≢true, list_all, Text, Cursor, Rendered, new_line, space_if, indicator}
 use Rattle.yaml_base.proofs.Common.{TagDirective, Collection, collection_tag, Nodes, sequence_node, Pairs, mapping_node, no_nodes, nodes_and, no_pairs}
 use Rattle.yaml_base.proofs.Common.{pairs_and, render_properties, is_written_in_flow, Brackets, square, curly, render_end, Place, is_undented, line_column}
-use Rattle.yaml_base.proofs.Common.{deeper, has_no_nodes, has_no_pairs, Effective, is_read_white, is_space_or_break, ParsedTag, Tree, sequence_tree, mapping_tree, and-false}
+use Rattle.yaml_base.proofs.Common.{deeper, has_no_nodes, has_no_pairs, Effective, is_read_white, is_space_or_break, ParsedTag, Tree, sequence_tree}
+use Rattle.yaml_base.proofs.Common.{mapping_tree, and-false}
 use Rattle.yaml_base.proofs.Common.{no_trees, no_tree_pairs, no_key, OpenFlow, in_sequence, in_mapping, Awaited, collection_awaited, entry_awaited}
 use Rattle.yaml_base.proofs.Common.{comma_awaited, FlowReading, done, within, word_step, level_opened, opened, flow_step, tree_at_end, flow_read}
 use Rattle.yaml_base.proofs.Common.{prepend_to_trimmed, trimmed, kind_of_text, text_by_kind, begins_text, kind_of_node, Rules, Properties, word_after, symbol}
-use Rattle.yaml_base.proofs.Common.{free, FlowStep, is_flow_indicator, begins_bracket, class_of, begun, bracket_step, is_pair, flow_tokens}
+use Rattle.yaml_base.proofs.Common.{free, FlowStep, is_flow_indicator, begins_bracket, class_of, begun_token, bracket_step, is_pair, flow_tokens}
 use Rattle.yaml_base.{proofs.stream_flow.StreamFlowScalars.rules_of, proofs.stream_flow.StreamPropertyWords.lead, proofs.stream_lines.StreamLineLaws.OneLine}
 use Rattle.yaml_base.{proofs.stream_nodes.StreamProperties.begins_content, specs.streams.StreamNodes.flow_text}
 use Rattle.yaml_base.proofs.stream_flow.StreamFlowNodes.{items_flow, pairs_flow}
@@ -114,7 +115,7 @@ empty_content rules cursor properties own anchor tag given_tag b c tree e text e
       whole = text ∙ empty_whole properties cursor (lead anchor tag) b c e;
       ended = ended;
       reads =
-          ap (λ k. (let here : FlowStep = begun k [] b in tree_at_end (steps rules from
+          ap (λ k. (let here : FlowStep = begun_token k [] b in tree_at_end (steps rules from
           (here.tokens ++ flow_tokens rules.breaks12 here.place (c ∷ []))))) brackets.begins
           ∙ ap (λ x. (let here : FlowStep = bracket_step x (class_of rules.breaks12 c) [] b c in tree_at_end
           (steps rules from (here.tokens ++ flow_tokens rules.breaks12 here.place [])))) pair

@@ -3,8 +3,10 @@ use Rattle.yaml_base.proofs.Common.{ℕ, if◌then◌else◌, ◌==◌, option_m
 use Rattle.yaml_base.proofs.Common.{true≢false, ap, ◌∙◌, arith, and_parts, or_parts, false≢true, nat_tests, list_all, Text, is_among, is_alpha}
 use Rattle.yaml_base.proofs.Common.{ScalarStyle, plain, is_read_white, holds_no_plain, Properties}
 use Rattle.yaml_base.proofs.Common.{read_plain, ParsedTag, has_clean_edges, is_tidy, is_plain, Tree, alias_tree, scalar_tree, sequence_tree}
-use Rattle.yaml_base.proofs.Common.{mapping_tree, no_trees, no_tree_pairs, Rules, name_read, collection_tag_parsed, tagging_parsed, standing_of, scalar_parsed}
-use Rattle.yaml_base.proofs.Common.{scalar_of_style, a_scalar, kind_of_word, word_by_kind, word_after, word_read, word, FlowStep, begins_plain, class_of, begun}
+use Rattle.yaml_base.proofs.Common.{mapping_tree, no_trees, no_tree_pairs, Rules, name_read, collection_tag_parsed, tagging_parsed, stood_in_style}
+use Rattle.yaml_base.proofs.Common.{scalar_parsed}
+use Rattle.yaml_base.proofs.Common.{scalar_of_style, a_scalar, kind_of_word, word_by_kind, word_after, word_read, word, FlowStep, begins_plain, class_of}
+use Rattle.yaml_base.proofs.Common.{begun_token}
 use Rattle.yaml_base.proofs.Common.{flow_tokens}
 use Rattle.yaml_base.proofs.{stream_keys.StreamAliasKeys.alias_word, stream_lines.StreamTidyLaws.tidy_at_root}
 use Rattle.yaml_base.proofs.{stream_nodes.StreamAgrees.tagging_in, stream_nodes.StreamLeads.lead_then, stream_nodes.StreamStands.tag_meant}
@@ -50,7 +52,7 @@ lead_opens rules anchor tag parsed rest h k = grind (arith, nat_tests)
 
 -- how a scalar is tagged that is written so
 pub tagging_meant : (tag : Option Text) (style : ScalarStyle) (bare : Bool) → (bare ≡ true → is_plain style ≡ false)
-    → tagging_parsed (tag_meant tag bare) (standing_of style) ≡ Some (tagging_in tag (record { style = style; bare = bare }))
+    → tagging_parsed (tag_meant tag bare) (stood_in_style style) ≡ Some (tagging_in tag (record { style = style; bare = bare }))
 tagging_meant tag style bare h = grind (arith, nat_tests, true≢false)
 
 -- the tree of a scalar
@@ -61,7 +63,7 @@ scalar_in anchor tag style bare value = scalar_tree anchor (tagging_in tag (reco
 pub scalar_meant : (rules : Rules) (flow : Bool) (anchor tag : Option Text) (style : ScalarStyle) (bare : Bool) (column : Option ℕ) (text v : Text)
     (value : Option Text)
     → (bare ≡ true → is_plain style ≡ false) → is_tidy style rules.breaks12 column text ≡ true → value ≡ Some v
-    → scalar_parsed (record { anchor = anchor; tag = tag_meant tag bare }) (standing_of style)
+    → scalar_parsed (record { anchor = anchor; tag = tag_meant tag bare }) (stood_in_style style)
     (if is_tidy style rules.breaks12 column text then value else None)
     ≡ Some (scalar_in anchor tag style bare v)
 scalar_meant rules flow anchor tag style bare column text v value h tidy read = grind (arith, tagging_meant)
@@ -73,7 +75,7 @@ quoted_kind double t = grind (arith, nat_tests)
 -- it is read so
 pub quoted_after : (rules : Rules) (flow double : Bool) (column : Option ℕ) (properties : Properties) (t v : Text)
     → is_tidy (quoted_in double) rules.breaks12 column (quote_of double ∷ t) ≡ true → read_quoted double rules.breaks12 (quote_of double ∷ t) ≡ Some v
-    → word_after rules flow column properties (quote_of double ∷ t) ≡ scalar_parsed properties (standing_of (quoted_in double)) (Some v)
+    → word_after rules flow column properties (quote_of double ∷ t) ≡ scalar_parsed properties (stood_in_style (quoted_in double)) (Some v)
 quoted_after rules flow true column properties t v tidy read = grind (arith, nat_tests, quoted_kind)
 quoted_after rules flow false column properties t v tidy read = grind (arith, nat_tests, quoted_kind)
 
@@ -167,7 +169,7 @@ alias_flow_word rules [] h = absurd (none_not_some h)
 alias_flow_word rules (n ∷ name) h = record {
   says = record {
     says = λ rest ends.
-        ap (λ class. (let here : FlowStep = begun class [] 0x2A in here.tokens ++ flow_tokens rules.breaks12 here.place ((n ∷ name) ++ rest)))
+        ap (λ class. (let here : FlowStep = begun_token class [] 0x2A in here.tokens ++ flow_tokens rules.breaks12 here.place ((n ∷ name) ++ rest)))
         (class_fixed rules.breaks12 0x2A refl)
         ∙ plain_text_word rules.breaks12 [] 0x2A (n ∷ name) rest (letters_stay rules.breaks12 (n ∷ name) (name_letters (n ∷ name) h))
         (letters_shown rules.breaks12 n name (name_letters (n ∷ name) h)) ends;

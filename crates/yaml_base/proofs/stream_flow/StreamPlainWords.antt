@@ -3,7 +3,7 @@ use Rattle.yaml_base.proofs.Common.{nat_tests, arith, ℕ, ◌==◌, Some, codes
 use Rattle.yaml_base.proofs.Common.{refl, ◌≡◌, true≢false, append-nil, append_assoc, ap, ◌∙◌, and_parts, or_parts, false≢true, map-append, list_all, Text}
 use Rattle.yaml_base.proofs.Common.{is_among, is_read_white, begins_white, begins_with_hash, holds_no_plain, read_plain}
 use Rattle.yaml_base.proofs.Common.{ends_white, has_clean_edges, FlowToken, word, free, FlowStep, FlowClass, is_white_blank, is_white_break, is_flow_indicator}
-use Rattle.yaml_base.proofs.Common.{begins_bracket, class_of, begun, flow_tokens, not-true}
+use Rattle.yaml_base.proofs.Common.{begins_bracket, class_of, begun_token, flow_tokens, not-true}
 use Rattle.yaml_base.proofs.{stream_flow.StreamWords.GivesWord}
 use Rattle.yaml_base.specs.streams.StreamTokens.{in_plain, white_of_class, white_token, plain_step}
 use Rattle.yaml_base.proofs.stream_keys.StreamPlainKeys.{reads_plain}
@@ -43,15 +43,17 @@ plain_ends breaks12 text white (c ∷ rest) h = by (class_of breaks12 c) refl h 
         → flow_tokens breaks12 (in_plain text (white ++ (c ∷ []))) rest
         ≡ word text ∷ (white_tokens breaks12 (white ++ (c ∷ [])) ++ flow_tokens breaks12 free rest))
         → (let here : FlowStep = plain_step class breaks12 text white c in here.tokens ++ flow_tokens breaks12 here.place rest)
-        ≡ word text ∷ (white_tokens breaks12 white ++ (let here : FlowStep = begun class [] c in here.tokens ++ flow_tokens breaks12 here.place rest))
+        ≡ word text ∷ (white_tokens breaks12 white ++ (let here : FlowStep = begun_token class [] c in here.tokens ++ flow_tokens breaks12 here.place rest))
     by is_white_blank e h ih = ih h ∙ ap (λ t. word text ∷ t) (one_more is_white_blank (white_of_class is_white_blank) e refl)
     by is_white_break e h ih = ih h ∙ ap (λ t. word text ∷ t) (one_more is_white_break (white_of_class is_white_break) e refl)
     by is_flow_indicator e h ih =
         ap (λ t. word text ∷ t)
-        (append_assoc (white_tokens breaks12 white) (begun is_flow_indicator [] c).tokens (flow_tokens breaks12 (begun is_flow_indicator [] c).place rest))
+        (append_assoc (white_tokens breaks12 white) (begun_token is_flow_indicator [] c).tokens
+        (flow_tokens breaks12 (begun_token is_flow_indicator [] c).place rest))
     by begins_bracket e h ih =
         ap (λ t. word text ∷ t)
-        (append_assoc (white_tokens breaks12 white) (begun begins_bracket [] c).tokens (flow_tokens breaks12 (begun begins_bracket [] c).place rest))
+        (append_assoc (white_tokens breaks12 white) (begun_token begins_bracket [] c).tokens
+        (flow_tokens breaks12 (begun_token begins_bracket [] c).place rest))
     by class e h ih = absurd (false≢true h)
 
 -- a class of characters that plain text goes on over

@@ -3,7 +3,7 @@ use Rattle.yaml_base.proofs.Common.{ℕ, Option, None, Some, Bool, false, true, 
 use Rattle.yaml_base.proofs.Common.{sym, ◌∙◌, arith, or_parts, false≢true, nat_tests, Text, space, is_blank, is_break, TagDirective}
 use Rattle.yaml_base.proofs.Common.{read_plain, ParsedTag, has_clean_edges, word, opens, FlowPlace, free, FlowStep, FlowClass}
 use Rattle.yaml_base.proofs.Common.{begins_property, begins_double, begins_single, begins_bracket}
-use Rattle.yaml_base.proofs.Common.{begins_plain, class_of, begun, bracket_step, is_pair, flow_tokens}
+use Rattle.yaml_base.proofs.Common.{begins_plain, class_of, begun_token, bracket_step, is_pair, flow_tokens}
 use Rattle.yaml_base.proofs.TagWords.{letters_end_no_word}
 use Rattle.yaml_base.proofs.stream_flow.{StreamPlainWords.is_white_class, StreamPlainWords.shown_at, StreamPlainWords.plain_word}
 use Rattle.yaml_base.proofs.stream_flow.{StreamWords.shifted, StreamWords.double_quoted_word, StreamWords.single_quoted_word}
@@ -48,7 +48,7 @@ rest_passes breaks12 before (c ∷ text) rest h =
 begin_property : (breaks12 : Bool) (c : ℕ) (rest : Text) → class_of breaks12 c ≡ begins_property
     → flow_tokens breaks12 free (c ∷ rest) ≡ flow_tokens breaks12 (in_property (c ∷ [])) rest
 begin_property breaks12 c rest e =
-    ap (λ class. (let here : FlowStep = begun class [] c in here.tokens ++ flow_tokens breaks12 here.place rest)) e
+    ap (λ class. (let here : FlowStep = begun_token class [] c in here.tokens ++ flow_tokens breaks12 here.place rest)) e
 
 next_property : (breaks12 : Bool) (before : Text) (c : ℕ) (rest : Text) → class_of breaks12 c ≡ begins_property
     → flow_tokens breaks12 (after_property before) (c ∷ rest) ≡ flow_tokens breaks12 (in_property (before ++ (c ∷ []))) rest
@@ -95,8 +95,10 @@ begins_own _ = false
 
 -- after properties or without them, it begins a word with these
 begun_with : (breaks12 : Bool) (before : Text) (c : ℕ) (rest : Text) (class : FlowClass) → class_of breaks12 c ≡ class → begins_own class ≡ true
-    → flow_tokens breaks12 (lead_place before) (c ∷ rest) ≡ (let here : FlowStep = begun class before c in here.tokens ++ flow_tokens breaks12 here.place rest)
-begun_with breaks12 [] c rest class e own = ap (λ class. (let here : FlowStep = begun class [] c in here.tokens ++ flow_tokens breaks12 here.place rest)) e
+    → flow_tokens breaks12 (lead_place before) (c ∷ rest)
+    ≡ (let here : FlowStep = begun_token class before c in here.tokens ++ flow_tokens breaks12 here.place rest)
+begun_with breaks12 [] c rest class e own =
+    ap (λ class. (let here : FlowStep = begun_token class [] c in here.tokens ++ flow_tokens breaks12 here.place rest)) e
 begun_with breaks12 (x ∷ before) c rest class e own = grind (arith, false≢true)
 
 -- a text is passed by the tokens, to where what follows it begins a word with it
@@ -107,7 +109,7 @@ Leads breaks12 before = (rest : Text) → flow_tokens breaks12 free (before ++ r
 begun_after : (breaks12 : Bool) (before : Text) (c : ℕ) (t rest : Text) (class : FlowClass) → Leads breaks12 before → class_of breaks12 c ≡ class
     → begins_own class ≡ true
     → flow_tokens breaks12 free ((before ++ (c ∷ t)) ++ rest)
-    ≡ (let here : FlowStep = begun class before c in here.tokens ++ flow_tokens breaks12 here.place (t ++ rest))
+    ≡ (let here : FlowStep = begun_token class before c in here.tokens ++ flow_tokens breaks12 here.place (t ++ rest))
 begun_after breaks12 before c t rest class leads e own =
     ap (flow_tokens breaks12 free) (append_assoc before (c ∷ t) rest) ∙ leads (c ∷ (t ++ rest)) ∙ begun_with breaks12 before c (t ++ rest) class e own
 

@@ -6,7 +6,8 @@ use Rattle.yaml_base.proofs.Common.{TagDirective, Scalar, Collection, scalar_tag
 use Rattle.yaml_base.proofs.Common.{scalar_node, sequence_node, mapping_node, no_nodes, nodes_and, no_pairs, pairs_and, render_properties, render_alias}
 use Rattle.yaml_base.proofs.Common.{render_separation, render_body, choice_of, entry_place, Role, is_key, deeper, byte_count, name_count}
 use Rattle.yaml_base.proofs.Common.{tag_count, is_short, is_simple, most_key_bytes, Effective, Allowances}
-use Rattle.yaml_base.proofs.Common.{fitting_style, fits_plain, requested_style, style_asked_at, allowed_under, is_empty, is_some, and-false, ◌||◌, Tree, longest_key, is_key_text, name_read}
+use Rattle.yaml_base.proofs.Common.{fitting_style, fits_plain, requested_style, style_asked_at, allowed_under, is_empty, is_some, and-false, ◌||◌, Tree}
+use Rattle.yaml_base.proofs.Common.{longest_key, is_key_text, name_read}
 use Rattle.std.proofs.lemmas.List.{append_cancel_left, append_cancel_right}
 use Rattle.yaml_base.{proofs.stream_keys.StreamKeyLengths.body_length, proofs.stream_keys.StreamKeyLengths.lead_length}
 use Rattle.yaml_base.{proofs.stream_lines.StreamLineLaws.OneLine, proofs.stream_lines.StreamLineLaws.one_line_both}

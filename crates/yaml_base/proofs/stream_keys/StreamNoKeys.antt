@@ -2,7 +2,7 @@
 use Rattle.yaml_base.proofs.Common.{nat_tests, arith, ℕ, ◌+◌, if◌then◌else◌, ◌==◌, is_some, option_map, option_and_then, Option, None, Some, length, Bool}
 use Rattle.yaml_base.proofs.Common.{false, not, true, ◌||◌, [], ◌++◌, ◌∷◌, refl, ◌≡◌, eqb-true, true≢false, append-nil, append_assoc, ap, subst, sym, ◌∙◌}
 use Rattle.yaml_base.proofs.Common.{and_parts, and_from, false≢true, list_all, Text, space, is_alpha, ParsedTag, tag_parsed, Stood, Tree}
-use Rattle.yaml_base.proofs.Common.{is_alias, ends_indicator, Indented, indented, spaces}
+use Rattle.yaml_base.proofs.Common.{is_alias, ends_indicator, Indented, past_indentation, spaces}
 use Rattle.yaml_base.proofs.Common.{without_last_space, word_of_alias, key_of_text, key_from, Rules, Properties, PropertiesRead, cut_before_space}
 use Rattle.yaml_base.proofs.Common.{tag_of_word, tag_first, scalar_parsed, an_alias}
 use Rattle.yaml_base.proofs.Common.{word_by_kind, word_after, word_read}
@@ -84,7 +84,7 @@ properties_other rules flow properties text h = grind (arith, false≢true, kind
 
 -- what a word reads as after properties that were read
 abbrev after_read : Rules → Bool → Option PropertiesRead → Option Tree
-after_read rules flow found = option_and_then (λ read. word_after rules flow None read.properties (indented read.text).text) found
+after_read rules flow found = option_and_then (λ read. word_after rules flow None read.properties (past_indentation read.text).text) found
 
 -- properties of which nothing is left but spaces are no word
 nothing_after : (rules : Rules) (flow : Bool) (properties : Properties) (count : ℕ) → after_read rules flow
@@ -127,7 +127,7 @@ tag_other rules anchor column u = grind (arith, properties_other)
 
 anchor_other : (rules : Rules) (name : Text) (column : ℕ) (t : Text) → reads_alias (after_read rules false (tag_first rules.directives (Some name) column t))
     ≡ false
-anchor_other rules name column [] = properties_other rules false (record { anchor = Some name; tag = None }) (indented (spaces column)).text refl
+anchor_other rules name column [] = properties_other rules false (record { anchor = Some name; tag = None }) (past_indentation (spaces column)).text refl
 anchor_other rules name column (c ∷ t) = grind (arith, eqb-true, tag_other, properties_other)
 
 pub tag_no_alias : (rules : Rules) (u : Text) → word_of_alias rules (0x21 ∷ u) ≡ None

@@ -3,7 +3,8 @@ use Rattle.yaml_base.proofs.Common.{ℕ, ◌+◌, ◌≤◌, if◌then◌else◌
 use Rattle.yaml_base.proofs.Common.{append_assoc, ap, sym, ◌∙◌, arith, or_parts, false≢true, nat_tests, Text, line_feed, line_separator, paragraph_separator}
 use Rattle.yaml_base.proofs.Common.{is_ascii, is_space, is_break, is_printable, Cursor, column_after, ScalarStyle, not-true, not-false}
 use Rattle.yaml_base.proofs.Common.{is_read_break, strip, after_digit, chomping_first, Charset, Allowances, somewhere, is_empty}
-use Rattle.yaml_base.proofs.Common.{is_special, is_special_but_tab, begins_with_blanks_alone, bars_literal, allows_literal, tab, ending, indentation_hint, ending_hint, render_hint, ends_in_break, folded_parts}
+use Rattle.yaml_base.proofs.Common.{is_special, is_special_but_tab, begins_with_blanks_alone, bars_literal, allows_literal, tab, ending, indentation_hint}
+use Rattle.yaml_base.proofs.Common.{ending_hint, render_hint, ends_in_break, folded_parts}
 use Rattle.yaml_base.proofs.Common.{parts, is_block, fitting_style}
 use Rattle.yaml_base.specs.{Cursor.next_column, scalars.Analysis.begins_with, scalars.BlockHeader.without_break}
 use Rattle.yaml_base.specs.{scalars.BlockHeader.one_break, scalars.BlockHeader.more_breaks, scalars.Folded.cut_line, scalars.Folded.next_line_unindented}

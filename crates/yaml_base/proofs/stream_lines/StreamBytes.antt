@@ -1,7 +1,8 @@
 -- A text of printable characters and tabs, however its line breaks are written, is read as its documents.
 use Rattle.yaml_base.proofs.Common.{nat_tests, arith, ℕ, if◌then◌else◌, ◌==◌, option_and_then, Some, Bool, false, not, true, ◌&&◌, ◌||◌, List, [], ◌∷◌, refl}
 use Rattle.yaml_base.proofs.Common.{◌≡◌, eqb-true, ap, ◌∙◌, and_parts, and_from, false≢true, list_all-append, list_all, Text, line_feed}
-use Rattle.yaml_base.proofs.Common.{carriage_return, next_line, is_printable, is_tidy_character, tab, break_text, with_breaks_written, is_rendered_text, LineBreak}
+use Rattle.yaml_base.proofs.Common.{carriage_return, next_line, is_printable, is_tidy_character, tab, break_text, with_breaks_written, is_rendered_text}
+use Rattle.yaml_base.proofs.Common.{LineBreak}
 use Rattle.yaml_base.proofs.Common.{characters_read, documents_of, stream_trees, or_left}
 use Rattle.yaml_base.proofs.Common.{ScalarStyle, any_style, plain, single_quoted, double_quoted, literal, folded}
 use Rattle.yaml_base.proofs.AllPass.{all_pass}

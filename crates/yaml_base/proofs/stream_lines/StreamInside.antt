@@ -1,7 +1,7 @@
 -- Which lines lie inside a column, and lines that are the entries of a collection whatever entries follow them.
 use Rattle.yaml_base.proofs.Common.{suc, zero, ℕ, ◌<◌, ◌==◌, Some, Bool, false, not, true, ◌&&◌, ◌||◌, List, [], ◌++◌, ◌∷◌, refl, ◌≡◌, append-nil}
 use Rattle.yaml_base.proofs.Common.{append_assoc, ap, sym, ◌∙◌, arith, and_parts, and_from, false≢true, list_all, Text, space, Line, is_spaces}
-use Rattle.yaml_base.proofs.Common.{begins_with_indicator, belongs_to_entry, all_deeper, indented_step, indented, spaces}
+use Rattle.yaml_base.proofs.Common.{begins_with_indicator, belongs_to_entry, all_deeper, indented_step, past_indentation, spaces}
 use Rattle.yaml_base.specs.streams.StreamLines.{prepend_line, entries_at, past_column}
 
 -- a line deeper than a column is inside it
@@ -27,8 +27,8 @@ past_spaces zero t = refl
 past_spaces (suc e) t = past_spaces e t
 
 -- a text that begins with no space stands where the spaces before it end
-pub indented_spaces : (e c : ℕ) (t : Text) → (c == space) ≡ false → indented (spaces e ++ (c ∷ t)) ≡ record { column = e; text = c ∷ t }
-indented_spaces zero c t h = ap (λ b. indented_step b (c ∷ t) (indented t)) h
+pub indented_spaces : (e c : ℕ) (t : Text) → (c == space) ≡ false → past_indentation (spaces e ++ (c ∷ t)) ≡ record { column = e; text = c ∷ t }
+indented_spaces zero c t h = ap (λ b. indented_step b (c ∷ t) (past_indentation t)) h
 indented_spaces (suc e) c t h = ap (λ l. record { column = suc l.column; text = l.text }) (indented_spaces e c t h)
 
 -- a line isn't blank where something stands after its spaces

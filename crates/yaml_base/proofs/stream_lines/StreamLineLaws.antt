@@ -1,5 +1,6 @@
 -- The lines of texts one after another.
-use Rattle.yaml_base.proofs.Common.{nat_tests, arith, ℕ, Bool, false, true, ◌||◌, List, [], ◌++◌, ◌∷◌, refl, ◌≡◌, ap, sym, ◌∙◌, or_parts, or_from, list_any, Text, is_blank, space, tab, ◌==◌}
+use Rattle.yaml_base.proofs.Common.{nat_tests, arith, ℕ, Bool, false, true, ◌||◌, List, [], ◌++◌, ◌∷◌, refl, ◌≡◌, ap, sym, ◌∙◌, or_parts, or_from, list_any}
+use Rattle.yaml_base.proofs.Common.{Text, is_blank, space, tab, ◌==◌}
 use Rattle.yaml_base.proofs.Common.{is_read_break, is_read_white, is_space_or_break, Line, prepend_character, lines_of, text_of_lines, is_break}
 use Rattle.yaml_base.proofs.AllPass.{fewer_pass}
 

@@ -3,7 +3,8 @@
 use Rattle.yaml_base.proofs.Common.{suc, zero, ℕ, ◌+◌, ◌-◌, ◌<◌, ◌≤◌, if◌then◌else◌, ◌==◌, Option, None, Some, nat_lt, Bool, false, not, true, ◌&&◌, ◌||◌}
 use Rattle.yaml_base.proofs.Common.{List, [], ◌++◌, ◌∷◌, refl, ◌≡◌, append-nil, append_assoc, ap, subst, sym, ◌∙◌, arith, and_parts, list_all, Text, or-true}
 use Rattle.yaml_base.proofs.Common.{line_feed, space, Cursor, Rendered, render_nothing, new_line, Place, Tree, Line, lines_of, is_spaces, without_blank_lines}
-use Rattle.yaml_base.proofs.Common.{begins_blank, ends_indicator, belongs_to_entry, Indented, spaces, blanked, Reads, text_read, NodeKind, begins_text}
+use Rattle.yaml_base.proofs.Common.{first_line_is_blank, ends_indicator, belongs_to_entry, Indented, spaces, blanked, LinesReader, text_read, NodeKind}
+use Rattle.yaml_base.proofs.Common.{begins_text}
 use Rattle.yaml_base.proofs.Common.{kind_of_node, ReadsText, node_by_kind, node_at, node_lines, begins_properties, after_properties, text_or_properties}
 use Rattle.yaml_base.proofs.Common.{node_read, Rules, Properties, no_properties, PropertiesRead, properties_read, collection_tag_parsed}
 use Rattle.yaml_base.proofs.stream_lines.{StreamLineLaws.is_closed, StreamLineLaws.OneLine, StreamLineLaws.one_line_both, StreamTidyLaws.lines_after_first}
@@ -29,14 +30,14 @@ pub opened_more : (rules : Rules) (e : ℕ) (lines more : List Line) (kind : Nod
 opened_more rules e lines more kind o = grind (arith)
 
 -- the node that such lines begin is read by its kind
-pub opened_reads : (rules : Rules) (reads : Reads) (reads_text : ReadsText) (properties : Properties) (here first : Bool) (e : ℕ) (lines : List Line)
+pub opened_reads : (rules : Rules) (reads : LinesReader) (reads_text : ReadsText) (properties : Properties) (here first : Bool) (e : ℕ) (lines : List Line)
     (kind : NodeKind) (o : Opened rules e lines kind)
     → node_at rules reads reads_text properties here first lines
     ≡ node_by_kind kind rules reads reads_text properties here first (record { column = e; text = o.head ∷ o.tail }) o.ending o.rest lines
 opened_reads rules reads reads_text properties here first e lines kind o = grind (arith, indented_spaces)
 
 -- no line is blank there
-pub opened_shows : (rules : Rules) (e : ℕ) (lines : List Line) (kind : NodeKind) → Opened rules e lines kind → (begins_blank lines ≡ false)
+pub opened_shows : (rules : Rules) (e : ℕ) (lines : List Line) (kind : NodeKind) → Opened rules e lines kind → (first_line_is_blank lines ≡ false)
     × (without_blank_lines lines ≡ lines)
 opened_shows rules e lines kind o = grind (arith, not_blank)
 
@@ -66,9 +67,9 @@ block_on_line : (rules : Rules) (n e : ℕ) (text : Text) (make : Option Text �
     → node_lines rules (node_read depth rules) reads_text properties true (lines_of rules.breaks12 text) ≡ Some (make properties.anchor tag)
 block_on_line rules n e text make block depth deep reads_text properties tag parsed =
     let lines = lines_of rules.breaks12 text in
-    ap (λ ls. node_at rules (node_read depth rules) reads_text properties true (not (begins_blank lines)) ls)
+    ap (λ ls. node_at rules (node_read depth rules) reads_text properties true (not (first_line_is_blank lines)) ls)
     (opened_shows rules e lines block.kind block.opened).1
-    ∙ block.reads depth deep reads_text properties (not (begins_blank lines)) tag parsed
+    ∙ block.reads depth deep reads_text properties (not (first_line_is_blank lines)) tag parsed
 
 -- Cursors
 

@@ -7,7 +7,7 @@ use Rattle.yaml_base.proofs.Common.{Stream, stream_events, render_document_start
 use Rattle.yaml_base.proofs.Common.{render_documents, first_standing, layout, Body, Piece, bodies_of, Standing, render_properties, is_written_in_flow}
 use Rattle.yaml_base.proofs.Common.{entry_place, render_node, render_nodes, render_pairs, as_item, as_key, as_value, Place, is_undented, entries_column}
 use Rattle.yaml_base.proofs.Common.{has_no_nodes, has_no_pairs, is_simple, is_simple_at, render_place, has_scalar_values, MeaningIsKept, list_layout}
-use Rattle.yaml_base.proofs.Common.{IsAccepted, Encoding, Settings, Effective, effective, directives_in_force, IsTidy, BodiesAreTidy}
+use Rattle.yaml_base.proofs.Common.{IsAccepted, Encoding, Settings, Effective, effective, directives_in_force, BodyIsTidy, BodiesAreTidy}
 use Rattle.std.specs.List.{All}
 use Rattle.yaml_base.{proofs.BreakLaws.breaks-round, proofs.Trees.tree_of-stream_events, specs.Meaning.BodyReads, specs.Meaning.BodyMeans}
 use Rattle.yaml_base.proofs.stream_lines.StreamBytes.{tidy_rendered}
@@ -132,7 +132,7 @@ stream_bodies P stream s all =
 -- Bodies that stand
 
 -- a tidy body that reads as its value, as it is written, stands
-body_stands : (s : Effective) (body : Body) → IsTidy s body → BodyReads s body → BodyStands s body
+body_stands : (s : Effective) (body : Body) → BodyIsTidy s body → BodyReads s body → BodyStands s body
 body_stands s body tidy reads =
     let shown = list_all (is_tidy_character body.style) body.text in
     let deep = has_deep_lines s.breaks12 (suc (unwrap_or body.column 0)) body.text in
@@ -144,7 +144,7 @@ body_stands s body tidy reads =
     }
 
 -- so bodies that are tidy and keep their meaning all stand
-pub bodies_stand : (s : Effective) (bodies : List Body) → All (IsTidy s) bodies → All (BodyMeans s) bodies → All (BodyStands s) bodies
+pub bodies_stand : (s : Effective) (bodies : List Body) → All (BodyIsTidy s) bodies → All (BodyMeans s) bodies → All (BodyStands s) bodies
 bodies_stand s bodies tidy mean = λ k d less. body_stands s (slice_index_or bodies k d) (tidy k d less) (mean k d less).reads
 
 -- the bodies of the roots of an accepted list's documents stand

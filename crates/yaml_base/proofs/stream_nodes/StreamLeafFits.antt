@@ -1,7 +1,8 @@
 -- A node's own text that reads on its lines fits where it stands in a block.
 use Rattle.yaml_base.proofs.Common.{suc, zero, ℕ, ◌+◌, ◌<◌, ◌≤◌, if◌then◌else◌, ◌==◌, Option, None, Some, Bool, false, not, true, ◌&&◌, ◌||◌, List, [], ◌++◌}
 use Rattle.yaml_base.proofs.Common.{◌∷◌, refl, ◌≡◌, ap, ◌∙◌, arith, and_parts, and_from, list_all, Text, space, Cursor, Rendered, Place, is_in_mapping, Tree}
-use Rattle.yaml_base.proofs.Common.{Line, lines_of, without_blank_lines, ends_indicator, belongs_to_entry, Indented, spaces, Reads, begins_text, kind_of_node}
+use Rattle.yaml_base.proofs.Common.{Line, lines_of, without_blank_lines, ends_indicator, belongs_to_entry, Indented, spaces, LinesReader, begins_text}
+use Rattle.yaml_base.proofs.Common.{kind_of_node}
 use Rattle.yaml_base.proofs.Common.{ReadsText, node_by_kind, node_at, begins_properties, text_or_properties, node_read, Rules, no_properties}
 use Rattle.yaml_base.proofs.{stream_lines.StreamLineLaws.is_closed, stream_lines.StreamTidyLaws.lines_after_first, stream_nodes.StreamBlocks.spaces_both}
 use Rattle.yaml_base.proofs.{stream_nodes.StreamFits.WithinColumn, stream_nodes.StreamFits.Fits}
@@ -40,7 +41,7 @@ pub record TextReads (rules : Rules) (column : Option ℕ) (text : Text) (tree :
   pub shows : (head == space) ≡ false
   pub kind : kind_of_node rules (head ∷ first) ≡ begins_text
   pub deeper : (c : ℕ) → column ≡ Some c → AllInside true c rest
-  pub read : (reads : Reads) (at : ℕ) → text_or_properties (begins_properties (head ∷ first)) rules reads column at (head ∷ first) ending rest ≡ Some tree
+  pub read : (reads : LinesReader) (at : ℕ) → text_or_properties (begins_properties (head ∷ first)) rules reads column at (head ∷ first) ending rest ≡ Some tree
 
 -- it reads behind spaces
 text_lines : (rules : Rules) (column : Option ℕ) (text : Text) (tree : Tree) → TextReads rules column text tree → (depth : ℕ) → 1 ≤ depth

@@ -2,9 +2,9 @@
 use Rattle.yaml_base.proofs.Common.{arith, ℕ, ◌+◌, if◌then◌else◌, ◌==◌, option_map, Option, None, Some, length, Bool, false, not, true, ◌&&◌, ◌||◌, List, []}
 use Rattle.yaml_base.proofs.Common.{◌++◌, ◌∷◌, refl, ◌≡◌, append-nil, append_assoc, ap, sym, ◌∙◌, and_parts, false≢true, Text, space, ScalarStyle}
 use Rattle.yaml_base.proofs.Common.{is_read_break, ParsedTag, is_plain, scalar_tree, Line, lines_of, text_of_lines, ends_indicator, begins_with_indicator}
-use Rattle.yaml_base.proofs.Common.{all_deeper, spaces, key_from, Reads, kind_of_text, text_by_kind, text_read, begins_text, not-true}
+use Rattle.yaml_base.proofs.Common.{all_deeper, spaces, key_from, LinesReader, kind_of_text, text_by_kind, text_read, begins_text, not-true}
 use Rattle.yaml_base.proofs.Common.{kind_of_node, node_lines, begins_properties, after_properties, text_or_properties, Rules, Properties, properties_read}
-use Rattle.yaml_base.proofs.Common.{standing_of, scalar_parsed, nat_tests}
+use Rattle.yaml_base.proofs.Common.{stood_in_style, scalar_parsed, nat_tests}
 use Rattle.yaml_base.proofs.{stream_flow.StreamPropertyWords.lead, stream_lines.StreamClosed.lines_behind, stream_lines.StreamLineLaws.text_of_lines_of}
 use Rattle.yaml_base.proofs.{stream_nodes.StreamBegun.lead_line, stream_nodes.StreamBlocks.spaces_both, stream_nodes.StreamLeads.lead_spaces}
 use Rattle.yaml_base.proofs.{stream_nodes.StreamLeads.lead_then, stream_nodes.StreamLeafFits.TextReads, stream_nodes.StreamStands.tag_meant}
@@ -68,7 +68,7 @@ pub record OwnText (rules : Rules) (column : Option ℕ) (text : Text) (style : 
       → key_from rules (lead anchor tag) (head ∷ first_text (lines_of rules.breaks12 tail)) ≡ None
   pub deeper : (c : ℕ) → column ≡ Some c → AllInside true c (lines_after_first (lines_of rules.breaks12 tail))
   pub read : (properties : Properties)
-      → text_by_kind (kind_of_text (head ∷ [])) rules column properties (head ∷ tail) ≡ scalar_parsed properties (standing_of style) (Some value)
+      → text_by_kind (kind_of_text (head ∷ [])) rules column properties (head ∷ tail) ≡ scalar_parsed properties (stood_in_style style) (Some value)
 
 -- its first line begins a text, behind properties or without them
 pub own_kind : (rules : Rules) (anchor tag : Option Text) (parsed : Option ParsedTag) (c : ℕ) (f : Text) → Given rules anchor tag parsed
@@ -79,7 +79,7 @@ own_kind rules anchor tag parsed c f given no_item no_key keyless = grind (arith
 -- Properties
 
 -- what stands behind spaces in the place of properties is read with them
-behind_reads : (rules : Rules) (reads : Reads) (column : Option ℕ) (properties : Properties) (k c : ℕ) (f ending : Text) (rest : List Line)
+behind_reads : (rules : Rules) (reads : LinesReader) (column : Option ℕ) (properties : Properties) (k c : ℕ) (f ending : Text) (rest : List Line)
     → (c == space) ≡ false
     → kind_of_node rules (c ∷ f) ≡ begins_text
     → node_lines rules reads (λ at. text_read rules column properties) properties false (record { text = spaces k ++ (c ∷ f); ending = ending } ∷ rest)
@@ -91,7 +91,8 @@ pub own_shows : (c : ℕ) → begins_content (c ∷ []) ≡ true → ((c == spac
 own_shows c h = grind (arith, false≢true)
 
 -- a text behind properties or without them is read with these
-pub parsed_reads : (rules : Rules) (reads : Reads) (column : Option ℕ) (at : ℕ) (anchor tag : Option Text) (parsed : Option ParsedTag) (c : ℕ) (f ending : Text)
+pub parsed_reads : (rules : Rules) (reads : LinesReader) (column : Option ℕ) (at : ℕ) (anchor tag : Option Text) (parsed : Option ParsedTag) (c : ℕ)
+    (f ending : Text)
     (rest : List Line)
     → Given rules anchor tag parsed → begins_content (c ∷ f) ≡ true → kind_of_node rules (c ∷ f) ≡ begins_text
     → text_or_properties (begins_properties (lead anchor tag ++ (c ∷ f))) rules reads column at (lead anchor tag ++ (c ∷ f)) ending rest

@@ -12,7 +12,7 @@ use Rattle.yaml_base.proofs.stream_nodes.StreamFits.{size, pairs_size, Fits, tre
 use Rattle.yaml_base.proofs.stream_nodes.StreamPairs.{KeyFits, key_place, value_place, colon_cursor, simple_key, indicated_key, simple_value, indicated_value}
 use Rattle.yaml_base.proofs.stream_nodes.StreamPairs.{pair_text, pairs_text, entries_of_pair, pair_entries, PairFits, PairsFit}
 use Rattle.yaml_base.proofs.stream_nodes.StreamPairs.{keyed_lines}
-use Rattle.yaml_base.specs.streams.StreamNodes.{HeldPairs, with_key, with_value, simple_pair, entry_by_kind, entry_at, entry_read, no_pairs_held}
+use Rattle.yaml_base.specs.streams.StreamNodes.{HeldPairs, with_key, with_held_value, simple_pair, entry_by_kind, entry_at, entry_read, no_pairs_held}
 use Rattle.yaml_base.proofs.stream_lines.StreamLineLaws.{unbroken_line}
 
 -- Reading
@@ -47,8 +47,8 @@ colon rules n own tree role e fit depth deep pairs key =
     ap (entry_read rules (node_read depth rules) e (held pairs (Some key))) (indicated_lines rules.breaks12 e 0x3A (closed own) o (unbroken_line rules.breaks12 (0x3A ∷ []) refl))
     ∙ ap (entry_at rules (node_read depth rules) e o.ending o.rest before) (past_spaces e (0x3A ∷ o.head))
     ∙ ap (λ x. entry_by_kind (if x then value_entry else simple_entry) rules (node_read depth rules) e o.ending o.rest before (0x3A ∷ o.head)) o.symbol
-    ∙ ap (λ ls. with_value pairs (Some key) (node_read depth rules true (Some e) ls)) (sym (blanked_lines rules.breaks12 (suc e) (closed own) o))
-    ∙ ap (with_value pairs (Some key)) (fit.reads depth deep true (suc e) (λ h. (refl, omega arith)))
+    ∙ ap (λ ls. with_held_value pairs (Some key) (node_read depth rules true (Some e) ls)) (sym (blanked_lines rules.breaks12 (suc e) (closed own) o))
+    ∙ ap (with_held_value pairs (Some key)) (fit.reads depth deep true (suc e) (λ h. (refl, omega arith)))
 
 -- an entry that begins with a simple key
 keyed : (rules : Rules) (text : Text) (key_tree : Tree) (n : ℕ) (own : Rendered) (tree : Tree) (role : Role) (e : ℕ) (cursor : Cursor)
@@ -66,9 +66,9 @@ keyed rules text key_tree n own tree role e cursor key fit w i depth deep pairs 
     ∙ ap (λ k. entry_by_kind k rules (node_read depth rules) e o.ending o.rest before line) (key.simple o.head o.symbol)
     ∙ ap (option_and_then (λ (found : SimpleKey). simple_pair (node_read depth rules) e o.ending o.rest (with_key before (Some found.key)) (Some found)))
     (key.cut o.head o.symbol)
-    ∙ ap (λ ls. with_value pairs (Some key_tree) (node_read depth rules false (Some e) ls))
+    ∙ ap (λ ls. with_held_value pairs (Some key_tree) (node_read depth rules false (Some e) ls))
     (sym (blanked_lines rules.breaks12 (suc (e + length text)) (closed own) o))
-    ∙ ap (with_value pairs (Some key_tree)) (fit.reads depth deep false (suc (e + length text)) (λ h. absurd (false≢true (sym i ∙ h))))
+    ∙ ap (with_held_value pairs (Some key_tree)) (fit.reads depth deep false (suc (e + length text)) (λ h. absurd (false≢true (sym i ∙ h))))
 
 -- no cursor stands in indentation behind the `:` of a simple key
 pub colon_ends : (cursor : Cursor) → (colon_cursor cursor).indention ≡ false

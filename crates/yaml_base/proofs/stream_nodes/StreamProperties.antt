@@ -2,9 +2,9 @@
 use Rattle.yaml_base.proofs.Common.{nat_tests, suc, zero, ℕ, ◌+◌, ◌==◌, option_and_then, Option, None, Some, length, Bool, false, not, true, ◌&&◌, ◌||◌, List}
 use Rattle.yaml_base.proofs.Common.{[], ◌++◌, ◌∷◌, refl, ◌≡◌, eqb-true, length-append, append-nil, append_assoc, ap, sym, ◌∙◌, arith, and_parts, or_parts}
 use Rattle.yaml_base.proofs.Common.{false≢true, list_all, list_any, Text, space, is_alpha, is_blank, is_break, TagDirective, ParsedTag, CutText, tag_parsed}
-use Rattle.yaml_base.proofs.Common.{ends_indicator, Indented, indented_step, indented, spaces, Rules, no_properties, PropertiesRead, cut_before_space}
+use Rattle.yaml_base.proofs.Common.{ends_indicator, Indented, indented_step, past_indentation, spaces, Rules, no_properties, PropertiesRead, cut_before_space}
 use Rattle.yaml_base.proofs.Common.{name_read, anchor_of_word, tag_first, properties_read, word_after, word_read, not-true}
-use Rattle.yaml_base.{proofs.stream_lines.StreamCuts.none_not_some, specs.streams.StreamScalars.word_step, specs.streams.StreamScalars.anchor_first}
+use Rattle.yaml_base.{proofs.stream_lines.StreamCuts.none_not_some, specs.streams.StreamScalars.cut_word_step, specs.streams.StreamScalars.anchor_first}
 use Rattle.yaml_base.proofs.AllPass.{all_pass}
 
 -- a text holds a blank or a break
@@ -56,10 +56,10 @@ has_no_space text = list_all (λ c. not (c == space)) text
 pub word_whole : (word rest : Text) → has_no_space word ≡ true → ends_indicator rest ≡ true
     → cut_before_space (word ++ rest) ≡ record { prefix = word; rest = rest }
 word_whole [] [] h ends = refl
-word_whole [] (c ∷ rest) h ends = ap (λ x. word_step x c rest (cut_before_space rest)) ends
+word_whole [] (c ∷ rest) h ends = ap (λ x. cut_word_step x c rest (cut_before_space rest)) ends
 word_whole (c ∷ word) rest h ends =
     let parts = and_parts (not (c == space)) (has_no_space word) h in
-    ap (λ x. word_step x c (word ++ rest) (cut_before_space (word ++ rest))) (not-true (c == space) parts.0)
+    ap (λ x. cut_word_step x c (word ++ rest) (cut_before_space (word ++ rest))) (not-true (c == space) parts.0)
     ∙ ap (λ (cut : CutText). let made : CutText = record { prefix = c ∷ cut.prefix; rest = cut.rest } in made) (word_whole word rest parts.1 ends)
 
 -- a letter is no space
@@ -96,10 +96,10 @@ spaces_both (suc m) n t =
     let e : suc (m + n) ≡ suc m + n = omega arith in ap (λ s. space ∷ s) (spaces_both m n t) ∙ ap (λ k. spaces k ++ t) e
 
 -- what stands after spaces, where it begins with none
-pub content_indented : (n : ℕ) (t : Text) → begins_content t ≡ true → indented (spaces n ++ t) ≡ record { column = n; text = t }
+pub content_indented : (n : ℕ) (t : Text) → begins_content t ≡ true → past_indentation (spaces n ++ t) ≡ record { column = n; text = t }
 content_indented zero [] h = refl
 content_indented zero (c ∷ t) h =
-    ap (λ x. indented_step x (c ∷ t) (indented t)) (not-true (c == space) (and_parts (not (c == space)) (not (c == 0x26) && not (c == 0x21)) h).0)
+    ap (λ x. indented_step x (c ∷ t) (past_indentation t)) (not-true (c == space) (and_parts (not (c == space)) (not (c == 0x26) && not (c == 0x21)) h).0)
 content_indented (suc n) t h = ap (λ (after : Indented). indented_step true (spaces (suc n) ++ t) after) (content_indented n t h)
 
 -- Properties
@@ -134,17 +134,17 @@ no_anchor n rest h = grind (arith, nat_tests, and_parts, not-true)
 -- what follows the reading of an anchor
 abbrev then_tag : List TagDirective → Option PropertiesRead → Option PropertiesRead
 then_tag directives found =
-    option_and_then (λ read. let after : Indented = indented read.text in tag_first directives read.properties.anchor after.column after.text) found
+    option_and_then (λ read. let after : Indented = past_indentation read.text in tag_first directives read.properties.anchor after.column after.text) found
 
 -- where a tag begins the text after spaces
 tag_content : (directives : List TagDirective) (n : ℕ) (tag rest : Text) (parsed : ParsedTag) → WrittenTag directives tag parsed
-    → indented (spaces n ++ (tag ++ rest)) ≡ record { column = n; text = tag ++ rest }
+    → past_indentation (spaces n ++ (tag ++ rest)) ≡ record { column = n; text = tag ++ rest }
 tag_content directives n tag rest parsed written =
-    ap (λ t. indented (spaces n ++ (t ++ rest))) written.begins
+    ap (λ t. past_indentation (spaces n ++ (t ++ rest))) written.begins
     ∙ spaced n (written.rest ++ rest)
     ∙ ap (λ t. let made : Indented = record { column = n; text = t ++ rest } in made) (sym written.begins)
   where
-    spaced : (n : ℕ) (t : Text) → indented (spaces n ++ (0x21 ∷ t)) ≡ record { column = n; text = 0x21 ∷ t }
+    spaced : (n : ℕ) (t : Text) → past_indentation (spaces n ++ (0x21 ∷ t)) ≡ record { column = n; text = 0x21 ∷ t }
     spaced zero t = refl
     spaced (suc n) t = ap (λ (after : Indented). indented_step true (spaces (suc n) ++ (0x21 ∷ t)) after) (spaced n t)
 
@@ -156,7 +156,7 @@ pub properties_parsed : (directives : List TagDirective) (anchor tag : Option Te
 properties_parsed directives None None None n rest named tagged own ends = grind (arith, no_anchor, content_indented, no_tag)
 properties_parsed directives (Some name) None None n rest named tagged own ends =
     ap (then_tag directives) (with_anchor name (spaces n ++ rest) named (ends refl))
-    ∙ ap (λ t. let after : Indented = indented t in tag_first directives (Some name) after.column after.text) (spaces_both (suc (length name)) n rest)
+    ∙ ap (λ t. let after : Indented = past_indentation t in tag_first directives (Some name) after.column after.text) (spaces_both (suc (length name)) n rest)
     ∙ ap (λ (after : Indented). tag_first directives (Some name) after.column after.text) (content_indented (suc (length name) + n) rest own)
     ∙ no_tag directives (Some name) (suc (length name) + n) rest own
 properties_parsed directives None (Some tag) (Some parsed) n rest named tagged own ends =
@@ -173,7 +173,7 @@ properties_parsed directives None (Some tag) (Some parsed) n rest named tagged o
 properties_parsed directives (Some name) (Some tag) (Some parsed) n rest named tagged own ends =
     ap (λ t. then_tag directives (anchor_first (0x26 ∷ t))) (append_assoc name (space ∷ tag) (spaces n ++ rest))
     ∙ ap (then_tag directives) (with_anchor name (space ∷ (tag ++ (spaces n ++ rest))) named refl)
-    ∙ ap (λ t. let after : Indented = indented t in tag_first directives (Some name) after.column after.text)
+    ∙ ap (λ t. let after : Indented = past_indentation t in tag_first directives (Some name) after.column after.text)
     (space_after (suc (length name)) (tag ++ (spaces n ++ rest)))
     ∙ ap (λ (after : Indented). tag_first directives (Some name) after.column after.text)
     (tag_content directives (suc (suc (length name))) tag (spaces n ++ rest) parsed tagged)

@@ -4,7 +4,8 @@ use Rattle.yaml_base.proofs.Common.{true≢false, and_parts, Text, Cursor, Scala
 use Rattle.yaml_base.proofs.Common.{TagDirective, scalar_tag, scalar_node, render_body, allowed_under, style_asked_at, choice_of, Place, deeper, is_simple_at}
 use Rattle.yaml_base.proofs.Common.{read_in_style}
 use Rattle.yaml_base.proofs.Common.{Effective, is_tidy, Allowances, is_empty, allows_literal, is_plain, is_block, requested_style, fits_plain}
-use Rattle.yaml_base.proofs.{Charsets.literal_still, Charsets.literal_allowed, stream_flow.StreamFlowScalars.rules_of, stream_flow.StreamFlowScalars.bare_not_plain}
+use Rattle.yaml_base.proofs.{Charsets.literal_still, Charsets.literal_allowed, stream_flow.StreamFlowScalars.rules_of}
+use Rattle.yaml_base.proofs.{stream_flow.StreamFlowScalars.bare_not_plain}
 use Rattle.yaml_base.proofs.{stream_flow.StreamFlowWords.scalar_in, stream_lines.StreamBlockEnds.block_fitting}
 use Rattle.yaml_base.proofs.{stream_nodes.StreamEmptyFits.empty_fits, stream_nodes.StreamFits.Fits, stream_nodes.StreamLeaves.block_place}
 use Rattle.yaml_base.proofs.{stream_nodes.StreamLeaves.ScalarsFit, stream_nodes.StreamProperties.IsNamed, stream_nodes.StreamStands.TagStands}

@@ -4,7 +4,7 @@ use Rattle.yaml_base.proofs.Common.{ℕ, if◌then◌else◌, Option, None, Some
 use Rattle.yaml_base.proofs.Common.{collection_tag, Node, alias_node, scalar_node, Nodes, sequence_node, Pairs, mapping_node, no_nodes, nodes_and, no_pairs}
 use Rattle.yaml_base.proofs.Common.{pairs_and, Body, render_properties, render_separation, render_body, choice_of, body_at, is_written_in_flow, entry_place}
 use Rattle.yaml_base.proofs.Common.{as_item, as_key, as_value, Place, is_undented, deeper, entries_column, has_no_nodes, has_no_pairs, is_simple, is_simple_at}
-use Rattle.yaml_base.proofs.Common.{render_place, read_in_style, Effective, spelling, spelled, IsTidy, ParsedTag, bare_parsed, name_parsed, name_read}
+use Rattle.yaml_base.proofs.Common.{render_place, read_in_style, Effective, spelling, spelled, BodyIsTidy, ParsedTag, bare_parsed, name_parsed, name_read}
 use Rattle.yaml_base.proofs.stream_nodes.StreamProperties.{WrittenTag, IsNamed}
 use Rattle.yaml_base.proofs.stream_nodes.StreamTexts.{node_own, items_own, pairs_own}
 
@@ -52,7 +52,7 @@ abbrev mutual
 
 -- a body is tidy, and its text reads as its value
 pub record BodyStands (s : Effective) (body : Body) : Type 0 where
-  pub tidy : IsTidy s body
+  pub tidy : BodyIsTidy s body
   pub reads : read_in_style body.style s.breaks12 body.in_flow body.column body.text ≡ Some body.value
 
 -- the body that is rendered for a scalar from a cursor after its place's indicators on

@@ -5,12 +5,12 @@ use Rattle.yaml_base.specs.Event.{Event, stream_start, stream_end}
 use Rattle.yaml_base.specs.reading.Content.{DocumentContent}
 use Rattle.yaml_base.specs.reading.CanonicalReader.{canonical_content}
 use Rattle.yaml_base.specs.graphs.Meetings.{Graph, document_event_list}
-use Rattle.yaml_base.specs.graphs.Unfolding.{IsDocument, ContentUnfolds}
+use Rattle.yaml_base.specs.graphs.Unfolding.{IsWholeGraph, ContentUnfolds}
 
 -- a stream's events are those of documents with these graphs
 pub record AreDumped (graphs : List Graph) (events : List Event) : Type 0 where
   pub encoding : Option Encoding
-  pub documents : All IsDocument graphs
+  pub documents : All IsWholeGraph graphs
   pub parts : stream_start encoding ∷ (flat_map document_event_list graphs ++ stream_end ∷ []) ≡ events
 
 -- a document's content unfolds a graph but for its styles, and has its version and directives

@@ -62,7 +62,7 @@ abbrev pub dumped_text : Node → Text
 dumped_text root = codes "---\n" ++ (node_text 0 root ++ line_feed ∷ [])
 
 -- without version and directives, and with an end that isn't written
-pub record IsBare (start : DocumentStart) (end_implicit : Bool) : Type 0 where
+pub record IsBareDocument (start : DocumentStart) (end_implicit : Bool) : Type 0 where
   pub version : start.version ≡ None
   pub directives : start.directives ≡ []
   pub implicit : end_implicit ≡ true

@@ -79,8 +79,8 @@ steps_from (suc depth) graph before number =
     ]
 
 -- the depth-first walk from node 1: no more nodes can be entered inside each other than there are
-abbrev pub steps : Graph → List Step
-steps graph = steps_from (suc (length graph.nodes)) graph [] 1
+abbrev pub graph_steps : Graph → List Step
+graph_steps graph = steps_from (suc (length graph.nodes)) graph [] 1
 
 -- the node that a step meets
 abbrev pub node_met : Step → Option ℕ
@@ -90,7 +90,7 @@ node_met (meets_again number) = Some number
 
 -- the nodes in the order of the walk's meetings
 abbrev pub meetings : Graph → List ℕ
-meetings graph = filter_map node_met (steps graph)
+meetings graph = filter_map node_met (graph_steps graph)
 
 -- ---- anchors
 
@@ -169,6 +169,6 @@ step_events graph walk (meets_again number) = alias (unwrap_or (anchor_of walk n
 -- the events of a document; a document without nodes has none
 abbrev pub document_event_list : Graph → List Event
 document_event_list graph =
-    let walk = steps graph in
+    let walk = graph_steps graph in
     if length graph.nodes == 0 then []
     else document_start graph.start ∷ (flat_map (step_events graph walk) walk ++ document_end graph.end_implicit ∷ [])

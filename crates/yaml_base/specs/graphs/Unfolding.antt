@@ -21,15 +21,15 @@ use Rattle.yaml_base.specs.graphs.Meetings.{document_event_list}
 -- ---- what trees of events and contents have in common
 
 -- a kind, with a style where styles count
-pub data NodeKind : Type 0 where
-  scalar_kind : Text → Option ScalarStyle → NodeKind
-  sequence_kind : Option CollectionStyle → NodeKind
-  mapping_kind : Option CollectionStyle → NodeKind
+pub data StyledKind : Type 0 where
+  scalar_kind : Text → Option ScalarStyle → StyledKind
+  sequence_kind : Option CollectionStyle → StyledKind
+  mapping_kind : Option CollectionStyle → StyledKind
 
 -- what a node shows by itself: its tag and its kind
 pub record Label : Type 0 where
   pub tag : Option Text
-  pub kind : NodeKind
+  pub kind : StyledKind
 
 -- an alias, or a node with its anchor, its label and its children in order; in a mapping a key stands before its value
 mutual
@@ -107,7 +107,7 @@ numbers_at none_placed = []
 numbers_at (placed_and before last) = numbers_at before ++ number_at last ∷ []
 
 -- the label of a graph's node, with its style or without
-abbrev pub kind_held : Bool → Held → NodeKind
+abbrev pub kind_held : Bool → Held → StyledKind
 kind_held styled (scalar_held value style) = scalar_kind value (if styled then Some style else None)
 kind_held styled (sequence_held items style) = sequence_kind (if styled then Some style else None)
 kind_held styled (mapping_held pairs style) = mapping_kind (if styled then Some style else None)
@@ -162,15 +162,15 @@ is_occurrence_of number (node_occurrence anchor other) = number == other
 is_occurrence_of number (alias_occurrence name other) = false
 
 -- an alias has the number of the one node that carries its anchor, which begins before it
-abbrev pub IsNamed : List Occurrence → List Occurrence → Occurrence → Type 0
-IsNamed all before (alias_occurrence name number) =
+abbrev pub NamesItsNode : List Occurrence → List Occurrence → Occurrence → Type 0
+NamesItsNode all before (alias_occurrence name number) =
     (count_by (has_anchor name) all ≡ 1) × Contains before (node_occurrence (Some name) number)
-IsNamed all before (node_occurrence anchor number) = ⊤
+NamesItsNode all before (node_occurrence anchor number) = ⊤
 
 -- each alias among some occurrences, after those before them
-abbrev pub AreNamed : List Occurrence → List Occurrence → List Occurrence → Type 0
-AreNamed all before [] = ⊤
-AreNamed all before (first ∷ rest) = IsNamed all before first × AreNamed all (before ++ first ∷ []) rest
+abbrev pub NameTheirNodes : List Occurrence → List Occurrence → List Occurrence → Type 0
+NameTheirNodes all before [] = ⊤
+NameTheirNodes all before (first ∷ rest) = NamesItsNode all before first × NameTheirNodes all (before ++ first ∷ []) rest
 
 -- ---- unfolding
 
@@ -185,7 +185,7 @@ pub record Unfolds (styled : Bool) (graph : Graph) (shape : Shape) : Type 0 wher
   pub placed : Placed
   pub root : number_at placed ≡ 1
   pub fits : HasShape styled graph placed shape
-  pub named : AreNamed (occurrences placed) [] (occurrences placed)
+  pub named : NameTheirNodes (occurrences placed) [] (occurrences placed)
   pub once : (number : ℕ) → IsReached graph number → count_by (is_occurrence_of number) (occurrences placed) ≡ 1
   pub no_other : (number : ℕ) → (IsReached graph number → ⊥) → count_by (is_occurrence_of number) (occurrences placed) ≡ 0
 
@@ -208,10 +208,10 @@ pub record EventsUnfold (graph : Graph) (events : List Event) : Type 0 where
   pub unfolds : TreeUnfolds graph document.root
 
 -- a graph with nodes, each of whose numbers names one of them
-pub record IsDocument (graph : Graph) : Type 0 where
+pub record IsWholeGraph (graph : Graph) : Type 0 where
   pub whole : is_whole graph ≡ true
   pub has_nodes : (length graph.nodes == 0) ≡ false
 
 -- the events of each such graph are those of a document that unfolds it
 abbrev pub DocumentsUnfold : Type 0
-DocumentsUnfold = (graph : Graph) → IsDocument graph → EventsUnfold graph (document_event_list graph)
+DocumentsUnfold = (graph : Graph) → IsWholeGraph graph → EventsUnfold graph (document_event_list graph)

@@ -46,11 +46,11 @@ pub data OpenContent : Type 0 where
 
 -- what may come next in a document: a node after these properties, an entry or the collection's end, the comma after
 -- an entry, or the sign between a key and its value
-pub data Awaited : Type 0 where
-  node_awaited : Option Text → Option ParsedTag → Awaited
-  entry_awaited : Awaited
-  comma_awaited : Awaited
-  value_awaited : Awaited
+pub data CanonicalAwaited : Type 0 where
+  node_awaited : Option Text → Option ParsedTag → CanonicalAwaited
+  entry_awaited : CanonicalAwaited
+  comma_awaited : CanonicalAwaited
+  value_awaited : CanonicalAwaited
 
 -- a document's directives (YAML 1.1, section 7.1 Directives, l-directive)
 pub record Head : Type 0 where
@@ -62,7 +62,7 @@ pub record Head : Type 0 where
 pub data Reading : Type 0 where
   failed : Reading
   outside : List DocumentContent → Head → (may_end : Bool) → Reading
-  within : List DocumentContent → Head → List OpenContent → Awaited → Reading
+  within : List DocumentContent → Head → List OpenContent → CanonicalAwaited → Reading
 
 -- nothing said before `---` (YAML 1.1, section 7.1 Directives, l-directive)
 abbrev pub no_head : Head
@@ -99,29 +99,35 @@ with_open documents head levels opened (Some bare_parsed) = failed
 
 -- where a node is awaited: an anchor, then a tag, then the node; an alias has neither
 -- (YAML 1.1, sections 8.4 Alias Nodes and 8.5.1 Flow Nodes, c-ns-alias-node, ns-flow-node(n,c))
-abbrev pub node_read : List DocumentContent → Head → List OpenContent → Option Text → Option ParsedTag → Token → Reading
-node_read documents head levels None None (anchor_token name) = within documents head levels (node_awaited (Some name) None)
-node_read documents head levels given None (tag_token text) = with_tag documents head levels given (tag_read head.directives text)
-node_read documents head levels None None (alias_token name) = with_content documents head levels (alias_content name)
-node_read documents head levels given read (scalar_token value) = with_content documents head levels (scalar_content given (scalar_tag_read read) value)
-node_read documents head levels given read opens_sequence = with_open documents head levels (λ named. open_sequence given named no_contents) read
-node_read documents head levels given read opens_mapping = with_open documents head levels (λ named. open_mapping given named no_content_pairs None) read
-node_read documents head levels _ _ _ = failed
+abbrev pub canonical_node_read : List DocumentContent → Head → List OpenContent → Option Text → Option ParsedTag → Token → Reading
+canonical_node_read documents head levels None None (anchor_token name) = within documents head levels (node_awaited (Some name) None)
+canonical_node_read documents head levels given None (tag_token text) = with_tag documents head levels given (tag_read head.directives text)
+canonical_node_read documents head levels None None (alias_token name) = with_content documents head levels (alias_content name)
+canonical_node_read documents head levels given read (scalar_token value) =
+    with_content documents head levels (scalar_content given (scalar_tag_read read) value)
+canonical_node_read documents head levels given read opens_sequence = with_open documents head levels (λ named. open_sequence given named no_contents) read
+canonical_node_read documents head levels given read opens_mapping =
+    with_open documents head levels (λ named. open_mapping given named no_content_pairs None) read
+canonical_node_read documents head levels _ _ _ = failed
 
 -- where an entry is awaited: the innermost collection ends, or another entry begins
 -- (YAML 1.1, sections 10.1.1 Flow Sequences and 10.2.1 Flow Mappings, c-flow-sequence(n,c), c-flow-mapping(n,c))
-abbrev pub entry_read : List DocumentContent → Head → List OpenContent → Token → Reading
-entry_read documents head (open_sequence given named items ∷ levels) closes_sequence = with_content documents head levels (sequence_content given named items)
-entry_read documents head (open_sequence given named items ∷ levels) token = node_read documents head (open_sequence given named items ∷ levels) None None token
-entry_read documents head (open_mapping given named pairs None ∷ levels) closes_mapping = with_content documents head levels (mapping_content given named pairs)
-entry_read documents head (open_mapping given named pairs None ∷ levels) key_token = within documents head (open_mapping given named pairs None ∷ levels)
+abbrev pub canonical_entry_read : List DocumentContent → Head → List OpenContent → Token → Reading
+canonical_entry_read documents head (open_sequence given named items ∷ levels) closes_sequence =
+    with_content documents head levels (sequence_content given named items)
+canonical_entry_read documents head (open_sequence given named items ∷ levels) token =
+    canonical_node_read documents head (open_sequence given named items ∷ levels) None None token
+canonical_entry_read documents head (open_mapping given named pairs None ∷ levels) closes_mapping =
+    with_content documents head levels (mapping_content given named pairs)
+canonical_entry_read documents head (open_mapping given named pairs None ∷ levels) key_token =
+    within documents head (open_mapping given named pairs None ∷ levels)
     (node_awaited None None)
-entry_read documents head _ _ = failed
+canonical_entry_read documents head _ _ = failed
 
 -- a token within a document
-abbrev pub within_read : List DocumentContent → Head → List OpenContent → Awaited → Token → Reading
-within_read documents head levels (node_awaited given read) token = node_read documents head levels given read token
-within_read documents head levels entry_awaited token = entry_read documents head levels token
+abbrev pub within_read : List DocumentContent → Head → List OpenContent → CanonicalAwaited → Token → Reading
+within_read documents head levels (node_awaited given read) token = canonical_node_read documents head levels given read token
+within_read documents head levels entry_awaited token = canonical_entry_read documents head levels token
 within_read documents head levels comma_awaited comma = within documents head levels entry_awaited
 within_read documents head levels value_awaited value_token = within documents head levels (node_awaited None None)
 within_read documents head levels _ _ = failed
@@ -149,13 +155,13 @@ without_head documents None [] = Some documents
 without_head documents _ _ = None
 
 -- the stream may end outside documents, where no directives await one (YAML 1.1, section 7.4 Complete Stream, l-yaml-stream)
-abbrev pub documents_at_end : Reading → Option (List DocumentContent)
-documents_at_end (outside documents head may_end) = without_head documents head.version head.directives
-documents_at_end _ = None
+abbrev pub canonical_documents_at_end : Reading → Option (List DocumentContent)
+canonical_documents_at_end (outside documents head may_end) = without_head documents head.version head.directives
+canonical_documents_at_end _ = None
 
 -- the documents of a list of tokens (YAML 1.1, section 7.4 Complete Stream, l-yaml-stream)
 abbrev pub documents_read : List Token → Option (List DocumentContent)
-documents_read tokens = documents_at_end (fold token_read (outside [] no_head false) tokens)
+documents_read tokens = canonical_documents_at_end (fold token_read (outside [] no_head false) tokens)
 
 -- ---- the whole
 

@@ -41,20 +41,20 @@ pub data TokenPlace : Type 0 where
   in_marker : (symbol more : ℕ) → TokenPlace
 
 -- the tokens that a character completes, and the place after it
-pub record TokenStep : Type 0 where
+pub record CanonicalStep : Type 0 where
   pub tokens : List Token
   pub place : TokenPlace
 
 -- a character that ends no token
-abbrev pub goes_to : TokenPlace → TokenStep
-goes_to place = record { tokens = []; place = place }
+abbrev pub moves_to : TokenPlace → CanonicalStep
+moves_to place = record { tokens = []; place = place }
 
 -- a character that ends a token
-abbrev pub completes : Token → TokenStep
-completes token = record { tokens = token ∷ []; place = free }
+abbrev pub ends_token : Token → CanonicalStep
+ends_token token = record { tokens = token ∷ []; place = free }
 
 -- a token, and then what a turn completes
-abbrev pub completes_before : Token → TokenStep → TokenStep
+abbrev pub completes_before : Token → CanonicalStep → CanonicalStep
 completes_before token next = record { tokens = token ∷ next.tokens; place = next.place }
 
 -- a name has at least one character (YAML 1.1, section 8.1 Node Anchors, c-ns-anchor-property)
@@ -68,8 +68,8 @@ alias_named [] = bad
 alias_named (c ∷ rest) = alias_token (c ∷ rest)
 
 -- the words of a directive's line (YAML 1.1, section 7.1 Directives, l-directive)
-abbrev pub words : Text → List Text
-words line = filter (λ word. not (length word == 0)) (slice_split is_blank line)
+abbrev pub words_of_line : Text → List Text
+words_of_line line = filter (λ word. not (length word == 0)) (slice_split is_blank line)
 
 -- `%YAML 1.1` and `%YAML 1.2` (YAML 1.1, section 7.1.1 "YAML" Directive, ns-yaml-version; 1.2 is libyaml's)
 abbrev pub version_named : Text → Token
@@ -102,51 +102,51 @@ indicator_token c =
 
 -- between tokens: blanks and breaks are free, and a first character tells what begins
 -- (YAML 1.1, section 6.3 Separation Spaces, s-separate(n,c), in canonical streams)
-abbrev pub step_between_tokens : Bool → ℕ → TokenStep
+abbrev pub step_between_tokens : Bool → ℕ → CanonicalStep
 step_between_tokens breaks12 c =
-    if is_blank c || is_read_break breaks12 c then goes_to free
-    else (if c == 0x25 then goes_to (in_line (c ∷ []))
-    else (if c == 0x26 then goes_to (in_anchor [])
-    else (if c == 0x2A then goes_to (in_alias [])
-    else (if c == 0x21 then goes_to (in_tag (c ∷ []))
-    else (if c == 0x22 then goes_to (in_quotes between [])
-    else (if c == 0x2D || c == 0x2E then goes_to (in_marker c 1) else completes (indicator_token c)))))))
+    if is_blank c || is_read_break breaks12 c then moves_to free
+    else (if c == 0x25 then moves_to (in_line (c ∷ []))
+    else (if c == 0x26 then moves_to (in_anchor [])
+    else (if c == 0x2A then moves_to (in_alias [])
+    else (if c == 0x21 then moves_to (in_tag (c ∷ []))
+    else (if c == 0x22 then moves_to (in_quotes between [])
+    else (if c == 0x2D || c == 0x2E then moves_to (in_marker c 1) else ends_token (indicator_token c)))))))
 
 -- between quotes it is the reader of double quotes that goes on (YAML 1.1, section 9.1.1 Double Quoted, c-double-quoted(n,c))
-abbrev pub quotes_step : List FoldUnit → QuoteStep → TokenStep
-quotes_step units (goes_on place) = goes_to (in_quotes place units)
-quotes_step units (gives unit) = goes_to (in_quotes between (units ++ unit ∷ []))
-quotes_step units ends_quotes = completes (scalar_token (folding_read units))
-quotes_step units has_no_reading = completes bad
+abbrev pub quotes_step : List FoldUnit → QuoteStep → CanonicalStep
+quotes_step units (goes_on place) = moves_to (in_quotes place units)
+quotes_step units (gives unit) = moves_to (in_quotes between (units ++ unit ∷ []))
+quotes_step units ends_quotes = ends_token (scalar_token (folding_read units))
+quotes_step units has_no_reading = ends_token bad
 
 -- one more `-` or `.` of a document marker, of which so many are still to come
 -- (YAML 1.1, section 7.2 Document Boundary Markers, c-document-start, c-document-end)
-abbrev pub marker_step : (symbol more : ℕ) → TokenStep
-marker_step symbol zero = completes (marker_token symbol)
-marker_step symbol (suc more) = goes_to (in_marker symbol more)
+abbrev pub marker_step : (symbol more : ℕ) → CanonicalStep
+marker_step symbol zero = ends_token (marker_token symbol)
+marker_step symbol (suc more) = moves_to (in_marker symbol more)
 
 -- what a character does at a place: a name ends before any other character than its own, a tag at a space, a directive at a break
-abbrev pub token_step : Bool → TokenPlace → ℕ → TokenStep
+abbrev pub token_step : Bool → TokenPlace → ℕ → CanonicalStep
 token_step breaks12 free c = step_between_tokens breaks12 c
 token_step breaks12 (in_line line) c =
-    if is_read_break breaks12 c then completes (directive_token (words line)) else goes_to (in_line (line ++ c ∷ []))
+    if is_read_break breaks12 c then ends_token (directive_token (words_of_line line)) else moves_to (in_line (line ++ c ∷ []))
 token_step breaks12 (in_anchor name) c =
-    if is_alpha c then goes_to (in_anchor (name ++ c ∷ [])) else completes_before (anchor_named name) (step_between_tokens breaks12 c)
+    if is_alpha c then moves_to (in_anchor (name ++ c ∷ [])) else completes_before (anchor_named name) (step_between_tokens breaks12 c)
 token_step breaks12 (in_alias name) c =
-    if is_alpha c then goes_to (in_alias (name ++ c ∷ [])) else completes_before (alias_named name) (step_between_tokens breaks12 c)
-token_step breaks12 (in_tag text) c = if c == space then completes (tag_token text) else goes_to (in_tag (text ++ c ∷ []))
+    if is_alpha c then moves_to (in_alias (name ++ c ∷ [])) else completes_before (alias_named name) (step_between_tokens breaks12 c)
+token_step breaks12 (in_tag text) c = if c == space then ends_token (tag_token text) else moves_to (in_tag (text ++ c ∷ []))
 token_step breaks12 (in_quotes place units) c = quotes_step units (quote_step breaks12 place c)
-token_step breaks12 (in_marker symbol more) c = if c == symbol then marker_step symbol more else completes bad
+token_step breaks12 (in_marker symbol more) c = if c == symbol then marker_step symbol more else ends_token bad
 
 -- what is left at the end: a name may end there, nothing else
-abbrev pub tokens_at_end : TokenPlace → List Token
-tokens_at_end free = []
-tokens_at_end (in_anchor name) = anchor_named name ∷ []
-tokens_at_end (in_alias name) = alias_named name ∷ []
-tokens_at_end _ = bad ∷ []
+abbrev pub canonical_tokens_at_end : TokenPlace → List Token
+canonical_tokens_at_end free = []
+canonical_tokens_at_end (in_anchor name) = anchor_named name ∷ []
+canonical_tokens_at_end (in_alias name) = alias_named name ∷ []
+canonical_tokens_at_end _ = bad ∷ []
 
 -- the tokens of a text from a place on
 abbrev pub tokens_from : Bool → TokenPlace → Text → List Token
-tokens_from breaks12 place [] = tokens_at_end place
+tokens_from breaks12 place [] = canonical_tokens_at_end place
 tokens_from breaks12 place (c ∷ rest) =
     let here = token_step breaks12 place c in here.tokens ++ tokens_from breaks12 here.place rest

@@ -1,16 +1,12 @@
 -- The layout of a double-quoted scalar.
 -- Source, unless a definition names its own: libyaml's emitter.
 use Rattle.std.specs.Prelude.{ℕ, Bool, true, false, Option, None, Some, List, [], ◌∷◌, ◌==◌, ◌||◌, ◌&&◌, not, nat_le, if◌then◌else◌}
-use Rattle.yaml_base.specs.Characters.{Text, hex_digits, is_ascii, is_break, is_printable, is_space}
+use Rattle.yaml_base.specs.Characters.{Text, hex_digits, is_ascii, is_break, is_printable, is_space, backslash}
 use Rattle.yaml_base.specs.Cursor.{Cursor, Rendered, indicator, is_past_width, new_line, render_nothing, space_if, render_text, render_then}
 
 -- U+0022 (YAML 1.1, section 5.3 Indicator Characters, c-double-quote)
 abbrev pub quote : ℕ
 quote = 0x22
-
--- U+005C (YAML 1.1, section 5.6 Escape Sequences, ns-esc-char)
-abbrev pub backslash : ℕ
-backslash = 0x5C
 
 -- a character that has an escape of one letter (YAML 1.1, section 5.6 Escape Sequences, ns-esc-null to ns-esc-paragraph-separator)
 pub record ShortEscape : Type 0 where

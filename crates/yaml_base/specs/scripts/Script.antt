@@ -11,11 +11,13 @@ use Rattle.yaml_base.specs.Settings.{largest_i32, Settings, Encoding, LineBreak,
 use Rattle.yaml_base.specs.Event.{Event, stream_start, stream_end, document_start, document_end, alias, scalar, sequence_start, sequence_end, mapping_start}
 use Rattle.yaml_base.specs.Event.{mapping_end, ScalarStyle, CollectionStyle, Version, TagDirective, Collection}
 use Rattle.yaml_base.specs.Words.{is_word, named}
-pub use Rattle.yaml_base.specs.scripts.ScriptWords.{quotation_mark, number_sign, backslash, Within, TextStep, numbered_step, text_step, text_from, Field}
+pub use Rattle.yaml_base.specs.scripts.ScriptWords.{quotation_mark, number_sign, Within, QuotedStep, numbered_step, text_step, text_from, Field}
+pub use Rattle.yaml_base.specs.Characters.{backslash}
 pub use Rattle.yaml_base.specs.Words.{is_word}
 pub use Rattle.yaml_base.specs.scripts.ScriptWords.{FieldState, state_after, separates, cut_before, pieces_from, field_read, field_and, read_fields}
 pub use Rattle.yaml_base.specs.scripts.ScriptWords.{fields_read}
-pub use Rattle.yaml_base.specs.scripts.ScriptWords.{flags, switches, indentations, blanks, encodings, line_breaks, scalar_styles, collection_styles, number_up_to}
+pub use Rattle.yaml_base.specs.scripts.ScriptWords.{flags, switches, indentations, blanks, encodings, line_breaks, scalar_styles, collection_styles}
+pub use Rattle.yaml_base.specs.scripts.ScriptWords.{number_up_to}
 pub use Rattle.yaml_base.specs.Words.{named}
 pub use Rattle.yaml_base.specs.scripts.ScriptWords.{signed_number, at_character, at_escape, at_brace, at_digits, goes_on, stands_for, ends, fails, bare, quoted}
 pub use Rattle.yaml_base.specs.scripts.ScriptWords.{outside, inside, escaped}
@@ -37,10 +39,10 @@ pub data Setting : Type 0 where
   blanks_set : (literal : Bool) → Setting
 
 -- a line says nothing (it is empty or a comment), sets something, or gives an event
-pub data Line : Type 0 where
-  says_nothing : Line
-  sets : Setting → Line
-  gives : Event → Line
+pub data ScriptLine : Type 0 where
+  says_nothing : ScriptLine
+  sets : Setting → ScriptLine
+  gives : Event → ScriptLine
 
 -- an event and the number of its line
 pub record Numbered : Type 0 where
@@ -205,19 +207,19 @@ setting_line name (bare value ∷ []) = setting_of name value
 setting_line name _ = None
 
 -- what a line's fields say: the first is the name of a setting or of an event
-abbrev pub line_of : List Field → Option Line
-line_of (bare name ∷ fields) = option_or (option_map sets (setting_line name fields)) (option_map gives (event_of name fields))
-line_of _ = None
+abbrev pub script_line : List Field → Option ScriptLine
+script_line (bare name ∷ fields) = option_or (option_map sets (setting_line name fields)) (option_map gives (event_of name fields))
+script_line _ = None
 
 -- what a line says: nothing where it is empty or, without a CR, a comment
-abbrev pub line_read : Text → Option Line
+abbrev pub line_read : Text → Option ScriptLine
 line_read [] = Some says_nothing
 line_read (c ∷ rest) =
     if c == number_sign then (if list_any (λ d. d == carriage_return) rest then None else Some says_nothing)
-    else option_and_then line_of (fields_read (c ∷ rest))
+    else option_and_then script_line (fields_read (c ∷ rest))
 
 -- what a line's bytes say: they have to be UTF-8
-abbrev pub line_understood : List ℕ → Option Line
+abbrev pub line_understood : List ℕ → Option ScriptLine
 line_understood bytes = if is_utf8 bytes then line_read (chars bytes) else None
 
 -- ---- the whole
@@ -233,7 +235,7 @@ may_be_set setting before =
     length before.events == 0 && not (list_any (λ other. is_word (setting_name setting) (setting_name other)) before.settings)
 
 -- with one more line of this number, unless it's a setting out of place
-abbrev pub with_line : ℕ → ScriptState → Line → Option ScriptState
+abbrev pub with_line : ℕ → ScriptState → ScriptLine → Option ScriptState
 with_line number before says_nothing = Some before
 with_line number before (sets setting) =
     if may_be_set setting before then Some (record before { settings = before.settings ++ setting ∷ [] }) else None

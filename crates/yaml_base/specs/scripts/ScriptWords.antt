@@ -5,7 +5,7 @@ use Rattle.std.specs.List.{list_all, onto_first}
 use Rattle.std.specs.Char.{is_digit}
 use Rattle.std.specs.Str.{all_scalars}
 use Rattle.std.specs.Str.Parse.{digits_value}
-use Rattle.yaml_base.specs.Characters.{Text, is_between, line_feed, space}
+use Rattle.yaml_base.specs.Characters.{Text, is_between, line_feed, space, backslash}
 use Rattle.yaml_base.specs.Settings.{largest_i32, Encoding, utf8, utf16_little, utf16_big, LineBreak, carriage_return_break, line_feed_break, both_break}
 use Rattle.yaml_base.specs.Event.{ScalarStyle, any_style, plain, single_quoted, double_quoted, literal, folded, CollectionStyle, any_layout, block, flow}
 
@@ -19,10 +19,6 @@ quotation_mark = 0x22
 abbrev pub number_sign : ℕ
 number_sign = 0x23
 
--- the sign that begins an escape
-abbrev pub backslash : ℕ
-backslash = 0x5C
-
 -- ---- texts between quotation marks
 
 -- a text's next character stands after a whole character, a backslash, `\u`, or `\u{` and these characters
@@ -33,21 +29,21 @@ pub data Within : Type 0 where
   at_digits : Text → Within
 
 -- the next character goes on with an escape, completes one that stands for a character, ends the text, or is wrong there
-pub data TextStep : Type 0 where
-  goes_on : Within → TextStep
-  stands_for : ℕ → TextStep
-  ends : TextStep
-  fails : TextStep
+pub data QuotedStep : Type 0 where
+  goes_on : Within → QuotedStep
+  stands_for : ℕ → QuotedStep
+  ends : QuotedStep
+  fails : QuotedStep
 
 -- the character of `\u{..}`: one to six hexadecimal digits of a Unicode scalar value
-abbrev pub numbered_step : Text → TextStep
+abbrev pub numbered_step : Text → QuotedStep
 numbered_step digits =
     let number = digits_value 16 digits in
     if is_between 1 6 (length digits) && list_all (λ digit. is_digit digit 16) digits && all_scalars (number ∷ [])
     then stands_for number else fails
 
 -- what a character does in a text: `\\`, `\"`, `\n` and `\u{..}` stand for characters, any other but these two for itself
-abbrev pub text_step : Within → ℕ → TextStep
+abbrev pub text_step : Within → ℕ → QuotedStep
 text_step at_character c =
     if c == quotation_mark then ends else (if c == backslash then goes_on at_escape else stands_for c)
 text_step at_escape c =

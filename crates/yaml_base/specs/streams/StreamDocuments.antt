@@ -99,8 +99,8 @@ directive_line None line = None
 directive_line (Some heading) line = directive_by_words heading (slice_split is_space line.text)
 
 -- the directives of some lines (YAML 1.1, section 7.1 Directives, l-directive)
-abbrev pub heading_of : List Line → Option Heading
-heading_of lines = fold directive_line (Some no_heading) lines
+abbrev pub heading_read : List Line → Option Heading
+heading_read lines = fold directive_line (Some no_heading) lines
 
 -- Documents. Source: YAML 1.1, section 7.3 Documents, l-explicit-document.
 
@@ -167,7 +167,7 @@ abbrev pub section_by_kind : MarkerKind → ℕ → Bool → List DocumentTree �
 section_by_kind start_marker depth breaks12 documents after_root section = document_read depth breaks12 documents no_heading section
 section_by_kind start_marker depth breaks12 documents (after_heading heading) section = document_read depth breaks12 documents heading section
 section_by_kind end_marker depth breaks12 documents after_root section =
-    if length section.line.text == 3 then with_heading documents (heading_of (without_blank_lines section.rest)) else None
+    if length section.line.text == 3 then with_heading documents (heading_read (without_blank_lines section.rest)) else None
 section_by_kind _ depth breaks12 documents place section = None
 
 -- one section more of a stream
@@ -195,7 +195,7 @@ prefix_kind (line ∷ rest) = if begins_with_percent line.text then directive_li
 -- (YAML 1.1, sections 7.1 Directives and 7.3 Documents, l-directive, l-implicit-document)
 abbrev pub lines_before_marker_read : PrefixKind → ℕ → Bool → List Line → Option StreamRead
 lines_before_marker_read no_lines depth breaks12 lines = Some (record { documents = []; place = after_heading no_heading })
-lines_before_marker_read directive_lines depth breaks12 lines = with_heading [] (heading_of lines)
+lines_before_marker_read directive_lines depth breaks12 lines = with_heading [] (heading_read lines)
 lines_before_marker_read document_lines depth breaks12 lines =
     with_read_document [] no_heading (root_below depth (record { breaks12 = breaks12; directives = [] }) lines)
 

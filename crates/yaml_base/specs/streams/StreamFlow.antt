@@ -116,16 +116,16 @@ opened_with levels bracket (Some read) =
     then opened levels bracket read.properties.anchor (collection_tag_parsed read.properties.tag) else failed
 
 -- where a node may begin (YAML 1.1, section 8.5.1 Flow Nodes, ns-flow-node(n,c))
-abbrev pub node_step : Rules → List OpenFlow → FlowToken → FlowReading
-node_step rules levels (word text) = word_step rules.breaks12 levels text (word_read rules true text)
-node_step rules levels (opens properties bracket) = opened_with levels bracket (properties_read rules.directives properties)
-node_step rules levels _ = failed
+abbrev pub flow_node_step : Rules → List OpenFlow → FlowToken → FlowReading
+flow_node_step rules levels (word text) = word_step rules.breaks12 levels text (word_read rules true text)
+flow_node_step rules levels (opens properties bracket) = opened_with levels bracket (properties_read rules.directives properties)
+flow_node_step rules levels _ = failed
 
 -- the innermost collection ends (YAML 1.1, section 5.3 Indicator Characters, c-sequence-end, c-mapping-end)
-abbrev pub closed : List OpenFlow → ℕ → FlowReading
-closed (in_sequence anchor tag trees ∷ levels) c = if c == 0x5D then with_tree levels (sequence_tree anchor tag trees) else failed
-closed (in_mapping anchor tag pairs no_key ∷ levels) c = if c == 0x7D then with_tree levels (mapping_tree anchor tag pairs) else failed
-closed _ c = failed
+abbrev pub closed_flow : List OpenFlow → ℕ → FlowReading
+closed_flow (in_sequence anchor tag trees ∷ levels) c = if c == 0x5D then with_tree levels (sequence_tree anchor tag trees) else failed
+closed_flow (in_mapping anchor tag pairs no_key ∷ levels) c = if c == 0x7D then with_tree levels (mapping_tree anchor tag pairs) else failed
+closed_flow _ c = failed
 
 -- a `?` asks for a key (YAML 1.1, section 5.3 Indicator Characters, c-mapping-key)
 abbrev pub key_asked : List OpenFlow → FlowReading
@@ -136,19 +136,19 @@ key_asked levels = failed
 abbrev pub entry_step : Rules → List OpenFlow → FlowToken → FlowReading
 entry_step rules levels blank = within levels entry_awaited
 entry_step rules levels line_end = within levels entry_awaited
-entry_step rules levels (symbol c) = if c == 0x3F then key_asked levels else closed levels c
-entry_step rules levels token = node_step rules levels token
+entry_step rules levels (symbol c) = if c == 0x3F then key_asked levels else closed_flow levels c
+entry_step rules levels token = flow_node_step rules levels token
 
 -- where a node stands on the line of the `?` or `:` before it, after a blank
 -- (this project, stricter than YAML 1.1, section 6.3 Separation Spaces, s-separate(n,c))
 abbrev pub spaced_step : Rules → List OpenFlow → (blank_came : Bool) → FlowToken → FlowReading
 spaced_step rules levels came blank = within levels (node_awaited true)
-spaced_step rules levels true token = node_step rules levels token
+spaced_step rules levels true token = flow_node_step rules levels token
 spaced_step rules levels false token = failed
 
 -- where an entry has ended (YAML 1.1, section 5.3 Indicator Characters, c-collect-entry)
 abbrev pub comma_step : List OpenFlow → FlowToken → FlowReading
-comma_step levels (symbol c) = if c == 0x2C then within levels entry_awaited else closed levels c
+comma_step levels (symbol c) = if c == 0x2C then within levels entry_awaited else closed_flow levels c
 comma_step levels token = failed
 
 -- the `:` itself (YAML 1.1, section 5.3 Indicator Characters, c-mapping-value)

@@ -41,9 +41,9 @@ without_blank_lines [] = []
 without_blank_lines (line ∷ rest) = if is_spaces line.text then without_blank_lines rest else line ∷ rest
 
 -- the first of some lines is blank (YAML 1.1, section 6.4 Ignored Line Prefix, l-empty(n,s))
-abbrev pub begins_blank : List Line → Bool
-begins_blank [] = false
-begins_blank (line ∷ rest) = is_spaces line.text
+abbrev pub first_line_is_blank : List Line → Bool
+first_line_is_blank [] = false
+first_line_is_blank (line ∷ rest) = is_spaces line.text
 
 -- all lines are blank (YAML 1.1, section 6.4 Ignored Line Prefix, l-empty(n,s))
 abbrev pub all_blank : List Line → Bool
@@ -101,9 +101,9 @@ indented_step true text after = record { column = suc after.column; text = after
 indented_step false text after = record { column = 0; text = text }
 
 -- where a line's first character that is no space stands, and the line from there on (YAML 1.1, section 6.1 Indentation Spaces, s-indent(n))
-abbrev pub indented : Text → Indented
-indented [] = record { column = 0; text = [] }
-indented (c ∷ rest) = indented_step (c == space) (c ∷ rest) (indented rest)
+abbrev pub past_indentation : Text → Indented
+past_indentation [] = record { column = 0; text = [] }
+past_indentation (c ∷ rest) = indented_step (c == space) (c ∷ rest) (past_indentation rest)
 
 -- what stands at a column, after spaces alone (YAML 1.1, section 6.1 Indentation Spaces, s-indent(n))
 abbrev pub past_column : ℕ → Text → Option Text

@@ -7,12 +7,12 @@ use Rattle.std.specs.Option.{option_or}
 use Rattle.yaml_base.specs.Characters.{Text, space}
 use Rattle.yaml_base.specs.LineBreaks.{is_read_break}
 use Rattle.yaml_base.specs.streams.StreamContent.{Tree, sequence_tree, mapping_tree, Trees, no_trees, trees_and, TreePairs, no_tree_pairs, tree_pairs_and}
-use Rattle.yaml_base.specs.streams.StreamLines.{Line, text_of_lines, without_blank_lines, begins_blank, ends_indicator, begins_with_indicator}
+use Rattle.yaml_base.specs.streams.StreamLines.{Line, text_of_lines, without_blank_lines, first_line_is_blank, ends_indicator, begins_with_indicator}
 use Rattle.yaml_base.specs.streams.StreamLines.{Entries, entries_at}
-use Rattle.yaml_base.specs.streams.StreamLines.{all_deeper, Indented, indented, past_column, blanked}
+use Rattle.yaml_base.specs.streams.StreamLines.{all_deeper, Indented, past_indentation, past_column, blanked}
 use Rattle.yaml_base.specs.streams.StreamScalars.{Rules, Properties, no_properties, PropertiesRead, properties_read, collection_tag_parsed}
 use Rattle.yaml_base.specs.streams.StreamScalars.{style_of_first_character}
-use Rattle.yaml_base.specs.streams.StreamScalars.{scalar_of_style, nothing_parsed, word_after, word_read}
+use Rattle.yaml_base.specs.streams.StreamScalars.{scalar_of_style, empty_parsed, word_after, word_read}
 use Rattle.yaml_base.specs.streams.StreamFlow.{is_alias, longest_key, flow_read}
 
 -- Simple keys. Source: YAML 1.1, section 10.2 Mapping Styles, no production, in this project's steps.
@@ -63,17 +63,17 @@ key_of_line rules text = key_from rules [] text
 -- (YAML 1.1, sections 10.1.2 Block Sequences and 10.2.2 Block Mappings).
 
 -- how the lines inside a column are read (none: those of a document), where a block may begin on the first of them or not
-abbrev pub Reads : Type 0
-Reads = (here : Bool) → Option ℕ → List Line → Option Tree
+abbrev pub LinesReader : Type 0
+LinesReader = (here : Bool) → Option ℕ → List Line → Option Tree
 
 -- an item whose indicator stands at the column (YAML 1.1, section 10.1.2 Block Sequences, c-l-block-sequence(n,c))
-abbrev pub item_by_indicator : Reads → ℕ → Text → List Line → Option Text → Option Tree
+abbrev pub item_by_indicator : LinesReader → ℕ → Text → List Line → Option Text → Option Tree
 item_by_indicator reads column ending rest (Some (c ∷ text)) =
     if begins_with_indicator 0x2D (c ∷ text) then reads true (Some column) (blanked (suc column) text ending ∷ rest) else None
 item_by_indicator reads column ending rest _ = None
 
 -- an item of a sequence at a column (YAML 1.1, section 10.1.2 Block Sequences, c-l-block-sequence(n,c))
-abbrev pub item_read : Reads → ℕ → List Line → Option Tree
+abbrev pub item_read : LinesReader → ℕ → List Line → Option Tree
 item_read reads column [] = None
 item_read reads column (line ∷ rest) = item_by_indicator reads column line.ending rest (past_column column line.text)
 
@@ -83,7 +83,7 @@ with_item (Some trees) (Some tree) = Some (trees_and trees tree)
 with_item _ _ = None
 
 -- the items of a sequence at a column (YAML 1.1, section 10.1.2 Block Sequences, c-l-block-sequence(n,c))
-abbrev pub items_read : Reads → ℕ → List (List Line) → Option Trees
+abbrev pub items_read : LinesReader → ℕ → List (List Line) → Option Trees
 items_read reads column entries = fold (λ before entry. with_item before (item_read reads column entry)) (Some no_trees) entries
 
 -- the pairs so far, and a key whose value is due
@@ -96,14 +96,14 @@ abbrev pub with_key : HeldPairs → Option Tree → Option HeldPairs
 with_key held read = if is_some held.key then None else option_map (λ key. record { pairs = held.pairs; key = Some key }) read
 
 -- the value of the key that is held (YAML 1.1, section 10.2.2 Block Mappings, c-l-block-mapping(n))
-abbrev pub with_value : TreePairs → Option Tree → Option Tree → Option HeldPairs
-with_value pairs (Some key) (Some value) = Some (record { pairs = tree_pairs_and pairs key value; key = None })
-with_value pairs _ _ = None
+abbrev pub with_held_value : TreePairs → Option Tree → Option Tree → Option HeldPairs
+with_held_value pairs (Some key) (Some value) = Some (record { pairs = tree_pairs_and pairs key value; key = None })
+with_held_value pairs _ _ = None
 
 -- a simple key and its value, on the line after the key's `:` or below it (YAML 1.1, section 10.2.2 Block Mappings, c-l-block-mapping(n))
-abbrev pub simple_pair : Reads → ℕ → Text → List Line → Option HeldPairs → Option SimpleKey → Option HeldPairs
+abbrev pub simple_pair : LinesReader → ℕ → Text → List Line → Option HeldPairs → Option SimpleKey → Option HeldPairs
 simple_pair reads column ending rest (Some held) (Some found) =
-    with_value held.pairs held.key (reads false (Some column) (blanked (suc (column + found.length)) found.after ending ∷ rest))
+    with_held_value held.pairs held.key (reads false (Some column) (blanked (suc (column + found.length)) found.after ending ∷ rest))
 simple_pair reads column ending rest _ _ = None
 
 -- what an entry of a mapping begins with
@@ -118,25 +118,25 @@ kind_of_entry text =
     if begins_with_indicator 0x3F text then key_entry else (if begins_with_indicator 0x3A text then value_entry else simple_entry)
 
 -- an entry of a mapping at a column, by its kind (YAML 1.1, section 10.2.2 Block Mappings, c-l-block-mapping(n))
-abbrev pub entry_by_kind : EntryKind → Rules → Reads → ℕ → Text → List Line → HeldPairs → Text → Option HeldPairs
+abbrev pub entry_by_kind : EntryKind → Rules → LinesReader → ℕ → Text → List Line → HeldPairs → Text → Option HeldPairs
 entry_by_kind key_entry rules reads column ending rest held [] = None
 entry_by_kind key_entry rules reads column ending rest held (c ∷ text) =
     with_key held (reads true (Some column) (blanked (suc column) text ending ∷ rest))
 entry_by_kind value_entry rules reads column ending rest held [] = None
 entry_by_kind value_entry rules reads column ending rest held (c ∷ text) =
-    with_value held.pairs held.key (reads true (Some column) (blanked (suc column) text ending ∷ rest))
+    with_held_value held.pairs held.key (reads true (Some column) (blanked (suc column) text ending ∷ rest))
 entry_by_kind simple_entry rules reads column ending rest held text =
     option_and_then
     (λ found. simple_pair reads column ending rest (with_key held (Some found.key)) (Some found))
     (key_of_line rules text)
 
 -- an entry of a mapping whose first character stands at the column
-abbrev pub entry_at : Rules → Reads → ℕ → Text → List Line → HeldPairs → Option Text → Option HeldPairs
+abbrev pub entry_at : Rules → LinesReader → ℕ → Text → List Line → HeldPairs → Option Text → Option HeldPairs
 entry_at rules reads column ending rest held None = None
 entry_at rules reads column ending rest held (Some text) = entry_by_kind (kind_of_entry text) rules reads column ending rest held text
 
 -- an entry of a mapping at a column (YAML 1.1, section 10.2.2 Block Mappings, c-l-block-mapping(n))
-abbrev pub entry_read : Rules → Reads → ℕ → Option HeldPairs → List Line → Option HeldPairs
+abbrev pub entry_read : Rules → LinesReader → ℕ → Option HeldPairs → List Line → Option HeldPairs
 entry_read rules reads column (Some held) (line ∷ rest) = entry_at rules reads column line.ending rest held (past_column column line.text)
 entry_read rules reads column _ _ = None
 
@@ -149,7 +149,7 @@ abbrev pub pairs_held : HeldPairs → Option TreePairs
 pairs_held held = if is_some held.key then None else Some held.pairs
 
 -- the pairs of a mapping at a column (YAML 1.1, section 10.2.2 Block Mappings, c-l-block-mapping(n))
-abbrev pub pairs_read : Rules → Reads → ℕ → List (List Line) → Option TreePairs
+abbrev pub pairs_read : Rules → LinesReader → ℕ → List (List Line) → Option TreePairs
 pairs_read rules reads column entries = option_and_then pairs_held (fold (entry_read rules reads column) (Some no_pairs_held) entries)
 
 -- entries before which no line stands
@@ -157,7 +157,7 @@ abbrev pub entries_whole : Entries → Option (List (List Line))
 entries_whole all = if length all.before == 0 then Some all.entries else None
 
 -- a sequence at a column, whose tag is one of its own (YAML 1.1, section 10.1.2 Block Sequences, c-l-block-sequence(n,c))
-abbrev pub sequence_read : Reads → Properties → ℕ → List Line → Option Tree
+abbrev pub sequence_read : LinesReader → Properties → ℕ → List Line → Option Tree
 sequence_read reads properties column lines =
     option_and_then
     (λ tag. option_map (sequence_tree properties.anchor tag)
@@ -165,7 +165,7 @@ sequence_read reads properties column lines =
     (collection_tag_parsed properties.tag)
 
 -- a mapping at a column, whose tag is one of its own (YAML 1.1, section 10.2.2 Block Mappings, c-l-block-mapping(n))
-abbrev pub mapping_read : Rules → Reads → Properties → ℕ → List Line → Option Tree
+abbrev pub mapping_read : Rules → LinesReader → Properties → ℕ → List Line → Option Tree
 mapping_read rules reads properties column lines =
     option_and_then
     (λ tag. option_map (mapping_tree properties.anchor tag)
@@ -237,7 +237,7 @@ tree_if false tree = None
 
 -- a node by its kind: a block where one may begin, a text on the first line
 abbrev pub node_by_kind :
-    NodeKind → Rules → Reads → ReadsText → Properties → (here first : Bool) → Indented → Text → List Line → List Line → Option Tree
+    NodeKind → Rules → LinesReader → ReadsText → Properties → (here first : Bool) → Indented → Text → List Line → List Line → Option Tree
 node_by_kind begins_sequence rules reads reads_text properties here first line ending rest lines =
     tree_if here (sequence_read reads properties line.column lines)
 node_by_kind begins_mapping rules reads reads_text properties here first line ending rest lines =
@@ -246,16 +246,16 @@ node_by_kind begins_text rules reads reads_text properties here first line endin
     tree_if first (reads_text line.column line.text ending rest)
 
 -- a node's lines from one that isn't blank on; none are the empty scalar
-abbrev pub node_at : Rules → Reads → ReadsText → Properties → (here first : Bool) → List Line → Option Tree
-node_at rules reads reads_text properties here first [] = nothing_parsed properties
+abbrev pub node_at : Rules → LinesReader → ReadsText → Properties → (here first : Bool) → List Line → Option Tree
+node_at rules reads reads_text properties here first [] = empty_parsed properties
 node_at rules reads reads_text properties here first (line ∷ rest) =
-    let begun = indented line.text in
+    let begun = past_indentation line.text in
     node_by_kind (kind_of_node rules begun.text) rules reads reads_text properties here first begun line.ending rest (line ∷ rest)
 
 -- blank lines before a node are skipped; after one a block may begin, and no text (this project)
-abbrev pub node_lines : Rules → Reads → ReadsText → Properties → (here : Bool) → List Line → Option Tree
+abbrev pub node_lines : Rules → LinesReader → ReadsText → Properties → (here : Bool) → List Line → Option Tree
 node_lines rules reads reads_text properties here lines =
-    node_at rules reads reads_text properties (here || begins_blank lines) (not (begins_blank lines)) (without_blank_lines lines)
+    node_at rules reads reads_text properties (here || first_line_is_blank lines) (not (first_line_is_blank lines)) (without_blank_lines lines)
 
 -- a text begins with an anchor or a tag (YAML 1.1, section 5.3 Indicator Characters, c-anchor, c-tag)
 abbrev pub begins_properties : Text → Bool
@@ -263,19 +263,19 @@ begins_properties [] = false
 begins_properties (c ∷ rest) = c == 0x26 || c == 0x21
 
 -- properties that were read of a line: what follows them is a node without more of them (YAML 1.1, chapter 8 Nodes, c-ns-properties(n,c))
-abbrev pub after_properties : Rules → Reads → Option ℕ → ℕ → Text → List Line → Option PropertiesRead → Option Tree
+abbrev pub after_properties : Rules → LinesReader → Option ℕ → ℕ → Text → List Line → Option PropertiesRead → Option Tree
 after_properties rules reads column at ending rest None = None
 after_properties rules reads column at ending rest (Some read) =
     node_lines rules reads (λ at. text_read rules column read.properties) read.properties false (blanked at read.text ending ∷ rest)
 
 -- properties and what they belong to, or a text without them
-abbrev pub text_or_properties : (properties : Bool) → Rules → Reads → Option ℕ → ReadsText
+abbrev pub text_or_properties : (properties : Bool) → Rules → LinesReader → Option ℕ → ReadsText
 text_or_properties true rules reads column at text ending rest =
     after_properties rules reads column at ending rest (properties_read rules.directives text)
 text_or_properties false rules reads column at text ending rest = text_read rules column no_properties text ending rest
 
 -- the lines of a node inside a column, to a depth (YAML 1.1, section 8.5.2 Block Nodes, s-l+block-node(n,c))
-abbrev pub node_read : ℕ → Rules → Reads
+abbrev pub node_read : ℕ → Rules → LinesReader
 node_read zero rules here column lines = None
 node_read (suc depth) rules here column lines =
     node_lines rules (node_read depth rules)

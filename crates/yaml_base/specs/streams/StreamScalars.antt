@@ -15,7 +15,7 @@ use Rattle.yaml_base.specs.reading.ReadTags.{ParsedTag, bare_parsed, name_parsed
 use Rattle.yaml_base.specs.reading.TidyText.{is_tidy}
 use Rattle.yaml_base.specs.streams.StreamContent.{Stood, stood_plain, stood_quoted, stood_bare, Tagging, with_tag, without_tag, Tree, alias_tree, scalar_tree}
 use Rattle.yaml_base.specs.streams.StreamContent.{sequence_tree, mapping_tree, no_trees, no_tree_pairs}
-use Rattle.yaml_base.specs.streams.StreamLines.{spaces, indented}
+use Rattle.yaml_base.specs.streams.StreamLines.{spaces, past_indentation}
 
 -- by what a document's text is read: which characters break lines, and its own directives
 pub record Rules : Type 0 where
@@ -39,14 +39,14 @@ pub record PropertiesRead : Type 0 where
   pub text : Text
 
 -- a space ends a word, any other character is of it
-abbrev pub word_step : (is_space : Bool) → ℕ → Text → CutText → CutText
-word_step true c rest after = record { prefix = []; rest = c ∷ rest }
-word_step false c rest after = record { prefix = c ∷ after.prefix; rest = after.rest }
+abbrev pub cut_word_step : (is_space : Bool) → ℕ → Text → CutText → CutText
+cut_word_step true c rest after = record { prefix = []; rest = c ∷ rest }
+cut_word_step false c rest after = record { prefix = c ∷ after.prefix; rest = after.rest }
 
 -- a text cut before its first space
 abbrev pub cut_before_space : Text → CutText
 cut_before_space [] = record { prefix = []; rest = [] }
-cut_before_space (c ∷ rest) = word_step (c == space) c rest (cut_before_space rest)
+cut_before_space (c ∷ rest) = cut_word_step (c == space) c rest (cut_before_space rest)
 
 -- a name: at least one character, all of the anchor alphabet (libyaml's scanner; YAML 1.1, section 8.1 Node Anchors, ns-anchor-name, allows more)
 abbrev pub name_read : Text → Option Text
@@ -84,7 +84,7 @@ tag_first directives anchor column (c ∷ rest) =
 abbrev pub properties_read : List TagDirective → Text → Option PropertiesRead
 properties_read directives text =
     option_and_then
-    (λ read. let after = indented read.text in tag_first directives read.properties.anchor after.column after.text)
+    (λ read. let after = past_indentation read.text in tag_first directives read.properties.anchor after.column after.text)
     (anchor_first text)
 
 -- the tag of a collection: the bare tag isn't one (this project)
@@ -119,9 +119,9 @@ value_read any_style breaks12 flow column text = None
 value_read _ breaks12 flow column text = if flow then None else read_block breaks12 column text
 
 -- how a scalar of a style stood
-abbrev pub standing_of : ScalarStyle → Stood
-standing_of plain = stood_plain
-standing_of _ = stood_quoted
+abbrev pub stood_in_style : ScalarStyle → Stood
+stood_in_style plain = stood_plain
+stood_in_style _ = stood_quoted
 
 -- a scalar after its properties
 abbrev pub scalar_parsed : Properties → Stood → Option Text → Option Tree
@@ -131,12 +131,12 @@ scalar_parsed properties standing value =
 -- a scalar's text, tidy where it stands (this project)
 abbrev pub scalar_of_style : ScalarStyle → Rules → (flow : Bool) → Option ℕ → Properties → Text → Option Tree
 scalar_of_style style rules flow column properties text =
-    scalar_parsed properties (standing_of style)
+    scalar_parsed properties (stood_in_style style)
     (if is_tidy style rules.breaks12 column text then value_read style rules.breaks12 flow column text else None)
 
 -- the empty plain scalar
-abbrev pub nothing_parsed : Properties → Option Tree
-nothing_parsed properties = scalar_parsed properties stood_plain (Some [])
+abbrev pub empty_parsed : Properties → Option Tree
+empty_parsed properties = scalar_parsed properties stood_plain (Some [])
 
 -- Words
 
@@ -182,5 +182,5 @@ word_after rules flow column properties text = word_by_kind (kind_of_word text) 
 abbrev pub word_read : Rules → (flow : Bool) → Text → Option Tree
 word_read rules flow text =
     option_and_then
-    (λ read. word_after rules flow None read.properties (indented read.text).text)
+    (λ read. word_after rules flow None read.properties (past_indentation read.text).text)
     (properties_read rules.directives text)

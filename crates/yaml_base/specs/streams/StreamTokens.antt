@@ -70,15 +70,15 @@ class_of breaks12 c =
     else (if is_among (codes "[{") c then begins_bracket else begins_plain))))))
 
 -- a token's first character, after the text of properties before it
-abbrev pub begun : FlowClass → (properties : Text) → ℕ → FlowStep
-begun is_white_blank properties c = completes blank
-begun is_white_break properties c = completes line_end
-begun is_flow_indicator properties c = completes (symbol c)
-begun begins_property properties c = goes_to (in_property (properties ++ c ∷ []))
-begun begins_double properties c = goes_to (in_double (properties ++ c ∷ []))
-begun begins_single properties c = goes_to (in_single (properties ++ c ∷ []))
-begun begins_bracket properties c = goes_to (after_bracket properties c)
-begun begins_plain properties c = goes_to (in_plain (properties ++ c ∷ []) [])
+abbrev pub begun_token : FlowClass → (properties : Text) → ℕ → FlowStep
+begun_token is_white_blank properties c = completes blank
+begun_token is_white_break properties c = completes line_end
+begun_token is_flow_indicator properties c = completes (symbol c)
+begun_token begins_property properties c = goes_to (in_property (properties ++ c ∷ []))
+begun_token begins_double properties c = goes_to (in_double (properties ++ c ∷ []))
+begun_token begins_single properties c = goes_to (in_single (properties ++ c ∷ []))
+begun_token begins_bracket properties c = goes_to (after_bracket properties c)
+begun_token begins_plain properties c = goes_to (in_plain (properties ++ c ∷ []) [])
 
 -- after properties: more blanks, or what they belong to on the same line
 -- (this project, stricter than YAML 1.1, section 6.3 Separation Spaces, s-separate(n,c))
@@ -86,7 +86,7 @@ abbrev pub begun_after_property : FlowClass → Text → ℕ → FlowStep
 begun_after_property is_white_blank text c = goes_to (after_property (text ++ c ∷ []))
 begun_after_property is_white_break text c = completes bad
 begun_after_property is_flow_indicator text c = completes bad
-begun_after_property class text c = begun class text c
+begun_after_property class text c = begun_token class text c
 
 -- an anchor or a tag goes on to a blank (YAML 1.1, sections 8.1 Node Anchors and 8.2 Node Tags, c-ns-anchor-property, c-ns-tag-property)
 abbrev pub property_step : FlowClass → Text → ℕ → FlowStep
@@ -111,14 +111,14 @@ word_ends breaks12 text white turn = prepend_tokens (word text ∷ map (white_to
 abbrev pub plain_step : FlowClass → Bool → Text → Text → ℕ → FlowStep
 plain_step is_white_blank breaks12 text white c = goes_to (in_plain text (white ++ c ∷ []))
 plain_step is_white_break breaks12 text white c = goes_to (in_plain text (white ++ c ∷ []))
-plain_step is_flow_indicator breaks12 text white c = word_ends breaks12 text white (begun is_flow_indicator [] c)
-plain_step begins_bracket breaks12 text white c = word_ends breaks12 text white (begun begins_bracket [] c)
+plain_step is_flow_indicator breaks12 text white c = word_ends breaks12 text white (begun_token is_flow_indicator [] c)
+plain_step begins_bracket breaks12 text white c = word_ends breaks12 text white (begun_token begins_bracket [] c)
 plain_step class breaks12 text white c = goes_to (in_plain (text ++ (white ++ c ∷ [])) [])
 
 -- after a bracket: the one that closes it makes a word, all else stands inside
 abbrev pub bracket_step : (closes : Bool) → FlowClass → Text → ℕ → ℕ → FlowStep
 bracket_step true class properties bracket c = completes (word (properties ++ (bracket ∷ c ∷ [])))
-bracket_step false class properties bracket c = prepend_tokens (opens properties bracket ∷ []) (begun class [] c)
+bracket_step false class properties bracket c = prepend_tokens (opens properties bracket ∷ []) (begun_token class [] c)
 
 -- a closing bracket matches an opening one (YAML 1.1, section 5.3 Indicator Characters, c-sequence-start to c-mapping-end)
 abbrev pub is_pair : ℕ → ℕ → Bool
@@ -126,7 +126,7 @@ is_pair bracket c = (bracket == 0x5B && c == 0x5D) || (bracket == 0x7B && c == 0
 
 -- what a character does at a place
 abbrev pub flow_step_at : Bool → FlowPlace → ℕ → FlowStep
-flow_step_at breaks12 free c = begun (class_of breaks12 c) [] c
+flow_step_at breaks12 free c = begun_token (class_of breaks12 c) [] c
 flow_step_at breaks12 (in_property text) c = property_step (class_of breaks12 c) text c
 flow_step_at breaks12 (after_property text) c = begun_after_property (class_of breaks12 c) text c
 flow_step_at breaks12 (in_plain text white) c = plain_step (class_of breaks12 c) breaks12 text white c
@@ -137,7 +137,7 @@ flow_step_at breaks12 (after_backslash text) c = goes_to (in_double (text ++ c �
 flow_step_at breaks12 (in_single text) c = goes_to (if c == 0x27 then after_quote (text ++ c ∷ []) else in_single (text ++ c ∷ []))
 flow_step_at breaks12 (after_quote text) c =
     if c == 0x27 then goes_to (in_single (text ++ c ∷ []))
-    else prepend_tokens (word text ∷ []) (begun (class_of breaks12 c) [] c)
+    else prepend_tokens (word text ∷ []) (begun_token (class_of breaks12 c) [] c)
 flow_step_at breaks12 (after_bracket properties bracket) c =
     bracket_step (is_pair bracket c) (class_of breaks12 c) properties bracket c
 

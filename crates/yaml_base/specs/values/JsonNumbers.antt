@@ -23,13 +23,13 @@ pub record JsonNumber : Type 0 where
   pub exponent : Option JsonExponent
 
 -- `0`, or digits of which the first isn't 0
-abbrev pub is_whole : Text → Bool
-is_whole digits = are_digits 10 digits && (is_word digits (codes "0") || not (first_meets (λ c. c == 0x30) digits))
+abbrev pub is_whole_part : Text → Bool
+is_whole_part digits = are_digits 10 digits && (is_word digits (codes "0") || not (first_meets (λ c. c == 0x30) digits))
 
 -- digits stand wherever they have to
 abbrev pub is_json_number : JsonNumber → Bool
 is_json_number number =
-    is_whole number.whole
+    is_whole_part number.whole
     && elim number.fraction as (λ _. Bool) [
       | None ↦ true
       | Some digits ↦ are_digits 10 digits

@@ -35,14 +35,14 @@ abbrev pub is_leading : ℕ → Bool
 is_leading c = is_decimal c && not (c == 0x30)
 
 -- an integer of these digits; where there is none, underscores alone, it is meant by nobody
-abbrev pub integer_of : (negative : Bool) → ℕ → Text → Resolved
-integer_of negative base digits =
+abbrev pub integer_of_digits : (negative : Bool) → ℕ → Text → Resolved
+integer_of_digits negative base digits =
     if length digits == 0 then meant_by_nobody else meant_integer (signed negative (digits_value base digits))
 
 -- `0`, a letter, and digits in its base
 abbrev pub based_11 : (negative : Bool) → (letter base : ℕ) → Text → Option Resolved
 based_11 negative letter base (zero_digit ∷ c ∷ d ∷ digits) =
-    some_if (zero_digit == 0x30 && c == letter && are_grouped base (d ∷ digits)) (integer_of negative base (ungrouped (d ∷ digits)))
+    some_if (zero_digit == 0x30 && c == letter && are_grouped base (d ∷ digits)) (integer_of_digits negative base (ungrouped (d ∷ digits)))
 based_11 negative letter base _ = None
 
 -- `0` and octal digits

@@ -1,8 +1,8 @@
 -- Worked rows: what arrays of events and an arena mean.
-use Rattle.yaml_c.proofs.Common.{ℕ, None, Some, pos, false, true, List, [], ◌∷◌, refl, ◌≡◌, event_of, events_from}
+use Rattle.yaml_c.proofs.Common.{ℕ, None, Some, pos, false, true, List, [], ◌∷◌, refl, ◌≡◌, event_recorded, events_from}
 use Rattle.yaml_base.proofs.Common.{codes, literal, plain, flow, stream_start, stream_end, document_start, alias, scalar, sequence_start, utf8}
 use Rattle.std.specs.{Char.encode_utf8, Str.chars, Str.is_utf8}
-use Rattle.yaml_c.specs.{Arena.text_at, Arena.optional_text_at, EventRecords.directives_at, declared.arena.Span.Span}
+use Rattle.yaml_c.specs.{Arena.text_in_arena, Arena.optional_text_at, EventRecords.directives_at, declared.arena.Span.Span}
 use Rattle.yaml_c.specs.{declared.records.DirectiveRecord.DirectiveRecord, declared.records.EventRecord.EventRecord}
 
 -- "ab!x" and a byte that is in no UTF-8
@@ -12,27 +12,27 @@ arena = 0x61 ∷ 0x62 ∷ 0x21 ∷ 0x78 ∷ 0xFF ∷ []
 abbrev span : ℕ → ℕ → Span
 span start length = record { start = start; length = length }
 
-text_two : text_at arena (span 0 2) ≡ Some (codes "ab")
+text_two : text_in_arena arena (span 0 2) ≡ Some (codes "ab")
 unfolding chars is_utf8 encode_utf8
 text_two = refl
 
-text_none : text_at arena (span 5 0) ≡ Some []
+text_none : text_in_arena arena (span 5 0) ≡ Some []
 unfolding chars is_utf8 encode_utf8
 text_none = refl
 
-text_after_quote : text_at arena (span 6 0) ≡ None
+text_after_quote : text_in_arena arena (span 6 0) ≡ None
 unfolding chars is_utf8 encode_utf8
 text_after_quote = refl
 
-text_past : text_at arena (span 3 3) ≡ None
+text_past : text_in_arena arena (span 3 3) ≡ None
 unfolding chars is_utf8 encode_utf8
 text_past = refl
 
-text_far : text_at arena (span 18446744073709551615 18446744073709551615) ≡ None
+text_far : text_in_arena arena (span 18446744073709551615 18446744073709551615) ≡ None
 unfolding chars is_utf8 encode_utf8
 text_far = refl
 
-text_bad : text_at arena (span 3 2) ≡ None
+text_bad : text_in_arena arena (span 3 2) ≡ None
 unfolding chars is_utf8 encode_utf8
 text_bad = refl
 
@@ -72,12 +72,12 @@ event kind style =
 abbrev directives : List DirectiveRecord
 directives = record { handle = span 4 1; prefix = span 0 0 } ∷ record { handle = span 2 1; prefix = span 0 2 } ∷ []
 
-starts_stream : event_of arena directives (event 1 1) ≡ Some (stream_start (Some utf8))
+starts_stream : event_recorded arena directives (event 1 1) ≡ Some (stream_start (Some utf8))
 unfolding chars is_utf8 encode_utf8
 starts_stream = refl
 
 starts_document :
-    event_of arena directives (event 3 99)
+    event_recorded arena directives (event 3 99)
     ≡ Some
     (document_start
     (record {
@@ -100,12 +100,12 @@ past_directives : directives_at arena directives (span 2 1) ≡ None
 unfolding chars is_utf8 encode_utf8
 past_directives = refl
 
-is_alias : event_of arena directives (event 5 99) ≡ Some (alias (codes "a"))
+is_alias : event_recorded arena directives (event 5 99) ≡ Some (alias (codes "a"))
 unfolding chars is_utf8 encode_utf8
 is_alias = refl
 
 is_literal :
-    event_of arena directives (event 6 4)
+    event_recorded arena directives (event 6 4)
     ≡ Some
     (scalar
     (record {
@@ -121,7 +121,7 @@ is_literal = refl
 
 -- a scalar that keeps its tag: "!x" is no tag that "ab" has where it stands plain
 is_typed :
-    event_of arena directives (record (event 6 1) { typed = 1 })
+    event_recorded arena directives (record (event 6 1) { typed = 1 })
     ≡ Some
     (scalar
     (record {
@@ -135,21 +135,21 @@ is_typed :
 unfolding chars is_utf8 encode_utf8
 is_typed = refl
 
-no_style : event_of arena directives (event 6 6) ≡ None
+no_style : event_recorded arena directives (event 6 6) ≡ None
 unfolding chars is_utf8 encode_utf8
 no_style = refl
 
 starts_flow :
-    event_of arena directives (event 7 2)
+    event_recorded arena directives (event 7 2)
     ≡ Some (sequence_start (record { anchor = Some (codes "a"); tag = Some (codes "!x"); implicit = true; style = flow }))
 unfolding chars is_utf8 encode_utf8
 starts_flow = refl
 
-no_kind : event_of arena directives (event 0 0) ≡ None
+no_kind : event_recorded arena directives (event 0 0) ≡ None
 unfolding chars is_utf8 encode_utf8
 no_kind = refl
 
-no_higher_kind : event_of arena directives (event 11 0) ≡ None
+no_higher_kind : event_recorded arena directives (event 11 0) ≡ None
 unfolding chars is_utf8 encode_utf8
 no_higher_kind = refl
 

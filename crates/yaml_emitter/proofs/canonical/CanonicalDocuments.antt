@@ -3,7 +3,7 @@ use Rattle.yaml_emitter.proofs.Common.{fold, Option, None, Some, Bool, false, no
 use Rattle.yaml_emitter.proofs.Common.{sym, ◌∙◌, fold-append, Version, TagDirective, Document, Documents, no_documents, documents_and, has_directives}
 use Rattle.yaml_emitter.proofs.Common.{node_awaited, Head, Reading, within, token_read, documents_read, Token, document_begins, DocumentContent}
 use Rattle.yaml_emitter.proofs.Common.{documents_content}
-use Rattle.yaml_base.specs.reading.{CanonicalReader.outside, CanonicalReader.no_head, CanonicalReader.documents_at_end, Content.document_content}
+use Rattle.yaml_base.specs.reading.{CanonicalReader.outside, CanonicalReader.no_head, CanonicalReader.canonical_documents_at_end, Content.document_content}
 use Rattle.yaml_emitter.proofs.canonical.{CanonicalEvents.EachNode, CanonicalFold.TagOf, CanonicalFold.node_fold}
 use Rattle.yaml_emitter.proofs.canonical.CanonicalTokens.{node_tokens, version_tokens, tag_line_tokens, end_tokens, document_tokens, left_open}
 use Rattle.yaml_emitter.proofs.canonical.CanonicalTokens.{documents_tokens}
@@ -92,4 +92,4 @@ documents_fold portable (documents_and before document) h =
 
 -- a stream's tokens read as its documents
 pub stream_read : (portable : Bool) (x : Documents) → EachDocument portable x → documents_read (documents_tokens portable x) ≡ Some (documents_content x)
-stream_read portable x h = ap documents_at_end (documents_fold portable x h)
+stream_read portable x h = ap canonical_documents_at_end (documents_fold portable x h)

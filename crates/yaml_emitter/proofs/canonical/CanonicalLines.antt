@@ -12,7 +12,7 @@ use Rattle.yaml_base.proofs.Common.{slice_split-cons_yes, slice_split-cons_no, o
 use Rattle.yaml_base.proofs.PercentLaws.{decoded_prefix, prefix_begins}
 use Rattle.yaml_base.proofs.stream_documents.StreamHeadings.{handle_reads, version_of, version_form}
 use Rattle.yaml_base.specs.Indicators.{document_start, document_end}
-use Rattle.yaml_base.specs.reading.CanonicalTokens.{in_line, words, tag_line_of, directive_token}
+use Rattle.yaml_base.specs.reading.CanonicalTokens.{in_line, words_of_line, tag_line_of, directive_token}
 use Rattle.yaml_emitter.proofs.canonical.CanonicalNames.{is_written, all_written, all-scalars, all-rendered, prefix-written, handle_text}
 use Rattle.yaml_emitter.proofs.canonical.CanonicalText.{anything, Says, scalars-append, says_after, says_text, says_nothing, says_white, space_if-white}
 use Rattle.yaml_emitter.proofs.canonical.CanonicalText.{line_says, indicator_says}
@@ -96,13 +96,13 @@ no_break true c h = grind (arith, nat_tests)
 no_break false c h = grind (arith, nat_tests)
 
 line_goes : (breaks12 : Bool) (text seen rest : Text) → list_all in_a_line text ≡ true
-    → tokens_from breaks12 (in_line seen) (text ++ line_feed ∷ rest) ≡ directive_token (words (seen ++ text)) ∷ tokens_from breaks12 free rest
-line_goes breaks12 [] seen rest h = ap (λ t. directive_token (words t) ∷ tokens_from breaks12 free rest) (sym (append-nil seen))
+    → tokens_from breaks12 (in_line seen) (text ++ line_feed ∷ rest) ≡ directive_token (words_of_line (seen ++ text)) ∷ tokens_from breaks12 free rest
+line_goes breaks12 [] seen rest h = ap (λ t. directive_token (words_of_line t) ∷ tokens_from breaks12 free rest) (sym (append-nil seen))
 line_goes breaks12 (c ∷ text) seen rest h =
     let p = and_parts (in_a_line c) (list_all in_a_line text) h in
     rw (no_break breaks12 c p.0)
     (line_goes breaks12 text (seen ++ c ∷ []) rest p.1
-    ∙ ap (λ t. directive_token (words t) ∷ tokens_from breaks12 free rest) (append_assoc seen (c ∷ []) text))
+    ∙ ap (λ t. directive_token (words_of_line t) ∷ tokens_from breaks12 free rest) (append_assoc seen (c ∷ []) text))
 
 written_in_line : (c : ℕ) → is_written c ≡ true → in_a_line c ≡ true
 written_in_line c h = rw h refl
@@ -127,7 +127,7 @@ some_counts : (c : ℕ) (rest : Text) → counts (c ∷ rest) ≡ true
 some_counts c rest = grind (arith, nat_tests)
 
 line_words : (handle prefix : Text) → all_written handle ≡ true → all_written prefix ≡ true → counts handle ≡ true → counts prefix ≡ true
-    → words ((codes "%TAG" ++ space ∷ []) ++ (handle ++ space ∷ prefix)) ≡ codes "%TAG" ∷ handle ∷ prefix ∷ []
+    → words_of_line ((codes "%TAG" ++ space ∷ []) ++ (handle ++ space ∷ prefix)) ≡ codes "%TAG" ∷ handle ∷ prefix ∷ []
 line_words handle prefix h p m n =
     ap (filter counts) (split_word (codes "%TAG") (handle ++ space ∷ prefix) refl
     ∙ ap (λ ws. codes "%TAG" ∷ ws) (split_word handle prefix h ∙ ap (λ ws. handle ∷ ws) (split_last prefix p)))
@@ -170,7 +170,7 @@ module _ (breaks12 portable : Bool) where
       let h = handle_written directive.handle ok.handle in
       let p = prefix-written portable directive.prefix in
       let inner = directive.handle ++ space ∷ prefix_escaped portable directive.prefix in
-      let token : directive_token (words ((codes "%TAG" ++ space ∷ []) ++ inner)) ≡ tag_line directive =
+      let token : directive_token (words_of_line ((codes "%TAG" ++ space ∷ []) ++ inner)) ≡ tag_line directive =
       ap directive_token (line_words directive.handle (prefix_escaped portable directive.prefix) h p (handle_counts directive.handle ok.handle)
       (prefix_counts portable directive.prefix ok.some))
       ∙ ap (tag_line_of directive.handle) (decoded_prefix portable directive.prefix ok.scalars)

@@ -3,13 +3,13 @@ use Rattle.yaml_emitter.proofs.Common.{ℕ, ◌==◌, None, codes, Bool, false, 
 use Rattle.yaml_emitter.proofs.Common.{ap, subst, sym, ◌∙◌, arith, and_parts, and_from, false≢true, nat_tests, list_all-append, list_all, all_scalars}
 use Rattle.yaml_emitter.proofs.Common.{IsHandle, handle_form, spelling_is, in_force_found, Text, carriage_return, next_line, space, is_alpha, is_space}
 use Rattle.yaml_emitter.proofs.Common.{TagDirective, is_rendered_text, percent_escaped, suffix_escaped, prefix_escaped, exclamation_mark, directives_fault}
-use Rattle.yaml_emitter.proofs.Common.{directives_in_force, Spelling, spelling, spelled, anchor_token, alias_token, tag_token, free, goes_to}
+use Rattle.yaml_emitter.proofs.Common.{directives_in_force, Spelling, spelling, spelled, anchor_token, alias_token, tag_token, free, moves_to}
 use Rattle.yaml_emitter.proofs.Common.{step_between_tokens, tokens_from, begins_with}
 use Rattle.yaml_base.proofs.Common.{is_among, if◌then◌else◌}
 use lib.Utf8.{scalar}
 use Rattle.yaml_base.proofs.PercentLaws.{stands_written, escaped_stands, suffix_stands, stands_in_prefix, prefix_stands}
-use Rattle.yaml_base.specs.reading.CanonicalTokens.{Token, TokenPlace, TokenStep, in_anchor, in_alias, in_tag, anchor_named, alias_named}
-use Rattle.yaml_base.specs.reading.CanonicalTokens.{completes_before, token_step, tokens_at_end}
+use Rattle.yaml_base.specs.reading.CanonicalTokens.{Token, TokenPlace, CanonicalStep, in_anchor, in_alias, in_tag, anchor_named, alias_named}
+use Rattle.yaml_base.specs.reading.CanonicalTokens.{completes_before, token_step, canonical_tokens_at_end}
 use Rattle.yaml_emitter.proofs.canonical.CanonicalText.{name_ends, space_next, Says, step_fixed}
 use Rattle.yaml_base.proofs.AllPass.{all_pass}
 
@@ -76,18 +76,18 @@ pub record IsName (name : Text) : Type 0 where
 -- letters go on in a name, and anything else ends it
 name-goes : (breaks12 : Bool) (place : Text → TokenPlace) (named : Text → Token)
     → ((seen : Text) (c : ℕ) → token_step breaks12 (place seen) c
-    ≡ (if is_alpha c then goes_to (place (seen ++ c ∷ [])) else completes_before (named seen) (step_between_tokens breaks12 c)))
-    → ((seen : Text) → tokens_at_end (place seen) ≡ named seen ∷ []) → (name seen rest : Text) → list_all is_alpha name ≡ true
+    ≡ (if is_alpha c then moves_to (place (seen ++ c ∷ [])) else completes_before (named seen) (step_between_tokens breaks12 c)))
+    → ((seen : Text) → canonical_tokens_at_end (place seen) ≡ named seen ∷ []) → (name seen rest : Text) → list_all is_alpha name ≡ true
     → begins_with is_alpha rest ≡ false → tokens_from breaks12 (place seen) (name ++ rest) ≡ named (seen ++ name) ∷ tokens_from breaks12 free rest
 name-goes breaks12 place named step end [] seen [] h k = end seen ∙ ap (λ t. named t ∷ []) (sym (append-nil seen))
 name-goes breaks12 place named step end [] seen (c ∷ rest) h k =
-    ap (λ (here : TokenStep). here.tokens ++ tokens_from breaks12 here.place rest)
-    (step seen c ∙ ap (λ x. if x then goes_to (place (seen ++ c ∷ [])) else completes_before (named seen) (step_between_tokens breaks12 c)) k)
+    ap (λ (here : CanonicalStep). here.tokens ++ tokens_from breaks12 here.place rest)
+    (step seen c ∙ ap (λ x. if x then moves_to (place (seen ++ c ∷ [])) else completes_before (named seen) (step_between_tokens breaks12 c)) k)
     ∙ ap (λ t. named t ∷ tokens_from breaks12 free (c ∷ rest)) (sym (append-nil seen))
 name-goes breaks12 place named step end (c ∷ name) seen rest h k =
     let p = and_parts (is_alpha c) (list_all is_alpha name) h in
-    ap (λ (here : TokenStep). here.tokens ++ tokens_from breaks12 here.place (name ++ rest))
-    (step seen c ∙ ap (λ x. if x then goes_to (place (seen ++ c ∷ [])) else completes_before (named seen) (step_between_tokens breaks12 c)) p.0)
+    ap (λ (here : CanonicalStep). here.tokens ++ tokens_from breaks12 here.place (name ++ rest))
+    (step seen c ∙ ap (λ x. if x then moves_to (place (seen ++ c ∷ [])) else completes_before (named seen) (step_between_tokens breaks12 c)) p.0)
     ∙ name-goes breaks12 place named step end name (seen ++ c ∷ []) rest p.1 k
     ∙ ap (λ t. named t ∷ tokens_from breaks12 free rest) (append_assoc seen (c ∷ []) name)
 

@@ -5,7 +5,7 @@ use Rattle.yaml_emitter.proofs.Common.{Text, line_feed, space, is_alpha, is_spac
 use Rattle.yaml_emitter.proofs.Common.{tokens_from, begins_with}
 use Rattle.yaml_base.proofs.Common.{breaks_line, is_break}
 use Rattle.yaml_base.proofs.stream_lines.StreamLineLaws.{break_line}
-use Rattle.yaml_base.specs.reading.CanonicalTokens.{TokenStep, completes, step_between_tokens}
+use Rattle.yaml_base.specs.reading.CanonicalTokens.{CanonicalStep, ends_token, step_between_tokens}
 
 -- what may follow a text: anything, no letter of a name, or a space alone
 pub data Demand : Type 0 where
@@ -144,9 +144,9 @@ step_fixed false c h = rw (break_line false c h, break_line true c h) refl
 
 -- an indicator that is a token
 pub symbol_says : (breaks12 : Bool) (c : ℕ) (token : Token) → is_break c ≡ false → all_scalars (c ∷ []) ≡ true → is_rendered_text (c ∷ []) ≡ true
-    → step_between_tokens true c ≡ completes token → Says breaks12 anything (c ∷ []) (token ∷ [])
+    → step_between_tokens true c ≡ ends_token token → Says breaks12 anything (c ∷ []) (token ∷ [])
 symbol_says breaks12 c token other scalars rendered step = record {
   scalars = scalars;
   rendered = rendered;
-  reads = λ rest meets. ap (λ (here : TokenStep). here.tokens ++ tokens_from breaks12 here.place rest) (step_fixed breaks12 c other ∙ step);
+  reads = λ rest meets. ap (λ (here : CanonicalStep). here.tokens ++ tokens_from breaks12 here.place rest) (step_fixed breaks12 c other ∙ step);
 }

@@ -2,7 +2,7 @@
 use Rattle.yaml_emitter.proofs.Common.{ℕ, Option, None, Some, Result, Err, Ok, nat_lt, length, Bool, false, not, true, ◌&&◌, List, ◌∷◌, refl, ◌≡◌, ap, subst}
 use Rattle.yaml_emitter.proofs.Common.{sym, ◌∙◌, option_or, Cursor, TagDirective, Collection, start_piece, is_written_in_flow, end_piece, entry_place, Place}
 use Rattle.yaml_emitter.proofs.Common.{is_key, flushes, some_if, name_or_tag_fault, most_open, Effective, Frame, Stage, at_node, next_place, stage_after}
-use Rattle.yaml_emitter.proofs.Common.{is_first, step, stage_refusal, start_event, end_event, brackets_of, Processed, MachineState, piece_at, Page, encoded}
+use Rattle.yaml_emitter.proofs.Common.{is_first, step, stage_refusal, start_of_kind, end_of_kind, brackets_of, Processed, MachineState, piece_at, Page, encoded}
 use Rattle.yaml_emitter.proofs.Common.{result_of_error, Wrote, OnOk}
 use Rattle.std.specs.Result.{IfErr}
 use Rattle.yaml_base.specs.{Event.CollectionStyle, Layout.entries_column, Layout.is_simple_collection, Steps.node_allowed}
@@ -24,8 +24,8 @@ full_here true full is answered = cc
 full_here false full is answered = refl
 
 -- a collection's style is no fault
-pub of_any_style : (canonical mapping : Bool) (start : Collection) (style : CollectionStyle) → name_or_tag_fault canonical (start_event mapping start) ≡ None
-    → name_or_tag_fault canonical (start_event mapping (record start { style = style })) ≡ None
+pub of_any_style : (canonical mapping : Bool) (start : Collection) (style : CollectionStyle) → name_or_tag_fault canonical (start_of_kind mapping start) ≡ None
+    → name_or_tag_fault canonical (start_of_kind mapping (record start { style = style })) ≡ None
 of_any_style canonical true start style none = none
 of_any_style canonical false start style none = none
 
@@ -33,9 +33,9 @@ abbrev start_simple : Effective → List TagDirective → Collection → (empty 
 start_simple s directives start empty place = is_key place.role && (not s.canonical && is_simple_collection s.canonical directives start empty)
 
 start_refusal : (canonical : Bool) (directives : List TagDirective) (frames : List Frame) (mapping : Bool) (start : Collection) (room : Bool)
-    → name_or_tag_fault canonical (start_event mapping start) ≡ None
+    → name_or_tag_fault canonical (start_of_kind mapping start) ≡ None
     → nat_lt (length frames) most_open ≡ room
-    → stage_refusal canonical (at_node directives frames) (start_event mapping start) ≡ some_if (not room) TooDeep
+    → stage_refusal canonical (at_node directives frames) (start_of_kind mapping start) ≡ some_if (not room) TooDeep
 start_refusal canonical directives frames true start room none is =
     ap (λ (o : Option yaml_error_t). option_or o (some_if (not (nat_lt (length frames) most_open)) TooDeep)) none
     ∙ ap (λ (b : Bool). some_if (not b) TooDeep) is
@@ -45,10 +45,10 @@ start_refusal canonical directives frames false start room none is =
 
 pub start_refused : (before : MachineState) (directives : List TagDirective) (frames : List Frame) (mapping : Bool) (start : Collection) (empty : Bool)
     → before.stage ≡ at_node directives frames
-    → name_or_tag_fault before.given.canonical (start_event mapping start) ≡ None → nat_lt (length frames) most_open ≡ false
-    → Processed (start_event mapping start) empty before before (Err TooDeep)
+    → name_or_tag_fault before.given.canonical (start_of_kind mapping start) ≡ None → nat_lt (length frames) most_open ≡ false
+    → Processed (start_of_kind mapping start) empty before before (Err TooDeep)
 start_refused before directives frames mapping start empty at none full =
-    processed_refused_at (start_event mapping start) empty before (at_node directives frames) TooDeep at tt
+    processed_refused_at (start_of_kind mapping start) empty before (at_node directives frames) TooDeep at tt
     (start_refusal before.given.canonical directives frames mapping start false none full)
 
 start_wrote : (before : MachineState) (directives : List TagDirective) (frames : List Frame) (mapping : Bool) (start : Collection) (empty simple : Bool)
@@ -56,7 +56,7 @@ start_wrote : (before : MachineState) (directives : List TagDirective) (frames :
     → place ≡ next_place frames → simple ≡ start_simple before.settings directives start empty place
     → Wrote (piece_at (start_piece before.settings directives place simple start) before.open_ended) before.page page answer
     → Wrote (piece_at (λ standing. (step before.settings (at_node directives frames)
-    (start_event mapping start) empty standing).rendered) before.open_ended) before.page
+    (start_of_kind mapping start) empty standing).rendered) before.open_ended) before.page
     page answer
 start_wrote before directives frames mapping start empty simple place page answer place_is simple_is wrote =
     by mapping
@@ -69,20 +69,20 @@ start_wrote before directives frames mapping start empty simple place page answe
         (start_piece before.settings directives (next_place frames) (start_simple before.settings directives start empty (next_place frames)) start)
         before.open_ended) before.page page answer
         → Wrote (piece_at (λ standing. (step before.settings (at_node directives frames)
-        (start_event mapping start) empty standing).rendered) before.open_ended)
+        (start_of_kind mapping start) empty standing).rendered) before.open_ended)
         before.page page answer
     by true w = w
     by false w = w
 
 pub start_cut : (before : MachineState) (directives : List TagDirective) (frames : List Frame) (mapping : Bool) (start : Collection) (empty simple : Bool)
     (place : Place) (page : Page) (error : yaml_error_t)
-    → before.stage ≡ at_node directives frames → name_or_tag_fault before.given.canonical (start_event mapping start) ≡ None
+    → before.stage ≡ at_node directives frames → name_or_tag_fault before.given.canonical (start_of_kind mapping start) ≡ None
     → nat_lt (length frames) most_open ≡ true
     → place ≡ next_place frames → simple ≡ start_simple before.settings directives start empty place
     → Wrote (piece_at (start_piece before.settings directives place simple start) before.open_ended) before.page page (Err error)
-    → Processed (start_event mapping start) empty before (record before { page = page }) (Err error)
+    → Processed (start_of_kind mapping start) empty before (record before { page = page }) (Err error)
 start_cut before directives frames mapping start empty simple place page error at none room place_is simple_is wrote =
-    processed_cut_at (start_event mapping start) empty before (record before { page = page }) (at_node directives frames) error at refl refl
+    processed_cut_at (start_of_kind mapping start) empty before (record before { page = page }) (at_node directives frames) error at refl refl
     (start_refusal before.given.canonical directives frames mapping start true none room)
     (start_wrote before directives frames mapping start empty simple place page (Err error) place_is simple_is wrote)
 
@@ -93,14 +93,14 @@ stated_well (Some other) is = cc
 -- want of memory for what is open, after the start was written
 start_unkept : (before : MachineState) (directives : List TagDirective) (frames : List Frame) (mapping : Bool) (start : Collection) (empty simple : Bool)
     (place : Place) (after : Stage) (page : Page)
-    → before.stage ≡ at_node directives frames → name_or_tag_fault before.given.canonical (start_event mapping start) ≡ None
+    → before.stage ≡ at_node directives frames → name_or_tag_fault before.given.canonical (start_of_kind mapping start) ≡ None
     → nat_lt (length frames) most_open ≡ true
     → place ≡ next_place frames → simple ≡ start_simple before.settings directives start empty place
     → Wrote (piece_at (start_piece before.settings directives place simple start) before.open_ended) before.page page (Ok tt)
-    → Processed (start_event mapping start) empty before (record before { stage = after; page = page }) (Err Memory)
+    → Processed (start_of_kind mapping start) empty before (record before { stage = after; page = page }) (Err Memory)
 start_unkept before directives frames mapping start empty simple place after page at none room place_is simple_is wrote =
     let well = stated_well page.error wrote.answered in
-    processed_after_writing (start_event mapping start) empty before (record before { stage = after; page = page }) (at_node directives frames) at refl refl
+    processed_after_writing (start_of_kind mapping start) empty before (record before { stage = after; page = page }) (at_node directives frames) at refl refl
     (start_refusal before.given.canonical directives frames mapping start true none room) well
     (start_wrote before directives frames mapping start empty simple place page (Ok tt) place_is simple_is wrote)
 
@@ -114,14 +114,14 @@ opened s mapping in_flow simple place cursor =
 start_written : (before : MachineState) (directives : List TagDirective) (frames : List Frame) (mapping : Bool) (start : Collection)
     (empty simple in_flow : Bool)
     (place : Place) (frame : Frame) (after : Stage) (page : Page)
-    → before.stage ≡ at_node directives frames → name_or_tag_fault before.given.canonical (start_event mapping start) ≡ None
+    → before.stage ≡ at_node directives frames → name_or_tag_fault before.given.canonical (start_of_kind mapping start) ≡ None
     → nat_lt (length frames) most_open ≡ true
     → place ≡ next_place frames → simple ≡ start_simple before.settings directives start empty place
     → in_flow ≡ is_written_in_flow before.settings place start empty
     → frame ≡ opened before.settings mapping in_flow simple place page.cursor
     → after ≡ at_node directives (frame ∷ frames)
     → Wrote (piece_at (start_piece before.settings directives place simple start) before.open_ended) before.page page (Ok tt)
-    → Processed (start_event mapping start) empty before (record before { stage = after; page = page }) (Ok tt)
+    → Processed (start_of_kind mapping start) empty before (record before { stage = after; page = page }) (Ok tt)
 start_written before directives frames mapping start empty simple in_flow place frame after page at none room place_is simple_is in_flow_is frame_is after_is
     wrote =
     let s = before.settings in
@@ -132,21 +132,21 @@ start_written before directives frames mapping start empty simple in_flow place 
     ∙ ap (λ (p : Place). opened s mapping (is_written_in_flow s p start empty) (start_simple s directives start empty p) p page.cursor) place_is
     ∙ ap (λ (c : Cursor). opened s mapping (is_written_in_flow s (next_place frames) start empty) (start_simple s directives start empty (next_place frames))
     (next_place frames) c) (whole.all (stated_well page.error whole.answered)).cursor in
-    processed_written_at (start_event mapping start) empty before (record before { stage = after; page = page }) (at_node directives frames) at
+    processed_written_at (start_of_kind mapping start) empty before (record before { stage = after; page = page }) (at_node directives frames) at
     (in_stream mapping) refl
     (start_refusal before.given.canonical directives frames mapping start true none room) refl
     (after_is ∙ ap (λ (f : Frame). at_node directives (f ∷ frames)) framed ∙ stage_by mapping) (open_ended_by mapping) whole (hands mapping)
   where
-    in_stream : (mapping : Bool) → IsInStream (start_event mapping start)
+    in_stream : (mapping : Bool) → IsInStream (start_of_kind mapping start)
     in_stream true = tt
     in_stream false = tt
 
-    hands : (mapping : Bool) → flushes (start_event mapping start) ≡ true → page.output ≡ encoded page
+    hands : (mapping : Bool) → flushes (start_of_kind mapping start) ≡ true → page.output ≡ encoded page
     hands true is = cc
     hands false is = cc
 
     open_ended_by : (mapping : Bool) → before.open_ended
-        ≡ (step before.settings (at_node directives frames) (start_event mapping start) empty
+        ≡ (step before.settings (at_node directives frames) (start_of_kind mapping start) empty
         (record { cursor = before.page.cursor; open_ended = before.open_ended })).rendered.standing.open_ended
     open_ended_by true = refl
     open_ended_by false = refl
@@ -154,9 +154,9 @@ start_written before directives frames mapping start empty simple in_flow place 
     stage_by : (mapping : Bool) → at_node directives
         (opened before.settings mapping (is_written_in_flow before.settings (next_place frames) start empty)
         (start_simple before.settings directives start empty (next_place frames)) (next_place frames)
-        (step before.settings (at_node directives frames) (start_event mapping start) empty
+        (step before.settings (at_node directives frames) (start_of_kind mapping start) empty
         (record { cursor = before.page.cursor; open_ended = before.open_ended })).rendered.standing.cursor ∷ frames)
-        ≡ (step before.settings (at_node directives frames) (start_event mapping start) empty
+        ≡ (step before.settings (at_node directives frames) (start_of_kind mapping start) empty
         (record { cursor = before.page.cursor; open_ended = before.open_ended })).stage
     stage_by true = refl
     stage_by false = refl
@@ -165,33 +165,33 @@ start_written before directives frames mapping start empty simple in_flow place 
 pub start_left : (before : MachineState) (directives : List TagDirective) (frames : List Frame) (mapping : Bool) (start : Collection)
     (empty simple in_flow : Bool)
     (place : Place) (frame : Frame) (after : Stage) (page : Page) (result : Result (Unit {0}) yaml_error_t)
-    → before.stage ≡ at_node directives frames → name_or_tag_fault before.given.canonical (start_event mapping start) ≡ None
+    → before.stage ≡ at_node directives frames → name_or_tag_fault before.given.canonical (start_of_kind mapping start) ≡ None
     → nat_lt (length frames) most_open ≡ true
     → place ≡ next_place frames → simple ≡ start_simple before.settings directives start empty place
     → in_flow ≡ is_written_in_flow before.settings place start empty
     → frame ≡ opened before.settings mapping in_flow simple place page.cursor
     → OnOk result (after ≡ at_node directives (frame ∷ frames)) → IfErr result (λ e. e ≡ Memory)
     → Wrote (piece_at (start_piece before.settings directives place simple start) before.open_ended) before.page page (Ok tt)
-    → Processed (start_event mapping start) empty before (record before { stage = after; page = page }) result
+    → Processed (start_of_kind mapping start) empty before (record before { stage = after; page = page }) result
 start_left before directives frames mapping start empty simple in_flow place frame after page (Ok done) at none room place_is simple_is in_flow_is frame_is
     pushed memory wrote =
     start_written before directives frames mapping start empty simple in_flow place frame after page at none room place_is simple_is in_flow_is frame_is
     pushed wrote
 start_left before directives frames mapping start empty simple in_flow place frame after page (Err error) at none room place_is simple_is in_flow_is frame_is
     pushed memory wrote =
-    subst (λ (e : yaml_error_t). Processed (start_event mapping start) empty before (record before { stage = after; page = page }) (Err e)) (sym memory)
+    subst (λ (e : yaml_error_t). Processed (start_of_kind mapping start) empty before (record before { stage = after; page = page }) (Err e)) (sym memory)
     (start_unkept before directives frames mapping start empty simple place after page at none room place_is simple_is wrote)
 
 -- Ends of collections
 
 pub may_end_here : (frames : List Frame) (frame : Frame) (outer : List Frame) (mapping may : Bool) → frames ≡ frame ∷ outer
-    → may ≡ node_allowed frames (end_event mapping) → may ≡ true → node_allowed (frame ∷ outer) (end_event mapping) ≡ true
-may_end_here frames frame outer mapping true parts is answered = sym (is ∙ ap (λ (f : List Frame). node_allowed f (end_event mapping)) parts)
+    → may ≡ node_allowed frames (end_of_kind mapping) → may ≡ true → node_allowed (frame ∷ outer) (end_of_kind mapping) ≡ true
+may_end_here frames frame outer mapping true parts is answered = sym (is ∙ ap (λ (f : List Frame). node_allowed f (end_of_kind mapping)) parts)
 may_end_here frames frame outer mapping false parts is answered = cc
 
 end_refusal : (canonical : Bool) (directives : List TagDirective) (frames : List Frame) (mapping allowed : Bool)
-    → node_allowed frames (end_event mapping) ≡ allowed
-    → stage_refusal canonical (at_node directives frames) (end_event mapping) ≡ option_or (some_if (not allowed) ExpectedNode) None
+    → node_allowed frames (end_of_kind mapping) ≡ allowed
+    → stage_refusal canonical (at_node directives frames) (end_of_kind mapping) ≡ option_or (some_if (not allowed) ExpectedNode) None
 end_refusal canonical directives frames true allowed is = ap (λ (b : Bool). option_or (some_if (not b) ExpectedNode) None) is
 end_refusal canonical directives frames false allowed is = ap (λ (b : Bool). option_or (some_if (not b) ExpectedNode) None) is
 
@@ -203,7 +203,7 @@ end_wrote_at : (before : MachineState) (directives : List TagDirective) (frame :
     (is_first frame.place.role) column) before.open_ended) before.page page
     answer
     → Wrote (piece_at (λ standing. (step before.settings (at_node directives (frame ∷ outer))
-    (end_event mapping) empty standing).rendered) before.open_ended) before.page
+    (end_of_kind mapping) empty standing).rendered) before.open_ended) before.page
     page answer
 end_wrote_at before directives frame outer mapping empty column page answer column_is wrote =
     by mapping (subst (λ (c : Option ℕ).
@@ -215,13 +215,13 @@ end_wrote_at before directives frame outer mapping empty column page answer colu
         (next_place outer).column) before.open_ended) before.page
         page answer
         → Wrote (piece_at (λ standing. (step before.settings (at_node directives (frame ∷ outer))
-        (end_event mapping) empty standing).rendered) before.open_ended)
+        (end_of_kind mapping) empty standing).rendered) before.open_ended)
         before.page page answer
     by true w = w
     by false w = w
 
 -- a collection ends only within a document
-pub ending_at_node : (stage : Stage) (mapping : Bool) → stage_allows stage (end_event mapping) ≡ true → is_at_node stage ≡ true
+pub ending_at_node : (stage : Stage) (mapping : Bool) → stage_allows stage (end_of_kind mapping) ≡ true → is_at_node stage ≡ true
 ending_at_node at_stream true h = cc
 ending_at_node at_stream false h = cc
 ending_at_node (at_document first) true h = cc
@@ -234,34 +234,34 @@ ending_at_node at_nothing false h = cc
 
 end_written : (before : MachineState) (directives : List TagDirective) (frame : Frame) (outer : List Frame) (mapping empty : Bool) (column : Option ℕ)
     (after : Stage) (page : Page)
-    → before.stage ≡ at_node directives (frame ∷ outer) → node_allowed (frame ∷ outer) (end_event mapping) ≡ true → column ≡ (next_place outer).column
+    → before.stage ≡ at_node directives (frame ∷ outer) → node_allowed (frame ∷ outer) (end_of_kind mapping) ≡ true → column ≡ (next_place outer).column
     → after ≡ stage_after directives outer frame.simple
     → Wrote (piece_at (end_piece before.settings (brackets_of mapping) frame.place.in_flow
     (is_first frame.place.role) column) before.open_ended) before.page page
     (Ok tt)
-    → Processed (end_event mapping) empty before (record before { stage = after; page = page }) (Ok tt)
+    → Processed (end_of_kind mapping) empty before (record before { stage = after; page = page }) (Ok tt)
 end_written before directives frame outer mapping empty column after page at allowed column_is after_is wrote =
-    processed_written_at (end_event mapping) empty before (record before { stage = after; page = page }) (at_node directives (frame ∷ outer)) at
+    processed_written_at (end_of_kind mapping) empty before (record before { stage = after; page = page }) (at_node directives (frame ∷ outer)) at
     (in_stream mapping) refl
     (end_refusal before.given.canonical directives (frame ∷ outer) mapping true allowed) refl (after_is ∙ stage_by mapping) (open_ended_by mapping)
     (end_wrote_at before directives frame outer mapping empty column page (Ok tt) column_is wrote) (hands mapping)
   where
-    in_stream : (mapping : Bool) → IsInStream (end_event mapping)
+    in_stream : (mapping : Bool) → IsInStream (end_of_kind mapping)
     in_stream true = tt
     in_stream false = tt
 
-    hands : (mapping : Bool) → flushes (end_event mapping) ≡ true → page.output ≡ encoded page
+    hands : (mapping : Bool) → flushes (end_of_kind mapping) ≡ true → page.output ≡ encoded page
     hands true is = cc
     hands false is = cc
 
     open_ended_by : (mapping : Bool) → before.open_ended
-        ≡ (step before.settings (at_node directives (frame ∷ outer)) (end_event mapping) empty
+        ≡ (step before.settings (at_node directives (frame ∷ outer)) (end_of_kind mapping) empty
         (record { cursor = before.page.cursor; open_ended = before.open_ended })).rendered.standing.open_ended
     open_ended_by true = refl
     open_ended_by false = refl
 
     stage_by : (mapping : Bool) → stage_after directives outer frame.simple
-        ≡ (step before.settings (at_node directives (frame ∷ outer)) (end_event mapping) empty
+        ≡ (step before.settings (at_node directives (frame ∷ outer)) (end_of_kind mapping) empty
         (record { cursor = before.page.cursor; open_ended = before.open_ended })).stage
     stage_by true = refl
     stage_by false = refl
@@ -269,15 +269,15 @@ end_written before directives frame outer mapping empty column after page at all
 -- what a collection's end leaves, whether or not it was written whole
 pub end_done : (before : MachineState) (directives : List TagDirective) (frame : Frame) (outer : List Frame) (mapping empty : Bool) (column : Option ℕ)
     (after : Stage) (page : Page) (answer : Result (Unit {0}) yaml_error_t)
-    → before.stage ≡ at_node directives (frame ∷ outer) → node_allowed (frame ∷ outer) (end_event mapping) ≡ true → column ≡ (next_place outer).column
+    → before.stage ≡ at_node directives (frame ∷ outer) → node_allowed (frame ∷ outer) (end_of_kind mapping) ≡ true → column ≡ (next_place outer).column
     → after ≡ stage_after directives outer frame.simple
     → Wrote (piece_at (end_piece before.settings (brackets_of mapping) frame.place.in_flow
     (is_first frame.place.role) column) before.open_ended) before.page page
     answer
-    → Processed (end_event mapping) empty before (record before { stage = after; page = page }) answer
+    → Processed (end_of_kind mapping) empty before (record before { stage = after; page = page }) answer
 end_done before directives frame outer mapping empty column after page (Ok done) at allowed column_is after_is wrote =
     end_written before directives frame outer mapping empty column after page at allowed column_is after_is wrote
 end_done before directives frame outer mapping empty column after page (Err error) at allowed column_is after_is wrote =
-    processed_cut_at (end_event mapping) empty before (record before { stage = after; page = page }) (at_node directives (frame ∷ outer)) error at refl refl
+    processed_cut_at (end_of_kind mapping) empty before (record before { stage = after; page = page }) (at_node directives (frame ∷ outer)) error at refl refl
     (end_refusal before.given.canonical directives (frame ∷ outer) mapping true allowed)
     (end_wrote_at before directives frame outer mapping empty column page (Err error) column_is wrote)

@@ -8,7 +8,7 @@ use Rattle.yaml_emitter.proofs.Common.{name_fault, anchor_fault, tag_fault, vers
 use Rattle.yaml_emitter.proofs.Common.{prefix_fault, directive_fault, gives_handle, next_directive_fault, directives_fault_after, directives_fault}
 use Rattle.yaml_emitter.proofs.Common.{directives_in_force, Processed, MachineState, piece_at, Page, Wrote}
 use Rattle.std.proofs.Common.{◌≢◌}
-use Rattle.yaml_base.specs.{Steps.stage_allows, Steps.stage_expected, Steps.open_frames, Tags.equals_integer, declared.errors.yaml_error_t.yaml_error_t}
+use Rattle.yaml_base.specs.{Steps.stage_allows, Steps.stage_expected, Steps.frame_count, Tags.equals_integer, declared.errors.yaml_error_t.yaml_error_t}
 use Rattle.yaml_base.specs.declared.errors.yaml_error_t.TheVariants.{AliasAlphabet, AliasEmpty, AnchorAlphabet, AnchorEmpty, DuplicateDirective}
 use Rattle.yaml_base.specs.declared.errors.yaml_error_t.TheVariants.{IncompatibleVersion, Memory, TagHandleAlphabet, TagHandleEnd, TagHandleStart, TooDeep}
 use Rattle.yaml_base.specs.declared.errors.yaml_error_t.TheVariants.{WriteError}
@@ -151,7 +151,7 @@ names_other canonical event = refl
 abbrev later : Bool → Stage → Event → Option yaml_error_t
 later canonical stage event =
     option_or (some_if (not (stage_allows stage event)) (stage_expected stage))
-    (option_or (content_fault canonical event) (some_if (begins_collection event && not (nat_lt (open_frames stage) most_open)) TooDeep))
+    (option_or (content_fault canonical event) (some_if (begins_collection event && not (nat_lt (frame_count stage) most_open)) TooDeep))
 
 -- a faulty name or tag is refused before anything else
 pub names_refused : (event : Event) (empty : Bool) (state : MachineState) (error : yaml_error_t)

@@ -3,7 +3,7 @@ use Rattle.yaml_emitter.proofs.Common.{ℕ, is_some, option_and_then, Option, No
 use Rattle.yaml_emitter.proofs.Common.{◌≡◌, ap, subst, sym, ◌∙◌, option_or, Text, TagDirective, Scalar, Collection, Event, alias, scalar, scalar_tag}
 use Rattle.yaml_emitter.proofs.Common.{collection_tag, scalar_piece, alias_piece, Place, is_key, is_simple_alias, is_simple_scalar, some_if}
 use Rattle.yaml_emitter.proofs.Common.{name_or_tag_fault, Effective, Frame, Stage, at_node, next_place, stage_after, stage_refusal, anchor_fault, alias_fault}
-use Rattle.yaml_emitter.proofs.Common.{tag_fault, lacks_tag_and_flags, name_breaks, machine_state, IsMachine, start_event, Processed, seen_stage}
+use Rattle.yaml_emitter.proofs.Common.{tag_fault, lacks_tag_and_flags, name_breaks, machine_state, IsMachine, start_of_kind, Processed, seen_stage}
 use Rattle.yaml_emitter.proofs.Common.{MachineState, FitsPage, is_at_stream, piece_at, Page, IsReady, OnOk, Wrote}
 use Rattle.yaml_base.specs.declared.errors.{yaml_error_t.yaml_error_t, yaml_error_t.TheVariants.NoTagNorImplicit}
 use Rattle.yaml_emitter.proofs.{events_done.KeptInside.fits_ready, events_done.KeptInside.kept_writing, events_done.ProcessedBy.processed_refused_at}
@@ -216,7 +216,7 @@ pub scalar_anchor : (canonical : Bool) (content : Scalar) → name_or_tag_fault 
 scalar_anchor canonical content none =
     sound_anchor content.anchor (first_none (option_and_then anchor_fault content.anchor) (option_and_then tag_fault (scalar_tag canonical content)) none)
 
-pub collection_anchor : (canonical mapping : Bool) (start : Collection) → name_or_tag_fault canonical (start_event mapping start) ≡ None
+pub collection_anchor : (canonical mapping : Bool) (start : Collection) → name_or_tag_fault canonical (start_of_kind mapping start) ≡ None
     → name_breaks start.anchor ≡ false
 collection_anchor canonical true start none =
     sound_anchor start.anchor (first_none (option_and_then anchor_fault start.anchor) (option_and_then tag_fault (collection_tag canonical start)) none)

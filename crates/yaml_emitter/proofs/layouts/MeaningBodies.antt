@@ -2,7 +2,8 @@
 use Rattle.yaml_emitter.proofs.Common.{ℕ, ◌≤◌, Option, None, Some, Bool, false, true, refl, ◌≡◌, arith, all_scalars, Text, Cursor, ScalarStyle, any_style}
 use Rattle.yaml_emitter.proofs.Common.{plain, single_quoted, double_quoted, literal, folded, render_body, body_at, Place, deeper, BodyMeans}
 use Rattle.yaml_emitter.proofs.Common.{Effective, Charset, allows_plain, allowances}
-use Rattle.yaml_base.{proofs.Charsets.plain_still, proofs.Charsets.single_still, proofs.Charsets.block_still, proofs.Charsets.literal_still, proofs.Common.allows_literal, specs.scalars.BlockHeader.Encloses}
+use Rattle.yaml_base.{proofs.Charsets.plain_still, proofs.Charsets.single_still, proofs.Charsets.block_still, proofs.Charsets.literal_still}
+use Rattle.yaml_base.{proofs.Common.allows_literal, specs.scalars.BlockHeader.Encloses}
 use Rattle.yaml_emitter.proofs.layouts.MeaningStyles.{Allows, AllowsUnder}
 use Rattle.yaml_scalar.proofs.{DoubleReads.double-reads, DoubleReads.double-indented, PlainReads.plain-reads, PlainReads.plain-indented}
 use Rattle.yaml_scalar.proofs.{SingleReads.single-reads, SingleReads.single-indented, blocks.BlockLines.literal-kept, blocks.BlockLines.folded-kept}

@@ -1,5 +1,6 @@
 -- The style that is chosen for a scalar is one that its value allows where it stands.
-use Rattle.yaml_emitter.proofs.Common.{allowed_by_quotes, allowed_by_blanks, if◌then◌else◌, Bool, false, not, true, ◌&&◌, ◌||◌, refl, ◌≡◌, and_parts, ScalarStyle, any_style, plain, single_quoted}
+use Rattle.yaml_emitter.proofs.Common.{allowed_by_quotes, allowed_by_blanks, if◌then◌else◌, Bool, false, not, true, ◌&&◌, ◌||◌, refl, ◌≡◌, and_parts}
+use Rattle.yaml_emitter.proofs.Common.{ScalarStyle, any_style, plain, single_quoted}
 use Rattle.yaml_emitter.proofs.Common.{double_quoted, literal, folded, Allowances, requested_style, quoted_style, fitting_style, fits_plain, chosen}
 use Rattle.yaml_emitter.proofs.Common.{is_some, subst, sym, ◌∙◌, false≢true, Text, Scalar, scalar_tag, charset_of, style_asked_at, choice_of, Place, Effective}
 use Rattle.yaml_emitter.proofs.Common.{is_empty, allowances, inl, inr}

@@ -10,7 +10,7 @@ use Rattle.yaml_base.proofs.Common.{is_literal, is_special_but_tab, is_tidy_char
 use Rattle.yaml_base.proofs.Common.{or_left, not-false, line_separator, paragraph_separator, is_ascii}
 use Rattle.std.proofs.Math.Utf8.{scalar}
 use Rattle.yaml_base.{proofs.CallerLaws.encodings_agree, specs.Settings.escapes_separators}
-use Rattle.yaml_base.specs.WrittenTexts.{is_separator, may_stand_raw, TextsHoldRaw, StreamsAgree}
+use Rattle.yaml_base.specs.WrittenTexts.{is_separator, is_written_raw, TextsHoldRaw, StreamsAgree}
 use Rattle.yaml_emitter.proofs.layouts.{Meaning.is_indent, MeaningBodies.IsIndent, MeaningBodies.plain_context, MeaningStyles.Allows, SparingSteps.Spared}
 use Rattle.yaml_emitter.proofs.layouts.MeaningStyles.{AllowsLiteral, AllowsUnder}
 use Rattle.yaml_emitter.proofs.layouts.{SparingSteps.lacks_steps}
@@ -235,10 +235,10 @@ raw_test test tabs charset of_tab others c h = by (raw_cases tabs charset c h)
     by (inr e) = others c e
 
 -- may stand raw
-raw_stands : (tabs : Bool) (charset : Charset) (c : ℕ) → is_special_raw tabs charset c ≡ false → may_stand_raw tabs c ≡ true
+raw_stands : (tabs : Bool) (charset : Charset) (c : ℕ) → is_special_raw tabs charset c ≡ false → is_written_raw tabs c ≡ true
 raw_stands tabs charset c h = by (raw_cases tabs charset c h)
   where
-    by : ((tabs && c == tab) ≡ true) ⊎ (is_special charset c ≡ false) → may_stand_raw tabs c ≡ true
+    by : ((tabs && c == tab) ≡ true) ⊎ (is_special charset c ≡ false) → is_written_raw tabs c ≡ true
     by (inl e) = or_right (is_printable c || c == carriage_return) (tabs && c == tab) e
     by (inr e) =
         or_left (is_printable c || c == carriage_return) (tabs && c == tab) (or_left (is_printable c) (c == carriage_return) (special_printable charset c e))
@@ -257,9 +257,9 @@ raw_held s text h =
     let special = is_special_raw tabs charset in
     let written = with_breaks_written s.line_break text in
     record {
-      printable = all_meet (may_stand_raw tabs) written
-          (lacks_written (λ c. not (may_stand_raw tabs c)) s.line_break refl refl text
-          (lacks_fewer special (λ c. not (may_stand_raw tabs c)) (λ c e. ap not (raw_stands tabs charset c e)) text h));
+      printable = all_meet (is_written_raw tabs) written
+          (lacks_written (λ c. not (is_written_raw tabs c)) s.line_break refl refl text
+          (lacks_fewer special (λ c. not (is_written_raw tabs c)) (λ c e. ap not (raw_stands tabs charset c e)) text h));
       scalars = scalars_all written (all_meet scalar written
           (lacks_written (λ c. not (scalar c)) s.line_break refl refl text
           (lacks_fewer special (λ c. not (scalar c))

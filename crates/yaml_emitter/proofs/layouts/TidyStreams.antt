@@ -1,7 +1,7 @@
 -- The bodies of every accepted list's layout are tidy.
 use Rattle.yaml_base.proofs.Common.{suc, ℕ, ◌≤◌, unwrap_or, Option, not, true, List, [], ◌∷◌, refl, ◌≡◌, ap, arith, and_from, list_all, Text, is_printable}
 use Rattle.yaml_base.proofs.Common.{Cursor, ScalarStyle, any_style, plain, single_quoted, double_quoted, literal, folded, Event, render_body, charset_of}
-use Rattle.yaml_base.proofs.Common.{body_at, Place, deeper, Effective, effective, IsTidy, BodiesAreTidy, has_deep_lines, is_tidy_style, is_special}
+use Rattle.yaml_base.proofs.Common.{body_at, Place, deeper, Effective, effective, BodyIsTidy, BodiesAreTidy, has_deep_lines, is_tidy_style, is_special}
 use Rattle.yaml_base.proofs.Common.{is_tidy_character, list_any, false, Bool}
 use Rattle.yaml_emitter.proofs.layouts.{Meaning.list_holds, Meaning.is_indent, MeaningStyles.AllowsUnder}
 use Rattle.yaml_emitter.proofs.layouts.MeaningBodies.{IsIndent, plain_context, charset_by_breaks, allows_still}
@@ -82,7 +82,7 @@ module _ (s : Effective) (is : IsIndent s.indent) (place : Place) where
 
   -- a body that a value allows is tidy
   pub body_tidy : (style : ScalarStyle) (limit : Option ℕ) (value : Text) (cursor : Cursor) → AllowsUnder s place.in_flow value style
-      → IsTidy s (body_at place style value (render_body style s limit (deeper s.indent place.column) value cursor))
+      → BodyIsTidy s (body_at place style value (render_body style s limit (deeper s.indent place.column) value cursor))
   body_tidy style limit value cursor allowed =
       let keeps = keeps_to style limit value cursor allowed in
       and_from _ _ (and_from _ _ (shown style limit value cursor allowed) keeps.deep) keeps.tidy
@@ -97,6 +97,6 @@ pub bodies_are_tidy : BodiesAreTidy
 bodies_are_tidy given encoding events accepted =
     let s = effective given encoding in
     let is = is_indent given.indent in
-    list_holds s (IsTidy s) (λ (event : Event). true)
+    list_holds s (BodyIsTidy s) (λ (event : Event). true)
     (λ place style limit content cursor good allowed. body_tidy s is place style limit content.value cursor allowed)
     given.canonical events accepted (all_good events)

@@ -4,7 +4,8 @@ use Rattle.yaml_emitter.proofs.Common.{ℕ, if◌then◌else◌, ◌==◌, optio
 use Rattle.yaml_emitter.proofs.Common.{false, not, true, ◌&&◌, ◌||◌, List, refl, ◌≡◌, append_assoc, inl, inr, ap, subst, sym, ◌∙◌, arith, and_parts, ints}
 use Rattle.yaml_emitter.proofs.Common.{chars, Text, Cursor, Rendered, render_then, ScalarStyle, any_style, plain, single_quoted}
 use Rattle.yaml_emitter.proofs.Common.{double_quoted, literal, folded, TagDirective, Scalar, scalar_tag, render_anchor, render_properties, render_separation}
-use Rattle.yaml_emitter.proofs.Common.{render_body, allowed_under, charset_of, choice_of, scalar_piece, Place, deeper, render_place, Effective, Spelling, spelling, Charset}
+use Rattle.yaml_emitter.proofs.Common.{render_body, allowed_under, charset_of, choice_of, scalar_piece, Place, deeper, render_place, Effective, Spelling}
+use Rattle.yaml_emitter.proofs.Common.{spelling, Charset}
 use Rattle.yaml_emitter.proofs.Common.{Allowances, is_empty, Choice, is_plain, requested_style, quoted_style, fitting_style, fits_plain, chosen}
 use Rattle.yaml_emitter.proofs.Common.{seen_effective, render_scalar_text, style_fits, render_spelled_tag, piece_at, wrote_as, Page, Wrote}
 use Rattle.yaml_base.proofs.Charsets.{literal_allowed}

@@ -3,7 +3,7 @@ use Rattle.yaml_emitter.proofs.Common.{suc, ℕ, ◌+◌, ◌-◌, ◌≤◌, if
 use Rattle.yaml_emitter.proofs.Common.{map, ◌++◌, ◌∷◌, refl, ◌≡◌, drop-drop, ap, subst, sym, ◌∙◌, arith, drop-map, length-map, written-append, Event}
 use Rattle.yaml_emitter.proofs.Common.{sequence_start, mapping_start}
 use Rattle.yaml_emitter.proofs.Common.{is_ready, written, held_back, Settings, closes_at_once, Processed, is_head_ready, StandsWithoutError}
-use Rattle.yaml_emitter.proofs.Common.{MachineStands, StateStands, Reached, ReachedOn, ProcessedFirst, State, MachineState, machine_of}
+use Rattle.yaml_emitter.proofs.Common.{MachineStands, StateStands, HasReached, ReachedOn, ProcessedFirst, State, MachineState, machine_of}
 use Rattle.std.proofs.lemmas.List.{length-drop, take_rest}
 use Rattle.yaml_base.specs.declared.errors.{yaml_error_t.yaml_error_t, yaml_error_t.TheVariants.Memory, yaml_error_t.TheVariants.WriteError}
 use Rattle.yaml_emitter.proofs.standing.{Standing.reached_first, StandingFailed.reached_failed, StandingPromises.stands_well, StandingSteps.reached_next}
@@ -30,15 +30,15 @@ took_error waiting before after answer h = processed_error h.event (closes_at_on
 pub took_next : (waiting : List Event) (before after : MachineState) → ProcessedFirst waiting before after (Ok tt) → is_head_ready waiting ≡ true
     → ReachedOn waiting before (drop 1 waiting) after
 took_next waiting before after h ready given all prefix reached =
-    let at : Reached given all prefix (h.event ∷ h.rest) before = subst (λ r. Reached given all prefix r before) h.waits reached in
-    let on : Reached given all (prefix ++ h.event ∷ []) h.rest after =
+    let at : HasReached given all prefix (h.event ∷ h.rest) before = subst (λ r. HasReached given all prefix r before) h.waits reached in
+    let on : HasReached given all (prefix ++ h.event ∷ []) h.rest after =
     reached_next given all prefix h.rest h.event before after at (took_ready waiting before after (Ok tt) h ready) h.done in
-    (prefix ++ h.event ∷ [], subst (λ r. Reached given all (prefix ++ h.event ∷ []) r after) (sym (ap (drop 1) h.waits)) on)
+    (prefix ++ h.event ∷ [], subst (λ r. HasReached given all (prefix ++ h.event ∷ []) r after) (sym (ap (drop 1) h.waits)) on)
 
 pub took_failed : (waiting : List Event) (before after : MachineState) (error : yaml_error_t) → ProcessedFirst waiting before after (Err error)
     → is_head_ready waiting ≡ true → FailedReady waiting error before after
 took_failed waiting before after error h ready given all prefix reached =
-    let at : Reached given all prefix (h.event ∷ h.rest) before = subst (λ r. Reached given all prefix r before) h.waits reached in
+    let at : HasReached given all prefix (h.event ∷ h.rest) before = subst (λ r. HasReached given all prefix r before) h.waits reached in
     reached_failed given all prefix h.rest h.event before after error at (took_ready waiting before after (Err error) h ready) h.done
 
 -- Where a machine has come in two parts, it has come.
@@ -69,7 +69,7 @@ took_within seen xs n before after answer took =
 
 -- An event that was taken stands behind those that wait.
 pub reached_taken : (given : Settings) (all : List Event) (event : Event) (state : State) → StateStands given all state → state.error ≡ None
-    → Reached given (all ++ event ∷ []) (take (written all) all) (state.held ++ event ∷ []) (machine_of state)
+    → HasReached given (all ++ event ∷ []) (take (written all) all) (state.held ++ event ∷ []) (machine_of state)
 reached_taken given all event state h none = reached_first given all event state.held (machine_of state) (stands_well given all state h none)
 
 unready : (b : Bool) (n : ℕ) → (if b then suc n else 0) ≡ 0 → b ≡ false
@@ -107,7 +107,7 @@ took_alone event before after answer done =
     }
 
 -- Where no more is ready, the machine stands.
-pub stands_on_end : (given : Settings) (all prefix rest : List Event) (machine : MachineState) → Reached given all prefix rest machine → machine.error ≡ None
+pub stands_on_end : (given : Settings) (all prefix rest : List Event) (machine : MachineState) → HasReached given all prefix rest machine → machine.error ≡ None
     → is_head_ready rest ≡ false → MachineStands given all machine.error rest machine
 stands_on_end given all prefix rest machine at none unready =
     subst (λ e. MachineStands given all e rest machine) (sym none) (reached_end given all prefix rest machine at unready)

@@ -1,6 +1,7 @@
 -- A call that gives an event, from what its steps did.
 use Rattle.yaml_emitter.proofs.Common.{IsSome, ℕ, Bool, Option, None, Some, Result, Err, Ok, take, drop, false, true, List, [], ◌++◌, ◌∷◌, refl, ◌≡◌, ap, subst}
-use Rattle.yaml_emitter.proofs.Common.{sym, ◌∙◌, arith, KeepsGiven, failed_by, false≢true, Event, has_scalar_texts, written, Settings, is_head_ready, Processed, MachineStands, Reached, StateStands}
+use Rattle.yaml_emitter.proofs.Common.{sym, ◌∙◌, arith, KeepsGiven, failed_by, false≢true, Event, has_scalar_texts, written, Settings, is_head_ready, Processed}
+use Rattle.yaml_emitter.proofs.Common.{MachineStands, HasReached, StateStands}
 use Rattle.yaml_emitter.proofs.Common.{StandsAfter, State, MachineState, machine_of, KeepsSet, result_of_error, Grows}
 use Rattle.std.specs.Prelude.{IsOk}
 use Rattle.yaml_base.specs.declared.errors.{yaml_error_t.yaml_error_t}
@@ -86,10 +87,10 @@ starting before = record before { started = true }
 -- The way of the events that wait, once one stands behind them.
 settled_reached : (event : Event) (before settled : State) → before.error ≡ None → (h : Settled (starting before) event settled)
     → (given : Settings) (all : List Event) → StateStands given all before
-    → (prefix : List Event) × Reached given (all ++ event ∷ []) prefix (settled.held ++ event ∷ []) (machine_of settled)
+    → (prefix : List Event) × HasReached given (all ++ event ∷ []) prefix (settled.held ++ event ∷ []) (machine_of settled)
 settled_reached event before settled none h given all stands =
     let at = h.wrote.reached given (all ++ event ∷ []) (take (written all) all) (reached_taken given all event before stands none) in
-    (at.0, subst (λ (l : List Event). Reached given (all ++ event ∷ []) at.0 (l ++ event ∷ []) (machine_of settled)) (sym h.held) at.1)
+    (at.0, subst (λ (l : List Event). HasReached given (all ++ event ∷ []) at.0 (l ++ event ∷ []) (machine_of settled)) (sym h.held) at.1)
 
 -- Where nothing became ready, what waits is as it was.
 settled_same : (event : Event) (before settled : State) → Settled (starting before) event settled → is_head_ready (before.held ++ event ∷ []) ≡ false
@@ -105,8 +106,8 @@ emits_alone event before settled machine answer text none h alone ready wrote =
     emits_by event before (with_machine settled settled.held machine) answer text
     (λ given all stands.
     let at = settled_reached event before settled none h given all stands in
-    let reached : Reached given (all ++ event ∷ []) at.0 (event ∷ []) (machine_of settled) =
-    subst (λ (l : List Event). Reached given (all ++ event ∷ []) at.0 (l ++ event ∷ []) (machine_of settled)) alone at.1 in
+    let reached : HasReached given (all ++ event ∷ []) at.0 (event ∷ []) (machine_of settled) =
+    subst (λ (l : List Event). HasReached given (all ++ event ∷ []) at.0 (l ++ event ∷ []) (machine_of settled)) alone at.1 in
     subst (λ (l : List Event). MachineStands given (all ++ event ∷ []) machine.error l machine) (sym alone)
     (wrote.stands given (all ++ event ∷ []) at.0 reached))
     (grows_then h.grows wrote.grows)
@@ -127,7 +128,7 @@ emits_waiting event before settled held text none h is unready =
     (λ given all stands.
     let at = settled_reached event before settled none h given all stands in
     stands_on_end given (all ++ event ∷ []) at.0 held (machine_of settled)
-    (subst (λ (l : List Event). Reached given (all ++ event ∷ []) at.0 l (machine_of settled)) (sym is) at.1) h.no_error unready)
+    (subst (λ (l : List Event). HasReached given (all ++ event ∷ []) at.0 l (machine_of settled)) (sym is) at.1) h.no_error unready)
     h.grows (λ given all stands none same. refl)
     (λ some. absurd (some_error before.error none some))
     (keeps_set_then (starting before) settled (record settled { held = held }) h.set

@@ -8,7 +8,7 @@ use Rattle.yaml_emitter.proofs.Common.{stream_start_piece, Piece, piece_text, te
 use Rattle.yaml_emitter.proofs.Common.{text_written, last_flushes, last_begins_collection, first_ends_collection, written, held_back, begins_collection}
 use Rattle.yaml_emitter.proofs.Common.{ends_collection, refusal, BeginsAccepted, Encoding, Settings, Effective, effective, at_stream, step, Steps, steps}
 use Rattle.yaml_emitter.proofs.Common.{stage_refusal, closes_at_once, render_event, refusal_now, WritesPage, WritesEvent, IsPage, HoldsPieces, HasProgress}
-use Rattle.yaml_emitter.proofs.Common.{StandsWithoutError, closes_last, Reached, MachineState, standing_of, StaysFlushed, wrote_all, Page, encoded, new_page}
+use Rattle.yaml_emitter.proofs.Common.{StandsWithoutError, closes_last, HasReached, MachineState, standing_of, StaysFlushed, wrote_all, Page, encoded, new_page}
 use Rattle.yaml_emitter.proofs.Common.{Wrote}
 use Rattle.yaml_base.proofs.Common.{Stepped}
 use Rattle.yaml_base.{proofs.Pushes.partial_of_events, proofs.Stages.stage_refusal_after, specs.declared.errors.yaml_error_t.yaml_error_t}
@@ -102,7 +102,7 @@ taken_same given all prefix progress before after is_handle_given is_settings is
 -- The first of a call: an event comes to those that are held.
 pub reached_first : (given : Settings) (all : List Event) (event : Event) (held : List Event) (machine : MachineState)
     → StandsWithoutError given all held machine
-    → Reached given (all ++ event ∷ []) (take (written all) all) (held ++ event ∷ []) machine
+    → HasReached given (all ++ event ∷ []) (take (written all) all) (held ++ event ∷ []) machine
 reached_first given all event held machine h =
     let prefix = take (written all) all in
     let more = event ∷ [] in
@@ -110,7 +110,7 @@ reached_first given all event held machine h =
     let whole : prefix ++ rest ≡ all = take-append-drop (written all) all in
     let count : length prefix ≡ written all = length-take-le (written all) all (written_within all) in
     let opens : closes_last prefix (rest ++ more) ≡ false = open_last prefix (rest ++ more) (open_at_written all more) in
-    subst (λ held. Reached given (all ++ more) prefix (held ++ more) machine) (sym h.held)
+    subst (λ held. HasReached given (all ++ more) prefix (held ++ more) machine) (sym h.held)
     (record {
       parts = sym (append_assoc prefix rest more) ∙ ap (λ events. events ++ more) whole;
       ready = written-append all more ∙ ap (λ n. n + written (rest ++ more)) (sym count);

@@ -8,7 +8,7 @@ use Rattle.yaml_emitter.proofs.Common.{Effective, at_stream, steps, RefusedAt, E
 use Rattle.yaml_emitter.proofs.Common.{machine_of, Page, encoded}
 use Rattle.yaml_base.{proofs.QueueLaws.stream_written, specs.Grammar.between_documents, specs.declared.errors.yaml_error_t.yaml_error_t}
 use Rattle.yaml_emitter.{proofs.standing.StandingFull.drop-all, proofs.standing.StandingFull.take-length, proofs.standing.StandingPromises.stands_well}
-use Rattle.yaml_emitter.{proofs.standing.StandingPromises.promises_refusal, proofs.standing.StandingTexts.holds_text, specs.Promises.HasRoom}
+use Rattle.yaml_emitter.{proofs.standing.StandingPromises.promises_refusal, proofs.standing.StandingTexts.holds_text, specs.Promises.HasRoomAndMemory}
 
 -- The stream's end.
 finishes : (p q : Partial) → pushed p (stream_end ∷ []) ≡ Some q → (t : Stream) × (q ≡ after_stream t)
@@ -58,7 +58,7 @@ none_refused given all error state accepted h =
     h.ends (record { rest = h.later; accepted = subst (IsAccepted given.canonical) (sym (append_assoc h.prefix (h.event ∷ []) h.later ∙ h.parts)) accepted })
 
 no_error : (error : Option yaml_error_t) (given : Settings) (all : List Event) (state : State) → StateStands given all state → state.error ≡ error
-    → HasRoom error
+    → HasRoomAndMemory error
     → IsAccepted given.canonical all → error ≡ None
 no_error None given all state h is room accepted = refl
 no_error (Some error) given all state h is room accepted = absurd

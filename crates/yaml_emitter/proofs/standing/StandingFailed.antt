@@ -5,13 +5,13 @@ use Rattle.yaml_emitter.proofs.Common.{sequence_end, mapping_start, mapping_end,
 use Rattle.yaml_emitter.proofs.Common.{push, pushed, first_standing, settings_for, text_written, IsPrefix, is_ready, written, refusal_at, refusal}
 use Rattle.yaml_emitter.proofs.Common.{BeginsAccepted, Settings, at_stream, Steps, steps, closes_at_once, event_stepped, render_event, unwritten}
 use Rattle.yaml_emitter.proofs.Common.{partly_written, CutShort, Processed, IsPage, HoldsPieces, HasProgress, FailedAt, closes_last, StandsRefused}
-use Rattle.yaml_emitter.proofs.Common.{holds_before, holds_part, StandsCut, at_event, StandsFailed, Reached, failed_by, MachineState, Page, Wrote}
+use Rattle.yaml_emitter.proofs.Common.{holds_before, holds_part, StandsCut, at_event, StandsFailed, HasReached, failed_by, MachineState, Page, Wrote}
 use Rattle.yaml_base.specs.declared.errors.{yaml_error_t.yaml_error_t, yaml_error_t.TheVariants.Memory, yaml_error_t.TheVariants.WriteError}
 use Rattle.yaml_emitter.proofs.standing.{Flushing.flushed_output, Growing.cut_grows, StandingSteps.stepped_steps}
 use Rattle.yaml_emitter.proofs.standing.Standing.{taken_same, refusal_same, accepted_next, is_page_wrote, named_more}
 use Rattle.yaml_emitter.specs.Processing.{Refused}
 
-failed_at : (given : Settings) (all prefix rest : List Event) (event : Event) (before : MachineState) → Reached given all prefix (event ∷ rest) before
+failed_at : (given : Settings) (all prefix rest : List Event) (event : Event) (before : MachineState) → HasReached given all prefix (event ∷ rest) before
     → is_ready event rest ≡ true → FailedAt all prefix event rest
 failed_at given all prefix rest event before h is =
     let count : written (event ∷ rest) ≡ suc (written rest) = ap (λ b. if b then suc (written rest) else 0) is in
@@ -55,7 +55,7 @@ refused_opens canonical prefix rest event fault true begun refused is =
 
 -- A refused event adds no text.
 refused_stands : (given : Settings) (all prefix rest : List Event) (event : Event) (error : yaml_error_t) (before after : MachineState)
-    → Reached given all prefix (event ∷ rest) before → is_ready event rest ≡ true
+    → HasReached given all prefix (event ∷ rest) before → is_ready event rest ≡ true
     → Refused error event before after → StandsRefused given all error (failed_by error after)
 refused_stands given all prefix rest event error before after h is done =
     let s = settings_for given all in
@@ -115,7 +115,7 @@ cut_page (x ∷ prefix) rest given all event before after answer h begun wrote =
     )
 
 cut_stands : (given : Settings) (all prefix rest : List Event) (event : Event) (error : yaml_error_t) (before after : MachineState)
-    → Reached given all prefix (event ∷ rest) before → is_ready event rest ≡ true
+    → HasReached given all prefix (event ∷ rest) before → is_ready event rest ≡ true
     → CutShort error event (closes_at_once event rest) before after → StandsCut given all error (failed_by error after)
 cut_stands given all prefix rest event error before after h is done =
     let s = settings_for given all in
@@ -143,7 +143,7 @@ cut_stands given all prefix rest event error before after h is done =
 
 -- A ready event fails.
 pub reached_failed : (given : Settings) (all prefix rest : List Event) (event : Event) (before after : MachineState) (error : yaml_error_t)
-    → Reached given all prefix (event ∷ rest) before → is_ready event rest ≡ true
+    → HasReached given all prefix (event ∷ rest) before → is_ready event rest ≡ true
     → Processed event (closes_at_once event rest) before after (Err error)
     → StandsFailed given all error (failed_by error after)
 reached_failed given all prefix rest event before after WriteError h is done =

@@ -127,7 +127,7 @@ cut_fills given all state h =
 between_fills : (prefix rest : List Event) (given : Settings) (all : List Event) (state : State) → prefix ++ rest ≡ all
     → HoldsPiecesWith (Some WriteError) (settings_for given all) prefix (steps (settings_for given all) false prefix at_stream first_standing).pieces state.page
     → IsFlushedOutput (encoded state.page) state.page.output state.page.limit state.page.error
-    → ((more : List Event) → closes.closes_at_once prefix (rest ++ more) ≡ false)
+    → ((more : List Event) → closes.last_closes_at_once prefix (rest ++ more) ≡ false)
     → FillsLimit given all state
 between_fills [] rest given all state parts h sound_output opens =
     let full = sound_output.full (ap (λ (p : Page). p.error) h) in
@@ -153,7 +153,7 @@ unflushed_fills given all state h =
     between_fills prefix (rest ++ h.later) given all state
     (sym (append_assoc prefix rest h.later) ∙ ap (λ events. events ++ h.later) (take-append-drop (written h.before) h.before) ∙ h.parts)
     h.page h.sound_output
-    (λ more. ap (λ events. closes.closes_at_once prefix events) (append_assoc rest h.later more) ∙ open_at_written h.before (h.later ++ more))
+    (λ more. ap (λ events. closes.last_closes_at_once prefix events) (append_assoc rest h.later more) ∙ open_at_written h.before (h.later ++ more))
 
 -- After the output's limit was passed the output is full.
 pub promises_full : (given : Settings) (all : List Event) (state : State) → StateStands given all state → state.error ≡ Some WriteError

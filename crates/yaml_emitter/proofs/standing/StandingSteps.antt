@@ -5,7 +5,7 @@ use Rattle.yaml_emitter.proofs.Common.{encode, Event, stream_end, document_start
 use Rattle.yaml_emitter.proofs.Common.{partial_of, first_standing, Piece, Standing, settings_for, bytes_written, flushes, last_begins_collection}
 use Rattle.yaml_emitter.proofs.Common.{first_ends_collection, awaited, is_ready, written, held_back, BeginsAccepted, Settings, Effective, at_stream, step}
 use Rattle.yaml_emitter.proofs.Common.{Steps, steps, closes_at_once, event_stepped, render_event, WritesEvent, Processed, is_head_ready, HoldsPieces}
-use Rattle.yaml_emitter.proofs.Common.{HasProgress, StandsWithoutError, closes_last, Reached, MachineState, standing_of, wrote_all, Page, encoded}
+use Rattle.yaml_emitter.proofs.Common.{HasProgress, StandsWithoutError, closes_last, HasReached, MachineState, standing_of, wrote_all, Page, encoded}
 use Rattle.std.proofs.lemmas.List.{drop_at}
 use Rattle.yaml_base.proofs.QueueLaws.{no_end_held}
 use Rattle.yaml_emitter.proofs.standing.{Flushing.last_flushes-append, Flushing.flushed_more, StandingTexts.pieces_prefix}
@@ -108,10 +108,10 @@ closes_last-append (x ∷ y ∷ more) rest event = closes_last-append (y ∷ mor
 
 -- A ready event is written.
 pub reached_next : (given : Settings) (all prefix rest : List Event) (event : Event) (before after : MachineState)
-    → Reached given all prefix (event ∷ rest) before
+    → HasReached given all prefix (event ∷ rest) before
     → is_ready event rest ≡ true
     → Processed event (closes_at_once event rest) before after (Ok tt)
-    → Reached given all (prefix ++ event ∷ []) rest after
+    → HasReached given all (prefix ++ event ∷ []) rest after
 reached_next given all prefix rest event before after h is done =
     let s = settings_for given all in
     let follows = closes_last prefix (event ∷ rest) in
@@ -146,7 +146,7 @@ and_left_false : (a b : Bool) → b ≡ false → a && b ≡ false
 and_left_false true b h = h
 and_left_false false b h = refl
 
-pub reached_end : (given : Settings) (all prefix rest : List Event) (state : MachineState) → Reached given all prefix rest state → is_head_ready rest ≡ false
+pub reached_end : (given : Settings) (all prefix rest : List Event) (state : MachineState) → HasReached given all prefix rest state → is_head_ready rest ≡ false
     → StandsWithoutError given all rest state
 reached_end given all prefix rest state h none =
     let s = settings_for given all in

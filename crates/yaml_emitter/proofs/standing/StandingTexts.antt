@@ -6,7 +6,8 @@ use Rattle.yaml_emitter.proofs.Common.{sequence_start, mapping_start, no_nodes, 
 use Rattle.yaml_emitter.proofs.Common.{after_stream, push, pushed, partial_of, first_standing, Piece, text_written, bytes_written, completion, list_layout}
 use Rattle.yaml_emitter.proofs.Common.{pieces, last_begins_collection, first_ends_collection, IsPrefix, refusal_at, refusal, IsAccepted, BeginsAccepted}
 use Rattle.yaml_emitter.proofs.Common.{Effective, at_stream, steps, IsPage, HoldsPiecesWith, encode-append, Page, encoded}
-use Rattle.yaml_base.{proofs.PieceLaws.begun_pieces, specs.Pieces.empty_scalar, specs.Pieces.closes_at_once, specs.declared.errors.yaml_error_t.yaml_error_t}
+use Rattle.yaml_base.{proofs.PieceLaws.begun_pieces, specs.Pieces.empty_scalar, specs.Pieces.last_closes_at_once}
+use Rattle.yaml_base.{specs.declared.errors.yaml_error_t.yaml_error_t}
 use Rattle.yaml_base.{specs.declared.errors.yaml_error_t.TheVariants.WriteError}
 use Rattle.yaml_emitter.proofs.standing.Standing.{text_written-append}
 
@@ -48,7 +49,7 @@ pub record ContinuesScript (canonical : Bool) (s : Effective) (prefix : List Eve
   pub accepted : IsAccepted canonical (prefix ++ more)
   pub begins : IsPrefix begun (list_layout s (prefix ++ more))
 
-goes_on_with : (canonical : Bool) (s : Effective) (prefix more : List Event) → IsAccepted canonical (prefix ++ more) → closes_at_once prefix more ≡ false
+goes_on_with : (canonical : Bool) (s : Effective) (prefix more : List Event) → IsAccepted canonical (prefix ++ more) → last_closes_at_once prefix more ≡ false
     → ContinuesScript canonical s prefix (steps s false prefix at_stream first_standing).pieces
 goes_on_with canonical s prefix more accepted opens =
     let whole : partial_of (prefix ++ more) ≡ Some (after_stream accepted.stream) = ap partial_of (sym accepted.is_stream) ∙ stream_pushed accepted.stream in

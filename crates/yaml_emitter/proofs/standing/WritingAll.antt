@@ -3,7 +3,7 @@ use Rattle.yaml_emitter.proofs.Common.{ℕ, ◌+◌, ◌<◌, ◌==◌, suc, zer
 use Rattle.yaml_emitter.proofs.Common.{Bool, false, true, List, [], ◌++◌, ◌∷◌, refl, ◌≡◌, length-append, and_parts, ap, sym, ◌∙◌, list_any, Event, Scalar}
 use Rattle.yaml_emitter.proofs.Common.{scalar, awaited, is_balanced, nonempty_prefixes, is_head_ready, false≢true}
 use Rattle.yaml_emitter.proofs.standing.WrittenPrefixes.{seen_from}
-use Rattle.yaml_emitter.proofs.Common.{Err, Ok, subst, drop-drop, closes_at_once, Processed, ProcessedFirst, Reached, ReachedOn, MachineState}
+use Rattle.yaml_emitter.proofs.Common.{Err, Ok, subst, drop-drop, closes_at_once, Processed, ProcessedFirst, HasReached, ReachedOn, MachineState}
 use Rattle.yaml_base.specs.declared.errors.{yaml_error_t.yaml_error_t}
 use Rattle.yaml_emitter.proofs.standing.Emitting.{reached_on, took_failed, took_next}
 use Rattle.yaml_emitter.specs.EmitsEvent.{StillWait}
@@ -76,4 +76,4 @@ failed_one_more waiting n last event rest before between after error on split re
     let took : ProcessedFirst left between after (Err error) = record { event = event; rest = rest ++ last ∷ []; waits = refl; done = done } in
     let at = on given all prefix reached in
     took_failed left between after error took ready given all at.0
-    (subst (λ (l : List Event). Reached given all at.0 (l ++ last ∷ []) between) split at.1)
+    (subst (λ (l : List Event). HasReached given all at.0 (l ++ last ∷ []) between) split at.1)

@@ -71,8 +71,8 @@ impl IndicatorKind {
     }
 
     fn indicator(self) -> Indicator<'static>
-        ensures made { pens.seen_indicator result ≡ seen_indicator self }
-        ensures no_break { list_any is_break (pens.seen_indicator result).text ≡ false }
+        ensures made { pens.seen_indicator_row result ≡ seen_indicator self }
+        ensures no_break { list_any is_break (pens.seen_indicator_row result).text ≡ false }
     {
         use IndicatorKind::*;
         let text = self.text();

@@ -21,7 +21,6 @@ ghost use Rattle.yaml_emitter.specs.WrittenPieces.{piece_at};
 ghost use Rattle.yaml_emitter.specs.WrittenAtoms.{seen_tag, render_spelled_tag, spelling_breaks};
 
 use crate::effective::EffectiveSettings;
-use yaml_base::CollectionKind;
 use crate::place::{Frame, Place};
 use crate::writing::atoms::write_atoms;
 use crate::writing::contents::CollectionContent;
@@ -30,7 +29,7 @@ use crate::writing::properties::{alias_atoms, has_properties, write_properties};
 use crate::writing::site::Site;
 use crate::writing::spelling::SpelledTag;
 use std::alloc::Allocator;
-use yaml_base::yaml_error_t;
+use yaml_base::{CollectionKind, yaml_error_t};
 use yaml_pen::Pen;
 
 /// Writes an alias at its place.

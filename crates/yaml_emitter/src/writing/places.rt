@@ -15,13 +15,12 @@ ghost use Rattle.yaml_emitter.specs.Reach.{most_column};
 ghost use Rattle.yaml_emitter.specs.WrittenAtoms.{seen_indicator, render_atoms, some_atom_breaks};
 
 use crate::effective::EffectiveSettings;
-use yaml_base::CollectionKind;
 use crate::place::{Place, Role};
 use crate::writing::atoms::{Atom, Atoms, write_flow_line, write_new_line};
 use crate::writing::indicators::{IndicatorKind, write_indicator};
 use crate::writing::site::Site;
 use std::alloc::Allocator;
-use yaml_base::yaml_error_t;
+use yaml_base::{CollectionKind, yaml_error_t};
 use yaml_pen::Pen;
 
 /// Writes what stands before a node at its place. What isn't inlined is given a copy, so that the place itself needn't

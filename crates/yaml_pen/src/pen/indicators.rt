@@ -4,8 +4,8 @@ ghost use Rattle.std.specs.Str.{chars};
 ghost use Rattle.std.specs.List.{list_any};
 ghost use Rattle.yaml_base.specs.Characters.{is_break};
 ghost use Rattle.yaml_base.specs.Cursor.{render_text, space_if, indicator};
-ghost use Rattle.yaml_base.specs.Indicators.{render_indicator, indented, opening, spaced, tight};
-ghost use Rattle.yaml_pen.specs.Indicators.{seen_indicator};
+ghost use Rattle.yaml_base.specs.Indicators.{render_indicator, indented_indicator, opening_bracket, spaced, tight};
+ghost use Rattle.yaml_pen.specs.Indicators.{seen_indicator_row};
 ghost use Rattle.yaml_pen.specs.Page.{IsReady};
 ghost use Rattle.yaml_pen.specs.Wrote.{Wrote};
 
@@ -29,7 +29,7 @@ pub struct Indicator<'a> {
 impl<'a> Indicator<'a> {
     /// Makes an indicator with a space before it and none after it.
     pub fn spaced(text: &'a str) -> Indicator<'a>
-        ensures { seen_indicator result ≡ spaced (chars text.now) }
+        ensures { seen_indicator_row result ≡ spaced (chars text.now) }
     {
         Indicator {
             text,
@@ -41,7 +41,7 @@ impl<'a> Indicator<'a> {
 
     /// Makes an opening bracket: a space before it, and it counts as white space.
     pub fn opening(text: &'a str) -> Indicator<'a>
-        ensures { seen_indicator result ≡ opening (chars text.now) }
+        ensures { seen_indicator_row result ≡ opening_bracket (chars text.now) }
     {
         Indicator {
             text,
@@ -53,7 +53,7 @@ impl<'a> Indicator<'a> {
 
     /// Makes an indicator with no space before it and none after it.
     pub fn tight(text: &'a str) -> Indicator<'a>
-        ensures { seen_indicator result ≡ tight (chars text.now) }
+        ensures { seen_indicator_row result ≡ tight (chars text.now) }
     {
         Indicator {
             text,
@@ -65,7 +65,7 @@ impl<'a> Indicator<'a> {
 
     /// Makes the indicator of an entry in a block: a space before it, and it may stand in indentation.
     pub fn indented(text: &'a str) -> Indicator<'a>
-        ensures { seen_indicator result ≡ indented (chars text.now) }
+        ensures { seen_indicator_row result ≡ indented_indicator (chars text.now) }
     {
         Indicator {
             text,
@@ -105,7 +105,7 @@ impl<A: Allocator> Pen<A> {
     pub fn put_indicator(&mut self, indicator: &Indicator) -> Result<(), yaml_error_t>
         requires ready { IsReady self.old }
         requires no_break { list_any is_break (chars indicator.now.text.now) ≡ false }
-        ensures written { Wrote (render_indicator (seen_indicator indicator.now)) self.old self.new result }
+        ensures written { Wrote (render_indicator (seen_indicator_row indicator.now)) self.old self.new result }
     {
         self.separate_if(indicator.needs_space)?;
         self.write_indicator_text(indicator.text)?;

@@ -2,10 +2,10 @@
 use Rattle.yaml_scalar.proofs.Common.{suc, zero, ℕ, ◌+◌, if◌then◌else◌, Option, replicate, Bool, false, true, List, [], ◌++◌, ◌∷◌, refl, ◌≡◌, le-ltb}
 use Rattle.yaml_scalar.proofs.Common.{append_assoc, inl, inr, ap, sym, ◌∙◌, arith, cases_Bool, and_right, or_parts, or_from, Text, space, is_break, Cursor}
 use Rattle.yaml_scalar.proofs.Common.{Rendered, first_cursor, render_then, next_column, column_after, new_line, ending, render_lines, folds, Part, line}
-use Rattle.yaml_scalar.proofs.Common.{line_break, begun, parts, indented, place_after, render_inner, is_doubled, render_end, render_step, lines_from}
+use Rattle.yaml_scalar.proofs.Common.{line_break, begun, parts, indented, place_after, render_inner, is_doubled, render_block_break, render_step, lines_from}
 use Rattle.yaml_base.proofs.Common.{ends_in_break}
 use Rattle.std.proofs.lemmas.Bool.{ltb-false}
-use Rattle.yaml_scalar.specs.{BlockSteps.render_folded, declared.block_lines.Place.Place}
+use Rattle.yaml_scalar.specs.{BlockSteps.render_fold_or_content, declared.block_lines.Place.Place}
 use Rattle.yaml_scalar.specs.declared.block_lines.Place.TheVariants.{Fixed, Folding, LineStart}
 
 -- a new line where a line begins
@@ -42,8 +42,8 @@ step-cursor : (limit : Option ℕ) (indent : ℕ) (place : Place) (c : ℕ) (res
     ≡ after_text (render_step limit indent place c rest (spot column indention)).text (is_break c) column
 step-cursor limit indent place c rest column indention = by (is_break c) refl
   where
-    fold-cursor : (fold : Bool) → (render_folded fold indent c (spot column indention)).cursor
-        ≡ after_text (render_folded fold indent c (spot column indention)).text false column
+    fold-cursor : (fold : Bool) → (render_fold_or_content fold indent c (spot column indention)).cursor
+        ≡ after_text (render_fold_or_content fold indent c (spot column indention)).text false column
     fold-cursor true = ap (λ n. spot n false) (sym (column-new-line indent (spot column indention)))
     fold-cursor false = refl
 
@@ -55,13 +55,15 @@ step-cursor limit indent place c rest column indention = by (is_break c) refl
     inner Folding = fold-cursor (folds limit column c rest)
     inner Fixed = refl
 
-    outer : (twice : Bool) → (render_end twice c (spot column indention)).cursor ≡ after_text (render_end twice c (spot column indention)).text true column
+    outer : (twice : Bool)
+        → (render_block_break twice c (spot column indention)).cursor ≡ after_text (render_block_break twice c (spot column indention)).text true column
     outer true = refl
     outer false = refl
 
     by : (b : Bool) → is_break c ≡ b
-        → (if b then render_end (is_doubled place c rest) c (spot column indention) else render_inner limit indent place c rest (spot column indention)).cursor
-        ≡ after_text (if b then render_end (is_doubled place c rest) c (spot column indention) else
+        → (if b then render_block_break (is_doubled place c rest) c (spot column indention) else render_inner limit indent place c rest
+        (spot column indention)).cursor
+        ≡ after_text (if b then render_block_break (is_doubled place c rest) c (spot column indention) else
         render_inner limit indent place c rest (spot column indention)).text b column
     by true e = outer (is_doubled place c rest)
     by false e = inner place

@@ -7,7 +7,7 @@ use Rattle.toml_ordered.proofs.Stopping.{placed}
 use Rattle.toml_ordered.specs.Firsts.{keys_firsts}
 use Rattle.toml_ordered.proofs.Turns.{document_none, document_some, lines_end, lines_more, lines_bad, lines_again}
 use Rattle.toml_ordered.specs.Reading.{IsMemory, document_view}
-use Rattle.toml_ordered.specs.Tables.{Document}
+use Rattle.toml_ordered.specs.Tables.{TomlDocument}
 use Rattle.toml_ordered.proofs.document.read_document.Goals as goal
 
 pub lines-init : goal.lines-init
@@ -24,7 +24,7 @@ lines-init c = (
 pub returns-then-is_empty-clause-value : goal.returns-then-is_empty-clause-value
 returns-then-is_empty-clause-value c =
     let l = c.lines in
-    let doc : Document = document_view l.read in
+    let doc : TomlDocument = document_view l.read in
     let m = l.invariant.2 in
     let room = l.invariant.3 in
     let loop = l.invariant.4 in
@@ -35,7 +35,7 @@ returns-then-is_empty-clause-value c =
 pub returns-in-Err-clause-value : goal.returns-in-Err-clause-value
 returns-in-Err-clause-value c refused =
     let l = c.lines in
-    let doc : Document = document_view l.read in
+    let doc : TomlDocument = document_view l.read in
     let m = l.invariant.2 in
     let room = l.invariant.3 in
     let loop = l.invariant.4 in
@@ -59,7 +59,7 @@ returns-in-Err-clause-placed c =
 pub returns-in-Err-define-clause-value : goal.returns-in-Err-define-clause-value
 returns-in-Err-define-clause-value c refused =
     let l = c.lines in
-    let doc : Document = document_view l.read in
+    let doc : TomlDocument = document_view l.read in
     let m = l.invariant.2 in
     let room = l.invariant.3 in
     let loop = l.invariant.4 in
@@ -85,7 +85,7 @@ returns-in-Err-define-clause-placed c =
 pub lines-preserved : goal.lines-preserved
 lines-preserved c =
     let l = c.lines in
-    let doc : Document = document_view l.read in
+    let doc : TomlDocument = document_view l.read in
     let m = l.invariant.2 in
     let room = l.invariant.3 in
     let loop = l.invariant.4 in

@@ -5,7 +5,7 @@ use Rattle.std.specs.BTreeMap.{get_by_text}
 use Rattle.std.specs.Vec.Iter.{into_iter_items}
 use Rattle.toml_ordered.proofs.DraftKeys.{Draft, keys_view-kept, keys_view-dropped, turn_whole, turn_size, turn_room}
 use Rattle.toml_ordered.proofs.Trees.{append-view}
-use Rattle.toml_ordered.specs.Data.{Node, Nodes, entries_view}
+use Rattle.toml_ordered.specs.Data.{TomlNode, TomlNodes, entries_view}
 use Rattle.toml_ordered.specs.Drafts.{is_place}
 use Rattle.toml_ordered.specs.Tables.{append}
 use Rattle.toml_ordered.proofs.drafts.+finish.Goals as goal
@@ -36,7 +36,8 @@ finish-keys-preserved-in-Continue-branch-3 c c' =
       turn_whole l.yielded _ _ _ e steps l.invariant.0,
       omega (arith, l.invariant.1, length_push l.yielded e),
       ap entries_view c'.in_ok-push.ensures.items ∙ append-view l.nodes.items (e.0, node, e.2)
-          ∙ ap₂ (λ (ns : Nodes) (x : Node). append ns k x) l.invariant.2 c'.in_ok-node.ensures ∙ sym (keys_view-kept index l.yielded e l.at l.invariant.1 live),
+          ∙ ap₂ (λ (ns : TomlNodes) (x : TomlNode). append ns k x) l.invariant.2 c'.in_ok-node.ensures
+          ∙ sym (keys_view-kept index l.yielded e l.at l.invariant.1 live),
       let was = l.invariant.3 in
           let gone = c'.in-Some.ensures.steps.1 in
           let short = ap length steps in

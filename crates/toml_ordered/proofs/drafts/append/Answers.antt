@@ -3,7 +3,7 @@ use Rattle.std.proofs.lemmas.Grind.{common_steps}
 use Rattle.std.specs.BTreeMap.{get_by_text}
 use Rattle.std.specs.Map.{update}
 use Rattle.toml_ordered.proofs.DraftKeys.{Draft, appended}
-use Rattle.toml_ordered.specs.Data.{Nodes}
+use Rattle.toml_ordered.specs.Data.{TomlNodes}
 use Rattle.toml_ordered.specs.Drafts.{keys_view}
 use Rattle.toml_ordered.proofs.drafts.append.Goals as goal
 
@@ -18,5 +18,5 @@ returns-clause-value c =
     c.in_ok-note.ensures.noted k
     ∙ ap (λ (l : List ℕ). update bytes_eq (get_by_text before) l (Some c.len-at.result) k) same
     ∙ ap (λ (n : ℕ). update bytes_eq (get_by_text before) (string_bytes c.args.key) (Some n) k) count in
-    ap (λ (ns : Nodes). Some ns) (sym (appended before after es (c.args.key, c.args.draft, c.args.left) c.requires noted))
+    ap (λ (ns : TomlNodes). Some ns) (sym (appended before after es (c.args.key, c.args.draft, c.args.left) c.requires noted))
     ∙ ap (λ (ds : List Draft). Some (keys_view ds after)) (sym c.in_ok-push.ensures.items)

@@ -1,6 +1,6 @@
 use Rattle.std.proofs.Common.{sym, ap, ◌∙◌}
 use Rattle.toml_ordered.proofs.Trees.{items_view-push, node_view-Table, node_view-Tables, node_view-Array}
-use Rattle.toml_ordered.specs.Data.{Node, Items, array, push_item, items_view, node_view}
+use Rattle.toml_ordered.specs.Data.{TomlNode, Items, array, push_item, items_view, node_view}
 use Rattle.toml_ordered.specs.Drafts.{sealed}
 use Rattle.toml_ordered.specs.declared.tree.Origin.TheVariants.{Closed}
 use Rattle.toml_ordered.proofs.drafts.seal.Goals as goal
@@ -12,4 +12,4 @@ returns-in_ok-push-in-Tables c =
     node_view-Array c.push.new.self
     ∙ ap (λ (xs : Items). array xs)
     (ap items_view pushed ∙ items_view-push it.done.items _ ∙ ap (push_item (items_view it.done.items)) (node_view-Table Closed it.last))
-    ∙ sym (ap (λ (x : Node). sealed x) (ap node_view it.is ∙ node_view-Tables it.done it.last))
+    ∙ sym (ap (λ (x : TomlNode). sealed x) (ap node_view it.is ∙ node_view-Tables it.done it.last))

@@ -1,11 +1,11 @@
-use Rattle.yaml_c.proofs.Common.{Some, ℤ, ◌≡◌, rules, subst, sym, w32, of_z, to_z, event_of}
+use Rattle.yaml_c.proofs.Common.{Some, ℤ, ◌≡◌, rules, subst, sym, w32, of_z, to_z, event_recorded}
 use Rattle.yaml_c.proofs.KeptLemmas.{changed}
 use Rattle.yaml_c.specs.Kept.{GivesRecord}
 use Rattle.yaml_c.proofs.emitters.yaml_c_emitter_emit.Goals as goal
 
 pub returns : goal.returns
 returns c =
-    let read = event_of c.args.texts.now c.args.directives.now c.args.event.now in
+    let read = event_recorded c.args.texts.now c.args.directives.now c.args.event.now in
     let before = c.deref_mut.result.now in
     let after = c.give_record-giving.new.emitter in
     let report = c.tell_giving.new.report in

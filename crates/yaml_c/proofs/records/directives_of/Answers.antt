@@ -1,4 +1,4 @@
-use Rattle.yaml_c.proofs.Common.{◌+◌, option_map, drop, List, [], map, ◌++◌, ◌∷◌, ◌≡◌, rules, ap, sym, ◌∙◌, TagDirective, seen_directive, directives_of}
+use Rattle.yaml_c.proofs.Common.{◌+◌, option_map, drop, List, [], map, ◌++◌, ◌∷◌, ◌≡◌, rules, ap, sym, ◌∙◌, TagDirective, seen_directive, directives_recorded}
 use Rattle.std.proofs.{Common.arith, Common.refl, lemmas.List.map_push}
 use Rattle.yaml_c.proofs.DirectiveLemmas.{behind, read_all, read_bad, read_more, read_none}
 use Rattle.yaml_c.proofs.records.directives_of.Goals as goal
@@ -14,7 +14,7 @@ loop-directive-preserved g c =
     (ap (option_map seen_directive) (sym c.in-Ok-Some.field-0-is) ∙ c.in-Ok-Some.ensures) now.invariant.2 in (
       search rules,
       search rules,
-      more ∙ ap (λ (xs : List TagDirective). behind xs (directives_of c.args.arena.now (drop (now.directive-index + 1) all))) (sym pushed),
+      more ∙ ap (λ (xs : List TagDirective). behind xs (directives_recorded c.args.arena.now (drop (now.directive-index + 1) all))) (sym pushed),
     )
 
 pub loop-directive-init : goal.loop-directive-init

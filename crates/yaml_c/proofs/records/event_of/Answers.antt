@@ -1,8 +1,8 @@
 use Rattle.yaml_c.proofs.Common.{Option, None, Some, false, ◌≡◌, refl, option_map}
 use Rattle.std.specs.Prelude.{Result, Ok, Err, IfErr}
 use Rattle.yaml_base.specs.Event.{Event, alias, document_start, mapping_start, sequence_start}
-use Rattle.yaml_c.specs.Arena.{is_on, text_at}
-use Rattle.yaml_c.specs.EventRecords.{collection_of, directives_at, version_of}
+use Rattle.yaml_c.specs.Arena.{is_on, text_in_arena}
+use Rattle.yaml_c.specs.EventRecords.{collection_recorded, directives_at, version_recorded}
 use Rattle.yaml_c.specs.Giving.{is_read_scalar}
 use Rattle.yaml_c.proofs.records.event_of.Goals as goal
 
@@ -24,7 +24,7 @@ returns-in-3-clause-no_room g c =
     let event = c.args.event.now in
     rw c.in-3.is
     (no_scalar c.document_start_of.result
-    (λ all. document_start (record { version = version_of event; directives = all; implicit = is_on event.implicit })) (λ all. refl)
+    (λ all. document_start (record { version = version_recorded event; directives = all; implicit = is_on event.implicit })) (λ all. refl)
     (directives_at c.args.arena.now c.args.directives.now event.directives))
 
 pub returns-in-5-clause-read : goal.returns-in-5-clause-read
@@ -32,7 +32,7 @@ returns-in-5-clause-read g c = rw c.in-5.is c.alias_of.ensures
 
 pub returns-in-5-clause-no_room : goal.returns-in-5-clause-no_room
 returns-in-5-clause-no_room g c =
-    rw c.in-5.is (no_scalar c.alias_of.result alias (λ name. refl) (text_at c.args.arena.now c.args.event.now.anchor))
+    rw c.in-5.is (no_scalar c.alias_of.result alias (λ name. refl) (text_in_arena c.args.arena.now c.args.event.now.anchor))
 
 pub returns-in-6-clause-read : goal.returns-in-6-clause-read
 returns-in-6-clause-read g c = rw c.in-6.is c.scalar_of.ensures
@@ -42,11 +42,11 @@ returns-in-7-clause-read g c = rw c.in-7.is c.sequence_of.ensures
 
 pub returns-in-7-clause-no_room : goal.returns-in-7-clause-no_room
 returns-in-7-clause-no_room g c =
-    rw c.in-7.is (no_scalar c.sequence_of.result sequence_start (λ start. refl) (collection_of c.args.arena.now c.args.event.now))
+    rw c.in-7.is (no_scalar c.sequence_of.result sequence_start (λ start. refl) (collection_recorded c.args.arena.now c.args.event.now))
 
 pub returns-in-9-clause-read : goal.returns-in-9-clause-read
 returns-in-9-clause-read g c = rw c.in-9.is c.mapping_of.ensures
 
 pub returns-in-9-clause-no_room : goal.returns-in-9-clause-no_room
 returns-in-9-clause-no_room g c =
-    rw c.in-9.is (no_scalar c.mapping_of.result mapping_start (λ start. refl) (collection_of c.args.arena.now c.args.event.now))
+    rw c.in-9.is (no_scalar c.mapping_of.result mapping_start (λ start. refl) (collection_recorded c.args.arena.now c.args.event.now))

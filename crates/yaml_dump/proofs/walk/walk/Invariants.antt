@@ -7,4 +7,4 @@ abbrev pub invariant-loop-visit : goal.invariant-loop-visit
 invariant-loop-visit g l = Stands (graph_of l.document) (seen_walker l.walker)
 
 abbrev pub decreases-loop-visit : goal.decreases-loop-visit
-decreases-loop-visit g l = length (meetings.steps (graph_of l.document)) - length (seen_walker l.walker).steps
+decreases-loop-visit g l = length (meetings.graph_steps (graph_of l.document)) - length (seen_walker l.walker).steps

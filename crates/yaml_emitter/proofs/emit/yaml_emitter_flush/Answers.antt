@@ -1,5 +1,6 @@
 use Rattle.yaml_emitter.proofs.Common.{◌≤◌, None, Some, List, refl, ◌≡◌, ap, subst, sym, ◌∙◌, Event, seen_events, state_of, is_head_ready, MachineStands}
-use Rattle.yaml_emitter.proofs.Common.{append-nil, StandsAfter, State, MachineState, none_from_result, some_from_result, encoded, result_of_error, Grows, KeepsSet, Page}
+use Rattle.yaml_emitter.proofs.Common.{append-nil, StandsAfter, State, MachineState, none_from_result, some_from_result, encoded, result_of_error, Grows}
+use Rattle.yaml_emitter.proofs.Common.{KeepsSet, Page}
 use Rattle.yaml_base.specs.declared.errors.yaml_error_t.TheVariants.{Memory}
 use Rattle.yaml_emitter.proofs.standing.{EmitterKept.has_output_inside, EmitterKept.kept_emitting, Growing.flushed_unflushed, Moving.moved_nowhere}
 use Rattle.yaml_emitter.proofs.standing.{StandingMore.flush_stands, StandingMore.flush_failed}

@@ -1,4 +1,5 @@
-use Rattle.yaml_emitter.proofs.Common.{ℕ, ◌+◌, drop, true, Option, List, [], map, ◌++◌, ◌∷◌, refl, ◌≡◌, ap, sym, subst, ◌∙◌, arith, option_map, Event, seen_event}
+use Rattle.yaml_emitter.proofs.Common.{ℕ, ◌+◌, drop, true, Option, List, [], map, ◌++◌, ◌∷◌, refl, ◌≡◌, ap, sym, subst, ◌∙◌, arith, option_map, Event}
+use Rattle.yaml_emitter.proofs.Common.{seen_event}
 use Rattle.yaml_emitter.proofs.Common.{seen_events, is_balanced, nonempty_prefixes, list_any}
 use Rattle.std.proofs.{lemmas.List.drop_all}
 use Rattle.std.specs.Prelude.{◌≤◌, ◌==◌, ◌&&◌, length, unwrap_or}

@@ -2,7 +2,7 @@ use Rattle.yaml_json.proofs.Common.{List, ℕ, ◌∙◌, subst, Token}
 use Rattle.yaml_json.proofs.Placing.{stops_at_lexeme}
 use Rattle.yaml_json.specs.Reached.{AreFrom}
 use Rattle.yaml_json.specs.Refused.{IsByText}
-use Rattle.yaml_json.specs.Walk.{StopsWriting}
+use Rattle.yaml_json.specs.Walk.{TextStopsWriting}
 use Rattle.yaml_json.proofs.texts.write_text_in.Goals as goal
 
 pub returns-in-Ok : goal.returns-in-Ok
@@ -26,7 +26,7 @@ returns-in-Err g c =
     let now = c.write_only_value.new.writer in
     let stop = c.in-Err.stop in
     let stopped = λ (by_text : IsByText stop). subst
-    (λ (all : List Token). StopsWriting s.depth s.unique_names s.flow all reader.before c.args.writer.now stop now) c.new-tokens.ensures.ahead
+    (λ (all : List Token). TextStopsWriting s.depth s.unique_names s.flow all reader.before c.args.writer.now stop now) c.new-tokens.ensures.ahead
     (failed.refused by_text) in
     let from = subst (λ (t : List ℕ). AreFrom t reader.before c.last_offset.result) (c.in-Err.ensures.text ∙ c.new-tokens.ensures.text)
     c.last_offset.ensures in

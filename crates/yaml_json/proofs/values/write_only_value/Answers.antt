@@ -3,7 +3,7 @@ use Rattle.yaml_json.proofs.Common.{Event, AddsEvents, NamesOnce, Token, WriterS
 use Rattle.yaml_json.proofs.{Refusing.past_refused, Refusing.value_names, Stopping.kept_same, Stopping.kept_then}
 use Rattle.yaml_json.proofs.{TokenLemmas.value_given, TokenLemmas.value_spelled}
 use Rattle.yaml_json.proofs.WalkCalls.{only_value}
-use Rattle.yaml_json.specs.Walk.{StopsWriting}
+use Rattle.yaml_json.specs.Walk.{TextStopsWriting}
 use Rattle.yaml_json.specs.WalkSteps.{at}
 use Rattle.yaml_json.specs.Wrote.{WroteValue}
 use Rattle.yaml_json.specs.declared.values.Spot.TheVariants.{PastValue}
@@ -13,7 +13,7 @@ use Rattle.yaml_json.proofs.values.write_only_value.Goals as goal
 -- the writing is stopped by what follows the value
 past_stopped : (left : List Token) (depth : ℕ) (unique flow : Bool) (start before front : List Token) (last : Token) (was now : WriterState)
     → (wrote : WroteValue depth flow start was left now) → (unique ≡ true → NamesOnce [] (json_tokens wrote.json))
-    → start ≡ front ++ last ∷ left → before ≡ last ∷ left → (left ≡ [] → ⊥) → StopsWriting depth unique flow start before was (stops.NotJson PastValue) now
+    → start ≡ front ++ last ∷ left → before ≡ last ∷ left → (left ≡ [] → ⊥) → TextStopsWriting depth unique flow start before was (stops.NotJson PastValue) now
 past_stopped [] depth unique flow start before front last was now wrote once parts were more = absurd (more refl)
 past_stopped (token ∷ after) depth unique flow start before front last was now wrote once parts were more =
     let spelled = value_spelled depth start (token ∷ after) wrote.json wrote.read in

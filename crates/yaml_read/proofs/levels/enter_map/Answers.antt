@@ -3,7 +3,7 @@ use Rattle.std.specs.Borrow.{Bor}
 use Rattle.std.specs.Prelude.{codes, length, Result}
 use Rattle.yaml_base.specs.values.ValueText.{line_at}
 use Rattle.yaml_read.proofs.Words.{at_exit, first_none, opens_cut, opens_error}
-use Rattle.yaml_read.specs.Words.{OpensAt, behind}
+use Rattle.yaml_read.specs.Words.{OpensAt, past_word}
 use Rattle.yaml_read.specs.declared.errors.Stop.{Stop}
 use Rattle.yaml_read.proofs.Breaking.{err_exit, line_and_word, line_lacks}
 use Rattle.yaml_read.specs.Grammar.{line_then, nothing, word_then}
@@ -18,7 +18,7 @@ returns-in_err-line-clause-cut g c =
     at_exit (λ (r : Result (Bor (List ℕ)) Stop). OpensAt (word ++ codes "? ") c.args.text.now r) c.in_err-line.field-0.0 c.from_residual-in_err-line.result
     c.from_residual-in_err-line.ensures
     (opens_error (word ++ codes "? ") c.args.text.now c.in_err-line.field-0.0
-    (first_none word (codes "? ") c.args.text.now (subst (λ n. behind (line_at n) c.args.text.now ≡ None) deeper c.in_err-line.ensures.cut)))
+    (first_none word (codes "? ") c.args.text.now (subst (λ n. past_word (line_at n) c.args.text.now ≡ None) deeper c.in_err-line.ensures.cut)))
 
 pub returns-clause-cut : goal.returns-clause-cut
 returns-clause-cut g c =

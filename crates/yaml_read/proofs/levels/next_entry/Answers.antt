@@ -2,7 +2,7 @@ use Rattle.std.proofs.Common.{◌≡◌, ◌*◌, ◌++◌, None, ap, subst, sym
 use Rattle.std.specs.Prelude.{codes, Result}
 use Rattle.yaml_base.specs.values.ValueText.{line_at}
 use Rattle.yaml_read.specs.Entries.{EntryFound}
-use Rattle.yaml_read.specs.Words.{behind}
+use Rattle.yaml_read.specs.Words.{past_word}
 use Rattle.yaml_read.specs.declared.errors.Stop.{Stop}
 use Rattle.yaml_read.specs.declared.levels.Entry.{Entry}
 use Rattle.yaml_read.proofs.Turns.{cut_is, line_is}
@@ -31,8 +31,8 @@ returns-in_err-rest-in-None-clause-found c =
     c.in_ok-line.ensures.cut is in
     at_exit (λ (r : Result Entry Stop). EntryFound c.args.lead.now c.args.end.now tail r) c.in_err-rest-in-None.field-0.0
     c.from_residual-in_err-rest-in-None.result c.from_residual-in_err-rest-in-None.ensures (
-      subst (λ t. behind c.args.lead.now t ≡ None) same c.in-None.ensures.cut,
-      subst (λ t. behind c.args.end.now t ≡ None) same c.in_err-rest-in-None.ensures.cut,
+      subst (λ t. past_word c.args.lead.now t ≡ None) same c.in-None.ensures.cut,
+      subst (λ t. past_word c.args.end.now t ≡ None) same c.in_err-rest-in-None.ensures.cut,
     )
 
 pub returns-in_ok-rest-in-None-clause-found : goal.returns-in_ok-rest-in-None-clause-found
@@ -40,7 +40,7 @@ returns-in_ok-rest-in-None-clause-found c =
     λ tail is.
     let same = line_is c.args.depth c.args.text.now c.in_ok-behind.behind.now c.in_ok-line.line.now tail c.in_ok-behind.ensures.cut
     c.in_ok-line.ensures.cut is in
-    (subst (λ t. behind c.args.lead.now t ≡ None) same c.in-None.ensures.cut, sym same ∙ c.in_ok-rest-in-None.ensures.cut)
+    (subst (λ t. past_word c.args.lead.now t ≡ None) same c.in-None.ensures.cut, sym same ∙ c.in_ok-rest-in-None.ensures.cut)
 
 pub returns-in-Some-clause-cut : goal.returns-in-Some-clause-cut
 returns-in-Some-clause-cut c =

@@ -9,7 +9,7 @@ use Rattle.yaml_base.specs.values.ValueText.{line_at, value_text}
 use Rattle.yaml_value.specs.SeenValues.{seen_value}
 use Rattle.yaml_read.specs.Heads.{HeadRead}
 use Rattle.yaml_read.specs.Readable.{CanBeReadAt}
-use Rattle.yaml_read.specs.Remaining.{IsDue, OpenLevel, Reached, column_of, is_nested, items_open, pairs_open, seen_levels}
+use Rattle.yaml_read.specs.Remaining.{IsDue, OpenLevel, Reached, column_in, is_nested, items_open, pairs_open, seen_levels}
 use Rattle.yaml_read.specs.declared.errors.Stop.{Stop}
 use Rattle.yaml_read.specs.declared.heads.Head.{Head}
 use Rattle.yaml_read.specs.declared.heads.Head.TheVariants as head
@@ -38,7 +38,7 @@ head_is : {A : Type 0} (root : TypedValue) (levels : List OpenLevel) (bytes : Li
     → HeadRead bytes due.value due.rest (Ok (h, rest))
 head_is root levels bytes read h rest due is reads =
     subst (λ h. HeadRead bytes due.value due.rest (Ok (h, rest))) is
-    (reads (length levels) (column_of levels) due.value due.rest due.readable due.text)
+    (reads (length levels) (column_in levels) due.value due.rest due.readable due.text)
 
 -- the line of an entry in the levels of a program
 line_word : {A : Type 0} (levels : List (Level A)) → line_at (length levels * 2 + 2) ≡ line_at (length (seen_levels levels) * 2 + 2)
@@ -140,7 +140,7 @@ returns-after-is_collection-clause-read g c =
       | else-is_collection w ↦ λ on. absurd (true≢false (sym on ∙ sym c.is_collection.ensures ∙ w.if-is_collection.false))
     ] in
     c.settle.ensures.read whole
-    (value_in whole levels value c.args.text.now c.in_ok-head.rest.now opened (found.text (column_of levels)) (found.readable (length levels) room))
+    (value_in whole levels value c.args.text.now c.in_ok-head.rest.now opened (found.text (column_in levels)) (found.readable (length levels) room))
 
 pub returns-in_ok-next-in-Items-clause-read : goal.returns-in_ok-next-in-Items-clause-read
 returns-in_ok-next-in-Items-clause-read g c =
@@ -199,7 +199,7 @@ returns-after-is_collection-clause-stops g c =
       | else-is_collection w ↦ λ on. absurd (true≢false (sym on ∙ sym c.is_collection.ensures ∙ w.if-is_collection.false))
     ] in
     c.settle.ensures.stops whole
-    (value_in whole levels value c.args.text.now c.in_ok-head.rest.now opened (found.text (column_of levels)) (found.readable (length levels) room))
+    (value_in whole levels value c.args.text.now c.in_ok-head.rest.now opened (found.text (column_in levels)) (found.readable (length levels) room))
 
 pub returns-in_err-check_room-in-Items-clause-stops : goal.returns-in_err-check_room-in-Items-clause-stops
 returns-in_err-check_room-in-Items-clause-stops g c =

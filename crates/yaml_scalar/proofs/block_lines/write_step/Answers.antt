@@ -1,4 +1,5 @@
-use Rattle.yaml_scalar.proofs.Common.{if◌then◌else◌, Bool, chars, ap, ◌∙◌, wrote_as, natural, limit_of, render_inner, is_doubled, render_end, render_step}
+use Rattle.yaml_scalar.proofs.Common.{if◌then◌else◌, Bool, chars, ap, ◌∙◌, wrote_as, natural, limit_of, render_inner, is_doubled, render_block_break}
+use Rattle.yaml_scalar.proofs.Common.{render_step}
 use Rattle.yaml_scalar.proofs.block_lines.write_step.Goals as goal
 
 pub returns-then-is_break : goal.returns-then-is_break
@@ -9,8 +10,8 @@ returns-then-is_break g c =
     let rest = chars c.args.rest.now in
     let cursor = c.args.pen.now.cursor in
     wrote_as (render_step limit n c.args.place character rest)
-    (ap (λ (twice : Bool). render_end twice character cursor) c.is_doubled.ensures
-    ∙ ap (λ (b : Bool). if b then render_end (is_doubled c.args.place character rest) character cursor
+    (ap (λ (twice : Bool). render_block_break twice character cursor) c.is_doubled.ensures
+    ∙ ap (λ (b : Bool). if b then render_block_break (is_doubled c.args.place character rest) character cursor
     else render_inner limit n c.args.place character rest cursor) c.if-is_break.ensures)
     c.write_end.ensures
 
@@ -22,6 +23,6 @@ returns-else-is_break g c =
     let rest = chars c.args.rest.now in
     let cursor = c.args.pen.now.cursor in
     wrote_as (render_step limit n c.args.place character rest)
-    (ap (λ (b : Bool). if b then render_end (is_doubled c.args.place character rest) character cursor
+    (ap (λ (b : Bool). if b then render_block_break (is_doubled c.args.place character rest) character cursor
     else render_inner limit n c.args.place character rest cursor) c.if-is_break.ensures)
     c.write_inner.ensures

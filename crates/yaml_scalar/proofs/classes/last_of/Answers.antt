@@ -1,5 +1,6 @@
 use Rattle.std.{proofs.Common.ap, proofs.Common.sym, proofs.Common.◌∙◌, proofs.lemmas.List.nil_from_length, proofs.lemmas.Str.chars-nil, specs.Str.chars}
-use Rattle.yaml_scalar.{proofs.LastCharacters.last-is, specs.WholeRuns.last_from}
+use Rattle.yaml_scalar.{proofs.LastCharacters.last-is}
+use Rattle.yaml_base.specs.Tags.{last_from}
 use Rattle.yaml_scalar.proofs.classes.last_of.Goals as goal
 
 pub returns-in-Some : goal.returns-in-Some

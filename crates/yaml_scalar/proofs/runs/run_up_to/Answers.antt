@@ -1,5 +1,6 @@
 use Rattle.yaml_base.proofs.Common.{ap, ◌∙◌, chars}
-use Rattle.yaml_scalar.{proofs.ByteRuns.run_boundary, proofs.ByteRuns.free_run, specs.WholeRuns.last_from}
+use Rattle.yaml_scalar.{proofs.ByteRuns.run_boundary, proofs.ByteRuns.free_run}
+use Rattle.yaml_base.specs.Tags.{last_from}
 use Rattle.yaml_scalar.proofs.runs.run_up_to.Goals as goal
 
 pub split_at-requires : goal.split_at-requires

@@ -7,7 +7,7 @@ use Rattle.yaml_toml.proofs.Fitting.{fits_enter, fits_memory, fits_of}
 use Rattle.yaml_toml.proofs.Halting.{halts_at_once, halts_of}
 use Rattle.yaml_toml.proofs.Pending.{kinds_length, steps_enter}
 use Rattle.yaml_toml.specs.OpenCounts.{open_after}
-use Rattle.yaml_toml.specs.Walk.{Answers, Moved, kind_of, kinds_of}
+use Rattle.yaml_toml.specs.Walk.{Answers, Moved, rest_kind, kinds_of}
 use Rattle.yaml_toml.specs.declared.walk.Rest.{Rest}
 use Rattle.yaml_base.specs.declared.kinds.CollectionKind.TheVariants.{Mapping, Sequence}
 use Rattle.yaml_toml.proofs.walk.enter.Goals as goal
@@ -41,8 +41,9 @@ returns g c =
       nests = fits_of c.args.settings.now.depth _ c.begin.result c.stop_of.result c.keep.new.opened.items c.stop_of.ensures
           (fits_enter c.args.settings.now.depth c.args.opened.now.items c.keep.new.opened.items c.args.rest c.in_default.ensures.kept
           (grind (arith, common_steps)));
-      stopped = halts_of c.args.settings.now.depth writer after (start_event flow (kind_of c.args.rest)) _ (kinds_of c.args.opened.now.items)
-          c.begin.result c.stop_of.result (λ fits. opened_fits flow (kind_of c.args.rest) c.args.settings.now.depth (length (kinds_of c.args.opened.now.items))
+      stopped = halts_of c.args.settings.now.depth writer after (start_event flow (rest_kind c.args.rest)) _ (kinds_of c.args.opened.now.items)
+          c.begin.result c.stop_of.result
+          (λ fits. opened_fits flow (rest_kind c.args.rest) c.args.settings.now.depth (length (kinds_of c.args.opened.now.items))
           (room_for c.args.opened.now.items c.args.settings.now.depth (grind (arith, common_steps)))) c.stop_of.ensures
           (subst (λ (kind : CollectionKind). Answers writer (start_event flow kind) c.begin.result after) c.kind.ensures c.begin.ensures.kept);
       kept = kept_of writer after c.begin.result c.stop_of.result c.stop_of.ensures c.begin.ensures.kept;

@@ -6,10 +6,10 @@ use Rattle.yaml_base.specs.declared.kinds.CollectionKind.TheVariants.{Sequence}
 use Rattle.yaml_json.proofs.WroteLemmas.{on_ok}
 use Rattle.std.specs.Prelude.{length, OnErr}
 use Rattle.yaml_toml.proofs.Halting.{fewer_fit, halts_at_once, halts_next, halts_of, on_err}
-use Rattle.yaml_toml.specs.Walk.{ItemsHaveNumbers, PendingHaveNumbers, Steps, StepsStop, items_left, items_size, kinds_of, pending, pending_size}
+use Rattle.yaml_toml.specs.Walk.{ItemsHaveNumbers, PendingHaveNumbers, GaveSome, StepsStop, items_left, items_size, kinds_of, pending, pending_size}
 use Rattle.yaml_toml.specs.declared.walk.Rest.TheVariants as rest
 use Rattle.yaml_toml.proofs.Answering.{kept_memory, kept_of, ok_of}
-use Rattle.yaml_toml.specs.Depth.{items_nesting, nesting}
+use Rattle.yaml_toml.specs.Depth.{items_nesting, toml_nesting}
 use Rattle.yaml_toml.specs.Fitting.{NodeFits, PendingFits, RestFits}
 use Rattle.std.specs.Prelude.{◌↔◌}
 use Rattle.yaml_toml.proofs.Fitting.{fits_end, fits_memory, fits_next, fits_of, fits_same}
@@ -28,7 +28,7 @@ returns-in-None g c =
     let within = levels ∙ sym (append_assoc outer (kinds_of opened) (Sequence ∷ [])) in
     record {
       written = ok_of _ c.end_innermost.result c.stop_of.result c.stop_of.ensures (on_ok c.end_innermost.result (λ moved.
-          subst (λ (xs : List CodeNode). Steps depth flow writer (items_left writer.canonical flow xs ++ pending writer.canonical flow opened)
+          subst (λ (xs : List CodeNode). GaveSome depth flow writer (items_left writer.canonical flow xs ++ pending writer.canonical flow opened)
           (kinds_of opened ++ Sequence ∷ []) (ItemsHaveNumbers (items_view xs) × PendingHaveNumbers opened)
           (1 + items_size (items_view xs) + pending_size opened) after opened) (sym none)
           (steps_same depth flow writer after (sequence_end ∷ pending writer.canonical flow opened) (sequence_end ∷ pending writer.canonical flow opened)
@@ -63,8 +63,9 @@ returns-in_default-clause-nests g c =
     let xs = c.in-Some.others.now in
     let all : c.args.items.now ≡ x ∷ xs = grind (arith, common_steps) in
     let whole = ap (λ (items : List CodeNode). items_nesting (items_view items)) (sym all) in
-    fits_same depth (NodeFits depth (nesting (node_view x)) kept) (RestFits depth (items_nesting (items_view c.args.items.now)) opened) c.write_node.result after
-    (fits_next depth opened kept (rest.Items c.in-Some.others) c.in_default.ensures.kept (nesting (node_view x)) _ whole) c.write_node.ensures.nests
+    fits_same depth (NodeFits depth (toml_nesting (node_view x)) kept)
+    (RestFits depth (items_nesting (items_view c.args.items.now)) opened) c.write_node.result after
+    (fits_next depth opened kept (rest.Items c.in-Some.others) c.in_default.ensures.kept (toml_nesting (node_view x)) _ whole) c.write_node.ensures.nests
 
 pub returns-in-Err-clause-stopped : goal.returns-in-Err-clause-stopped
 returns-in-Err-clause-stopped g c = halts_at_once c.args.settings.now.depth c.args.writer.now _ _
@@ -97,7 +98,7 @@ returns-in_default-clause-written g c =
     let xs = c.in-Some.others.now in
     let all : c.args.items.now ≡ x ∷ xs = grind (arith, common_steps) in
     on_ok c.write_node.result (λ steps.
-    subst (λ (items : List CodeNode). Steps depth flow writer (items_left writer.canonical flow items ++ pending writer.canonical flow opened)
+    subst (λ (items : List CodeNode). GaveSome depth flow writer (items_left writer.canonical flow items ++ pending writer.canonical flow opened)
     (kinds_of opened ++ Sequence ∷ []) (ItemsHaveNumbers (items_view items) × PendingHaveNumbers opened)
     (1 + items_size (items_view items) + pending_size opened) after c.write_node.new.opened.items) (sym all)
     (steps_next depth flow writer after (rest.Items c.in-Some.others) opened c.keep.new.opened.items c.write_node.new.opened.items c.in_default.ensures.kept (node_view x)

@@ -1,4 +1,5 @@
-use Rattle.yaml_json.proofs.Common.{◌≡◌, ◌∷◌, ◌++◌, [], ℕ, ◌+◌, List, Event, refl, ap, subst, sym, ◌∙◌, append_assoc, mapping_end, scalar, text_content, chars, WroteEvent, Result, OnOk, arith}
+use Rattle.yaml_json.proofs.Common.{◌≡◌, ◌∷◌, ◌++◌, [], ℕ, ◌+◌, List, Event, refl, ap, subst, sym, ◌∙◌, append_assoc, mapping_end, scalar, text_content, chars}
+use Rattle.yaml_json.proofs.Common.{WroteEvent, Result, OnOk, arith}
 use Rattle.std.proofs.lemmas.Grind.{common_steps}
 use Rattle.std.specs.Prelude.{String, string_bytes}
 use Rattle.std.specs.declared.alloc.Global.{Global}
@@ -9,10 +10,10 @@ use Rattle.toml_ordered.specs.declared.tree.Node.{Node as CodeNode}
 use Rattle.yaml_base.specs.declared.kinds.CollectionKind.TheVariants.{Mapping}
 use Rattle.yaml_json.proofs.WroteLemmas.{on_ok}
 use Rattle.yaml_toml.specs.Events.{toml_events}
-use Rattle.yaml_toml.specs.Walk.{KeysHaveNumbers, PendingHaveNumbers, Steps, StepsStop, keys_left, keys_size, kinds_of, pending, pending_size}
+use Rattle.yaml_toml.specs.Walk.{KeysHaveNumbers, PendingHaveNumbers, GaveSome, StepsStop, keys_left, keys_size, kinds_of, pending, pending_size}
 use Rattle.yaml_toml.specs.declared.walk.Rest.TheVariants as rest
 use Rattle.yaml_toml.proofs.Answering.{kept_memory, kept_of, ok_of}
-use Rattle.yaml_toml.specs.Depth.{keys_nesting, nesting}
+use Rattle.yaml_toml.specs.Depth.{keys_nesting, toml_nesting}
 use Rattle.yaml_toml.specs.Fitting.{NodeFits, PendingFits, RestFits}
 use Rattle.yaml_toml.specs.Walk.{Answers, IsStopOf}
 use Rattle.std.specs.Prelude.{length, OnErr, Err}
@@ -38,7 +39,7 @@ returns-in-None g c =
     let within = levels ∙ sym (append_assoc outer (kinds_of opened) (Mapping ∷ [])) in
     record {
       written = ok_of _ c.end_innermost.result c.stop_of.result c.stop_of.ensures (on_ok c.end_innermost.result (λ moved.
-          subst (λ (ms : List Entry). Steps depth flow writer (keys_left writer.canonical flow ms ++ pending writer.canonical flow opened)
+          subst (λ (ms : List Entry). GaveSome depth flow writer (keys_left writer.canonical flow ms ++ pending writer.canonical flow opened)
           (kinds_of opened ++ Mapping ∷ []) (KeysHaveNumbers (entries_view ms) × PendingHaveNumbers opened)
           (1 + keys_size (entries_view ms) + pending_size opened) after opened) (sym none)
           (steps_same depth flow writer after (mapping_end ∷ pending writer.canonical flow opened) (mapping_end ∷ pending writer.canonical flow opened)
@@ -78,8 +79,9 @@ returns-in_default-stop_of-clause-nests g c =
     let ms = c.in-Some.others.now in
     let all : c.args.keys.now ≡ m ∷ ms = grind (arith, common_steps) in
     let whole = ap (λ (es : List Entry). keys_nesting (entries_view es)) (sym all) in
-    fits_same depth (NodeFits depth (nesting (node_view m.1)) kept) (RestFits depth (keys_nesting (entries_view c.args.keys.now)) opened) c.write_node.result after
-    (fits_next depth opened kept (rest.Members c.in-Some.others) c.in_default.ensures.kept (nesting (node_view m.1)) _ whole) c.write_node.ensures.nests
+    fits_same depth (NodeFits depth (toml_nesting (node_view m.1)) kept)
+    (RestFits depth (keys_nesting (entries_view c.args.keys.now)) opened) c.write_node.result after
+    (fits_next depth opened kept (rest.Members c.in-Some.others) c.in_default.ensures.kept (toml_nesting (node_view m.1)) _ whole) c.write_node.ensures.nests
 
 pub returns-in-Err-clause-stopped : goal.returns-in-Err-clause-stopped
 returns-in-Err-clause-stopped g c = halts_at_once c.args.settings.now.depth c.args.writer.now _ _
@@ -122,7 +124,7 @@ returns-in_default-stop_of-clause-stopped g c =
     let wrote : WroteEvent writer (scalar key) between =
     subst (λ (bytes : List ℕ). WroteEvent writer (scalar (text_content (chars bytes))) between) named
     (subst (λ (r : Result (Unit {0}) Stop). OnOk r (WroteEvent writer (scalar (text_content (chars c.as_str.result.now))) between)) c.in_default-stop_of.is told) in
-    let value : toml.Node = node_view m.1 in
+    let value : toml.TomlNode = node_view m.1 in
     on_err c.write_node.result (λ stop.
     subst (λ (es : List Entry). StepsStop depth writer (keys_left writer.canonical flow es ++ pending writer.canonical flow opened)
     (kinds_of opened ++ Mapping ∷ []) after) (sym all)
@@ -152,12 +154,12 @@ returns-in_default-stop_of-clause-written g c =
     let wrote : WroteEvent writer (scalar key) between =
     subst (λ (bytes : List ℕ). WroteEvent writer (scalar (text_content (chars bytes))) between) named
     (subst (λ (r : Result (Unit {0}) Stop). OnOk r (WroteEvent writer (scalar (text_content (chars c.as_str.result.now))) between)) c.in_default-stop_of.is told) in
-    let value : toml.Node = node_view m.1 in
+    let value : toml.TomlNode = node_view m.1 in
     on_ok c.write_node.result (λ steps.
-    subst (λ (es : List Entry). Steps depth flow writer (keys_left writer.canonical flow es ++ pending writer.canonical flow opened)
+    subst (λ (es : List Entry). GaveSome depth flow writer (keys_left writer.canonical flow es ++ pending writer.canonical flow opened)
     (kinds_of opened ++ Mapping ∷ []) (KeysHaveNumbers (entries_view es) × PendingHaveNumbers opened)
     (1 + keys_size (entries_view es) + pending_size opened) after left) (sym all)
-    (subst (λ (events : List Event). Steps depth flow writer (events ++ pending writer.canonical flow opened) (kinds_of opened ++ Mapping ∷ [])
+    (subst (λ (events : List Event). GaveSome depth flow writer (events ++ pending writer.canonical flow opened) (kinds_of opened ++ Mapping ∷ [])
     (KeysHaveNumbers (entries_view (m ∷ ms)) × PendingHaveNumbers opened) (1 + keys_size (entries_view (m ∷ ms)) + pending_size opened) after left)
     (sym (keys_left-more writer.canonical flow m ms))
     (steps_named depth flow writer between after key (λ canonical. toml_events canonical flow value ++ keys_left canonical flow ms)

@@ -21,9 +21,10 @@ use Rattle.yaml_json.proofs.Common.{WriterState, sequence_start, mapping_start, 
 use Rattle.yaml_toml.proofs.Fitting.{fits_scalar, fits_seen}
 use Rattle.yaml_toml.proofs.Halting.{halts_scalar, halts_seen}
 use Rattle.yaml_toml.proofs.Pending.{begun_table, begun_tables, steps_leaf}
-use Rattle.yaml_toml.proofs.Views.{node_view-Text, node_view-Integer, node_view-Decimal, node_view-Infinity, node_view-NotANumber, node_view-Boolean, node_view-Datetime, steps_seen}
+use Rattle.yaml_toml.proofs.Views.{node_view-Text, node_view-Integer, node_view-Decimal, node_view-Infinity, node_view-NotANumber, node_view-Boolean}
+use Rattle.yaml_toml.proofs.Views.{node_view-Datetime, steps_seen}
 use Rattle.toml_ordered.specs.declared.tree.Node.{Node as CodeNode}
-use Rattle.yaml_toml.specs.Depth.{items_nesting, keys_nesting, nesting}
+use Rattle.yaml_toml.specs.Depth.{items_nesting, keys_nesting, toml_nesting}
 use Rattle.yaml_toml.specs.Fitting.{FitsAfter, NodeFits}
 use Rattle.yaml_toml.specs.declared.walk.Rest.{Rest}
 use Rattle.yaml_toml.specs.declared.walk.Stop.{Stop}
@@ -36,10 +37,10 @@ Entry = String Global × CodeNode × ℕ
 begun_fits : (depth : ℕ) (opened after : List Rest) (ds : List CodeNode) (ms : List Entry) (done : List CodeNode) (last : List Entry)
     (result : Result (Unit {0}) Stop) → ds ≡ done → ms ≡ last
     → FitsAfter depth (NodeFits depth (suc (max (items_nesting (items_view ds)) (suc (keys_nesting (entries_view ms))))) opened) result after
-    → FitsAfter depth (NodeFits depth (nesting (toml.tables (items_view done) (entries_view last))) opened) result after
+    → FitsAfter depth (NodeFits depth (toml_nesting (toml.tables (items_view done) (entries_view last))) opened) result after
 begun_fits depth opened after ds ms done last result first second fits =
-    subst (λ (es : List Entry). FitsAfter depth (NodeFits depth (nesting (toml.tables (items_view done) (entries_view es))) opened) result after) second
-    (subst (λ (xs : List CodeNode). FitsAfter depth (NodeFits depth (nesting (toml.tables (items_view xs) (entries_view ms))) opened) result after) first
+    subst (λ (es : List Entry). FitsAfter depth (NodeFits depth (toml_nesting (toml.tables (items_view done) (entries_view es))) opened) result after) second
+    (subst (λ (xs : List CodeNode). FitsAfter depth (NodeFits depth (toml_nesting (toml.tables (items_view xs) (entries_view ms))) opened) result after) first
     fits)
 
 begun_halts : (most : ℕ) (was now : WriterState) (in_flow : Bool) (opened : List Rest) (ds : List CodeNode) (ms : List Entry) (done : List CodeNode)

@@ -1,14 +1,16 @@
-use Rattle.yaml_json.proofs.Common.{◌≡◌, ◌∷◌, ◌++◌, [], ◌+◌, List, refl, ap, subst, sym, ◌∙◌, append_assoc, mapping_start, mapping_end, sequence_end, collection_in, arith}
+use Rattle.yaml_json.proofs.Common.{◌≡◌, ◌∷◌, ◌++◌, [], ◌+◌, List, refl, ap, subst, sym, ◌∙◌, append_assoc, mapping_start, mapping_end, sequence_end}
+use Rattle.yaml_json.proofs.Common.{collection_in, arith}
 use Rattle.std.proofs.lemmas.List.{nil_from_length}
 use Rattle.toml_ordered.specs.Data.{items_view, entries_view, node_view}
 use Rattle.toml_ordered.specs.declared.tree.Node.{Node as CodeNode}
 use Rattle.yaml_json.proofs.WroteLemmas.{on_ok}
-use Rattle.yaml_toml.specs.Events.{toml_events, items_events, keys_events}
-use Rattle.yaml_toml.specs.Walk.{ItemsHaveNumbers, PendingHaveNumbers, RestHasNumbers, Steps, StepsStop, items_size, kind_of, kinds_of, pending, pending_size, rest_events, rest_size}
+use Rattle.yaml_toml.specs.Events.{toml_events, toml_items_events, keys_events}
+use Rattle.yaml_toml.specs.Walk.{ItemsHaveNumbers, PendingHaveNumbers, RestHasNumbers, GaveSome, StepsStop, items_size, rest_kind, kinds_of, pending}
+use Rattle.yaml_toml.specs.Walk.{pending_size, rest_events, rest_size}
 use Rattle.yaml_toml.specs.declared.walk.Rest.{Rest}
 use Rattle.yaml_toml.specs.declared.walk.Rest.TheVariants as rest
 use Rattle.std.specs.Prelude.{max, suc}
-use Rattle.yaml_toml.specs.Depth.{items_nesting, keys_nesting, nesting}
+use Rattle.yaml_toml.specs.Depth.{items_nesting, keys_nesting, toml_nesting}
 use Rattle.yaml_toml.specs.Fitting.{FitsAfter, NodeFits, RestFits, rest_nesting}
 use Rattle.yaml_toml.proofs.Fitting.{fits_memory, fits_next, fits_same}
 use Rattle.yaml_toml.proofs.Halting.{halts_at_once, halts_last, halts_next, on_err}
@@ -31,11 +33,11 @@ returns-in_default-clause-written g c =
     let none : done.now ≡ [] = nil_from_length done.now c.in-None.ensures.cases in
     let behind = mapping_start (collection_in flow) ∷ (keys_events canonical flow keys ++ mapping_end ∷ sequence_end ∷ []) in
     on_ok c.enter.result (λ steps.
-    subst (λ (r : Rest). Steps depth flow writer (rest_events canonical flow r ++ pending canonical flow opened) (kinds_of opened ++ kind_of r ∷ [])
+    subst (λ (r : Rest). GaveSome depth flow writer (rest_events canonical flow r ++ pending canonical flow opened) (kinds_of opened ++ rest_kind r ∷ [])
     (RestHasNumbers r × PendingHaveNumbers opened) (rest_size r + pending_size opened) after left) (sym c.in-Tables.is)
     (steps_last depth flow writer after _ (rest.Members last) opened c.keep.new.opened.items left c.in_default.ensures.kept keys
     (rest_events canonical flow whole) (RestHasNumbers whole) (rest_size whole) refl refl refl
-    (ap (λ (ds : List CodeNode). items_events canonical flow (items_view ds) ++ behind) (sym none))
+    (ap (λ (ds : List CodeNode). toml_items_events canonical flow (items_view ds) ++ behind) (sym none))
     (λ have. (subst (λ (ds : List CodeNode). ItemsHaveNumbers (items_view ds)) (sym none) tt, have)) (omega arith) steps))
     c.enter.ensures.entered
 
@@ -57,12 +59,12 @@ returns-in_default-keep-clause-written g c =
     let behind = mapping_start (collection_in flow) ∷ (keys_events canonical flow (entries_view last.now) ++ mapping_end ∷ sequence_end ∷ []) in
     let sizes = ap (λ (ds : List CodeNode). items_size (items_view ds)) all in
     on_ok c.write_node.result (λ steps.
-    subst (λ (r : Rest). Steps depth flow writer (rest_events canonical flow r ++ pending canonical flow opened) (kinds_of opened ++ kind_of r ∷ [])
+    subst (λ (r : Rest). GaveSome depth flow writer (rest_events canonical flow r ++ pending canonical flow opened) (kinds_of opened ++ rest_kind r ∷ [])
     (RestHasNumbers r × PendingHaveNumbers opened) (rest_size r + pending_size opened) after left) (sym c.in-Tables.is)
     (steps_next depth flow writer after (rest.Tables c.in-Some.others last) opened c.keep-in-Some.new.opened.items left c.in_default-keep.ensures.kept (node_view x)
     (rest_events canonical flow whole) (RestHasNumbers whole) (rest_size whole)
-    (sym (append_assoc (toml_events canonical flow (node_view x)) (items_events canonical flow (items_view xs)) behind)
-    ∙ ap (λ (ds : List CodeNode). items_events canonical flow (items_view ds) ++ behind) (sym all))
+    (sym (append_assoc (toml_events canonical flow (node_view x)) (toml_items_events canonical flow (items_view xs)) behind)
+    ∙ ap (λ (ds : List CodeNode). toml_items_events canonical flow (items_view ds) ++ behind) (sym all))
     (λ one more. (subst (λ (ds : List CodeNode). ItemsHaveNumbers (items_view ds)) (sym all) (one, more.0), more.1)) (omega (arith, sizes)) steps))
     c.write_node.ensures.written
 
@@ -102,8 +104,8 @@ returns-in_default-keep-clause-nests g c =
     let keys = keys_nesting (entries_view last.now) in
     let whole = ap (λ (ds : List CodeNode). max (items_nesting (items_view ds)) (suc keys)) all in
     subst (λ (r : Rest). FitsAfter depth (RestFits depth (rest_nesting r) opened) c.write_node.result left) (sym c.in-Tables.is)
-    (fits_same depth (NodeFits depth (nesting (node_view x)) kept) (RestFits depth (rest_nesting (rest.Tables done last)) opened) c.write_node.result left
-    (fits_next depth opened kept (rest.Tables c.in-Some.others last) c.in_default-keep.ensures.kept (nesting (node_view x))
+    (fits_same depth (NodeFits depth (toml_nesting (node_view x)) kept) (RestFits depth (rest_nesting (rest.Tables done last)) opened) c.write_node.result left
+    (fits_next depth opened kept (rest.Tables c.in-Some.others last) c.in_default-keep.ensures.kept (toml_nesting (node_view x))
     (max (items_nesting (items_view done.now)) (suc keys)) (omega (arith, whole))) c.write_node.ensures.nests)
 
 pub returns-in-Err-clause-stopped : goal.returns-in-Err-clause-stopped
@@ -124,10 +126,10 @@ returns-in_default-clause-stopped g c =
     let none : done.now ≡ [] = nil_from_length done.now c.in-None.ensures.cases in
     let behind = mapping_start (collection_in flow) ∷ (keys_events canonical flow keys ++ mapping_end ∷ sequence_end ∷ []) in
     on_err c.enter.result (λ stop.
-    subst (λ (r : Rest). StepsStop depth writer (rest_events canonical flow r ++ pending canonical flow opened) (kinds_of opened ++ kind_of r ∷ []) after)
+    subst (λ (r : Rest). StepsStop depth writer (rest_events canonical flow r ++ pending canonical flow opened) (kinds_of opened ++ rest_kind r ∷ []) after)
     (sym c.in-Tables.is)
     (halts_last depth writer after flow opened _ (rest.Members last) c.keep.new.opened.items keys (rest_events canonical flow whole) c.in_default.ensures.kept
-    refl refl refl (ap (λ (ds : List CodeNode). items_events canonical flow (items_view ds) ++ behind) (sym none)) stop))
+    refl refl refl (ap (λ (ds : List CodeNode). toml_items_events canonical flow (items_view ds) ++ behind) (sym none)) stop))
     c.enter.ensures.stopped
 
 pub returns-in-Err-keep-clause-stopped : goal.returns-in-Err-keep-clause-stopped
@@ -149,10 +151,10 @@ returns-in_default-keep-clause-stopped g c =
     let all : done.now ≡ x ∷ xs = c.in-Some.ensures.cases.0 in
     let behind = mapping_start (collection_in flow) ∷ (keys_events canonical flow (entries_view last.now) ++ mapping_end ∷ sequence_end ∷ []) in
     on_err c.write_node.result (λ stop.
-    subst (λ (r : Rest). StepsStop depth writer (rest_events canonical flow r ++ pending canonical flow opened) (kinds_of opened ++ kind_of r ∷ []) after)
+    subst (λ (r : Rest). StepsStop depth writer (rest_events canonical flow r ++ pending canonical flow opened) (kinds_of opened ++ rest_kind r ∷ []) after)
     (sym c.in-Tables.is)
     (halts_next depth writer after flow opened (rest.Tables c.in-Some.others last) c.keep-in-Some.new.opened.items (node_view x)
     (rest_events canonical flow whole) c.in_default-keep.ensures.kept
-    (sym (append_assoc (toml_events canonical flow (node_view x)) (items_events canonical flow (items_view xs)) behind)
-    ∙ ap (λ (ds : List CodeNode). items_events canonical flow (items_view ds) ++ behind) (sym all)) stop))
+    (sym (append_assoc (toml_events canonical flow (node_view x)) (toml_items_events canonical flow (items_view xs)) behind)
+    ∙ ap (λ (ds : List CodeNode). toml_items_events canonical flow (items_view ds) ++ behind) (sym all)) stop))
     c.write_node.ensures.stopped

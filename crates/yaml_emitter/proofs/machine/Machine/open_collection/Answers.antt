@@ -1,6 +1,6 @@
 use Rattle.yaml_emitter.proofs.Common.{common_steps, rules}
 use Rattle.yaml_emitter.proofs.Common.{option_map, nat_lt, length, ap, ◌∙◌, arith, any_layout, most_open, spelling}
-use Rattle.yaml_emitter.proofs.Common.{seen_collection, machine_state, start_event, is_mapping, seen_place, seen_frame, seen_stage}
+use Rattle.yaml_emitter.proofs.Common.{seen_collection, machine_state, start_of_kind, is_mapping, seen_place, seen_frame, seen_stage}
 use Rattle.std.proofs.lemmas.{Bool.ltb-true, Result.on_ok_weaker}
 use Rattle.yaml_emitter.proofs.{events_done.ProcessedBy.processed_exit, pieces.WritingTags.spelled_handle}
 use Rattle.yaml_emitter.proofs.events_done.CollectionsDone.{room_here, full_here, of_any_style, start_refused, start_cut, start_left}
@@ -34,14 +34,14 @@ invariant_of-self g c =
 pub returns-in_err-write_collection_start : goal.returns-in_err-write_collection_start
 returns-in_err-write_collection_start g c = λ style asked.
     rw (← c.self.view_is)
-    (processed_exit (start_event (is_mapping c.args.kind) (seen_collection c.args.content.now style)) c.args.empty
+    (processed_exit (start_of_kind (is_mapping c.args.kind) (seen_collection c.args.content.now style)) c.args.empty
     (machine_state c.self.inside) _ c.in_err-write_collection_start.field-0.0 c.from_residual.result c.from_residual.ensures
     (start_cut (machine_state c.self.inside) c.self.inside.directives c.self.inside.frames (is_mapping c.args.kind)
     (seen_collection c.args.content.now style) c.args.empty c.is_simple_collection_key-simple.result
     (seen_place c.next_place-place.result) c.write_collection_start.new.pen c.in_err-write_collection_start.field-0.0
     (seen_at_node c.self.inside (at_node_inside c.self.inside c.self.view_is c.requires.stage))
     (of_any_style c.self.inside.given.canonical (is_mapping c.args.kind) (seen_collection c.args.content.now any_layout) style
-    (names_inside c.self.inside c.self.view_is (start_event (is_mapping c.args.kind) (seen_collection c.args.content.now any_layout)) c.requires.names))
+    (names_inside c.self.inside c.self.view_is (start_of_kind (is_mapping c.args.kind) (seen_collection c.args.content.now any_layout)) c.requires.names))
     (room_here (nat_lt (length c.self.inside.frames) most_open) c.is_full.result c.is_full.ensures c.if-is_full.false)
     c.next_place-place.ensures.place
     (c.is_simple_collection_key-simple.ensures c.self.inside.directives style
@@ -63,7 +63,7 @@ returns g c = λ style asked.
     (seen_stage c.self.inside.stage c.self.inside.directives c.push.new.self) c.write_collection_start.new.pen c.push.result
     (seen_at_node c.self.inside (at_node_inside c.self.inside c.self.view_is c.requires.stage))
     (of_any_style c.self.inside.given.canonical (is_mapping c.args.kind) (seen_collection c.args.content.now any_layout) style
-    (names_inside c.self.inside c.self.view_is (start_event (is_mapping c.args.kind) (seen_collection c.args.content.now any_layout)) c.requires.names))
+    (names_inside c.self.inside c.self.view_is (start_of_kind (is_mapping c.args.kind) (seen_collection c.args.content.now any_layout)) c.requires.names))
     (room_here (nat_lt (length c.self.inside.frames) most_open) c.is_full.result c.is_full.ensures c.if-is_full.false)
     c.next_place-place.ensures.place
     (c.is_simple_collection_key-simple.ensures c.self.inside.directives style

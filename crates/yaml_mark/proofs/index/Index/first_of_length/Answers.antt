@@ -2,7 +2,8 @@ use Rattle.std.specs.BTreeMap.{get_by_text}
 use Rattle.yaml_mark.proofs.Common.{ap, ◌∙◌, arith, ◌<◌, length, IsCharBoundary}
 use Rattle.yaml_mark.proofs.IndexLemmas.{found_by_length, from_start, none_by_length}
 use Rattle.yaml_mark.proofs.index.Index.first_of_length.Goals as goal
-use Rattle.yaml_mark.proofs.index.Index.first_of_length.Goals.{then-length-tag-via-then-length-tag, then-length-tag-via-else-length-tag+then-not-is_char_boundary}
+use Rattle.yaml_mark.proofs.index.Index.first_of_length.Goals.{then-length-tag-via-then-length-tag}
+use Rattle.yaml_mark.proofs.index.Index.first_of_length.Goals.{then-length-tag-via-else-length-tag+then-not-is_char_boundary}
 
 pub returns-then-length-tag : goal.returns-then-length-tag
 returns-then-length-tag g c = λ list finds.

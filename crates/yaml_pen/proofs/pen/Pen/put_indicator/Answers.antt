@@ -1,21 +1,21 @@
 use Rattle.yaml_base.proofs.Common.{◌&&◌, ◌++◌, refl, chars, Cursor, space_if}
 use Rattle.yaml_base.specs.{Cursor.render_text, Indicators.render_indicator}
 use Rattle.yaml_pen.proofs.Composing.{wrote_then, wrote_as, wrote_changing, render_text-append, wrote_exit, wrote_cut, wrote_failed_as}
-use Rattle.yaml_pen.specs.Indicators.{seen_indicator}
+use Rattle.yaml_pen.specs.Indicators.{seen_indicator_row}
 use Rattle.yaml_pen.proofs.pen.Pen.put_indicator.Goals as goal
 
 pub returns-in_err-separate_if : goal.returns-in_err-separate_if
 returns-in_err-separate_if g c = record {
   written =
       wrote_exit c.from_residual.ensures
-      (wrote_cut (render_indicator (seen_indicator c.args.indicator.now)) (chars c.args.indicator.now.text.now) refl c.in_err-separate_if.ensures.written);
+      (wrote_cut (render_indicator (seen_indicator_row c.args.indicator.now)) (chars c.args.indicator.now.text.now) refl c.in_err-separate_if.ensures.written);
 }
 
 pub returns-in_err-write_indicator_text : goal.returns-in_err-write_indicator_text
 returns-in_err-write_indicator_text g c = record {
   written =
       wrote_exit c.from_residual-in_err-write_indicator_text.ensures
-      (wrote_failed_as (render_indicator (seen_indicator c.args.indicator.now)) refl
+      (wrote_failed_as (render_indicator (seen_indicator_row c.args.indicator.now)) refl
       (wrote_then c.in_ok-separate_if.ensures.written c.in_err-write_indicator_text.ensures.written));
 }
 

@@ -1,4 +1,4 @@
-use Rattle.yaml_writer.proofs.Common.{chars, [], ◌∷◌, inr, subst, Text, alias, state_of, AddsEvents}
+use Rattle.yaml_writer.proofs.Common.{chars, [], ◌∷◌, inr, subst, Text, alias, writer_state_of, AddsEvents}
 use Rattle.yaml_writer.proofs.Taken.{passed}
 use Rattle.yaml_writer.proofs.writer.Writer.alias.Goals as goal
 
@@ -6,6 +6,6 @@ pub returns-clause-passed : goal.returns-clause-passed
 returns-clause-passed g c none =
     let after = c.give_alias.new.emitter in
     inr
-    (passed (state_of c.self.inside) c.args.self.now (alias (chars c.args.name.now) ∷ []) c.give_alias.result after c.self.view_is
+    (passed (writer_state_of c.self.inside) c.args.self.now (alias (chars c.args.name.now) ∷ []) c.give_alias.result after c.self.view_is
     (subst (λ (name : Text). AddsEvents c.self.inside.emitter (alias name ∷ []) after) c.in_ok-name.ensures c.give_alias.ensures.adds)
     c.give_alias.ensures.grows c.give_alias.ensures.answered)

@@ -1,5 +1,5 @@
 use Rattle.yaml_writer.proofs.Common.{Option, None, chars, is_none, is_some, false, ◌||◌, ◌≡◌, refl, ap, ap₂, subst, sym, ◌∙◌, option_or, Event, Text, scalar}
-use Rattle.yaml_writer.proofs.Common.{seen_scalar_style, state_of, WriterState}
+use Rattle.yaml_writer.proofs.Common.{seen_scalar_style, writer_state_of, WriterState}
 use Rattle.yaml_base.proofs.Common.{Some, false≢true, or_parts}
 use Rattle.std.specs.Prelude.{Result}
 use Rattle.yaml_base.specs.declared.errors.yaml_error_t.{yaml_error_t}
@@ -32,7 +32,7 @@ bare_event writer own value style no_anchor no_tag =
 
 pub returns : goal.returns
 returns g c =
-    let before : WriterState = state_of c.self.inside in
+    let before : WriterState = writer_state_of c.self.inside in
     let own = seen_name c.args.own in
     let value = chars c.args.value.now in
     let style = seen_scalar_style c.args.style in

@@ -1,12 +1,12 @@
 use Rattle.yaml_writer.proofs.Common.{option_map, chars, ◌≡◌, ap, subst, ◌∙◌, option_or, Event, scalar, seen_scalar_style}
-use Rattle.yaml_writer.proofs.Common.{seen_text, state_of, WriterState}
+use Rattle.yaml_writer.proofs.Common.{seen_text, writer_state_of, WriterState}
 use Rattle.yaml_emitter.specs.{BorrowedTexts.seen_name, BorrowedTexts.seen_scalar, EmitsEvent.EmitsEvent}
 use Rattle.yaml_writer.{proofs.Taken.gave_taken, proofs.Taken.gave_untaken, specs.Writing.scalar_event}
 use Rattle.yaml_writer.proofs.writer.Writer.scalar_with_properties.Goals as goal
 
 pub returns-in-Taken : goal.returns-in-Taken
 returns-in-Taken g c =
-    let before : WriterState = state_of c.self.inside in
+    let before : WriterState = writer_state_of c.self.inside in
     let event = λ (w : WriterState). scalar_event w (option_or w.tag (seen_name c.args.own)) (chars c.args.value.now) (seen_scalar_style c.args.style) in
     let answer = c.in-Taken.answer in
     let emitter = c.yaml_emitter_emit_scalar.new.emitter in
@@ -19,6 +19,6 @@ returns-in-Taken g c =
 
 pub returns-in-NotTaken : goal.returns-in-NotTaken
 returns-in-NotTaken g c =
-    let before : WriterState = state_of c.self.inside in
+    let before : WriterState = writer_state_of c.self.inside in
     let event = λ (w : WriterState). scalar_event w (option_or w.tag (seen_name c.args.own)) (chars c.args.value.now) (seen_scalar_style c.args.style) in
     gave_untaken before c.args.self.now c.yaml_emitter_emit_scalar.new.emitter (event c.args.self.now) c.self.view_is c.in-NotTaken.ensures.emits

@@ -1,5 +1,5 @@
 use Rattle.yaml_emitter.proofs.Common.{rules, refl, List, ℕ, true, false, ◌≡◌, ap, ◌∙◌, chars, list_any, is_break}
-use Rattle.yaml_base.specs.Indicators.{Indicator, opening, tight, indented, spaced}
+use Rattle.yaml_base.specs.Indicators.{Indicator, opening_bracket, tight, indented_indicator, spaced}
 use Rattle.yaml_emitter.specs.{Atoms.is_visible_ascii, WrittenAtoms.seen_indicator, declared.writing.indicators.IndicatorKind.IndicatorKind}
 use Rattle.yaml_emitter.specs.declared.writing.indicators.IndicatorKind.TheVariants.{DocumentStart}
 use Rattle.yaml_emitter.proofs.pieces.Atoms.{symbol-chars, symbol-no_break}
@@ -24,11 +24,12 @@ no_break form bytes holds is symbol =
 
 pub returns-in-FlowSequenceStart-clause-made : goal.returns-in-FlowSequenceStart-clause-made
 returns-in-FlowSequenceStart-clause-made c =
-    made_of opening c.text-text.result.now c.opening.ensures (visible_text c.args.self c.text-text.ensures) ∙ ap opening c.text-text.ensures ∙ search rules
+    made_of opening_bracket c.text-text.result.now c.opening.ensures (visible_text c.args.self c.text-text.ensures) ∙ ap opening_bracket c.text-text.ensures
+    ∙ search rules
 
 pub returns-in-FlowSequenceStart-clause-no_break : goal.returns-in-FlowSequenceStart-clause-no_break
 returns-in-FlowSequenceStart-clause-no_break c =
-    no_break opening c.text-text.result.now (λ text. refl) c.opening.ensures (visible_text c.args.self c.text-text.ensures)
+    no_break opening_bracket c.text-text.result.now (λ text. refl) c.opening.ensures (visible_text c.args.self c.text-text.ensures)
 
 pub returns-in-FlowSequenceEnd-clause-made : goal.returns-in-FlowSequenceEnd-clause-made
 returns-in-FlowSequenceEnd-clause-made c =
@@ -40,11 +41,12 @@ returns-in-FlowSequenceEnd-clause-no_break c =
 
 pub returns-in-BlockEntry-clause-made : goal.returns-in-BlockEntry-clause-made
 returns-in-BlockEntry-clause-made c =
-    made_of indented c.text-text.result.now c.indented.ensures (visible_text c.args.self c.text-text.ensures) ∙ ap indented c.text-text.ensures ∙ search rules
+    made_of indented_indicator c.text-text.result.now c.indented.ensures (visible_text c.args.self c.text-text.ensures)
+    ∙ ap indented_indicator c.text-text.ensures ∙ search rules
 
 pub returns-in-BlockEntry-clause-no_break : goal.returns-in-BlockEntry-clause-no_break
 returns-in-BlockEntry-clause-no_break c =
-    no_break indented c.text-text.result.now (λ text. refl) c.indented.ensures (visible_text c.args.self c.text-text.ensures)
+    no_break indented_indicator c.text-text.result.now (λ text. refl) c.indented.ensures (visible_text c.args.self c.text-text.ensures)
 
 pub returns-in-DocumentStart-clause-made : goal.returns-in-DocumentStart-clause-made
 returns-in-DocumentStart-clause-made c =
