@@ -11,7 +11,7 @@ use Rattle.yaml_json.specs.Sent.{BeginsNext, WroteTaking}
 use Rattle.yaml_json.proofs.GivenAndTaken.{appends_nothing, appends_then, taking_then, taking_same, took_none}
 use Rattle.yaml_program.specs.Conversions.{AreBytesOf, WroteStream, names_read}
 use Rattle.yaml_toml.specs.declared.settings.TomlSettings.{TomlSettings}
-use Rattle.toml2yaml.specs.Conversions.{AreToml, IsYamlOfTomlFiles, SendsBehind, SentTomlFiles, WroteFile, WroteLast, parts_events, root_events}
+use Rattle.toml2yaml.specs.Conversions.{AreToml, IsYamlOfTomlFiles, SendsTomlBehind, SentTomlFiles, WroteFile, WroteLastToml, toml_parts_events, root_events}
 
 -- ---- documents behind others
 
@@ -21,12 +21,12 @@ both_toml (part ∷ parts) more each others = (each.0, both_toml parts more each
 
 -- with a document begun between them
 both_events : (canonical in_flow : Bool) (first : List ℕ × TomlNodes) (rest : List (List ℕ × TomlNodes)) (next : List ℕ × TomlNodes)
-    → (parts_events canonical in_flow (first ∷ rest) ++ between) ++ root_events canonical in_flow next.1
-    ≡ parts_events canonical in_flow (first ∷ (rest ++ next ∷ []))
+    → (toml_parts_events canonical in_flow (first ∷ rest) ++ between) ++ root_events canonical in_flow next.1
+    ≡ toml_parts_events canonical in_flow (first ∷ (rest ++ next ∷ []))
 both_events canonical in_flow first [] next =
     append_assoc (root_events canonical in_flow first.1) between (root_events canonical in_flow next.1)
 both_events canonical in_flow first (second ∷ rest) next =
-    let later = parts_events canonical in_flow (second ∷ rest) in
+    let later = toml_parts_events canonical in_flow (second ∷ rest) in
     let last = root_events canonical in_flow next.1 in
     ap (λ (events : List Event). events ++ last) (append_assoc (root_events canonical in_flow first.1) (between ++ later) between)
     ∙ append_assoc (root_events canonical in_flow first.1) ((between ++ later) ++ between) last
@@ -56,7 +56,7 @@ module _ (settings : TomlSettings) where
   next_sent files file was middle begun now start held holds sent begins (utf8, one) =
       let next : List ℕ × TomlNodes = (file, one.root) in
       let parts = sent.first ∷ sent.rest in
-      let before = parts_events was.canonical settings.flow parts in
+      let before = toml_parts_events was.canonical settings.flow parts in
       let handed = sent.handed ++ begins.bytes in
       let same : begun.canonical ≡ was.canonical = begins.wrote.canonical ∙ sent.wrote.canonical in
       record {
@@ -67,7 +67,7 @@ module _ (settings : TomlSettings) where
         handed = handed;
         sends = appends_then start held holds sent.handed begins.bytes sent.sends begins.sends;
         wrote = taking_same was now ((before ++ between) ++ root_events was.canonical settings.flow one.root)
-            (parts_events was.canonical settings.flow (sent.first ∷ (sent.rest ++ next ∷ []))) (handed ++ []) handed
+            (toml_parts_events was.canonical settings.flow (sent.first ∷ (sent.rest ++ next ∷ []))) (handed ++ []) handed
             (both_events was.canonical settings.flow sent.first sent.rest next) (append-nil handed)
             (taking_then was begun now (before ++ between) (root_events was.canonical settings.flow one.root) handed []
             (taking_then was middle begun before between sent.handed begins.bytes sent.wrote begins.wrote)
@@ -78,7 +78,7 @@ module _ (settings : TomlSettings) where
   -- ---- files in turn
 
   pub behind_none : (writer : WriterState) (held : Option (List ℕ)) (bytes_of : List ℕ → Option (List ℕ)) (more : List (List ℕ)) → AreBytesOf bytes_of [] more
-      → SendsBehind settings more writer held writer held
+      → SendsTomlBehind settings more writer held writer held
   behind_none writer held bytes_of [] are files was start sent =
       subst (λ (all : List (List ℕ)). SentTomlFiles settings all was start writer held) (sym (append-nil files)) sent
   behind_none writer held bytes_of (file ∷ more) are files was start sent = absurd are
@@ -96,9 +96,9 @@ module _ (settings : TomlSettings) where
       (file ∷ front, last, ap (λ (files : List (List ℕ)). file ∷ files) is, (are.0, others), known)
 
   pub one_more_behind : (bytes_of : List ℕ → Option (List ℕ)) (names : List (List ℕ)) (name : List ℕ) (first writer begun now : WriterState)
-      (held holds later : Option (List ℕ)) → ((more : List (List ℕ)) → AreBytesOf bytes_of names more → SendsBehind settings more first held writer holds)
+      (held holds later : Option (List ℕ)) → ((more : List (List ℕ)) → AreBytesOf bytes_of names more → SendsTomlBehind settings more first held writer holds)
       → BeginsNext writer holds begun later → ((file : List ℕ) → bytes_of name ≡ Some file → WroteFile settings.flow file begun now)
-      → (more : List (List ℕ)) → AreBytesOf bytes_of (names ++ name ∷ []) more → SendsBehind settings more first held now later
+      → (more : List (List ℕ)) → AreBytesOf bytes_of (names ++ name ∷ []) more → SendsTomlBehind settings more first held now later
   one_more_behind bytes_of names name first writer begun now held holds later behind begins one more are files was start sent =
       let (front, last, is, others, known) = cut_last bytes_of names name more are in
       subst (λ (all : List (List ℕ)). SentTomlFiles settings all was start now later)
@@ -108,10 +108,10 @@ module _ (settings : TomlSettings) where
   -- the next name of a list
   pub next_behind : (bytes_of : List ℕ → Option (List ℕ)) (names : List (Bor (List ℕ))) (index : ℕ) (name : Bor (List ℕ)) (first writer begun now : WriterState)
       (held holds later : Option (List ℕ)) → index < length names
-      → ((more : List (List ℕ)) → AreBytesOf bytes_of (map (λ n. n.now) (take index names)) more → SendsBehind settings more first held writer holds)
+      → ((more : List (List ℕ)) → AreBytesOf bytes_of (map (λ n. n.now) (take index names)) more → SendsTomlBehind settings more first held writer holds)
       → BeginsNext writer holds begun later
       → ((file : List ℕ) → bytes_of (get_or names index name).now ≡ Some file → WroteFile settings.flow file begun now)
-      → (more : List (List ℕ)) → AreBytesOf bytes_of (map (λ n. n.now) (take (index + 1) names)) more → SendsBehind settings more first held now later
+      → (more : List (List ℕ)) → AreBytesOf bytes_of (map (λ n. n.now) (take (index + 1) names)) more → SendsTomlBehind settings more first held now later
   next_behind bytes_of names index name first writer begun now held holds later within behind begins one more are =
       let taken : map (λ n. n.now) (take (index + 1) names) ≡ map (λ n. n.now) (take index names) ++ (get_or names index name).now ∷ [] =
       ap (map (λ (n : Bor (List ℕ)). n.now)) (take_more names index name within)
@@ -133,7 +133,7 @@ module _ (settings : TomlSettings) where
   -- the files that are named
   named_from : (bytes_of : List ℕ → Option (List ℕ)) (name : List ℕ) (others : List (List ℕ)) (was middle now : WriterState)
       (start after : Option (List ℕ)) → ((file : List ℕ) → bytes_of name ≡ Some file → WroteFile settings.flow file was middle)
-      → ((more : List (List ℕ)) → AreBytesOf bytes_of others more → SendsBehind settings more middle start now after)
+      → ((more : List (List ℕ)) → AreBytesOf bytes_of others more → SendsTomlBehind settings more middle start now after)
       → (files : List (List ℕ)) → AreBytesOf bytes_of (names_read (name ∷ others)) files → SentTomlFiles settings files was start now after
   named_from bytes_of name others was middle now start after one behind [] are = absurd are
   named_from bytes_of name others was middle now start after one behind (file ∷ more) are =
@@ -142,7 +142,7 @@ module _ (settings : TomlSettings) where
   pub named_sent : (bytes_of : List ℕ → Option (List ℕ)) (names : List (Bor (List ℕ))) (name : Bor (List ℕ)) (others : List (Bor (List ℕ)))
       (was middle now : WriterState) (start after : Option (List ℕ)) → names ≡ name ∷ others
       → ((file : List ℕ) → bytes_of name.now ≡ Some file → WroteFile settings.flow file was middle)
-      → ((more : List (List ℕ)) → AreBytesOf bytes_of (map (λ n. n.now) others) more → SendsBehind settings more middle start now after)
+      → ((more : List (List ℕ)) → AreBytesOf bytes_of (map (λ n. n.now) others) more → SendsTomlBehind settings more middle start now after)
       → (files : List (List ℕ)) → AreBytesOf bytes_of (names_read (map (λ n. n.now) names)) files → SentTomlFiles settings files was start now after
   named_sent bytes_of names name others was middle now start after is one behind files are =
       named_from bytes_of name.now (map (λ n. n.now) others) was middle now start after one behind files
@@ -152,11 +152,12 @@ module _ (settings : TomlSettings) where
 
   pub all_wrote : (files : List (List ℕ)) (was now : WriterState) (before middle after : Option (List ℕ))
       → StandsTaken (seen_settings settings.writer) opening [] was.emitter → was.canonical ≡ settings.writer.canonical
-      → SentTomlFiles settings files was before now middle → WroteLast now.emitter middle after → WroteStream (IsYamlOfTomlFiles settings) files before after
+      → SentTomlFiles settings files was before now middle → WroteLastToml now.emitter middle after
+      → WroteStream (IsYamlOfTomlFiles settings) files before after
   all_wrote files was now before middle after stands canonical sent (bytes, sends, finishes) =
       let given = seen_settings settings.writer in
       let parts = sent.first ∷ sent.rest in
-      let stood = subst (λ (c : Bool). StandsTaken given (opening ++ parts_events c settings.flow parts) sent.handed now.emitter) canonical
+      let stood = subst (λ (c : Bool). StandsTaken given (opening ++ toml_parts_events c settings.flow parts) sent.handed now.emitter) canonical
       (sent.wrote.adds given opening [] stands) in (
         sent.handed ++ bytes,
         appends_then before middle after sent.handed bytes sent.sends sends,
@@ -164,6 +165,6 @@ module _ (settings : TomlSettings) where
           parts = parts;
           are = sent.are;
           each = sent.each;
-          stream = finishes given (opening ++ parts_events settings.writer.canonical settings.flow parts) sent.handed stood;
+          stream = finishes given (opening ++ toml_parts_events settings.writer.canonical settings.flow parts) sent.handed stood;
         },
       )

@@ -33,10 +33,11 @@ abbrev pub root_events : (canonical in_flow : Bool) → TomlNodes → List Event
 root_events canonical in_flow root = toml_events canonical in_flow (table Header root)
 
 -- the events of their tables, a document each, within the start of the first document and the end of the last
-abbrev pub parts_events : (canonical in_flow : Bool) → List (List ℕ × TomlNodes) → List Event
-parts_events canonical in_flow [] = []
-parts_events canonical in_flow (part ∷ []) = root_events canonical in_flow part.1
-parts_events canonical in_flow (part ∷ next ∷ rest) = root_events canonical in_flow part.1 ++ (between ++ parts_events canonical in_flow (next ∷ rest))
+abbrev pub toml_parts_events : (canonical in_flow : Bool) → List (List ℕ × TomlNodes) → List Event
+toml_parts_events canonical in_flow [] = []
+toml_parts_events canonical in_flow (part ∷ []) = root_events canonical in_flow part.1
+toml_parts_events canonical in_flow (part ∷ next ∷ rest) =
+    root_events canonical in_flow part.1 ++ (between ++ toml_parts_events canonical in_flow (next ∷ rest))
 
 -- the file is UTF-8 and a document of TOML, whose events were given
 abbrev pub WroteFile : (in_flow : Bool) → List ℕ → WriterState → WriterState → Type 0
@@ -52,15 +53,15 @@ pub record SentTomlFiles (settings : TomlSettings) (files : List (List ℕ)) (wa
   pub each : AreToml (first ∷ rest)
   pub handed : List ℕ
   pub sends : Appends before after handed
-  pub wrote : WroteTaking was (parts_events was.canonical settings.flow (first ∷ rest)) handed now
+  pub wrote : WroteTaking was (toml_parts_events was.canonical settings.flow (first ∷ rest)) handed now
 
 -- the stream was finished, and the sink was given the rest of it
-abbrev pub WroteLast : State → Option (List ℕ) → Option (List ℕ) → Type 0
-WroteLast emitter before after = (bytes : List ℕ) × Appends before after bytes × Finishes emitter bytes
+abbrev pub WroteLastToml : State → Option (List ℕ) → Option (List ℕ) → Type 0
+WroteLastToml emitter before after = (bytes : List ℕ) × Appends before after bytes × Finishes emitter bytes
 
 -- whichever files were sent, these are sent behind them
-abbrev pub SendsBehind : TomlSettings → List (List ℕ) → WriterState → Option (List ℕ) → WriterState → Option (List ℕ) → Type 0
-SendsBehind settings more before held after holds =
+abbrev pub SendsTomlBehind : TomlSettings → List (List ℕ) → WriterState → Option (List ℕ) → WriterState → Option (List ℕ) → Type 0
+SendsTomlBehind settings more before held after holds =
     (files : List (List ℕ)) (was : WriterState) (start : Option (List ℕ)) → SentTomlFiles settings files was start before held
     → SentTomlFiles settings (files ++ more) was start after holds
 
@@ -70,4 +71,4 @@ pub record IsYamlOfTomlFiles (settings : TomlSettings) (files : List (List ℕ))
   pub are : map (λ part. part.0) parts ≡ files
   pub each : AreToml parts
   pub stream : IsStream (seen_settings settings.writer)
-      (opening ++ parts_events settings.writer.canonical settings.flow parts ++ closing) bytes
+      (opening ++ toml_parts_events settings.writer.canonical settings.flow parts ++ closing) bytes

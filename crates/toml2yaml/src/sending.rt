@@ -2,7 +2,7 @@
 ghost use Rattle.std.specs.Prelude.{◌≡◌, ℕ, List, Some, OnOk, map};
 ghost use Rattle.yaml_json.specs.Sent.{BeginsNext};
 ghost use Rattle.yaml_json.specs.Wrote.{IsBare};
-ghost use Rattle.toml2yaml.specs.Conversions.{IsYamlOfTomlFiles, SendsBehind, SentTomlFiles, WroteFile, WroteLast};
+ghost use Rattle.toml2yaml.specs.Conversions.{IsYamlOfTomlFiles, SendsTomlBehind, SentTomlFiles, WroteFile, WroteLastToml};
 ghost use Rattle.yaml_program.specs.Conversions.{AreBytesOf, OfNames, WroteStream};
 
 use crate::failures::{failure_of, refused};
@@ -81,7 +81,7 @@ fn send_others<'a, S: Sources + AllocGlobal, W: Write>(
 ) -> Result<(), (Option<&'a str>, Failure)>
     requires { IsBare writer.old }
     ensures { OnOk result ((more : List (List ℕ)) → AreBytesOf (S.bytes_of sources.now) (map (λ name. name.now) names.now) more
-        → SendsBehind settings.now more writer.old (W.contents sink.old) writer.new (W.contents sink.new)) }
+        → SendsTomlBehind settings.now more writer.old (W.contents sink.old) writer.new (W.contents sink.new)) }
 {
     for name in names {
         if let Err(error) = begin_next(writer, sink) {
@@ -120,7 +120,7 @@ fn send_documents<'a, S: Sources + AllocGlobal, W: Write>(
 
 /// Ends the last document, and writes it.
 fn send_last<W: Write>(writer: Writer<Global>, sink: &mut W) -> Result<(), Failure>
-    ensures { OnOk result (WroteLast writer.emitter (W.contents sink.old) (W.contents sink.new)) }
+    ensures { OnOk result (WroteLastToml writer.emitter (W.contents sink.old) (W.contents sink.new)) }
 {
     match writer.finish() {
         Ok(bytes) => match sink.write_all(bytes.as_slice()) {

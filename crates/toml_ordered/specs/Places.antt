@@ -29,13 +29,13 @@ moved_within here (fault.NotToml left) = fault.NotToml (min left here)
 moved_within here (fault.DefinedAgain key first second) = fault.DefinedAgain key first (min second here)
 
 -- a document and the rest of a text after one more expression
-abbrev pub next_line : TomlDocument × List ℕ → Option (TomlDocument × List ℕ)
-next_line at = option_and_then (λ e. option_map (λ next. (next, e.1)) (define at.0 e.0)) (line (skip_blank at.1))
+abbrev pub next_expression : TomlDocument × List ℕ → Option (TomlDocument × List ℕ)
+next_expression at = option_and_then (λ e. option_map (λ next. (next, e.1)) (define at.0 e.0)) (line (skip_blank at.1))
 
 -- the document and the rest after the first expressions of the text, so many
 abbrev pub after_lines : ℕ → (text : List ℕ) → Option (TomlDocument × List ℕ)
 after_lines zero text = Some ((no_nodes, []), skip_bom text)
-after_lines (suc count) text = option_and_then next_line (after_lines count text)
+after_lines (suc count) text = option_and_then next_expression (after_lines count text)
 
 -- the text is read up to the rest, as this document
 abbrev pub ReadsUpTo : (text : List ℕ) → TomlDocument → (rest : List ℕ) → Type 0

@@ -30,14 +30,14 @@ as_json given =
       depth = given.depth;
     }
 
-abbrev pub writer_given : TomlOptions → Settings
-writer_given given = json.writer_given (as_json given)
+abbrev pub toml_writer_given : TomlOptions → Settings
+toml_writer_given given = json.writer_given (as_json given)
 
 -- the YAML of a text; that it isn't UTF-8, from this place on; or why the text is refused
-pub data Answer : Type 0 where
-  has_yaml : (yaml : List ℕ) → Answer
-  is_no_text : (line column : ℕ) → Answer
-  fails : TomlError → Answer
+pub data TomlAnswer : Type 0 where
+  has_yaml : (yaml : List ℕ) → TomlAnswer
+  is_no_text : (line column : ℕ) → TomlAnswer
+  fails : TomlError → TomlAnswer
 
 -- the text isn't UTF-8; its longest prefix that is ends at this place
 pub record IsNoText (text : List ℕ) (line column : ℕ) : Type 0 where
@@ -48,31 +48,31 @@ pub record IsNoText (text : List ℕ) (line column : ℕ) : Type 0 where
   pub column_is : column ≡ column_of text at
 
 -- what `yaml_toml` promises of a text's YAML, or of an error, where the text is UTF-8
-abbrev pub IsAnswer : Settings → (in_flow : Bool) → (text : List ℕ) → Answer → Type 0
-IsAnswer given in_flow text (has_yaml yaml) = IsUtf8 text × IsYamlOfToml given in_flow text yaml
-IsAnswer given in_flow text (is_no_text line column) = IsNoText text line column
-IsAnswer given in_flow text (fails error) = IsUtf8 text × (DeniesToml error → ordered_document text ≡ None)
+abbrev pub IsTomlAnswer : Settings → (in_flow : Bool) → (text : List ℕ) → TomlAnswer → Type 0
+IsTomlAnswer given in_flow text (has_yaml yaml) = IsUtf8 text × IsYamlOfToml given in_flow text yaml
+IsTomlAnswer given in_flow text (is_no_text line column) = IsNoText text line column
+IsTomlAnswer given in_flow text (fails error) = IsUtf8 text × (DeniesToml error → ordered_document text ≡ None)
 
 -- the answer of a call
-abbrev pub answer_of : {A : Type 0} → Result (Vec ℕ A) TomlError → Answer
-answer_of (Ok yaml) = has_yaml yaml.items
-answer_of (Err error) = fails error
+abbrev pub toml_answer_of : {A : Type 0} → Result (Vec ℕ A) TomlError → TomlAnswer
+toml_answer_of (Ok yaml) = has_yaml yaml.items
+toml_answer_of (Err error) = fails error
 
 -- what is returned: 0 where it is the YAML, 4 where that doesn't fit; 11 where the text isn't TOML, 7 where it defines a key that
 -- takes no more, 6 where it nests too deep, 3 where memory ran out
-abbrev pub error_results : TomlError → (out : List ℕ) → CallResults
-error_results (errors.NotToml line column) out = results_failed 11 (at_place line column) out
-error_results (errors.DefinedAgain key first_line first_column line column) out = results_failed 7 (at_place line column) out
-error_results errors.TooDeep out = results_failed 6 nothing_reported out
-error_results (errors.Emitter emitter_errors.TooDeep) out = results_failed 6 nothing_reported out
-error_results (errors.Emitter error) out = results_failed 3 nothing_reported out
+abbrev pub toml_error_results : TomlError → (out : List ℕ) → CallResults
+toml_error_results (errors.NotToml line column) out = results_failed 11 (at_place line column) out
+toml_error_results (errors.DefinedAgain key first_line first_column line column) out = results_failed 7 (at_place line column) out
+toml_error_results errors.TooDeep out = results_failed 6 nothing_reported out
+toml_error_results (errors.Emitter emitter_errors.TooDeep) out = results_failed 6 nothing_reported out
+toml_error_results (errors.Emitter error) out = results_failed 3 nothing_reported out
 
-abbrev pub toml_results : Answer → (out : List ℕ) → CallResults
+abbrev pub toml_results : TomlAnswer → (out : List ℕ) → CallResults
 toml_results (has_yaml yaml) out = results_done yaml 0 out
 toml_results (is_no_text line column) out = results_failed 11 (at_place line column) out
-toml_results (fails error) out = error_results error out
+toml_results (fails error) out = toml_error_results error out
 
 -- these results are those of an answer that is right for the text by these options
 abbrev pub IsTomlRun : TomlOptions → (text old : List ℕ) → (status : ℤ) → (new : List ℕ) → CallResult → Type 0
 IsTomlRun given text old status new report =
-    (answer : Answer) × IsAnswer (writer_given given) (is_on given.flow) text answer × CopiesToCaller (toml_results answer old) status new report
+    (answer : TomlAnswer) × IsTomlAnswer (toml_writer_given given) (is_on given.flow) text answer × CopiesToCaller (toml_results answer old) status new report

@@ -14,7 +14,7 @@ use Rattle.yaml_base.specs.graphs.Meetings.{graph_steps}
 use Rattle.yaml_base.proofs.SharedNodes.{has, shared_named}
 use Rattle.yaml_base.proofs.UnfoldSteps.{FollowEntries, IsOrderly}
 use Rattle.yaml_base.proofs.DocumentsUnfold.{count_cons}
-use Rattle.yaml_dump.specs.InOrder.{entered, place_in}
+use Rattle.yaml_dump.specs.InOrder.{entered_nodes, number_in_order}
 use Rattle.yaml_dump.specs.Composition.{number_of_anchor, number_in_name}
 use Rattle.yaml_dump.proofs.InOrderLemmas.{entered_has}
 use Rattle.yaml_dump.proofs.NameNumbers.{name_read}
@@ -68,12 +68,12 @@ position_behind number (x ∷ xs) ys none =
 
 pub entry_place : (graph : Graph) (before rest : List Step) (number : ℕ) → IsOrderly graph (graph_steps graph)
     → graph_steps graph ≡ before ++ enters number ∷ rest
-    → place_in (entered (graph_steps graph)) number ≡ suc (length (entered before))
+    → number_in_order (entered_nodes (graph_steps graph)) number ≡ suc (length (entered_nodes before))
 entry_place graph before rest number orderly is =
-    let new : has number (entered before) ≡ false = entered_has number before ∙ first_entry graph (graph_steps graph) before rest number orderly is in
-    ap (λ (walk : List Step). place_in (entered walk) number) is
-    ∙ ap (λ (order : List ℕ). place_in order number) (filter_map-append _ before (enters number ∷ rest))
-    ∙ ap suc (position_behind number (entered before) (entered rest) new)
+    let new : has number (entered_nodes before) ≡ false = entered_has number before ∙ first_entry graph (graph_steps graph) before rest number orderly is in
+    ap (λ (walk : List Step). number_in_order (entered_nodes walk) number) is
+    ∙ ap (λ (order : List ℕ). number_in_order order number) (filter_map-append _ before (enters number ∷ rest))
+    ∙ ap suc (position_behind number (entered_nodes before) (entered_nodes rest) new)
 
 -- ---- what is met again was entered, and has a name
 
@@ -127,7 +127,7 @@ pub record Carries (graph : Graph) (before : List Step) (carriers : List ℕ) : 
   pub room : length (shared_nodes (graph_steps graph)) < length carriers
   pub few : length (shared_nodes (graph_steps graph)) ≤ largest_usize
   pub each : (number : ℕ) (name : Text) → list_any (is_entry_of number) before ≡ true → anchor_of (graph_steps graph) number ≡ Some name
-      → get_or carriers (number_in_name name) 0 ≡ place_in (entered (graph_steps graph)) number
+      → get_or carriers (number_in_name name) 0 ≡ number_in_order (entered_nodes (graph_steps graph)) number
 
 -- none is entered at first
 pub carries_none : (graph : Graph) (carriers : List ℕ) → length (shared_nodes (graph_steps graph)) < length carriers
@@ -179,21 +179,21 @@ still_carried graph carriers number place other (Some stated) name few is also d
 -- where a node is entered
 pub carries_entry : (graph : Graph) (before : List Step) (number : ℕ) (carriers : List ℕ) → Carries graph before carriers
     → Carries graph (before ++ enters number ∷ [])
-    (slice_set carriers (number_of_anchor (anchor_of (graph_steps graph) number)) (place_in (entered (graph_steps graph)) number))
+    (slice_set carriers (number_of_anchor (anchor_of (graph_steps graph) number)) (number_in_order (entered_nodes (graph_steps graph)) number))
 carries_entry graph before number carriers carries =
-    let place = place_in (entered (graph_steps graph)) number in
+    let place = number_in_order (entered_nodes (graph_steps graph)) number in
     record {
       room = omega (arith, carries.room, length-set carriers (number_of_anchor (anchor_of (graph_steps graph) number)) place);
       few = carries.few;
       each = λ other name there is.
           (elim (other == number) as (λ b. (other == number) ≡ b
           → get_or (slice_set carriers (number_of_anchor (anchor_of (graph_steps graph) number)) place) (number_in_name name) 0
-          ≡ place_in (entered (graph_steps graph)) other) [
+          ≡ number_in_order (entered_nodes (graph_steps graph)) other) [
             | true ↦ λ same.
                 let one : other ≡ number = eqb-true other number same in
                 now_carried graph carriers number place other (anchor_of (graph_steps graph) number) name carries.room carries.few refl
                 (ap (anchor_of (graph_steps graph)) (sym one) ∙ is)
-                ∙ ap (place_in (entered (graph_steps graph))) (sym one)
+                ∙ ap (number_in_order (entered_nodes (graph_steps graph))) (sym one)
             | false ↦ λ differs.
                 let earlier : list_any (is_entry_of other) before ≡ true =
                 sym (list_any-append (is_entry_of other) before (enters number ∷ [])
@@ -207,7 +207,7 @@ carries_entry graph before number carriers carries =
 -- an alias leads to the node that it names
 pub alias_carried : (graph : Graph) (before rest : List Step) (number : ℕ) (carriers : List ℕ) → IsOrderly graph (graph_steps graph)
     → graph_steps graph ≡ before ++ meets_again number ∷ rest → Carries graph before carriers
-    → get_or carriers (number_in_name (unwrap_or (anchor_of (graph_steps graph) number) [])) 0 ≡ place_in (entered (graph_steps graph)) number
+    → get_or carriers (number_in_name (unwrap_or (anchor_of (graph_steps graph) number) [])) 0 ≡ number_in_order (entered_nodes (graph_steps graph)) number
 alias_carried graph before rest number carriers orderly is carries =
     let named = shared_named (graph_steps graph) number
     (ap (λ (walk : List Step). has number (filter_map node_met_again walk)) is ∙ again_there number before rest) in

@@ -18,7 +18,7 @@ use Rattle.std.proofs.lemmas.Int.{to_z-of_z}
 use Rattle.yaml_base.specs.graphs.Meetings.{NumberPair}
 use Rattle.yaml_base.specs.graphs.SeenNodes.{seen_number, seen_node}
 use Rattle.yaml_base.specs.declared.nodes.yaml_node_t.{yaml_node_t}
-use Rattle.yaml_dump.specs.Composition.{Composition, at_start, paired}
+use Rattle.yaml_dump.specs.Composition.{Composition, nothing_composed, paired}
 use Rattle.yaml_dump.specs.SeenComposer.{seen_unended}
 use Rattle.yaml_dump.specs.declared.composer.Unended.{Unended}
 
@@ -34,7 +34,7 @@ zeros_seen (suc count) = ap (λ (rest : List ℕ). 0 ∷ rest) (zeros_seen count
 pub starts : {A : Type 0} (count : ℕ) (nodes : List (yaml_node_t A)) (unended : List (Unended A)) (carriers : List ℤ) → nodes ≡ [] → unended ≡ []
     → carriers ≡ replicate count (pos 0)
     → ◌≡◌ {A = Composition} (record { nodes = map seen_node nodes; unended = reverse (map seen_unended unended); carriers = map seen_number carriers })
-    (at_start count)
+    (nothing_composed count)
 starts count nodes unended carriers none no_unended zeros =
     ap {B = Composition} (λ list. record { nodes = map seen_node list; unended = reverse (map seen_unended unended); carriers = map seen_number carriers }) none
     ∙ ap {B = Composition} (λ list. record { nodes = []; unended = reverse (map seen_unended list); carriers = map seen_number carriers }) no_unended

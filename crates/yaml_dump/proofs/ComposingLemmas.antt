@@ -27,7 +27,7 @@ use Rattle.yaml_base.specs.graphs.Documents.{graph_of}
 use Rattle.yaml_base.specs.graphs.SeenNodes.{seen_document}
 use Rattle.yaml_dump.specs.Composing.{seen_heading}
 use Rattle.yaml_dump.specs.declared.composing.Heading.{Heading}
-use Rattle.yaml_dump.specs.Composition.{composed, at_start}
+use Rattle.yaml_dump.specs.Composition.{composed, nothing_composed}
 use Rattle.yaml_dump.specs.InOrder.{in_order}
 use Rattle.yaml_dump.proofs.InOrderLemmas.{walk_of}
 use Rattle.yaml_dump.proofs.InOrderEvents.{in_order_document, in_order_events}
@@ -119,10 +119,10 @@ last_is graph events place event is same counted at =
 -- the nodes that the events compose
 pub nodes_are : {A : Type 0} (graph : Graph) (events : List (yaml_event_t A)) (nodes : List (yaml_node_t A)) → IsWholeGraph graph
     → document_event_list graph ≡ map seen_event events → length events ≤ largest_usize
-    → map seen_node nodes ≡ (fold composed (at_start (length events)) (map seen_event events)).nodes → map seen_node nodes ≡ (in_order graph).nodes
+    → map seen_node nodes ≡ (fold composed (nothing_composed (length events)) (map seen_event events)).nodes → map seen_node nodes ≡ (in_order graph).nodes
 nodes_are graph events nodes is same fits composes =
     composes
-    ∙ ap (λ (list : List Event). (fold composed (at_start (length events)) list).nodes) (sym same)
+    ∙ ap (λ (list : List Event). (fold composed (nothing_composed (length events)) list).nodes) (sym same)
     ∙ document_composes graph (length events) is (omega (arith, ap length same, length-map events seen_event)) fits
 
 pub whole_in_order : (graph : Graph) → IsWholeGraph graph → is_whole (in_order graph) ≡ true
@@ -178,7 +178,7 @@ pub composed_so : {A E : Type 0} (events : List (yaml_event_t A)) (first last : 
     → first ≡ get_or events 0 first → last ≡ get_or events (length events - 1) last
     → ((start : DocumentStart) → seen_event first ≡ document_start start → option_map seen_heading found ≡ Some start) → found ≡ Some heading
     → ((implicit : Bool) → seen_event last ≡ document_end implicit → ended ≡ Some implicit) → ended ≡ Some end
-    → map seen_node nodes ≡ (fold composed (at_start (length events)) (map seen_event events)).nodes
+    → map seen_node nodes ≡ (fold composed (nothing_composed (length events)) (map seen_event events)).nodes
     → IfOk answer (λ made. (graph : Graph) → is_whole graph ≡ true → seen_heading heading ≡ graph.start → map seen_node nodes ≡ graph.nodes
     → end ≡ graph.end_implicit → option_map graph_of made ≡ Some graph)
     → IfOk answer (λ made. (graph : Graph) → IsWholeGraph graph → document_event_list graph ≡ map seen_event events

@@ -11,23 +11,24 @@ use Rattle.std.proofs.lemmas.List.Sums.{fold-append}
 use Rattle.std.proofs.Math.Seq.{set-append_seam}
 use Rattle.yaml_base.specs.graphs.Meetings.{graph_steps}
 use Rattle.yaml_base.proofs.UnfoldSteps.{IsOrderly}
-use Rattle.yaml_dump.specs.InOrder.{entered, place_in, held_by, node_by, node_at, nodes_in}
-use Rattle.yaml_dump.specs.Composition.{Composition, Unended, adding, begun, opened, ended, composed, paired, held_with, node_at_place, number_of_anchor}
+use Rattle.yaml_dump.specs.InOrder.{entered_nodes, number_in_order, held_by, node_by, numbered_node, nodes_in}
+use Rattle.yaml_dump.specs.Composition.{Composition, Unended, adding, node_begun, collection_begun, ended, composed, paired, held_with, node_at_place}
+use Rattle.yaml_dump.specs.Composition.{number_of_anchor}
 use Rattle.yaml_dump.proofs.CarrierLemmas.{Carries, carries_on, carries_entry, alias_carried, entry_place}
 
 -- ---- what a composition stands at
 
 abbrev pub order_of : Graph → List ℕ
-order_of graph = entered (graph_steps graph)
+order_of graph = entered_nodes (graph_steps graph)
 
 -- behind some steps of the walk
 pub record StandsBehind (graph : Graph) (before : List Step) (standing : Composition) : Type 0 where
-  pub counted : length standing.nodes ≡ length (entered before)
+  pub counted : length standing.nodes ≡ length (entered_nodes before)
   pub carries : Carries graph before standing.carriers
 
 -- from one composition to another, over some steps of the walk that meet these nodes as children of the innermost collection
 pub record Composes (graph : Graph) (before steps : List Step) (children : List ℕ) (standing next : Composition) : Type 0 where
-  pub nodes : next.nodes ≡ standing.nodes ++ nodes_in graph (order_of graph) (entered steps)
+  pub nodes : next.nodes ≡ standing.nodes ++ nodes_in graph (order_of graph) (entered_nodes steps)
   pub unended : next.unended ≡ adding children standing.unended
   pub stands : StandsBehind graph (before ++ steps) next
 
@@ -55,10 +56,11 @@ pub composes_then : (graph : Graph) (before first second : List Step) (some othe
 composes_then graph before first second some others standing next last one two =
     record {
       nodes = two.nodes
-          ∙ ap (λ (nodes : List GraphNode). nodes ++ nodes_in graph (order_of graph) (entered second)) one.nodes
-          ∙ append_assoc standing.nodes (nodes_in graph (order_of graph) (entered first)) (nodes_in graph (order_of graph) (entered second))
+          ∙ ap (λ (nodes : List GraphNode). nodes ++ nodes_in graph (order_of graph) (entered_nodes second)) one.nodes
+          ∙ append_assoc standing.nodes (nodes_in graph (order_of graph) (entered_nodes first)) (nodes_in graph (order_of graph) (entered_nodes second))
           ∙ ap (λ (nodes : List GraphNode). standing.nodes ++ nodes)
-          (sym (map-append (λ (number : ℕ). node_by (place_in (order_of graph)) (node_at graph number)) (entered first) (entered second))
+          (sym
+          (map-append (λ (number : ℕ). node_by (number_in_order (order_of graph)) (numbered_node graph number)) (entered_nodes first) (entered_nodes second))
           ∙ ap (nodes_in graph (order_of graph)) (sym (filter_map-append _ first second)));
       unended = two.unended ∙ ap (adding others) one.unended ∙ adding_more some others standing.unended;
       stands = subst (λ (so_far : List Step). StandsBehind graph so_far last) (append_assoc before first second) two.stands;
@@ -68,7 +70,7 @@ composes_then graph before first second some others standing next last one two =
 
 pub alias_composes : (graph : Graph) (before after : List Step) (number : ℕ) (name : Text) (standing : Composition) → IsOrderly graph (graph_steps graph)
     → graph_steps graph ≡ before ++ meets_again number ∷ after → StandsBehind graph before standing
-    → Composes graph before (meets_again number ∷ []) (place_in (order_of graph) number ∷ []) standing
+    → Composes graph before (meets_again number ∷ []) (number_in_order (order_of graph) number ∷ []) standing
     (composed standing (alias (unwrap_or (anchor_of (graph_steps graph) number) [])))
 alias_composes graph before after number name standing orderly is stands =
     record {
@@ -76,7 +78,7 @@ alias_composes graph before after number name standing orderly is stands =
       unended = ap (λ (child : ℕ). adding (child ∷ []) standing.unended) (alias_carried graph before after number standing.carriers orderly is stands.carries);
       stands = record {
         counted = stands.counted
-            ∙ ap length (sym (append-nil (entered before)) ∙ sym (filter_map-append _ before (meets_again number ∷ [])));
+            ∙ ap length (sym (append-nil (entered_nodes before)) ∙ sym (filter_map-append _ before (meets_again number ∷ [])));
         carries = carries_on graph before (meets_again number) standing.carriers (λ other. refl) stands.carries;
       };
     }
@@ -105,14 +107,14 @@ filled_by place (mapping_held pairs style) = ap (λ (numbers : List NumberPair).
 -- a node begins behind the steps before
 begun_stands : (graph : Graph) (before after : List Step) (number : ℕ) (tag : Text) (held : Held) (standing : Composition) → IsOrderly graph (graph_steps graph)
     → graph_steps graph ≡ before ++ enters number ∷ after → StandsBehind graph before standing
-    → StandsBehind graph (before ++ enters number ∷ []) (begun (anchor_of (graph_steps graph) number) tag held standing)
+    → StandsBehind graph (before ++ enters number ∷ []) (node_begun (anchor_of (graph_steps graph) number) tag held standing)
 begun_stands graph before after number tag held standing orderly is stands =
-    let place : place_in (order_of graph) number ≡ suc (length standing.nodes) =
+    let place : number_in_order (order_of graph) number ≡ suc (length standing.nodes) =
     entry_place graph before after number orderly is ∙ ap suc (sym stands.counted) in
     record {
       counted = length-append standing.nodes (record { tag = tag; held = held } ∷ [])
           ∙ ap (λ (n : ℕ). n + 1) stands.counted
-          ∙ sym (length-append (entered before) (number ∷ []))
+          ∙ sym (length-append (entered_nodes before) (number ∷ []))
           ∙ ap length (sym (filter_map-append _ before (enters number ∷ [])));
       carries = subst (λ (child : ℕ). Carries graph (before ++ enters number ∷ [])
           (slice_set standing.carriers (number_of_anchor (anchor_of (graph_steps graph) number)) child)) place
@@ -124,34 +126,35 @@ left_stands : (graph : Graph) (before : List Step) (number : ℕ) (standing next
     → StandsBehind graph before standing → StandsBehind graph (before ++ leaves number ∷ []) next
 left_stands graph before number standing next nodes carriers stands =
     record {
-      counted = nodes ∙ stands.counted ∙ ap length (sym (append-nil (entered before)) ∙ sym (filter_map-append _ before (leaves number ∷ [])));
+      counted = nodes ∙ stands.counted ∙ ap length (sym (append-nil (entered_nodes before)) ∙ sym (filter_map-append _ before (leaves number ∷ [])));
       carries = subst (Carries graph (before ++ leaves number ∷ [])) (sym carriers)
           (carries_on graph before (leaves number) standing.carriers (λ other. refl) stands.carries);
     }
 
 -- the one node of an order
 one_in_order : (graph : Graph) (number : ℕ) (node : GraphNode) → node_numbered graph number ≡ Some node
-    → nodes_in graph (order_of graph) (number ∷ []) ≡ node_by (place_in (order_of graph)) node ∷ []
-one_in_order graph number node is = ap (λ (found : Option GraphNode). node_by (place_in (order_of graph)) (unwrap_or found (node_at graph 0)) ∷ []) is
+    → nodes_in graph (order_of graph) (number ∷ []) ≡ node_by (number_in_order (order_of graph)) node ∷ []
+one_in_order graph number node is =
+    ap (λ (found : Option GraphNode). node_by (number_in_order (order_of graph)) (unwrap_or found (numbered_node graph 0)) ∷ []) is
 
 -- ---- scalars
 
 pub scalar_composes : (graph : Graph) (before after : List Step) (number : ℕ) (tag : Text) (held : Held) (standing : Composition)
     → IsOrderly graph (graph_steps graph)
     → graph_steps graph ≡ before ++ enters number ∷ (leaves number ∷ after) → StandsBehind graph before standing
-    → node_numbered graph number ≡ Some (record { tag = tag; held = held }) → held_by (place_in (order_of graph)) held ≡ held
-    → Composes graph before (enters number ∷ leaves number ∷ []) (place_in (order_of graph) number ∷ []) standing
-    (begun (anchor_of (graph_steps graph) number) tag held standing)
+    → node_numbered graph number ≡ Some (record { tag = tag; held = held }) → held_by (number_in_order (order_of graph)) held ≡ held
+    → Composes graph before (enters number ∷ leaves number ∷ []) (number_in_order (order_of graph) number ∷ []) standing
+    (node_begun (anchor_of (graph_steps graph) number) tag held standing)
 scalar_composes graph before after number tag held standing orderly is stands node same =
     record {
       nodes = ap (λ (now : Held). standing.nodes ++ record { tag = tag; held = now } ∷ []) (sym same)
           ∙ ap (λ (nodes : List GraphNode). standing.nodes ++ nodes) (sym (one_in_order graph number (record { tag = tag; held = held }) node));
       unended = ap (λ (child : ℕ). adding (child ∷ []) standing.unended)
           (sym (entry_place graph before (leaves number ∷ after) number orderly is ∙ ap suc (sym stands.counted)));
-      stands = subst (λ (so_far : List Step). StandsBehind graph so_far (begun (anchor_of (graph_steps graph) number) tag held standing))
+      stands = subst (λ (so_far : List Step). StandsBehind graph so_far (node_begun (anchor_of (graph_steps graph) number) tag held standing))
           (append_assoc before (enters number ∷ []) (leaves number ∷ []))
-          (left_stands graph (before ++ enters number ∷ []) number (begun (anchor_of (graph_steps graph) number) tag held standing)
-          (begun (anchor_of (graph_steps graph) number) tag held standing) refl refl
+          (left_stands graph (before ++ enters number ∷ []) number (node_begun (anchor_of (graph_steps graph) number) tag held standing)
+          (node_begun (anchor_of (graph_steps graph) number) tag held standing) refl refl
           (begun_stands graph before (leaves number ∷ after) number tag held standing orderly is stands));
     }
 
@@ -190,12 +193,12 @@ ended_so first tag held below children outer next nodes unended =
 pub collection_composes : (graph : Graph) (before below after : List Step) (number : ℕ) (tag : Text) (held : Held) (standing next : Composition)
     → IsOrderly graph (graph_steps graph) → graph_steps graph ≡ before ++ enters number ∷ (below ++ leaves number ∷ after) → StandsBehind graph before standing
     → node_numbered graph number ≡ Some (record { tag = tag; held = held })
-    → Composes graph (before ++ enters number ∷ []) below (map (place_in (order_of graph)) (numbers_held held))
-    (opened (anchor_of (graph_steps graph) number) tag (emptied held) standing) next
-    → Composes graph before (enters number ∷ (below ++ leaves number ∷ [])) (place_in (order_of graph) number ∷ []) standing (ended next.unended next)
+    → Composes graph (before ++ enters number ∷ []) below (map (number_in_order (order_of graph)) (numbers_held held))
+    (collection_begun (anchor_of (graph_steps graph) number) tag (emptied held) standing) next
+    → Composes graph before (enters number ∷ (below ++ leaves number ∷ [])) (number_in_order (order_of graph) number ∷ []) standing (ended next.unended next)
 collection_composes graph before below after number tag held standing next orderly is stands node inner =
-    let place = place_in (order_of graph) in
-    let inside = nodes_in graph (order_of graph) (entered below) in
+    let place = number_in_order (order_of graph) in
+    let inside = nodes_in graph (order_of graph) (entered_nodes below) in
     let so = ended_so standing.nodes tag (emptied held) inside (map place (numbers_held held)) (adding (suc (length standing.nodes) ∷ []) standing.unended) next
     inner.nodes inner.unended in
     let whole : GraphNode = record { tag = tag; held = held_with (map place (numbers_held held)) (emptied held) } in
@@ -213,7 +216,7 @@ collection_composes graph before below after number tag held standing next order
       nodes = ap (λ (now : Held). standing.nodes ++ record { tag = tag; held = now } ∷ inside) (filled_by place held)
           ∙ ap (λ (nodes : List GraphNode). standing.nodes ++ (nodes ++ inside)) (sym (one_in_order graph number (record { tag = tag; held = held }) node))
           ∙ ap (λ (order : List ℕ). standing.nodes ++ nodes_in graph (order_of graph) (number ∷ order))
-          (sym (append-nil (entered below)) ∙ sym (filter_map-append _ below (leaves number ∷ [])));
+          (sym (append-nil (entered_nodes below)) ∙ sym (filter_map-append _ below (leaves number ∷ [])));
       unended = ap (λ (child : ℕ). adding (child ∷ []) standing.unended)
           (sym (entry_place graph before (below ++ leaves number ∷ after) number orderly is ∙ ap suc (sym stands.counted)));
       stands = subst (λ (so_far : List Step). StandsBehind graph so_far last)
@@ -225,7 +228,7 @@ collection_composes graph before below after number tag held standing next order
 pub opened_stands : (graph : Graph) (before after : List Step) (number : ℕ) (tag : Text) (held : Held) (standing : Composition)
     → IsOrderly graph (graph_steps graph)
     → graph_steps graph ≡ before ++ enters number ∷ after → StandsBehind graph before standing
-    → StandsBehind graph (before ++ enters number ∷ []) (opened (anchor_of (graph_steps graph) number) tag held standing)
+    → StandsBehind graph (before ++ enters number ∷ []) (collection_begun (anchor_of (graph_steps graph) number) tag held standing)
 opened_stands graph before after number tag held standing orderly is stands =
     let begins = begun_stands graph before after number tag held standing orderly is stands in
     record { counted = begins.counted; carries = begins.carries }

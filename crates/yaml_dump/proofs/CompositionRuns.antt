@@ -10,13 +10,13 @@ use Rattle.yaml_base.proofs.Common.{Placed, alias_placed, node_placed, PlacedNod
 use Rattle.yaml_base.specs.Settings.{largest_usize}
 use Rattle.std.proofs.lemmas.List.Sums.{fold-append}
 use Rattle.yaml_base.proofs.Common.{ScalarStyle, opening_event_of, closing_event_of}
-use Rattle.yaml_dump.specs.Composition.{begun}
+use Rattle.yaml_dump.specs.Composition.{node_begun}
 use Rattle.std.proofs.lemmas.List.{length-replicate}
 use Rattle.yaml_base.specs.graphs.Meetings.{graph_steps}
 use Rattle.yaml_base.proofs.UnfoldSteps.{IsOrderly}
 use Rattle.yaml_base.proofs.UnfoldTrees.{placed_steps, below_steps, Fits, AllFit}
-use Rattle.yaml_dump.specs.InOrder.{entered, place_in, nodes_in, in_order}
-use Rattle.yaml_dump.specs.Composition.{Composition, opened, ended, composed, at_start}
+use Rattle.yaml_dump.specs.InOrder.{entered_nodes, number_in_order, nodes_in, in_order}
+use Rattle.yaml_dump.specs.Composition.{Composition, collection_begun, ended, composed, nothing_composed}
 use Rattle.yaml_dump.proofs.InOrderLemmas.{walk_of}
 use Rattle.yaml_dump.proofs.CarrierLemmas.{carries_none}
 use Rattle.yaml_dump.proofs.CompositionLemmas.{order_of, StandsBehind, Composes, composes_none, composes_then, alias_composes, scalar_composes, emptied}
@@ -49,33 +49,34 @@ collection_runs : (graph : Graph) (before after : List Step) (number : ℕ) (bel
     → graph_steps graph ≡ before ++ (over_node number below ++ after) → StandsBehind graph before standing
     → node_numbered graph number ≡ Some (record { tag = tag; held = held }) → numbers_at below ≡ numbers_held held
     → ((next : Composition) → StandsBehind graph (before ++ enters number ∷ []) next
-    → Composes graph (before ++ enters number ∷ []) (below_steps below) (map (place_in (order_of graph)) (numbers_at below)) next
+    → Composes graph (before ++ enters number ∷ []) (below_steps below) (map (number_in_order (order_of graph)) (numbers_at below)) next
     (behind graph (below_steps below) next))
     → ((next : Composition) → composed next (opening_event_of (anchor_of (graph_steps graph) number) tag held)
-    ≡ opened (anchor_of (graph_steps graph) number) tag (emptied held) next)
+    ≡ collection_begun (anchor_of (graph_steps graph) number) tag (emptied held) next)
     → ((next : Composition) → fold composed next (closing_event_of held) ≡ ended next.unended next)
-    → Composes graph before (over_node number below) (place_in (order_of graph) number ∷ []) standing (behind graph (over_node number below) standing)
+    → Composes graph before (over_node number below) (number_in_order (order_of graph) number ∷ []) standing (behind graph (over_node number below) standing)
 collection_runs graph before after number below tag held standing orderly is stands node numbers inner opens closes =
     let turns : graph_steps graph ≡ before ++ enters number ∷ (below_steps below ++ leaves number ∷ after) = is
     ∙ regrouped before (below_steps below) after number in
-    let first = opened (anchor_of (graph_steps graph) number) tag (emptied held) standing in
+    let first = collection_begun (anchor_of (graph_steps graph) number) tag (emptied held) standing in
     let next = behind graph (below_steps below) first in
     let all = behind_collection graph number (record { tag = tag; held = held }) (below_steps below) standing first (ended next.unended next) node (opens standing)
     (closes next) in
     let children = inner first (opened_stands graph before (below_steps below ++ leaves number ∷ after) number tag (emptied held) standing orderly turns stands) in
-    subst (Composes graph before (over_node number below) (place_in (order_of graph) number ∷ []) standing) (sym all)
+    subst (Composes graph before (over_node number below) (number_in_order (order_of graph) number ∷ []) standing) (sym all)
     (collection_composes graph before (below_steps below) after number tag held standing next orderly turns stands node
-    (subst (λ (met : List ℕ). Composes graph (before ++ enters number ∷ []) (below_steps below) (map (place_in (order_of graph)) met) first next) numbers
+    (subst (λ (met : List ℕ). Composes graph (before ++ enters number ∷ []) (below_steps below) (map (number_in_order (order_of graph)) met) first next) numbers
     children))
 
 scalar_runs : (graph : Graph) (before after : List Step) (number : ℕ) (tag : Text) (value : Text) (style : ScalarStyle) (standing : Composition)
     → IsOrderly graph (graph_steps graph)
     → graph_steps graph ≡ before ++ (over_node number none_placed ++ after) → StandsBehind graph before standing
     → node_numbered graph number ≡ Some (record { tag = tag; held = scalar_held value style })
-    → Composes graph before (over_node number none_placed) (place_in (order_of graph) number ∷ []) standing (behind graph (over_node number none_placed) standing)
+    → Composes graph before (over_node number none_placed) (number_in_order (order_of graph) number ∷ []) standing
+    (behind graph (over_node number none_placed) standing)
 scalar_runs graph before after number tag value style standing orderly is stands node =
-    let last = begun (anchor_of (graph_steps graph) number) tag (scalar_held value style) standing in
-    subst (Composes graph before (over_node number none_placed) (place_in (order_of graph) number ∷ []) standing)
+    let last = node_begun (anchor_of (graph_steps graph) number) tag (scalar_held value style) standing in
+    subst (Composes graph before (over_node number none_placed) (number_in_order (order_of graph) number ∷ []) standing)
     (sym (behind_collection graph number (record { tag = tag; held = scalar_held value style }) [] standing last last node refl refl))
     (scalar_composes graph before after number tag (scalar_held value style) standing orderly is stands node refl)
 
@@ -84,12 +85,12 @@ node_runs : (graph : Graph) (before after : List Step) (number : ℕ) (below : P
     → graph_steps graph ≡ before ++ (over_node number below ++ after) → StandsBehind graph before standing
     → node_numbered graph number ≡ Some (record { tag = tag; held = held }) → numbers_at below ≡ numbers_held held
     → ((next : Composition) → StandsBehind graph (before ++ enters number ∷ []) next
-    → Composes graph (before ++ enters number ∷ []) (below_steps below) (map (place_in (order_of graph)) (numbers_at below)) next
+    → Composes graph (before ++ enters number ∷ []) (below_steps below) (map (number_in_order (order_of graph)) (numbers_at below)) next
     (behind graph (below_steps below) next))
-    → Composes graph before (over_node number below) (place_in (order_of graph) number ∷ []) standing (behind graph (over_node number below) standing)
+    → Composes graph before (over_node number below) (number_in_order (order_of graph) number ∷ []) standing (behind graph (over_node number below) standing)
 node_runs graph before after number below tag (scalar_held value style) standing orderly is stands node numbers inner =
     let none = none_below below numbers in
-    subst (λ (all : PlacedNodes). Composes graph before (over_node number all) (place_in (order_of graph) number ∷ []) standing
+    subst (λ (all : PlacedNodes). Composes graph before (over_node number all) (number_in_order (order_of graph) number ∷ []) standing
     (behind graph (over_node number all) standing)) (sym none)
     (scalar_runs graph before after number tag value style standing orderly
     (subst (λ (all : PlacedNodes). graph_steps graph ≡ before ++ (over_node number all ++ after)) none is) stands node)
@@ -104,7 +105,8 @@ children_of graph number node is = ap (λ (found : Option GraphNode). elim found
 mutual
   pub tree_runs : (graph : Graph) (placed : Placed) (before after : List Step) (standing : Composition) → IsOrderly graph (graph_steps graph)
       → graph_steps graph ≡ before ++ (placed_steps placed ++ after) → Fits (anchor_of (graph_steps graph)) graph placed → StandsBehind graph before standing
-      → Composes graph before (placed_steps placed) (place_in (order_of graph) (number_at placed) ∷ []) standing (behind graph (placed_steps placed) standing)
+      → Composes graph before (placed_steps placed) (number_in_order (order_of graph) (number_at placed) ∷ []) standing
+      (behind graph (placed_steps placed) standing)
   tree_runs graph (alias_placed name number) before after standing orderly is fits stands =
       alias_composes graph before after number name standing orderly is stands
   tree_runs graph (node_placed anchor number below) before after standing orderly is fits stands =
@@ -118,10 +120,11 @@ mutual
 
   below_runs : (graph : Graph) (below : PlacedNodes) (before after : List Step) (standing : Composition) → IsOrderly graph (graph_steps graph)
       → graph_steps graph ≡ before ++ (below_steps below ++ after) → AllFit (anchor_of (graph_steps graph)) graph below → StandsBehind graph before standing
-      → Composes graph before (below_steps below) (map (place_in (order_of graph)) (numbers_at below)) standing (behind graph (below_steps below) standing)
+      → Composes graph before (below_steps below) (map (number_in_order (order_of graph)) (numbers_at below)) standing
+      (behind graph (below_steps below) standing)
   below_runs graph none_placed before after standing orderly is fit stands = composes_none graph before standing stands
   below_runs graph (placed_and earlier last) before after standing orderly is fit stands =
-      let place = place_in (order_of graph) in
+      let place = number_in_order (order_of graph) in
       let turns = is ∙ ap (λ (rest : List Step). before ++ rest) (append_assoc (below_steps earlier) (placed_steps last) after) in
       let one = below_runs graph earlier before (placed_steps last ++ after) standing orderly turns fit.0 stands in
       let next = behind graph (below_steps earlier) standing in
@@ -169,7 +172,7 @@ again_fewer graph walk (meets_again number ∷ part) = omega (arith, again_fewer
 
 -- the events of a document, from its start to its end, compose its nodes in the order of the walk
 pub document_composes : (graph : Graph) (count : ℕ) → IsWholeGraph graph → length (document_event_list graph) ≤ count → count ≤ largest_usize
-    → (fold composed (at_start count) (document_event_list graph)).nodes ≡ (in_order graph).nodes
+    → (fold composed (nothing_composed count) (document_event_list graph)).nodes ≡ (in_order graph).nodes
 document_composes graph count is few fits =
     let walked = walk_of graph is in
     let inside = flat_map (step_events graph (graph_steps graph)) (graph_steps graph) in
@@ -184,15 +187,16 @@ document_composes graph count is few fits =
       again_fewer graph (graph_steps graph) (graph_steps graph),
       firsts_shorter (filter_map node_met_again (graph_steps graph)),
     ) in
-    let stands : StandsBehind graph [] (at_start count) =
+    let stands : StandsBehind graph [] (nothing_composed count) =
     record {
       counted = refl;
       carries = carries_none graph (replicate count 0) (omega (arith, shared, length-replicate {A = ℕ} count 0)) (omega (arith, shared, fits));
     } in
-    let run = tree_runs graph walked.made.placed [] [] (at_start count) walked.orderly (walked.made.adds ∙ sym (append-nil (placed_steps walked.made.placed)))
+    let run = tree_runs graph walked.made.placed [] [] (nothing_composed count) walked.orderly
+    (walked.made.adds ∙ sym (append-nil (placed_steps walked.made.placed)))
     walked.made.fits stands in
-    ap (λ (all : List Event). (fold composed (at_start count) all).nodes) events
-    ∙ ap (λ (last : Composition). last.nodes) (fold-append composed (at_start count) inside (document_end graph.end_implicit ∷ []))
-    ∙ ap (λ (walk : List Step). (behind graph walk (at_start count)).nodes) walked.made.adds
+    ap (λ (all : List Event). (fold composed (nothing_composed count) all).nodes) events
+    ∙ ap (λ (last : Composition). last.nodes) (fold-append composed (nothing_composed count) inside (document_end graph.end_implicit ∷ []))
+    ∙ ap (λ (walk : List Step). (behind graph walk (nothing_composed count)).nodes) walked.made.adds
     ∙ run.nodes
-    ∙ ap (λ (walk : List Step). nodes_in graph (order_of graph) (entered walk)) (sym walked.made.adds)
+    ∙ ap (λ (walk : List Step). nodes_in graph (order_of graph) (entered_nodes walk)) (sym walked.made.adds)

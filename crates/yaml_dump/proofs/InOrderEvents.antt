@@ -11,7 +11,7 @@ use Rattle.yaml_base.specs.graphs.Meetings.{graph_steps}
 use Rattle.yaml_base.proofs.SharedNodes.{has}
 use Rattle.yaml_base.proofs.DocumentsUnfold.{some_nodes}
 use Rattle.yaml_base.proofs.SameWalks.{node_of_step, AllReached, renumbered, same_walks, anchors_alike}
-use Rattle.yaml_dump.specs.InOrder.{entered, place_in, node_by, node_at, in_order}
+use Rattle.yaml_dump.specs.InOrder.{entered_nodes, number_in_order, node_by, numbered_node, in_order}
 use Rattle.yaml_dump.proofs.InOrderLemmas.{HasWalk, walk_of, entered_has, place_within, numbers_by, opening_by, closing_by, node_placed_at, isomorphic_in_order}
 
 -- ---- each number names a node
@@ -30,8 +30,8 @@ all_mapped f test (x ∷ xs) each =
     (all_mapped f test xs (λ y within. each y (Contains-append_right (x ∷ []) xs y within)))
 
 -- what an order has was entered
-entered_of : (walk : List Step) (number : ℕ) → Contains (entered walk) number → has number (entered walk) ≡ true
-entered_of walk number within = contained_has (entered walk) number within
+entered_of : (walk : List Step) (number : ℕ) → Contains (entered_nodes walk) number → has number (entered_nodes walk) ≡ true
+entered_of walk number within = contained_has (entered_nodes walk) number within
   where
     contained_has : (xs : List ℕ) (number : ℕ) → Contains xs number → has number xs ≡ true
     contained_has [] number (k, within, is) = absurd (omega (arith, within))
@@ -40,27 +40,28 @@ entered_of walk number within = contained_has (entered walk) number within
         ap (λ (b : Bool). x == number || b) (contained_has xs number (k, omega (arith, within), is)) ∙ or-true (x == number)
 
 names_one : (order : List ℕ) (count number : ℕ) → count ≡ length order → has number order ≡ true
-    → (nat_le 1 (place_in order number) && nat_le (place_in order number) count) ≡ true
+    → (nat_le 1 (number_in_order order number) && nat_le (number_in_order order number) count) ≡ true
 names_one order count number is there =
-    and_from (nat_le 1 (place_in order number)) (nat_le (place_in order number) count)
-    (le-leb 1 (place_in order number) (omega arith))
-    (le-leb (place_in order number) count (omega (arith, place_within number order there, is)))
+    and_from (nat_le 1 (number_in_order order number)) (nat_le (number_in_order order number) count)
+    (le-leb 1 (number_in_order order number) (omega arith))
+    (le-leb (number_in_order order number) count (omega (arith, place_within number order there, is)))
 
 in_order_whole : (graph : Graph) → HasWalk graph → is_whole (in_order graph) ≡ true
 in_order_whole graph walked =
-    let order = entered (graph_steps graph) in
-    let count : length (in_order graph).nodes ≡ length order = length-map order (λ (number : ℕ). node_by (place_in order) (node_at graph number)) in
-    all_mapped (λ (number : ℕ). node_by (place_in order) (node_at graph number))
+    let order = entered_nodes (graph_steps graph) in
+    let count : length (in_order graph).nodes
+    ≡ length order = length-map order (λ (number : ℕ). node_by (number_in_order order) (numbered_node graph number)) in
+    all_mapped (λ (number : ℕ). node_by (number_in_order order) (numbered_node graph number))
     (λ node. list_all (λ number. nat_le 1 number && nat_le number (length (in_order graph).nodes)) (numbers_held node.held)) order
     (λ number within.
     let reached = walked.orderly.reached number (sym (entered_has number (graph_steps graph)) ∙ entered_of (graph_steps graph) number within) in
     let has_node = walked.node number reached in
-    let held : numbers_held (node_at graph number).held ≡ children graph number =
-    ap (λ (found : Option GraphNode). numbers_held (unwrap_or found (node_at graph 0)).held) has_node.is
+    let held : numbers_held (numbered_node graph number).held ≡ children graph number =
+    ap (λ (found : Option GraphNode). numbers_held (unwrap_or found (numbered_node graph 0)).held) has_node.is
     ∙ ap (λ (found : Option GraphNode). elim found as (λ _. List ℕ) [ None ↦ [] | Some node ↦ numbers_held node.held ]) (sym has_node.is) in
     ap (list_all (λ other. nat_le 1 other && nat_le other (length (in_order graph).nodes)))
-    (numbers_by (place_in order) (node_at graph number).held ∙ ap (map (place_in order)) held)
-    ∙ all_mapped (place_in order) (λ other. nat_le 1 other && nat_le other (length (in_order graph).nodes)) (children graph number)
+    (numbers_by (number_in_order order) (numbered_node graph number).held ∙ ap (map (number_in_order order)) held)
+    ∙ all_mapped (number_in_order order) (λ other. nat_le 1 other && nat_le other (length (in_order graph).nodes)) (children graph number)
     (λ child inside. names_one order (length (in_order graph).nodes) child count (walked.reached child (child_reached reached inside))))
 
 some_placed : (xs : List ℕ) (number : ℕ) → has number xs ≡ true → (length xs == 0) ≡ false
@@ -69,38 +70,39 @@ some_placed (x ∷ xs) number is = ne_eqb (suc (length xs)) 0 (λ same. omega (a
 
 pub in_order_document : (graph : Graph) → HasWalk graph → IsWholeGraph (in_order graph)
 in_order_document graph walked =
-    let order = entered (graph_steps graph) in
+    let order = entered_nodes (graph_steps graph) in
     record {
       whole = in_order_whole graph walked;
       has_nodes =
-          ap (λ (count : ℕ). count == 0) (length-map order (λ (number : ℕ). node_by (place_in order) (node_at graph number)))
+          ap (λ (count : ℕ). count == 0) (length-map order (λ (number : ℕ). node_by (number_in_order order) (numbered_node graph number)))
           ∙ some_placed order 1 (walked.reached 1 first_reached);
     }
 
 -- ---- the events
 
 begins_same : (graph : Graph) (walked : HasWalk graph) (number : ℕ) (anchor other : Option _) → IsReached graph number → anchor ≡ other
-    → opening_events anchor (node_numbered (in_order graph) (place_in (entered (graph_steps graph)) number)) ≡ opening_events other (node_numbered graph number)
+    → opening_events anchor (node_numbered (in_order graph) (number_in_order (entered_nodes (graph_steps graph)) number))
+    ≡ opening_events other (node_numbered graph number)
 begins_same graph walked number anchor other reached is =
-    let order = entered (graph_steps graph) in
+    let order = entered_nodes (graph_steps graph) in
     let has_node = walked.node number reached in
     ap (opening_events anchor) (node_placed_at graph number has_node.node (walked.reached number reached) has_node.is)
-    ∙ ap (λ (event : Event). event ∷ []) (opening_by (place_in order) anchor has_node.node.tag has_node.node.held)
+    ∙ ap (λ (event : Event). event ∷ []) (opening_by (number_in_order order) anchor has_node.node.tag has_node.node.held)
     ∙ ap (opening_events anchor) (sym has_node.is)
     ∙ ap (λ (a : Option _). opening_events a (node_numbered graph number)) is
 
 ends_same : (graph : Graph) (walked : HasWalk graph) (number : ℕ) → IsReached graph number
-    → closing_events (node_numbered (in_order graph) (place_in (entered (graph_steps graph)) number)) ≡ closing_events (node_numbered graph number)
+    → closing_events (node_numbered (in_order graph) (number_in_order (entered_nodes (graph_steps graph)) number)) ≡ closing_events (node_numbered graph number)
 ends_same graph walked number reached =
-    let order = entered (graph_steps graph) in
+    let order = entered_nodes (graph_steps graph) in
     let has_node = walked.node number reached in
     ap closing_events (node_placed_at graph number has_node.node (walked.reached number reached) has_node.is)
-    ∙ closing_by (place_in order) has_node.node.held
+    ∙ closing_by (number_in_order order) has_node.node.held
     ∙ ap closing_events (sym has_node.is)
 
 step_same : (graph : Graph) (walked : HasWalk graph) (step : Step) → AllReached graph (graph_steps graph) → IsReached graph (node_of_step step)
-    → step_events (in_order graph) (map (renumbered (place_in (entered (graph_steps graph)))) (graph_steps graph))
-    (renumbered (place_in (entered (graph_steps graph))) step)
+    → step_events (in_order graph) (map (renumbered (number_in_order (entered_nodes (graph_steps graph)))) (graph_steps graph))
+    (renumbered (number_in_order (entered_nodes (graph_steps graph))) step)
     ≡ step_events graph (graph_steps graph) step
 unfolding isomorphic_in_order
 step_same graph walked (enters number) all reached =
@@ -111,12 +113,12 @@ step_same graph walked (meets_again number) all reached =
     (anchors_alike graph (in_order graph) (isomorphic_in_order graph walked) (graph_steps graph) number all reached)
 
 steps_same : (graph : Graph) (walked : HasWalk graph) (part : List Step) → AllReached graph (graph_steps graph) → AllReached graph part
-    → flat_map (step_events (in_order graph) (map (renumbered (place_in (entered (graph_steps graph)))) (graph_steps graph)))
-    (map (renumbered (place_in (entered (graph_steps graph)))) part)
+    → flat_map (step_events (in_order graph) (map (renumbered (number_in_order (entered_nodes (graph_steps graph)))) (graph_steps graph)))
+    (map (renumbered (number_in_order (entered_nodes (graph_steps graph)))) part)
     ≡ flat_map (step_events graph (graph_steps graph)) part
 steps_same graph walked [] all reached = refl
 steps_same graph walked (step ∷ part) all reached =
-    let place = place_in (entered (graph_steps graph)) in
+    let place = number_in_order (entered_nodes (graph_steps graph)) in
     ap (λ (events : List Event). events
     ++ flat_map (step_events (in_order graph) (map (renumbered place) (graph_steps graph))) (map (renumbered place) part))
     (step_same graph walked step all (reached step (inl refl)))

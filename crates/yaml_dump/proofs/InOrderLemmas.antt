@@ -15,7 +15,7 @@ use Rattle.yaml_base.proofs.SharedNodes.{has, has_position}
 use Rattle.yaml_base.proofs.UnfoldSteps.{is_meeting_of, FollowEntries, IsOrderly, orderly_steps, none_added}
 use Rattle.yaml_base.proofs.UnfoldTrees.{placed_steps, below_steps, HasNode, Fits, AllFit, Walks, walk_placed, root_met, children_met}
 use Rattle.yaml_base.proofs.DocumentsUnfold.{some_nodes}
-use Rattle.yaml_dump.specs.InOrder.{entered, place_in, held_by, node_by, node_at, in_order}
+use Rattle.yaml_dump.specs.InOrder.{entered_nodes, number_in_order, held_by, node_by, numbered_node, in_order}
 
 -- ---- places in an order
 
@@ -23,10 +23,10 @@ same_turned : (number other : ℕ) → (other == number) ≡ (number == other)
 same_turned number other = grind (arith, nat_tests, same_from_decides, eqb-true, eq-eqb)
 
 -- what is entered is in the order
-pub entered_has : (number : ℕ) (walk : List Step) → has number (entered walk) ≡ list_any (is_entry_of number) walk
+pub entered_has : (number : ℕ) (walk : List Step) → has number (entered_nodes walk) ≡ list_any (is_entry_of number) walk
 entered_has number [] = refl
 entered_has number (enters other ∷ walk) =
-    ap (λ (b : Bool). b || has number (entered walk)) (same_turned number other)
+    ap (λ (b : Bool). b || has number (entered_nodes walk)) (same_turned number other)
     ∙ ap (λ (b : Bool). number == other || b) (entered_has number walk)
 entered_has number (leaves other ∷ walk) = entered_has number walk
 entered_has number (meets_again other ∷ walk) = entered_has number walk
@@ -55,7 +55,7 @@ number_placed number (x ∷ xs) is =
           ap (λ (n : ℕ). get_or (x ∷ xs) n 0) next ∙ number_placed number xs there
     ]) refl is
 
-pub place_within : (number : ℕ) (xs : List ℕ) → has number xs ≡ true → place_in xs number ≤ length xs
+pub place_within : (number : ℕ) (xs : List ℕ) → has number xs ≡ true → number_in_order xs number ≤ length xs
 place_within number xs is = ltb-true (position_or_len (λ other. other == number) xs) (length xs) (sym (has_position number xs) ∙ is)
 
 -- the number at a place, from 1 on
@@ -108,7 +108,7 @@ mutual
 pub record HasWalk (graph : Graph) : Type 0 where
   pub made : Walks (anchor_of (graph_steps graph)) graph [] (graph_steps graph) 1
   pub orderly : IsOrderly graph (graph_steps graph)
-  pub reached : (number : ℕ) → IsReached graph number → has number (entered (graph_steps graph)) ≡ true
+  pub reached : (number : ℕ) → IsReached graph number → has number (entered_nodes (graph_steps graph)) ≡ true
   pub node : (number : ℕ) → IsReached graph number → HasNode graph number
 
 pub walk_of : (graph : Graph) → IsWholeGraph graph → HasWalk graph
@@ -155,12 +155,14 @@ label_by place tag (sequence_held items style) = refl
 label_by place tag (mapping_held pairs style) = refl
 
 -- the node of a place in the new order
-pub node_placed_at : (graph : Graph) (number : ℕ) (node : GraphNode) → has number (entered (graph_steps graph)) ≡ true → node_numbered graph number ≡ Some node
-    → node_numbered (in_order graph) (place_in (entered (graph_steps graph)) number) ≡ Some (node_by (place_in (entered (graph_steps graph))) node)
+pub node_placed_at : (graph : Graph) (number : ℕ) (node : GraphNode) → has number (entered_nodes (graph_steps graph)) ≡ true
+    → node_numbered graph number ≡ Some node
+    → node_numbered (in_order graph) (number_in_order (entered_nodes (graph_steps graph)) number)
+    ≡ Some (node_by (number_in_order (entered_nodes (graph_steps graph))) node)
 node_placed_at graph number node there is =
-    let order = entered (graph_steps graph) in
-    mapped_at (λ (other : ℕ). node_by (place_in order) (node_at graph other)) number order there
-    ∙ ap (λ (found : Option GraphNode). Some (node_by (place_in order) (unwrap_or found (node_at graph 0)))) is
+    let order = entered_nodes (graph_steps graph) in
+    mapped_at (λ (other : ℕ). node_by (number_in_order order) (numbered_node graph other)) number order there
+    ∙ ap (λ (found : Option GraphNode). Some (node_by (number_in_order order) (unwrap_or found (numbered_node graph 0)))) is
 
 -- ---- isomorphic
 
@@ -172,49 +174,53 @@ contained_map f (x ∷ xs) y (suc k, within, is) =
     (found.0, Contains-append_right (x ∷ []) xs found.0 found.1, found.2)
 
 pub kept_in_order : (graph : Graph) → HasWalk graph → (number : ℕ) → IsReached graph number
-    → children (in_order graph) (place_in (entered (graph_steps graph)) number) ≡ map (place_in (entered (graph_steps graph))) (children graph number)
+    → children (in_order graph) (number_in_order (entered_nodes (graph_steps graph)) number)
+    ≡ map (number_in_order (entered_nodes (graph_steps graph))) (children graph number)
 kept_in_order graph walked number reached =
-    let order = entered (graph_steps graph) in
+    let order = entered_nodes (graph_steps graph) in
     let has_node = walked.node number reached in
     ap (λ (found : Option GraphNode). elim found as (λ _. List ℕ) [ None ↦ [] | Some node ↦ numbers_held node.held ])
     (node_placed_at graph number has_node.node (walked.reached number reached) has_node.is)
-    ∙ numbers_by (place_in order) has_node.node.held
-    ∙ ap (λ (found : Option GraphNode). map (place_in order) (elim found as (λ _. List ℕ) [ None ↦ [] | Some node ↦ numbers_held node.held ])) (sym has_node.is)
+    ∙ numbers_by (number_in_order order) has_node.node.held
+    ∙ ap (λ (found : Option GraphNode). map (number_in_order order) (elim found as (λ _. List ℕ) [ None ↦ [] | Some node ↦ numbers_held node.held ]))
+    (sym has_node.is)
 
 pub labels_in_order : (graph : Graph) → HasWalk graph → (number : ℕ) → IsReached graph number
-    → label_at (in_order graph) (place_in (entered (graph_steps graph)) number) ≡ label_at graph number
+    → label_at (in_order graph) (number_in_order (entered_nodes (graph_steps graph)) number) ≡ label_at graph number
 labels_in_order graph walked number reached =
-    let order = entered (graph_steps graph) in
+    let order = entered_nodes (graph_steps graph) in
     let has_node = walked.node number reached in
     ap (option_map (label_of false)) (node_placed_at graph number has_node.node (walked.reached number reached) has_node.is)
-    ∙ ap Some (label_by (place_in order) has_node.node.tag has_node.node.held)
+    ∙ ap Some (label_by (number_in_order order) has_node.node.tag has_node.node.held)
     ∙ ap (option_map (label_of false)) (sym has_node.is)
 
 pub root_first : (graph : Graph) (placed : Placed) → number_at placed ≡ 1 → FollowEntries [] (placed_steps placed)
-    → place_in (entered (placed_steps placed)) 1 ≡ 1
+    → number_in_order (entered_nodes (placed_steps placed)) 1 ≡ 1
 root_first graph (alias_placed name number) is follow = absurd (let no : false ≡ true = follow.0 in cc)
 root_first graph (node_placed anchor number below) is follow =
-    ap (λ (b : Bool). suc (cond (not b) (1 + position_or_len (λ other. other == 1) (entered (below_steps below ++ leaves number ∷ []))) 0)) (eq-eqb number 1 is)
+    ap (λ (b : Bool). suc (cond (not b) (1 + position_or_len (λ other. other == 1) (entered_nodes (below_steps below ++ leaves number ∷ []))) 0))
+    (eq-eqb number 1 is)
 
-pub reached_back : (graph : Graph) (walked : HasWalk graph) → place_in (entered (graph_steps graph)) 1 ≡ 1 → {number : ℕ} → IsReached (in_order graph) number
-    → (first : ℕ) × IsReached graph first × (place_in (entered (graph_steps graph)) first ≡ number)
+pub reached_back : (graph : Graph) (walked : HasWalk graph) → number_in_order (entered_nodes (graph_steps graph)) 1 ≡ 1 → {number : ℕ}
+    → IsReached (in_order graph) number
+    → (first : ℕ) × IsReached graph first × (number_in_order (entered_nodes (graph_steps graph)) first ≡ number)
 reached_back graph walked root first_reached = (1, first_reached, root)
 reached_back graph walked root (child_reached {number = parent} {child = child} reached within) =
     let before = reached_back graph walked root reached in
-    let held : children (in_order graph) parent ≡ map (place_in (entered (graph_steps graph))) (children graph before.0) =
+    let held : children (in_order graph) parent ≡ map (number_in_order (entered_nodes (graph_steps graph))) (children graph before.0) =
     ap (children (in_order graph)) (sym before.2) ∙ kept_in_order graph walked before.0 before.1 in
-    let found = contained_map (place_in (entered (graph_steps graph))) (children graph before.0) child
+    let found = contained_map (number_in_order (entered_nodes (graph_steps graph))) (children graph before.0) child
     (subst (λ (numbers : List ℕ). Contains numbers child) held within) in
     (found.0, child_reached before.1 found.1, found.2)
 
 unfoldable pub isomorphic_in_order : (graph : Graph) → HasWalk graph → Isomorphic graph (in_order graph)
 isomorphic_in_order graph walked =
-    let order = entered (graph_steps graph) in
-    let root : place_in order 1 ≡ 1 =
-    ap (λ (walk : List Step). place_in (entered walk) 1) walked.made.adds
+    let order = entered_nodes (graph_steps graph) in
+    let root : number_in_order order 1 ≡ 1 =
+    ap (λ (walk : List Step). number_in_order (entered_nodes walk) 1) walked.made.adds
     ∙ root_first graph walked.made.placed walked.made.root (subst (FollowEntries []) walked.made.adds walked.orderly.follow) in
     record {
-      partner = place_in order;
+      partner = number_in_order order;
       back = number_of_place order;
       root = root;
       labels = labels_in_order graph walked;
@@ -222,7 +228,7 @@ isomorphic_in_order graph walked =
       one_to_one = λ number reached. number_placed number order (walked.reached number reached);
       onto = λ number reached.
           let before = reached_back graph walked root reached in
-          ap (λ (n : ℕ). place_in order (number_of_place order n)) (sym before.2)
-          ∙ ap (place_in order) (number_placed before.0 order (walked.reached before.0 before.1))
+          ap (λ (n : ℕ). number_in_order order (number_of_place order n)) (sym before.2)
+          ∙ ap (number_in_order order) (number_placed before.0 order (walked.reached before.0 before.1))
           ∙ before.2;
     }

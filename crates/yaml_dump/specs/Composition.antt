@@ -20,8 +20,8 @@ pub record Composition : Type 0 where
   pub carriers : List ℕ
 
 -- before the first event, for so many numbers of names
-abbrev pub at_start : ℕ → Composition
-at_start count = record { nodes = []; unended = []; carriers = replicate count 0 }
+abbrev pub nothing_composed : ℕ → Composition
+nothing_composed count = record { nodes = []; unended = []; carriers = replicate count 0 }
 
 -- ---- names
 
@@ -72,12 +72,12 @@ opened_node anchor node standing =
     record next { unended = record { place = length standing.nodes; children = [] } ∷ next.unended }
 
 -- a node of these parts begins
-abbrev pub begun : Option Text → Text → Held → Composition → Composition
-begun anchor tag held standing = begun_node (number_of_anchor anchor) (record { tag = tag; held = held }) standing
+abbrev pub node_begun : Option Text → Text → Held → Composition → Composition
+node_begun anchor tag held standing = begun_node (number_of_anchor anchor) (record { tag = tag; held = held }) standing
 
 -- so does a collection
-abbrev pub opened : Option Text → Text → Held → Composition → Composition
-opened anchor tag held standing = opened_node (number_of_anchor anchor) (record { tag = tag; held = held }) standing
+abbrev pub collection_begun : Option Text → Text → Held → Composition → Composition
+collection_begun anchor tag held standing = opened_node (number_of_anchor anchor) (record { tag = tag; held = held }) standing
 
 -- numbers two by two
 abbrev pub paired : List ℕ → List NumberPair
@@ -112,9 +112,9 @@ ended (collection ∷ outer) standing =
 -- behind one more event; those that are no part of a node change nothing
 abbrev pub composed : Composition → Event → Composition
 composed standing (alias name) = record standing { unended = adding (slice_index_or standing.carriers (number_in_name name) 0 ∷ []) standing.unended }
-composed standing (scalar content) = begun content.anchor (unwrap_or content.tag []) (scalar_held content.value content.style) standing
-composed standing (sequence_start start) = opened start.anchor (unwrap_or start.tag []) (sequence_held [] start.style) standing
-composed standing (mapping_start start) = opened start.anchor (unwrap_or start.tag []) (mapping_held [] start.style) standing
+composed standing (scalar content) = node_begun content.anchor (unwrap_or content.tag []) (scalar_held content.value content.style) standing
+composed standing (sequence_start start) = collection_begun start.anchor (unwrap_or start.tag []) (sequence_held [] start.style) standing
+composed standing (mapping_start start) = collection_begun start.anchor (unwrap_or start.tag []) (mapping_held [] start.style) standing
 composed standing sequence_end = ended standing.unended standing
 composed standing mapping_end = ended standing.unended standing
 composed standing _ = standing

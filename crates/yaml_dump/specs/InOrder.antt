@@ -10,12 +10,12 @@ node_entered (enters number) = Some number
 node_entered _ = None
 
 -- the nodes in the order in which steps enter them
-abbrev pub entered : List Step → List ℕ
-entered walk = filter_map node_entered walk
+abbrev pub entered_nodes : List Step → List ℕ
+entered_nodes walk = filter_map node_entered walk
 
 -- a node's place in an order, from 1 on
-abbrev pub place_in : List ℕ → ℕ → ℕ
-place_in order number = suc (position_or_len (λ other. other == number) order)
+abbrev pub number_in_order : List ℕ → ℕ → ℕ
+number_in_order order number = suc (position_or_len (λ other. other == number) order)
 
 -- what a node holds, by other numbers
 abbrev pub held_by : (ℕ → ℕ) → Held → Held
@@ -28,15 +28,15 @@ abbrev pub node_by : (ℕ → ℕ) → GraphNode → GraphNode
 node_by place node = record { tag = node.tag; held = held_by place node.held }
 
 -- the node of a number; an empty one where there is none
-abbrev pub node_at : Graph → ℕ → GraphNode
-node_at graph number = unwrap_or (node_numbered graph number) (record { tag = []; held = scalar_held [] any_style })
+abbrev pub numbered_node : Graph → ℕ → GraphNode
+numbered_node graph number = unwrap_or (node_numbered graph number) (record { tag = []; held = scalar_held [] any_style })
 
 -- the nodes of some numbers, in this order, which are numbered by it
 abbrev pub nodes_in : Graph → List ℕ → List ℕ → List GraphNode
-nodes_in graph order numbers = map (λ number. node_by (place_in order) (node_at graph number)) numbers
+nodes_in graph order numbers = map (λ number. node_by (number_in_order order) (numbered_node graph number)) numbers
 
 -- the graph with its nodes in the order in which the walk enters them
 abbrev pub in_order : Graph → Graph
 in_order graph =
-    let order = entered (graph_steps graph) in
+    let order = entered_nodes (graph_steps graph) in
     record { start = graph.start; nodes = nodes_in graph order order; end_implicit = graph.end_implicit }

@@ -3,7 +3,7 @@ ghost use Rattle.std.specs.Prelude.{◌≡◌, [], ◌∷◌, IfOk, map, option_
 ghost use Rattle.yaml_base.specs.Seen.{seen_text, seen_event};
 ghost use Rattle.yaml_base.specs.graphs.Meetings.{GraphNode};
 ghost use Rattle.yaml_base.specs.graphs.SeenNodes.{seen_number, seen_node, seen_pair};
-ghost use Rattle.yaml_dump.specs.Composition.{with_children, begun_node, opened_node, carried, at_start, composed, ended, filled, node_with, paired};
+ghost use Rattle.yaml_dump.specs.Composition.{with_children, begun_node, opened_node, carried, nothing_composed, composed, ended, filled, node_with, paired};
 ghost use Rattle.yaml_dump.specs.SeenComposer.{seen_composer};
 
 use crate::anchor_numbers::{number_in_name, number_of_anchor};
@@ -96,7 +96,7 @@ impl<A: Allocator> Composer<A> {
     fn at_start(alloc: A, count: usize) -> Result<Composer<A>, AllocError>
     where
         A: Copy,
-        ensures { IfOk result (λ composer. seen_composer composer ≡ at_start count) }
+        ensures { IfOk result (λ composer. seen_composer composer ≡ nothing_composed count) }
     {
         Ok(Composer {
             nodes: Vec::new(alloc),
@@ -247,7 +247,7 @@ pub(crate) fn composed_nodes<A: Allocator + Copy>(
     events: &[yaml_event_t<A>],
 ) -> Result<Vec<yaml_node_t<A>, A>, AllocError>
     ensures { IfOk result (λ nodes. map seen_node nodes.items
-        ≡ (fold composed (at_start (length events.now)) (map seen_event events.now)).nodes) }
+        ≡ (fold composed (nothing_composed (length events.now)) (map seen_event events.now)).nodes) }
 {
     let mut composer = Composer::at_start(alloc, events.len())?;
     for event in events {

@@ -20,7 +20,7 @@ use Rattle.yaml_base.{specs.values.JsonNumbers.value_with, specs.values.Resolved
 use Rattle.yaml_base.{specs.values.Resolved.meant_by_nobody}
 use Rattle.yaml_base.proofs.stream_nodes.StreamAgrees.{standing_in, tagging_in, nodes_tree, pairs_tree}
 use Rattle.yaml_json.proofs.{NumberBridge.number_is, Trees.json_node, Trees.items_nodes, Trees.members_pairs}
-use Rattle.yaml_json.specs.Means.{canonical_tag, scalar_meant, in_order, pairs_in_order, Means, ItemsMean, MembersMean}
+use Rattle.yaml_json.specs.Means.{canonical_tag, scalar_meant, trees_in_order, pairs_in_order, Means, ItemsMean, MembersMean}
 use Rattle.yaml_writer.proofs.{PlainLemmas.plain_texts, PlainNumbers.written_numbers}
 
 -- Schemas
@@ -212,7 +212,8 @@ module _ (schema : Schema) (reads : ReadsScalars schema) (s : Effective) (direct
   abbrev ItemsAfter : Items → Nodes → (flow : Bool) → Type 0
   ItemsAfter items before flow =
       (trees : List Tree)
-      × (in_order (nodes_tree (items_nodes items s.canonical in_flow before) s directives flow) ≡ in_order (nodes_tree before s directives flow) ++ trees)
+      × (trees_in_order (nodes_tree (items_nodes items s.canonical in_flow before) s directives flow)
+      ≡ trees_in_order (nodes_tree before s directives flow) ++ trees)
       × ItemsMean schema items trees
 
   abbrev MembersAfter : Members → Pairs → (flow : Bool) → Type 0
@@ -257,14 +258,14 @@ module _ (schema : Schema) (reads : ReadsScalars schema) (s : Effective) (direct
         (sym (untagged s.canonical in_flow)) (subst (MembersMean schema members) (sym after.1) after.2)
 
     items_mean : (items : Items) → ItemsHaveNumbers items → (before : Nodes) (flow : Bool) → ItemsAfter items before flow
-    items_mean no_items numbers before flow = ([], sym (append-nil (in_order (nodes_tree before s directives flow))), tt)
+    items_mean no_items numbers before flow = ([], sym (append-nil (trees_in_order (nodes_tree before s directives flow))), tt)
     items_mean (item json items) numbers before flow =
         let node = json_node json s.canonical in_flow in
         let place = entry_place flow (as_item (has_no_nodes before)) 0 in
         let tree = node_tree node s directives place in
         let after = items_mean items numbers.1 (nodes_and before node) flow in (
           tree ∷ after.0,
-          after.1 ∙ append_assoc (in_order (nodes_tree before s directives flow)) (tree ∷ []) after.0,
+          after.1 ∙ append_assoc (trees_in_order (nodes_tree before s directives flow)) (tree ∷ []) after.0,
           (node_means json numbers.0 place, after.2),
         )
 

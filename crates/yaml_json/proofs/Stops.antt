@@ -2,7 +2,7 @@
 use Rattle.yaml_json.proofs.Common.{ℕ, Bool, false, true, List, [], ◌++◌, ◌∷◌, ◌≡◌, ap, append-nil, subst, sym, ◌∙◌, Token, HoldsNames, AddsName, FitsNames}
 use Rattle.yaml_json.proofs.Common.{IfSome, failure_of, refl, WriterState, RefusesToken, RefusesFirst, WhyStopped, Refuses, tokens_events, AddsEvents}
 use Rattle.yaml_json.proofs.Common.{LeavesOpen, KeepsNames}
-use Rattle.yaml_json.specs.{Refused.IsByText, Walk.Gives, Walk.GaveTokens}
+use Rattle.yaml_json.specs.{Refused.IsByText, Walk.GivesTaken, Walk.GaveTokens}
 use Rattle.yaml_json.proofs.KeepingNames.{keeps_name, name_again, names_once}
 use Rattle.yaml_json.proofs.Refusing.{IsNoKey, first_placed, first_refused, key_could_stand, key_refused, member_goes_on, name_refused, no_member_left}
 use Rattle.yaml_json.proofs.Refusing.{no_string_stands}
@@ -200,7 +200,7 @@ module _ {A : Type 0} (depth : ℕ) (unique in_flow : Bool) (levels outer : List
   module _ (is : levels ≡ outer ++ Mapping ∷ []) (name : List ℕ) (inner : List Token) (first : ahead ≡ Token.key name ∷ inner) (later : Names A)
       (kept_same : later.are_kept ≡ held.are_kept) (new : Bool)
       (adds : (names : List (List ℕ)) → (more : List (List (List ℕ))) → HoldsNames (names ∷ more) held → AddsName names more name new later)
-      (named : WriterState) (gave : Gives in_flow levels before (Token.key name ∷ []) levels named) where
+      (named : WriterState) (gave : GivesTaken in_flow levels before (Token.key name ∷ []) levels named) where
     pub named_stopped : (last : List Token) → last ≡ inner → new ≡ true → now ≡ named → (stop : Stop) → RefusesFirst depth levels inner stop
         → Refuses depth unique in_flow levels held ahead last before stop now
     named_stopped last were fresh same stop refuses =

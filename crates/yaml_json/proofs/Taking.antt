@@ -13,7 +13,7 @@ use Rattle.yaml_json.proofs.WroteLemmas.{adds_then, ended}
 use Rattle.yaml_json.specs.Failing.{FailedAtEnd}
 use Rattle.yaml_json.specs.declared.values.Stop.{Stop}
 use Rattle.yaml_json.proofs.Walking.{longer, closed_stands, closes_value, value_begins, awaiting_item, awaiting_named, next_stands}
-use Rattle.yaml_json.specs.Walk.{ReadsNone, GaveTokens, Gives, FailsGiving, WalkedOn, StepFailed}
+use Rattle.yaml_json.specs.Walk.{ReadsNone, GaveTokens, GivesTaken, FailsGiving, WalkedOn, StepFailed}
 use Rattle.yaml_base.specs.declared.kinds.CollectionKind.{CollectionKind}
 use Rattle.yaml_base.specs.declared.kinds.CollectionKind.TheVariants.{Mapping, Sequence}
 
@@ -42,7 +42,7 @@ given_on in_flow was now later so token event one is other =
 -- a scalar, or a key: its event depends on the writer by its form alone
 pub gives_scalar : (in_flow : Bool) (levels : List CollectionKind) (before after : WriterState) (token : Token) (event : Bool → Event)
     → ((canonical : Bool) → token_events canonical in_flow token ≡ event canonical ∷ []) → WroteEvent before (event before.canonical) after
-    → Gives in_flow levels before (token ∷ []) levels after
+    → GivesTaken in_flow levels before (token ∷ []) levels after
 gives_scalar in_flow levels before after token event is wrote was so stood =
     record {
       adds = given_on in_flow was before after so token (event before.canonical) stood.adds
@@ -58,7 +58,8 @@ opener_events Sequence canonical in_flow = refl
 opener_events Mapping canonical in_flow = refl
 
 pub gives_start : (in_flow : Bool) (levels : List CollectionKind) (before after : WriterState) (kind : CollectionKind)
-    → GaveEvent (with_collection before kind) (start_event in_flow kind) None after → Gives in_flow levels before (opener kind ∷ []) (levels ++ kind ∷ []) after
+    → GaveEvent (with_collection before kind) (start_event in_flow kind) None after
+    → GivesTaken in_flow levels before (opener kind ∷ []) (levels ++ kind ∷ []) after
 gives_start in_flow levels before after kind gave was so stood =
     record {
       adds = given_on in_flow was before after so (opener kind) (start_event in_flow kind) stood.adds (opener_events kind was.canonical in_flow)
@@ -74,7 +75,7 @@ closer_events Sequence canonical in_flow = refl
 closer_events Mapping canonical in_flow = refl
 
 pub gives_end : (in_flow : Bool) (outer : List CollectionKind) (before after : WriterState) (kind : CollectionKind)
-    → EndsInnermost before (Ok tt) after → Gives in_flow (outer ++ kind ∷ []) before (closer kind ∷ []) outer after
+    → EndsInnermost before (Ok tt) after → GivesTaken in_flow (outer ++ kind ∷ []) before (closer kind ∷ []) outer after
 gives_end in_flow outer before after kind ends was so stood =
     let end = ended (was.levels ++ outer) kind before after (stood.levels_are ∙ sym (append_assoc was.levels outer (kind ∷ []))) stood.bare ends in
     record {
@@ -140,7 +141,7 @@ module _ (depth : ℕ) (in_flow : Bool) (levels : List CollectionKind) (before a
   opener_began opened kind fits is starts =
       record {
         begins = inr (kind, refl, fits, is);
-        gives = subst (λ (all : List CollectionKind). Gives in_flow levels before (opener kind ∷ []) all after) (sym is)
+        gives = subst (λ (all : List CollectionKind). GivesTaken in_flow levels before (opener kind ∷ []) all after) (sym is)
             (gives_start in_flow levels before after kind starts);
       }
 
@@ -178,8 +179,8 @@ module _ (depth : ℕ) (in_flow : Bool) (ahead : List Token) (levels outer : Lis
         taken = closer kind ∷ [];
         parts = first;
         shorter = omega (arith, ap length first);
-        gives = subst (λ (all : List CollectionKind). Gives in_flow all before (closer kind ∷ []) opened now) (sym is)
-            (subst (λ (all : List CollectionKind). Gives in_flow (outer ++ kind ∷ []) before (closer kind ∷ []) all now) (sym same)
+        gives = subst (λ (all : List CollectionKind). GivesTaken in_flow all before (closer kind ∷ []) opened now) (sym is)
+            (subst (λ (all : List CollectionKind). GivesTaken in_flow (outer ++ kind ∷ []) before (closer kind ∷ []) all now) (sym same)
             (gives_end in_flow outer before now kind ends));
         moves = λ so stands. subst (LeavesOpen depth (so ++ closer kind ∷ [])) (sym same)
             (closed_stands depth so outer kind (subst (LeavesOpen depth so) is stands));
@@ -253,8 +254,8 @@ module _ (depth : ℕ) (in_flow : Bool) (levels outer : List CollectionKind) (is
 
 -- two calls
 gives_both : (in_flow : Bool) (levels between opened : List CollectionKind) (before middle now : WriterState) (one other : List Token)
-    → Gives in_flow levels before one between middle → Gives in_flow between middle other opened now
-    → Gives in_flow levels before (one ++ other) opened now
+    → GivesTaken in_flow levels before one between middle → GivesTaken in_flow between middle other opened now
+    → GivesTaken in_flow levels before (one ++ other) opened now
 gives_both in_flow levels between opened before middle now one other first second was so stood =
     subst (λ (all : List Token). GaveTokens in_flow was all opened now) (append_assoc so one other) (second was (so ++ one) (first was so stood))
 
@@ -268,7 +269,7 @@ module _ (depth : ℕ) (in_flow : Bool) (levels outer : List CollectionKind) (is
       → StepFailed depth in_flow ahead levels before error now
   step_unnamed error now fails = step_at_first depth in_flow ahead levels before (Token.key key) inner error now first fails named_begins
 
-  module _ (named : WriterState) (gave : Gives in_flow levels before (Token.key key ∷ []) levels named) where
+  module _ (named : WriterState) (gave : GivesTaken in_flow levels before (Token.key key ∷ []) levels named) where
     pub step_member : (after : List Token) (opened : List CollectionKind) (now : WriterState)
         → BeganFirstValue depth in_flow inner levels named after opened now → WalkedOn depth in_flow ahead levels before after opened now
     step_member after opened now began =

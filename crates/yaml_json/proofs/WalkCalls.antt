@@ -25,7 +25,7 @@ use Rattle.yaml_json.specs.Failing.{IsWritersAnswer, Kept}
 use Rattle.yaml_json.specs.Nests.{IsNesting}
 use Rattle.yaml_json.specs.Reached.{Reader}
 use Rattle.yaml_json.specs.Refused.{IsByText}
-use Rattle.yaml_json.specs.Walk.{Gives as GivesTokens, LeavesNames, ReadsNone, StepFailed}
+use Rattle.yaml_json.specs.Walk.{GivesTaken as GivesTokens, LeavesNames, ReadsNone, StepFailed}
 use Rattle.yaml_json.specs.WalkSteps.{FirstStep, OnlyGiven, TokenStep, ValueGiven, JsonWalk, WalkStep, at}
 use Rattle.yaml_json.specs.declared.names.Names.{Names}
 use Rattle.yaml_json.specs.declared.settings.JsonSettings.{JsonSettings}

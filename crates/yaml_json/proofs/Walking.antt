@@ -7,7 +7,7 @@ use Rattle.json.proofs.Grammar.{left-parse_map, value-begin_array, value-begin_o
 use Rattle.json.proofs.Grammar.{members_fail, members_more, skip_value-shorter}
 use Rattle.json.specs.{Json.items, Json.members, Reads.skip_items, Reads.skip_members}
 use Rattle.yaml_json.{proofs.NameLemmas.once_both, proofs.NameLemmas.once_is_unique, proofs.TokenLemmas.value_spelled, specs.Begins.BeginsAllowed}
-use Rattle.yaml_json.{specs.Walk.skip_rest, specs.Walk.LeavesOpenAt, specs.Walk.Begins}
+use Rattle.yaml_json.{specs.Walk.skip_rest, specs.Walk.LeavesOpenAt, specs.Walk.BeginsValueBy}
 use Rattle.yaml_emitter.specs.declared.place.{CollectionKind.CollectionKind, CollectionKind.TheVariants.Mapping, CollectionKind.TheVariants.Sequence}
 
 -- ---- the number that bounds the turns plays no part
@@ -168,7 +168,7 @@ one_more depth taken token more = ap (skip_value depth) (append_assoc taken (tok
 
 -- a value begins with the token
 pub next_stands_at : (depth : ℕ) (taken : List Token) (levels : List CollectionKind) (token : Token) (now : List CollectionKind)
-    → length levels ≤ depth → ((more : List Token) → Awaits depth taken levels (token ∷ more)) → Begins depth levels token now
+    → length levels ≤ depth → ((more : List Token) → Awaits depth taken levels (token ∷ more)) → BeginsValueBy depth levels token now
     → LeavesOpenAt depth (taken ++ token ∷ []) now
 next_stands_at depth taken levels token now few awaits (inl (is, same)) =
     subst (LeavesOpenAt depth (taken ++ token ∷ [])) (sym same)
@@ -364,13 +364,13 @@ module _ (depth : ℕ) (taken : List Token) (levels outer : List CollectionKind)
   awaiting_named ahead = record { begins = begins_named; few = few_levels; awaits = λ deep so. first_value deep so ahead }
 
 -- a value begins with the token
-deeper_begins : (depth deep : ℕ) (levels now : List CollectionKind) (token : Token) → depth ≤ deep → Begins depth levels token now
-    → Begins deep levels token now
+deeper_begins : (depth deep : ℕ) (levels now : List CollectionKind) (token : Token) → depth ≤ deep → BeginsValueBy depth levels token now
+    → BeginsValueBy deep levels token now
 deeper_begins depth deep levels now token more (inl (is, same)) = inl (is, same)
 deeper_begins depth deep levels now token more (inr (kind, is, fits, opens)) = inr (kind, is, omega (arith, fits, more), opens)
 
 pub next_stands : (depth : ℕ) (taken : List Token) (levels now : List CollectionKind) (token : Token) (after : List Token)
-    → Awaiting depth taken levels (token ∷ after) → Begins depth levels token now → LeavesOpen depth (taken ++ token ∷ []) now
+    → Awaiting depth taken levels (token ∷ after) → BeginsValueBy depth levels token now → LeavesOpen depth (taken ++ token ∷ []) now
 next_stands depth taken levels now token after place begins deep more =
     let few = place.few in
     next_stands_at deep taken levels token now (omega (arith, few, more)) (place.awaits deep more)

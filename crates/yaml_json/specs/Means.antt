@@ -13,9 +13,9 @@ use Rattle.yaml_base.specs.streams.StreamReader.{stream_trees}
 use Rattle.yaml_writer.specs.NumberParts.{IsNumber}
 
 -- trees and pairs of trees, in order
-abbrev pub in_order : Trees → List Tree
-in_order no_trees = []
-in_order (trees_and trees tree) = in_order trees ++ tree ∷ []
+abbrev pub trees_in_order : Trees → List Tree
+trees_in_order no_trees = []
+trees_in_order (trees_and trees tree) = trees_in_order trees ++ tree ∷ []
 
 abbrev pub pairs_in_order : TreePairs → List (Tree × Tree)
 pairs_in_order no_tree_pairs = []
@@ -40,7 +40,7 @@ abbrev mutual
   Means schema (boolean flag) (scalar_tree anchor tagging value) = scalar_meant schema tagging value ≡ meant_boolean flag
   Means schema (number text) (scalar_tree anchor tagging value) = MeansNumber text (scalar_meant schema tagging value)
   Means schema (string text) tree = MeansText schema text tree
-  Means schema (array items) (sequence_tree anchor None trees) = ItemsMean schema items (in_order trees)
+  Means schema (array items) (sequence_tree anchor None trees) = ItemsMean schema items (trees_in_order trees)
   Means schema (object members) (mapping_tree anchor None pairs) = MembersMean schema members (pairs_in_order pairs)
   Means schema _ _ = ⊥
 

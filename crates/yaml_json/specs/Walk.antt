@@ -93,8 +93,8 @@ abbrev pub BeginsNone : Token → Type 0
 BeginsNone token = (IsScalar token → ⊥) × (IsOpener token → ⊥)
 
 -- a value begins with the token: a scalar, or a collection that isn't too deep; these are open then
-abbrev pub Begins : ℕ → List CollectionKind → Token → List CollectionKind → Type 0
-Begins depth levels token now =
+abbrev pub BeginsValueBy : ℕ → List CollectionKind → Token → List CollectionKind → Type 0
+BeginsValueBy depth levels token now =
     (IsScalar token × (now ≡ levels))
     ⊎ ((kind : CollectionKind) × (token ≡ opener kind) × (length levels < depth) × (now ≡ levels ++ kind ∷ []))
 
@@ -108,8 +108,8 @@ pub record GaveTokens (in_flow : Bool) (was : WriterState) (taken : List Token) 
   pub bare : IsBare now
 
 -- wherever the writer stood, the events of these tokens were given more
-abbrev pub Gives : (in_flow : Bool) → List CollectionKind → WriterState → List Token → List CollectionKind → WriterState → Type 0
-Gives in_flow levels before taken opened after =
+abbrev pub GivesTaken : (in_flow : Bool) → List CollectionKind → WriterState → List Token → List CollectionKind → WriterState → Type 0
+GivesTaken in_flow levels before taken opened after =
     (was : WriterState) (so : List Token) → GaveTokens in_flow was so levels before → GaveTokens in_flow was (so ++ taken) opened after
 
 -- an allocation failed, and nothing changed; or, wherever the writer stood, the events of these tokens were given more, and its
@@ -155,14 +155,14 @@ HasUniqueNames unique before after = unique ≡ true → (taken : List Token) ×
 -- the token was given, with which a value begins
 pub record BeganValue (depth : ℕ) (in_flow : Bool) (token : Token) (levels : List CollectionKind) (before : WriterState) (opened : List CollectionKind)
     (after : WriterState) : Type 0 where
-  pub begins : Begins depth levels token opened
-  pub gives : Gives in_flow levels before (token ∷ []) opened after
+  pub begins : BeginsValueBy depth levels token opened
+  pub gives : GivesTaken in_flow levels before (token ∷ []) opened after
 
 -- the writer failed at the token, with which a value begins
 pub record BeginFailed (depth : ℕ) (in_flow : Bool) (token : Token) (levels : List CollectionKind) (before : WriterState) (error : yaml_error_t)
     (after : WriterState) : Type 0 where
   pub opened : List CollectionKind
-  pub begins : Begins depth levels token opened
+  pub begins : BeginsValueBy depth levels token opened
   pub fails : FailsGiving in_flow levels before (token ∷ []) error after
 
 -- where the text breaks off at a token with which no value begins: at what follows the string of a name, or at the token
@@ -242,7 +242,7 @@ pub record WalkedOn (depth : ℕ) (in_flow : Bool) (ahead : List Token) (levels 
   pub taken : List Token
   pub parts : ahead ≡ taken ++ after
   pub shorter : length after < length ahead
-  pub gives : Gives in_flow levels before taken opened now
+  pub gives : GivesTaken in_flow levels before taken opened now
   pub moves : (so : List Token) → LeavesOpen depth so levels → LeavesOpen depth (so ++ taken) opened
 
 -- wherever the walk stood with these collections open, the events of the first tokens were given, with which a value begins; then an

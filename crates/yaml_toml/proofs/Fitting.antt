@@ -11,7 +11,7 @@ use Rattle.toml_ordered.specs.declared.fault.Fault.TheVariants as fault
 use Rattle.yaml_toml.specs.Depth.{ExplainsDepth, document_nesting, toml_nesting}
 use Rattle.yaml_toml.specs.Fitting.{FitsAfter, NestsAfter, NodeFits, PendingFits, RestFits, rest_nesting}
 use Rattle.yaml_toml.specs.Places.{IsBeforeLeft}
-use Rattle.yaml_toml.specs.Walk.{IsOwnMemory, IsStopOf, fault_error, stop_error, writers_error}
+use Rattle.yaml_toml.specs.Walk.{IsOwnMemory, IsStopOf, fault_error, stop_error, toml_writers_error}
 use Rattle.yaml_toml.specs.declared.error.TomlError.{TomlError}
 use Rattle.yaml_toml.specs.declared.error.TomlError.TheVariants as errors
 use Rattle.yaml_toml.specs.declared.walk.Rest.{Rest}
@@ -142,7 +142,8 @@ IsNothing (Some error) = ⊥
 
 module _ (depth : ℕ) (text : List ℕ) where
   -- a document was read, and the walk over it stopped
-  pub stop_explained : (root : TomlNodes) (stopped : Stop) (error : TomlError) → ordered_document text ≡ Some root → writers_error error ≡ stop_error stopped
+  pub stop_explained : (root : TomlNodes) (stopped : Stop) (error : TomlError) → ordered_document text ≡ Some root
+      → toml_writers_error error ≡ stop_error stopped
       → NestsAfter depth root (Err stopped) → ExplainsDepth depth text error
   stop_explained root stop.TooDeep errors.TooDeep read is nests = record { root = root; read = read; deeper = nests }
   stop_explained root (stop.Failed failure) errors.TooDeep read is nests = absurd (subst IsNothing is tt)
@@ -151,7 +152,7 @@ module _ (depth : ℕ) (text : List ℕ) where
   stop_explained root stopped (errors.Emitter failure) read is nests = tt
 
   -- none was read
-  pub fault_explained : (found : Fault) (error : TomlError) → writers_error error ≡ fault_error found
+  pub fault_explained : (found : Fault) (error : TomlError) → toml_writers_error error ≡ fault_error found
       → IfSome (place_left found) (λ left. IsBeforeLeft text left error) → ExplainsDepth depth text error
   fault_explained fault.Memory errors.TooDeep is at = absurd (subst IsNothing is tt)
   fault_explained (fault.NotToml left) errors.TooDeep is at = absurd at

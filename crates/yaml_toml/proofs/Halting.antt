@@ -10,7 +10,7 @@ use Rattle.yaml_base.specs.declared.kinds.CollectionKind.{CollectionKind}
 use Rattle.yaml_base.specs.declared.kinds.CollectionKind.TheVariants.{Mapping}
 use Rattle.toml_ordered.specs.Data.{TomlNode, TomlNodes}
 use Rattle.yaml_toml.specs.Events.{toml_events, keys_events}
-use Rattle.yaml_toml.specs.OpenCounts.{open_after}
+use Rattle.yaml_toml.specs.OpenCounts.{count_after}
 use Rattle.yaml_toml.specs.Walk.{Answers, IsStopOf, StepsStop, rest_kind, kinds_of, pending, rest_events}
 use Rattle.yaml_toml.specs.declared.walk.Rest.{Rest}
 use Rattle.yaml_toml.specs.declared.walk.Stop.{Stop}
@@ -38,18 +38,18 @@ module _ (most : ℕ) (was : WriterState) where
   module _ (now : WriterState) where
     -- an event was given, or nothing
     halts_at : (event : Event) (due : List Event) (before : List CollectionKind) (error : yaml_error_t)
-        → (length before ≤ most → open_after event (length before) ≤ most) → FailedGiving was event error now → StepsStop most was (event ∷ due) before now
+        → (length before ≤ most → count_after event (length before) ≤ most) → FailedGiving was event error now → StepsStop most was (event ∷ due) before now
     halts_at event due before error room (inl memory) =
         subst (λ (after : WriterState). StepsStop most was (event ∷ due) before after) (sym memory.1) (halts_at_once (event ∷ due) before)
     halts_at event due before error room (inr failed) = record {
       given = event ∷ [];
       begins = record { rest = due; parts = refl };
       adds = failed.adds;
-      few = λ fits. (open_after event (length before), (fits, (room fits, refl)));
+      few = λ fits. (count_after event (length before), (fits, (room fits, refl)));
     }
 
     pub halts_of : (event : Event) (due : List Event) (before : List CollectionKind) (answer : Result (Unit {0}) yaml_error_t)
-        (result : Result (Unit {0}) Stop) → (length before ≤ most → open_after event (length before) ≤ most) → IsStopOf answer result
+        (result : Result (Unit {0}) Stop) → (length before ≤ most → count_after event (length before) ≤ most) → IsStopOf answer result
         → Answers was event answer now → OnErr result (StepsStop most was (event ∷ due) before now)
     halts_of event due before (Ok done) (Ok same) room is answers = tt
     halts_of event due before (Ok done) (Err stopped) room is answers = absurd is

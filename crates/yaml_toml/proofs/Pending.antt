@@ -13,7 +13,7 @@ use Rattle.toml_ordered.specs.declared.tree.Node.{Node as CodeNode}
 use Rattle.toml_ordered.specs.declared.tree.Origin.{Origin}
 use Rattle.std.proofs.lemmas.List.{length-map}
 use Rattle.yaml_toml.specs.Events.{toml_events, toml_items_events, keys_events}
-use Rattle.yaml_toml.specs.OpenCounts.{Opens, open_after}
+use Rattle.yaml_toml.specs.OpenCounts.{Opens, count_after}
 use Rattle.yaml_toml.specs.Walk.{Moved, GaveSome, HasNumbers, ItemsHaveNumbers, KeysHaveNumbers, PendingHaveNumbers, RestHasNumbers, items_left, keys_left}
 use Rattle.yaml_toml.specs.Walk.{rest_kind, kinds_of, pending, rest_events, rest_size, pending_size, node_size, items_size, keys_size}
 use Rattle.yaml_toml.specs.declared.walk.Rest.{Rest}
@@ -63,10 +63,10 @@ pub entered : (in_flow : Bool) (kind : CollectionKind) (most before behind : ℕ
 entered in_flow Sequence most before behind fits room is = (fits, (room, sym is))
 entered in_flow Mapping most before behind fits room is = (fits, (room, sym is))
 
-pub left_open : (event : Event) (most before behind : ℕ) → before ≤ most → ((n : ℕ) → open_after event (suc n) ≡ n) → before ≡ suc behind
+pub left_open : (event : Event) (most before behind : ℕ) → before ≤ most → ((n : ℕ) → count_after event (suc n) ≡ n) → before ≡ suc behind
     → Opens most before (event ∷ []) behind
 left_open event most before behind fits falls is =
-    let next : open_after event before ≡ behind = ap (open_after event) is ∙ falls behind in
+    let next : count_after event before ≡ behind = ap (count_after event) is ∙ falls behind in
     (fits, (omega (arith, fits, is, next), next))
 
 -- ---- steps
@@ -109,7 +109,7 @@ module _ (most : ℕ) (in_flow : Bool) (was now : WriterState) where
 
   -- the innermost was ended, of which nothing was left
   pub steps_end : (event : Event) (kind : CollectionKind) (numbers : Type 0) (opened : List Rest) → numbers
-      → ((n : ℕ) → open_after event (suc n) ≡ n) → Moved was (event ∷ []) (kind ∷ []) [] now
+      → ((n : ℕ) → count_after event (suc n) ≡ n) → Moved was (event ∷ []) (kind ∷ []) [] now
       → GaveSome most in_flow was (event ∷ pending was.canonical in_flow opened) (kinds_of opened ++ kind ∷ []) (numbers × PendingHaveNumbers opened)
       (1 + pending_size opened) now opened
   steps_end event kind numbers opened have falls moved = record {

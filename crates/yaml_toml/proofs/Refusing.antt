@@ -8,7 +8,7 @@ use Rattle.toml_ordered.specs.Places.{FaultIsPlaced, place_left}
 use Rattle.toml_ordered.specs.Reading.{IsMemory}
 use Rattle.toml_ordered.specs.declared.fault.Fault.{Fault}
 use Rattle.toml_ordered.specs.declared.fault.Fault.TheVariants as fault
-use Rattle.yaml_toml.specs.Walk.{DeniesToml, fault_error, writers_error}
+use Rattle.yaml_toml.specs.Walk.{DeniesToml, fault_error, toml_writers_error}
 use Rattle.yaml_toml.specs.Places.{HasConflict, HasTomlPlace, IsBeforeLeft}
 use Rattle.yaml_toml.specs.declared.error.TomlError.{TomlError}
 use Rattle.yaml_toml.specs.declared.error.TomlError.TheVariants as errors
@@ -22,10 +22,11 @@ said_fault was (fault.NotToml left) = λ none. none
 said_fault was (fault.DefinedAgain key first second) = λ none. none
 
 -- nothing was given
-pub said_of : (was : WriterState) (found : Fault) (error : TomlError) → writers_error error ≡ fault_error found → HasErrorSaid was (writers_error error) was
+pub said_of : (was : WriterState) (found : Fault) (error : TomlError) → toml_writers_error error ≡ fault_error found
+    → HasErrorSaid was (toml_writers_error error) was
 said_of was found error is = subst (λ (said : Option yaml_error_t). HasErrorSaid was said was) (sym is) (said_fault was found)
 
-writers_none : (error : TomlError) → DeniesToml error → writers_error error ≡ None
+writers_none : (error : TomlError) → DeniesToml error → toml_writers_error error ≡ None
 writers_none (errors.NotToml line column) denies = refl
 writers_none (errors.DefinedAgain key first_line first_column line column) denies = refl
 writers_none errors.TooDeep denies = absurd denies
@@ -36,11 +37,11 @@ IsNothing None = Unit {0}
 IsNothing (Some error) = ⊥
 
 -- an error that denies the text isn't of memory
-pub denied : (found : Fault) (error : TomlError) → writers_error error ≡ fault_error found → DeniesToml error → IsMemory found → ⊥
+pub denied : (found : Fault) (error : TomlError) → toml_writers_error error ≡ fault_error found → DeniesToml error → IsMemory found → ⊥
 denied found error is denies memory = subst IsNothing (sym (writers_none error denies) ∙ is ∙ ap fault_error memory) tt
 
 -- an error of the text has the place of its fault
-pub placed_of : (text : List ℕ) (found : Fault) (error : TomlError) → writers_error error ≡ fault_error found → FaultIsPlaced text found
+pub placed_of : (text : List ℕ) (found : Fault) (error : TomlError) → toml_writers_error error ≡ fault_error found → FaultIsPlaced text found
     → IfSome (place_left found) (λ left. IsBeforeLeft text left error) → HasTomlPlace text error
 placed_of text fault.Memory error is stops at = λ denies. absurd (denied fault.Memory error is denies refl)
 placed_of text (fault.NotToml left) error is stops at = λ denies. (left, stops, at)

@@ -14,7 +14,7 @@ use Rattle.yaml_base.proofs.Common.{sequence_start, sequence_end, mapping_start,
 use Rattle.yaml_emitter.proofs.AcceptedLists.{Stays, after_event, few_open}
 use Rattle.yaml_json.proofs.WroteLemmas.{adds_then}
 use Rattle.yaml_toml.specs.Failing.{GaveFirst}
-use Rattle.yaml_toml.specs.OpenCounts.{Opens, open_after}
+use Rattle.yaml_toml.specs.OpenCounts.{Opens, count_after}
 use Rattle.yaml_toml.specs.Walk.{Moved, GaveSome, StepsStop, KeptAfterStop, PendingHaveNumbers, RestHasNumbers, keys_left, kinds_of, rest_kind, pending}
 use Rattle.yaml_toml.specs.Walk.{rest_events, HasInnermost}
 use Rattle.yaml_toml.specs.declared.walk.Rest.{Rest}
@@ -29,15 +29,15 @@ numbers-pull (outer ∷ inner) r have rest = (rest.0, numbers-pull inner r have 
 
 pub opens_fit : (most before behind : ℕ) (events : List Event) → Opens most before events behind → behind ≤ most
 opens_fit most before behind [] opens = omega (arith, opens.0, opens.1)
-opens_fit most before behind (event ∷ events) opens = opens_fit most (open_after event before) behind events opens.1
+opens_fit most before behind (event ∷ events) opens = opens_fit most (count_after event before) behind events opens.1
 
 pub opens_then : (most before between behind : ℕ) (first second : List Event) → Opens most before first between → Opens most between second behind
     → Opens most before (first ++ second) behind
 opens_then most before between behind [] second one other = subst (λ n. Opens most n second behind) (sym one.1) other
 opens_then most before between behind (event ∷ first) second one other =
-    (one.0, opens_then most (open_after event before) between behind first second one.1 other)
+    (one.0, opens_then most (count_after event before) between behind first second one.1 other)
 
-same_after : (event : Event) (n : ℕ) → open_after event n ≡ after_event event n
+same_after : (event : Event) (n : ℕ) → count_after event n ≡ after_event event n
 same_after (sequence_start start) n = refl
 same_after (mapping_start start) n = refl
 same_after sequence_end zero = refl
@@ -49,7 +49,7 @@ same_after event n = refl
 stays_if : (most before behind : ℕ) (events : List Event) → Opens most before events behind → Stays most before events
 stays_if most before behind [] opens = opens.0
 stays_if most before behind (event ∷ events) opens =
-    (opens.0, subst (λ n. Stays most n events) (same_after event before) (stays_if most (open_after event before) behind events opens.1))
+    (opens.0, subst (λ n. Stays most n events) (same_after event before) (stays_if most (count_after event before) behind events opens.1))
 
 -- no more after any prefix
 pub few_of : (most behind : ℕ) (events : List Event) → Opens most 0 events behind → (prefix rest : List Event) → prefix ++ rest ≡ events

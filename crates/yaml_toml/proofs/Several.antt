@@ -18,7 +18,7 @@ use Rattle.yaml_writer.proofs.Common.{plain_start}
 use Rattle.toml_ordered.specs.Data as toml
 use Rattle.yaml_toml.specs.Events.{toml_events}
 use Rattle.yaml_toml.specs.Means.{SchemaReader, by_11, by_core}
-use Rattle.yaml_toml.specs.Several.{AllMean, AreDocuments, DocumentsAreRead, ReadsAsTables, several_events}
+use Rattle.yaml_toml.specs.Several.{AllTablesMean, AreDocuments, DocumentsAreRead, ReadsAsTables, several_events}
 use Rattle.yaml_toml.specs.Walk.{KeysHaveNumbers}
 use Rattle.yaml_toml.proofs.TomlTrees.{node_flat, root_of, toml_document, toml_node, value_unsigned}
 use Rattle.yaml_toml.proofs.TomlMeanings.{ReadsToml, node_means, toml_by_11, toml_by_core}
@@ -148,7 +148,7 @@ module _ (s : Effective) (in_flow : Bool) where
       trees_after roots (documents_and before document)
       ∙ append_assoc (document_trees s before) (document_tree s document ∷ []) (map plain_document (trees_for roots))
 
-  trees_mean : (reader : SchemaReader) → ReadsToml reader → (roots : List toml.TomlNodes) → HaveNumbers roots → AllMean reader roots (trees_for roots)
+  trees_mean : (reader : SchemaReader) → ReadsToml reader → (roots : List toml.TomlNodes) → HaveNumbers roots → AllTablesMean reader roots (trees_for roots)
   trees_mean reader reads [] numbers = tt
   trees_mean reader reads (root ∷ roots) numbers =
       (node_means reader reads s (directives_in_force []) in_flow (root_of root) numbers.0 root_place, trees_mean reader reads roots numbers.1)

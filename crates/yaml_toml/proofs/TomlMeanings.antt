@@ -14,7 +14,7 @@ use Rattle.yaml_base.proofs.PlainUnderQuotes.{plain_under}
 use Rattle.yaml_base.proofs.stream_nodes.StreamAgrees.{tagging_in, nodes_tree, pairs_tree}
 use Rattle.json.specs.Json as json
 use Rattle.yaml_json.proofs.Meanings.{ReadsScalars, reads_by_11, reads_by_core, word_means, node_means as json_means}
-use Rattle.yaml_json.specs.Means.{canonical_tag, in_order, pairs_in_order, MeansText}
+use Rattle.yaml_json.specs.Means.{canonical_tag, trees_in_order, pairs_in_order, MeansText}
 use Rattle.yaml_writer.proofs.{PlainNumbers.written_numbers, DateLemmas.dates_read, DateLemmas.dates_plain, TimeLemmas.timestamps_read}
 use Rattle.yaml_writer.specs.Dates.{CalendarDate, date_text, is_calendar_date}
 use Rattle.yaml_writer.specs.Times.{Moment, ClockTime, is_moment, moment_in, timestamp_text}
@@ -178,7 +178,8 @@ module _ (reader : SchemaReader) (reads : ReadsToml reader) (s : Effective) (dir
   abbrev ItemsAfter : toml.Items → Nodes → (flow : Bool) → Type 0
   ItemsAfter items before flow =
       (trees : List Tree)
-      × (in_order (nodes_tree (items_nodes items s.canonical in_flow before) s directives flow) ≡ in_order (nodes_tree before s directives flow) ++ trees)
+      × (trees_in_order (nodes_tree (items_nodes items s.canonical in_flow before) s directives flow)
+      ≡ trees_in_order (nodes_tree before s directives flow) ++ trees)
       × ItemsMeanToml reader items trees
 
   abbrev KeysAfter : toml.TomlNodes → Pairs → (flow : Bool) → Type 0
@@ -248,21 +249,21 @@ module _ (reader : SchemaReader) (reads : ReadsToml reader) (s : Effective) (dir
         (sym (untagged s.canonical in_flow)) (
           after.0,
           pairs,
-          ap (λ (tag : Option Text). in_order (nodes_tree before s directives flow) ++ mapping_tree None tag pairs ∷ []) (untagged s.canonical in_flow)
+          ap (λ (tag : Option Text). trees_in_order (nodes_tree before s directives flow) ++ mapping_tree None tag pairs ∷ []) (untagged s.canonical in_flow)
               ∙ ap (λ (trees : List Tree). trees ++ mapping_tree None None pairs ∷ []) after.1,
           after.2,
           subst (KeysMean reader last) (sym keys.1) keys.2,
         )
 
     items_mean : (items : toml.Items) → ItemsHaveNumbers items → (before : Nodes) (flow : Bool) → ItemsAfter items before flow
-    items_mean toml.no_items numbers before flow = ([], sym (append-nil (in_order (nodes_tree before s directives flow))), tt)
+    items_mean toml.no_items numbers before flow = ([], sym (append-nil (trees_in_order (nodes_tree before s directives flow))), tt)
     items_mean (toml.item x items) numbers before flow =
         let node = toml_node x s.canonical in_flow in
         let place = entry_place flow (as_item (has_no_nodes before)) 0 in
         let tree = node_tree node s directives place in
         let after = items_mean items numbers.1 (nodes_and before node) flow in (
           tree ∷ after.0,
-          after.1 ∙ append_assoc (in_order (nodes_tree before s directives flow)) (tree ∷ []) after.0,
+          after.1 ∙ append_assoc (trees_in_order (nodes_tree before s directives flow)) (tree ∷ []) after.0,
           (node_means x numbers.0 place, after.2),
         )
 

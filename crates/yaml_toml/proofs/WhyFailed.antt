@@ -16,10 +16,10 @@ use Rattle.toml_ordered.specs.Data as toml
 use Rattle.toml_ordered.specs.Grammar.{ordered_document}
 use Rattle.yaml_toml.specs.Depth.{NestsWithin, document_nesting}
 use Rattle.yaml_toml.specs.Events.{toml_events}
-use Rattle.yaml_toml.specs.Failing.{FailsBy, GaveFirst, OverLimit, StopsInDocument}
+use Rattle.yaml_toml.specs.Failing.{TomlFailsBy, GaveFirst, OverLimit, StopsInDocument}
 use Rattle.toml_ordered.specs.declared.fault.Fault.{Fault}
 use Rattle.toml_ordered.specs.declared.fault.Fault.TheVariants as fault
-use Rattle.yaml_toml.specs.Walk.{WroteToml, fault_error, writers_error}
+use Rattle.yaml_toml.specs.Walk.{WroteToml, fault_error, toml_writers_error}
 use Rattle.yaml_toml.specs.declared.error.TomlError.{TomlError}
 use Rattle.yaml_toml.specs.declared.error.TomlError.TheVariants as errors
 use Rattle.yaml_toml.proofs.Accepting.{document_shallow, stream_shallow, stream_sound, toml_accepted}
@@ -131,22 +131,22 @@ module _ (given : Settings) (in_flow : Bool) (depth : ℕ) (text : List ℕ) (ro
             omega (arith, opened, fits)))
       ]
 
-      too_deep : FailsBy given in_flow depth text error
+      too_deep : TomlFailsBy given in_flow depth text error
       too_deep = inr (inr (is_depth, (allowed, record { root = root; read = read; deeper = deeper })))
 
-    by_kind : (error ≡ Memory) ⊎ ((error ≡ WriteError) ⊎ IsRefusal error) → FailsBy given in_flow depth text error
+    by_kind : (error ≡ Memory) ⊎ ((error ≡ WriteError) ⊎ IsRefusal error) → TomlFailsBy given in_flow depth text error
     by_kind (inl memory) = inl memory
     by_kind (inr (inl same)) = inr (inl (same, full same))
     by_kind (inr (inr refusal)) = too_deep (promises_refusal given (opening ++ first) state error stands.so is refusal)
 
-    pub failed_after : FailsBy given in_flow depth text error
+    pub failed_after : TomlFailsBy given in_flow depth text error
     failed_after = by_kind (which error)
 
   -- ---- a stream that couldn't be finished
 
   module _ (fits : document_nesting root ≤ depth) (state : State) (stands : StandsAfter given (opening ++ events) state) (error : yaml_error_t)
       (unfinished : IsUnfinished state error) where
-    not_accepted : IsRefusal error → FailsBy given in_flow depth text error
+    not_accepted : IsRefusal error → TomlFailsBy given in_flow depth text error
     not_accepted refusal =
         let none = unfinished.refused refusal given (opening ++ events) stands in
         let one = none.named in
@@ -157,18 +157,18 @@ module _ (given : Settings) (in_flow : Bool) (depth : ℕ) (text : List ℕ) (ro
           | inr few ↦ absurd (none.unaccepted (toml_accepted given.canonical in_flow root few))
         ]
 
-    unfailed : (error ≡ Memory) ⊎ ((error ≡ WriteError) ⊎ IsRefusal error) → FailsBy given in_flow depth text error
+    unfailed : (error ≡ Memory) ⊎ ((error ≡ WriteError) ⊎ IsRefusal error) → TomlFailsBy given in_flow depth text error
     unfailed (inl memory) = inl memory
     unfailed (inr (inl same)) = inr (inl (same, over_limit (unfinished.full same given (opening ++ events) stands)))
     unfailed (inr (inr refusal)) = not_accepted refusal
 
-    by_error : (found : Option yaml_error_t) → state.error ≡ found → FailsBy given in_flow depth text error
+    by_error : (found : Option yaml_error_t) → state.error ≡ found → TomlFailsBy given in_flow depth text error
     by_error None none = unfailed (which error)
     by_error (Some earlier) some =
         failed_after events (record { rest = []; parts = append-nil events }) (document_shallow given.canonical in_flow depth root fits) state stands error
         (some ∙ ap (λ (e : yaml_error_t). Some e) (sym (unfinished.first earlier some)))
 
-    pub unfinished_by : FailsBy given in_flow depth text error
+    pub unfinished_by : TomlFailsBy given in_flow depth text error
     unfinished_by = by_error state.error refl
 
 -- ---- what was given of a text
@@ -199,7 +199,7 @@ fault_memory (fault.DefinedAgain key first second) = tt
 
 module _ (depth : ℕ) (in_flow : Bool) (text : List ℕ) (was : WriterState) (error : TomlError) where
   -- no document was read
-  pub stops_unread : (found : Fault) → writers_error error ≡ fault_error found → StopsInDocument depth in_flow text was error was
+  pub stops_unread : (found : Fault) → toml_writers_error error ≡ fault_error found → StopsInDocument depth in_flow text was error was
   stops_unread found is = record {
     none = λ none. (refl, subst (λ (o : Option yaml_error_t). IfSome o (λ code. code ≡ Memory)) (sym is) (fault_memory found));
     first = λ root read. gave_nothing depth (toml_events was.canonical in_flow (root_of root)) was;
@@ -219,26 +219,26 @@ module _ (depth : ℕ) (in_flow : Bool) (text : List ℕ) (was : WriterState) (e
 module _ (given : Settings) (in_flow : Bool) (depth : ℕ) (text : List ℕ) (first now : WriterState) (stands : StandsTaken given opening [] first.emitter)
     (canonical : first.canonical ≡ given.canonical) where
   by_code : (code : yaml_error_t) → StopsInDocument depth in_flow text first (errors.Emitter code) now → (found : Option toml.TomlNodes)
-      → ordered_document text ≡ found → now.emitter.error ≡ Some code → FailsBy given in_flow depth text code
+      → ordered_document text ≡ found → now.emitter.error ≡ Some code → TomlFailsBy given in_flow depth text code
   by_code code stops None none is = inl (stops.none none).1
   by_code code stops (Some root) read is =
       let gave = subst (λ (c : Bool). GaveFirst depth (toml_events c in_flow (root_of root)) first now) canonical (stops.first root read) in
       failed_after given in_flow depth text root read gave.given gave.begins gave.few now.emitter (gave.adds given opening [] stands).stands code is
 
   said : (code : yaml_error_t) → StopsInDocument depth in_flow text first (errors.Emitter code) now → HasErrorSaid first (Some code) now
-      → FailsBy given in_flow depth text code
+      → TomlFailsBy given in_flow depth text code
   said code stops (inl memory) = inl memory.0
   said code stops (inr is) = by_code code stops (ordered_document text) refl is
 
-  pub text_failed : (error : TomlError) → StopsInDocument depth in_flow text first error now → HasErrorSaid first (writers_error error) now
-      → IfSome (writers_error error) (FailsBy given in_flow depth text)
+  pub text_failed : (error : TomlError) → StopsInDocument depth in_flow text first error now → HasErrorSaid first (toml_writers_error error) now
+      → IfSome (toml_writers_error error) (TomlFailsBy given in_flow depth text)
   text_failed (errors.NotToml line column) stops sound = tt
   text_failed (errors.DefinedAgain key first_line first_column line column) stops sound = tt
   text_failed errors.TooDeep stops sound = tt
   text_failed (errors.Emitter code) stops sound = said code stops sound
 
   pub finish_failed : WroteToml in_flow text first now → NestsWithin depth text → (error : yaml_error_t) → IsUnfinished now.emitter error
-      → FailsBy given in_flow depth text error
+      → TomlFailsBy given in_flow depth text error
   finish_failed wrote nests error unfinished =
       let stood = subst (λ (c : Bool). StandsTaken given (opening ++ toml_events c in_flow (root_of wrote.root)) [] now.emitter) canonical
       (wrote.wrote.adds given opening [] stands) in

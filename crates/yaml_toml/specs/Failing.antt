@@ -14,7 +14,7 @@ use Rattle.yaml_writer.specs.Unfinished.{PassesLimit}
 use Rattle.yaml_writer.specs.Writing.{AddsEvents, WriterState, closing, opening}
 use Rattle.yaml_toml.specs.Depth.{NestsDeeper, document_nesting}
 use Rattle.yaml_toml.specs.Events.{toml_events}
-use Rattle.yaml_toml.specs.Walk.{writers_error}
+use Rattle.yaml_toml.specs.Walk.{toml_writers_error}
 use Rattle.yaml_toml.specs.declared.error.TomlError.{TomlError}
 
 -- the first of these events were given, and never more than `depth` collections were open
@@ -27,7 +27,7 @@ pub record GaveFirst (depth : ℕ) (due : List Event) (was now : WriterState) : 
 -- the writer was given the first events of the document that the text is; where the text is none, nothing changed, and an error that is a
 -- writer's tells of an allocation
 pub record StopsInDocument (depth : ℕ) (in_flow : Bool) (text : List ℕ) (was : WriterState) (error : TomlError) (now : WriterState) : Type 0 where
-  pub none : ordered_document text ≡ None → (now ≡ was) × IfSome (writers_error error) (λ code. code ≡ Memory)
+  pub none : ordered_document text ≡ None → (now ≡ was) × IfSome (toml_writers_error error) (λ code. code ≡ Memory)
   pub first : (root : TomlNodes) → ordered_document text ≡ Some root → GaveFirst depth (toml_events was.canonical in_flow (table Header root)) was now
 
 -- ---- why no stream was written
@@ -47,7 +47,7 @@ abbrev pub NestsTooDeep : (depth : ℕ) → (text : List ℕ) → Type 0
 NestsTooDeep depth text = (most_open < depth) × NestsDeeper most_open text
 
 -- an allocation failed, the limit gave out, or too many collections were open
-abbrev pub FailsBy : Settings → (in_flow : Bool) → (depth : ℕ) → (text : List ℕ) → yaml_error_t → Type 0
-FailsBy given in_flow depth text error =
+abbrev pub TomlFailsBy : Settings → (in_flow : Bool) → (depth : ℕ) → (text : List ℕ) → yaml_error_t → Type 0
+TomlFailsBy given in_flow depth text error =
     (error ≡ Memory)
     ⊎ (((error ≡ WriteError) × OverLimit given in_flow text) ⊎ ((error ≡ TooDeep) × NestsTooDeep depth text))

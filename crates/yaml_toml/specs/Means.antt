@@ -14,7 +14,7 @@ use Rattle.yaml_base.specs.streams.StreamReader.{stream_trees}
 use Rattle.yaml_base.specs.values.Resolved.{Resolved, meant_boolean, meant_integer, meant_infinity, meant_nan, meant_text, meant_timestamp}
 use Rattle.yaml_base.specs.values.SchemaCore.{resolved_by_core}
 use Rattle.yaml_base.specs.values.SchemaOf11.{resolved_by_11}
-use Rattle.yaml_json.specs.Means.{Schema, scalar_meant, in_order, pairs_in_order, MeansNumber, MeansText, plain_document}
+use Rattle.yaml_json.specs.Means.{Schema, scalar_meant, trees_in_order, pairs_in_order, MeansNumber, MeansText, plain_document}
 use Rattle.yaml_writer.specs.Times.{Moment, moment_in}
 use Rattle.yaml_writer.specs.Writing.{IsStream, opening, closing, timestamp_tag}
 use Rattle.yaml_writer.specs.TomlDates.{moment_of}
@@ -58,10 +58,10 @@ abbrev mutual
   MeansToml reader not_a_number (scalar_tree anchor tagging value) = scalar_meant reader.schema tagging value ≡ meant_nan
   MeansToml reader (boolean flag) (scalar_tree anchor tagging value) = scalar_meant reader.schema tagging value ≡ meant_boolean flag
   MeansToml reader (datetime date) tree = MeansDate reader date (moment_of date) tree
-  MeansToml reader (array items) (sequence_tree anchor None trees) = ItemsMeanToml reader items (in_order trees)
+  MeansToml reader (array items) (sequence_tree anchor None trees) = ItemsMeanToml reader items (trees_in_order trees)
   MeansToml reader (table origin keys) (mapping_tree anchor None pairs) = KeysMean reader keys (pairs_in_order pairs)
   MeansToml reader (tables done last) (sequence_tree anchor None trees) =
-      (before : List Tree) × (pairs : TreePairs) × (in_order trees ≡ before ++ mapping_tree None None pairs ∷ [])
+      (before : List Tree) × (pairs : TreePairs) × (trees_in_order trees ≡ before ++ mapping_tree None None pairs ∷ [])
       × ItemsMeanToml reader done before × KeysMean reader last (pairs_in_order pairs)
   MeansToml reader _ _ = ⊥
 

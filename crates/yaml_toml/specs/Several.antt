@@ -28,18 +28,18 @@ several_events canonical in_flow (part ∷ next ∷ rest) =
     toml_events canonical in_flow (table Header part.1) ++ (between ++ several_events canonical in_flow (next ∷ rest))
 
 -- trees mean some tables, each its own, in order
-abbrev pub AllMean : SchemaReader → List TomlNodes → List Tree → Type 0
-AllMean reader [] [] = Unit {0}
-AllMean reader (root ∷ roots) (tree ∷ trees) = MeansToml reader (table Header root) tree × AllMean reader roots trees
-AllMean reader _ _ = ⊥
+abbrev pub AllTablesMean : SchemaReader → List TomlNodes → List Tree → Type 0
+AllTablesMean reader [] [] = Unit {0}
+AllTablesMean reader (root ∷ roots) (tree ∷ trees) = MeansToml reader (table Header root) tree × AllTablesMean reader roots trees
+AllTablesMean reader _ _ = ⊥
 
 -- what the reader of whole streams finds in some bytes: for each of these tables one document without directives, in order, whose root
 -- means the table by the type repository of YAML 1.1 and by the core schema of YAML 1.2
 pub record ReadsAsTables (breaks12 : Bool) (bytes : List ℕ) (roots : List TomlNodes) : Type 0 where
   pub trees : List Tree
   pub read : stream_trees breaks12 bytes ≡ Some (map plain_document trees)
-  pub means_by_11 : AllMean by_11 roots trees
-  pub means_by_core : AllMean by_core roots trees
+  pub means_by_11 : AllTablesMean by_11 roots trees
+  pub means_by_core : AllTablesMean by_core roots trees
 
 -- the bytes are the stream of the documents of these texts, and both schemas read them as their tables, in portable mode with the line
 -- breaks of YAML 1.1 and with those of 1.2

@@ -141,7 +141,7 @@ pub record Moved (was : WriterState) (events : List Event) (before after : List 
 -- some of the events that were due were given, and the others are pending; where all decimals that are pending are numbers, all that
 -- were due are; less than this is left; no more collections than the most are open meanwhile
 pub record GaveSome (most : ℕ) (in_flow : Bool) (was : WriterState) (due : List Event) (before : List CollectionKind) (numbers : Type 0) (size : ℕ)
-(now : WriterState)
+    (now : WriterState)
     (opened : List Rest) : Type 0 where
   pub given : List Event
   pub moved : Moved was given before (kinds_of opened) now
@@ -160,14 +160,14 @@ pub record StepsStop (most : ℕ) (was : WriterState) (due : List Event) (before
 -- ---- what a call returned
 
 -- the emitter has no error after a success, and after an error the one that is returned, unless an allocation of the call's own failed
-abbrev pub SoundAfter : WriterState → Result (Unit {0}) yaml_error_t → WriterState → Type 0
-SoundAfter was (Ok done) now = now.emitter.error ≡ None
-SoundAfter was (Err error) now = HasErrorSaid was (Some error) now
+abbrev pub StaysSoundAfterToml : WriterState → Result (Unit {0}) yaml_error_t → WriterState → Type 0
+StaysSoundAfterToml was (Ok done) now = now.emitter.error ≡ None
+StaysSoundAfterToml was (Err error) now = HasErrorSaid was (Some error) now
 
 -- and its text and its output only grow; after an error this event was given, or nothing changed
 pub record Answers (was : WriterState) (event : Event) (result : Result (Unit {0}) yaml_error_t) (now : WriterState) : Type 0 where
   pub grows : Grows was.emitter.page now.emitter.page
-  pub sound : SoundAfter was result now
+  pub sound : StaysSoundAfterToml was result now
   pub failed : IfErr result (λ error. FailedGiving was event error now)
 
 abbrev pub stop_error : Stop → Option yaml_error_t
@@ -192,14 +192,14 @@ pub record KeptAfterStop (was : WriterState) (result : Result (Unit {0}) Stop) (
   pub grows : Grows was.emitter.page now.emitter.page
   pub sound : SoundAfterStop was result now
 
-abbrev pub writers_error : TomlError → Option yaml_error_t
-writers_error (errors.Emitter error) = Some error
-writers_error _ = None
+abbrev pub toml_writers_error : TomlError → Option yaml_error_t
+toml_writers_error (errors.Emitter error) = Some error
+toml_writers_error _ = None
 
 -- the emitter has no error that it hadn't before after a success, and after an error the one that is returned, if any
-abbrev pub IsSound : WriterState → Result (Unit {0}) TomlError → WriterState → Type 0
-IsSound was (Ok done) now = StaysSound was now
-IsSound was (Err error) now = HasErrorSaid was (writers_error error) now
+abbrev pub IsSoundAfterToml : WriterState → Result (Unit {0}) TomlError → WriterState → Type 0
+IsSoundAfterToml was (Ok done) now = StaysSound was now
+IsSoundAfterToml was (Err error) now = HasErrorSaid was (toml_writers_error error) now
 
 -- ---- documents
 

@@ -7,10 +7,10 @@ ghost use Rattle.yaml_json.specs.Places.{AreOf};
 ghost use Rattle.yaml_json.specs.Wrote.{IsBare};
 ghost use Rattle.yaml_pen.specs.Wrote.{Grows};
 ghost use Rattle.yaml_toml.specs.Depth.{ExplainsDepth, NestsWithin};
-ghost use Rattle.yaml_toml.specs.Failing.{FailsBy, StopsInDocument};
+ghost use Rattle.yaml_toml.specs.Failing.{TomlFailsBy, StopsInDocument};
 ghost use Rattle.yaml_toml.specs.Means.{IsYamlOfToml};
 ghost use Rattle.yaml_toml.specs.Places.{HasConflict, HasTomlPlace, IsBeforeLeft};
-ghost use Rattle.yaml_toml.specs.Walk.{DeniesToml, IsSound, WroteToml, fault_error, stop_error, writers_error};
+ghost use Rattle.yaml_toml.specs.Walk.{DeniesToml, IsSoundAfterToml, WroteToml, fault_error, stop_error, toml_writers_error};
 
 use crate::error::TomlError;
 use crate::settings::TomlSettings;
@@ -29,7 +29,7 @@ fn place_before(text: &str, left: usize) -> (usize, usize)
 
 /// Returns the error that tells a caller of a fault of a text.
 fn error_of(text: &str, fault: Fault) -> TomlError
-    ensures error { writers_error result ≡ fault_error fault }
+    ensures error { toml_writers_error result ≡ fault_error fault }
     ensures place { IfSome (place_left fault) (λ left. IsBeforeLeft text.now left result) }
     ensures conflict { IsConflict text.now fault → HasConflict text.now result }
 {
@@ -55,7 +55,7 @@ fn error_of(text: &str, fault: Fault) -> TomlError
 
 /// Returns the error that tells a caller why a document isn't written.
 fn error_of_stop(stop: Stop) -> TomlError
-    ensures error { writers_error result ≡ stop_error stop }
+    ensures error { toml_writers_error result ≡ stop_error stop }
     ensures text { DeniesToml result → ⊥ }
 {
     match stop {
@@ -83,7 +83,7 @@ pub fn write_toml<A: Allocator + Copy>(
 ) -> Result<(), TomlError>
     requires { IsBare writer.old }
     ensures grows { Grows writer.old.emitter.page writer.new.emitter.page }
-    ensures sound { IsSound writer.old result writer.new }
+    ensures sound { IsSoundAfterToml writer.old result writer.new }
     ensures written { OnOk result (WroteToml settings.flow text.now writer.old writer.new) }
     ensures nests { OnOk result (NestsWithin settings.depth text.now) }
     ensures refused { IfErr result (λ error. DeniesToml error → ordered_document text.now ≡ None) }
@@ -117,8 +117,8 @@ pub fn yaml_from_toml(
     ensures nests { OnOk result (NestsWithin settings.depth text.now) }
     ensures refused { IfErr result (λ error. DeniesToml error → ordered_document text.now ≡ None) }
     ensures deep { IfErr result (ExplainsDepth settings.depth text.now) }
-    ensures failed { IfErr result (λ error. IfSome (writers_error error)
-        (FailsBy (seen_settings settings.writer) settings.flow settings.depth text.now)) }
+    ensures failed { IfErr result (λ error. IfSome (toml_writers_error error)
+        (TomlFailsBy (seen_settings settings.writer) settings.flow settings.depth text.now)) }
     ensures place { IfErr result (HasTomlPlace text.now) }
     ensures conflict { IfErr result (HasConflict text.now) }
 {

@@ -5,7 +5,7 @@ use Rattle.yaml_base.proofs.Common.{codes, fold, any_style, block, scalar, seque
 use Rattle.yaml_base.proofs.Common.{NumberPair, scalar_held, sequence_held, mapping_held, string_tag, sequence_tag, mapping_tag}
 use Rattle.std.specs.List.{slice_get}
 use Rattle.yaml_dump.specs.InOrder.{in_order}
-use Rattle.yaml_dump.specs.Composition.{at_start, composed}
+use Rattle.yaml_dump.specs.Composition.{nothing_composed, composed}
 
 abbrev string_of : Text → GraphNode
 string_of value = record { tag = string_tag; held = scalar_held value any_style }
@@ -27,7 +27,7 @@ abbrev a_sequence : Option Text → Event
 a_sequence anchor = sequence_start (record { anchor = anchor; tag = Some sequence_tag; implicit = true; style = block })
 
 abbrev composed_of : List Event → List GraphNode
-composed_of events = (fold composed (at_start (length events)) events).nodes
+composed_of events = (fold composed (nothing_composed (length events)) events).nodes
 
 -- node 3 is entered before node 2, and node 4 isn't reached; a mapping's key comes before its value
 exchanged : nodes_in_order (sequence_of (3 ∷ 2 ∷ 3 ∷ []) ∷ string_of (codes "b") ∷ sequence_of (1 ∷ []) ∷ string_of (codes "c") ∷ [])

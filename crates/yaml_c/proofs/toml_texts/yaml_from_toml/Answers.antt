@@ -3,7 +3,7 @@ use Rattle.yaml_c.proofs.TomlLemmas.{right_toml}
 use Rattle.std.specs.Prelude.{IsUtf8}
 use Rattle.std.proofs.Common.{ap, refl}
 use Rattle.yaml_c.specs.{Answers.CopiesToCaller, Answers.results_failed, Arena.is_on, declared.results.CallResult.CallResult}
-use Rattle.yaml_c.specs.TomlAnswers.{Answer, IsAnswer, answer_of, is_no_text, toml_results}
+use Rattle.yaml_c.specs.TomlAnswers.{TomlAnswer, IsTomlAnswer, toml_answer_of, is_no_text, toml_results}
 use Rattle.yaml_c.proofs.toml_texts.yaml_from_toml.Goals as goal
 
 pub returns : goal.returns
@@ -12,7 +12,7 @@ returns c =
     let s = c.toml_settings_from-settings.result in
     let by = c.toml_settings_from-settings.ensures in
     let call = c.yaml_from_toml.ensures in
-    let answer : Answer = answer_of c.yaml_from_toml.result in
+    let answer : TomlAnswer = toml_answer_of c.yaml_from_toml.result in
     let same : c.in-Ok.content.now ≡ c.args.text.now = search rules in
     let fits : to_z w32 (of_z w32 c.move_toml.result) ≡ c.move_toml.result = search rules in
     let text = c.args.text.now in
@@ -20,9 +20,9 @@ returns c =
     let right = right_toml writer s.flow c.in-Ok.content.now c.yaml_from_toml.result (subst IsUtf8 (sym same) c.in-Ok.ensures.cases.1) call.stream
     call.refused in (
       answer,
-      subst (λ (x : Settings). IsAnswer x (is_on given.flow) text answer) by.writer
-          (subst (λ (x : Bool). IsAnswer writer x text answer) by.flow
-          (subst (λ (x : List ℕ). IsAnswer writer s.flow x answer) same right)),
+      subst (λ (x : Settings). IsTomlAnswer x (is_on given.flow) text answer) by.writer
+          (subst (λ (x : Bool). IsTomlAnswer writer x text answer) by.flow
+          (subst (λ (x : List ℕ). IsTomlAnswer writer s.flow x answer) same right)),
       subst (λ (status : ℤ). CopiesToCaller (toml_results answer c.args.out.now) status c.move_toml.new.out c.move_toml.new.report) (sym fits)
           c.move_toml.ensures,
     )

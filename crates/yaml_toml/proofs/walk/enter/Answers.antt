@@ -6,7 +6,7 @@ use Rattle.std.proofs.lemmas.Grind.{common_steps}
 use Rattle.yaml_toml.proofs.Fitting.{fits_enter, fits_memory, fits_of}
 use Rattle.yaml_toml.proofs.Halting.{halts_at_once, halts_of}
 use Rattle.yaml_toml.proofs.Pending.{kinds_length, steps_enter}
-use Rattle.yaml_toml.specs.OpenCounts.{open_after}
+use Rattle.yaml_toml.specs.OpenCounts.{count_after}
 use Rattle.yaml_toml.specs.Walk.{Answers, Moved, rest_kind, kinds_of}
 use Rattle.yaml_toml.specs.declared.walk.Rest.{Rest}
 use Rattle.yaml_base.specs.declared.kinds.CollectionKind.TheVariants.{Mapping, Sequence}
@@ -21,7 +21,7 @@ returns-in-Err-clause-nests g c = fits_memory c.args.settings.now.depth _ c.in-E
 pub returns-in-Err-clause-stopped : goal.returns-in-Err-clause-stopped
 returns-in-Err-clause-stopped g c = halts_at_once c.args.settings.now.depth c.args.writer.now _ _
 
-opened_fits : (in_flow : Bool) (kind : CollectionKind) (most before : ℕ) → suc before ≤ most → open_after (start_event in_flow kind) before ≤ most
+opened_fits : (in_flow : Bool) (kind : CollectionKind) (most before : ℕ) → suc before ≤ most → count_after (start_event in_flow kind) before ≤ most
 opened_fits in_flow Sequence most before room = room
 opened_fits in_flow Mapping most before room = room
 
