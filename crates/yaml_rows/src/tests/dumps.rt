@@ -1,4 +1,5 @@
 //! Documents dumped, as tests write them.
+mod composing;
 mod events;
 mod large;
 mod steps;
