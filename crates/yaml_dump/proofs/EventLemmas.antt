@@ -62,7 +62,7 @@ events_more of walk index default start before after inside is adds =
     ∙ append_assoc start (flat_map of so_far) (of next)
     ∙ ap (λ (events : List Event). start ++ (flat_map of so_far ++ events)) (sym (append-nil (of next)))
     ∙ ap (λ (events : List Event). start ++ events) (sym (flat_map-append of so_far (next ∷ [])))
-    ∙ ap (λ (steps : List Step). start ++ flat_map of graph_steps) (sym (seen_more walk index default inside))
+    ∙ ap (λ (steps : List Step). start ++ flat_map of steps) (sym (seen_more walk index default inside))
 
 -- the events of a walk between those of the document
 pub events_walked : {A : Type 0} (graph : Graph) (walk : List Step) (end_implicit : Bool) (begun walked ended : List (yaml_event_t A))

@@ -32,7 +32,7 @@ none_counted test (step ∷ rest) none =
 once_before : (test : Step → Bool) (walk : List Step) (index : ℕ) (default : Step) → count_by test walk ≤ 1 → index < length walk
     → test (get_or walk index default) ≡ true → list_any test (take index walk) ≡ false
 once_before test walk index default few inside is =
-    let counted = λ (steps : List Step). count_by test graph_steps in
+    let counted = λ (steps : List Step). count_by test steps in
     let whole : counted (take (index + 1) walk) + counted (drop (index + 1) walk) ≡ counted walk =
     sym (sum_by-append (λ (other : Step). cond (test other) 1 0) (take (index + 1) walk) (drop (index + 1) walk))
     ∙ ap counted (take-append-drop (index + 1) walk) in
@@ -58,7 +58,7 @@ pub next_is_first : (graph : Graph) (walk : List declared.Step) (index : ℕ) (d
     → IsFirstEntry (map seen_step (take index walk)) (seen_step (get_or walk index default))
 next_is_first graph walk index default whole inside number is =
     let within : index < length (map seen_step walk) = omega (arith, length-map walk seen_step) in
-    subst (λ (steps : List Step). list_any (is_entry_of number) graph_steps ≡ false) (take-map seen_step index walk)
+    subst (λ (steps : List Step). list_any (is_entry_of number) steps ≡ false) (take-map seen_step index walk)
     (first_entry graph (map seen_step walk) index number (seen_step default) whole within
     (get_or-map seen_step walk index default (seen_step default) inside ∙ is))
 
