@@ -17,7 +17,8 @@ use Rattle.yaml_json.proofs.Common.{zero, ◌+◌, IsScalar}
 use Rattle.yaml_json.specs.Begins.{BeginsSome}
 use Rattle.yaml_json.specs.Walk.{CouldStandOther, GoesOn, IsSpot, NoStringNext, NoStringStands, WhereStopped, spot_of}
 use Rattle.yaml_json.specs.declared.values.Spot.{Spot}
-use Rattle.yaml_emitter.specs.declared.place.{CollectionKind.CollectionKind, CollectionKind.TheVariants.Mapping, CollectionKind.TheVariants.Sequence}
+use Rattle.yaml_base.specs.declared.kinds.CollectionKind.{CollectionKind}
+use Rattle.yaml_base.specs.declared.kinds.CollectionKind.TheVariants.{Mapping, Sequence}
 use Rattle.yaml_json.specs.declared.error.JsonError.TheVariants as errors
 use Rattle.yaml_json.specs.declared.values.Stop.TheVariants as stops
 

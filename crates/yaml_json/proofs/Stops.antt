@@ -13,7 +13,8 @@ use Rattle.yaml_json.specs.declared.values.Spot.{Spot}
 use Rattle.yaml_json.specs.declared.values.Spot.TheVariants.{At, PastString, PastValue}
 use Rattle.yaml_base.specs.declared.errors.yaml_error_t.TheVariants.{Memory}
 use Rattle.yaml_json.specs.{Walk.ReadsNone, declared.names.Names.Names, declared.values.Stop.Stop}
-use Rattle.yaml_emitter.specs.declared.place.{CollectionKind.CollectionKind, CollectionKind.TheVariants.Mapping, CollectionKind.TheVariants.Sequence}
+use Rattle.yaml_base.specs.declared.kinds.CollectionKind.{CollectionKind}
+use Rattle.yaml_base.specs.declared.kinds.CollectionKind.TheVariants.{Mapping, Sequence}
 use Rattle.yaml_json.specs.declared.values.Stop.TheVariants as stops
 
 -- no token is read

@@ -8,7 +8,8 @@ use Rattle.json.proofs.Grammar.{members_fail, members_more, skip_value-shorter}
 use Rattle.json.specs.{Json.items, Json.members, Reads.skip_items, Reads.skip_members}
 use Rattle.yaml_json.{proofs.NameLemmas.once_both, proofs.NameLemmas.once_is_unique, proofs.TokenLemmas.value_spelled, specs.Begins.BeginsAllowed}
 use Rattle.yaml_json.{specs.Walk.skip_rest, specs.Walk.LeavesOpenAt, specs.Walk.BeginsValueBy}
-use Rattle.yaml_emitter.specs.declared.place.{CollectionKind.CollectionKind, CollectionKind.TheVariants.Mapping, CollectionKind.TheVariants.Sequence}
+use Rattle.yaml_base.specs.declared.kinds.CollectionKind.{CollectionKind}
+use Rattle.yaml_base.specs.declared.kinds.CollectionKind.TheVariants.{Mapping, Sequence}
 
 -- ---- the number that bounds the turns plays no part
 
