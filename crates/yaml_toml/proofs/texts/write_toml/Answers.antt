@@ -23,6 +23,3 @@ returns-in-Err-clause-stopped g c =
 
 pub returns-in-Err-clause-conflict : goal.returns-in-Err-clause-conflict
 returns-in-Err-clause-conflict g c = c.error_of.ensures.conflict c.in-Err.ensures.conflict
-
-pub returns-in-Err-write_root-clause-conflict : goal.returns-in-Err-write_root-clause-conflict
-returns-in-Err-write_root-clause-conflict g c = no_conflict c.args.text.now c.error_of_stop.result c.error_of_stop.ensures.text
