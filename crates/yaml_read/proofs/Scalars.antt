@@ -28,14 +28,14 @@ use Rattle.yaml_read.proofs.Escapes.{Stands, as_itself, as_escape, stands}
 use Rattle.yaml_read.proofs.Firsts.{AfterBackslash, by_letter, by_two, by_four, after_backslash}
 use Rattle.yaml_read.proofs.Remaining.{readable_root}
 
-both : (a b : Text) → all_scalars a ≡ true → all_scalars b ≡ true → all_scalars (a ++ b) ≡ true
-both [] b ha hb = hb
-both (c ∷ a) b ha hb = let parts = and_parts (scalar c) (all_scalars a) ha in and_from _ _ parts.0 (both a b parts.1 hb)
+pub joined_scalars : (a b : Text) → all_scalars a ≡ true → all_scalars b ≡ true → all_scalars (a ++ b) ≡ true
+joined_scalars [] b ha hb = hb
+joined_scalars (c ∷ a) b ha hb = let parts = and_parts (scalar c) (all_scalars a) ha in and_from _ _ parts.0 (joined_scalars a b parts.1 hb)
 
 one : (c : ℕ) → scalar c ≡ true → all_scalars (c ∷ []) ≡ true
 one c h = and_from (scalar c) true h refl
 
-spaces_scalars : (n : ℕ) → all_scalars (replicate n space) ≡ true
+pub spaces_scalars : (n : ℕ) → all_scalars (replicate n space) ≡ true
 spaces_scalars zero = refl
 spaces_scalars (suc n) = spaces_scalars n
 
@@ -45,7 +45,7 @@ digit_scalar n = agree_below_at (λ d. scalar (hex_digit d)) (λ d. true) 16 (n 
 digits_scalars : (count n : ℕ) → all_scalars (hex_digits count n) ≡ true
 digits_scalars zero n = refl
 digits_scalars (suc count) n =
-    both (hex_digits count (n / 16)) (hex_digit (n % 16) ∷ []) (digits_scalars count (n / 16))
+    joined_scalars (hex_digits count (n / 16)) (hex_digit (n % 16) ∷ []) (digits_scalars count (n / 16))
     (one (hex_digit (n % 16)) (digit_scalar n))
 
 meaning_scalar : (letters meanings : Text) (c meaning : ℕ) → all_scalars letters ≡ true → meaning_among letters meanings c ≡ Some meaning
@@ -79,10 +79,10 @@ inside_scalars : (text : Text) → all_scalars text ≡ true → all_scalars (fl
 inside_scalars [] h = refl
 inside_scalars (c ∷ text) h =
     let parts = and_parts (scalar c) (all_scalars text) h in
-    both (character_text true c) (flat_map (character_text true) text) (character_scalars c parts.0) (inside_scalars text parts.1)
+    joined_scalars (character_text true c) (flat_map (character_text true) text) (character_scalars c parts.0) (inside_scalars text parts.1)
 
-quotes_scalars : (text : Text) → all_scalars text ≡ true → all_scalars (in_quotes text) ≡ true
-quotes_scalars text h = both (flat_map (character_text true) text) (quote ∷ []) (inside_scalars text h) refl
+pub quotes_scalars : (text : Text) → all_scalars text ≡ true → all_scalars (in_quotes text) ≡ true
+quotes_scalars text h = joined_scalars (flat_map (character_text true) text) (quote ∷ []) (inside_scalars text h) refl
 
 -- the digits of an integer
 pub int_scalars : (n : ℤ) → mag n < 2 ^ 63 → all_scalars (signed_decimal n) ≡ true
@@ -96,8 +96,8 @@ lead_scalars bracket false h = refl
 
 end_scalars : (opens closes : Text) (column : ℕ) (empty : Bool) → all_scalars opens ≡ true → all_scalars closes ≡ true
     → all_scalars (entries_end opens closes column empty) ≡ true
-end_scalars opens closes column true ho hc = both opens closes ho hc
-end_scalars opens closes column false ho hc = both (line_at column) closes (spaces_scalars column) hc
+end_scalars opens closes column true ho hc = joined_scalars opens closes ho hc
+end_scalars opens closes column false ho hc = joined_scalars (line_at column) closes (spaces_scalars column) hc
 
 mutual
   value_scalars : (value : TypedValue) (column depth : ℕ) → CanBeReadAt depth value → all_scalars (value_text column value) ≡ true
@@ -107,34 +107,34 @@ mutual
   value_scalars (int_value n) column depth readable = quotes_scalars (signed_decimal n) (int_scalars n readable)
   value_scalars (text_value text) column depth readable = quotes_scalars text readable
   value_scalars (list_value items) column depth readable =
-      both (items_text (column + 2) items) _ (items_scalars items (column + 2) (suc depth) readable.1)
+      joined_scalars (items_text (column + 2) items) _ (items_scalars items (column + 2) (suc depth) readable.1)
       (end_scalars (codes "[") (codes "]") column (has_no_values items) refl refl)
   value_scalars (map_value pairs) column depth readable =
-      both (pairs_text (column + 2) pairs) _ (pairs_scalars pairs (column + 2) (suc depth) readable.1)
+      joined_scalars (pairs_text (column + 2) pairs) _ (pairs_scalars pairs (column + 2) (suc depth) readable.1)
       (end_scalars (codes "{") (codes "}") column (has_no_value_pairs pairs) refl refl)
 
   items_scalars : (items : TypedValues) (column depth : ℕ) → AllCanBeReadAt depth items → all_scalars (items_text column items) ≡ true
   items_scalars no_values column depth readable = refl
   items_scalars (values_and items item) column depth readable =
-      both (items_text column items) _ (items_scalars items column depth readable.0)
-      (both (entry_lead (codes "[") (has_no_values items)) _ (lead_scalars (codes "[") (has_no_values items) refl)
-      (both (line_at column) (value_text column item) (spaces_scalars column) (value_scalars item column depth readable.1)))
+      joined_scalars (items_text column items) _ (items_scalars items column depth readable.0)
+      (joined_scalars (entry_lead (codes "[") (has_no_values items)) _ (lead_scalars (codes "[") (has_no_values items) refl)
+      (joined_scalars (line_at column) (value_text column item) (spaces_scalars column) (value_scalars item column depth readable.1)))
 
   pairs_scalars : (pairs : TypedPairs) (column depth : ℕ) → PairsCanBeReadAt depth pairs → all_scalars (pairs_text column pairs) ≡ true
   pairs_scalars no_value_pairs column depth readable = refl
   pairs_scalars (value_pairs_and pairs key value) column depth readable =
-      both (pairs_text column pairs) _ (pairs_scalars pairs column depth readable.0)
-      (both (entry_lead (codes "{") (has_no_value_pairs pairs)) _ (lead_scalars (codes "{") (has_no_value_pairs pairs) refl)
-      (both (line_at column) _ (spaces_scalars column)
-      (both (codes "? ") (value_text column key ++ (line_at column ++ (codes ": " ++ value_text column value))) refl
-      (both (value_text column key) (line_at column ++ (codes ": " ++ value_text column value)) (value_scalars key column depth readable.1.0)
-      (both (line_at column) (codes ": " ++ value_text column value) (spaces_scalars column)
-      (both (codes ": ") (value_text column value) refl (value_scalars value column depth readable.1.1)))))))
+      joined_scalars (pairs_text column pairs) _ (pairs_scalars pairs column depth readable.0)
+      (joined_scalars (entry_lead (codes "{") (has_no_value_pairs pairs)) _ (lead_scalars (codes "{") (has_no_value_pairs pairs) refl)
+      (joined_scalars (line_at column) _ (spaces_scalars column)
+      (joined_scalars (codes "? ") (value_text column key ++ (line_at column ++ (codes ": " ++ value_text column value))) refl
+      (joined_scalars (value_text column key) (line_at column ++ (codes ": " ++ value_text column value)) (value_scalars key column depth readable.1.0)
+      (joined_scalars (line_at column) (codes ": " ++ value_text column value) (spaces_scalars column)
+      (joined_scalars (codes ": ") (value_text column value) refl (value_scalars value column depth readable.1.1)))))))
 
 -- a document's bytes are UTF-8
 pub document_utf8 : (value : TypedValue) → CanBeRead value → IsUtf8 (encode_utf8_all (document_text value))
 document_utf8 value readable =
-    (document_text value, (both (value_text 0 value) (line_feed ∷ []) (value_scalars value 0 0 (readable_root value readable)) refl, refl))
+    (document_text value, (joined_scalars (value_text 0 value) (line_feed ∷ []) (value_scalars value 0 0 (readable_root value readable)) refl, refl))
 
 -- the bytes of an integer's digits
 pub digits_are : {A : Type 0} (digits : String A) (n : ℤ) → mag n < 2 ^ 63 → seen_text digits ≡ signed_decimal n → string_bytes digits ≡

@@ -10,3 +10,10 @@ pub mod Sound
 pub mod Grammar
 pub mod TextsAndWords
 pub mod Places
+pub mod EventTexts
+pub mod RunPlaces
+pub mod DocumentTexts
+pub mod DocumentPlaces
+pub mod Awaits
+pub mod EventSteps
+pub mod WrittenTags

@@ -65,6 +65,7 @@ IsPlaced bytes (told.NotCanonical line column) =
 IsPlaced bytes (told.TooDeep line column) =
     (at : ℕ) × (line ≡ line_of bytes at) × (column ≡ column_of bytes at)
     × ((left : ℕ) × IsUtf8 bytes × (at ≡ length bytes - left) × IsBehindMarker bytes (λ whole. OpensPastDepth whole left))
+IsPlaced bytes told.NotNumbered = ⊥
 IsPlaced bytes told.Memory = Unit {0}
 
 -- ---- the code's answers

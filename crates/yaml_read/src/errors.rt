@@ -12,12 +12,16 @@ pub enum ReadError {
     /// They are no value's canonical bytes. The first word that can't stand where it stands begins here: a tag, a bracket,
     /// a comma, a line's end, a level's two spaces, `? ` or `: ` with the two spaces before it, a character of a text or its
     /// escape, another scalar with its quotes. Where they end too early, a word is missing or cut off here. Where they aren't
-    /// UTF-8, this is the end of their longest prefix that is.
+    /// UTF-8, this is the end of their longest prefix that is. By `read_document` they are no document's, and the place lies in the
+    /// first event that can't stand where it stands, or behind the root.
     #[error("line {line}, column {column}: not canonical")]
     NotCanonical { line: usize, column: usize },
     /// Lists and maps nest more than 1,000 deep. The first that lies too deep begins here.
     #[error("line {line}, column {column}: lists and maps nest too deep")]
     TooDeep { line: usize, column: usize },
+    /// They are laid out as those of a document, but no dump gives its nodes these anchors and aliases. It has no place.
+    #[error("anchors and aliases are not those that a dump numbers")]
+    NotNumbered,
     /// An allocation failed.
     #[error("out of memory")]
     Memory,

@@ -1,14 +1,22 @@
-//! Canonical YAML read as typed values: what `write_canonical` writes, and nothing else.
+//! Canonical YAML read as typed values: what `write_canonical` writes, and nothing else. So are documents, from what their dumps write.
 #![tactic(auto)]
 
 mod cuts;
+mod documents;
 mod errors;
 mod heads;
 mod laws;
+mod leads;
 mod levels;
+mod names;
+mod nodes;
 mod quoted;
 mod reading;
+mod runs;
+mod steps;
+mod tags;
 
+pub use documents::read_document;
 pub use errors::ReadError;
 pub use laws::{texts_begin_up_to_places, words_are_those_of_texts};
 pub use reading::read_canonical;

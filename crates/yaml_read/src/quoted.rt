@@ -93,7 +93,7 @@ fn read_digit(text: &str) -> Option<(u32, &str)>
 }
 
 /// Returns a number of two hexadecimal digits, and what follows.
-fn read_two_digits(text: &str) -> Option<(u32, &str)>
+pub(crate) fn read_two_digits(text: &str) -> Option<(u32, &str)>
     ensures reads { (n : ℕ) (rest : Text) → n < 256 → text.now ≡ encode_utf8_all (hex_digits 2 n ++ rest)
         → MatchOption result ⊥ (λ found. (found.0 ≡ n) × (found.1.now ≡ encode_utf8_all rest)) }
     ensures sound { IfSome result (λ found. text.now ≡ encode_utf8_all (hex_digits 2 found.0) ++ found.1.now) }

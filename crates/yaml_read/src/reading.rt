@@ -94,14 +94,16 @@ fn read_text<A: Allocator + Copy>(alloc: A, text: &str) -> Result<Value<A>, Stop
     }
 }
 
-fn not_canonical(bytes: &[u8], offset: usize) -> ReadError
+/// Returns that the bytes stop to be canonical at an offset.
+pub(crate) fn not_canonical(bytes: &[u8], offset: usize) -> ReadError
     ensures { IsNotCanonicalAt bytes.now offset result }
 {
     let (line, column) = place_of(bytes, offset);
     ReadError::NotCanonical { line, column }
 }
 
-fn error_of(bytes: &[u8], stop: Stop) -> ReadError
+/// Returns the error of why the reader stops, with its place.
+pub(crate) fn error_of(bytes: &[u8], stop: Stop) -> ReadError
     ensures tells { Tells stop result }
     ensures place { HasPlaceOf bytes.now stop result }
 {

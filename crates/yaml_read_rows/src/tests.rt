@@ -1,7 +1,8 @@
-//! Canonical bytes read as typed values.
+//! Canonical bytes read as typed values, and as documents.
 mod callers;
 mod calling;
 mod depths;
+mod documents;
 mod json;
 mod places;
 mod random;

@@ -1,3 +1,4 @@
 //! The examples of the documents.
+mod documents;
 mod store;
 mod typed;

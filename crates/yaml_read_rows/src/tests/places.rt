@@ -95,6 +95,10 @@ const PRINTED: &[(ReadError, &str)] = &[
         },
         "line 1002, column 2001: lists and maps nest too deep",
     ),
+    (
+        ReadError::NotNumbered,
+        "anchors and aliases are not those that a dump numbers",
+    ),
     (ReadError::Memory, "out of memory"),
 ];
 

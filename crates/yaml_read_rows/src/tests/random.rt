@@ -6,12 +6,12 @@ use yaml_read::Value;
 
 /// Numbers that follow from a seed (a linear congruence, of which the high bits are used).
 #[derive(Drop)]
-struct Random {
-    state: u64,
+pub(super) struct Random {
+    pub(super) state: u64,
 }
 
 impl Random {
-    fn next(&mut self) -> u64 {
+    pub(super) fn next(&mut self) -> u64 {
         self.state = self
             .state
             .wrapping_mul(6_364_136_223_846_793_005)
@@ -20,12 +20,12 @@ impl Random {
     }
 
     /// Returns a number below a bound, which isn't 0.
-    fn below(&mut self, bound: u64) -> u64 {
+    pub(super) fn below(&mut self, bound: u64) -> u64 {
         self.next().checked_rem(bound).unwrap_or(0)
     }
 
     /// Returns the same of an index.
-    fn small(&mut self, bound: usize) -> usize {
+    pub(super) fn small(&mut self, bound: usize) -> usize {
         let bound = u64::try_from(bound).unwrap_or(1);
         usize::try_from(self.below(bound)).unwrap_or(0)
     }
@@ -73,7 +73,7 @@ fn random_character(random: &mut Random) -> char {
     char::from_u32(u32::try_from(random.below(0x11_0000)).unwrap_or(0)).unwrap_or(' ')
 }
 
-fn random_text(rt: &impl Abort, alloc: Global, random: &mut Random) -> String {
+pub(super) fn random_text(rt: &impl Abort, alloc: Global, random: &mut Random) -> String {
     let mut text = String::new(alloc);
     for _ in 0..random.below(6) {
         text.push(random_character(random)).expect(rt, "no memory");

@@ -5,7 +5,13 @@ use std::alloc::Global;
 use std::process::Abort;
 
 /// Returns the bytes with this one in place of the one at an offset.
-fn replaced(rt: &impl Abort, alloc: Global, bytes: &[u8], offset: usize, byte: u8) -> Vec<u8> {
+pub(super) fn replaced(
+    rt: &impl Abort,
+    alloc: Global,
+    bytes: &[u8],
+    offset: usize,
+    byte: u8,
+) -> Vec<u8> {
     let mut spoiled = Vec::from_slice(alloc, bytes).expect(rt, "no memory");
     if let Some(place) = spoiled.get_mut(offset) {
         *place = byte;

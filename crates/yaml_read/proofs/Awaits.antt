@@ -1,0 +1,274 @@
+-- What is open in the code, and what stands before an event.
+use Rattle.yaml_base.proofs.Common.{ℕ, ◌-◌, ◌+◌, ◌*◌, ◌<◌, ◌≤◌, suc, Bool, true, false, Option, None, Some, List, [], ◌∷◌, ◌++◌, refl, ◌≡◌, ap, subst, sym, ◌∙◌}
+use Rattle.yaml_base.proofs.Common.{append_assoc, append-nil, arith, codes, false≢true, length, length-append, Text, encode_utf8_all}
+use Rattle.std.proofs.lemmas.List.{append_cancel_left}
+use Rattle.std.specs.Borrow.{Bor}
+use Rattle.std.specs.Option.{MatchOption}
+use Rattle.std.specs.Prelude.{Result, Ok, Err, IfErr, IfOk, Vec}
+use Rattle.std.specs.Result.{IsErr, IsErrAnd}
+use Rattle.std.proofs.Common.{vec_len}
+use Rattle.std.specs.Option.{option_to_list}
+use Rattle.yaml_base.specs.values.ValueText.{line_at}
+use Rattle.yaml_read.specs.Awaits.{EntryStands, IsInnermostAwait, IsLastAwait, LeadStands, awaits_onto, can_end, seen_await, seen_awaits}
+use Rattle.yaml_read.specs.EventTexts.{Awaited, closing_text, item_awaited, key_awaited, lead_text, next_awaited, open_behind, outside, trail_text}
+use Rattle.yaml_read.specs.EventTexts.{value_awaited}
+use Rattle.yaml_read.specs.Places.{IsHere, LacksLevel, LacksLine, no_level, no_line}
+use Rattle.yaml_read.specs.RunPlaces.{StopsWithin}
+use Rattle.yaml_read.specs.Words.{OrMemory, past_word}
+use Rattle.yaml_read.specs.declared.errors.Stop.{Stop}
+use Rattle.yaml_read.specs.declared.errors.Stop.TheVariants as stop
+use Rattle.yaml_read.specs.declared.leads.Await.{Await}
+use Rattle.yaml_read.specs.declared.levels.Entry.{Entry}
+use Rattle.yaml_read.specs.declared.levels.Entry.TheVariants.{Another, End}
+use Rattle.yaml_read.proofs.Encoded.{are_ascii, line_encoded, word_encoded}
+use Rattle.yaml_read.proofs.Turns.{line_deeper}
+use Rattle.yaml_read.proofs.Words.{at_exit, error_stays, memory_is, no_word}
+
+-- ---- the code's list
+
+onto_more : (outer : List Awaited) (awaits : List Await) (awaited : Await) → awaits_onto outer (awaits ++ awaited ∷ []) ≡ seen_await awaited ∷ awaits_onto outer awaits
+onto_more outer [] awaited = refl
+onto_more outer (first ∷ awaits) awaited = onto_more (seen_await first ∷ outer) awaits awaited
+
+pub await_more : (awaits : List Await) (awaited : Await) → seen_awaits (awaits ++ awaited ∷ []) ≡ seen_await awaited ∷ seen_awaits awaits
+await_more awaits awaited = onto_more [] awaits awaited
+
+onto_length : (outer : List Awaited) (awaits : List Await) → length (awaits_onto outer awaits) ≡ length outer + length awaits
+onto_length outer [] = omega arith
+onto_length outer (first ∷ awaits) = onto_length (seen_await first ∷ outer) awaits ∙ one (length outer) (length awaits)
+  where
+    one : (a b : ℕ) → suc a + b ≡ a + suc b
+    one a b = omega arith
+
+pub awaits_length : (awaits : List Await) → length (seen_awaits awaits) ≡ length awaits
+awaits_length awaits = onto_length [] awaits ∙ zero_add (length awaits)
+  where
+    zero_add : (n : ℕ) → 0 + n ≡ n
+    zero_add n = omega arith
+
+pub innermost_is : (awaits : List Await) (found : Option Await) → MatchOption found (awaits ≡ []) (λ awaited. IsLastAwait awaited awaits)
+    → IsInnermostAwait (seen_awaits awaits) found
+innermost_is awaits None is = ap seen_awaits is
+innermost_is awaits (Some awaited) is = (seen_awaits is.outer, ap seen_awaits is.is ∙ await_more is.outer awaited)
+
+pub no_awaits : (awaits : List Await) → length awaits ≡ 0 → seen_awaits awaits ≡ []
+no_awaits [] none = refl
+no_awaits (awaited ∷ awaits) none = cc
+
+-- the innermost is taken off
+pub taken_off : {A : Type 0} (old new : Vec Await A) (found : Option Await) → old.items ≡ new.items ++ option_to_list found
+    → MatchOption found ((vec_len old ≡ 0) × (vec_len new ≡ 0)) (λ _. vec_len new + 1 ≡ vec_len old) → seen_awaits new.items ≡ outside (seen_awaits old.items)
+taken_off old new None is cases =
+    no_awaits new.items (omega (arith, cases.1, new.ok.0)) ∙ sym (ap outside (no_awaits old.items (omega (arith, cases.0, old.ok.0))))
+taken_off old new (Some awaited) is cases = sym (ap (λ awaits. outside (seen_awaits awaits)) is ∙ ap outside (await_more new.items awaited))
+
+-- ---- places
+
+pub here_within : (bytes : List ℕ) (error : Stop) → IsHere bytes error → StopsWithin bytes error
+here_within bytes error is = subst (λ (e : Stop). StopsWithin bytes e) (sym is) at_most
+  where
+    at_most : length bytes ≤ length bytes
+    at_most = omega arith
+
+-- within what follows a word
+pub within_behind : (word text rest : List ℕ) (error : Stop) → text ≡ word ++ rest → StopsWithin rest error → StopsWithin text error
+within_behind word text rest (stop.Refused left) is within = omega (arith, within, ap length is, length-append word rest)
+within_behind word text rest (stop.TooDeep left) is within = within
+within_behind word text rest stop.Memory is within = tt
+
+pub line_within : (depth : ℕ) (text : List ℕ) (error : Stop) → LacksLine depth text error → StopsWithin text error
+line_within depth text error (no_line none place) = here_within text error place
+line_within depth text error (no_level line is lacks) =
+    within_behind (codes "\n") text line error is (within_behind _ line lacks.rest error lacks.text (here_within lacks.rest error lacks.place))
+
+-- within what follows a word, where another one is cut
+pub cut_within : {T : Type 0} (word text line : List ℕ) (result : Result T Stop) → text ≡ word ++ line → IfErr result (IsHere line)
+    → IfErr result (StopsWithin text)
+cut_within word text line (Ok found) is placed = tt
+cut_within word text line (Err error) is placed = within_behind word text line error is (here_within line error placed)
+
+-- what fails within what follows a word
+pub errs_behind : {T : Type 0} (result : Result T Stop) (word text rest : List ℕ) → text ≡ word ++ rest → IfErr result (StopsWithin rest)
+    → IfErr result (StopsWithin text)
+errs_behind (Ok found) word text rest is within = tt
+errs_behind (Err error) word text rest is within = within_behind word text rest error is within
+
+pub within_less : (text rest : List ℕ) (error : Stop) → length rest < length text → StopsWithin rest error → StopsWithin text error
+within_less text rest (stop.Refused left) less within = omega (arith, less, within)
+within_less text rest (stop.TooDeep left) less within = within
+within_less text rest stop.Memory less within = tt
+
+pub less_behind : (word text rest end : List ℕ) → text ≡ word ++ rest → length end < length rest → length end < length text
+less_behind word text rest end is less = omega (arith, ap length is, length-append word rest)
+
+pub behind_less : (word text rest end : List ℕ) → rest ≡ word ++ end → length rest < length text → length end < length text
+behind_less word text rest end is less = omega (arith, ap length is, length-append word end)
+
+pub memory_within : (bytes : List ℕ) (error : Stop) → error ≡ stop.Memory → StopsWithin bytes error
+memory_within bytes error is = subst (λ (e : Stop). StopsWithin bytes e) (sym is) tt
+
+-- ---- results
+
+pub if_ok : {T : Type 0} (result : Result T Stop) (P Q : T → Type 0) → ((found : T) → P found → Q found) → IfOk result P → IfOk result Q
+if_ok (Ok found) P Q leads holds = leads found holds
+if_ok (Err error) P Q leads holds = tt
+
+-- what a `?` returns, of an error that is want of memory, or that can't be
+pub memory_exit : {T : Type 0} (answer : Result T Stop) (Holds : T → Type 0) (error : Stop) → IsErr answer × IsErrAnd answer (λ given. given ≡ error)
+    → error ≡ stop.Memory → OrMemory Holds answer
+memory_exit answer Holds error exits is = at_exit (OrMemory Holds) error answer exits (memory_is Holds error is)
+
+pub error_exit : {S T : Type 0} (answer : Result T Stop) (Holds : T → Type 0) (error : Stop) (Held : S → Type 0)
+    → IsErr answer × IsErrAnd answer (λ given. given ≡ error) → OrMemory Held (Err error) → OrMemory Holds answer
+error_exit answer Holds error Held exits is = at_exit (OrMemory Holds) error answer exits (error_stays Held Holds error is)
+
+pub or_memory_by : {T : Type 0} (result : Result T Stop) (P Q : T → Type 0) → OrMemory (λ _. Unit {0}) result → IfOk result P
+    → ((found : T) → P found → Q found) → OrMemory Q result
+or_memory_by (Ok found) P Q read holds leads = leads found holds
+or_memory_by (Err stop.Memory) P Q read holds leads = tt
+or_memory_by (Err (stop.Refused left)) P Q read holds leads = read
+or_memory_by (Err (stop.TooDeep left)) P Q read holds leads = read
+
+-- ---- what stands before an event
+
+-- the indentation of an entry is that of its collection, and two spaces
+pub entry_line : (depth : ℕ) (word : Text) → line_at (depth * 2) ++ (codes "  " ++ word) ≡ line_at (suc depth * 2) ++ word
+entry_line depth word = sym (line_deeper (depth * 2) word) ∙ ap (λ n. line_at n ++ word) twice
+  where
+    twice : depth * 2 + 2 ≡ suc depth * 2
+    twice = omega arith
+
+item_lead : (depth : ℕ) → line_at (depth * 2) ++ codes "  " ≡ line_at (suc depth * 2)
+item_lead depth = entry_line depth [] ∙ append-nil (line_at (suc depth * 2))
+
+-- what is found by the code's words is what the innermost collection awaits
+stands_by : (lead end : List ℕ) (levels : List Awaited) (text : List ℕ) (result : Result Entry Stop) → lead ≡ lead_text levels → end ≡ closing_text levels
+    → can_end levels ≡ true → EntryStands lead end text result → LeadStands levels text result
+stands_by lead end levels text (Ok (Another rest)) is ends can stands = stands ∙ ap (λ w. w ++ rest.now) is
+stands_by lead end levels text (Ok (End rest)) is ends can stands = (can, stands ∙ ap (λ w. w ++ rest.now) ends)
+stands_by lead end levels text (Err error) is ends can stands = (
+  subst (λ (w : List ℕ). past_word w text ≡ None) is stands.0,
+  λ _. subst (λ (w : List ℕ). past_word w text ≡ None) ends stands.1,
+)
+
+-- the code's words, by how deep the collection lies
+stands_at : (lead end : ℕ → List ℕ) (awaited : Awaited) (outer : List Awaited) (depth : ℕ) (text : List ℕ) (result : Result Entry Stop)
+    → depth ≡ length outer → lead (length outer) ≡ lead_text (awaited ∷ outer) → end (length outer) ≡ closing_text (awaited ∷ outer)
+    → can_end (awaited ∷ outer) ≡ true → EntryStands (lead depth) (end depth) text result → LeadStands (awaited ∷ outer) text result
+stands_at lead end awaited outer depth text result at leads ends can stands =
+    stands_by (lead depth) (end depth) (awaited ∷ outer) text result (ap lead at ∙ leads) (ap end at ∙ ends) can stands
+
+pub first_item_stands : (outer : List Awaited) (depth : ℕ) (text : List ℕ) (result : Result Entry Stop) → depth ≡ length outer
+    → EntryStands (line_at (depth * 2) ++ codes "  ") (codes "]") text result → LeadStands (item_awaited true ∷ outer) text result
+first_item_stands outer depth text result at stands =
+    stands_at (λ n. line_at (n * 2) ++ codes "  ") (λ n. codes "]") (item_awaited true) outer depth text result at (item_lead (length outer)) refl refl stands
+
+pub item_stands : (outer : List Awaited) (depth : ℕ) (text : List ℕ) (result : Result Entry Stop) → depth ≡ length outer
+    → EntryStands (line_at (depth * 2) ++ codes "  ") (line_at (depth * 2) ++ codes "]") text result → LeadStands (item_awaited false ∷ outer) text result
+item_stands outer depth text result at stands =
+    stands_at (λ n. line_at (n * 2) ++ codes "  ") (λ n. line_at (n * 2) ++ codes "]") (item_awaited false) outer depth text result at
+    (item_lead (length outer)) refl refl stands
+
+pub first_key_stands : (outer : List Awaited) (depth : ℕ) (text : List ℕ) (result : Result Entry Stop) → depth ≡ length outer
+    → EntryStands (line_at (depth * 2) ++ codes "  ? ") (codes "}") text result → LeadStands (key_awaited true ∷ outer) text result
+first_key_stands outer depth text result at stands =
+    stands_at (λ n. line_at (n * 2) ++ codes "  ? ") (λ n. codes "}") (key_awaited true) outer depth text result at
+    (entry_line (length outer) (codes "? ")) refl refl stands
+
+pub key_stands : (outer : List Awaited) (depth : ℕ) (text : List ℕ) (result : Result Entry Stop) → depth ≡ length outer
+    → EntryStands (line_at (depth * 2) ++ codes "  ? ") (line_at (depth * 2) ++ codes "}") text result → LeadStands (key_awaited false ∷ outer) text result
+key_stands outer depth text result at stands =
+    stands_at (λ n. line_at (n * 2) ++ codes "  ? ") (λ n. line_at (n * 2) ++ codes "}") (key_awaited false) outer depth text result at
+    (entry_line (length outer) (codes "? ")) refl refl stands
+
+-- the value of a key has no end before it
+value_lead : (outer : List Awaited) (depth : ℕ) → depth ≡ length outer → line_at (depth * 2) ++ codes "  : " ≡ lead_text (value_awaited ∷ outer)
+value_lead outer depth at = ap (λ n. line_at (n * 2) ++ codes "  : ") at ∙ entry_line (length outer) (codes ": ")
+
+pub value_stands : (outer : List Awaited) (depth : ℕ) (text : List ℕ) (rest : Bor (List ℕ)) → depth ≡ length outer
+    → text ≡ (line_at (depth * 2) ++ codes "  : ") ++ rest.now → LeadStands (value_awaited ∷ outer) text (Ok (Another rest))
+value_stands outer depth text rest at cut = cut ∙ ap (λ w. w ++ rest.now) (value_lead outer depth at)
+
+pub value_lacks : (outer : List Awaited) (depth : ℕ) (text : List ℕ) (error : Stop) → depth ≡ length outer
+    → past_word (line_at (depth * 2) ++ codes "  : ") text ≡ None → LeadStands (value_awaited ∷ outer) text (Err error)
+value_lacks outer depth text error at none = (
+  subst (λ (w : List ℕ). past_word w text ≡ None) (value_lead outer depth at) none,
+  λ (can : can_end (value_awaited ∷ outer) ≡ true). absurd (false≢true can),
+)
+
+-- where nothing is open, and where something is
+pub root_stands : (levels : List Awaited) (found : Option Await) (text : Bor (List ℕ)) → found ≡ None → IsInnermostAwait levels found
+    → LeadStands levels text.now (Ok (Another text))
+root_stands levels found text is innermost =
+    let none : levels ≡ [] = subst (IsInnermostAwait levels) is innermost in
+    subst (λ (l : List Awaited). LeadStands l text.now (Ok (Another text))) (sym none) refl
+
+pub stands_in : (levels : List Awaited) (found : Option Await) (awaited : Await) (count depth : ℕ) (text : List ℕ) (result : Result Entry Stop)
+    → found ≡ Some awaited → IsInnermostAwait levels found → count ≡ length levels → depth ≡ count - 1
+    → ((outer : List Awaited) → depth ≡ length outer → LeadStands (seen_await awaited ∷ outer) text result) → LeadStands levels text result
+stands_in levels found awaited count depth text result is innermost counted less stands =
+    let inner : IsInnermostAwait levels (Some awaited) = subst (IsInnermostAwait levels) is innermost in
+    let lies : depth ≡ length inner.0 = omega (arith, counted, less, ap length inner.1) in
+    subst (λ (l : List Awaited). LeadStands l text result) (sym inner.1) (stands inner.0 lies)
+
+-- a node's lead and the collection's end don't begin one text
+pub lead_or_end : (levels : List Awaited) (a b : List ℕ) → can_end levels ≡ true → lead_text levels ++ a ≡ closing_text levels ++ b → ⊥
+lead_or_end [] a b can is = absurd (false≢true can)
+lead_or_end (item_awaited true ∷ outer) a b can is = no_word (codes "]") (lead_text (item_awaited true ∷ outer) ++ a) b refl is
+lead_or_end (item_awaited false ∷ outer) a b can is =
+    no_word (codes "]") (codes "  " ++ a) b refl
+    (append_cancel_left (line_at (length outer * 2)) (codes "  " ++ a) (codes "]" ++ b)
+    (entry_line (length outer) a ∙ is ∙ append_assoc (line_at (length outer * 2)) (codes "]") b))
+lead_or_end (key_awaited true ∷ outer) a b can is = no_word (codes "}") (lead_text (key_awaited true ∷ outer) ++ a) b refl is
+lead_or_end (key_awaited false ∷ outer) a b can is =
+    no_word (codes "}") (codes "  ? " ++ a) b refl
+    (append_cancel_left (line_at (length outer * 2)) (codes "  ? " ++ a) (codes "}" ++ b)
+    (entry_line (length outer) (codes "? " ++ a) ∙ sym (append_assoc (line_at (suc (length outer) * 2)) (codes "? ") a) ∙ is
+    ∙ append_assoc (line_at (length outer * 2)) (codes "}") b))
+lead_or_end (value_awaited ∷ outer) a b can is = absurd (false≢true can)
+
+-- ---- behind a node
+
+pub root_left : (levels : List Awaited) (text : List ℕ) → levels ≡ [] → (open_behind levels ≡ None) × (text ≡ trail_text levels ++ text)
+root_left levels text none = subst (λ (l : List Awaited). (open_behind l ≡ None) × (text ≡ trail_text l ++ text)) (sym none) (refl, refl)
+
+pub node_left : (levels outer now : List Awaited) (awaited next : Awaited) (word text rest : List ℕ) → levels ≡ awaited ∷ outer → now ≡ next ∷ outer
+    → next ≡ next_awaited awaited → word ≡ trail_text (awaited ∷ outer) → text ≡ word ++ rest
+    → (open_behind levels ≡ Some now) × (text ≡ trail_text levels ++ rest)
+node_left levels outer now awaited next word text rest is now_is next_is word_is parts = (
+  ap open_behind is ∙ ap (λ n. Some (n ∷ outer)) (sym next_is) ∙ ap Some (sym now_is),
+  parts ∙ ap (λ w. w ++ rest) (word_is ∙ ap trail_text (sym is)),
+)
+
+pub node_stays : (levels outer : List Awaited) (awaited : Awaited) (word text tail : List ℕ) → levels ≡ awaited ∷ outer → word ≡ trail_text (awaited ∷ outer)
+    → past_word word text ≡ None → text ≡ trail_text levels ++ tail → ⊥
+node_stays levels outer awaited word text tail is word_is none parts =
+    no_word word text tail none (parts ∙ ap (λ w. w ++ tail) (ap trail_text is ∙ sym word_is))
+
+-- ---- in UTF-8
+
+line_word : (column : ℕ) (word rest : Text) → are_ascii word ≡ true
+    → encode_utf8_all ((line_at column ++ word) ++ rest) ≡ (line_at column ++ word) ++ encode_utf8_all rest
+line_word column word rest ascii =
+    ap encode_utf8_all (append_assoc (line_at column) word rest) ∙ line_encoded column (word ++ rest)
+    ∙ ap (λ t. line_at column ++ t) (word_encoded word rest ascii) ∙ sym (append_assoc (line_at column) word (encode_utf8_all rest))
+
+pub lead_encoded : (levels : List Awaited) (rest : Text) → encode_utf8_all (lead_text levels ++ rest) ≡ lead_text levels ++ encode_utf8_all rest
+lead_encoded [] rest = refl
+lead_encoded (item_awaited empty ∷ outer) rest = line_encoded (length (item_awaited empty ∷ outer) * 2) rest
+lead_encoded (key_awaited empty ∷ outer) rest = line_word (length (key_awaited empty ∷ outer) * 2) (codes "? ") rest refl
+lead_encoded (value_awaited ∷ outer) rest = line_word (length (value_awaited ∷ outer) * 2) (codes ": ") rest refl
+
+pub closing_encoded : (levels : List Awaited) (rest : Text) → encode_utf8_all (closing_text levels ++ rest) ≡ closing_text levels ++ encode_utf8_all rest
+closing_encoded [] rest = refl
+closing_encoded (item_awaited true ∷ outer) rest = word_encoded (codes "]") rest refl
+closing_encoded (item_awaited false ∷ outer) rest = line_word (length outer * 2) (codes "]") rest refl
+closing_encoded (key_awaited true ∷ outer) rest = word_encoded (codes "}") rest refl
+closing_encoded (key_awaited false ∷ outer) rest = line_word (length outer * 2) (codes "}") rest refl
+closing_encoded (value_awaited ∷ outer) rest = refl
+
+pub trail_encoded : (levels : List Awaited) (rest : Text) → encode_utf8_all (trail_text levels ++ rest) ≡ trail_text levels ++ encode_utf8_all rest
+trail_encoded [] rest = refl
+trail_encoded (item_awaited empty ∷ outer) rest = word_encoded (codes ",") rest refl
+trail_encoded (key_awaited empty ∷ outer) rest = refl
+trail_encoded (value_awaited ∷ outer) rest = word_encoded (codes ",") rest refl

@@ -1,0 +1,321 @@
+-- A document's events, one after another: what was read, and what is due.
+use Rattle.yaml_base.proofs.Common.{ℕ, ◌≤◌, Bool, true, false, Option, None, Some, List, [], ◌∷◌, ◌++◌, refl, ◌≡◌, ap, subst, sym, ◌∙◌}
+use Rattle.yaml_base.proofs.Common.{append_assoc, All, All-head, All-tail, codes, false≢true, inl, inr, ◌⊎◌, length, line_feed, Text, encode_utf8_all, Event, alias, scalar}
+use Rattle.yaml_base.proofs.Common.{sequence_start, sequence_end, mapping_start, mapping_end, stream_start, stream_end, document_start, document_end}
+use Rattle.std.proofs.lemmas.List.Elements.{All-nil, All-push}
+use Rattle.std.proofs.lemmas.Str.{encodes-append}
+use Rattle.std.specs.Prelude.{Result, Ok, Err, IfErr}
+use Rattle.yaml_read.specs.EventSteps.{ReadsEvent}
+use Rattle.yaml_read.specs.EventTexts.{Awaited, HasBegunText, HasRunText, IsInNode, closing_text, ends_name, event_text, item_awaited, key_awaited, lead_text}
+use Rattle.yaml_read.specs.EventTexts.{may_come, more_come, none_begun, one_more, open_after, open_behind, outside, root_ends, value_awaited}
+use Rattle.yaml_read.specs.RunPlaces.{NoEventBegins, RunStops, StopsWithin, bare_start, behind_root, in_document, in_event}
+use Rattle.yaml_read.specs.Words.{OrMemory}
+use Rattle.yaml_read.specs.declared.errors.Stop.{Stop}
+use Rattle.yaml_read.specs.declared.errors.Stop.TheVariants as stop
+use Rattle.yaml_read.proofs.Encoded.{word_encoded}
+use Rattle.yaml_read.proofs.EventSteps.{behind_text}
+
+-- ---- a name ends before an event in a collection
+
+lead_ends_name : (awaited : Awaited) (outer : List Awaited) (text more : Text) → ends_name ((lead_text (awaited ∷ outer) ++ text) ++ more) ≡ true
+lead_ends_name (item_awaited empty) outer text more = refl
+lead_ends_name (key_awaited empty) outer text more = refl
+lead_ends_name value_awaited outer text more = refl
+
+end_ends_name : (awaited : Awaited) (outer : List Awaited) (event : Event) (text more : Text) → event ≡ sequence_end ⊎ event ≡ mapping_end
+    → may_come (awaited ∷ outer) event ≡ true → ends_name ((closing_text (awaited ∷ outer) ++ text) ++ more) ≡ true
+end_ends_name (item_awaited true) outer event text more is comes = refl
+end_ends_name (item_awaited false) outer event text more is comes = refl
+end_ends_name (key_awaited true) outer event text more is comes = refl
+end_ends_name (key_awaited false) outer event text more is comes = refl
+end_ends_name value_awaited outer event text more (inl is) comes = absurd (false≢true (ap (may_come (value_awaited ∷ outer)) (sym is) ∙ comes))
+end_ends_name value_awaited outer event text more (inr is) comes = absurd (false≢true (ap (may_come (value_awaited ∷ outer)) (sym is) ∙ comes))
+
+event_ends_name : (awaited : Awaited) (outer : List Awaited) (event : Event) (more : Text) → may_come (awaited ∷ outer) event ≡ true
+    → ends_name (event_text (awaited ∷ outer) event ++ more) ≡ true
+event_ends_name awaited outer (alias name) more comes = lead_ends_name awaited outer _ more
+event_ends_name awaited outer (scalar content) more comes = lead_ends_name awaited outer _ more
+event_ends_name awaited outer (sequence_start start) more comes = lead_ends_name awaited outer _ more
+event_ends_name awaited outer (mapping_start start) more comes = lead_ends_name awaited outer _ more
+event_ends_name awaited outer sequence_end more comes = end_ends_name awaited outer sequence_end _ more (inl refl) comes
+event_ends_name awaited outer mapping_end more comes = end_ends_name awaited outer mapping_end _ more (inr refl) comes
+event_ends_name awaited outer (stream_start encoding) more comes = absurd (false≢true comes)
+event_ends_name awaited outer stream_end more comes = absurd (false≢true comes)
+event_ends_name awaited outer (document_start start) more comes = absurd (false≢true comes)
+event_ends_name awaited outer (document_end implicit) more comes = absurd (false≢true comes)
+
+run_ends_name : (awaited : Awaited) (outer : List Awaited) (events : List Event) (text more : Text) → HasRunText (awaited ∷ outer) events text
+    → ends_name (text ++ more) ≡ true
+run_ends_name awaited outer _ _ more (root_ends _ event text comes after is) =
+    ap (λ (t : Text). ends_name (t ++ more)) is ∙ event_ends_name awaited outer event more comes
+run_ends_name awaited outer _ _ more (more_come _ next event events rest text comes after is run) =
+    ap (λ (t : Text). ends_name (t ++ more)) is ∙ ap ends_name (append_assoc (event_text (awaited ∷ outer) event) rest more)
+    ∙ event_ends_name awaited outer event (rest ++ more) comes
+
+-- something is open behind an event that doesn't end the root
+behind_open : (levels : List Awaited) → open_behind levels ≡ Some [] → ⊥
+behind_open [] is = cc
+behind_open (awaited ∷ outer) is = cc
+
+after_open : (levels : List Awaited) (event : Event) → open_after levels event ≡ Some [] → ⊥
+after_open levels (alias name) is = behind_open levels is
+after_open levels (scalar content) is = behind_open levels is
+after_open levels (sequence_start start) is = cc
+after_open levels (mapping_start start) is = cc
+after_open levels sequence_end is = behind_open (outside levels) is
+after_open levels mapping_end is = behind_open (outside levels) is
+after_open levels (stream_start encoding) is = behind_open levels is
+after_open levels stream_end is = behind_open levels is
+after_open levels (document_start start) is = behind_open levels is
+after_open levels (document_end implicit) is = behind_open levels is
+
+more_ends_name : (levels next : List Awaited) (event : Event) (events : List Event) (text more : Text) → open_after levels event ≡ Some next
+    → HasRunText next events text → ends_name (text ++ more) ≡ true
+more_ends_name levels [] event events text more after run = absurd (after_open levels event after)
+more_ends_name levels (awaited ∷ outer) event events text more after run = run_ends_name awaited outer events text more run
+
+-- ---- what was read, and what follows it
+
+-- events from the root's beginning, and then events up to its end
+pub begun_and_run : (levels : List Awaited) (events more : List Event) (text rest : Text) → HasBegunText levels events text → HasRunText levels more rest
+    → HasRunText [] (events ++ more) (text ++ rest)
+begun_and_run _ _ more _ rest none_begun run = run
+begun_and_run _ _ more _ rest (one_more before levels events event text begun comes after) run =
+    subst (λ (e : List Event). HasRunText [] e ((text ++ event_text before event) ++ rest)) (sym (append_assoc events (event ∷ []) more))
+    (subst (λ (t : Text). HasRunText [] (events ++ event ∷ more) t) (sym (append_assoc text (event_text before event) rest))
+    (begun_and_run before events (event ∷ more) text (event_text before event ++ rest) begun
+    (more_come before levels event more rest (event_text before event ++ rest) comes after refl run)))
+
+-- the events found so far, the document's start before them, are those up to here
+pub record RunBegun (whole : List ℕ) (found : List Event) (levels : List Awaited) (bytes : List ℕ) : Type 0 where
+  pub events : List Event
+  pub text : Text
+  pub found_are : found ≡ document_start bare_start ∷ events
+  pub begun : HasBegunText levels events text
+  pub in_node : All IsInNode events
+  pub parts : whole ≡ encode_utf8_all text ++ bytes
+
+-- they are those of the whole root
+pub record RunEnded (whole : List ℕ) (found : List Event) (bytes : List ℕ) : Type 0 where
+  pub events : List Event
+  pub text : Text
+  pub found_are : found ≡ document_start bare_start ∷ events
+  pub run : HasRunText [] events text
+  pub in_node : All IsInNode events
+  pub parts : whole ≡ encode_utf8_all text ++ bytes
+
+-- one of both, by what is open
+abbrev pub RunRead : (whole : List ℕ) (found : List Event) → Option (List Awaited) → (bytes : List ℕ) → Type 0
+RunRead whole found None bytes = RunEnded whole found bytes
+RunRead whole found (Some levels) bytes = RunBegun whole found levels bytes
+
+pub nothing_read : (whole : List ℕ) → RunBegun whole (document_start bare_start ∷ []) [] whole
+nothing_read whole = record { events = []; text = []; found_are = refl; begun = none_begun; in_node = All-nil IsInNode; parts = refl }
+
+-- the bytes with one more event
+one_more_parts : (whole bytes rest : List ℕ) (text own : Text) → whole ≡ encode_utf8_all text ++ bytes → bytes ≡ encode_utf8_all own ++ rest
+    → whole ≡ encode_utf8_all (text ++ own) ++ rest
+one_more_parts whole bytes rest text own is also =
+    is ∙ ap (λ t. encode_utf8_all text ++ t) also ∙ sym (append_assoc (encode_utf8_all text) (encode_utf8_all own) rest)
+    ∙ ap (λ t. t ++ rest) (sym (encodes-append text own))
+
+-- one more event is read
+pub event_more : (whole : List ℕ) (found : List Event) (levels : List Awaited) (bytes rest : List ℕ) (after : Option (List Awaited)) (event : Event)
+    → RunBegun whole found levels bytes → ReadsEvent levels bytes after event rest → RunRead whole (found ++ event ∷ []) after rest
+event_more whole found levels bytes rest None event begun read =
+    record {
+      events = begun.events ++ event ∷ [];
+      text = begun.text ++ event_text levels event;
+      found_are = ap (λ (e : List Event). e ++ event ∷ []) begun.found_are;
+      run =
+          begun_and_run levels begun.events (event ∷ []) begun.text (event_text levels event) begun.begun
+          (root_ends levels event (event_text levels event) read.comes read.opened refl);
+      in_node = All-push IsInNode begun.events event begun.in_node read.in_node;
+      parts = one_more_parts whole bytes rest begun.text (event_text levels event) begun.parts read.parts;
+    }
+event_more whole found levels bytes rest (Some next) event begun read =
+    record {
+      events = begun.events ++ event ∷ [];
+      text = begun.text ++ event_text levels event;
+      found_are = ap (λ (e : List Event). e ++ event ∷ []) begun.found_are;
+      begun = one_more levels next begun.events event begun.text begun.begun read.comes read.opened;
+      in_node = All-push IsInNode begun.events event begun.in_node read.in_node;
+      parts = one_more_parts whole bytes rest begun.text (event_text levels event) begun.parts read.parts;
+    }
+
+-- ---- what is due
+
+-- behind the events found so far the others of a document are due
+pub record EventsDue (events found : List Event) (levels : List Awaited) (bytes : List ℕ) : Type 0 where
+  pub later : List Event
+  pub text : Text
+  pub all : in_document events ≡ found ++ (later ++ document_end true ∷ [])
+  pub run : HasRunText levels later text
+  pub in_node : All IsInNode later
+  pub bytes_are : bytes ≡ encode_utf8_all (text ++ line_feed ∷ [])
+
+-- nothing but the document's end is due, behind the root
+pub record EndDue (events found : List Event) (bytes : List ℕ) : Type 0 where
+  pub all : in_document events ≡ found ++ document_end true ∷ []
+  pub bytes_are : bytes ≡ codes "\n"
+
+-- one of both, by what is open
+abbrev pub IsRunDue : (events found : List Event) → Option (List Awaited) → (bytes : List ℕ) → Type 0
+IsRunDue events found None bytes = EndDue events found bytes
+IsRunDue events found (Some levels) bytes = EventsDue events found levels bytes
+
+-- where the whole bytes are those of a document
+pub record RunDue (whole : List ℕ) (found : List Event) (open_yet : Option (List Awaited)) (bytes : List ℕ) : Type 0 where
+  pub due : (events : List Event) (node : Text) → HasRunText [] events node → All IsInNode events → whole ≡ encode_utf8_all (node ++ line_feed ∷ [])
+      → IsRunDue events found open_yet bytes
+
+pub all_due : (whole : List ℕ) → RunDue whole (document_start bare_start ∷ []) (Some []) whole
+all_due whole =
+    record {
+      due = λ events node run in_node is. record { later = events; text = node; all = refl; run = run; in_node = in_node; bytes_are = is };
+    }
+
+-- what follows an event, by what is open behind it
+abbrev Follows : Option (List Awaited) → List Event → Text → Type 0
+Follows None others tail = (others ≡ []) × (tail ≡ line_feed ∷ [])
+Follows (Some levels) others tail = (text : Text) × HasRunText levels others text × (tail ≡ text ++ line_feed ∷ [])
+
+-- the next event that is due
+pub record NextDue (levels : List Awaited) (later : List Event) (bytes : List ℕ) : Type 0 where
+  pub event : Event
+  pub others : List Event
+  pub tail : Text
+  pub later_are : later ≡ event ∷ others
+  pub in_node : IsInNode event
+  pub comes : may_come levels event ≡ true
+  pub ends : ends_name tail ≡ true
+  pub bytes_are : bytes ≡ encode_utf8_all (event_text levels event ++ tail)
+  pub follows : Follows (open_after levels event) others tail
+
+next_due : (levels : List Awaited) (later : List Event) (text : Text) (bytes : List ℕ) → HasRunText levels later text → All IsInNode later
+    → bytes ≡ encode_utf8_all (text ++ line_feed ∷ []) → NextDue levels later bytes
+next_due _ _ _ bytes (root_ends levels event text comes after is) in_node bytes_are =
+    record {
+      event = event;
+      others = [];
+      tail = line_feed ∷ [];
+      later_are = refl;
+      in_node = All-head IsInNode event [] in_node;
+      comes = comes;
+      ends = refl;
+      bytes_are = bytes_are ∙ ap (λ (t : Text). encode_utf8_all (t ++ line_feed ∷ [])) is;
+      follows = subst (λ (o : Option (List Awaited)). Follows o [] (line_feed ∷ [])) (sym after) (refl, refl);
+    }
+next_due _ _ _ bytes (more_come levels next event events rest text comes after is run) in_node bytes_are =
+    record {
+      event = event;
+      others = events;
+      tail = rest ++ line_feed ∷ [];
+      later_are = refl;
+      in_node = All-head IsInNode event events in_node;
+      comes = comes;
+      ends = more_ends_name levels next event events rest (line_feed ∷ []) after run;
+      bytes_are =
+          bytes_are ∙ ap (λ (t : Text). encode_utf8_all (t ++ line_feed ∷ [])) is
+          ∙ ap encode_utf8_all (append_assoc (event_text levels event) rest (line_feed ∷ []));
+      follows = subst (λ (o : Option (List Awaited)). Follows o events (rest ++ line_feed ∷ [])) (sym after) (rest, run, refl);
+    }
+
+pub next_of : (events found : List Event) (levels : List Awaited) (bytes : List ℕ) (due : EventsDue events found levels bytes)
+    → NextDue levels due.later bytes
+next_of events found levels bytes due = next_due levels due.later due.text bytes due.run due.in_node due.bytes_are
+
+-- the event that was due is read
+due_by : (events found others : List Event) (levels : List Awaited) (rest : List ℕ) (after : Option (List Awaited)) (event : Event) (tail : Text)
+    → in_document events ≡ found ++ ((event ∷ others) ++ document_end true ∷ []) → All IsInNode (event ∷ others) → rest ≡ encode_utf8_all tail
+    → Follows after others tail → IsRunDue events (found ++ event ∷ []) after rest
+due_by events found others levels rest None event tail all in_node is follows =
+    record {
+      all =
+          all ∙ ap (λ (e : List Event). found ++ (event ∷ (e ++ document_end true ∷ []))) follows.0
+          ∙ sym (append_assoc found (event ∷ []) (document_end true ∷ []));
+      bytes_are = is ∙ ap encode_utf8_all follows.1 ∙ word_encoded (codes "\n") [] refl;
+    }
+due_by events found others levels rest (Some next) event tail all in_node is follows =
+    record {
+      later = others;
+      text = follows.0;
+      all = all ∙ sym (append_assoc found (event ∷ []) (others ++ document_end true ∷ []));
+      run = follows.1;
+      in_node = All-tail IsInNode event others in_node;
+      bytes_are = is ∙ ap encode_utf8_all follows.2;
+    }
+
+pub due_more : (events found : List Event) (levels : List Awaited) (bytes rest : List ℕ) (after : Option (List Awaited)) (event : Event)
+    → (due : EventsDue events found levels bytes) → event ≡ (next_of events found levels bytes due).event → ReadsEvent levels bytes after event rest
+    → IsRunDue events (found ++ event ∷ []) after rest
+due_more events found levels bytes rest after event due same read =
+    let next = next_of events found levels bytes due in
+    let parts = subst (λ (e : Event). bytes ≡ encode_utf8_all (event_text levels e) ++ rest) same read.parts in
+    let opened = subst (λ (e : Event). open_after levels e ≡ after) same read.opened in
+    subst (λ (e : Event). IsRunDue events (found ++ e ∷ []) after rest) (sym same)
+    (due_by events found next.others levels rest after next.event next.tail
+    (due.all ∙ ap (λ (e : List Event). found ++ (e ++ document_end true ∷ [])) next.later_are)
+    (subst (All IsInNode) next.later_are due.in_node) (behind_text levels bytes rest next.event next.tail parts next.bytes_are)
+    (subst (λ (o : Option (List Awaited)). Follows o next.others next.tail) opened next.follows))
+
+-- ---- at once
+
+pub run_begins : (whole : List ℕ) (found : List Event) (levels : List Awaited) → found ≡ document_start bare_start ∷ [] → levels ≡ []
+    → RunBegun whole found levels whole × RunDue whole found (Some levels) whole
+run_begins whole found levels is none =
+    subst (λ (f : List Event). RunBegun whole f levels whole × RunDue whole f (Some levels) whole) (sym is)
+    (subst (λ (l : List Awaited). RunBegun whole (document_start bare_start ∷ []) l whole × RunDue whole (document_start bare_start ∷ []) (Some l) whole)
+    (sym none) (nothing_read whole, all_due whole))
+
+pub run_goes : (whole : List ℕ) (found new : List Event) (levels : List Awaited) (bytes rest : List ℕ) (after : Option (List Awaited)) (event : Event)
+    → new ≡ found ++ event ∷ [] → RunBegun whole found levels bytes → RunDue whole found (Some levels) bytes → ReadsEvent levels bytes after event rest
+    → ((other : Event) (tail : Text) → IsInNode other → may_come levels other ≡ true → ends_name tail ≡ true
+    → bytes ≡ encode_utf8_all (event_text levels other ++ tail) → event ≡ other)
+    → RunRead whole new after rest × RunDue whole new after rest
+run_goes whole found new levels bytes rest after event is begun due read same =
+    subst (λ (f : List Event). RunRead whole f after rest × RunDue whole f after rest) (sym is) (
+      event_more whole found levels bytes rest after event begun read,
+      record {
+        due = λ events node run in_node whole_is.
+            let here = due.due events node run in_node whole_is in
+            let next = next_of events found levels bytes here in
+            due_more events found levels bytes rest after event here (same next.event next.tail next.in_node next.comes next.ends next.bytes_are) read;
+      },
+    )
+
+pub run_sound : (whole : List ℕ) (found final : List Event) (bytes : List ℕ) → RunEnded whole found bytes → final ≡ found ++ document_end true ∷ []
+    → bytes ≡ codes "\n"
+    → (events : List Event) × (node : Text) × (final ≡ in_document events) × HasRunText [] events node × All IsInNode events
+    × (whole ≡ encode_utf8_all (node ++ line_feed ∷ []))
+run_sound whole found final bytes ended is end = (
+  ended.events,
+  ended.text,
+  is ∙ ap (λ (e : List Event). e ++ document_end true ∷ []) ended.found_are,
+  ended.run,
+  ended.in_node,
+  ended.parts ∙ ap (λ t. encode_utf8_all ended.text ++ t) (end ∙ sym (word_encoded (codes "\n") [] refl)) ∙ sym (encodes-append ended.text (line_feed ∷ [])),
+)
+
+-- ---- why reading stops
+
+pub stops_at_event : {T : Type 0} (whole : List ℕ) (found : List Event) (levels : List Awaited) (bytes : List ℕ) (error : Stop) (Holds : Event → T → Type 0)
+    → RunBegun whole found levels bytes
+    → ((event : Event) (tail : Text) → IsInNode event → may_come levels event ≡ true → ends_name tail ≡ true
+    → bytes ≡ encode_utf8_all (event_text levels event ++ tail) → OrMemory (Holds event) (Err error))
+    → StopsWithin bytes error → RunStops whole error
+stops_at_event whole found levels bytes (stop.Refused left) Holds begun reads within =
+    in_event levels begun.events begun.text bytes begun.begun begun.parts (λ event tail in_node comes ends is. reads event tail in_node comes ends is) within
+stops_at_event whole found levels bytes (stop.TooDeep left) Holds begun reads within = within
+stops_at_event whole found levels bytes stop.Memory Holds begun reads within = tt
+
+pub stops_at_end : {T : Type 0} (whole : List ℕ) (found : List Event) (bytes : List ℕ) (result : Result T Stop) (Holds : T → Type 0)
+    → RunEnded whole found bytes → (bytes ≡ codes "\n" → OrMemory Holds result) → IfErr result (StopsWithin bytes) → IfErr result (RunStops whole)
+stops_at_end whole found bytes (Ok given) Holds ended reads within = tt
+stops_at_end whole found bytes (Err (stop.Refused left)) Holds ended reads within =
+    behind_root ended.events ended.text bytes ended.run ended.parts (λ is. reads is) within
+stops_at_end whole found bytes (Err (stop.TooDeep left)) Holds ended reads within = within
+stops_at_end whole found bytes (Err stop.Memory) Holds ended reads within = tt
+
+pub memory_stops : (whole : List ℕ) (error : Stop) → error ≡ stop.Memory → RunStops whole error
+memory_stops whole error is = subst (λ (e : Stop). RunStops whole e) (sym is) tt

@@ -1,0 +1,71 @@
+-- Graphs of the same events are isomorphic, and so are a graph and one of its events without styles.
+use Rattle.yaml_base.proofs.Common.{ℕ, false, Option, None, Some, List, [], ◌∷◌, ◌++◌, refl, ◌≡◌, ap, subst, sym, ◌∙◌, map, option_map}
+use Rattle.yaml_base.proofs.Common.{Event, stream_start, stream_end, Node, alias_node, Document, Documents, documents_and, no_documents, Stream}
+use Rattle.yaml_base.proofs.Common.{Graph, GraphNode, children, node_numbered, document_event_list, Isomorphic, IsWholeGraph}
+use Rattle.yaml_base.proofs.ContentsUnfold.{content_unfolds}
+use Rattle.yaml_base.proofs.DocumentsUnfold.{document_unfolds}
+use Rattle.yaml_base.proofs.SameShapes.{same_shape}
+use Rattle.yaml_base.proofs.Trees.{one_tree}
+use Rattle.yaml_base.specs.graphs.Isomorphic.{label_at}
+use Rattle.yaml_base.specs.graphs.Meetings.{Held, mapping_held, scalar_held, sequence_held}
+use Rattle.yaml_base.specs.graphs.Unfolding.{IsReached, child_reached, first_reached, Label, Unfolds, content_shape, label_of}
+use Rattle.yaml_base.specs.reading.Content.{node_content}
+use Rattle.std.specs.Prelude.{Contains}
+use Rattle.yaml_read.proofs.UnstyledGraphs.{children_unstyled, node_unstyled, unstyled_graph, unstyled_node}
+
+-- ---- events
+
+-- a document as the only one of a stream, and the root of the last one
+abbrev alone : Document → Stream
+alone document = record { encoding = None; documents = documents_and no_documents document }
+
+abbrev last_root : Documents → Node
+last_root no_documents = alias_node []
+last_root (documents_and before document) = document.root
+
+pub same_events : (first second : Graph) → IsWholeGraph first → IsWholeGraph second → document_event_list first ≡ document_event_list second
+    → Isomorphic first second
+same_events first second whole also_whole same =
+    let one = document_unfolds first whole in
+    let two = document_unfolds second also_whole in
+    let streams : alone one.document ≡ alone two.document =
+    one_tree (alone one.document) (alone two.document)
+    (ap (λ (inside : List Event). stream_start None ∷ (inside ++ stream_end ∷ [])) (one.is_document ∙ same ∙ sym two.is_document)) in
+    let roots : one.document.root ≡ two.document.root = ap (λ (stream : Stream). last_root stream.documents) streams in
+    same_shape first second (content_shape (node_content one.document.root)) (content_unfolds first one.document.root one.unfolds)
+    (subst (λ (root : Node). Unfolds false second (content_shape (node_content root))) (sym roots)
+    (content_unfolds second two.document.root two.unfolds))
+
+-- ---- styles
+
+held_label : (tag : List ℕ) (held : Held)
+    → label_of false (unstyled_node (record { tag = tag; held = held })) ≡ label_of false (record { tag = tag; held = held })
+held_label tag (scalar_held value style) = refl
+held_label tag (sequence_held items style) = refl
+held_label tag (mapping_held pairs style) = refl
+
+found_label : (found : Option GraphNode) → option_map (label_of false) (option_map unstyled_node found) ≡ option_map (label_of false) found
+found_label None = refl
+found_label (Some node) = ap (λ (label : Label). Some label) (held_label node.tag node.held)
+
+label_unstyled : (graph : Graph) (number : ℕ) → label_at (unstyled_graph graph) number ≡ label_at graph number
+label_unstyled graph number = ap (option_map (label_of false)) (node_unstyled graph number) ∙ found_label (node_numbered graph number)
+
+reached_unstyled : (graph : Graph) {number : ℕ} → IsReached graph number → IsReached (unstyled_graph graph) number
+reached_unstyled graph first_reached = first_reached
+reached_unstyled graph (child_reached {number = parent} {child = child} reached within) =
+    child_reached (reached_unstyled graph reached) (subst (λ (numbers : List ℕ). Contains numbers child) (sym (children_unstyled graph parent)) within)
+
+-- what is isomorphic without styles is so with them
+pub styled_isomorphic : (graph other : Graph) → Isomorphic (unstyled_graph graph) other → Isomorphic graph other
+styled_isomorphic graph other alike =
+    record {
+      partner = alike.partner;
+      back = alike.back;
+      root = alike.root;
+      labels = λ number reached. alike.labels number (reached_unstyled graph reached) ∙ label_unstyled graph number;
+      kept = λ number reached.
+          alike.kept number (reached_unstyled graph reached) ∙ ap (map alike.partner) (children_unstyled graph number);
+      one_to_one = λ number reached. alike.one_to_one number (reached_unstyled graph reached);
+      onto = alike.onto;
+    }

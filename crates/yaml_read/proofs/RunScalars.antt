@@ -1,0 +1,139 @@
+-- The text of a node's events consists of Unicode scalar values, so its bytes are UTF-8.
+use Rattle.yaml_base.proofs.Common.{ℕ, ◌*◌, ◌<◌, Bool, true, false, not, Option, None, Some, List, [], ◌∷◌, ◌++◌, refl, ◌≡◌, ap, subst, sym, ◌∙◌}
+use Rattle.yaml_base.proofs.Common.{All, All-head, All-tail, if◌then◌else◌, and_parts, and_from, agree_below_at, arith, bytes_eq, codes, flat_map, length, list_all, list_all-append}
+use Rattle.yaml_base.proofs.Common.{ltb-true, nat_lt, nat_tests, all_scalars, encode_utf8_all, is_alpha, line_feed, replicate, space, Text}
+use Rattle.yaml_base.proofs.Common.{percent_escaped, suffix_escaped}
+use Rattle.std.specs.Str.{IsUtf8}
+use lib.Utf8.{scalar}
+use Rattle.yaml_base.specs.Event.{Event, Scalar, alias, any_layout, any_style, mapping_end, sequence_end}
+use Rattle.yaml_base.specs.Tags.{Spelling, default_directives, name_fault, shorthand, spelled, spelling, spelling_by, verbatim, behind}
+use Rattle.yaml_base.specs.declared.errors.yaml_error_t.{yaml_error_t}
+use Rattle.yaml_base.specs.graphs.DumpedText.{anchor_text, closing_line, tag_text}
+use Rattle.yaml_base.specs.graphs.Meetings.{string_tag}
+use Rattle.yaml_base.specs.values.ValueText.{in_quotes, line_at}
+use Rattle.yaml_base.proofs.AllPass.{all_pass}
+use Rattle.yaml_base.proofs.PercentLaws.{escaped_stands, stands_written, suffix_stands}
+use Rattle.yaml_read.specs.DocumentPlaces.{AreRunBytes}
+use Rattle.yaml_read.specs.EventTexts.{AreParts, Awaited, item_awaited, key_awaited, value_awaited, BeginsNode, is_alias, is_scalar, is_sequence, is_mapping}
+use Rattle.yaml_read.specs.EventTexts.{IsInNode, begins_node, ends_sequence, ends_mapping, HasRunText, root_ends, more_come, IsAnchor}
+use Rattle.yaml_read.specs.EventTexts.{closing_text, event_text, lead_text, outside, trail_text}
+use Rattle.yaml_read.proofs.Encoded.{word_encoded}
+use Rattle.yaml_read.proofs.Scalars.{joined_scalars, quotes_scalars, spaces_scalars}
+
+-- characters of ASCII are Unicode scalar values
+ascii_scalar : (c : ℕ) → nat_lt c 128 ≡ true → scalar c ≡ true
+ascii_scalar c few = agree_below_at scalar (λ d. true) 128 c refl (ltb-true c 128 few)
+
+alpha_scalar : (c : ℕ) → is_alpha c ≡ true → scalar c ≡ true
+alpha_scalar c h = ascii_scalar c (grind (arith, nat_tests))
+
+written_scalar : (c : ℕ) → stands_written c ≡ true → scalar c ≡ true
+written_scalar c h = ascii_scalar c (grind (arith, nat_tests))
+
+-- ---- parts of a node's beginning
+
+name_scalars : (empty other : yaml_error_t) (name : Text) → name_fault empty other name ≡ None → all_scalars name ≡ true
+name_scalars empty other [] sound = refl
+name_scalars empty other (c ∷ rest) sound = by (list_all is_alpha (c ∷ rest)) refl sound
+  where
+    by : (b : Bool) → list_all is_alpha (c ∷ rest) ≡ b → (if b then None else Some other) ≡ None → all_scalars (c ∷ rest) ≡ true
+    by true letters is = all_pass is_alpha scalar alpha_scalar (c ∷ rest) letters
+    by false letters is = cc
+
+anchor_scalars : (anchor : Option Text) → IsAnchor anchor → all_scalars (anchor_text anchor) ≡ true
+anchor_scalars None is = refl
+anchor_scalars (Some name) is = joined_scalars name (space ∷ []) (name_scalars _ _ name is) refl
+
+suffix_scalars : (text : Text) → all_scalars (suffix_escaped false text) ≡ true
+suffix_scalars text = all_pass stands_written scalar written_scalar (suffix_escaped false text) (suffix_stands false text)
+
+escaped_scalars : (text : Text) → all_scalars (percent_escaped text) ≡ true
+escaped_scalars text = all_pass stands_written scalar written_scalar (percent_escaped text) (escaped_stands text)
+
+spelled_scalars : (tag : Text) → all_scalars (spelled false (spelling default_directives tag)) ≡ true
+spelled_scalars tag = by (behind (codes "!") tag) (behind (codes "tag:yaml.org,2002:") tag)
+  where
+    by : (first second : Option Text)
+        → all_scalars (spelled false (spelling_by (codes "!") first (spelling_by (codes "!!") second (verbatim tag)))) ≡ true
+    by (Some suffix) second = suffix_scalars suffix
+    by None (Some suffix) = suffix_scalars suffix
+    by None None = joined_scalars (percent_escaped tag) (codes ">") (escaped_scalars tag) refl
+
+tag_scalars : (tag : Text) (bare : Bool) → all_scalars (tag_text (Some tag) bare) ≡ true
+tag_scalars tag bare = joined_scalars (spelled false (spelling default_directives tag)) (space ∷ []) (spelled_scalars tag) refl
+
+properties_scalars : (anchor : Option Text) (tag : Text) (bare : Bool) → IsAnchor anchor
+    → all_scalars (anchor_text anchor ++ tag_text (Some tag) bare) ≡ true
+properties_scalars anchor tag bare is = joined_scalars (anchor_text anchor) (tag_text (Some tag) bare) (anchor_scalars anchor is) (tag_scalars tag bare)
+
+-- ---- what stands around a node
+
+line_scalars : (column : ℕ) (rest : Text) → all_scalars rest ≡ true → all_scalars (line_at column ++ rest) ≡ true
+line_scalars column rest h = joined_scalars (line_at column) rest (spaces_scalars column) h
+
+lead_scalars : (levels : List Awaited) → all_scalars (lead_text levels) ≡ true
+lead_scalars [] = refl
+lead_scalars (item_awaited empty ∷ outer) = spaces_scalars (length (item_awaited empty ∷ outer) * 2)
+lead_scalars (key_awaited empty ∷ outer) = line_scalars (length (key_awaited empty ∷ outer) * 2) (codes "? ") refl
+lead_scalars (value_awaited ∷ outer) = line_scalars (length (value_awaited ∷ outer) * 2) (codes ": ") refl
+
+trail_scalars : (levels : List Awaited) → all_scalars (trail_text levels) ≡ true
+trail_scalars [] = refl
+trail_scalars (item_awaited empty ∷ outer) = refl
+trail_scalars (key_awaited empty ∷ outer) = refl
+trail_scalars (value_awaited ∷ outer) = refl
+
+end_scalars : (column : ℕ) (empty : Bool) (bracket : Text) → all_scalars bracket ≡ true → all_scalars (closing_line column empty ++ bracket) ≡ true
+end_scalars column true bracket h = h
+end_scalars column false bracket h = line_scalars column bracket h
+
+closing_scalars : (levels : List Awaited) → all_scalars (closing_text levels) ≡ true
+closing_scalars [] = refl
+closing_scalars (item_awaited empty ∷ outer) = end_scalars (length outer * 2) empty (codes "]") refl
+closing_scalars (key_awaited empty ∷ outer) = end_scalars (length outer * 2) empty (codes "}") refl
+closing_scalars (value_awaited ∷ outer) = refl
+
+between : (levels : List Awaited) (text : Text) → all_scalars text ≡ true → all_scalars (lead_text levels ++ (text ++ trail_text levels)) ≡ true
+between levels text h =
+    joined_scalars (lead_text levels) (text ++ trail_text levels) (lead_scalars levels) (joined_scalars text (trail_text levels) h (trail_scalars levels))
+
+behind_end : (levels : List Awaited) → all_scalars (closing_text levels ++ trail_text (outside levels)) ≡ true
+behind_end levels = joined_scalars (closing_text levels) (trail_text (outside levels)) (closing_scalars levels) (trail_scalars (outside levels))
+
+-- ---- events
+
+opening_scalars : (levels : List Awaited) (event : Event) → BeginsNode event → all_scalars (event_text levels event) ≡ true
+opening_scalars levels event (is_alias name sound) = between levels (codes "*" ++ name) (name_scalars _ _ name sound)
+opening_scalars levels event (is_scalar anchor tag value parts) =
+    let bare = not (bytes_eq tag string_tag) in
+    between levels (anchor_text anchor ++ tag_text (Some tag) bare ++ in_quotes value)
+    (joined_scalars (anchor_text anchor ++ tag_text (Some tag) bare) (in_quotes value) (properties_scalars anchor tag bare parts.anchor_sound)
+    (quotes_scalars value parts.value_scalars))
+opening_scalars levels event (is_sequence anchor tag parts) =
+    joined_scalars (lead_text levels) _ (lead_scalars levels)
+    (joined_scalars (anchor_text anchor ++ tag_text (Some tag) false) (codes "[") (properties_scalars anchor tag false parts.anchor_sound) refl)
+opening_scalars levels event (is_mapping anchor tag parts) =
+    joined_scalars (lead_text levels) _ (lead_scalars levels)
+    (joined_scalars (anchor_text anchor ++ tag_text (Some tag) false) (codes "{") (properties_scalars anchor tag false parts.anchor_sound) refl)
+
+event_scalars : (levels : List Awaited) (event : Event) → IsInNode event → all_scalars (event_text levels event) ≡ true
+event_scalars levels event (begins_node other begins) = opening_scalars levels event begins
+event_scalars levels event ends_sequence = behind_end levels
+event_scalars levels event ends_mapping = behind_end levels
+
+run_scalars : (levels : List Awaited) (events : List Event) (text : Text) → HasRunText levels events text → All IsInNode events → all_scalars text ≡ true
+run_scalars levels events text (root_ends before event whole come none is) all =
+    ap all_scalars is ∙ event_scalars levels event (All-head IsInNode event [] all)
+run_scalars levels events text (more_come before next event later rest whole come some is run) all =
+    ap all_scalars is
+    ∙ joined_scalars (event_text levels event) rest (event_scalars levels event (All-head IsInNode event later all))
+    (run_scalars next later rest run (All-tail IsInNode event later all))
+
+-- the bytes of a document's events are UTF-8
+pub run_utf8 : (bytes : List ℕ) (events : List Event) → AreRunBytes bytes events → IsUtf8 bytes
+run_utf8 bytes events run =
+    let behind = run.node ++ line_feed ∷ [] in (
+      codes "---\n" ++ behind,
+      (joined_scalars run.node (line_feed ∷ []) (run_scalars [] events run.node run.run run.in_node) refl,
+      word_encoded (codes "---\n") behind refl ∙ sym run.parts),
+    )

@@ -1,0 +1,14 @@
+use Rattle.std.proofs.Common.{◌≡◌, ◌∙◌, rules, sym}
+use Rattle.yaml_base.specs.graphs.Documents.{graph_of}
+use Rattle.yaml_read.proofs.DocumentsRead.{has_nodes}
+use Rattle.yaml_read.proofs.documents.composed.Goals as goal
+
+pub returns-in-Ok : goal.returns-in-Ok
+returns-in-Ok g c node is =
+    let has = c.in-Ok.ensures.has_events ∙ is in
+    (record { whole = c.numbers_name_nodes.ensures; has_nodes = has_nodes (graph_of c.in-Ok.document) node has }, has)
+
+pub returns-in-Err-NotDumped : goal.returns-in-Err-NotDumped
+returns-in-Err-NotDumped g c node is graph whole has =
+    let memory = c.in-Err-NotDumped.ensures.composes graph whole (has ∙ sym is) in
+    cc

@@ -1,0 +1,117 @@
+use Rattle.std.proofs.Common.{◌≡◌, ◌++◌, ◌∷◌, ◌<◌, [], List, Some, ap, subst, sym, ◌∙◌, arith, length, map, rules}
+use Rattle.std.specs.Prelude.{Ok, All, Result, codes}
+use Rattle.yaml_base.specs.Event.{Event, document_end}
+use Rattle.yaml_base.specs.Seen.{seen_event}
+use Rattle.yaml_read.specs.Awaits.{seen_awaits}
+use Rattle.yaml_read.specs.EventSteps.{bytes_behind, open_now}
+use Rattle.yaml_read.specs.RunPlaces.{RunStops, in_document}
+use Rattle.yaml_read.specs.Words.{OrMemory}
+use Rattle.yaml_read.specs.declared.steps.Progress.{Progress}
+use Rattle.std.proofs.Common.{true}
+use Rattle.yaml_read.proofs.Awaits.{error_exit, if_ok, memory_exit, or_memory_by}
+use Rattle.yaml_read.proofs.Breaking.{err_exit}
+use Rattle.yaml_read.proofs.EventRuns.{RunDue, RunRead, memory_stops, next_of, run_begins, run_goes, run_sound, stops_at_end, stops_at_event}
+use Rattle.yaml_base.specs.declared.events.yaml_event_t.{yaml_event_t}
+use Rattle.yaml_read.proofs.runs.read_events.Goals as goal
+
+pub steps-init : goal.steps-init
+steps-init g c =
+    let begins = run_begins c.args.text.now (map seen_event c.in_ok-events.events.items) (seen_awaits c.new-awaits.result.items) c.in_ok-events.ensures.begun
+    (ap seen_awaits c.new-awaits.ensures.items) in
+    (search rules, begins.0, begins.1)
+
+pub steps-preserved : goal.steps-preserved
+steps-preserved g c =
+    let now = seen_awaits c.read_event.new.awaits.items in
+    let new = map seen_event c.push.new.events.items in
+    let progress = c.in_ok-event.progress in
+    let goes = run_goes c.args.text.now (map seen_event c.steps.events.items) new (seen_awaits c.steps.awaits.items) c.steps.rest.now
+    (bytes_behind progress) (open_now now progress) (seen_event c.in_ok-event.event) c.in_ok-push.ensures.pushed c.steps.invariant.1 c.steps.invariant.2
+    c.in_ok-event.ensures.sound c.in_ok-event.ensures.reads in (
+      search rules,
+      subst (λ (p : Progress). RunRead c.args.text.now new (open_now now p) (bytes_behind p)) c.in-Continues.is goes.0,
+      subst (λ (p : Progress). RunDue c.args.text.now new (open_now now p) (bytes_behind p)) c.in-Continues.is goes.1,
+    )
+
+pub steps-smaller : goal.steps-smaller
+steps-smaller g c =
+    subst (λ (p : Progress). length (bytes_behind p) < length c.steps.rest.now) c.in-Continues.is c.in_ok-event.ensures.shorter
+
+pub returns-in_err-events-clause-reads : goal.returns-in_err-events-clause-reads
+returns-in_err-events-clause-reads g c =
+    λ events node run in_node is.
+    memory_exit c.from_residual.result (λ found. map seen_event found.items ≡ in_document events) c.in_err-events.field-0.0 c.from_residual.ensures
+    c.in_err-events.ensures.memory
+
+pub returns-in_err-events-clause-stops : goal.returns-in_err-events-clause-stops
+returns-in_err-events-clause-stops g c =
+    err_exit (RunStops c.args.text.now) c.in_err-events.field-0.0 c.from_residual.result c.from_residual.ensures
+    (memory_stops c.args.text.now c.in_err-events.field-0.0 c.in_err-events.ensures.memory)
+
+pub returns-in_err-event-clause-reads : goal.returns-in_err-event-clause-reads
+returns-in_err-event-clause-reads g c =
+    λ events node run in_node is.
+    let levels = seen_awaits c.steps.awaits.items in
+    let found_so_far = map seen_event c.steps.events.items in
+    let due = c.steps.invariant.2.due events node run in_node is in
+    let next = next_of events found_so_far levels c.steps.rest.now due in
+    error_exit c.from_residual-in_err-event.result (λ found. map seen_event found.items ≡ in_document events) c.in_err-event.field-0.0
+    (λ (found : yaml_event_t g.row.A.Denot × Progress). seen_event found.0 ≡ next.event) c.from_residual-in_err-event.ensures
+    (c.in_err-event.ensures.reads next.event next.tail next.in_node next.comes next.ends next.bytes_are)
+
+pub returns-in_err-event-clause-stops : goal.returns-in_err-event-clause-stops
+returns-in_err-event-clause-stops g c =
+    err_exit (RunStops c.args.text.now) c.in_err-event.field-0.0 c.from_residual-in_err-event.result c.from_residual-in_err-event.ensures
+    (stops_at_event c.args.text.now (map seen_event c.steps.events.items) (seen_awaits c.steps.awaits.items) c.steps.rest.now c.in_err-event.field-0.0
+    (λ (event : Event) (found : yaml_event_t g.row.A.Denot × Progress). seen_event found.0 ≡ event) c.steps.invariant.1 c.in_err-event.ensures.reads c.in_err-event.ensures.stops)
+
+pub returns-in_err-push-clause-reads : goal.returns-in_err-push-clause-reads
+returns-in_err-push-clause-reads g c =
+    λ events node run in_node is.
+    memory_exit c.from_residual-in_err-push.result (λ found. map seen_event found.items ≡ in_document events) c.in_err-push.field-0.0 c.from_residual-in_err-push.ensures
+    c.in_err-push.ensures.memory
+
+pub returns-in_err-push-clause-stops : goal.returns-in_err-push-clause-stops
+returns-in_err-push-clause-stops g c =
+    err_exit (RunStops c.args.text.now) c.in_err-push.field-0.0 c.from_residual-in_err-push.result c.from_residual-in_err-push.ensures
+    (memory_stops c.args.text.now c.in_err-push.field-0.0 c.in_err-push.ensures.memory)
+
+pub returns-in-RootEnds-clause-reads : goal.returns-in-RootEnds-clause-reads
+returns-in-RootEnds-clause-reads g c =
+    λ events node run in_node is.
+    let now = seen_awaits c.read_event.new.awaits.items in
+    let new = map seen_event c.push.new.events.items in
+    let progress = c.in_ok-event.progress in
+    let goes = run_goes c.args.text.now (map seen_event c.steps.events.items) new (seen_awaits c.steps.awaits.items) c.steps.rest.now
+    (bytes_behind progress) (open_now now progress) (seen_event c.in_ok-event.event) c.in_ok-push.ensures.pushed c.steps.invariant.1 c.steps.invariant.2
+    c.in_ok-event.ensures.sound c.in_ok-event.ensures.reads in
+    let runs = subst (λ (p : Progress). RunDue c.args.text.now new (open_now now p) (bytes_behind p)) c.in-RootEnds.is goes.1 in
+    let due = runs.due events node run in_node is in
+    or_memory_by c.end_events.result
+    (λ found. (map seen_event found.items ≡ new ++ document_end true ∷ []) × (c.in-RootEnds.next.now ≡ codes "\n"))
+    (λ found. map seen_event found.items ≡ in_document events) (c.end_events.ensures.reads due.bytes_are) c.end_events.ensures.sound
+    (λ found sound. sound.0 ∙ sym due.all)
+
+pub returns-in-RootEnds-clause-sound : goal.returns-in-RootEnds-clause-sound
+returns-in-RootEnds-clause-sound g c =
+    let now = seen_awaits c.read_event.new.awaits.items in
+    let new = map seen_event c.push.new.events.items in
+    let progress = c.in_ok-event.progress in
+    let goes = run_goes c.args.text.now (map seen_event c.steps.events.items) new (seen_awaits c.steps.awaits.items) c.steps.rest.now
+    (bytes_behind progress) (open_now now progress) (seen_event c.in_ok-event.event) c.in_ok-push.ensures.pushed c.steps.invariant.1 c.steps.invariant.2
+    c.in_ok-event.ensures.sound c.in_ok-event.ensures.reads in
+    let ended = subst (λ (p : Progress). RunRead c.args.text.now new (open_now now p) (bytes_behind p)) c.in-RootEnds.is goes.0 in
+    if_ok c.end_events.result
+    (λ found. (map seen_event found.items ≡ new ++ document_end true ∷ []) × (c.in-RootEnds.next.now ≡ codes "\n")) _
+    (λ found sound. run_sound c.args.text.now new (map seen_event found.items) c.in-RootEnds.next.now ended sound.0 sound.1) c.end_events.ensures.sound
+
+pub returns-in-RootEnds-clause-stops : goal.returns-in-RootEnds-clause-stops
+returns-in-RootEnds-clause-stops g c =
+    let now = seen_awaits c.read_event.new.awaits.items in
+    let new = map seen_event c.push.new.events.items in
+    let progress = c.in_ok-event.progress in
+    let goes = run_goes c.args.text.now (map seen_event c.steps.events.items) new (seen_awaits c.steps.awaits.items) c.steps.rest.now
+    (bytes_behind progress) (open_now now progress) (seen_event c.in_ok-event.event) c.in_ok-push.ensures.pushed c.steps.invariant.1 c.steps.invariant.2
+    c.in_ok-event.ensures.sound c.in_ok-event.ensures.reads in
+    let ended = subst (λ (p : Progress). RunRead c.args.text.now new (open_now now p) (bytes_behind p)) c.in-RootEnds.is goes.0 in
+    stops_at_end c.args.text.now new c.in-RootEnds.next.now c.end_events.result (λ _. Unit {0}) ended c.end_events.ensures.reads c.end_events.ensures.stops

@@ -1,0 +1,15 @@
+use Rattle.std.proofs.Common.{Some, length, map}
+use denote.Text.{Utf8}
+use denote.Shadow.{shadow}
+use Rattle.yaml_base.specs.Seen.{seen_event}
+use Rattle.yaml_read.specs.Awaits.{seen_awaits}
+use Rattle.yaml_read.proofs.EventRuns.{RunBegun, RunDue}
+use Rattle.yaml_read.proofs.runs.read_events.Given as goal
+
+abbrev pub invariant-steps : goal.invariant-steps
+invariant-steps g l =
+    shadow (Utf8 l.rest) × RunBegun l.fn.text (map seen_event l.events.items) (seen_awaits l.awaits.items) l.rest
+    × RunDue l.fn.text (map seen_event l.events.items) (Some (seen_awaits l.awaits.items)) l.rest
+
+abbrev pub decreases-steps : goal.decreases-steps
+decreases-steps g l = length l.rest

@@ -1,0 +1,21 @@
+use Rattle.std.proofs.Common.{not, ◌&&◌, ap, refl, sym, ◌∙◌}
+use Rattle.std.specs.Prelude.{chars, is_some}
+use Rattle.yaml_base.specs.Tags.{behind}
+use Rattle.yaml_read.proofs.TagTexts.{stays_by, stays_not}
+use Rattle.yaml_read.specs.WrittenTags.{type_prefix}
+use Rattle.yaml_read.proofs.tags.stays_verbatim.Goals as goal
+
+pub returns-then-is_empty : goal.returns-then-is_empty
+returns-then-is_empty c = stays_not c.args.tag.now (sym c.is_empty.ensures ∙ c.if-is_empty.true) c.utf8.tag
+
+pub returns-then-goes_on : goal.returns-then-goes_on
+returns-then-goes_on c =
+    sym (ap (λ b. not b && not (is_some (behind type_prefix (chars c.args.tag.now)))) c.if-goes_on.true)
+    ∙ stays_by c.args.tag.now c.goes_on.result (is_some (behind type_prefix (chars c.args.tag.now))) c.utf8.tag (sym c.is_empty.ensures ∙ c.if-is_empty.false)
+    c.goes_on.ensures refl
+
+pub returns : goal.returns
+returns c =
+    sym (ap (λ b. not b && not c.goes_on-2.result) c.if-goes_on.false)
+    ∙ stays_by c.args.tag.now c.goes_on.result c.goes_on-2.result c.utf8.tag (sym c.is_empty.ensures ∙ c.if-is_empty.false) c.goes_on.ensures
+    c.goes_on-2.ensures

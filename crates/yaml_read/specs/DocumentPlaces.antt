@@ -1,0 +1,67 @@
+-- Why bytes are not read as a document, and where.
+use Rattle.std.specs.Prelude.{ℕ, ◌-◌, ◌≡◌, ◌≢◌, ◌⊎◌, None, Result, Ok, Err, List, [], ◌∷◌, ◌++◌, All, codes, length}
+use Rattle.std.specs.Str.{IsUtf8, IsValidUpTo, encode_utf8_all}
+use Rattle.yaml_base.specs.Characters.{Text, line_feed}
+use Rattle.yaml_base.specs.Event.{Event}
+use Rattle.yaml_base.specs.graphs.Documents.{graph_of}
+use Rattle.yaml_base.specs.graphs.Meetings.{Graph, document_event_list}
+use Rattle.yaml_base.specs.graphs.Unfolding.{IsWholeGraph}
+use Rattle.yaml_base.specs.values.LinesAndColumns.{column_of, line_of}
+use Rattle.yaml_base.specs.declared.documents.yaml_document_t.{yaml_document_t}
+use Rattle.yaml_read.specs.EventTexts.{HasRunText, IsInNode}
+use Rattle.yaml_read.specs.Places.{IsBehindMarker}
+use Rattle.yaml_read.specs.RunPlaces.{StopsInRun, in_document}
+use Rattle.yaml_read.specs.Words.{past_word}
+use Rattle.yaml_read.specs.declared.errors.ReadError.{ReadError}
+use Rattle.yaml_read.specs.declared.errors.ReadError.TheVariants as told
+use Rattle.yaml_read.specs.declared.errors.Stop.{Stop}
+use Rattle.yaml_read.specs.declared.errors.Stop.TheVariants as stop
+
+-- the bytes are a document's first line, the text of the events of a node, and a line's end
+pub record AreRunBytes (bytes : List ℕ) (events : List Event) : Type 0 where
+  pub node : Text
+  pub run : HasRunText [] events node
+  pub in_node : All IsInNode events
+  pub parts : bytes ≡ codes "---\n" ++ encode_utf8_all (node ++ line_feed ∷ [])
+
+-- the events of a document, those of its node among them, have these bytes
+pub record AreEventsOf (bytes : List ℕ) (all : List Event) : Type 0 where
+  pub events : List Event
+  pub whole : all ≡ in_document events
+  pub run : AreRunBytes bytes events
+
+-- so far before their end a document's first line is missing, or behind it no event goes on
+abbrev pub StopsInDumpedBytes : (bytes : List ℕ) → (left : ℕ) → Type 0
+StopsInDumpedBytes bytes left =
+    ((past_word (codes "---\n") bytes ≡ None) × (left ≡ length bytes)) ⊎ IsBehindMarker bytes (λ whole. StopsInRun whole left)
+
+-- the bytes are those of the events of a node, and no graph with nodes has these events
+pub record AreNotNumbered (bytes : List ℕ) : Type 0 where
+  pub events : List Event
+  pub run : AreRunBytes bytes events
+  pub none : (graph : Graph) → IsWholeGraph graph → document_event_list graph ≢ in_document events
+
+-- an error has the line and the column of where the bytes stop to be UTF-8, or else of where they stop to be those of events; or they
+-- are those of events that no graph has
+abbrev pub IsDocumentPlaced : (bytes : List ℕ) → ReadError → Type 0
+IsDocumentPlaced bytes (told.NotCanonical line column) =
+    (at : ℕ) × (line ≡ line_of bytes at) × (column ≡ column_of bytes at)
+    × (((IsUtf8 bytes → ⊥) × IsValidUpTo bytes at) ⊎ ((left : ℕ) × IsUtf8 bytes × (at ≡ length bytes - left) × StopsInDumpedBytes bytes left))
+IsDocumentPlaced bytes (told.TooDeep line column) = ⊥
+IsDocumentPlaced bytes told.NotNumbered = AreNotNumbered bytes
+IsDocumentPlaced bytes told.Memory = Unit {0}
+
+-- ---- the code's answers
+
+-- why reading events stops
+abbrev pub DocumentStops : (bytes : List ℕ) → Stop → Type 0
+DocumentStops bytes (stop.Refused left) = StopsInDumpedBytes bytes left
+DocumentStops bytes (stop.TooDeep left) = ⊥
+DocumentStops bytes stop.Memory = Unit {0}
+
+-- a document has the events of this node; or none has, or memory gave out
+abbrev pub ComposesNode : {A : Type 0} → List Event → Result (yaml_document_t A) ReadError → Type 0
+ComposesNode events (Ok document) = IsWholeGraph (graph_of document) × (document_event_list (graph_of document) ≡ in_document events)
+ComposesNode events (Err told.NotNumbered) = (graph : Graph) → IsWholeGraph graph → document_event_list graph ≢ in_document events
+ComposesNode events (Err told.Memory) = Unit {0}
+ComposesNode events (Err _) = ⊥

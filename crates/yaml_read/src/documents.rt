@@ -1,0 +1,80 @@
+//! A document read from the bytes of its dump.
+ghost use Rattle.std.specs.Prelude.{◌≡◌, ◌⊎◌, IfErr, IfOk, List, map};
+ghost use Rattle.yaml_base.specs.Event.{Event};
+ghost use Rattle.yaml_base.specs.Seen.{seen_event};
+ghost use Rattle.yaml_base.specs.graphs.Documents.{graph_of};
+ghost use Rattle.yaml_base.specs.graphs.Isomorphic.{Isomorphic};
+ghost use Rattle.yaml_base.specs.graphs.Meetings.{Graph};
+ghost use Rattle.yaml_read.specs.DocumentPlaces.{AreEventsOf, AreRunBytes, ComposesNode, DocumentStops, IsDocumentPlaced};
+ghost use Rattle.yaml_read.specs.DocumentTexts.{AreDumpedBytes};
+ghost use Rattle.yaml_read.specs.RunPlaces.{in_document};
+ghost use Rattle.yaml_read.specs.Words.{OrMemory};
+
+use crate::cuts::after;
+use crate::errors::{ReadError, Stop};
+use crate::reading::{error_of, not_canonical};
+use crate::runs::read_events;
+use std::alloc::Allocator;
+use yaml_base::{yaml_document_t, yaml_event_t};
+use yaml_dump::{ComposeError, document_of_events};
+
+/// Returns the events of a document of this text.
+fn events_of_text<A: Allocator + Copy>(
+    alloc: A,
+    text: &str,
+) -> Result<Vec<yaml_event_t<A>, A>, Stop>
+    ensures reads { (events : List Event) → AreRunBytes text.now events
+        → OrMemory (λ found. map seen_event found.items ≡ in_document events) result }
+    ensures sound { IfOk result (λ found. AreEventsOf text.now (map seen_event found.items)) }
+    ensures stops { IfErr result (DocumentStops text.now) }
+{
+    let node = after(text, "---\n")?;
+    read_events(alloc, node)
+}
+
+/// Returns the document that has these events.
+fn composed<A: Allocator + Copy>(
+    alloc: A,
+    events: &[yaml_event_t<A>],
+) -> Result<yaml_document_t<A>, ReadError>
+    ensures { (node : List Event) → map seen_event events.now ≡ in_document node → ComposesNode node result }
+{
+    match document_of_events(alloc, events) {
+        Ok(document) => {
+            // A law: what the nodes hold are numbers of nodes.
+            document.numbers_name_nodes();
+            Ok(document)
+        }
+        Err(ComposeError::NotDumped) => Err(ReadError::NotNumbered),
+        Err(ComposeError::Memory) => Err(ReadError::Memory),
+    }
+}
+
+/// Returns the document that these are the canonical bytes of. They are exactly what `yaml_emitter_dump` writes, by the settings
+/// `canonical_settings()` of `yaml_value`, of one document that has neither a version nor directives, and an end that isn't written.
+/// Nothing else is accepted. (Bytes are read also where the document nests deeper than an emitter goes.)
+///
+/// Its nodes are numbered in the order in which they begin, and their styles are `ANY`. Dumped so again, it gives these bytes.
+///
+/// # Errors
+/// `NotCanonical` where the bytes aren't laid out as those of a document: its place lies in the first event that can't stand where it
+/// stands. `NotNumbered` where they are, but no dump gives its nodes these anchors and aliases: an anchor without an alias, an alias
+/// before its anchor, names other than `id001`, `id002` and so on in the order of each node's first alias. `Memory` where an allocation
+/// fails, or where there are more nodes than a document can number.
+pub fn read_document<A: Allocator + Copy>(
+    alloc: A,
+    bytes: &[u8],
+) -> Result<yaml_document_t<A>, ReadError>
+    ensures read { IfOk result (λ document. AreDumpedBytes (graph_of document) bytes.now) }
+    ensures one { IfOk result (λ document. (graph : Graph) → AreDumpedBytes graph bytes.now → Isomorphic graph (graph_of document)) }
+    ensures complete { IfErr result (λ error. (error ≡ ReadError.Memory) ⊎ ((graph : Graph) → AreDumpedBytes graph bytes.now → ⊥)) }
+    ensures placed { IfErr result (IsDocumentPlaced bytes.now) }
+{
+    match std::str::from_utf8(bytes) {
+        Ok(text) => match events_of_text(alloc, text) {
+            Ok(events) => composed(alloc, events.as_slice()),
+            Err(stop) => Err(error_of(bytes, stop)),
+        },
+        Err(error) => Err(not_canonical(bytes, error.valid_up_to())),
+    }
+}

@@ -1,0 +1,19 @@
+//! Documents read back, as the documents show it.
+use crate::tests::equal;
+use std::alloc::Global;
+use yaml_read::{ReadError, read_document};
+
+/// Returns how many nodes the document of these canonical bytes has; a node that stands as aliases elsewhere counts once.
+fn stored_nodes(alloc: Global, bytes: &[u8]) -> Result<i32, ReadError> {
+    let document = read_document(alloc, bytes)?;
+    Ok(document.node_count())
+}
+
+#[test]
+fn an_alias_is_no_node(rt: HostRuntime) {
+    let shared = b"---\n!!seq [\n  &id001 !!str \"a\",\n  *id001,\n]\n";
+    equal(&rt, &stored_nodes(rt.alloc(), shared), &Ok(2));
+    let unnamed = b"---\n!!seq [\n  &id001 !!str \"a\",\n]\n";
+    let refused = stored_nodes(rt.alloc(), unnamed);
+    equal(&rt, &refused, &Err(ReadError::NotNumbered));
+}
