@@ -10,9 +10,10 @@ use Rattle.yaml_writer.specs.Writing.{StandsTaken, WriterState, opening}
 use Rattle.yaml_json.specs.Failing.{between}
 use Rattle.yaml_json.specs.JsonEvents.{json_events}
 use Rattle.yaml_json.specs.Refused.{HaveNamesOnce}
-use Rattle.yaml_json.specs.Sent.{BeginsNext, Sends, WroteTaking}
+use Rattle.yaml_json.specs.SendingCalls.{SendsTexts}
+use Rattle.yaml_json.specs.Sent.{BeginsNext, WroteTaking}
 use Rattle.yaml_json.specs.Texts.{texts_in}
-use Rattle.yaml_json.specs.Wrote.{AreJson, parts_events}
+use Rattle.yaml_json.specs.Wrote.{AreJson, IsBare, parts_events}
 use Rattle.yaml_json.specs.declared.error.StreamError.{StreamError}
 use Rattle.yaml_json.specs.declared.settings.JsonSettings.{JsonSettings}
 use Rattle.yaml_json.proofs.GivenAndTaken.{appends_then, taking_then}
@@ -48,13 +49,19 @@ both_events canonical in_flow first (second ∷ rest) next more =
 -- ---- what the calls say
 
 -- what is known of a reader's bytes is known of a file's
-pub file_known : (settings : JsonSettings) (answer : Result (Unit {0}) StreamError) (known left : Option (List ℕ)) (was now : WriterState)
-    (before after : Option (List ℕ)) → IfSome known (λ bytes. left ≡ Some bytes) → IfSome left (λ text. Sends settings text was before answer now after)
+pub file_known : (settings : JsonSettings) (answer : Result (Unit {0}) StreamError) (known ahead left : Option (List ℕ)) (was now : WriterState)
+    (before after : Option (List ℕ)) → IfSome known (λ bytes. ahead ≡ Some bytes) → SendsTexts settings ahead left was before answer now after
     → OnOk answer ((file : List ℕ) → known ≡ Some file → SentFile settings file was before now after)
-file_known settings (Err error) known left was now before after opened sends = tt
-file_known settings (Ok done) known left was now before after opened sends = λ file is.
-    let at : left ≡ Some file = subst (λ (k : Option (List ℕ)). IfSome k (λ bytes. left ≡ Some bytes)) is opened in
-    subst (λ (bytes : Option (List ℕ)). IfSome bytes (λ text. SentFile settings text was before now after)) at sends
+file_known settings (Err error) known ahead left was now before after opened sends = tt
+file_known settings (Ok done) known ahead left was now before after opened sends = λ file is.
+    let at : ahead ≡ Some file = subst (λ (k : Option (List ℕ)). IfSome k (λ bytes. ahead ≡ Some bytes)) is opened in
+    subst (λ (bytes : Option (List ℕ)). IfSome bytes (λ text. SentFile settings text was before now after)) at sends.sent
+
+-- no anchor and no tag is left
+pub file_bare : (settings : JsonSettings) (answer : Result (Unit {0}) StreamError) (ahead left : Option (List ℕ)) (was now : WriterState)
+    (before after : Option (List ℕ)) → SendsTexts settings ahead left was before answer now after → OnOk answer (IsBare now)
+file_bare settings (Err error) ahead left was now before after sends = tt
+file_bare settings (Ok done) ahead left was now before after sends = sends.bare
 
 module _ (settings : JsonSettings) where
   -- a file

@@ -4,13 +4,16 @@ use Rattle.yaml_json.proofs.SendingSteps.{stops_here, stops_next_text}
 use Rattle.yaml_json.proofs.Common.{ℕ, IfSome, Option, None, Some, length, Bool, true, List, [], ◌++◌, refl, ◌≡◌, append-nil, append_assoc, ap}
 use Rattle.yaml_json.proofs.Common.{subst, sym, ◌∙◌, Appends, Token, tokens, HasScanned, NamesOnce, Advances, StopsWithin, IsBare, WroteText, WriterState, Ok}
 use Rattle.yaml_json.proofs.Common.{Err, Result}
-use Rattle.yaml_json.specs.SendingCalls.{LastStep}
+use Rattle.yaml_json.specs.Failing.{Grew}
+use Rattle.yaml_json.specs.SendingCalls.{LastStep, SendsTexts}
+use Rattle.yaml_json.proofs.Growing.{grew_then}
+use Rattle.yaml_pen.proofs.Composing.{grows_then}
 use Rattle.std.specs.Io.KnownBytes.{Keeps, Consumes, IsAtEnd}
 use Rattle.std.specs.Prelude.{IsUtf8}
 use Rattle.yaml_json.proofs.Cutting.{whole_text}
 use Rattle.yaml_json.specs.declared.cuts.Cut.{Cut}
 use Rattle.yaml_json.specs.declared.error.StreamError.{StreamError}
-use Rattle.yaml_json.specs.Sent.{SentTexts, SentSoFar, StopsInPart, StopsPartAt, StopsSending, HasCome, Sends}
+use Rattle.yaml_json.specs.Sent.{SentTexts, SentSoFar, StopsInPart, StopsPartAt, StopsSending, HasCome, emitter_error}
 use Rattle.yaml_json.proofs.Stopping.{if_some}
 use Rattle.yaml_json.specs.Places.{HasPlaceWithin, IsPlaceAfter, MovesPlace}
 use Rattle.yaml_json.specs.declared.places.Place.{Place}
@@ -185,14 +188,26 @@ module _ (depth : ℕ) (in_flow unique : Bool) (was : WriterState) (start : Opti
       (stops come.front come.follows))
 
 -- as the last text's result says
-pub last_sends : (settings : JsonSettings) (was : WriterState) (start : Option (List ℕ)) (held : List ℕ) (place : Place) (ahead : Option (List ℕ))
+pub ends_sending : (settings : JsonSettings) (was : WriterState) (start : Option (List ℕ)) (held : List ℕ) (place : Place) (ahead : Option (List ℕ))
     (now : WriterState) (holds : Option (List ℕ)) → IsAtEnd ahead → (scan : Cut) → HasScanned held scan → scan.scanned ≡ length held
-    → (result : Result (Unit {0}) StreamError) (after : WriterState) (first : Option (List ℕ)) → LastStep settings held place now result after
+    → (result : Result (Unit {0}) StreamError) (after : WriterState) (first : Option (List ℕ)) → Grew was None now
+    → LastStep settings held place now result after
     → IfSome first (λ text. Comes settings.depth settings.flow settings.unique_names text was start held place ahead now holds)
-    → IfSome first (λ text. Sends settings text was start result after holds)
-last_sends settings was start held place ahead now holds ended scan scanned all (Ok done) after first gave come =
-    last_given settings.depth settings.flow settings.unique_names was start held place ahead now holds ended scan scanned all after first
-    gave.given.names gave.utf8 gave.given.written come
-last_sends settings was start held place ahead now holds ended scan scanned all (Err error) after first stops come =
-    last_stopped settings.depth settings.flow settings.unique_names was start held place ahead now holds ended scan scanned all first error
-    after stops.stopped come
+    → SendsTexts settings first ahead was start result after holds
+ends_sending settings was start held place ahead now holds ended scan scanned all (Ok done) after first grew gave come =
+    record {
+      grows = grows_then {between = now.emitter.page} grew.grows gave.given.kept.grows;
+      sound = gave.given.kept.sound;
+      ended = ended;
+      bare = gave.given.written.wrote.bare;
+      sent = last_given settings.depth settings.flow settings.unique_names was start held place ahead now holds ended scan scanned all after first
+          gave.given.names gave.utf8 gave.given.written come;
+    }
+ends_sending settings was start held place ahead now holds ended scan scanned all (Err error) after first grew stops come =
+    let grown = grew_then was now after (emitter_error error) grew stops.grew in
+    record {
+      grows = grown.grows;
+      sound = grown.sound;
+      stopped = last_stopped settings.depth settings.flow settings.unique_names was start held place ahead now holds ended scan scanned all first error
+          after stops.stopped come;
+    }

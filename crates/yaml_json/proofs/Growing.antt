@@ -2,11 +2,8 @@
 use Rattle.yaml_json.proofs.Common.{[], append-nil, subst, sym, Option, None, Some, Ok, Err, List, ◌≡◌, inl, inr, some_from_result, Event, failure_of}
 use Rattle.yaml_json.proofs.Common.{WriterState, PassedEvents}
 use Rattle.yaml_base.specs.declared.errors.yaml_error_t.{yaml_error_t}
-use Rattle.yaml_json.proofs.Common.{refl, ℕ, Result, OnOk, IsBare}
-use Rattle.std.specs.Io.KnownBytes.{IsAtEnd}
-use Rattle.yaml_json.specs.{Failing.writers_error, SendingCalls.LastStep, Sent.IsByReader, Sent.IsSoundSending, Sent.emitter_error}
-use Rattle.yaml_json.specs.{declared.error.JsonError.JsonError, declared.places.Place.Place, declared.settings.JsonSettings.JsonSettings}
-use Rattle.yaml_pen.specs.Wrote.{Grows}
+use Rattle.yaml_json.proofs.Common.{refl}
+use Rattle.yaml_json.specs.{Failing.writers_error, Sent.IsByReader, Sent.emitter_error, declared.error.JsonError.JsonError}
 use Rattle.yaml_json.specs.declared.error.StreamError.{StreamError}
 use Rattle.yaml_json.specs.declared.error.StreamError.TheVariants as faults
 use Rattle.yaml_emitter.specs.State.{with_all_taken}
@@ -62,20 +59,3 @@ grew_reading was now (faults.Refused error) is grew =
 grew_reading was now (faults.NotText line column) is grew = absurd is
 grew_reading was now (faults.ReadFailed error) is grew = grew
 grew_reading was now (faults.WriteFailed error) is grew = absurd is
-
--- the last text
-module _ (was middle now : WriterState) (settings : JsonSettings) (held : List ℕ) (place : Place) where
-  pub ends_grown : (result : Result (Unit {0}) StreamError) → Grew was None middle → LastStep settings held place middle result now
-      → Grows was.emitter.page now.emitter.page
-  ends_grown (Ok done) grew gave = grows_then {between = middle.emitter.page} grew.grows gave.given.kept.grows
-  ends_grown (Err error) grew stops = grows_then {between = middle.emitter.page} grew.grows stops.grew.grows
-
-  pub ends_sound : (result : Result (Unit {0}) StreamError) → Grew was None middle → LastStep settings held place middle result now
-      → IsSoundSending was result now
-  ends_sound (Ok done) grew gave = gave.given.kept.sound
-  ends_sound (Err error) grew stops = (grew_then was middle now (emitter_error error) grew stops.grew).sound
-
-  pub ends_bare : (ahead : Option (List ℕ)) (result : Result (Unit {0}) StreamError) → IsAtEnd ahead → LastStep settings held place middle result now
-      → OnOk result (IsAtEnd ahead × IsBare now)
-  ends_bare ahead (Ok done) ended gave = (ended, gave.given.written.wrote.bare)
-  ends_bare ahead (Err error) ended stops = tt

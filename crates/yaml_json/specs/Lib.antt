@@ -22,4 +22,5 @@ pub mod Nests
 pub mod Sent
 pub mod Offsets
 pub mod WalkSteps
+pub mod WritingCalls
 pub mod SendingCalls

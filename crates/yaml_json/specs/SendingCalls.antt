@@ -1,11 +1,12 @@
 -- What the calls do that read JSON texts part by part and send their documents on, by their results.
-use Rattle.std.specs.Prelude.{◌≡◌, ◌-◌, ℕ, Bool, false, Option, None, Result, Ok, Err, IsUtf8, List, [], drop, length}
+use Rattle.std.specs.Prelude.{◌≡◌, ◌-◌, ℕ, Bool, false, Option, None, Result, Ok, Err, IfSome, IsUtf8, List, [], drop, length}
 use Rattle.std.specs.Io.KnownBytes.{IsAtEnd}
+use Rattle.yaml_pen.specs.Wrote.{Grows}
 use Rattle.yaml_writer.specs.Writing.{WriterState}
 use Rattle.yaml_json.specs.Failing.{Grew}
 use Rattle.yaml_json.specs.Places.{IsPlaceAfter, MovesPlace}
-use Rattle.yaml_json.specs.Sent.{Advances, BeginsNext, FailsNext, HasCome, IsByReader, IsIncoming, IsScanned, LeavesLast}
-use Rattle.yaml_json.specs.Sent.{StopsInPart, StopsWithin, emitter_error}
+use Rattle.yaml_json.specs.Sent.{Advances, BeginsNext, FailsNext, HasCome, IsByReader, IsIncoming, IsScanned, IsSoundSending, LeavesLast}
+use Rattle.yaml_json.specs.Sent.{SentTexts, StopsInPart, StopsSending, StopsWithin, emitter_error}
 use Rattle.yaml_json.specs.WalkSteps.{TextGiven}
 use Rattle.yaml_json.specs.Wrote.{IsBare}
 use Rattle.yaml_json.specs.declared.cuts.Cut.{Cut}
@@ -109,3 +110,26 @@ abbrev pub DropStep : {A : Type 0} → JsonSettings → Incoming A → WriterSta
 DropStep settings came was before (Ok done) left now after = CompleteDropped settings came was before left now after
 DropStep settings came was before (Err error) left now after =
     CompleteStopped settings came.held.items came.reading.place was before error now after
+
+-- ---- all texts of a reader
+
+-- the reader is at its end, and its texts were sent; what was written before stays, and the emitter has no error
+pub record TextsSent (settings : JsonSettings) (ahead left : Option (List ℕ)) (was : WriterState) (before : Option (List ℕ)) (now : WriterState)
+    (after : Option (List ℕ)) : Type 0 where
+  pub grows : Grows was.emitter.page now.emitter.page
+  pub sound : IsSoundSending was (Ok tt) now
+  pub ended : IsAtEnd left
+  pub bare : IsBare now
+  pub sent : IfSome ahead (λ text. SentTexts settings.depth settings.unique_names settings.flow text was before now after)
+
+-- the first of them were sent, and no more; what was written before stays, and an error of the emitter is the one that is returned
+pub record TextsUnsent (settings : JsonSettings) (ahead : Option (List ℕ)) (was : WriterState) (before : Option (List ℕ)) (error : StreamError)
+    (now : WriterState) (after : Option (List ℕ)) : Type 0 where
+  pub grows : Grows was.emitter.page now.emitter.page
+  pub sound : IsSoundSending was (Err error) now
+  pub stopped : IfSome ahead (λ text. StopsSending settings.depth settings.unique_names settings.flow text was before error now after)
+
+abbrev pub SendsTexts : JsonSettings → (ahead left : Option (List ℕ)) → WriterState → Option (List ℕ) → Result (Unit {0}) StreamError → WriterState
+    → Option (List ℕ) → Type 0
+SendsTexts settings ahead left was before (Ok done) now after = TextsSent settings ahead left was before now after
+SendsTexts settings ahead left was before (Err error) now after = TextsUnsent settings ahead was before error now after

@@ -26,7 +26,6 @@ use Rattle.yaml_json.specs.declared.error.JsonError.TheVariants as errors
 use Rattle.yaml_json.specs.declared.error.StreamError.{StreamError}
 use Rattle.yaml_json.specs.declared.error.StreamError.TheVariants as faults
 use Rattle.yaml_json.specs.declared.places.Place.{Place}
-use Rattle.yaml_json.specs.declared.settings.JsonSettings.{JsonSettings}
 
 -- wherever the emitter stood, it stands after these events more, and these bytes are taken more
 abbrev pub AddsTaking : State → List Event → List ℕ → State → Type 0
@@ -196,12 +195,6 @@ pub record StopsSending (depth : ℕ) (unique in_flow : Bool) (text : List ℕ) 
   pub adds :
       AddsTaking was.emitter (events_with_separators was.canonical in_flow parts ++ tokens_events was.canonical in_flow taken) handed now.emitter
   pub documents : SentDocuments in_flow parts was before error handed after
-
--- the texts in a text were sent, all of them, or those before an error
-abbrev pub Sends : JsonSettings → (text : List ℕ) → WriterState → Option (List ℕ) → Result (Unit {0}) StreamError → WriterState → Option (List ℕ)
-    → Type 0
-Sends settings text was before (Ok done) now after = SentTexts settings.depth settings.unique_names settings.flow text was before now after
-Sends settings text was before (Err error) now after = StopsSending settings.depth settings.unique_names settings.flow text was before error now after
 
 -- wherever the sending was, with these bytes ahead, which begin at this place, it stops
 abbrev pub StopsWithin : (depth : ℕ) → (in_flow unique : Bool) → List ℕ → Place → WriterState → Option (List ℕ) → StreamError → WriterState

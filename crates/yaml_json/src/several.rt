@@ -1,11 +1,6 @@
 //! JSON texts that follow one another in a text.
-ghost use Rattle.std.specs.Prelude.{IfErr, OnOk};
-ghost use Rattle.yaml_pen.specs.Wrote.{Grows};
-ghost use Rattle.yaml_json.specs.Failing.{IsSound};
-ghost use Rattle.yaml_json.specs.Refused.{HaveNamesOnce};
-ghost use Rattle.yaml_json.specs.Stopped.{StopsInTexts};
-ghost use Rattle.yaml_json.specs.Texts.{texts_in};
-ghost use Rattle.yaml_json.specs.Wrote.{IsBare, ReadsTexts, WroteTexts};
+ghost use Rattle.yaml_json.specs.WritingCalls.{WritesTexts};
+ghost use Rattle.yaml_json.specs.Wrote.{IsBare};
 
 use crate::cuts::first_cut;
 use crate::error::JsonError;
@@ -22,14 +17,15 @@ use yaml_writer::Writer;
 /// Where the writer was new and is then finished, both schemas of YAML read the documents of its stream as the values of the
 /// texts, in order: in portable mode with the line breaks of YAML 1.1 and with those of 1.2, else with those of the settings.
 ///
-/// The writer must have no anchor and no tag for the next node.
+/// The writer must have no anchor and no tag for the next node. After `Ok` it was given exactly the documents of the texts, has no
+/// anchor and no tag again, and its emitter has no error. Whatever is returned, what was written before stays.
 ///
 /// # Errors
 ///
 /// `NotJson`, `Marked`, `TooDeep` and `DuplicateName` as by `write_json`, where one of the texts is refused; those before it are JSON.
 /// `Emitter` with the error of the writer's emitter, which has it now, or with `Memory` where an allocation fails. After an
-/// error the writer was given the documents of the texts before, and the events of the tokens before of the text that is refused;
-/// nothing that was written is lost.
+/// error the writer was given the documents of the texts before, and exactly the events of the tokens before of the text that is
+/// refused; its emitter has no error that it hadn't before, unless it is the one that is returned.
 pub fn write_json_texts<A: Allocator + Copy>(
     alloc: A,
     writer: &mut Writer<A>,
@@ -37,12 +33,7 @@ pub fn write_json_texts<A: Allocator + Copy>(
     settings: JsonSettings,
 ) -> Result<(), JsonError>
     requires { IsBare writer.old }
-    ensures grows { Grows writer.old.emitter.page writer.new.emitter.page }
-    ensures sound { IsSound writer.old result writer.new }
-    ensures written { OnOk result (WroteTexts settings.depth settings.flow text.now writer.old writer.new) }
-    ensures reads { OnOk result (ReadsTexts settings.depth settings.flow text.now writer.old writer.new) }
-    ensures names { OnOk result (HaveNamesOnce settings.unique_names (texts_in text.now)) }
-    ensures stopped { IfErr result (λ error. StopsInTexts settings.depth settings.unique_names settings.flow text.now writer.old error writer.new) }
+    ensures { WritesTexts settings text.now writer.old result writer.new }
 {
     let mut rest = text;
     'texts: loop {

@@ -1,13 +1,11 @@
 //! JSON texts that follow one another, read part by part and sent on as they are complete.
-ghost use Rattle.std.specs.Prelude.{◌≡◌, ◌<◌, ◌≤◌, ◌-◌, ℕ, Bool, List, [], IfSome, OnOk, drop, length};
-ghost use Rattle.std.specs.Io.KnownBytes.{IsAtEnd};
+ghost use Rattle.std.specs.Prelude.{◌≡◌, ◌<◌, ◌≤◌, ◌-◌, ℕ, Bool, List, [], OnOk, drop, length};
 ghost use Rattle.json.specs.Token.{Token};
-ghost use Rattle.yaml_pen.specs.Wrote.{Grows};
 ghost use Rattle.yaml_json.specs.Nests.{AwaitsText};
 ghost use Rattle.yaml_json.specs.Cuts.{HasScanned};
 ghost use Rattle.yaml_json.specs.Places.{HasPlaceWithin, IsPlaceAfter, MovesPlace};
-ghost use Rattle.yaml_json.specs.SendingCalls.{BytesStep, CompleteStep, DropStep, LastStep, NextStep, ReadStep};
-ghost use Rattle.yaml_json.specs.Sent.{IsIncoming, IsScanned, IsSoundSending, Sends, StopsPartAt, emitter_error};
+ghost use Rattle.yaml_json.specs.SendingCalls.{BytesStep, CompleteStep, DropStep, LastStep, NextStep, ReadStep, SendsTexts};
+ghost use Rattle.yaml_json.specs.Sent.{IsIncoming, IsScanned, StopsPartAt, emitter_error};
 ghost use Rattle.yaml_json.specs.Wrote.{IsBare};
 
 use crate::cuts::{Cut, find_end, new_cut};
@@ -282,7 +280,8 @@ fn write_last<A: Allocator + Copy>(
 /// No more is held than a part of 65,536 bytes, a text that isn't complete, and the YAML of its document. The sink is flushed
 /// after each part.
 ///
-/// The writer must have no anchor and no tag for the next node.
+/// The writer must have no anchor and no tag for the next node. After `Ok` the reader is at its end, the writer has no anchor and no
+/// tag again, and its emitter has no error. Whatever is returned, what was written before stays.
 ///
 /// # Errors
 ///
@@ -297,11 +296,8 @@ pub fn send_json_texts<A: Allocator + Copy, R: Read, W: Write>(
     settings: JsonSettings,
 ) -> Result<(), StreamError>
     requires { IsBare writer.old }
-    ensures grows { Grows writer.old.emitter.page writer.new.emitter.page }
-    ensures sound { IsSoundSending writer.old result writer.new }
-    ensures ended { OnOk result (IsAtEnd (R.remaining reader.new) × IsBare writer.new) }
-    ensures sends { IfSome (R.remaining reader.old) (λ text.
-        Sends settings text writer.old (W.contents sink.old) result writer.new (W.contents sink.new)) }
+    ensures { SendsTexts settings (R.remaining reader.old) (R.remaining reader.new) writer.old (W.contents sink.old) result writer.new
+        (W.contents sink.new) }
 {
     let mut incoming = Incoming::new(alloc);
     // No reader promises to end, so the reads are counted.

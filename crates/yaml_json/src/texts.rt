@@ -1,16 +1,14 @@
 //! JSON texts as YAML.
-ghost use Rattle.std.specs.Prelude.{◌≡◌, OnOk, IfOk, IfErr, IfSome};
-ghost use Rattle.yaml_emitter.specs.Given.{seen_settings};
+ghost use Rattle.std.specs.Prelude.{◌≡◌, OnOk};
 ghost use Rattle.yaml_json.specs.Expected.{SaysExpected};
-ghost use Rattle.yaml_json.specs.Failing.{FailsBy, IsSound, failure_of, writers_error};
-ghost use Rattle.yaml_pen.specs.Wrote.{Grows};
+ghost use Rattle.yaml_json.specs.Failing.{failure_of, writers_error};
 ghost use Rattle.yaml_json.specs.Nests.{AwaitsText};
-ghost use Rattle.yaml_json.specs.Places.{HasPlace, IsAt};
-ghost use Rattle.yaml_json.specs.Refused.{DeniesJson, HasNamesOnce, IsNotJson, ExplainsError, is_marked};
-ghost use Rattle.yaml_json.specs.Stopped.{StopsInText};
+ghost use Rattle.yaml_json.specs.Places.{IsAt};
+ghost use Rattle.yaml_json.specs.Refused.{is_marked};
 ghost use Rattle.yaml_json.specs.Walk.{MatchesStop};
 ghost use Rattle.yaml_json.specs.WalkSteps.{TextStep};
-ghost use Rattle.yaml_json.specs.Wrote.{IsBare, IsYamlOf, WroteText};
+ghost use Rattle.yaml_json.specs.WritingCalls.{ReturnsYaml, WritesText};
+ghost use Rattle.yaml_json.specs.Wrote.{IsBare};
 
 use crate::error::JsonError;
 use crate::expecting::expected_at;
@@ -137,7 +135,8 @@ pub(crate) fn write_text_by<A: Allocator + Copy>(
 /// `settings.depth` deep. Each of them stands in flow if `settings.flow` is set, else in a block, where it isn't empty. Keys keep
 /// their order. A key may come once in an object if `settings.unique_names` is set; else it is written as often as it comes.
 ///
-/// The writer must have no anchor and no tag for the next node.
+/// The writer must have no anchor and no tag for the next node. After `Ok` it was given exactly the text's events, has no anchor and
+/// no tag again, and its emitter has no error. Whatever is returned, what was written before stays.
 ///
 /// # Errors
 ///
@@ -145,8 +144,8 @@ pub(crate) fn write_text_by<A: Allocator + Copy>(
 /// could stand there. `Marked` in its place where the text begins with a byte order mark.
 /// `TooDeep` where the text is JSON up to an array or an object that opens too deep, `DuplicateName` where it is JSON up to a key
 /// that its object has already and may have once. `Emitter` with the error of the writer's
-/// emitter, which has it now, or with `Memory` where an allocation fails. After an error the writer was given the events of the tokens
-/// before, and nothing that was written is lost.
+/// emitter, which has it now, or with `Memory` where an allocation fails. After an error the writer was given exactly the events of the
+/// tokens before, and its emitter has no error that it hadn't before, unless it is the one that is returned.
 pub fn write_json<A: Allocator + Copy>(
     alloc: A,
     writer: &mut Writer<A>,
@@ -154,13 +153,7 @@ pub fn write_json<A: Allocator + Copy>(
     settings: JsonSettings,
 ) -> Result<(), JsonError>
     requires { IsBare writer.old }
-    ensures grows { Grows writer.old.emitter.page writer.new.emitter.page }
-    ensures sound { IsSound writer.old result writer.new }
-    ensures written { OnOk result (WroteText settings.depth settings.flow text.now writer.old writer.new) }
-    ensures names { OnOk result (HasNamesOnce settings.unique_names text.now) }
-    ensures refused { IfErr result (λ error. DeniesJson error → IsNotJson settings.depth text.now) }
-    ensures stopped { IfErr result (λ error. StopsInText settings.depth settings.unique_names settings.flow text.now writer.old error writer.new) }
-    ensures place { IfErr result (HasPlace settings.depth text.now) }
+    ensures { WritesText settings text.now writer.old result writer.new }
 {
     match write_text_by(alloc, writer, text, &settings) {
         Ok(()) => Ok(()),
@@ -168,7 +161,8 @@ pub fn write_json<A: Allocator + Copy>(
     }
 }
 
-/// Returns the YAML of a JSON text: a stream of one document.
+/// Returns the YAML of a JSON text: a stream of one document, which both schemas of YAML read as the text's value: in portable mode
+/// with the line breaks of YAML 1.1 and with those of 1.2, else with those of the settings.
 ///
 /// # Errors
 ///
@@ -180,13 +174,7 @@ pub fn yaml_from_json<A: Allocator + Copy>(
     text: &str,
     settings: JsonSettings,
 ) -> Result<Vec<u8, A>, JsonError>
-    ensures stream { IfOk result (λ bytes. IsYamlOf (seen_settings settings.writer) settings.flow settings.depth text.now bytes.items) }
-    ensures refused { IfErr result (λ error. DeniesJson error → IsNotJson settings.depth text.now) }
-    ensures names { OnOk result (HasNamesOnce settings.unique_names text.now) }
-    ensures why { IfErr result (ExplainsError settings.depth settings.unique_names text.now) }
-    ensures failed { IfErr result (λ error. IfSome (writers_error error)
-        (FailsBy (seen_settings settings.writer) settings.flow settings.depth text.now)) }
-    ensures place { IfErr result (HasPlace settings.depth text.now) }
+    ensures { ReturnsYaml settings text.now result }
 {
     let Ok(mut writer) = Writer::new(alloc, settings.writer) else {
         return Err(JsonError::Emitter(yaml_error_t::Memory));

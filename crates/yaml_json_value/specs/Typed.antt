@@ -1,5 +1,5 @@
 -- Values of JSON as typed values.
-use Rattle.std.specs.Prelude.{ℕ, ℤ, true, pos, neg_ℤ, ◌≡◌, ◌==◌, ◌^◌, ◌<◌, List, [], ◌∷◌, ◌++◌, Some, IfSome, if◌then◌else◌}
+use Rattle.std.specs.Prelude.{ℕ, ℤ, true, pos, neg_ℤ, ◌≡◌, ◌==◌, ◌^◌, ◌<◌, List, [], ◌∷◌, ◌++◌, Some, if◌then◌else◌}
 use Rattle.std.specs.List.{All}
 use Rattle.std.specs.Fmt.{signed_decimal}
 use Rattle.std.specs.Int.Signed.{mag}
@@ -11,10 +11,9 @@ use Rattle.json.specs.Strict.{HasUniqueKeys}
 use Rattle.json.specs.Token.{Token}
 use Rattle.yaml_base.specs.values.TypedValues.{TypedValue, null_value, bool_value, int_value, text_value, list_value, map_value, TypedValues, no_values}
 use Rattle.yaml_base.specs.values.TypedValues.{values_and, TypedPairs, no_value_pairs, value_pairs_and, WritesValue, most_nested}
-use Rattle.yaml_json.specs.Failing.{FailsBy, writers_error}
-use Rattle.yaml_json.specs.Places.{AreOf, HasPlace}
+use Rattle.yaml_json.specs.Places.{AreOf}
 use Rattle.yaml_json.specs.Reached.{AreFrom}
-use Rattle.yaml_json.specs.Refused.{DeniesJson, ExplainsError, IsNotJson}
+use Rattle.yaml_json.specs.WritingCalls.{HasNoYaml}
 use Rattle.yaml_json.specs.declared.error.JsonError.{JsonError}
 use Rattle.yaml_writer.specs.Given.{given_for_values}
 use Rattle.yaml_json_value.specs.declared.error.ValueError.{ValueError}
@@ -79,11 +78,8 @@ abbrev pub IsJson : (text : List ℕ) → Type 0
 IsJson text = (json : Json) × (value most_nested (tokens text) ≡ Some (json, [])) × HasUniqueKeys json
 
 -- what `yaml_from_json` promises of an error, under the settings for values, in flow
-pub record IsJsonErrorOf (text : List ℕ) (error : JsonError) : Type 0 where
-  pub denies : DeniesJson error → IsNotJson most_nested text
-  pub why : ExplainsError most_nested true text error
-  pub place : HasPlace most_nested text error
-  pub by_writer : IfSome (writers_error error) (FailsBy given_for_values true most_nested text)
+abbrev pub IsJsonErrorOf : (text : List ℕ) → JsonError → Type 0
+IsJsonErrorOf text error = HasNoYaml given_for_values true most_nested true text error
 
 -- the tokens from the first number on that isn't an integer of 64 bits
 pub record IsFromOtherNumber (tokens from : List Token) : Type 0 where

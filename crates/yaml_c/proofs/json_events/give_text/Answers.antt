@@ -6,8 +6,6 @@ use Rattle.yaml_c.proofs.json_events.give_text.Goals as goal
 
 pub returns-clause-gave : goal.returns-clause-gave
 returns-clause-gave g c =
-    let wrote = c.write_json-answer.ensures in
-    gave_json c.args.settings.depth c.args.settings.unique_names c.args.settings.flow c.args.text.now c.args.emitter.now c.into_emitter.result
-    c.over-writer.result c.write_json-answer.new.writer c.write_json-answer.result
-    (c.over-writer.ensures ∙ ap (λ (e : State). writer_over e) c.replace.ensures.value) (sym c.into_emitter.ensures.value) c.utf8.text wrote.grows
-    wrote.sound wrote.written wrote.names wrote.stopped wrote.place
+    gave_json c.args.settings c.args.text.now c.args.emitter.now c.into_emitter.result c.over-writer.result c.write_json-answer.new.writer
+    c.write_json-answer.result (c.over-writer.ensures ∙ ap (λ (e : State). writer_over e) c.replace.ensures.value) (sym c.into_emitter.ensures.value)
+    c.utf8.text c.write_json-answer.ensures

@@ -17,19 +17,26 @@ texts-init g c = (
 pub write_text_by-requires : goal.write_text_by-requires
 write_text_by-requires g c = c.texts.invariant.1.wrote.bare
 
-pub returns-then-is_empty-clause-written : goal.returns-then-is_empty-clause-written
-returns-then-is_empty-clause-written g c =
-    texts_done c.args.settings.depth c.args.settings.flow c.args.settings.unique_names c.args.text.now c.args.writer.now c.texts.rest.now
-    c.first_cut.result.0.now c.first_cut.result.1.now
-    c.texts.writer c.write_text_by.new.writer c.first_cut.ensures c.texts.invariant.1 c.in_default.ensures.names c.in_default.ensures.written
-    (no_more c.first_cut.result.1.now c.is_empty.result c.is_empty.ensures c.if-is_empty.true)
-
-pub returns-then-is_empty-clause-reads : goal.returns-then-is_empty-clause-reads
-returns-then-is_empty-clause-reads g c =
-    texts_read c.args.settings.depth c.args.settings.flow c.args.settings.unique_names c.args.text.now c.args.writer.now c.texts.rest.now
-    c.first_cut.result.0.now c.first_cut.result.1.now
-    c.texts.writer c.write_text_by.new.writer c.first_cut.ensures c.texts.invariant.1 c.in_default.ensures.names c.in_default.ensures.written
-    (no_more c.first_cut.result.1.now c.is_empty.result c.is_empty.ensures c.if-is_empty.true)
+pub returns-then-is_empty : goal.returns-then-is_empty
+returns-then-is_empty g c =
+    let s = c.args.settings in
+    let text = c.args.text.now in
+    let was = c.args.writer.now in
+    let rest = c.texts.rest.now in
+    let first = c.first_cut.result.0.now in
+    let later = c.first_cut.result.1.now in
+    let now = c.write_text_by.new.writer in
+    let wrote = c.in_default.ensures in
+    let last = no_more later c.is_empty.result c.is_empty.ensures c.if-is_empty.true in
+    let so_far = c.texts.invariant.1 in
+    let cut = c.first_cut.ensures in
+    record {
+      grows = (grew_then was c.texts.writer now None c.texts.invariant.2 (grew_kept c.texts.writer now wrote.kept)).grows;
+      sound = wrote.kept.sound;
+      written = texts_done s.depth s.flow s.unique_names text was rest first later c.texts.writer now cut so_far wrote.names wrote.written last;
+      reads = texts_read s.depth s.flow s.unique_names text was rest first later c.texts.writer now cut so_far wrote.names wrote.written last;
+      names = texts_names s.depth s.flow s.unique_names text was rest first later c.texts.writer now cut so_far wrote.names wrote.written last;
+    }
 
 pub texts-smaller : goal.texts-smaller
 texts-smaller g c =
@@ -69,9 +76,6 @@ returns-in-Err g c =
     record {
       grows = grew.grows;
       sound = grew.sound;
-      written = tt;
-      reads = tt;
-      names = tt;
       stopped = texts_stopped s.depth s.flow s.unique_names c.args.text.now c.args.writer.now c.texts.rest.now first c.first_cut.result.1.now
           c.texts.writer now c.first_cut.ensures c.texts.invariant.1 error
           (text_stopped s.depth s.unique_names s.flow first c.texts.writer now c.in-Err.stop error c.error_of.ensures.says failed.refused failed.failed)
@@ -91,28 +95,7 @@ returns-in-Err-next_document g c =
     record {
       grows = grew.grows;
       sound = grew.sound;
-      written = tt;
-      reads = tt;
-      names = tt;
       stopped = next_failed s.depth s.flow s.unique_names c.args.text.now c.args.writer.now c.texts.rest.now c.first_cut.result.0.now
           c.first_cut.result.1.now c.texts.writer now c.first_cut.ensures c.texts.invariant.1 c.in_default.ensures.names c.in_default.ensures.written
           c.next_document.new.self error (is_more c.first_cut.result.1.now c.is_empty.result c.is_empty.ensures c.if-is_empty.false) passed;
     }
-
-pub returns-then-is_empty-clause-grows : goal.returns-then-is_empty-clause-grows
-returns-then-is_empty-clause-grows g c =
-    (grew_then c.args.writer.now c.texts.writer c.write_text_by.new.writer None c.texts.invariant.2
-    (grew_kept c.texts.writer c.write_text_by.new.writer c.in_default.ensures.kept)).grows
-
-pub returns-then-is_empty-clause-sound : goal.returns-then-is_empty-clause-sound
-returns-then-is_empty-clause-sound g c = c.in_default.ensures.kept.sound
-
-pub returns-then-is_empty-clause-names : goal.returns-then-is_empty-clause-names
-returns-then-is_empty-clause-names g c =
-    texts_names c.args.settings.depth c.args.settings.flow c.args.settings.unique_names c.args.text.now c.args.writer.now c.texts.rest.now
-    c.first_cut.result.0.now c.first_cut.result.1.now c.texts.writer c.write_text_by.new.writer c.first_cut.ensures c.texts.invariant.1
-    c.in_default.ensures.names c.in_default.ensures.written
-    (no_more c.first_cut.result.1.now c.is_empty.result c.is_empty.ensures c.if-is_empty.true)
-
-pub returns-then-is_empty-clause-stopped : goal.returns-then-is_empty-clause-stopped
-returns-then-is_empty-clause-stopped g c = tt

@@ -1,7 +1,7 @@
 use Rattle.yaml_json.proofs.Common.{None, refl, subst, sym, IsScanned}
 use Rattle.yaml_json.specs.declared.stream.Incoming.{Incoming}
-use Rattle.yaml_json.proofs.Growing.{grew_itself, grew_reading, grew_then, ends_bare, ends_grown, ends_sound}
-use Rattle.yaml_json.proofs.Coming.{comes_first, more_came, complete_given, comes_kept, complete_stopped, comes_stopped, last_sends}
+use Rattle.yaml_json.proofs.Growing.{grew_itself, grew_reading, grew_then}
+use Rattle.yaml_json.proofs.Coming.{comes_first, more_came, complete_given, comes_kept, complete_stopped, comes_stopped, ends_sending}
 use Rattle.yaml_json.proofs.SendingSteps.{nowhere_by_reader, stops_by_reader}
 use Rattle.yaml_json.specs.Sent.{emitter_error}
 use Rattle.yaml_json.specs.declared.error.StreamError.TheVariants as faults
@@ -28,8 +28,7 @@ returns-in-Err g c =
     record {
       grows = grew.grows;
       sound = grew.sound;
-      ended = tt;
-      sends = comes_stopped s.depth s.flow s.unique_names a.writer.now start first l.incoming.held.items l.incoming.reading.place
+      stopped = comes_stopped s.depth s.flow s.unique_names a.writer.now start first l.incoming.held.items l.incoming.reading.place
           (g.R.Read.remaining l.reader) l.writer (g.W.Write.contents l.sink) c.in-Err.error
           (λ next left. stops_by_reader s.depth s.unique_names next left c.in-Err.error c.in-Err.ensures)
           (nowhere_by_reader s.depth c.in-Err.error c.in-Err.ensures) l.invariant.2;
@@ -70,16 +69,8 @@ returns-in-Ok-false g c =
     let scanned = subst (λ (i : Incoming g.row.A.Denot). IsScanned i) (sym end.1) l.invariant.1 in
     let comes = more_came s.depth s.flow s.unique_names a.writer.now start first l.incoming c.read_more.new.incoming (g.R.Read.remaining l.reader) later
     l.writer (g.W.Write.contents l.sink) c.in-Ok-false.ensures.come c.in-Ok-false.ensures.place l.invariant.2 in
-    let last = c.write_last.ensures in
-    let now = c.write_last.new.writer in
-    let place = c.read_more.new.incoming.reading.place in
-    record {
-      grows = ends_grown a.writer.now l.writer now s held place c.write_last.result l.invariant.3 last;
-      sound = ends_sound a.writer.now l.writer now s held place c.write_last.result l.invariant.3 last;
-      ended = ends_bare a.writer.now l.writer now s held place later c.write_last.result end.0 last;
-      sends = last_sends s a.writer.now start held place later l.writer (g.W.Write.contents l.sink) end.0 c.read_more.new.incoming.reading.cut scanned.0
-          scanned.1 c.write_last.result now first last comes;
-    }
+    ends_sending s a.writer.now start held c.read_more.new.incoming.reading.place later l.writer (g.W.Write.contents l.sink) end.0
+    c.read_more.new.incoming.reading.cut scanned.0 scanned.1 c.write_last.result c.write_last.new.writer first l.invariant.3 c.write_last.ensures comes
 
 pub returns-in-Err-write_complete : goal.returns-in-Err-write_complete
 returns-in-Err-write_complete g c =
@@ -96,8 +87,7 @@ returns-in-Err-write_complete g c =
     record {
       grows = grew.grows;
       sound = grew.sound;
-      ended = tt;
-      sends = complete_stopped s.depth s.flow s.unique_names a.writer.now start first c.read_more.new.incoming.held.items
+      stopped = complete_stopped s.depth s.flow s.unique_names a.writer.now start first c.read_more.new.incoming.held.items
           c.read_more.new.incoming.reading.place later l.writer
           (g.W.Write.contents l.sink) (g.W.Write.contents c.write_complete.new.sink) error c.write_complete.new.writer
           c.in-Err-write_complete.ensures.stops comes;
@@ -122,8 +112,7 @@ returns-in-Err-flush g c =
     record {
       grows = grew.grows;
       sound = grew.sound;
-      ended = tt;
-      sends = comes_stopped s.depth s.flow s.unique_names a.writer.now start first held c.write_complete.new.incoming.reading.place later writer
+      stopped = comes_stopped s.depth s.flow s.unique_names a.writer.now start first held c.write_complete.new.incoming.reading.place later writer
           (g.W.Write.contents c.flush.new.self) (faults.WriteFailed c.in-Err-flush.error) (λ next left. refl) (λ front part. tt)
           (comes_kept s.depth s.flow s.unique_names a.writer.now start first held c.write_complete.new.incoming.reading.place later writer
           (g.W.Write.contents c.write_complete.new.sink) (g.W.Write.contents c.flush.new.self) c.flush.ensures.bytes done);
@@ -138,8 +127,7 @@ returns g c =
     record {
       grows = grew.grows;
       sound = grew.sound;
-      ended = tt;
-      sends = comes_stopped s.depth s.flow s.unique_names a.writer.now (g.W.Write.contents a.sink.now) (g.R.Read.remaining a.reader.now)
+      stopped = comes_stopped s.depth s.flow s.unique_names a.writer.now (g.W.Write.contents a.sink.now) (g.R.Read.remaining a.reader.now)
           l.incoming.held.items l.incoming.reading.place (g.R.Read.remaining l.reader) l.writer (g.W.Write.contents l.sink)
           (faults.ReadFailed c.from.result) (λ next left. refl) (λ front part. tt) l.invariant.2;
     }

@@ -13,8 +13,6 @@ returns-in-Err g c =
     record {
       grows = failed.kept.grows;
       sound = said_as c.args.writer.now c.write_text_by.new.writer c.in-Err.stop (writers_error error) c.error_of.ensures.by_writer failed.kept;
-      written = tt;
-      names = tt;
       refused = why_no_json s.depth s.unique_names text error
           (explained s.depth s.unique_names s.flow text c.args.writer.now c.write_text_by.new.writer error stopped);
       stopped = stopped;
@@ -36,7 +34,4 @@ returns-in-Ok g c =
       sound = wrote.kept.sound;
       written = wrote.written;
       names = text_names c.args.settings.unique_names c.args.text.now wrote.names;
-      refused = tt;
-      stopped = tt;
-      place = tt;
     }
