@@ -1,12 +1,15 @@
 -- The events of a JSON value that isn't nested too deep are an accepted list.
-use Rattle.yaml_json.proofs.Common.{suc, ℕ, ◌+◌, ◌≤◌, if◌then◌else◌, Bool, false, true, List, [], ◌++◌, ◌∷◌, refl, ◌≡◌, append_assoc, subst, sym, arith}
-use Rattle.yaml_json.proofs.Common.{le-max_left, le-max_right, and_from, chars, Json, null, boolean, number, string, Items, array, Members, object, no_items}
-use Rattle.yaml_json.proofs.Common.{item, no_members, member, depth as nesting, Text, Event, scalar, sequence_start, sequence_end, mapping_start, mapping_end}
-use Rattle.yaml_json.proofs.Common.{most_open, is_sound, open_count, IsAccepted, is_json_integer, yaml_number, int_tag, word_content, null_content}
-use Rattle.yaml_json.proofs.Common.{bool_content, number_content, text_content, collection_in, json_events, items_events, members_events, number_in, opening}
-use Rattle.yaml_json.proofs.Common.{closing, float_tag}
+use Rattle.yaml_json.proofs.Common.{suc, ℕ, ◌+◌, ◌≤◌, Bool, true, List, [], ◌++◌, ◌∷◌, ◌≡◌, refl, append_assoc, subst, sym, arith}
+use Rattle.yaml_json.proofs.Common.{le-max_left, le-max_right, chars, Json, null, boolean, number, string, Items, array, Members, object, no_items}
+use Rattle.yaml_json.proofs.Common.{item, no_members, member, depth as nesting, Event, scalar, sequence_start, sequence_end, mapping_start, mapping_end}
+use Rattle.yaml_json.proofs.Common.{most_open, IsAccepted, Stream, is_json_integer, yaml_number, bool_text, null_content, bool_content, number_content}
+use Rattle.yaml_json.proofs.Common.{text_content, collection_in, json_events, items_events, members_events, number_in, opening, closing}
+use Rattle.yaml_base.proofs.Common.{stream_events}
 use Rattle.json.specs.Tree.{items_depth as items_nesting, members_depth as members_nesting}
 use Rattle.yaml_emitter.proofs.AcceptedLists.{sound, both_sound, Stays, few_open}
+use Rattle.yaml_writer.proofs.Accepting.{bool_sound, closing_stays, first_sound, mapping_sound, null_sound, number_sound, opening_stays, sequence_sound}
+use Rattle.yaml_writer.proofs.Accepting.{stream_of_sound, text_sound}
+use Rattle.yaml_writer.proofs.WhyFailed.{NeverPasses}
 use Rattle.yaml_json.proofs.Trees.{json_stream, stream_flat}
 
 -- the events of the stream of a value
@@ -15,41 +18,10 @@ stream_of canonical in_flow json = opening ++ json_events canonical in_flow json
 
 -- ---- each event is in order
 
-null_sound : (canonical : Bool) → is_sound canonical (scalar (null_content canonical)) ≡ true
-null_sound true = refl
-null_sound false = refl
-
-bool_sound : (canonical flag : Bool) → is_sound canonical (scalar (bool_content canonical flag)) ≡ true
-bool_sound true flag = refl
-bool_sound false flag = refl
-
-number_sound : (canonical integer : Bool) (word : Text)
-    → is_sound canonical (scalar (word_content canonical (if integer then int_tag else float_tag) word)) ≡ true
-number_sound true true word = refl
-number_sound true false word = refl
-number_sound false true word = refl
-number_sound false false word = refl
-
-text_sound : (canonical : Bool) (text : Text) → is_sound canonical (scalar (text_content text)) ≡ true
-text_sound true text = refl
-text_sound false text = refl
-
-sequence_sound : (canonical in_flow : Bool) → is_sound canonical (sequence_start (collection_in in_flow)) ≡ true
-sequence_sound true in_flow = refl
-sequence_sound false in_flow = refl
-
-mapping_sound : (canonical in_flow : Bool) → is_sound canonical (mapping_start (collection_in in_flow)) ≡ true
-mapping_sound true in_flow = refl
-mapping_sound false in_flow = refl
-
-first_sound : (canonical : Bool) (event : Event) (events : List Event) → is_sound canonical event ≡ true → sound canonical events ≡ true
-    → sound canonical (event ∷ events) ≡ true
-first_sound canonical event events one others = and_from (is_sound canonical event) (sound canonical events) one others
-
 mutual
   value_sound : (json : Json) (canonical in_flow : Bool) → sound canonical (json_events canonical in_flow json) ≡ true
   value_sound null canonical in_flow = first_sound canonical (scalar (null_content canonical)) [] (null_sound canonical) refl
-  value_sound (boolean flag) canonical in_flow = first_sound canonical (scalar (bool_content canonical flag)) [] (bool_sound canonical flag) refl
+  value_sound (boolean flag) canonical in_flow = first_sound canonical (scalar (bool_content canonical flag)) [] (bool_sound canonical (bool_text flag)) refl
   value_sound (number text) canonical in_flow =
       let parts = number_in text in
       first_sound canonical (scalar (number_content canonical parts)) [] (number_sound canonical (is_json_integer parts) (yaml_number parts)) refl
@@ -78,9 +50,7 @@ mutual
       (members_sound more canonical in_flow))
 
 pub stream_sound : (canonical in_flow : Bool) (json : Json) → sound canonical (stream_of canonical in_flow json) ≡ true
-stream_sound canonical in_flow json =
-    both_sound canonical opening (json_events canonical in_flow json ++ closing) refl
-    (both_sound canonical (json_events canonical in_flow json) closing (value_sound json canonical in_flow) refl)
+stream_sound canonical in_flow json = stream_of_sound canonical (json_events canonical in_flow json) (value_sound json canonical in_flow)
 
 -- ---- how many collections are open
 
@@ -131,31 +101,26 @@ mutual
             (members_stay more canonical in_flow most now rest (omega (arith, fits, right)) later)),
       )
 
-stream_stays : (canonical in_flow : Bool) (json : Json) (most : ℕ) → nesting json ≤ most → Stays most 0 (stream_of canonical in_flow json)
-stream_stays canonical in_flow json most fits =
-    let few : 0 ≤ most = omega arith in
+-- no prefix leaves more open than the value nests
+pub never_passes : (canonical in_flow : Bool) (json : Json) (most : ℕ) → nesting json ≤ most → NeverPasses most (stream_of canonical in_flow json)
+never_passes canonical in_flow json most fits = λ prefix rest is.
     let fits_whole : 0 + nesting json ≤ most = omega (arith, fits) in
-    (few, (few, value_stays json canonical in_flow most 0 closing fits_whole (few, (few, few))))
-
-shallow : (canonical in_flow : Bool) (json : Json) → nesting json ≤ most_open → (prefix rest : List Event)
-    → prefix ++ rest ≡ stream_of canonical in_flow json → open_count prefix ≤ most_open
-shallow canonical in_flow json fits prefix rest is =
-    few_open most_open (stream_of canonical in_flow json) prefix rest (stream_stays canonical in_flow json most_open fits) is
+    few_open most (stream_of canonical in_flow json) prefix rest
+    (opening_stays most (json_events canonical in_flow json ++ closing) (value_stays json canonical in_flow most 0 closing fits_whole (closing_stays most))) is
 
 -- ---- all
 
--- where no prefix of it leaves too many collections open
-pub accepted_where : (canonical in_flow : Bool) (json : Json)
-    → ((prefix rest : List Event) → prefix ++ rest ≡ stream_of canonical in_flow json → open_count prefix ≤ most_open)
-    → IsAccepted canonical (stream_of canonical in_flow json)
-accepted_where canonical in_flow json few =
-    let part : List ℕ × Json = ([], json) in
-    record {
-      stream = json_stream (json ∷ []) canonical in_flow;
-      is_stream = stream_flat part [] canonical in_flow;
-      sound = stream_sound canonical in_flow json;
-      shallow = few;
-    }
+abbrev pub tree_of : (canonical in_flow : Bool) → Json → Stream
+tree_of canonical in_flow json = json_stream (json ∷ []) canonical in_flow
+
+pub tree_flat : (canonical in_flow : Bool) (json : Json) → stream_events (tree_of canonical in_flow json) ≡ stream_of canonical in_flow json
+tree_flat canonical in_flow json = let part : List ℕ × Json = ([], json) in stream_flat part [] canonical in_flow
 
 pub json_accepted : (canonical in_flow : Bool) (json : Json) → nesting json ≤ most_open → IsAccepted canonical (stream_of canonical in_flow json)
-json_accepted canonical in_flow json fits = accepted_where canonical in_flow json (shallow canonical in_flow json fits)
+json_accepted canonical in_flow json fits =
+    record {
+      stream = tree_of canonical in_flow json;
+      is_stream = tree_flat canonical in_flow json;
+      sound = stream_sound canonical in_flow json;
+      shallow = never_passes canonical in_flow json most_open fits;
+    }

@@ -25,8 +25,8 @@ pub use Rattle.yaml_json.specs.{Begins.BeginsWithinDepth, Begins.NoneGoesOn, Cut
 pub use Rattle.yaml_json.specs.{HeldNames.AddsName, Means.Schema, Texts.after_byte, Texts.texts_in, Texts.CutsFirstText, TokenEvents.token_events}
 pub use Rattle.yaml_json.specs.{TokenEvents.tokens_events}
 pub use Rattle.yaml_json.specs.Failing.{failure_of, emitter_error_of, FailedWith, FailedGiving, FailedInText, between, events_with_separators}
-pub use Rattle.yaml_json.specs.JsonEvents.{word_content, null_content, bool_content, number_content, text_content, collection_in, json_events, items_events}
-pub use Rattle.yaml_json.specs.JsonEvents.{members_events}
+pub use Rattle.yaml_json.specs.JsonEvents.{json_events, items_events, members_events}
+pub use Rattle.yaml_writer.specs.Contents.{word_content, null_content, bool_content, number_content, text_content, collection_in}
 pub use Rattle.yaml_json.specs.Names.{IsNewName, inner_names, names_after, NamesOnce, all_names_after}
 pub use Rattle.yaml_json.specs.Refused.{RefusesText, TokensBreakOff, OpensTooDeep, NamesTwice, ExplainsError, HaveNamesOnce}
 pub use Rattle.yaml_json.specs.Sent.{Advances, StopsWithin, IsScanned}

@@ -28,8 +28,6 @@ pub mod Sending
 pub mod SendingSteps
 pub mod Coming
 pub mod Accepting
-pub mod OnlyDepth
-pub mod Unfailed
 pub mod WhyFailed
 pub mod Cutting
 pub mod Around

@@ -1,28 +1,21 @@
 -- Why a writer failed that was given the events of a text.
-use Rattle.yaml_json.proofs.Common.{ℕ, Option, None, Some, Bool, true, List, [], ◌++◌, ◌∷◌, ◌⊎◌, refl, ◌≡◌, append-nil, append_assoc, inl, inr, ap, subst}
-use Rattle.yaml_json.proofs.Common.{sym, ◌∙◌, arith, value-depth, Json, value, tokens, Token, json_tokens, Event, IsPrefix, Settings, RefusedAt, StateStands}
-use Rattle.yaml_json.proofs.Common.{State, BeginsWithinDepth, FailedInText, json_events, tokens_events, WroteText, WriterState, opening, closing, StandsTaken}
+use Rattle.yaml_json.proofs.Common.{ℕ, ◌<◌, Option, None, Some, Bool, List, [], ◌++◌, ◌⊎◌, refl, ◌≡◌, append-nil, append_assoc, inl, inr, ap, subst}
+use Rattle.yaml_json.proofs.Common.{sym, ◌∙◌, arith, unwrap_or, value-depth, Json, value, depth as nesting, tokens, Token, json_tokens, Event, IsPrefix}
+use Rattle.yaml_json.proofs.Common.{most_open, Settings, RefusedAt, State, BeginsWithinDepth, FailedInText, json_events, tokens_events, WroteText}
+use Rattle.yaml_json.proofs.Common.{WriterState, opening, closing, StandsTaken}
 use Rattle.yaml_emitter.proofs.Common.{IsRefusal, StandsAfter}
 use Rattle.yaml_base.specs.declared.errors.{yaml_error_t.yaml_error_t, yaml_error_t.TheVariants.Memory, yaml_error_t.TheVariants.WriteError}
-use Rattle.yaml_emitter.proofs.standing.{StandingMore.failed_more, StandingPromises.promises_refusal}
-use Rattle.yaml_json.proofs.{Accepting.stream_of, Accepting.json_accepted, OnlyDepth.error_is_depth, OnlyDepth.nests_deeper, TokenLemmas.value_spelled}
-use Rattle.yaml_json.proofs.{TokenLemmas.some_then, TokenLemmas.value_given, Unfailed.unfailed_accepted}
-use Rattle.yaml_json.specs.Failing.{OverLimit, NestsTooDeep, FailsBy}
-use Rattle.yaml_writer.{proofs.Overflow.overflowed, specs.Unfinished.PassesLimit, specs.Unfinished.IsUnfinished}
+use Rattle.yaml_base.specs.declared.errors.{yaml_error_t.TheVariants.TooDeep}
+use Rattle.yaml_emitter.proofs.standing.{StandingPromises.promises_refusal}
+use Rattle.yaml_json.proofs.{Accepting.json_accepted, Accepting.never_passes, Accepting.stream_of, Accepting.stream_sound, Accepting.tree_flat}
+use Rattle.yaml_json.proofs.{Accepting.tree_of, TokenLemmas.value_spelled, TokenLemmas.some_then, TokenLemmas.value_given}
+use Rattle.yaml_json.specs.Failing.{JsonFailsBy, NestsPastMost, OverLimit}
+use Rattle.yaml_writer.proofs.WhyFailed.{fails_by, first_passes, overflowed_more, refused_deeper, refused_depth, unfinished_deeper, unfinished_depth}
+use Rattle.yaml_writer.specs.Unfinished.{IsUnfinished, PassesLimit}
 
--- an error is one of memory, the limit's, or the refusal of an event
-which : (error : yaml_error_t) → (error ≡ Memory) ⊎ ((error ≡ WriteError) ⊎ IsRefusal error)
-which Memory = inl refl
-which WriteError = inr (inl refl)
-which error = inr (inr tt)
-
--- where the limit gave out, the bytes pass it, whatever else is given
-overflowed_more : (given : Settings) (more all : List Event) (state : State) → StateStands given all state → state.error ≡ Some WriteError
-    → PassesLimit given (all ++ more)
-overflowed_more given [] all state stands is = subst (PassesLimit given) (sym (append-nil all)) (overflowed given all state stands is)
-overflowed_more given (event ∷ more) all state stands is =
-    subst (PassesLimit given) (append_assoc all (event ∷ []) more)
-    (overflowed_more given more (all ++ event ∷ []) (record state { started = true }) (failed_more given all event state WriteError stands is) is)
+-- a text is one value
+same_json : (a b : Json) → ◌≡◌ {A = Option (Json × List Token)} (Some (a, [])) (Some (b, [])) → a ≡ b
+same_json a b is = ap (λ (o : Option (Json × List Token)). (unwrap_or o (a, [])).0) is
 
 module _ (given : Settings) (in_flow : Bool) (depth : ℕ) (text : List ℕ) where
   abbrev events_of : List Token → List Event
@@ -78,41 +71,46 @@ module _ (given : Settings) (in_flow : Bool) (depth : ℕ) (text : List ℕ) whe
     refused : IsRefusal error → RefusedAt given (opening ++ events_of taken) error state
     refused refusal = promises_refusal given (opening ++ events_of taken) state error stands.so is refusal
 
-    too_deep : IsRefusal error → BeginsWithinDepth depth taken → NestsTooDeep depth text
-    too_deep refusal found =
-        let all = opening ++ events_of taken in
+    module _ (json : Json) (begins : IsPrefix taken (json_tokens json)) (refusal : IsRefusal error) where
+      abbrev stream : IsPrefix (opening ++ events_of taken) (stream_of given.canonical in_flow json)
+      stream = stream_begins json begins
+
+      is_depth : error ≡ TooDeep
+      is_depth =
+          refused_depth given (stream_of given.canonical in_flow json) (tree_of given.canonical in_flow json) (tree_flat given.canonical in_flow json)
+          (stream_sound given.canonical in_flow json) (opening ++ events_of taken) stream.rest stream.parts state error (refused refusal)
+
+      deeper : most_open < nesting json
+      deeper =
+          let most = nesting json in
+          refused_deeper given (stream_of given.canonical in_flow json) (tree_of given.canonical in_flow json) (tree_flat given.canonical in_flow json)
+          (stream_sound given.canonical in_flow json) (opening ++ events_of taken) stream.rest stream.parts state error (refused refusal) most
+          (first_passes most (opening ++ events_of taken) stream.rest (stream_of given.canonical in_flow json) stream.parts
+          (never_passes given.canonical in_flow json most (omega arith)))
+
+    too_deep : BeginsWithinDepth depth taken → IsRefusal error → (error ≡ TooDeep) × ((most_open < depth) × NestsPastMost depth text)
+    too_deep found refusal =
         let fits = found.nested in
-        let deep = nests_deeper given in_flow found.json all error state (stream_begins found.json found.begins) (refused refusal) in
-        record {
-          allowed = omega (arith, fits, deep);
-          deeper = λ json read. nests_deeper given in_flow json all error state (stream_begins json (text_begins json read)) (refused refusal);
-        }
+        let deep = deeper found.json found.begins refusal in (
+          is_depth found.json found.begins refusal,
+          (omega (arith, fits, deep), λ json read. deeper json (text_begins json read) refusal),
+        )
 
-    by_kind : BeginsWithinDepth depth taken → (error ≡ Memory) ⊎ ((error ≡ WriteError) ⊎ IsRefusal error) → FailsBy given in_flow depth text error
-    by_kind found (inl memory) = inl memory
-    by_kind found (inr (inl same)) = inr (inl (same, full same))
-    by_kind found (inr (inr refusal)) =
-        inr
-        (inr (
-          error_is_depth given in_flow found.json (opening ++ events_of taken) error state (stream_begins found.json found.begins) (refused refusal),
-          too_deep refusal found,
-        ))
-
-    failed_after : BeginsWithinDepth depth taken → FailsBy given in_flow depth text error
-    failed_after found = by_kind found (which error)
+    failed_after : BeginsWithinDepth depth taken → JsonFailsBy given in_flow depth text error
+    failed_after found = fails_by depth (OverLimit given in_flow depth text) (NestsPastMost depth text) error full (too_deep found)
 
   -- ---- the writer of a text
 
   module _ (first now : WriterState) (error : yaml_error_t) (stands : StandsTaken given opening [] first.emitter)
       (canonical : first.canonical ≡ given.canonical) where
-    pub text_failed : FailedInText depth in_flow text first error now → FailsBy given in_flow depth text error
+    pub text_failed : FailedInText depth in_flow text first error now → JsonFailsBy given in_flow depth text error
     text_failed (taken, (failed, begins)) =
         let stood = subst (λ (c : Bool). StandsTaken given (opening ++ tokens_events c in_flow taken) [] now.emitter) canonical
         (failed.gave.adds given opening [] stands) in
         by_error failed.gave.is_error
         (λ is. failed_after taken failed.left failed.parts now.emitter stood.stands error is begins) where
-          by_error : (error ≡ Memory) ⊎ (now.emitter.error ≡ Some error) → (now.emitter.error ≡ Some error → FailsBy given in_flow depth text error)
-              → FailsBy given in_flow depth text error
+          by_error : (error ≡ Memory) ⊎ (now.emitter.error ≡ Some error) → (now.emitter.error ≡ Some error → JsonFailsBy given in_flow depth text error)
+              → JsonFailsBy given in_flow depth text error
           by_error (inl memory) follows = inl memory
           by_error (inr is) follows = follows is
 
@@ -130,27 +128,35 @@ module _ (given : Settings) (in_flow : Bool) (depth : ℕ) (text : List ℕ) whe
             begins = record { rest = []; parts = append-nil (tokens text) ∙ text_spelled wrote.json wrote.read };
           }
 
-      unfailed : now.emitter.error ≡ None → (error ≡ Memory) ⊎ ((error ≡ WriteError) ⊎ IsRefusal error) → FailsBy given in_flow depth text error
-      unfailed none (inl memory) = inl memory
-      unfailed none (inr (inl same)) =
-          inr
-          (inl (
-            same,
-            over_limit
-                (subst (λ (events : List Event). PassesLimit given (opening ++ events ++ closing)) (sym (text_given wrote.json wrote.read))
-                (unfinished.full same given (opening ++ json_events given.canonical in_flow wrote.json) stood)),
-          ))
-      unfailed none (inr (inr refusal)) =
-          absurd
-          ((unfinished.refused refusal given (opening ++ json_events given.canonical in_flow wrote.json) stood).unaccepted
-          (unfailed_accepted given in_flow wrote.json now.emitter stood.so none))
+      full_unfinished : error ≡ WriteError → OverLimit given in_flow depth text
+      full_unfinished same =
+          over_limit
+          (subst (λ (events : List Event). PassesLimit given (opening ++ events ++ closing)) (sym (text_given wrote.json wrote.read))
+          (unfinished.full same given (opening ++ json_events given.canonical in_flow wrote.json) stood))
 
-      by_error : (found : Option yaml_error_t) → now.emitter.error ≡ found → FailsBy given in_flow depth text error
-      by_error None none = unfailed none (which error)
+      not_accepted : IsRefusal error → (error ≡ TooDeep) × ((most_open < depth) × NestsPastMost depth text)
+      not_accepted refusal =
+          let most = nesting wrote.json in
+          let all = stream_of given.canonical in_flow wrote.json in
+          let tree = tree_of given.canonical in_flow wrote.json in
+          let flat = tree_flat given.canonical in_flow wrote.json in
+          let in_order = stream_sound given.canonical in_flow wrote.json in
+          let none = unfinished.refused refusal given (opening ++ json_events given.canonical in_flow wrote.json) stood in
+          let deep = unfinished_deeper given all tree flat in_order error none most (never_passes given.canonical in_flow wrote.json most (omega arith)) in
+          let fits = value-depth depth (tokens text) [] wrote.json wrote.read in (
+            unfinished_depth given all tree flat in_order error none,
+            (
+              omega (arith, fits, deep),
+              λ json read. subst (λ (j : Json). most_open < nesting j) (same_json wrote.json json (sym wrote.read ∙ read)) deep,
+            ),
+          )
+
+      by_error : (found : Option yaml_error_t) → now.emitter.error ≡ found → JsonFailsBy given in_flow depth text error
+      by_error None none = fails_by depth (OverLimit given in_flow depth text) (NestsPastMost depth text) error full_unfinished not_accepted
       by_error (Some earlier) some =
           failed_after (tokens text) [] (append-nil (tokens text)) now.emitter
           (subst (λ (events : List Event). StandsAfter given (opening ++ events) now.emitter) (sym (text_given wrote.json wrote.read)) stood)
           error (some ∙ ap (λ (e : yaml_error_t). Some e) (sym (unfinished.first earlier some))) whole
 
-      pub finish_failed : FailsBy given in_flow depth text error
+      pub finish_failed : JsonFailsBy given in_flow depth text error
       finish_failed = by_error now.emitter.error refl

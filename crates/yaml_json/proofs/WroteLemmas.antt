@@ -5,7 +5,7 @@ use Rattle.yaml_json.proofs.Common.{JsonNumber, yaml_number, State, word_content
 use Rattle.yaml_json.proofs.Common.{start_event, number_found, number_in, IsNumber, WriterState, number_tag, number_event, text_style, text_event}
 use Rattle.yaml_json.proofs.Common.{mapping_event, sequence_event, end_event, with_collection, StandsTaken, AddsEvents, GaveEvent, EndsInnermost}
 use Rattle.yaml_base.specs.Event.{CollectionStyle}
-use Rattle.yaml_json.specs.JsonEvents.{style_of}
+use Rattle.yaml_writer.specs.Contents.{style_of}
 use Rattle.yaml_writer.proofs.Finishing.{nothing_awaited}
 use Rattle.yaml_writer.specs.Writing.{tag_or_default, word_event, awaits_node}
 use Rattle.yaml_base.specs.declared.kinds.CollectionKind.{CollectionKind}

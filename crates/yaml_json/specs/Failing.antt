@@ -8,10 +8,10 @@ use Rattle.yaml_base.specs.Event.{Event, document_end}
 use Rattle.yaml_base.specs.Refusal.{most_open}
 use Rattle.yaml_base.specs.Settings.{Settings}
 use Rattle.yaml_base.specs.declared.errors.yaml_error_t.{yaml_error_t}
-use Rattle.yaml_base.specs.declared.errors.yaml_error_t.TheVariants.{TooDeep, WriteError, Memory}
+use Rattle.yaml_base.specs.declared.errors.yaml_error_t.TheVariants.{Memory}
 use Rattle.yaml_pen.specs.Wrote.{Grows}
 use Rattle.yaml_emitter.specs.Uncut.{IsUncut}
-use Rattle.yaml_writer.specs.Unfinished.{PassesLimit}
+use Rattle.yaml_writer.specs.Unfinished.{FailsBy, PassesLimit}
 use Rattle.yaml_writer.specs.Writing.{AddsEvents, EndedCollection, WriterState, closing, opening, plain_start}
 use Rattle.yaml_json.specs.Begins.{BeginsWithinDepth}
 use Rattle.yaml_json.specs.JsonEvents.{json_events}
@@ -138,13 +138,10 @@ pub record OverLimit (given : Settings) (in_flow : Bool) (depth : ℕ) (text : L
   pub cut : (json : Json) → value depth (tokens text) ≡ Some (json, []) → nesting json ≤ most_open
       → IsUncut given (opening ++ json_events given.canonical in_flow json ++ closing) → ⊥
 
--- more levels are allowed than may be open, and where the text is JSON nested at most `depth` deep, it has more
-pub record NestsTooDeep (depth : ℕ) (text : List ℕ) : Type 0 where
-  pub allowed : most_open < depth
-  pub deeper : (json : Json) → value depth (tokens text) ≡ Some (json, []) → most_open < nesting json
+-- where the text is JSON nested at most `depth` deep, it has more levels than may be open
+abbrev pub NestsPastMost : (depth : ℕ) → (text : List ℕ) → Type 0
+NestsPastMost depth text = (json : Json) → value depth (tokens text) ≡ Some (json, []) → most_open < nesting json
 
 -- an allocation failed, the limit gave out, or too many collections were open
-abbrev pub FailsBy : Settings → (in_flow : Bool) → (depth : ℕ) → (text : List ℕ) → yaml_error_t → Type 0
-FailsBy given in_flow depth text error =
-    (error ≡ Memory)
-    ⊎ (((error ≡ WriteError) × OverLimit given in_flow depth text) ⊎ ((error ≡ TooDeep) × NestsTooDeep depth text))
+abbrev pub JsonFailsBy : Settings → (in_flow : Bool) → (depth : ℕ) → (text : List ℕ) → yaml_error_t → Type 0
+JsonFailsBy given in_flow depth text = FailsBy depth (OverLimit given in_flow depth text) (NestsPastMost depth text)

@@ -4,7 +4,7 @@ use Rattle.std.specs.Str.{chars}
 use Rattle.json.specs.Token.{Token, begin_object, end_object, begin_array, end_array, key, string, number, boolean, null, bad}
 use Rattle.yaml_base.specs.Event.{Event, scalar, sequence_start, sequence_end, mapping_start, mapping_end}
 use Rattle.yaml_writer.specs.NumberParts.{number_in}
-use Rattle.yaml_json.specs.JsonEvents.{bool_content, collection_in, null_content, number_content, text_content}
+use Rattle.yaml_writer.specs.Contents.{bool_content, collection_in, null_content, number_content, text_content}
 
 -- the event of a token; what is no token of JSON has none
 abbrev pub token_events : (canonical in_flow : Bool) → Token → List Event

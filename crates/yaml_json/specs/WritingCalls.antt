@@ -4,7 +4,7 @@ use Rattle.yaml_base.specs.Settings.{Settings}
 use Rattle.yaml_emitter.specs.Given.{seen_settings}
 use Rattle.yaml_pen.specs.Wrote.{Grows}
 use Rattle.yaml_writer.specs.Writing.{WriterState}
-use Rattle.yaml_json.specs.Failing.{FailsBy, IsSound, writers_error}
+use Rattle.yaml_json.specs.Failing.{IsSound, JsonFailsBy, writers_error}
 use Rattle.yaml_json.specs.Places.{HasPlace}
 use Rattle.yaml_json.specs.Refused.{DeniesJson, ExplainsError, HasNamesOnce, HaveNamesOnce, IsNotJson}
 use Rattle.yaml_json.specs.Stopped.{StopsInText, StopsInTexts}
@@ -66,7 +66,7 @@ pub record HasYaml (given : Settings) (in_flow : Bool) (depth : ℕ) (unique : B
 pub record HasNoYaml (given : Settings) (in_flow : Bool) (depth : ℕ) (unique : Bool) (text : List ℕ) (error : JsonError) : Type 0 where
   pub refused : DeniesJson error → IsNotJson depth text
   pub why : ExplainsError depth unique text error
-  pub failed : IfSome (writers_error error) (FailsBy given in_flow depth text)
+  pub failed : IfSome (writers_error error) (JsonFailsBy given in_flow depth text)
   pub place : HasPlace depth text error
 
 abbrev pub ReturnsYaml : {A : Type 0} → JsonSettings → List ℕ → Result (Vec ℕ A) JsonError → Type 0

@@ -8,7 +8,8 @@ use Rattle.yaml_base.specs.Settings.{Settings}
 use Rattle.yaml_writer.specs.Writing.{AddsEvents, Finishes, IsStream, StandsTaken, WriterState, closing, opening, plain_start}
 use Rattle.yaml_base.specs.declared.kinds.CollectionKind.{CollectionKind}
 use Rattle.yaml_base.specs.declared.kinds.CollectionKind.TheVariants.{Mapping, Sequence}
-use Rattle.yaml_json.specs.JsonEvents.{collection_in, json_events}
+use Rattle.yaml_writer.specs.Contents.{collection_in}
+use Rattle.yaml_json.specs.JsonEvents.{json_events}
 use Rattle.yaml_json.specs.Texts.{texts_in}
 use Rattle.yaml_json.specs.Means.{ReadsAsJson, ReadsAsValues}
 

@@ -4,7 +4,7 @@ ghost use Rattle.json.specs.Print.{IsPrintable};
 ghost use Rattle.json.specs.Reads.{token_of};
 ghost use Rattle.yaml_base.specs.Seen.{seen_mapping_style, seen_sequence_style};
 ghost use Rattle.yaml_json.specs.Failing.{IsWritersAnswer};
-ghost use Rattle.yaml_json.specs.JsonEvents.{style_of};
+ghost use Rattle.yaml_writer.specs.Contents.{style_of};
 ghost use Rattle.yaml_json.specs.Nests.{HasNoneOpen, IsNesting};
 ghost use Rattle.yaml_json.specs.Walk.{IsInnermost, LeavesNames, ReadsNone, closes, opener};
 ghost use Rattle.yaml_json.specs.WalkSteps.{FirstStep, OnlyStep, TokenStep, ValueStep, WalkStep, at};

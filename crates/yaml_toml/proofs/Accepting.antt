@@ -1,14 +1,17 @@
 -- The events of a document that doesn't nest too deep are an accepted list.
-use Rattle.yaml_json.proofs.Common.{suc, ℕ, ◌+◌, ◌≤◌, if◌then◌else◌, Bool, false, true, Option, None, Some, List, [], ◌++◌, ◌∷◌, refl, ◌≡◌, append-nil}
+use Rattle.yaml_json.proofs.Common.{suc, ℕ, ◌+◌, ◌≤◌, Bool, false, true, Option, None, Some, List, [], ◌++◌, ◌∷◌, refl, ◌≡◌, append-nil}
 use Rattle.yaml_json.proofs.Common.{append_assoc, subst, sym, arith}
-use Rattle.yaml_json.proofs.Common.{and_from, chars, Text, Event, scalar, sequence_start, sequence_end, mapping_start, mapping_end}
-use Rattle.yaml_json.proofs.Common.{most_open, is_sound, open_count, IsAccepted, is_json_integer, yaml_number, bool_tag, bool_text, int_tag, word_content}
-use Rattle.yaml_json.proofs.Common.{text_content, collection_in, number_in, opening, closing, float_tag}
+use Rattle.yaml_json.proofs.Common.{chars, Event, scalar, sequence_start, sequence_end, mapping_start, mapping_end}
+use Rattle.yaml_json.proofs.Common.{most_open, is_sound, IsAccepted, is_json_integer, yaml_number, bool_tag, bool_text, word_content}
+use Rattle.yaml_json.proofs.Common.{text_content, collection_in, number_in, closing}
 use Rattle.std.specs.Fmt.{signed_decimal}
 use Rattle.toml_datetime.specs.Text.{datetime_text}
 use Rattle.toml_datetime.specs.declared.datetime.Datetime.{Datetime}
 use Rattle.toml_ordered.specs.Data as toml
 use Rattle.yaml_emitter.proofs.AcceptedLists.{sound, both_sound, Stays, few_open}
+use Rattle.yaml_writer.proofs.Accepting.{bool_sound, closing_stays, first_sound, float_sound, int_sound, mapping_sound, number_sound, opening_stays}
+use Rattle.yaml_writer.proofs.Accepting.{sequence_sound, stream_of_sound, text_sound}
+use Rattle.yaml_writer.proofs.WhyFailed.{NeverPasses}
 use Rattle.yaml_writer.specs.Floats.{special_text}
 use Rattle.yaml_writer.specs.Times.{Moment, ClockTime}
 use Rattle.yaml_writer.specs.TomlDates.{moment_of}
@@ -20,27 +23,6 @@ use Rattle.yaml_toml.proofs.TomlTrees.{all_events, root_of, stream_flat, toml_st
 
 -- ---- each event is in order
 
-int_sound : (canonical : Bool) (word : Text) → is_sound canonical (scalar (word_content canonical int_tag word)) ≡ true
-int_sound true word = refl
-int_sound false word = refl
-
-float_sound : (canonical : Bool) (word : Text) → is_sound canonical (scalar (word_content canonical float_tag word)) ≡ true
-float_sound true word = refl
-float_sound false word = refl
-
-bool_sound : (canonical : Bool) (word : Text) → is_sound canonical (scalar (word_content canonical bool_tag word)) ≡ true
-bool_sound true word = refl
-bool_sound false word = refl
-
-number_sound : (canonical integer : Bool) (word : Text)
-    → is_sound canonical (scalar (word_content canonical (if integer then int_tag else float_tag) word)) ≡ true
-number_sound canonical true word = int_sound canonical word
-number_sound canonical false word = float_sound canonical word
-
-text_sound : (canonical : Bool) (text : Text) → is_sound canonical (scalar (text_content text)) ≡ true
-text_sound true text = refl
-text_sound false text = refl
-
 moment_sound : (moment : Moment) (canonical : Bool) (time : Option ClockTime)
     → is_sound canonical (scalar (moment_content canonical (record { date = moment.date; time = time }))) ≡ true
 moment_sound moment true None = refl
@@ -51,18 +33,6 @@ moment_sound moment false (Some time) = refl
 date_sound : (date : Datetime) (canonical : Bool) (found : Option Moment) → is_sound canonical (scalar (date_content canonical date found)) ≡ true
 date_sound date canonical None = text_sound canonical (chars (datetime_text date))
 date_sound date canonical (Some moment) = moment_sound moment canonical moment.time
-
-sequence_sound : (canonical in_flow : Bool) → is_sound canonical (sequence_start (collection_in in_flow)) ≡ true
-sequence_sound true in_flow = refl
-sequence_sound false in_flow = refl
-
-mapping_sound : (canonical in_flow : Bool) → is_sound canonical (mapping_start (collection_in in_flow)) ≡ true
-mapping_sound true in_flow = refl
-mapping_sound false in_flow = refl
-
-first_sound : (canonical : Bool) (event : Event) (events : List Event) → is_sound canonical event ≡ true → sound canonical events ≡ true
-    → sound canonical (event ∷ events) ≡ true
-first_sound canonical event events one others = and_from (is_sound canonical event) (sound canonical events) one others
 
 module _ (canonical in_flow : Bool) where
   mutual
@@ -109,13 +79,8 @@ module _ (canonical in_flow : Bool) where
         (text_sound canonical (chars key))
         (both_sound canonical (toml_events canonical in_flow x) (keys_events canonical in_flow keys) (value_sound x) (keys_sound keys))
 
-  pub document_sound : (root : toml.TomlNodes) → sound canonical (toml_events canonical in_flow (root_of root)) ≡ true
-  document_sound root = value_sound (root_of root)
-
   pub stream_sound : (root : toml.TomlNodes) → sound canonical (all_events root canonical in_flow) ≡ true
-  stream_sound root =
-      both_sound canonical opening (toml_events canonical in_flow (root_of root) ++ closing) refl
-      (both_sound canonical (toml_events canonical in_flow (root_of root)) closing (document_sound root) refl)
+  stream_sound root = stream_of_sound canonical (toml_events canonical in_flow (root_of root)) (value_sound (root_of root))
 
   -- ---- how many collections are open
 
@@ -174,20 +139,16 @@ module _ (canonical in_flow : Bool) where
             (value_stays x now (keys_events canonical in_flow keys ++ rest) (omega (arith, fits)) (keys_stay keys now rest (omega (arith, fits)) later)),
       )
 
-    stream_stays : (root : toml.TomlNodes) → document_nesting root ≤ most → Stays most 0 (all_events root canonical in_flow)
-    stream_stays root fits =
-        let few : 0 ≤ most = omega arith in
-        (few, (few, value_stays (root_of root) 0 closing (omega (arith, fits)) (few, (few, few))))
-
     -- no prefix leaves more open
-    pub stream_shallow : (root : toml.TomlNodes) → document_nesting root ≤ most → (prefix rest : List Event)
-        → prefix ++ rest ≡ all_events root canonical in_flow → open_count prefix ≤ most
-    stream_shallow root fits prefix rest is = few_open most (all_events root canonical in_flow) prefix rest (stream_stays root fits) is
+    pub stream_shallow : (root : toml.TomlNodes) → document_nesting root ≤ most → NeverPasses most (all_events root canonical in_flow)
+    stream_shallow root fits = λ prefix rest is.
+        let events = toml_events canonical in_flow (root_of root) in
+        few_open most (all_events root canonical in_flow) prefix rest
+        (opening_stays most (events ++ closing) (value_stays (root_of root) 0 closing (omega (arith, fits)) (closing_stays most))) is
 
     -- the same of its document's own events
-    pub document_shallow : (root : toml.TomlNodes) → document_nesting root ≤ most → (prefix rest : List Event)
-        → prefix ++ rest ≡ toml_events canonical in_flow (root_of root) → open_count prefix ≤ most
-    document_shallow root fits prefix rest is =
+    pub document_shallow : (root : toml.TomlNodes) → document_nesting root ≤ most → NeverPasses most (toml_events canonical in_flow (root_of root))
+    document_shallow root fits = λ prefix rest is.
         let events = toml_events canonical in_flow (root_of root) in
         few_open most events prefix rest
         (subst (Stays most 0) (append-nil events) (value_stays (root_of root) 0 [] (omega (arith, fits)) (omega arith))) is

@@ -6,7 +6,6 @@ pub mod Halting
 pub mod Numbered
 pub mod Several
 pub mod Pending
-pub mod StreamRefusals
 pub mod WhyFailed
 pub mod TomlTrees
 pub mod Moments

@@ -1,44 +1,31 @@
 -- Why a writer failed that was given the events of a document.
-use Rattle.yaml_json.proofs.Common.{ℕ, ◌+◌, ◌≤◌, ◌<◌, Option, None, Some, Bool, true, List, [], ◌++◌, ◌∷◌, ◌⊎◌, refl, ◌≡◌, append-nil, append_assoc, inl, inr}
+use Rattle.yaml_json.proofs.Common.{ℕ, ◌+◌, ◌≤◌, ◌<◌, Option, None, Some, Bool, true, List, [], ◌++◌, ◌∷◌, refl, ◌≡◌, append-nil, append_assoc, inl, inr}
 use Rattle.yaml_json.proofs.Common.{ap, subst, sym, ◌∙◌}
-use Rattle.yaml_json.proofs.Common.{arith, cases_lt, cond, unwrap_or, IfSome, Event, IsPrefix, Settings, RefusedAt, StateStands, State, WriterState, most_open}
+use Rattle.yaml_json.proofs.Common.{arith, cond, unwrap_or, IfSome, Event, IsPrefix, Settings, State, WriterState, most_open, list_all, is_sound, Stream}
 use Rattle.yaml_json.proofs.Common.{open_count, begins_collection}
 use Rattle.yaml_json.proofs.Common.{opening, closing, StandsTaken}
-use Rattle.yaml_base.proofs.Common.{stream_start, sum_by-append, count_by, ends_collection}
+use Rattle.yaml_base.proofs.Common.{stream_start, stream_events, sum_by-append, count_by, ends_collection}
 use Rattle.yaml_base.specs.declared.errors.{yaml_error_t.yaml_error_t, yaml_error_t.TheVariants.Memory, yaml_error_t.TheVariants.WriteError}
 use Rattle.yaml_base.specs.declared.errors.{yaml_error_t.TheVariants.TooDeep}
 use Rattle.yaml_emitter.proofs.Common.{IsRefusal, StandsAfter}
-use Rattle.yaml_emitter.proofs.standing.{StandingMore.failed_more, StandingPromises.promises_refusal}
+use Rattle.yaml_emitter.proofs.standing.{StandingPromises.promises_refusal}
 use Rattle.yaml_json.specs.Failing.{HasErrorSaid}
 use Rattle.yaml_writer.proofs.Common.{plain_start}
-use Rattle.yaml_writer.{proofs.Overflow.overflowed, specs.Unfinished.PassesLimit, specs.Unfinished.IsUnfinished}
+use Rattle.yaml_writer.proofs.WhyFailed.{NeverPasses, fails_by, first_passes, overflowed_more, refused_deeper, refused_depth, unfinished_deeper}
+use Rattle.yaml_writer.proofs.WhyFailed.{unfinished_depth}
+use Rattle.yaml_writer.specs.Unfinished.{IsUnfinished, PassesLimit}
 use Rattle.toml_ordered.specs.Data as toml
 use Rattle.toml_ordered.specs.Grammar.{ordered_document}
-use Rattle.yaml_toml.specs.Depth.{NestsWithin, document_nesting}
+use Rattle.yaml_toml.specs.Depth.{NestsDeeper, NestsWithin, document_nesting}
 use Rattle.yaml_toml.specs.Events.{toml_events}
-use Rattle.yaml_toml.specs.Failing.{TomlFailsBy, GaveFirst, OverLimit, StopsInDocument}
+use Rattle.yaml_toml.specs.Failing.{DocumentOverLimit, TomlFailsBy, GaveFirst, StopsInDocument}
 use Rattle.toml_ordered.specs.declared.fault.Fault.{Fault}
 use Rattle.toml_ordered.specs.declared.fault.Fault.TheVariants as fault
 use Rattle.yaml_toml.specs.Walk.{WroteToml, fault_error, toml_writers_error}
 use Rattle.yaml_toml.specs.declared.error.TomlError.{TomlError}
 use Rattle.yaml_toml.specs.declared.error.TomlError.TheVariants as errors
 use Rattle.yaml_toml.proofs.Accepting.{document_shallow, stream_shallow, stream_sound, toml_accepted}
-use Rattle.yaml_toml.proofs.StreamRefusals.{begins_if_shallow, refused_by_depth}
 use Rattle.yaml_toml.proofs.TomlTrees.{all_events, root_of, stream_flat, toml_stream}
-
--- an error is one of memory, the limit's, or the refusal of an event
-which : (error : yaml_error_t) → (error ≡ Memory) ⊎ ((error ≡ WriteError) ⊎ IsRefusal error)
-which Memory = inl refl
-which WriteError = inr (inl refl)
-which error = inr (inr tt)
-
--- where the limit gave out, the bytes pass it, whatever else is given
-overflowed_more : (given : Settings) (more all : List Event) (state : State) → StateStands given all state → state.error ≡ Some WriteError
-    → PassesLimit given (all ++ more)
-overflowed_more given [] all state stands is = subst (PassesLimit given) (sym (append-nil all)) (overflowed given all state stands is)
-overflowed_more given (event ∷ more) all state stands is =
-    subst (PassesLimit given) (append_assoc all (event ∷ []) more)
-    (overflowed_more given more (all ++ event ∷ []) (record state { started = true }) (failed_more given all event state WriteError stands is) is)
 
 -- what begins a stream opens nothing
 few_opened : (first : List Event) (depth : ℕ) → ((prefix rest : List Event) → prefix ++ rest ≡ first → open_count prefix ≤ depth) → (prefix rest : List Event)
@@ -67,13 +54,25 @@ module _ (given : Settings) (in_flow : Bool) (depth : ℕ) (text : List ℕ) (ro
   abbrev all : List Event
   all = all_events root given.canonical in_flow
 
-  over_limit : PassesLimit given all → OverLimit given in_flow text
+  over_limit : PassesLimit given all → DocumentOverLimit given in_flow text
   over_limit passes =
       record { root = root; read = read; passes = passes; cut = λ fits uncut. passes.whole (toml_accepted given.canonical in_flow root fits) uncut }
 
+  abbrev tree : Stream
+  tree = toml_stream root given.canonical in_flow
+
+  flat : stream_events tree ≡ all
+  flat = stream_flat root given.canonical in_flow
+
+  in_order : list_all (is_sound given.canonical) all ≡ true
+  in_order = stream_sound given.canonical in_flow root
+
+  shallow : NeverPasses (document_nesting root) all
+  shallow = stream_shallow given.canonical in_flow (document_nesting root) root (omega arith)
+
   -- ---- an emitter that failed after the first of its events
 
-  module _ (first : List Event) (begins : IsPrefix first events) (few : (prefix rest : List Event) → prefix ++ rest ≡ first → open_count prefix ≤ depth)
+  module _ (first : List Event) (begins : IsPrefix first events) (few : NeverPasses depth first)
       (state : State) (stands : StandsAfter given (opening ++ first) state) (error : yaml_error_t) (is : state.error ≡ Some error) where
     abbrev later : List Event
     later = begins.rest ++ closing
@@ -83,87 +82,44 @@ module _ (given : Settings) (in_flow : Bool) (depth : ℕ) (text : List ℕ) (ro
         ap (λ (more : List Event). opening ++ more)
         (sym (append_assoc first begins.rest closing) ∙ ap (λ (more : List Event). more ++ closing) begins.parts)
 
-    full : error ≡ WriteError → OverLimit given in_flow text
+    full : error ≡ WriteError → DocumentOverLimit given in_flow text
     full same =
         over_limit
         (subst (PassesLimit given) whole
         (overflowed_more given later (opening ++ first) state stands.so (is ∙ ap (λ (e : yaml_error_t). Some e) same)))
 
-    module _ (refused : RefusedAt given (opening ++ first) error state) where
-      goes_on : refused.prefix ++ refused.event ∷ (refused.later ++ later) ≡ all
-      goes_on =
-          sym (append_assoc refused.prefix (refused.event ∷ refused.later) later)
-          ∙ ap (λ (more : List Event). more ++ later) refused.parts ∙ whole
-
-      abbrev with_event : List Event
-      with_event = refused.prefix ++ refused.event ∷ []
-
-      cut : with_event ++ refused.later ≡ opening ++ first
-      cut = append_assoc refused.prefix (refused.event ∷ []) refused.later ∙ refused.parts
-
-      cut_whole : with_event ++ (refused.later ++ later) ≡ all
-      cut_whole = append_assoc refused.prefix (refused.event ∷ []) (refused.later ++ later) ∙ goes_on
-
-      is_depth : error ≡ TooDeep
-      is_depth =
-          refused_by_depth given.canonical all (toml_stream root given.canonical in_flow) (stream_flat root given.canonical in_flow)
-          (stream_sound given.canonical in_flow root) refused.prefix (refused.later ++ later) refused.event goes_on error refused.refusal
-
-      never_shallow : ((start rest : List Event) → start ++ rest ≡ with_event → open_count start ≤ most_open) → ⊥
-      never_shallow shallow =
-          refused.ends
-          (begins_if_shallow given.canonical all (toml_stream root given.canonical in_flow) (stream_flat root given.canonical in_flow)
-          (stream_sound given.canonical in_flow root) with_event (refused.later ++ later) cut_whole shallow)
-
-      deeper : most_open < document_nesting root
-      deeper = elim (cases_lt most_open (document_nesting root)) [
-        | inl more ↦ more
-        | inr fits ↦ absurd (never_shallow (λ start rest same. stream_shallow given.canonical in_flow most_open root fits start (rest ++ (refused.later ++ later))
-            (sym (append_assoc start rest (refused.later ++ later)) ∙ ap (λ (more : List Event). more ++ (refused.later ++ later)) same ∙ cut_whole)))
-      ]
-
-      allowed : most_open < depth
-      allowed = elim (cases_lt most_open depth) [
-        | inl more ↦ more
-        | inr fits ↦ absurd (never_shallow (λ start rest same.
-            let opened = few_opened first depth few start (rest ++ refused.later)
-            (sym (append_assoc start rest refused.later) ∙ ap (λ (more : List Event). more ++ refused.later) same ∙ cut) in
-            omega (arith, opened, fits)))
-      ]
-
-      too_deep : TomlFailsBy given in_flow depth text error
-      too_deep = inr (inr (is_depth, (allowed, record { root = root; read = read; deeper = deeper })))
-
-    by_kind : (error ≡ Memory) ⊎ ((error ≡ WriteError) ⊎ IsRefusal error) → TomlFailsBy given in_flow depth text error
-    by_kind (inl memory) = inl memory
-    by_kind (inr (inl same)) = inr (inl (same, full same))
-    by_kind (inr (inr refusal)) = too_deep (promises_refusal given (opening ++ first) state error stands.so is refusal)
+    too_deep : IsRefusal error → (error ≡ TooDeep) × ((most_open < depth) × NestsDeeper most_open text)
+    too_deep refusal =
+        let refused = promises_refusal given (opening ++ first) state error stands.so is refusal in
+        let deeper = refused_deeper given all tree flat in_order (opening ++ first) later whole state error refused in
+        let most = document_nesting root in (
+          refused_depth given all tree flat in_order (opening ++ first) later whole state error refused,
+          (
+            deeper depth (few_opened first depth few),
+            record { root = root; read = read; deeper = deeper most (first_passes most (opening ++ first) later all whole shallow) },
+          ),
+        )
 
     pub failed_after : TomlFailsBy given in_flow depth text error
-    failed_after = by_kind (which error)
+    failed_after = fails_by depth (DocumentOverLimit given in_flow text) (NestsDeeper most_open text) error full too_deep
 
   -- ---- a stream that couldn't be finished
 
   module _ (fits : document_nesting root ≤ depth) (state : State) (stands : StandsAfter given (opening ++ events) state) (error : yaml_error_t)
       (unfinished : IsUnfinished state error) where
-    not_accepted : IsRefusal error → TomlFailsBy given in_flow depth text error
+    full_unfinished : error ≡ WriteError → DocumentOverLimit given in_flow text
+    full_unfinished same = over_limit (unfinished.full same given (opening ++ events) stands)
+
+    not_accepted : IsRefusal error → (error ≡ TooDeep) × ((most_open < depth) × NestsDeeper most_open text)
     not_accepted refusal =
         let none = unfinished.refused refusal given (opening ++ events) stands in
-        let one = none.named in
-        let is_depth = refused_by_depth given.canonical all (toml_stream root given.canonical in_flow) (stream_flat root given.canonical in_flow)
-        (stream_sound given.canonical in_flow root) one.prefix one.later one.event one.parts error one.refusal in
-        elim (cases_lt most_open (document_nesting root)) [
-          | inl more ↦ inr (inr (is_depth, (omega (arith, more, fits), record { root = root; read = read; deeper = more })))
-          | inr few ↦ absurd (none.unaccepted (toml_accepted given.canonical in_flow root few))
-        ]
-
-    unfailed : (error ≡ Memory) ⊎ ((error ≡ WriteError) ⊎ IsRefusal error) → TomlFailsBy given in_flow depth text error
-    unfailed (inl memory) = inl memory
-    unfailed (inr (inl same)) = inr (inl (same, over_limit (unfinished.full same given (opening ++ events) stands)))
-    unfailed (inr (inr refusal)) = not_accepted refusal
+        let deeper = unfinished_deeper given all tree flat in_order error none (document_nesting root) shallow in (
+          unfinished_depth given all tree flat in_order error none,
+          (omega (arith, deeper, fits), record { root = root; read = read; deeper = deeper }),
+        )
 
     by_error : (found : Option yaml_error_t) → state.error ≡ found → TomlFailsBy given in_flow depth text error
-    by_error None none = unfailed (which error)
+    by_error None none = fails_by depth (DocumentOverLimit given in_flow text) (NestsDeeper most_open text) error full_unfinished not_accepted
     by_error (Some earlier) some =
         failed_after events (record { rest = []; parts = append-nil events }) (document_shallow given.canonical in_flow depth root fits) state stands error
         (some ∙ ap (λ (e : yaml_error_t). Some e) (sym (unfinished.first earlier some)))

@@ -10,7 +10,7 @@ use Rattle.toml_ordered.specs.Data.{TomlNodes}
 use Rattle.toml_ordered.specs.Data.{no_nodes, node}
 use Rattle.yaml_base.specs.Event.{plain, Event, Scalar, scalar, sequence_start, sequence_end, mapping_start, mapping_end}
 use Rattle.yaml_base.specs.values.TypedValues.{int_tag}
-use Rattle.yaml_json.specs.JsonEvents.{content_with, word_content, bool_content, number_content, text_content, collection_in}
+use Rattle.yaml_writer.specs.Contents.{content_with, word_content, bool_content, number_content, text_content, collection_in}
 use Rattle.yaml_writer.specs.Floats.{special_text}
 use Rattle.yaml_writer.specs.NumberParts.{number_in}
 use Rattle.yaml_writer.specs.Times.{Moment, timestamp_text}

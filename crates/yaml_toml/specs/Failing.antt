@@ -1,5 +1,5 @@
 -- What a writer was given of a document that isn't written, and why no stream was.
-use Rattle.std.specs.Prelude.{◌≡◌, ◌⊎◌, ℕ, ◌<◌, ◌≤◌, Bool, None, Some, IfSome, List, ◌++◌}
+use Rattle.std.specs.Prelude.{◌≡◌, ℕ, ◌≤◌, Bool, None, Some, IfSome, List, ◌++◌}
 use Rattle.toml_ordered.specs.Data.{TomlNodes, table}
 use Rattle.toml_ordered.specs.Grammar.{ordered_document}
 use Rattle.toml_ordered.specs.declared.tree.Origin.TheVariants.{Header}
@@ -8,9 +8,9 @@ use Rattle.yaml_base.specs.Prefix.{IsPrefix}
 use Rattle.yaml_base.specs.Refusal.{most_open, open_count}
 use Rattle.yaml_base.specs.Settings.{Settings}
 use Rattle.yaml_base.specs.declared.errors.yaml_error_t.{yaml_error_t}
-use Rattle.yaml_base.specs.declared.errors.yaml_error_t.TheVariants.{TooDeep, WriteError, Memory}
+use Rattle.yaml_base.specs.declared.errors.yaml_error_t.TheVariants.{Memory}
 use Rattle.yaml_emitter.specs.Uncut.{IsUncut}
-use Rattle.yaml_writer.specs.Unfinished.{PassesLimit}
+use Rattle.yaml_writer.specs.Unfinished.{FailsBy, PassesLimit}
 use Rattle.yaml_writer.specs.Writing.{AddsEvents, WriterState, closing, opening}
 use Rattle.yaml_toml.specs.Depth.{NestsDeeper, document_nesting}
 use Rattle.yaml_toml.specs.Events.{toml_events}
@@ -36,18 +36,12 @@ abbrev pub stream_events_of : Settings → (in_flow : Bool) → TomlNodes → Li
 stream_events_of given in_flow root = opening ++ toml_events given.canonical in_flow (table Header root) ++ closing
 
 -- the text is a document, and the bytes of its stream pass the limit
-pub record OverLimit (given : Settings) (in_flow : Bool) (text : List ℕ) : Type 0 where
+pub record DocumentOverLimit (given : Settings) (in_flow : Bool) (text : List ℕ) : Type 0 where
   pub root : TomlNodes
   pub read : ordered_document text ≡ Some root
   pub passes : PassesLimit given (stream_events_of given in_flow root)
   pub cut : document_nesting root ≤ most_open → IsUncut given (stream_events_of given in_flow root) → ⊥
 
--- more levels are allowed than may be open, and the text is a document that has more
-abbrev pub NestsTooDeep : (depth : ℕ) → (text : List ℕ) → Type 0
-NestsTooDeep depth text = (most_open < depth) × NestsDeeper most_open text
-
 -- an allocation failed, the limit gave out, or too many collections were open
 abbrev pub TomlFailsBy : Settings → (in_flow : Bool) → (depth : ℕ) → (text : List ℕ) → yaml_error_t → Type 0
-TomlFailsBy given in_flow depth text error =
-    (error ≡ Memory)
-    ⊎ (((error ≡ WriteError) × OverLimit given in_flow text) ⊎ ((error ≡ TooDeep) × NestsTooDeep depth text))
+TomlFailsBy given in_flow depth text = FailsBy depth (DocumentOverLimit given in_flow text) (NestsDeeper most_open text)

@@ -17,7 +17,7 @@ use Rattle.yaml_base.specs.declared.kinds.CollectionKind.{CollectionKind}
 use Rattle.yaml_base.specs.declared.kinds.CollectionKind.TheVariants.{Mapping, Sequence}
 use Rattle.yaml_base.specs.Prefix.{IsPrefix}
 use Rattle.yaml_json.specs.Failing.{FailedGiving, HasErrorSaid, StaysSound}
-use Rattle.yaml_json.specs.JsonEvents.{collection_in}
+use Rattle.yaml_writer.specs.Contents.{collection_in}
 use Rattle.yaml_json.specs.Wrote.{IsBare, Wrote}
 use Rattle.yaml_writer.specs.NumberParts.{IsNumber, number_in}
 use Rattle.yaml_writer.specs.Writing.{AddsEvents, WriterState}

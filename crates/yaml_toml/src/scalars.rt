@@ -2,7 +2,7 @@
 ghost use Rattle.std.specs.Prelude.{◌≡◌, OnOk, chars, option_map};
 ghost use Rattle.toml_datetime.specs.Text.{datetime_text};
 ghost use Rattle.yaml_base.specs.Event.{scalar};
-ghost use Rattle.yaml_json.specs.JsonEvents.{bool_content, number_content, text_content};
+ghost use Rattle.yaml_writer.specs.Contents.{bool_content, number_content, text_content};
 ghost use Rattle.yaml_json.specs.Wrote.{IsBare, WroteEvent};
 ghost use Rattle.yaml_toml.specs.Events.{date_content, decimal_content, integer_content, json_word, special_content};
 ghost use Rattle.yaml_toml.specs.Walk.{Answers, IsJsonWord};

@@ -9,7 +9,7 @@ ghost use Rattle.toml_ordered.specs.declared.tree.Origin.TheVariants.{Header};
 ghost use Rattle.yaml_base.specs.declared.kinds.CollectionKind.TheVariants.{Mapping, Sequence};
 ghost use Rattle.yaml_base.specs.Seen.{seen_mapping_style, seen_sequence_style};
 ghost use Rattle.yaml_base.specs.declared.kinds.CollectionKind.{CollectionKind};
-ghost use Rattle.yaml_json.specs.JsonEvents.{style_of};
+ghost use Rattle.yaml_writer.specs.Contents.{style_of};
 ghost use Rattle.yaml_json.specs.Wrote.{IsBare, Wrote, start_event};
 ghost use Rattle.yaml_toml.specs.Events.{infinite, toml_events};
 ghost use Rattle.yaml_toml.specs.Walk.{Answers, HasInnermost, HasNumbers, IsOwnMemory, IsStopOf, ItemsHaveNumbers, KeptAfterStop, KeysHaveNumbers, Moved};

@@ -23,4 +23,7 @@ pub mod DateLemmas
 pub mod TimeLemmas
 pub mod TimesPlain
 pub mod HeadingLemmas
+pub mod Accepting
+pub mod StreamRefusals
+pub mod WhyFailed
 pub mod rows

@@ -5,6 +5,7 @@ pub mod Spellings
 pub mod Given
 pub mod Writing
 pub mod Unfinished
+pub mod Contents
 pub mod Floats
 pub mod Binary
 pub mod Inside

@@ -1,13 +1,13 @@
--- Why a stream couldn't be finished.
-use Rattle.std.specs.Prelude.{◌≡◌, ◌<◌, Bool, true, false, Option, None, Some, List, [], ◌∷◌, ◌++◌, length, take}
+-- Why a stream couldn't be finished, or a value has none.
+use Rattle.std.specs.Prelude.{◌≡◌, ◌⊎◌, ℕ, ◌<◌, Bool, true, false, Option, None, Some, List, [], ◌∷◌, ◌++◌, length, take}
 use Rattle.yaml_base.specs.Event.{Event}
 use Rattle.yaml_base.specs.Grammar.{Partial, within_document, partial_of}
 use Rattle.yaml_base.specs.Output.{settings_for, bytes_written}
 use Rattle.yaml_base.specs.Pieces.{list_layout}
-use Rattle.yaml_base.specs.Refusal.{IsAccepted, BeginsAccepted, refusal}
+use Rattle.yaml_base.specs.Refusal.{IsAccepted, BeginsAccepted, most_open, refusal}
 use Rattle.yaml_base.specs.Settings.{Settings}
 use Rattle.yaml_base.specs.declared.errors.yaml_error_t.{yaml_error_t}
-use Rattle.yaml_base.specs.declared.errors.yaml_error_t.TheVariants.{ExpectedNode, WriteError}
+use Rattle.yaml_base.specs.declared.errors.yaml_error_t.TheVariants.{ExpectedNode, Memory, TooDeep, WriteError}
 use Rattle.yaml_emitter.specs.Promises.{IsRefusal}
 use Rattle.yaml_emitter.specs.StandsAfter.{StandsAfter}
 use Rattle.yaml_emitter.specs.State.{State}
@@ -67,3 +67,11 @@ pub record IsUnfinishedBy (implicit : Bool) (emitter : State) (error : yaml_erro
 -- and so where the document's end isn't written
 abbrev pub IsUnfinished : State → yaml_error_t → Type 0
 IsUnfinished = IsUnfinishedBy true
+
+-- ---- why a value has no stream
+
+-- an allocation failed; the limit gave out, of which this is said; or more levels are allowed than may be open, and the value has more, of
+-- which this is said
+abbrev pub FailsBy : (depth : ℕ) → (over_limit deeper : Type 0) → yaml_error_t → Type 0
+FailsBy depth over_limit deeper error =
+    (error ≡ Memory) ⊎ (((error ≡ WriteError) × over_limit) ⊎ ((error ≡ TooDeep) × ((most_open < depth) × deeper)))
