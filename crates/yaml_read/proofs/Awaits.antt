@@ -10,10 +10,10 @@ use Rattle.std.proofs.Common.{vec_len}
 use Rattle.std.specs.Option.{option_to_list}
 use Rattle.yaml_base.specs.values.ValueText.{line_at}
 use Rattle.yaml_read.specs.Awaits.{EntryStands, IsInnermostAwait, IsLastAwait, LeadStands, awaits_onto, can_end, seen_await, seen_awaits}
-use Rattle.yaml_read.specs.EventTexts.{Awaited, closing_text, item_awaited, key_awaited, lead_text, next_awaited, open_behind, outside, trail_text}
+use Rattle.yaml_read.specs.EventTexts.{Pending, closing_text, item_awaited, key_awaited, lead_text, next_awaited, left_open, outside, trail_text}
 use Rattle.yaml_read.specs.EventTexts.{value_awaited}
 use Rattle.yaml_read.specs.Places.{IsHere, LacksLevel, LacksLine, no_level, no_line}
-use Rattle.yaml_read.specs.RunPlaces.{StopsWithin}
+use Rattle.yaml_read.specs.RunPlaces.{StopsAmong}
 use Rattle.yaml_read.specs.Words.{OrMemory, past_word}
 use Rattle.yaml_read.specs.declared.errors.Stop.{Stop}
 use Rattle.yaml_read.specs.declared.errors.Stop.TheVariants as stop
@@ -26,14 +26,14 @@ use Rattle.yaml_read.proofs.Words.{at_exit, error_stays, memory_is, no_word}
 
 -- ---- the code's list
 
-onto_more : (outer : List Awaited) (awaits : List Await) (awaited : Await) → awaits_onto outer (awaits ++ awaited ∷ []) ≡ seen_await awaited ∷ awaits_onto outer awaits
+onto_more : (outer : List Pending) (awaits : List Await) (awaited : Await) → awaits_onto outer (awaits ++ awaited ∷ []) ≡ seen_await awaited ∷ awaits_onto outer awaits
 onto_more outer [] awaited = refl
 onto_more outer (first ∷ awaits) awaited = onto_more (seen_await first ∷ outer) awaits awaited
 
 pub await_more : (awaits : List Await) (awaited : Await) → seen_awaits (awaits ++ awaited ∷ []) ≡ seen_await awaited ∷ seen_awaits awaits
 await_more awaits awaited = onto_more [] awaits awaited
 
-onto_length : (outer : List Awaited) (awaits : List Await) → length (awaits_onto outer awaits) ≡ length outer + length awaits
+onto_length : (outer : List Pending) (awaits : List Await) → length (awaits_onto outer awaits) ≡ length outer + length awaits
 onto_length outer [] = omega arith
 onto_length outer (first ∷ awaits) = onto_length (seen_await first ∷ outer) awaits ∙ one (length outer) (length awaits)
   where
@@ -64,36 +64,36 @@ taken_off old new (Some awaited) is cases = sym (ap (λ awaits. outside (seen_aw
 
 -- ---- places
 
-pub here_within : (bytes : List ℕ) (error : Stop) → IsHere bytes error → StopsWithin bytes error
-here_within bytes error is = subst (λ (e : Stop). StopsWithin bytes e) (sym is) at_most
+pub here_within : (bytes : List ℕ) (error : Stop) → IsHere bytes error → StopsAmong bytes error
+here_within bytes error is = subst (λ (e : Stop). StopsAmong bytes e) (sym is) at_most
   where
     at_most : length bytes ≤ length bytes
     at_most = omega arith
 
 -- within what follows a word
-pub within_behind : (word text rest : List ℕ) (error : Stop) → text ≡ word ++ rest → StopsWithin rest error → StopsWithin text error
+pub within_behind : (word text rest : List ℕ) (error : Stop) → text ≡ word ++ rest → StopsAmong rest error → StopsAmong text error
 within_behind word text rest (stop.Refused left) is within = omega (arith, within, ap length is, length-append word rest)
 within_behind word text rest (stop.TooDeep left) is within = within
 within_behind word text rest stop.Memory is within = tt
 
-pub line_within : (depth : ℕ) (text : List ℕ) (error : Stop) → LacksLine depth text error → StopsWithin text error
+pub line_within : (depth : ℕ) (text : List ℕ) (error : Stop) → LacksLine depth text error → StopsAmong text error
 line_within depth text error (no_line none place) = here_within text error place
 line_within depth text error (no_level line is lacks) =
     within_behind (codes "\n") text line error is (within_behind _ line lacks.rest error lacks.text (here_within lacks.rest error lacks.place))
 
 -- within what follows a word, where another one is cut
 pub cut_within : {T : Type 0} (word text line : List ℕ) (result : Result T Stop) → text ≡ word ++ line → IfErr result (IsHere line)
-    → IfErr result (StopsWithin text)
+    → IfErr result (StopsAmong text)
 cut_within word text line (Ok found) is placed = tt
 cut_within word text line (Err error) is placed = within_behind word text line error is (here_within line error placed)
 
 -- what fails within what follows a word
-pub errs_behind : {T : Type 0} (result : Result T Stop) (word text rest : List ℕ) → text ≡ word ++ rest → IfErr result (StopsWithin rest)
-    → IfErr result (StopsWithin text)
+pub errs_behind : {T : Type 0} (result : Result T Stop) (word text rest : List ℕ) → text ≡ word ++ rest → IfErr result (StopsAmong rest)
+    → IfErr result (StopsAmong text)
 errs_behind (Ok found) word text rest is within = tt
 errs_behind (Err error) word text rest is within = within_behind word text rest error is within
 
-pub within_less : (text rest : List ℕ) (error : Stop) → length rest < length text → StopsWithin rest error → StopsWithin text error
+pub within_less : (text rest : List ℕ) (error : Stop) → length rest < length text → StopsAmong rest error → StopsAmong text error
 within_less text rest (stop.Refused left) less within = omega (arith, less, within)
 within_less text rest (stop.TooDeep left) less within = within
 within_less text rest stop.Memory less within = tt
@@ -104,8 +104,8 @@ less_behind word text rest end is less = omega (arith, ap length is, length-appe
 pub behind_less : (word text rest end : List ℕ) → rest ≡ word ++ end → length rest < length text → length end < length text
 behind_less word text rest end is less = omega (arith, ap length is, length-append word end)
 
-pub memory_within : (bytes : List ℕ) (error : Stop) → error ≡ stop.Memory → StopsWithin bytes error
-memory_within bytes error is = subst (λ (e : Stop). StopsWithin bytes e) (sym is) tt
+pub memory_within : (bytes : List ℕ) (error : Stop) → error ≡ stop.Memory → StopsAmong bytes error
+memory_within bytes error is = subst (λ (e : Stop). StopsAmong bytes e) (sym is) tt
 
 -- ---- results
 
@@ -142,7 +142,7 @@ item_lead : (depth : ℕ) → line_at (depth * 2) ++ codes "  " ≡ line_at (suc
 item_lead depth = entry_line depth [] ∙ append-nil (line_at (suc depth * 2))
 
 -- what is found by the code's words is what the innermost collection awaits
-stands_by : (lead end : List ℕ) (levels : List Awaited) (text : List ℕ) (result : Result Entry Stop) → lead ≡ lead_text levels → end ≡ closing_text levels
+stands_by : (lead end : List ℕ) (levels : List Pending) (text : List ℕ) (result : Result Entry Stop) → lead ≡ lead_text levels → end ≡ closing_text levels
     → can_end levels ≡ true → EntryStands lead end text result → LeadStands levels text result
 stands_by lead end levels text (Ok (Another rest)) is ends can stands = stands ∙ ap (λ w. w ++ rest.now) is
 stands_by lead end levels text (Ok (End rest)) is ends can stands = (can, stands ∙ ap (λ w. w ++ rest.now) ends)
@@ -152,44 +152,44 @@ stands_by lead end levels text (Err error) is ends can stands = (
 )
 
 -- the code's words, by how deep the collection lies
-stands_at : (lead end : ℕ → List ℕ) (awaited : Awaited) (outer : List Awaited) (depth : ℕ) (text : List ℕ) (result : Result Entry Stop)
+stands_at : (lead end : ℕ → List ℕ) (awaited : Pending) (outer : List Pending) (depth : ℕ) (text : List ℕ) (result : Result Entry Stop)
     → depth ≡ length outer → lead (length outer) ≡ lead_text (awaited ∷ outer) → end (length outer) ≡ closing_text (awaited ∷ outer)
     → can_end (awaited ∷ outer) ≡ true → EntryStands (lead depth) (end depth) text result → LeadStands (awaited ∷ outer) text result
 stands_at lead end awaited outer depth text result at leads ends can stands =
     stands_by (lead depth) (end depth) (awaited ∷ outer) text result (ap lead at ∙ leads) (ap end at ∙ ends) can stands
 
-pub first_item_stands : (outer : List Awaited) (depth : ℕ) (text : List ℕ) (result : Result Entry Stop) → depth ≡ length outer
+pub first_item_stands : (outer : List Pending) (depth : ℕ) (text : List ℕ) (result : Result Entry Stop) → depth ≡ length outer
     → EntryStands (line_at (depth * 2) ++ codes "  ") (codes "]") text result → LeadStands (item_awaited true ∷ outer) text result
 first_item_stands outer depth text result at stands =
     stands_at (λ n. line_at (n * 2) ++ codes "  ") (λ n. codes "]") (item_awaited true) outer depth text result at (item_lead (length outer)) refl refl stands
 
-pub item_stands : (outer : List Awaited) (depth : ℕ) (text : List ℕ) (result : Result Entry Stop) → depth ≡ length outer
+pub item_stands : (outer : List Pending) (depth : ℕ) (text : List ℕ) (result : Result Entry Stop) → depth ≡ length outer
     → EntryStands (line_at (depth * 2) ++ codes "  ") (line_at (depth * 2) ++ codes "]") text result → LeadStands (item_awaited false ∷ outer) text result
 item_stands outer depth text result at stands =
     stands_at (λ n. line_at (n * 2) ++ codes "  ") (λ n. line_at (n * 2) ++ codes "]") (item_awaited false) outer depth text result at
     (item_lead (length outer)) refl refl stands
 
-pub first_key_stands : (outer : List Awaited) (depth : ℕ) (text : List ℕ) (result : Result Entry Stop) → depth ≡ length outer
+pub first_key_stands : (outer : List Pending) (depth : ℕ) (text : List ℕ) (result : Result Entry Stop) → depth ≡ length outer
     → EntryStands (line_at (depth * 2) ++ codes "  ? ") (codes "}") text result → LeadStands (key_awaited true ∷ outer) text result
 first_key_stands outer depth text result at stands =
     stands_at (λ n. line_at (n * 2) ++ codes "  ? ") (λ n. codes "}") (key_awaited true) outer depth text result at
     (entry_line (length outer) (codes "? ")) refl refl stands
 
-pub key_stands : (outer : List Awaited) (depth : ℕ) (text : List ℕ) (result : Result Entry Stop) → depth ≡ length outer
+pub key_stands : (outer : List Pending) (depth : ℕ) (text : List ℕ) (result : Result Entry Stop) → depth ≡ length outer
     → EntryStands (line_at (depth * 2) ++ codes "  ? ") (line_at (depth * 2) ++ codes "}") text result → LeadStands (key_awaited false ∷ outer) text result
 key_stands outer depth text result at stands =
     stands_at (λ n. line_at (n * 2) ++ codes "  ? ") (λ n. line_at (n * 2) ++ codes "}") (key_awaited false) outer depth text result at
     (entry_line (length outer) (codes "? ")) refl refl stands
 
 -- the value of a key has no end before it
-value_lead : (outer : List Awaited) (depth : ℕ) → depth ≡ length outer → line_at (depth * 2) ++ codes "  : " ≡ lead_text (value_awaited ∷ outer)
+value_lead : (outer : List Pending) (depth : ℕ) → depth ≡ length outer → line_at (depth * 2) ++ codes "  : " ≡ lead_text (value_awaited ∷ outer)
 value_lead outer depth at = ap (λ n. line_at (n * 2) ++ codes "  : ") at ∙ entry_line (length outer) (codes ": ")
 
-pub value_stands : (outer : List Awaited) (depth : ℕ) (text : List ℕ) (rest : Bor (List ℕ)) → depth ≡ length outer
+pub value_stands : (outer : List Pending) (depth : ℕ) (text : List ℕ) (rest : Bor (List ℕ)) → depth ≡ length outer
     → text ≡ (line_at (depth * 2) ++ codes "  : ") ++ rest.now → LeadStands (value_awaited ∷ outer) text (Ok (Another rest))
 value_stands outer depth text rest at cut = cut ∙ ap (λ w. w ++ rest.now) (value_lead outer depth at)
 
-pub value_lacks : (outer : List Awaited) (depth : ℕ) (text : List ℕ) (error : Stop) → depth ≡ length outer
+pub value_lacks : (outer : List Pending) (depth : ℕ) (text : List ℕ) (error : Stop) → depth ≡ length outer
     → past_word (line_at (depth * 2) ++ codes "  : ") text ≡ None → LeadStands (value_awaited ∷ outer) text (Err error)
 value_lacks outer depth text error at none = (
   subst (λ (w : List ℕ). past_word w text ≡ None) (value_lead outer depth at) none,
@@ -197,22 +197,22 @@ value_lacks outer depth text error at none = (
 )
 
 -- where nothing is open, and where something is
-pub root_stands : (levels : List Awaited) (found : Option Await) (text : Bor (List ℕ)) → found ≡ None → IsInnermostAwait levels found
+pub root_stands : (levels : List Pending) (found : Option Await) (text : Bor (List ℕ)) → found ≡ None → IsInnermostAwait levels found
     → LeadStands levels text.now (Ok (Another text))
 root_stands levels found text is innermost =
     let none : levels ≡ [] = subst (IsInnermostAwait levels) is innermost in
-    subst (λ (l : List Awaited). LeadStands l text.now (Ok (Another text))) (sym none) refl
+    subst (λ (l : List Pending). LeadStands l text.now (Ok (Another text))) (sym none) refl
 
-pub stands_in : (levels : List Awaited) (found : Option Await) (awaited : Await) (count depth : ℕ) (text : List ℕ) (result : Result Entry Stop)
+pub stands_in : (levels : List Pending) (found : Option Await) (awaited : Await) (count depth : ℕ) (text : List ℕ) (result : Result Entry Stop)
     → found ≡ Some awaited → IsInnermostAwait levels found → count ≡ length levels → depth ≡ count - 1
-    → ((outer : List Awaited) → depth ≡ length outer → LeadStands (seen_await awaited ∷ outer) text result) → LeadStands levels text result
+    → ((outer : List Pending) → depth ≡ length outer → LeadStands (seen_await awaited ∷ outer) text result) → LeadStands levels text result
 stands_in levels found awaited count depth text result is innermost counted less stands =
     let inner : IsInnermostAwait levels (Some awaited) = subst (IsInnermostAwait levels) is innermost in
     let lies : depth ≡ length inner.0 = omega (arith, counted, less, ap length inner.1) in
-    subst (λ (l : List Awaited). LeadStands l text result) (sym inner.1) (stands inner.0 lies)
+    subst (λ (l : List Pending). LeadStands l text result) (sym inner.1) (stands inner.0 lies)
 
 -- a node's lead and the collection's end don't begin one text
-pub lead_or_end : (levels : List Awaited) (a b : List ℕ) → can_end levels ≡ true → lead_text levels ++ a ≡ closing_text levels ++ b → ⊥
+pub lead_or_end : (levels : List Pending) (a b : List ℕ) → can_end levels ≡ true → lead_text levels ++ a ≡ closing_text levels ++ b → ⊥
 lead_or_end [] a b can is = absurd (false≢true can)
 lead_or_end (item_awaited true ∷ outer) a b can is = no_word (codes "]") (lead_text (item_awaited true ∷ outer) ++ a) b refl is
 lead_or_end (item_awaited false ∷ outer) a b can is =
@@ -229,18 +229,18 @@ lead_or_end (value_awaited ∷ outer) a b can is = absurd (false≢true can)
 
 -- ---- behind a node
 
-pub root_left : (levels : List Awaited) (text : List ℕ) → levels ≡ [] → (open_behind levels ≡ None) × (text ≡ trail_text levels ++ text)
-root_left levels text none = subst (λ (l : List Awaited). (open_behind l ≡ None) × (text ≡ trail_text l ++ text)) (sym none) (refl, refl)
+pub root_left : (levels : List Pending) (text : List ℕ) → levels ≡ [] → (left_open levels ≡ None) × (text ≡ trail_text levels ++ text)
+root_left levels text none = subst (λ (l : List Pending). (left_open l ≡ None) × (text ≡ trail_text l ++ text)) (sym none) (refl, refl)
 
-pub node_left : (levels outer now : List Awaited) (awaited next : Awaited) (word text rest : List ℕ) → levels ≡ awaited ∷ outer → now ≡ next ∷ outer
+pub node_left : (levels outer now : List Pending) (awaited next : Pending) (word text rest : List ℕ) → levels ≡ awaited ∷ outer → now ≡ next ∷ outer
     → next ≡ next_awaited awaited → word ≡ trail_text (awaited ∷ outer) → text ≡ word ++ rest
-    → (open_behind levels ≡ Some now) × (text ≡ trail_text levels ++ rest)
+    → (left_open levels ≡ Some now) × (text ≡ trail_text levels ++ rest)
 node_left levels outer now awaited next word text rest is now_is next_is word_is parts = (
-  ap open_behind is ∙ ap (λ n. Some (n ∷ outer)) (sym next_is) ∙ ap Some (sym now_is),
+  ap left_open is ∙ ap (λ n. Some (n ∷ outer)) (sym next_is) ∙ ap Some (sym now_is),
   parts ∙ ap (λ w. w ++ rest) (word_is ∙ ap trail_text (sym is)),
 )
 
-pub node_stays : (levels outer : List Awaited) (awaited : Awaited) (word text tail : List ℕ) → levels ≡ awaited ∷ outer → word ≡ trail_text (awaited ∷ outer)
+pub node_stays : (levels outer : List Pending) (awaited : Pending) (word text tail : List ℕ) → levels ≡ awaited ∷ outer → word ≡ trail_text (awaited ∷ outer)
     → past_word word text ≡ None → text ≡ trail_text levels ++ tail → ⊥
 node_stays levels outer awaited word text tail is word_is none parts =
     no_word word text tail none (parts ∙ ap (λ w. w ++ tail) (ap trail_text is ∙ sym word_is))
@@ -253,13 +253,13 @@ line_word column word rest ascii =
     ap encode_utf8_all (append_assoc (line_at column) word rest) ∙ line_encoded column (word ++ rest)
     ∙ ap (λ t. line_at column ++ t) (word_encoded word rest ascii) ∙ sym (append_assoc (line_at column) word (encode_utf8_all rest))
 
-pub lead_encoded : (levels : List Awaited) (rest : Text) → encode_utf8_all (lead_text levels ++ rest) ≡ lead_text levels ++ encode_utf8_all rest
+pub lead_encoded : (levels : List Pending) (rest : Text) → encode_utf8_all (lead_text levels ++ rest) ≡ lead_text levels ++ encode_utf8_all rest
 lead_encoded [] rest = refl
 lead_encoded (item_awaited empty ∷ outer) rest = line_encoded (length (item_awaited empty ∷ outer) * 2) rest
 lead_encoded (key_awaited empty ∷ outer) rest = line_word (length (key_awaited empty ∷ outer) * 2) (codes "? ") rest refl
 lead_encoded (value_awaited ∷ outer) rest = line_word (length (value_awaited ∷ outer) * 2) (codes ": ") rest refl
 
-pub closing_encoded : (levels : List Awaited) (rest : Text) → encode_utf8_all (closing_text levels ++ rest) ≡ closing_text levels ++ encode_utf8_all rest
+pub closing_encoded : (levels : List Pending) (rest : Text) → encode_utf8_all (closing_text levels ++ rest) ≡ closing_text levels ++ encode_utf8_all rest
 closing_encoded [] rest = refl
 closing_encoded (item_awaited true ∷ outer) rest = word_encoded (codes "]") rest refl
 closing_encoded (item_awaited false ∷ outer) rest = line_word (length outer * 2) (codes "]") rest refl
@@ -267,7 +267,7 @@ closing_encoded (key_awaited true ∷ outer) rest = word_encoded (codes "}") res
 closing_encoded (key_awaited false ∷ outer) rest = line_word (length outer * 2) (codes "}") rest refl
 closing_encoded (value_awaited ∷ outer) rest = refl
 
-pub trail_encoded : (levels : List Awaited) (rest : Text) → encode_utf8_all (trail_text levels ++ rest) ≡ trail_text levels ++ encode_utf8_all rest
+pub trail_encoded : (levels : List Pending) (rest : Text) → encode_utf8_all (trail_text levels ++ rest) ≡ trail_text levels ++ encode_utf8_all rest
 trail_encoded [] rest = refl
 trail_encoded (item_awaited empty ∷ outer) rest = word_encoded (codes ",") rest refl
 trail_encoded (key_awaited empty ∷ outer) rest = refl

@@ -6,9 +6,9 @@ use Rattle.std.proofs.lemmas.List.Elements.{All-nil, All-push}
 use Rattle.std.proofs.lemmas.Str.{encodes-append}
 use Rattle.std.specs.Prelude.{Result, Ok, Err, IfErr}
 use Rattle.yaml_read.specs.EventSteps.{ReadsEvent}
-use Rattle.yaml_read.specs.EventTexts.{Awaited, HasBegunText, HasRunText, IsInNode, closing_text, ends_name, event_text, item_awaited, key_awaited, lead_text}
-use Rattle.yaml_read.specs.EventTexts.{may_come, more_come, none_begun, one_more, open_after, open_behind, outside, root_ends, value_awaited}
-use Rattle.yaml_read.specs.RunPlaces.{NoEventBegins, RunStops, StopsWithin, bare_start, behind_root, in_document, in_event}
+use Rattle.yaml_read.specs.EventTexts.{Pending, HasBegunText, HasRunText, IsInNode, closing_text, ends_name, event_text, item_awaited, key_awaited, lead_text}
+use Rattle.yaml_read.specs.EventTexts.{may_come, more_come, none_begun, one_more, next_open, left_open, outside, root_ends, value_awaited}
+use Rattle.yaml_read.specs.RunPlaces.{NoEventBegins, RunStops, StopsAmong, bare_start, behind_root, in_document, in_event}
 use Rattle.yaml_read.specs.Words.{OrMemory}
 use Rattle.yaml_read.specs.declared.errors.Stop.{Stop}
 use Rattle.yaml_read.specs.declared.errors.Stop.TheVariants as stop
@@ -17,12 +17,12 @@ use Rattle.yaml_read.proofs.EventSteps.{behind_text}
 
 -- ---- a name ends before an event in a collection
 
-lead_ends_name : (awaited : Awaited) (outer : List Awaited) (text more : Text) → ends_name ((lead_text (awaited ∷ outer) ++ text) ++ more) ≡ true
+lead_ends_name : (awaited : Pending) (outer : List Pending) (text more : Text) → ends_name ((lead_text (awaited ∷ outer) ++ text) ++ more) ≡ true
 lead_ends_name (item_awaited empty) outer text more = refl
 lead_ends_name (key_awaited empty) outer text more = refl
 lead_ends_name value_awaited outer text more = refl
 
-end_ends_name : (awaited : Awaited) (outer : List Awaited) (event : Event) (text more : Text) → event ≡ sequence_end ⊎ event ≡ mapping_end
+end_ends_name : (awaited : Pending) (outer : List Pending) (event : Event) (text more : Text) → event ≡ sequence_end ⊎ event ≡ mapping_end
     → may_come (awaited ∷ outer) event ≡ true → ends_name ((closing_text (awaited ∷ outer) ++ text) ++ more) ≡ true
 end_ends_name (item_awaited true) outer event text more is comes = refl
 end_ends_name (item_awaited false) outer event text more is comes = refl
@@ -31,7 +31,7 @@ end_ends_name (key_awaited false) outer event text more is comes = refl
 end_ends_name value_awaited outer event text more (inl is) comes = absurd (false≢true (ap (may_come (value_awaited ∷ outer)) (sym is) ∙ comes))
 end_ends_name value_awaited outer event text more (inr is) comes = absurd (false≢true (ap (may_come (value_awaited ∷ outer)) (sym is) ∙ comes))
 
-event_ends_name : (awaited : Awaited) (outer : List Awaited) (event : Event) (more : Text) → may_come (awaited ∷ outer) event ≡ true
+event_ends_name : (awaited : Pending) (outer : List Pending) (event : Event) (more : Text) → may_come (awaited ∷ outer) event ≡ true
     → ends_name (event_text (awaited ∷ outer) event ++ more) ≡ true
 event_ends_name awaited outer (alias name) more comes = lead_ends_name awaited outer _ more
 event_ends_name awaited outer (scalar content) more comes = lead_ends_name awaited outer _ more
@@ -44,7 +44,7 @@ event_ends_name awaited outer stream_end more comes = absurd (false≢true comes
 event_ends_name awaited outer (document_start start) more comes = absurd (false≢true comes)
 event_ends_name awaited outer (document_end implicit) more comes = absurd (false≢true comes)
 
-run_ends_name : (awaited : Awaited) (outer : List Awaited) (events : List Event) (text more : Text) → HasRunText (awaited ∷ outer) events text
+run_ends_name : (awaited : Pending) (outer : List Pending) (events : List Event) (text more : Text) → HasRunText (awaited ∷ outer) events text
     → ends_name (text ++ more) ≡ true
 run_ends_name awaited outer _ _ more (root_ends _ event text comes after is) =
     ap (λ (t : Text). ends_name (t ++ more)) is ∙ event_ends_name awaited outer event more comes
@@ -53,11 +53,11 @@ run_ends_name awaited outer _ _ more (more_come _ next event events rest text co
     ∙ event_ends_name awaited outer event (rest ++ more) comes
 
 -- something is open behind an event that doesn't end the root
-behind_open : (levels : List Awaited) → open_behind levels ≡ Some [] → ⊥
+behind_open : (levels : List Pending) → left_open levels ≡ Some [] → ⊥
 behind_open [] is = cc
 behind_open (awaited ∷ outer) is = cc
 
-after_open : (levels : List Awaited) (event : Event) → open_after levels event ≡ Some [] → ⊥
+after_open : (levels : List Pending) (event : Event) → next_open levels event ≡ Some [] → ⊥
 after_open levels (alias name) is = behind_open levels is
 after_open levels (scalar content) is = behind_open levels is
 after_open levels (sequence_start start) is = cc
@@ -69,7 +69,7 @@ after_open levels stream_end is = behind_open levels is
 after_open levels (document_start start) is = behind_open levels is
 after_open levels (document_end implicit) is = behind_open levels is
 
-more_ends_name : (levels next : List Awaited) (event : Event) (events : List Event) (text more : Text) → open_after levels event ≡ Some next
+more_ends_name : (levels next : List Pending) (event : Event) (events : List Event) (text more : Text) → next_open levels event ≡ Some next
     → HasRunText next events text → ends_name (text ++ more) ≡ true
 more_ends_name levels [] event events text more after run = absurd (after_open levels event after)
 more_ends_name levels (awaited ∷ outer) event events text more after run = run_ends_name awaited outer events text more run
@@ -77,7 +77,7 @@ more_ends_name levels (awaited ∷ outer) event events text more after run = run
 -- ---- what was read, and what follows it
 
 -- events from the root's beginning, and then events up to its end
-pub begun_and_run : (levels : List Awaited) (events more : List Event) (text rest : Text) → HasBegunText levels events text → HasRunText levels more rest
+pub begun_and_run : (levels : List Pending) (events more : List Event) (text rest : Text) → HasBegunText levels events text → HasRunText levels more rest
     → HasRunText [] (events ++ more) (text ++ rest)
 begun_and_run _ _ more _ rest none_begun run = run
 begun_and_run _ _ more _ rest (one_more before levels events event text begun comes after) run =
@@ -87,7 +87,7 @@ begun_and_run _ _ more _ rest (one_more before levels events event text begun co
     (more_come before levels event more rest (event_text before event ++ rest) comes after refl run)))
 
 -- the events found so far, the document's start before them, are those up to here
-pub record RunBegun (whole : List ℕ) (found : List Event) (levels : List Awaited) (bytes : List ℕ) : Type 0 where
+pub record RunBegun (whole : List ℕ) (found : List Event) (levels : List Pending) (bytes : List ℕ) : Type 0 where
   pub events : List Event
   pub text : Text
   pub found_are : found ≡ document_start bare_start ∷ events
@@ -105,7 +105,7 @@ pub record RunEnded (whole : List ℕ) (found : List Event) (bytes : List ℕ) :
   pub parts : whole ≡ encode_utf8_all text ++ bytes
 
 -- one of both, by what is open
-abbrev pub RunRead : (whole : List ℕ) (found : List Event) → Option (List Awaited) → (bytes : List ℕ) → Type 0
+abbrev pub RunRead : (whole : List ℕ) (found : List Event) → Option (List Pending) → (bytes : List ℕ) → Type 0
 RunRead whole found None bytes = RunEnded whole found bytes
 RunRead whole found (Some levels) bytes = RunBegun whole found levels bytes
 
@@ -120,7 +120,7 @@ one_more_parts whole bytes rest text own is also =
     ∙ ap (λ t. t ++ rest) (sym (encodes-append text own))
 
 -- one more event is read
-pub event_more : (whole : List ℕ) (found : List Event) (levels : List Awaited) (bytes rest : List ℕ) (after : Option (List Awaited)) (event : Event)
+pub event_more : (whole : List ℕ) (found : List Event) (levels : List Pending) (bytes rest : List ℕ) (after : Option (List Pending)) (event : Event)
     → RunBegun whole found levels bytes → ReadsEvent levels bytes after event rest → RunRead whole (found ++ event ∷ []) after rest
 event_more whole found levels bytes rest None event begun read =
     record {
@@ -146,7 +146,7 @@ event_more whole found levels bytes rest (Some next) event begun read =
 -- ---- what is due
 
 -- behind the events found so far the others of a document are due
-pub record EventsDue (events found : List Event) (levels : List Awaited) (bytes : List ℕ) : Type 0 where
+pub record EventsDue (events found : List Event) (levels : List Pending) (bytes : List ℕ) : Type 0 where
   pub later : List Event
   pub text : Text
   pub all : in_document events ≡ found ++ (later ++ document_end true ∷ [])
@@ -160,12 +160,12 @@ pub record EndDue (events found : List Event) (bytes : List ℕ) : Type 0 where
   pub bytes_are : bytes ≡ codes "\n"
 
 -- one of both, by what is open
-abbrev pub IsRunDue : (events found : List Event) → Option (List Awaited) → (bytes : List ℕ) → Type 0
+abbrev pub IsRunDue : (events found : List Event) → Option (List Pending) → (bytes : List ℕ) → Type 0
 IsRunDue events found None bytes = EndDue events found bytes
 IsRunDue events found (Some levels) bytes = EventsDue events found levels bytes
 
 -- where the whole bytes are those of a document
-pub record RunDue (whole : List ℕ) (found : List Event) (open_yet : Option (List Awaited)) (bytes : List ℕ) : Type 0 where
+pub record RunDue (whole : List ℕ) (found : List Event) (open_yet : Option (List Pending)) (bytes : List ℕ) : Type 0 where
   pub due : (events : List Event) (node : Text) → HasRunText [] events node → All IsInNode events → whole ≡ encode_utf8_all (node ++ line_feed ∷ [])
       → IsRunDue events found open_yet bytes
 
@@ -176,12 +176,12 @@ all_due whole =
     }
 
 -- what follows an event, by what is open behind it
-abbrev Follows : Option (List Awaited) → List Event → Text → Type 0
+abbrev Follows : Option (List Pending) → List Event → Text → Type 0
 Follows None others tail = (others ≡ []) × (tail ≡ line_feed ∷ [])
 Follows (Some levels) others tail = (text : Text) × HasRunText levels others text × (tail ≡ text ++ line_feed ∷ [])
 
 -- the next event that is due
-pub record NextDue (levels : List Awaited) (later : List Event) (bytes : List ℕ) : Type 0 where
+pub record NextDue (levels : List Pending) (later : List Event) (bytes : List ℕ) : Type 0 where
   pub event : Event
   pub others : List Event
   pub tail : Text
@@ -190,9 +190,9 @@ pub record NextDue (levels : List Awaited) (later : List Event) (bytes : List �
   pub comes : may_come levels event ≡ true
   pub ends : ends_name tail ≡ true
   pub bytes_are : bytes ≡ encode_utf8_all (event_text levels event ++ tail)
-  pub follows : Follows (open_after levels event) others tail
+  pub follows : Follows (next_open levels event) others tail
 
-next_due : (levels : List Awaited) (later : List Event) (text : Text) (bytes : List ℕ) → HasRunText levels later text → All IsInNode later
+next_due : (levels : List Pending) (later : List Event) (text : Text) (bytes : List ℕ) → HasRunText levels later text → All IsInNode later
     → bytes ≡ encode_utf8_all (text ++ line_feed ∷ []) → NextDue levels later bytes
 next_due _ _ _ bytes (root_ends levels event text comes after is) in_node bytes_are =
     record {
@@ -204,7 +204,7 @@ next_due _ _ _ bytes (root_ends levels event text comes after is) in_node bytes_
       comes = comes;
       ends = refl;
       bytes_are = bytes_are ∙ ap (λ (t : Text). encode_utf8_all (t ++ line_feed ∷ [])) is;
-      follows = subst (λ (o : Option (List Awaited)). Follows o [] (line_feed ∷ [])) (sym after) (refl, refl);
+      follows = subst (λ (o : Option (List Pending)). Follows o [] (line_feed ∷ [])) (sym after) (refl, refl);
     }
 next_due _ _ _ bytes (more_come levels next event events rest text comes after is run) in_node bytes_are =
     record {
@@ -218,15 +218,15 @@ next_due _ _ _ bytes (more_come levels next event events rest text comes after i
       bytes_are =
           bytes_are ∙ ap (λ (t : Text). encode_utf8_all (t ++ line_feed ∷ [])) is
           ∙ ap encode_utf8_all (append_assoc (event_text levels event) rest (line_feed ∷ []));
-      follows = subst (λ (o : Option (List Awaited)). Follows o events (rest ++ line_feed ∷ [])) (sym after) (rest, run, refl);
+      follows = subst (λ (o : Option (List Pending)). Follows o events (rest ++ line_feed ∷ [])) (sym after) (rest, run, refl);
     }
 
-pub next_of : (events found : List Event) (levels : List Awaited) (bytes : List ℕ) (due : EventsDue events found levels bytes)
+pub next_of : (events found : List Event) (levels : List Pending) (bytes : List ℕ) (due : EventsDue events found levels bytes)
     → NextDue levels due.later bytes
 next_of events found levels bytes due = next_due levels due.later due.text bytes due.run due.in_node due.bytes_are
 
 -- the event that was due is read
-due_by : (events found others : List Event) (levels : List Awaited) (rest : List ℕ) (after : Option (List Awaited)) (event : Event) (tail : Text)
+due_by : (events found others : List Event) (levels : List Pending) (rest : List ℕ) (after : Option (List Pending)) (event : Event) (tail : Text)
     → in_document events ≡ found ++ ((event ∷ others) ++ document_end true ∷ []) → All IsInNode (event ∷ others) → rest ≡ encode_utf8_all tail
     → Follows after others tail → IsRunDue events (found ++ event ∷ []) after rest
 due_by events found others levels rest None event tail all in_node is follows =
@@ -246,29 +246,29 @@ due_by events found others levels rest (Some next) event tail all in_node is fol
       bytes_are = is ∙ ap encode_utf8_all follows.2;
     }
 
-pub due_more : (events found : List Event) (levels : List Awaited) (bytes rest : List ℕ) (after : Option (List Awaited)) (event : Event)
+pub due_more : (events found : List Event) (levels : List Pending) (bytes rest : List ℕ) (after : Option (List Pending)) (event : Event)
     → (due : EventsDue events found levels bytes) → event ≡ (next_of events found levels bytes due).event → ReadsEvent levels bytes after event rest
     → IsRunDue events (found ++ event ∷ []) after rest
 due_more events found levels bytes rest after event due same read =
     let next = next_of events found levels bytes due in
     let parts = subst (λ (e : Event). bytes ≡ encode_utf8_all (event_text levels e) ++ rest) same read.parts in
-    let opened = subst (λ (e : Event). open_after levels e ≡ after) same read.opened in
+    let opened = subst (λ (e : Event). next_open levels e ≡ after) same read.opened in
     subst (λ (e : Event). IsRunDue events (found ++ e ∷ []) after rest) (sym same)
     (due_by events found next.others levels rest after next.event next.tail
     (due.all ∙ ap (λ (e : List Event). found ++ (e ++ document_end true ∷ [])) next.later_are)
     (subst (All IsInNode) next.later_are due.in_node) (behind_text levels bytes rest next.event next.tail parts next.bytes_are)
-    (subst (λ (o : Option (List Awaited)). Follows o next.others next.tail) opened next.follows))
+    (subst (λ (o : Option (List Pending)). Follows o next.others next.tail) opened next.follows))
 
 -- ---- at once
 
-pub run_begins : (whole : List ℕ) (found : List Event) (levels : List Awaited) → found ≡ document_start bare_start ∷ [] → levels ≡ []
+pub run_begins : (whole : List ℕ) (found : List Event) (levels : List Pending) → found ≡ document_start bare_start ∷ [] → levels ≡ []
     → RunBegun whole found levels whole × RunDue whole found (Some levels) whole
 run_begins whole found levels is none =
     subst (λ (f : List Event). RunBegun whole f levels whole × RunDue whole f (Some levels) whole) (sym is)
-    (subst (λ (l : List Awaited). RunBegun whole (document_start bare_start ∷ []) l whole × RunDue whole (document_start bare_start ∷ []) (Some l) whole)
+    (subst (λ (l : List Pending). RunBegun whole (document_start bare_start ∷ []) l whole × RunDue whole (document_start bare_start ∷ []) (Some l) whole)
     (sym none) (nothing_read whole, all_due whole))
 
-pub run_goes : (whole : List ℕ) (found new : List Event) (levels : List Awaited) (bytes rest : List ℕ) (after : Option (List Awaited)) (event : Event)
+pub run_goes : (whole : List ℕ) (found new : List Event) (levels : List Pending) (bytes rest : List ℕ) (after : Option (List Pending)) (event : Event)
     → new ≡ found ++ event ∷ [] → RunBegun whole found levels bytes → RunDue whole found (Some levels) bytes → ReadsEvent levels bytes after event rest
     → ((other : Event) (tail : Text) → IsInNode other → may_come levels other ≡ true → ends_name tail ≡ true
     → bytes ≡ encode_utf8_all (event_text levels other ++ tail) → event ≡ other)
@@ -299,18 +299,18 @@ run_sound whole found final bytes ended is end = (
 
 -- ---- why reading stops
 
-pub stops_at_event : {T : Type 0} (whole : List ℕ) (found : List Event) (levels : List Awaited) (bytes : List ℕ) (error : Stop) (Holds : Event → T → Type 0)
+pub stops_at_event : {T : Type 0} (whole : List ℕ) (found : List Event) (levels : List Pending) (bytes : List ℕ) (error : Stop) (Holds : Event → T → Type 0)
     → RunBegun whole found levels bytes
     → ((event : Event) (tail : Text) → IsInNode event → may_come levels event ≡ true → ends_name tail ≡ true
     → bytes ≡ encode_utf8_all (event_text levels event ++ tail) → OrMemory (Holds event) (Err error))
-    → StopsWithin bytes error → RunStops whole error
+    → StopsAmong bytes error → RunStops whole error
 stops_at_event whole found levels bytes (stop.Refused left) Holds begun reads within =
     in_event levels begun.events begun.text bytes begun.begun begun.parts (λ event tail in_node comes ends is. reads event tail in_node comes ends is) within
 stops_at_event whole found levels bytes (stop.TooDeep left) Holds begun reads within = within
 stops_at_event whole found levels bytes stop.Memory Holds begun reads within = tt
 
 pub stops_at_end : {T : Type 0} (whole : List ℕ) (found : List Event) (bytes : List ℕ) (result : Result T Stop) (Holds : T → Type 0)
-    → RunEnded whole found bytes → (bytes ≡ codes "\n" → OrMemory Holds result) → IfErr result (StopsWithin bytes) → IfErr result (RunStops whole)
+    → RunEnded whole found bytes → (bytes ≡ codes "\n" → OrMemory Holds result) → IfErr result (StopsAmong bytes) → IfErr result (RunStops whole)
 stops_at_end whole found bytes (Ok given) Holds ended reads within = tt
 stops_at_end whole found bytes (Err (stop.Refused left)) Holds ended reads within =
     behind_root ended.events ended.text bytes ended.run ended.parts (λ is. reads is) within

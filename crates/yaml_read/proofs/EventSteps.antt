@@ -9,8 +9,8 @@ use Rattle.std.specs.Borrow.{Bor}
 use Rattle.std.specs.Prelude.{Result, Ok, Err}
 use Rattle.yaml_read.specs.Awaits.{IsInnermostAwait, LeadStands, can_end, closing_event, seen_await}
 use Rattle.yaml_read.specs.EventSteps.{GoesTo, ReadsEvent, ReadsNode, await_opened, open_behind_opening, text_behind_lead, trail_behind_opening}
-use Rattle.yaml_read.specs.EventTexts.{Awaited, BeginsNode, IsInNode, begins_node, closing_text, ends_mapping, ends_name, ends_sequence, event_text}
-use Rattle.yaml_read.specs.EventTexts.{is_alias, is_mapping, is_scalar, is_sequence, item_awaited, key_awaited, lead_text, may_come, open_after, open_behind}
+use Rattle.yaml_read.specs.EventTexts.{Pending, BeginsNode, IsInNode, begins_node, closing_text, ends_mapping, ends_name, ends_sequence, event_text}
+use Rattle.yaml_read.specs.EventTexts.{is_alias, is_mapping, is_scalar, is_sequence, item_awaited, key_awaited, lead_text, may_come, next_open, left_open}
 use Rattle.yaml_read.specs.EventTexts.{opening_text, outside, trail_text, value_awaited}
 use Rattle.yaml_read.specs.declared.leads.Await.{Await}
 use Rattle.yaml_read.specs.declared.leads.Await.TheVariants as code
@@ -24,18 +24,18 @@ use Rattle.yaml_read.proofs.Words.{no_word}
 -- ---- an event that begins a node
 
 -- its text, what is open behind it, and that it may come
-pub record IsNodeEvent (levels : List Awaited) (event : Event) : Type 0 where
+pub record IsNodeEvent (levels : List Pending) (event : Event) : Type 0 where
   pub text : event_text levels event ≡ lead_text levels ++ text_behind_lead levels event
-  pub opened : open_after levels event ≡ open_behind_opening levels (await_opened event)
+  pub opened : next_open levels event ≡ open_behind_opening levels (await_opened event)
   pub comes : may_come levels event ≡ true
 
-alias_event : (levels : List Awaited) (name : Text) → IsNodeEvent levels (alias name)
+alias_event : (levels : List Pending) (name : Text) → IsNodeEvent levels (alias name)
 alias_event levels name = record { text = refl; opened = refl; comes = refl }
 
-scalar_event : (levels : List Awaited) (content : Scalar) → IsNodeEvent levels (scalar content)
+scalar_event : (levels : List Pending) (content : Scalar) → IsNodeEvent levels (scalar content)
 scalar_event levels content = record { text = refl; opened = refl; comes = refl }
 
-sequence_event : (levels : List Awaited) (start : Collection) → IsNodeEvent levels (sequence_start start)
+sequence_event : (levels : List Pending) (start : Collection) → IsNodeEvent levels (sequence_start start)
 sequence_event levels start =
     record {
       text = ap (λ t. lead_text levels ++ t) (sym (append-nil (opening_text (sequence_start start))));
@@ -43,7 +43,7 @@ sequence_event levels start =
       comes = refl;
     }
 
-mapping_event : (levels : List Awaited) (start : Collection) → IsNodeEvent levels (mapping_start start)
+mapping_event : (levels : List Pending) (start : Collection) → IsNodeEvent levels (mapping_start start)
 mapping_event levels start =
     record {
       text = ap (λ t. lead_text levels ++ t) (sym (append-nil (opening_text (mapping_start start))));
@@ -51,7 +51,7 @@ mapping_event levels start =
       comes = refl;
     }
 
-pub node_event : (levels : List Awaited) (event : Event) → BeginsNode event → IsNodeEvent levels event
+pub node_event : (levels : List Pending) (event : Event) → BeginsNode event → IsNodeEvent levels event
 node_event levels _ (is_alias name named) = alias_event levels name
 node_event levels _ (is_scalar anchor tag value parts) = scalar_event levels _
 node_event levels _ (is_sequence anchor tag parts) = sequence_event levels _
@@ -59,39 +59,39 @@ node_event levels _ (is_mapping anchor tag parts) = mapping_event levels _
 
 -- ---- the event with which the innermost collection ends
 
-pub record IsEndEvent (levels : List Awaited) (event : Event) : Type 0 where
+pub record IsEndEvent (levels : List Pending) (event : Event) : Type 0 where
   pub text : event_text levels event ≡ closing_text levels ++ trail_text (outside levels)
-  pub opened : open_after levels event ≡ open_behind (outside levels)
+  pub opened : next_open levels event ≡ left_open (outside levels)
   pub comes : may_come levels event ≡ true
   pub in_node : IsInNode event
 
-pub end_event : (levels : List Awaited) → can_end levels ≡ true → IsEndEvent levels (closing_event levels)
+pub end_event : (levels : List Pending) → can_end levels ≡ true → IsEndEvent levels (closing_event levels)
 end_event [] can = absurd (false≢true can)
 end_event (item_awaited empty ∷ outer) can = record { text = refl; opened = refl; comes = refl; in_node = ends_sequence }
 end_event (key_awaited empty ∷ outer) can = record { text = refl; opened = refl; comes = refl; in_node = ends_mapping }
 end_event (value_awaited ∷ outer) can = absurd (false≢true can)
 
 -- no other end may come
-pub sequence_ends : (levels : List Awaited) → may_come levels sequence_end ≡ true → (can_end levels ≡ true) × (closing_event levels ≡ sequence_end)
+pub sequence_ends : (levels : List Pending) → may_come levels sequence_end ≡ true → (can_end levels ≡ true) × (closing_event levels ≡ sequence_end)
 sequence_ends [] comes = absurd (false≢true comes)
 sequence_ends (item_awaited empty ∷ outer) comes = (refl, refl)
 sequence_ends (key_awaited empty ∷ outer) comes = absurd (false≢true comes)
 sequence_ends (value_awaited ∷ outer) comes = absurd (false≢true comes)
 
-pub mapping_ends : (levels : List Awaited) → may_come levels mapping_end ≡ true → (can_end levels ≡ true) × (closing_event levels ≡ mapping_end)
+pub mapping_ends : (levels : List Pending) → may_come levels mapping_end ≡ true → (can_end levels ≡ true) × (closing_event levels ≡ mapping_end)
 mapping_ends [] comes = absurd (false≢true comes)
 mapping_ends (item_awaited empty ∷ outer) comes = absurd (false≢true comes)
 mapping_ends (key_awaited empty ∷ outer) comes = (refl, refl)
 mapping_ends (value_awaited ∷ outer) comes = absurd (false≢true comes)
 
 -- in the code
-pub closing_in : (levels : List Awaited) (found : Option Await) (awaited : Await) (event : Event) → found ≡ Some awaited → IsInnermostAwait levels found
-    → ((outer : List Awaited) → event ≡ closing_event (seen_await awaited ∷ outer)) → event ≡ closing_event levels
+pub closing_in : (levels : List Pending) (found : Option Await) (awaited : Await) (event : Event) → found ≡ Some awaited → IsInnermostAwait levels found
+    → ((outer : List Pending) → event ≡ closing_event (seen_await awaited ∷ outer)) → event ≡ closing_event levels
 closing_in levels found awaited event is innermost closing =
     let inner : IsInnermostAwait levels (Some awaited) = subst (IsInnermostAwait levels) is innermost in
     closing inner.0 ∙ ap closing_event (sym inner.1)
 
-pub no_closing : (levels : List Awaited) (found : Option Await) → found ≡ None → IsInnermostAwait levels found → sequence_end ≡ closing_event levels
+pub no_closing : (levels : List Pending) (found : Option Await) → found ≡ None → IsInnermostAwait levels found → sequence_end ≡ closing_event levels
 no_closing levels found is innermost =
     let none : levels ≡ [] = subst (IsInnermostAwait levels) is innermost in
     ap closing_event (sym none)
@@ -99,7 +99,7 @@ no_closing levels found is innermost =
 -- ---- what is read of an event's text
 
 -- a comma or nothing ends a name, where what follows ends it
-pub trail_ends : (levels : List Awaited) (opened : Option Await) (tail : Text) → ends_name tail ≡ true
+pub trail_ends : (levels : List Pending) (opened : Option Await) (tail : Text) → ends_name tail ≡ true
     → ends_name (trail_behind_opening levels opened ++ tail) ≡ true
 trail_ends [] None tail ends = ends
 trail_ends (item_awaited empty ∷ outer) None tail ends = refl
@@ -107,13 +107,13 @@ trail_ends (key_awaited empty ∷ outer) None tail ends = ends
 trail_ends (value_awaited ∷ outer) None tail ends = refl
 trail_ends levels (Some awaited) tail ends = ends
 
-pub behind_encoded : (levels : List Awaited) (opened : Option Await) (tail : Text)
+pub behind_encoded : (levels : List Pending) (opened : Option Await) (tail : Text)
     → encode_utf8_all (trail_behind_opening levels opened ++ tail) ≡ trail_behind_opening levels opened ++ encode_utf8_all tail
 behind_encoded levels None tail = trail_encoded levels tail
 behind_encoded levels (Some awaited) tail = refl
 
 -- a collection was opened
-pub opened_on : (levels now : List Awaited) (found : Option Await) (awaited : Await) (text : Bor (List ℕ)) → found ≡ Some awaited
+pub opened_on : (levels now : List Pending) (found : Option Await) (awaited : Await) (text : Bor (List ℕ)) → found ≡ Some awaited
     → now ≡ seen_await awaited ∷ levels
     → GoesTo (open_behind_opening levels found) (trail_behind_opening levels found) text.now now (Continues text)
 opened_on levels now found awaited text is now_is =
@@ -125,12 +125,12 @@ cut_text : (bytes rest : List ℕ) (text tail : Text) → bytes ≡ encode_utf8_
     → rest ≡ encode_utf8_all tail
 cut_text bytes rest text tail is also = append_cancel_left (encode_utf8_all text) rest (encode_utf8_all tail) (sym is ∙ also ∙ encodes-append text tail)
 
-pub behind_text : (levels : List Awaited) (bytes rest : List ℕ) (event : Event) (tail : Text) → bytes ≡ encode_utf8_all (event_text levels event) ++ rest
+pub behind_text : (levels : List Pending) (bytes rest : List ℕ) (event : Event) (tail : Text) → bytes ≡ encode_utf8_all (event_text levels event) ++ rest
     → bytes ≡ encode_utf8_all (event_text levels event ++ tail) → rest ≡ encode_utf8_all tail
 behind_text levels bytes rest event tail is also = cut_text bytes rest (event_text levels event) tail is also
 
 -- a node was read, with its beginning and what follows that
-pub node_read : (levels : List Awaited) (text middle rest : List ℕ) (after : Option (List Awaited)) (event : Event) → BeginsNode event
+pub node_read : (levels : List Pending) (text middle rest : List ℕ) (after : Option (List Pending)) (event : Event) → BeginsNode event
     → text ≡ encode_utf8_all (opening_text event) ++ middle → open_behind_opening levels (await_opened event) ≡ after
     → middle ≡ trail_behind_opening levels (await_opened event) ++ rest → ReadsNode levels text after event rest
 node_read levels text middle rest after event begins is opened behind =
@@ -148,7 +148,7 @@ node_read levels text middle rest after event begins is opened behind =
     }
 
 -- behind what leads to it
-pub event_read : (levels : List Awaited) (text behind rest : List ℕ) (after : Option (List Awaited)) (event : Event) → text ≡ lead_text levels ++ behind
+pub event_read : (levels : List Pending) (text behind rest : List ℕ) (after : Option (List Pending)) (event : Event) → text ≡ lead_text levels ++ behind
     → ReadsNode levels behind after event rest → ReadsEvent levels text after event rest
 event_read levels text behind rest after event is node =
     let known = node_event levels event node.begins in
@@ -163,8 +163,8 @@ event_read levels text behind rest after event is node =
     }
 
 -- a collection's end was read
-pub end_read : (levels : List Awaited) (text behind rest : List ℕ) (after : Option (List Awaited)) (event : Event) → can_end levels ≡ true
-    → text ≡ closing_text levels ++ behind → event ≡ closing_event levels → open_behind (outside levels) ≡ after
+pub end_read : (levels : List Pending) (text behind rest : List ℕ) (after : Option (List Pending)) (event : Event) → can_end levels ≡ true
+    → text ≡ closing_text levels ++ behind → event ≡ closing_event levels → left_open (outside levels) ≡ after
     → behind ≡ trail_text (outside levels) ++ rest → ReadsEvent levels text after event rest
 end_read levels text behind rest after event can is same opened follows =
     let known = end_event levels can in
@@ -184,7 +184,7 @@ end_read levels text behind rest after event can is same opened follows =
     })
 
 -- less is left behind a collection's end
-pub end_shorter : (levels : List Awaited) (text behind : List ℕ) → can_end levels ≡ true → text ≡ closing_text levels ++ behind
+pub end_shorter : (levels : List Pending) (text behind : List ℕ) → can_end levels ≡ true → text ≡ closing_text levels ++ behind
     → length behind < length text
 end_shorter [] text behind can is = absurd (false≢true can)
 end_shorter (item_awaited true ∷ outer) text behind can is = omega (arith, ap length is)
@@ -198,13 +198,13 @@ end_shorter (value_awaited ∷ outer) text behind can is = absurd (false≢true 
 -- ---- what stands before an event that comes
 
 -- bytes of an event behind its lead, or behind the collection's bracket
-node_bytes : (levels : List Awaited) (bytes : List ℕ) (event : Event) (tail : Text) → BeginsNode event
+node_bytes : (levels : List Pending) (bytes : List ℕ) (event : Event) (tail : Text) → BeginsNode event
     → bytes ≡ encode_utf8_all (event_text levels event ++ tail) → bytes ≡ lead_text levels ++ encode_utf8_all (text_behind_lead levels event ++ tail)
 node_bytes levels bytes event tail begins is =
     is ∙ ap encode_utf8_all (ap (λ t. t ++ tail) (node_event levels event begins).text ∙ append_assoc (lead_text levels) (text_behind_lead levels event) tail)
     ∙ lead_encoded levels (text_behind_lead levels event ++ tail)
 
-end_bytes : (levels : List Awaited) (bytes : List ℕ) (event : Event) (tail : Text) → can_end levels ≡ true → closing_event levels ≡ event
+end_bytes : (levels : List Pending) (bytes : List ℕ) (event : Event) (tail : Text) → can_end levels ≡ true → closing_event levels ≡ event
     → bytes ≡ encode_utf8_all (event_text levels event ++ tail) → bytes ≡ closing_text levels ++ (trail_text (outside levels) ++ encode_utf8_all tail)
 end_bytes levels bytes event tail can same is =
     let trail = trail_text (outside levels) in
@@ -213,12 +213,12 @@ end_bytes levels bytes event tail can same is =
     ∙ closing_encoded levels (trail ++ tail) ∙ ap (λ t. closing_text levels ++ t) (trail_encoded (outside levels) tail)
 
 -- what is behind the lead or the bracket that was found, where an event comes
-pub data Comes (levels : List Awaited) (event : Event) (tail : Text) (bytes : List ℕ) : Type 0 where
+pub data Comes (levels : List Pending) (event : Event) (tail : Text) (bytes : List ℕ) : Type 0 where
   node_comes : BeginsNode event → bytes ≡ lead_text levels ++ encode_utf8_all (text_behind_lead levels event ++ tail) → Comes levels event tail bytes
   end_comes : can_end levels ≡ true → closing_event levels ≡ event → bytes ≡ closing_text levels ++ (trail_text (outside levels) ++ encode_utf8_all tail)
       → Comes levels event tail bytes
 
-pub it_comes : (levels : List Awaited) (event : Event) (tail : Text) (bytes : List ℕ) → IsInNode event → may_come levels event ≡ true
+pub it_comes : (levels : List Pending) (event : Event) (tail : Text) (bytes : List ℕ) → IsInNode event → may_come levels event ≡ true
     → bytes ≡ encode_utf8_all (event_text levels event ++ tail) → Comes levels event tail bytes
 it_comes levels _ tail bytes (begins_node event begins) comes is = node_comes begins (node_bytes levels bytes event tail begins is)
 it_comes levels _ tail bytes ends_sequence comes is =
@@ -229,19 +229,19 @@ it_comes levels _ tail bytes ends_mapping comes is =
     end_comes ends.0 ends.1 (end_bytes levels bytes mapping_end tail ends.0 ends.1 is)
 
 -- no lead is found: no event comes
-pub none_comes : (levels : List Awaited) (event : Event) (tail : Text) (bytes : List ℕ) (error : Stop) → Comes levels event tail bytes
+pub none_comes : (levels : List Pending) (event : Event) (tail : Text) (bytes : List ℕ) (error : Stop) → Comes levels event tail bytes
     → LeadStands levels bytes (Err error) → ⊥
 none_comes levels event tail bytes error (node_comes begins is) stands = no_word (lead_text levels) bytes _ stands.0 is
 none_comes levels event tail bytes error (end_comes can same is) stands = no_word (closing_text levels) bytes _ (stands.1 can) is
 
 -- a lead is found: a node comes
-pub node_due : (levels : List Awaited) (event : Event) (tail : Text) (bytes rest : List ℕ) → Comes levels event tail bytes → bytes ≡ lead_text levels ++ rest
+pub node_due : (levels : List Pending) (event : Event) (tail : Text) (bytes rest : List ℕ) → Comes levels event tail bytes → bytes ≡ lead_text levels ++ rest
     → BeginsNode event × (rest ≡ encode_utf8_all (text_behind_lead levels event ++ tail))
 node_due levels event tail bytes rest (node_comes begins is) found = (begins, append_cancel_left (lead_text levels) rest _ (sym found ∙ is))
 node_due levels event tail bytes rest (end_comes can same is) found = absurd (lead_or_end levels rest _ can (sym found ∙ is))
 
 -- a bracket is found: the collection's end comes
-pub end_due : (levels : List Awaited) (event : Event) (tail : Text) (bytes rest : List ℕ) → Comes levels event tail bytes → can_end levels ≡ true
+pub end_due : (levels : List Pending) (event : Event) (tail : Text) (bytes rest : List ℕ) → Comes levels event tail bytes → can_end levels ≡ true
     → bytes ≡ closing_text levels ++ rest → (closing_event levels ≡ event) × (rest ≡ trail_text (outside levels) ++ encode_utf8_all tail)
 end_due levels event tail bytes rest (node_comes begins is) can found = absurd (lead_or_end levels _ rest can (sym is ∙ found))
 end_due levels event tail bytes rest (end_comes also same is) can found = (same, append_cancel_left (closing_text levels) rest _ (sym found ∙ is))

@@ -20,7 +20,7 @@ use Rattle.yaml_read.proofs.HeadsRead.{word_bytes}
 use Rattle.yaml_read.proofs.Words.{no_word}
 use Rattle.yaml_read.specs.EventTexts.{IsAnchor, ends_name}
 use Rattle.yaml_read.specs.Places.{IsHereOrMemory}
-use Rattle.yaml_read.specs.RunPlaces.{StopsWithin}
+use Rattle.yaml_read.specs.RunPlaces.{StopsAmong}
 use Rattle.yaml_read.specs.Words.{past_word}
 use Rattle.yaml_read.specs.declared.errors.Stop.{Stop}
 use Rattle.yaml_read.specs.declared.errors.Stop.TheVariants as stop
@@ -214,12 +214,12 @@ anchor_sound name text inside behind rest named cut read spaced =
 -- ---- places
 
 -- what stops here stops within
-pub within_here : (bytes inside : List ℕ) (error : Stop) → length inside ≤ length bytes → IsHereOrMemory inside error → StopsWithin bytes error
-within_here bytes inside error few (inl memory) = subst (StopsWithin bytes) (sym memory) tt
-within_here bytes inside error few (inr here) = subst (StopsWithin bytes) (sym here) few
+pub within_here : (bytes inside : List ℕ) (error : Stop) → length inside ≤ length bytes → IsHereOrMemory inside error → StopsAmong bytes error
+within_here bytes inside error few (inl memory) = subst (StopsAmong bytes) (sym memory) tt
+within_here bytes inside error few (inr here) = subst (StopsAmong bytes) (sym here) few
 
 -- what stops within a part of the bytes stops within them
-pub within_part : (bytes inside : List ℕ) (error : Stop) → length inside ≤ length bytes → StopsWithin inside error → StopsWithin bytes error
+pub within_part : (bytes inside : List ℕ) (error : Stop) → length inside ≤ length bytes → StopsAmong inside error → StopsAmong bytes error
 within_part bytes inside (stop.Refused left) few within = omega (arith, few, within)
 within_part bytes inside (stop.TooDeep left) few within = within
 within_part bytes inside stop.Memory few within = tt

@@ -16,7 +16,7 @@ use Rattle.yaml_base.specs.graphs.DumpedText.{anchor_text, tag_text}
 use Rattle.yaml_read.specs.EventTexts.{AreParts, BeginsNode, IsAnchor, is_alias, is_mapping, is_scalar, is_sequence, opening_text}
 use Rattle.yaml_read.specs.Grammar.{quoted_text}
 use Rattle.yaml_read.specs.Places.{BreaksAt}
-use Rattle.yaml_read.specs.RunPlaces.{StopsWithin}
+use Rattle.yaml_read.specs.RunPlaces.{StopsAmong}
 use Rattle.yaml_read.specs.WrittenTags.{HasHeldText, mapping_opened, sequence_opened, value_quoted}
 use Rattle.yaml_read.specs.declared.errors.Stop.{Stop}
 use Rattle.yaml_read.specs.declared.errors.Stop.TheVariants as stop
@@ -67,7 +67,7 @@ begins_by anchor tag _ _ named sound scalars mapping_opened = (
 -- ---- places
 
 -- a text that breaks off stops within its bytes
-pub quoted_within : (bytes : List ℕ) (error : Stop) → BreaksAt quoted_text bytes error → StopsWithin bytes error
+pub quoted_within : (bytes : List ℕ) (error : Stop) → BreaksAt quoted_text bytes error → StopsAmong bytes error
 quoted_within bytes (stop.Refused left) breaks =
     omega (arith, breaks.place, ap (λ (t : List ℕ). length t) breaks.parts, length-append (flat_map (λ (word : List ℕ). word) breaks.read) breaks.rest)
 quoted_within bytes (stop.TooDeep left) breaks = breaks

@@ -14,7 +14,7 @@ use Rattle.yaml_base.specs.values.ValueText.{in_quotes, line_at}
 use Rattle.yaml_base.proofs.AllPass.{all_pass}
 use Rattle.yaml_base.proofs.PercentLaws.{escaped_stands, stands_written, suffix_stands}
 use Rattle.yaml_read.specs.DocumentPlaces.{AreRunBytes}
-use Rattle.yaml_read.specs.EventTexts.{AreParts, Awaited, item_awaited, key_awaited, value_awaited, BeginsNode, is_alias, is_scalar, is_sequence, is_mapping}
+use Rattle.yaml_read.specs.EventTexts.{AreParts, Pending, item_awaited, key_awaited, value_awaited, BeginsNode, is_alias, is_scalar, is_sequence, is_mapping}
 use Rattle.yaml_read.specs.EventTexts.{IsInNode, begins_node, ends_sequence, ends_mapping, HasRunText, root_ends, more_come, IsAnchor}
 use Rattle.yaml_read.specs.EventTexts.{closing_text, event_text, lead_text, outside, trail_text}
 use Rattle.yaml_read.proofs.Encoded.{word_encoded}
@@ -71,13 +71,13 @@ properties_scalars anchor tag bare is = joined_scalars (anchor_text anchor) (tag
 line_scalars : (column : ℕ) (rest : Text) → all_scalars rest ≡ true → all_scalars (line_at column ++ rest) ≡ true
 line_scalars column rest h = joined_scalars (line_at column) rest (spaces_scalars column) h
 
-lead_scalars : (levels : List Awaited) → all_scalars (lead_text levels) ≡ true
+lead_scalars : (levels : List Pending) → all_scalars (lead_text levels) ≡ true
 lead_scalars [] = refl
 lead_scalars (item_awaited empty ∷ outer) = spaces_scalars (length (item_awaited empty ∷ outer) * 2)
 lead_scalars (key_awaited empty ∷ outer) = line_scalars (length (key_awaited empty ∷ outer) * 2) (codes "? ") refl
 lead_scalars (value_awaited ∷ outer) = line_scalars (length (value_awaited ∷ outer) * 2) (codes ": ") refl
 
-trail_scalars : (levels : List Awaited) → all_scalars (trail_text levels) ≡ true
+trail_scalars : (levels : List Pending) → all_scalars (trail_text levels) ≡ true
 trail_scalars [] = refl
 trail_scalars (item_awaited empty ∷ outer) = refl
 trail_scalars (key_awaited empty ∷ outer) = refl
@@ -87,22 +87,22 @@ end_scalars : (column : ℕ) (empty : Bool) (bracket : Text) → all_scalars bra
 end_scalars column true bracket h = h
 end_scalars column false bracket h = line_scalars column bracket h
 
-closing_scalars : (levels : List Awaited) → all_scalars (closing_text levels) ≡ true
+closing_scalars : (levels : List Pending) → all_scalars (closing_text levels) ≡ true
 closing_scalars [] = refl
 closing_scalars (item_awaited empty ∷ outer) = end_scalars (length outer * 2) empty (codes "]") refl
 closing_scalars (key_awaited empty ∷ outer) = end_scalars (length outer * 2) empty (codes "}") refl
 closing_scalars (value_awaited ∷ outer) = refl
 
-between : (levels : List Awaited) (text : Text) → all_scalars text ≡ true → all_scalars (lead_text levels ++ (text ++ trail_text levels)) ≡ true
+between : (levels : List Pending) (text : Text) → all_scalars text ≡ true → all_scalars (lead_text levels ++ (text ++ trail_text levels)) ≡ true
 between levels text h =
     joined_scalars (lead_text levels) (text ++ trail_text levels) (lead_scalars levels) (joined_scalars text (trail_text levels) h (trail_scalars levels))
 
-behind_end : (levels : List Awaited) → all_scalars (closing_text levels ++ trail_text (outside levels)) ≡ true
+behind_end : (levels : List Pending) → all_scalars (closing_text levels ++ trail_text (outside levels)) ≡ true
 behind_end levels = joined_scalars (closing_text levels) (trail_text (outside levels)) (closing_scalars levels) (trail_scalars (outside levels))
 
 -- ---- events
 
-opening_scalars : (levels : List Awaited) (event : Event) → BeginsNode event → all_scalars (event_text levels event) ≡ true
+opening_scalars : (levels : List Pending) (event : Event) → BeginsNode event → all_scalars (event_text levels event) ≡ true
 opening_scalars levels event (is_alias name sound) = between levels (codes "*" ++ name) (name_scalars _ _ name sound)
 opening_scalars levels event (is_scalar anchor tag value parts) =
     let bare = not (bytes_eq tag string_tag) in
@@ -116,12 +116,12 @@ opening_scalars levels event (is_mapping anchor tag parts) =
     joined_scalars (lead_text levels) _ (lead_scalars levels)
     (joined_scalars (anchor_text anchor ++ tag_text (Some tag) false) (codes "{") (properties_scalars anchor tag false parts.anchor_sound) refl)
 
-event_scalars : (levels : List Awaited) (event : Event) → IsInNode event → all_scalars (event_text levels event) ≡ true
+event_scalars : (levels : List Pending) (event : Event) → IsInNode event → all_scalars (event_text levels event) ≡ true
 event_scalars levels event (begins_node other begins) = opening_scalars levels event begins
 event_scalars levels event ends_sequence = behind_end levels
 event_scalars levels event ends_mapping = behind_end levels
 
-run_scalars : (levels : List Awaited) (events : List Event) (text : Text) → HasRunText levels events text → All IsInNode events → all_scalars text ≡ true
+run_scalars : (levels : List Pending) (events : List Event) (text : Text) → HasRunText levels events text → All IsInNode events → all_scalars text ≡ true
 run_scalars levels events text (root_ends before event whole come none is) all =
     ap all_scalars is ∙ event_scalars levels event (All-head IsInNode event [] all)
 run_scalars levels events text (more_come before next event later rest whole come some is run) all =

@@ -6,18 +6,18 @@ use Rattle.yaml_base.proofs.Common.{sequence_node, mapping_node, Nodes, no_nodes
 use Rattle.yaml_base.proofs.Common.{pairs_events, has_no_nodes, has_no_pairs}
 use Rattle.yaml_base.specs.graphs.DumpedText.{closing_line, collection_properties, node_pairs_text, node_text, nodes_text, scalar_properties}
 use Rattle.yaml_base.specs.values.ValueText.{in_quotes, line_at}
-use Rattle.yaml_read.specs.EventTexts.{Awaited, HasRunText, event_text, item_awaited, key_awaited, lead_text, may_come, more_come, next_awaited}
-use Rattle.yaml_read.specs.EventTexts.{open_after}
-use Rattle.yaml_read.specs.EventTexts.{open_behind, root_ends, trail_text, value_awaited}
+use Rattle.yaml_read.specs.EventTexts.{Pending, HasRunText, event_text, item_awaited, key_awaited, lead_text, may_come, more_come, next_awaited}
+use Rattle.yaml_read.specs.EventTexts.{next_open}
+use Rattle.yaml_read.specs.EventTexts.{left_open, root_ends, trail_text, value_awaited}
 
 -- what may follow a node: nothing behind the root, else a run
-abbrev pub FollowsNode : List Awaited → List Event → Text → Type 0
+abbrev pub FollowsNode : List Pending → List Event → Text → Type 0
 FollowsNode [] more rest = (more ≡ []) × (rest ≡ [])
 FollowsNode (awaited ∷ outer) more rest = HasRunText (next_awaited awaited ∷ outer) more rest
 
 -- an event that ends a node, and what follows the node
-ends_node : (levels outer : List Awaited) (event : Event) (more : List Event) (rest text : Text) → may_come levels event ≡ true
-    → open_after levels event ≡ open_behind outer → text ≡ event_text levels event ++ rest → FollowsNode outer more rest
+ends_node : (levels outer : List Pending) (event : Event) (more : List Event) (rest text : Text) → may_come levels event ≡ true
+    → next_open levels event ≡ left_open outer → text ≡ event_text levels event ++ rest → FollowsNode outer more rest
     → HasRunText levels (event ∷ more) text
 ends_node levels [] event more rest text may after is follows =
     subst (λ (events : List Event). HasRunText levels (event ∷ events) text) (sym follows.0)
@@ -26,8 +26,8 @@ ends_node levels (awaited ∷ outer) event more rest text may after is follows =
     more_come levels (next_awaited awaited ∷ outer) event more rest text may after is follows
 
 -- an event that begins a collection, and what follows up to and behind its end
-begins_node : (levels : List Awaited) (awaited : Awaited) (first last : Event) (inside more : List Event) (rest text : Text) → may_come levels first ≡ true
-    → open_after levels first ≡ Some (awaited ∷ levels) → text ≡ event_text levels first ++ rest
+begins_node : (levels : List Pending) (awaited : Pending) (first last : Event) (inside more : List Event) (rest text : Text) → may_come levels first ≡ true
+    → next_open levels first ≡ Some (awaited ∷ levels) → text ≡ event_text levels first ++ rest
     → HasRunText (awaited ∷ levels) (inside ++ last ∷ more) rest
     → HasRunText levels (first ∷ ((inside ++ last ∷ []) ++ more)) text
 begins_node levels awaited first last inside more rest text may after is run =
@@ -35,13 +35,13 @@ begins_node levels awaited first last inside more rest text may after is run =
     (more_come levels (awaited ∷ levels) first (inside ++ last ∷ more) rest text may after is run)
 
 -- a run by other words
-same_run : (levels : List Awaited) (events others : List Event) (text other : Text) → others ≡ events → other ≡ text → HasRunText levels events text
+same_run : (levels : List Pending) (events others : List Event) (text other : Text) → others ≡ events → other ≡ text → HasRunText levels events text
     → HasRunText levels others other
 same_run levels events others text other is also run =
     subst (λ (t : Text). HasRunText levels others t) (sym also) (subst (λ (e : List Event). HasRunText levels e text) (sym is) run)
 
 -- the column of a collection's entries
-deeper : (awaited : Awaited) (levels : List Awaited) → length levels * 2 + 2 ≡ length (awaited ∷ levels) * 2
+deeper : (awaited : Pending) (levels : List Pending) → length levels * 2 + 2 ≡ length (awaited ∷ levels) * 2
 deeper awaited levels = omega arith
 
 -- ---- texts regrouped
@@ -66,7 +66,7 @@ pair_grouped before line key colon value rest = simp append_assoc
 
 mutual
   -- a node's events, and then what follows it
-  pub node_run : (node : Node) (levels : List Awaited) (more : List Event) (rest : Text) → FollowsNode levels more rest
+  pub node_run : (node : Node) (levels : List Pending) (more : List Event) (rest : Text) → FollowsNode levels more rest
       → HasRunText levels (node_events node ++ more) (lead_text levels ++ (node_text (length levels * 2) node ++ (trail_text levels ++ rest)))
   node_run (alias_node name) levels more rest follows =
       ends_node levels levels (alias name) more rest _ refl refl (leaf_grouped (lead_text levels) (codes "*" ++ name) (trail_text levels) rest) follows
@@ -103,7 +103,7 @@ mutual
       (pairs_run pairs levels (mapping_end ∷ more) behind ends)
 
   -- items, and then what follows the last one
-  nodes_run : (items : Nodes) (levels : List Awaited) (more : List Event) (rest : Text) → HasRunText (item_awaited (has_no_nodes items) ∷ levels) more rest
+  nodes_run : (items : Nodes) (levels : List Pending) (more : List Event) (rest : Text) → HasRunText (item_awaited (has_no_nodes items) ∷ levels) more rest
       → HasRunText (item_awaited true ∷ levels) (nodes_events items ++ more) (nodes_text (length (item_awaited true ∷ levels) * 2) items ++ rest)
   nodes_run no_nodes levels more rest run = run
   nodes_run (nodes_and items item) levels more rest run =
@@ -114,7 +114,7 @@ mutual
       (nodes_run items levels (node_events item ++ more) (line_at column ++ (node_text column item ++ (codes "," ++ rest))) last)
 
   -- pairs, and then what follows the last one
-  pairs_run : (pairs : Pairs) (levels : List Awaited) (more : List Event) (rest : Text) → HasRunText (key_awaited (has_no_pairs pairs) ∷ levels) more rest
+  pairs_run : (pairs : Pairs) (levels : List Pending) (more : List Event) (rest : Text) → HasRunText (key_awaited (has_no_pairs pairs) ∷ levels) more rest
       → HasRunText (key_awaited true ∷ levels) (pairs_events pairs ++ more) (node_pairs_text (length (key_awaited true ∷ levels) * 2) pairs ++ rest)
   pairs_run no_pairs levels more rest run = run
   pairs_run (pairs_and pairs key value) levels more rest run =

@@ -3,8 +3,8 @@ use Rattle.std.specs.Prelude.{ℕ, ◌≡◌, Bool, true, false, Option, None, S
 use Rattle.std.specs.Str.{encode_utf8_all}
 use Rattle.yaml_base.specs.Characters.{Text}
 use Rattle.yaml_base.specs.Event.{Event, sequence_start, sequence_end, mapping_start, mapping_end}
-use Rattle.yaml_read.specs.EventTexts.{Awaited, BeginsNode, IsInNode, closing_text, event_text, item_awaited, key_awaited, lead_text, may_come, open_after}
-use Rattle.yaml_read.specs.EventTexts.{open_behind, opening_text, trail_text, value_awaited}
+use Rattle.yaml_read.specs.EventTexts.{Pending, BeginsNode, IsInNode, closing_text, event_text, item_awaited, key_awaited, lead_text, may_come, next_open}
+use Rattle.yaml_read.specs.EventTexts.{left_open, opening_text, trail_text, value_awaited}
 use Rattle.yaml_read.specs.Words.{past_word}
 use Rattle.yaml_read.specs.declared.errors.Stop.{Stop}
 use Rattle.yaml_read.specs.declared.leads.Await.{Await}
@@ -15,7 +15,7 @@ use Rattle.yaml_read.specs.declared.levels.Entry.TheVariants.{Another, End}
 -- ---- the code's list of what is open
 
 -- what a collection of the code awaits
-abbrev pub seen_await : Await → Awaited
+abbrev pub seen_await : Await → Pending
 seen_await code.FirstItem = item_awaited true
 seen_await code.Item = item_awaited false
 seen_await code.FirstKey = key_awaited true
@@ -23,12 +23,12 @@ seen_await code.Key = key_awaited false
 seen_await code.Value = value_awaited
 
 -- the innermost first, before outer ones
-abbrev pub awaits_onto : List Awaited → List Await → List Awaited
+abbrev pub awaits_onto : List Pending → List Await → List Pending
 awaits_onto outer [] = outer
 awaits_onto outer (awaited ∷ awaits) = awaits_onto (seen_await awaited ∷ outer) awaits
 
 -- all of them
-abbrev pub seen_awaits : List Await → List Awaited
+abbrev pub seen_awaits : List Await → List Pending
 seen_awaits awaits = awaits_onto [] awaits
 
 -- this one stands last in the code's list
@@ -37,21 +37,21 @@ pub record IsLastAwait (awaited : Await) (awaits : List Await) : Type 0 where
   pub is : awaits ≡ outer ++ awaited ∷ []
 
 -- this one is the innermost; none where nothing is open
-abbrev pub IsInnermostAwait : List Awaited → Option Await → Type 0
+abbrev pub IsInnermostAwait : List Pending → Option Await → Type 0
 IsInnermostAwait levels None = levels ≡ []
-IsInnermostAwait levels (Some awaited) = (outer : List Awaited) × (levels ≡ seen_await awaited ∷ outer)
+IsInnermostAwait levels (Some awaited) = (outer : List Pending) × (levels ≡ seen_await awaited ∷ outer)
 
 -- ---- what stands before an event
 
 -- the innermost collection may end
-abbrev pub can_end : List Awaited → Bool
+abbrev pub can_end : List Pending → Bool
 can_end [] = false
 can_end (item_awaited empty ∷ outer) = true
 can_end (key_awaited empty ∷ outer) = true
 can_end (value_awaited ∷ outer) = false
 
 -- the event with which it ends
-abbrev pub closing_event : List Awaited → Event
+abbrev pub closing_event : List Pending → Event
 closing_event [] = sequence_end
 closing_event (item_awaited empty ∷ outer) = sequence_end
 closing_event (key_awaited empty ∷ outer) = mapping_end
@@ -64,7 +64,7 @@ EntryStands lead end text (Ok (End rest)) = text ≡ end ++ rest.now
 EntryStands lead end text (Err error) = (past_word lead text ≡ None) × (past_word end text ≡ None)
 
 -- what leads to a node stands first, or the end of the innermost collection, and this follows it; or neither does
-abbrev pub LeadStands : List Awaited → (text : List ℕ) → Result Entry Stop → Type 0
+abbrev pub LeadStands : List Pending → (text : List ℕ) → Result Entry Stop → Type 0
 LeadStands levels text (Ok (Another rest)) = text ≡ lead_text levels ++ rest.now
 LeadStands levels text (Ok (End rest)) = (can_end levels ≡ true) × (text ≡ closing_text levels ++ rest.now)
 LeadStands levels text (Err error) = (past_word (lead_text levels) text ≡ None) × (can_end levels ≡ true → past_word (closing_text levels) text ≡ None)

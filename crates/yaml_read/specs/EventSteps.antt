@@ -4,7 +4,7 @@ use Rattle.std.specs.Str.{encode_utf8_all}
 use Rattle.yaml_base.specs.Characters.{Text}
 use Rattle.yaml_base.specs.Event.{Event, sequence_start, mapping_start}
 use Rattle.yaml_read.specs.Awaits.{seen_await}
-use Rattle.yaml_read.specs.EventTexts.{Awaited, BeginsNode, IsInNode, event_text, may_come, open_after, open_behind, opening_text, trail_text}
+use Rattle.yaml_read.specs.EventTexts.{Pending, BeginsNode, IsInNode, event_text, may_come, next_open, left_open, opening_text, trail_text}
 use Rattle.yaml_read.specs.declared.leads.Await.{Await}
 use Rattle.yaml_read.specs.declared.leads.Await.TheVariants as code
 use Rattle.yaml_read.specs.declared.steps.Progress.{Progress}
@@ -17,23 +17,23 @@ await_opened (mapping_start start) = Some code.FirstKey
 await_opened _ = None
 
 -- what is open behind the beginning of a node, by the collection that it opens; none where the root ends
-abbrev pub open_behind_opening : List Awaited → Option Await → Option (List Awaited)
-open_behind_opening levels None = open_behind levels
+abbrev pub open_behind_opening : List Pending → Option Await → Option (List Pending)
+open_behind_opening levels None = left_open levels
 open_behind_opening levels (Some awaited) = Some (seen_await awaited ∷ levels)
 
 -- what follows the beginning of a node in its event's text
-abbrev pub trail_behind_opening : List Awaited → Option Await → Text
+abbrev pub trail_behind_opening : List Pending → Option Await → Text
 trail_behind_opening levels None = trail_text levels
 trail_behind_opening levels (Some awaited) = []
 
 -- the text of an event that begins a node, behind what leads to it
-abbrev pub text_behind_lead : List Awaited → Event → Text
+abbrev pub text_behind_lead : List Pending → Event → Text
 text_behind_lead levels event = opening_text event ++ trail_behind_opening levels (await_opened event)
 
 -- ---- the code's answers
 
 -- what is open now; none where the root has ended
-abbrev pub open_now : List Awaited → Progress → Option (List Awaited)
+abbrev pub open_now : List Pending → Progress → Option (List Pending)
 open_now levels (Continues rest) = Some levels
 open_now levels (RootEnds rest) = None
 
@@ -43,18 +43,18 @@ bytes_behind (Continues rest) = rest.now
 bytes_behind (RootEnds rest) = rest.now
 
 -- bytes begin with a word; what is open behind it, and what follows
-abbrev pub GoesTo : (behind : Option (List Awaited)) → (word text : List ℕ) → (now : List Awaited) → Progress → Type 0
+abbrev pub GoesTo : (behind : Option (List Pending)) → (word text : List ℕ) → (now : List Pending) → Progress → Type 0
 GoesTo behind word text now progress = (behind ≡ open_now now progress) × (text ≡ word ++ bytes_behind progress)
 
 -- an event that begins a node was read, behind what leads to it
-pub record ReadsNode (before : List Awaited) (text : List ℕ) (after : Option (List Awaited)) (event : Event) (rest : List ℕ) : Type 0 where
+pub record ReadsNode (before : List Pending) (text : List ℕ) (after : Option (List Pending)) (event : Event) (rest : List ℕ) : Type 0 where
   pub begins : BeginsNode event
   pub opened : open_behind_opening before (await_opened event) ≡ after
   pub parts : text ≡ encode_utf8_all (text_behind_lead before event) ++ rest
 
 -- an event was read, with what leads to it and what follows it
-pub record ReadsEvent (before : List Awaited) (text : List ℕ) (after : Option (List Awaited)) (event : Event) (rest : List ℕ) : Type 0 where
+pub record ReadsEvent (before : List Pending) (text : List ℕ) (after : Option (List Pending)) (event : Event) (rest : List ℕ) : Type 0 where
   pub in_node : IsInNode event
   pub comes : may_come before event ≡ true
-  pub opened : open_after before event ≡ after
+  pub opened : next_open before event ≡ after
   pub parts : text ≡ encode_utf8_all (event_text before event) ++ rest

@@ -10,22 +10,22 @@ use Rattle.yaml_base.specs.graphs.Meetings.{mapping_held, opening_event_of, scal
 use Rattle.yaml_base.specs.values.ValueText.{in_quotes, line_at}
 
 -- what a sequence or a mapping that is open awaits: an item or its end, a key or its end, the value of a key
-pub data Awaited : Type 0 where
-  item_awaited : (empty : Bool) → Awaited
-  key_awaited : (empty : Bool) → Awaited
-  value_awaited : Awaited
+pub data Pending : Type 0 where
+  item_awaited : (empty : Bool) → Pending
+  key_awaited : (empty : Bool) → Pending
+  value_awaited : Pending
 
 -- ---- text
 
 -- what leads to a node; what is open stands innermost first
-abbrev pub lead_text : List Awaited → Text
+abbrev pub lead_text : List Pending → Text
 lead_text [] = []
 lead_text (item_awaited empty ∷ outer) = line_at (length (item_awaited empty ∷ outer) * 2)
 lead_text (key_awaited empty ∷ outer) = line_at (length (key_awaited empty ∷ outer) * 2) ++ codes "? "
 lead_text (value_awaited ∷ outer) = line_at (length (value_awaited ∷ outer) * 2) ++ codes ": "
 
 -- what follows a node
-abbrev pub trail_text : List Awaited → Text
+abbrev pub trail_text : List Pending → Text
 trail_text [] = []
 trail_text (item_awaited empty ∷ outer) = codes ","
 trail_text (key_awaited empty ∷ outer) = []
@@ -40,18 +40,18 @@ opening_text (mapping_start start) = collection_properties start ++ codes "{"
 opening_text _ = []
 
 -- how the innermost collection ends
-abbrev pub closing_text : List Awaited → Text
+abbrev pub closing_text : List Pending → Text
 closing_text (item_awaited empty ∷ outer) = closing_line (length outer * 2) empty ++ codes "]"
 closing_text (key_awaited empty ∷ outer) = closing_line (length outer * 2) empty ++ codes "}"
 closing_text _ = []
 
 -- what lies around the innermost collection
-abbrev pub outside : List Awaited → List Awaited
+abbrev pub outside : List Pending → List Pending
 outside [] = []
 outside (awaited ∷ outer) = outer
 
 -- an event, with what leads to it and what follows it
-abbrev pub event_text : List Awaited → Event → Text
+abbrev pub event_text : List Pending → Event → Text
 event_text levels (alias name) = lead_text levels ++ (opening_text (alias name) ++ trail_text levels)
 event_text levels (scalar content) = lead_text levels ++ (opening_text (scalar content) ++ trail_text levels)
 event_text levels (sequence_start start) = lead_text levels ++ opening_text (sequence_start start)
@@ -63,26 +63,26 @@ event_text levels _ = []
 -- ---- order
 
 -- what an open collection awaits behind a node in it
-abbrev pub next_awaited : Awaited → Awaited
+abbrev pub next_awaited : Pending → Pending
 next_awaited (item_awaited empty) = item_awaited false
 next_awaited (key_awaited empty) = value_awaited
 next_awaited value_awaited = key_awaited false
 
 -- what is open behind a node; none where it is the root
-abbrev pub open_behind : List Awaited → Option (List Awaited)
-open_behind [] = None
-open_behind (awaited ∷ outer) = Some (next_awaited awaited ∷ outer)
+abbrev pub left_open : List Pending → Option (List Pending)
+left_open [] = None
+left_open (awaited ∷ outer) = Some (next_awaited awaited ∷ outer)
 
 -- what is open behind an event; none where the root ends
-abbrev pub open_after : List Awaited → Event → Option (List Awaited)
-open_after levels (sequence_start start) = Some (item_awaited true ∷ levels)
-open_after levels (mapping_start start) = Some (key_awaited true ∷ levels)
-open_after levels sequence_end = open_behind (outside levels)
-open_after levels mapping_end = open_behind (outside levels)
-open_after levels _ = open_behind levels
+abbrev pub next_open : List Pending → Event → Option (List Pending)
+next_open levels (sequence_start start) = Some (item_awaited true ∷ levels)
+next_open levels (mapping_start start) = Some (key_awaited true ∷ levels)
+next_open levels sequence_end = left_open (outside levels)
+next_open levels mapping_end = left_open (outside levels)
+next_open levels _ = left_open levels
 
 -- an event may come there
-abbrev pub may_come : List Awaited → Event → Bool
+abbrev pub may_come : List Pending → Event → Bool
 may_come levels (alias name) = true
 may_come levels (scalar content) = true
 may_come levels (sequence_start start) = true
@@ -92,18 +92,18 @@ may_come (key_awaited empty ∷ outer) mapping_end = true
 may_come _ _ = false
 
 -- events to the root's end, and their text
-pub data HasRunText : List Awaited → List Event → Text → Type 0 where
-  root_ends : (levels : List Awaited) (event : Event) (text : Text) → may_come levels event ≡ true → open_after levels event ≡ None
+pub data HasRunText : List Pending → List Event → Text → Type 0 where
+  root_ends : (levels : List Pending) (event : Event) (text : Text) → may_come levels event ≡ true → next_open levels event ≡ None
       → text ≡ event_text levels event → HasRunText levels (event ∷ []) text
-  more_come : (levels next : List Awaited) (event : Event) (events : List Event) (rest text : Text) → may_come levels event ≡ true
-      → open_after levels event ≡ Some next → text ≡ event_text levels event ++ rest → HasRunText next events rest
+  more_come : (levels next : List Pending) (event : Event) (events : List Event) (rest text : Text) → may_come levels event ≡ true
+      → next_open levels event ≡ Some next → text ≡ event_text levels event ++ rest → HasRunText next events rest
       → HasRunText levels (event ∷ events) text
 
 -- events from the root's beginning on, their text, and what is open behind them
-pub data HasBegunText : List Awaited → List Event → Text → Type 0 where
+pub data HasBegunText : List Pending → List Event → Text → Type 0 where
   none_begun : HasBegunText [] [] []
-  one_more : (before levels : List Awaited) (events : List Event) (event : Event) (text : Text) → HasBegunText before events text
-      → may_come before event ≡ true → open_after before event ≡ Some levels
+  one_more : (before levels : List Pending) (events : List Event) (event : Event) (text : Text) → HasBegunText before events text
+      → may_come before event ≡ true → next_open before event ≡ Some levels
       → HasBegunText levels (events ++ event ∷ []) (text ++ event_text before event)
 
 -- ---- which events are read

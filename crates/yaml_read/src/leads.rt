@@ -2,8 +2,8 @@
 ghost use Rattle.std.specs.Prelude.{◌≡◌, ◌∷◌, ◌++◌, ◌*◌, [], IfErr, List, MatchOption, codes, length};
 ghost use Rattle.yaml_base.specs.values.ValueText.{line_at};
 ghost use Rattle.yaml_read.specs.Awaits.{EntryStands, IsInnermostAwait, IsLastAwait, LeadStands, seen_await};
-ghost use Rattle.yaml_read.specs.EventTexts.{Awaited};
-ghost use Rattle.yaml_read.specs.RunPlaces.{StopsWithin};
+ghost use Rattle.yaml_read.specs.EventTexts.{Pending};
+ghost use Rattle.yaml_read.specs.RunPlaces.{StopsAmong};
 ghost use Rattle.yaml_read.specs.Words.{Cuts};
 
 use crate::cuts::{after, after_indent, past};
@@ -36,7 +36,7 @@ pub(crate) fn innermost<A: Allocator>(awaits: &Vec<Await, A>) -> Option<Await>
 /// Returns what follows the lead of a first entry, or the end of a collection without entries, which lies so deep.
 fn first_entry<'a>(text: &'a str, depth: usize, lead: &str, end: &str) -> Result<Entry<'a>, Stop>
     ensures stands { EntryStands (line_at (depth * 2) ++ lead.now) end.now text.now result }
-    ensures stops { IfErr result (StopsWithin text.now) }
+    ensures stops { IfErr result (StopsAmong text.now) }
 {
     match past(text, end) {
         Some(rest) => Ok(Entry::End(rest)),
@@ -51,7 +51,7 @@ fn first_entry<'a>(text: &'a str, depth: usize, lead: &str, end: &str) -> Result
 /// Returns what follows the lead of another entry, or the end of a collection, which lies so deep.
 fn another_entry<'a>(text: &'a str, depth: usize, lead: &str, end: &str) -> Result<Entry<'a>, Stop>
     ensures stands { EntryStands (line_at (depth * 2) ++ lead.now) (line_at (depth * 2) ++ end.now) text.now result }
-    ensures stops { IfErr result (StopsWithin text.now) }
+    ensures stops { IfErr result (StopsAmong text.now) }
 {
     let line = after_indent(text, depth)?;
     match past(line, lead) {
@@ -66,7 +66,7 @@ fn another_entry<'a>(text: &'a str, depth: usize, lead: &str, end: &str) -> Resu
 /// Returns what follows the lead of a key's value in a mapping that lies so deep.
 fn value_entry<'a>(text: &'a str, depth: usize) -> Result<&'a str, Stop>
     ensures cut { Cuts (line_at (depth * 2) ++ codes "  : ") text.now result }
-    ensures stops { IfErr result (StopsWithin text.now) }
+    ensures stops { IfErr result (StopsAmong text.now) }
 {
     let line = after_indent(text, depth)?;
     after(line, "  : ")
@@ -74,8 +74,8 @@ fn value_entry<'a>(text: &'a str, depth: usize) -> Result<&'a str, Stop>
 
 /// Returns what follows the lead of a node in a collection that lies so deep, or its end.
 fn lead_in<'a>(awaited: Await, depth: usize, text: &'a str) -> Result<Entry<'a>, Stop>
-    ensures stands { (outer : List Awaited) → depth ≡ length outer → LeadStands (seen_await awaited ∷ outer) text.now result }
-    ensures stops { IfErr result (StopsWithin text.now) }
+    ensures stands { (outer : List Pending) → depth ≡ length outer → LeadStands (seen_await awaited ∷ outer) text.now result }
+    ensures stops { IfErr result (StopsAmong text.now) }
 {
     match awaited {
         Await::FirstItem => first_entry(text, depth, "  ", "]"),
@@ -95,8 +95,8 @@ pub(crate) fn read_lead<'a>(
     count: usize,
     text: &'a str,
 ) -> Result<Entry<'a>, Stop>
-    ensures stands { (levels : List Awaited) → IsInnermostAwait levels innermost → count ≡ length levels → LeadStands levels text.now result }
-    ensures stops { IfErr result (StopsWithin text.now) }
+    ensures stands { (levels : List Pending) → IsInnermostAwait levels innermost → count ≡ length levels → LeadStands levels text.now result }
+    ensures stops { IfErr result (StopsAmong text.now) }
 {
     match innermost {
         None => Ok(Entry::Another(text)),

@@ -9,7 +9,7 @@ ghost use Rattle.yaml_base.specs.Tags.{alias_fault};
 ghost use Rattle.yaml_base.specs.graphs.DumpedText.{anchor_text};
 ghost use Rattle.yaml_read.specs.EventTexts.{IsAnchor, ends_name};
 ghost use Rattle.yaml_read.specs.Places.{IsHereOrMemory};
-ghost use Rattle.yaml_read.specs.RunPlaces.{StopsWithin};
+ghost use Rattle.yaml_read.specs.RunPlaces.{StopsAmong};
 ghost use Rattle.yaml_read.specs.Words.{OrMemory, past_word};
 
 use crate::cuts::{after, past};
@@ -57,7 +57,7 @@ pub(crate) fn read_anchor<A: Allocator>(
         → OrMemory (λ found. (option_map seen_text found.0 ≡ anchor) × (found.1.now ≡ encode_utf8_all rest)) result }
     ensures sound { IfOk result (λ found. IsAnchor (option_map seen_text found.0)
         × (text.now ≡ encode_utf8_all (anchor_text (option_map seen_text found.0)) ++ found.1.now)) }
-    ensures stops { IfErr result (StopsWithin text.now) }
+    ensures stops { IfErr result (StopsAmong text.now) }
     ensures shorter { IfOk result (λ found. length found.1.now ≤ length text.now) }
 {
     match past(text, "&") {

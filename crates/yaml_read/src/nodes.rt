@@ -9,7 +9,7 @@ ghost use Rattle.yaml_base.specs.Tags.{tag_fault};
 ghost use Rattle.yaml_base.specs.graphs.DumpedText.{anchor_text, tag_text};
 ghost use Rattle.yaml_base.specs.graphs.Meetings.{Held, mapping_held, opening_event_of, scalar_held, sequence_held};
 ghost use Rattle.yaml_read.specs.EventTexts.{BeginsNode, IsAnchor, ends_name, opening_text};
-ghost use Rattle.yaml_read.specs.RunPlaces.{StopsWithin};
+ghost use Rattle.yaml_read.specs.RunPlaces.{StopsAmong};
 ghost use Rattle.yaml_read.specs.WrittenTags.{HasHeldText};
 ghost use Rattle.yaml_read.specs.Words.{OrMemory};
 
@@ -88,7 +88,7 @@ fn read_held<'a, A: Allocator>(
     ensures sound { IfOk result (λ found. (held : Held) × (written : Text) × HasHeldText held written
         × (seen_event found.0 ≡ opening_event_of (option_map seen_text anchor) (seen_text tag) held)
         × (text.now ≡ encode_utf8_all written ++ found.1.now)) }
-    ensures stops { IfErr result (StopsWithin text.now) }
+    ensures stops { IfErr result (StopsAmong text.now) }
     ensures shorter { IfOk result (λ found. length found.1.now < length text.now) }
 {
     match past(text, "[") {
@@ -117,7 +117,7 @@ fn read_properties<A: Allocator + Copy>(
     ensures sound { IfOk result (λ found. (anchor : Option Text) × (tag : Text) × (held : Held) × (written : Text) × IsAnchor anchor
         × (tag_fault tag ≡ None) × (all_scalars tag ≡ true) × HasHeldText held written × (seen_event found.0 ≡ opening_event_of anchor tag held)
         × (text.now ≡ encode_utf8_all (anchor_text anchor ++ (tag_text (Some tag) false ++ written)) ++ found.1.now)) }
-    ensures stops { IfErr result (StopsWithin text.now) }
+    ensures stops { IfErr result (StopsAmong text.now) }
     ensures shorter { IfOk result (λ found. length found.1.now < length text.now) }
 {
     let (anchor, behind) = read_anchor(alloc, text)?;
@@ -135,7 +135,7 @@ pub(crate) fn read_opening<A: Allocator + Copy>(
         → OrMemory (λ found. (seen_event found.0 ≡ event) × (found.1.now ≡ encode_utf8_all rest)) result }
     ensures sound { IfOk result (λ found. BeginsNode (seen_event found.0)
         × (text.now ≡ encode_utf8_all (opening_text (seen_event found.0)) ++ found.1.now)) }
-    ensures stops { IfErr result (StopsWithin text.now) }
+    ensures stops { IfErr result (StopsAmong text.now) }
     ensures shorter { IfOk result (λ found. length found.1.now < length text.now) }
 {
     match past(text, "*") {

@@ -5,7 +5,7 @@ ghost use Rattle.yaml_base.specs.Characters.{Text, line_feed};
 ghost use Rattle.yaml_base.specs.Event.{Event, document_end, document_start};
 ghost use Rattle.yaml_base.specs.Seen.{seen_event};
 ghost use Rattle.yaml_read.specs.EventTexts.{HasRunText, IsInNode};
-ghost use Rattle.yaml_read.specs.RunPlaces.{RunStops, StopsWithin, bare_start, in_document};
+ghost use Rattle.yaml_read.specs.RunPlaces.{RunStops, StopsAmong, bare_start, in_document};
 ghost use Rattle.yaml_read.specs.Words.{OrMemory};
 ghost use Rattle.yaml_read.specs.declared.errors.Stop.TheVariants as stop;
 
@@ -58,7 +58,7 @@ fn end_events<A: Allocator>(
     ensures sound { IfOk result (λ found. (map seen_event found.items ≡ map seen_event events.items ++ document_end true ∷ [])
         × (text.now ≡ codes "\n")) }
     ensures reads { text.now ≡ codes "\n" → OrMemory (λ _. Unit {0}) result }
-    ensures stops { IfErr result (StopsWithin text.now) }
+    ensures stops { IfErr result (StopsAmong text.now) }
 {
     let end = after(text, "\n")?;
     if end.is_empty() {

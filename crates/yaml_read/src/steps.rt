@@ -7,8 +7,8 @@ ghost use Rattle.yaml_base.specs.Seen.{seen_event};
 ghost use Rattle.yaml_read.specs.Awaits.{IsInnermostAwait, closing_event, seen_await, seen_awaits};
 ghost use Rattle.yaml_read.specs.EventSteps.{GoesTo, ReadsEvent, ReadsNode, await_opened, bytes_behind, open_behind_opening, open_now, text_behind_lead};
 ghost use Rattle.yaml_read.specs.EventSteps.{trail_behind_opening};
-ghost use Rattle.yaml_read.specs.EventTexts.{Awaited, BeginsNode, IsInNode, ends_name, event_text, may_come, next_awaited, open_behind, outside, trail_text};
-ghost use Rattle.yaml_read.specs.RunPlaces.{StopsWithin};
+ghost use Rattle.yaml_read.specs.EventTexts.{Pending, BeginsNode, IsInNode, ends_name, event_text, may_come, next_awaited, left_open, outside, trail_text};
+ghost use Rattle.yaml_read.specs.RunPlaces.{StopsAmong};
 ghost use Rattle.yaml_read.specs.Words.{Cuts, OrMemory};
 ghost use Rattle.yaml_read.specs.declared.errors.Stop.TheVariants as stop;
 
@@ -29,7 +29,7 @@ pub(crate) enum Progress<'a> {
 
 /// Returns what stands behind a node in a collection.
 fn trail(awaited: Await) -> &'static str
-    ensures { (outer : List Awaited) → result.now ≡ trail_text (seen_await awaited ∷ outer) }
+    ensures { (outer : List Pending) → result.now ≡ trail_text (seen_await awaited ∷ outer) }
 {
     match awaited {
         Await::FirstItem => ",",
@@ -76,10 +76,10 @@ fn leave_node<'a, A: Allocator>(
     awaits: &mut Vec<Await, A>,
     text: &'a str,
 ) -> Result<Progress<'a>, Stop>
-    ensures moved { IfOk result (GoesTo (open_behind (seen_awaits awaits.old.items)) (trail_text (seen_awaits awaits.old.items)) text.now
+    ensures moved { IfOk result (GoesTo (left_open (seen_awaits awaits.old.items)) (trail_text (seen_awaits awaits.old.items)) text.now
         (seen_awaits awaits.new.items)) }
     ensures reads { (tail : List ℕ) → text.now ≡ trail_text (seen_awaits awaits.old.items) ++ tail → OrMemory (λ _. Unit {0}) result }
-    ensures stops { IfErr result (StopsWithin text.now) }
+    ensures stops { IfErr result (StopsAmong text.now) }
 {
     match awaits.pop() {
         None => Ok(Progress::RootEnds(text)),
@@ -100,7 +100,7 @@ fn go_behind<'a, A: Allocator>(
     ensures moved { IfOk result (GoesTo (open_behind_opening (seen_awaits awaits.old.items) opened)
         (trail_behind_opening (seen_awaits awaits.old.items) opened) text.now (seen_awaits awaits.new.items)) }
     ensures reads { (tail : List ℕ) → text.now ≡ trail_behind_opening (seen_awaits awaits.old.items) opened ++ tail → OrMemory (λ _. Unit {0}) result }
-    ensures stops { IfErr result (StopsWithin text.now) }
+    ensures stops { IfErr result (StopsAmong text.now) }
 {
     match opened {
         None => leave_node(awaits, text),
@@ -124,7 +124,7 @@ fn opened_by<A: Allocator>(event: &yaml_event_t<A>) -> Option<Await>
 
 /// Returns the event with which a collection ends.
 fn collection_end<A: Allocator>(awaited: Await) -> yaml_event_t<A>
-    ensures { (outer : List Awaited) → seen_event result ≡ closing_event (seen_await awaited ∷ outer) }
+    ensures { (outer : List Pending) → seen_event result ≡ closing_event (seen_await awaited ∷ outer) }
 {
     match awaited {
         Await::FirstItem => yaml_event_t::YAML_SEQUENCE_END_EVENT,
@@ -137,7 +137,7 @@ fn collection_end<A: Allocator>(awaited: Await) -> yaml_event_t<A>
 
 /// Returns the event with which the innermost collection ends.
 fn end_event<A: Allocator>(innermost: Option<Await>) -> yaml_event_t<A>
-    ensures { (levels : List Awaited) → IsInnermostAwait levels innermost → seen_event result ≡ closing_event levels }
+    ensures { (levels : List Pending) → IsInnermostAwait levels innermost → seen_event result ≡ closing_event levels }
 {
     match innermost {
         Some(awaited) => collection_end(awaited),
@@ -156,7 +156,7 @@ fn read_node<'a, A: Allocator + Copy>(
     ensures reads { (event : Event) (tail : Text) → BeginsNode event → ends_name tail ≡ true
         → text.now ≡ encode_utf8_all (text_behind_lead (seen_awaits awaits.old.items) event ++ tail)
         → OrMemory (λ found. seen_event found.0 ≡ event) result }
-    ensures stops { IfErr result (StopsWithin text.now) }
+    ensures stops { IfErr result (StopsAmong text.now) }
     ensures shorter { IfOk result (λ found. length (bytes_behind found.1) < length text.now) }
 {
     let (event, rest) = read_opening(alloc, text)?;
@@ -172,10 +172,10 @@ fn read_end<'a, A: Allocator>(
 ) -> Result<(yaml_event_t<A>, Progress<'a>), Stop>
     ensures sound { IsInnermostAwait (seen_awaits awaits.old.items) innermost → IfOk result (λ found.
         (seen_event found.0 ≡ closing_event (seen_awaits awaits.old.items))
-        × GoesTo (open_behind (outside (seen_awaits awaits.old.items))) (trail_text (outside (seen_awaits awaits.old.items))) text.now
+        × GoesTo (left_open (outside (seen_awaits awaits.old.items))) (trail_text (outside (seen_awaits awaits.old.items))) text.now
         (seen_awaits awaits.new.items) found.1) }
     ensures reads { (tail : List ℕ) → text.now ≡ trail_text (outside (seen_awaits awaits.old.items)) ++ tail → OrMemory (λ _. Unit {0}) result }
-    ensures stops { IfErr result (StopsWithin text.now) }
+    ensures stops { IfErr result (StopsAmong text.now) }
 {
     leave_collection(awaits);
     let progress = leave_node(awaits, text)?;
@@ -193,7 +193,7 @@ pub(crate) fn read_event<'a, A: Allocator + Copy>(
     ensures reads { (event : Event) (tail : Text) → IsInNode event → may_come (seen_awaits awaits.old.items) event ≡ true → ends_name tail ≡ true
         → text.now ≡ encode_utf8_all (event_text (seen_awaits awaits.old.items) event ++ tail)
         → OrMemory (λ found. seen_event found.0 ≡ event) result }
-    ensures stops { IfErr result (StopsWithin text.now) }
+    ensures stops { IfErr result (StopsAmong text.now) }
     ensures shorter { IfOk result (λ found. length (bytes_behind found.1) < length text.now) }
 {
     let last = innermost(awaits);

@@ -2,7 +2,7 @@ use Rattle.std.proofs.Common.{◌*◌, ◌++◌, ap, ◌∙◌, sym, append_asso
 use Rattle.std.specs.Prelude.{Result}
 use Rattle.yaml_base.specs.values.ValueText.{line_at}
 use Rattle.yaml_read.specs.Awaits.{EntryStands}
-use Rattle.yaml_read.specs.RunPlaces.{StopsWithin}
+use Rattle.yaml_read.specs.RunPlaces.{StopsAmong}
 use Rattle.yaml_read.specs.declared.errors.Stop.{Stop}
 use Rattle.yaml_read.specs.declared.levels.Entry.{Entry}
 use Rattle.yaml_read.proofs.Awaits.{here_within, line_within, within_behind}
@@ -40,12 +40,12 @@ returns-in_ok-rest-in-None-clause-stands c =
 
 pub returns-in_err-line-clause-stops : goal.returns-in_err-line-clause-stops
 returns-in_err-line-clause-stops c =
-    err_exit (StopsWithin c.args.text.now) c.in_err-line.field-0.0 c.from_residual.result c.from_residual.ensures
+    err_exit (StopsAmong c.args.text.now) c.in_err-line.field-0.0 c.from_residual.result c.from_residual.ensures
     (line_within c.args.depth c.args.text.now c.in_err-line.field-0.0 c.in_err-line.ensures.lacks)
 
 pub returns-in_err-rest-in-None-clause-stops : goal.returns-in_err-rest-in-None-clause-stops
 returns-in_err-rest-in-None-clause-stops c =
-    err_exit (StopsWithin c.args.text.now) c.in_err-rest-in-None.field-0.0 c.from_residual-in_err-rest-in-None.result
+    err_exit (StopsAmong c.args.text.now) c.in_err-rest-in-None.field-0.0 c.from_residual-in_err-rest-in-None.result
     c.from_residual-in_err-rest-in-None.ensures
     (within_behind (line_at (c.args.depth * 2)) c.args.text.now c.in_ok-line.line.now c.in_err-rest-in-None.field-0.0
     c.in_ok-line.ensures.cut (here_within c.in_ok-line.line.now c.in_err-rest-in-None.field-0.0 c.in_err-rest-in-None.ensures.placed))

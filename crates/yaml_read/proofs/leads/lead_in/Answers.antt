@@ -2,7 +2,7 @@ use Rattle.std.proofs.Common.{◌∷◌, subst, sym}
 use Rattle.std.specs.Prelude.{Result, Ok}
 use Rattle.yaml_read.specs.Awaits.{LeadStands, seen_await}
 use Rattle.yaml_read.specs.EventTexts.{value_awaited}
-use Rattle.yaml_read.specs.RunPlaces.{StopsWithin}
+use Rattle.yaml_read.specs.RunPlaces.{StopsAmong}
 use Rattle.yaml_read.specs.declared.errors.Stop.{Stop}
 use Rattle.yaml_read.specs.declared.leads.Await.{Await}
 use Rattle.yaml_read.specs.declared.levels.Entry.{Entry}
@@ -52,5 +52,5 @@ returns-in_ok-rest-in-Value-clause-stands c =
 
 pub returns-in_err-rest-in-Value-clause-stops : goal.returns-in_err-rest-in-Value-clause-stops
 returns-in_err-rest-in-Value-clause-stops c =
-    err_exit (StopsWithin c.args.text.now) c.in_err-rest-in-Value.field-0.0 c.from_residual.result c.from_residual.ensures
+    err_exit (StopsAmong c.args.text.now) c.in_err-rest-in-Value.field-0.0 c.from_residual.result c.from_residual.ensures
     c.in_err-rest-in-Value.ensures.stops

@@ -2,7 +2,7 @@ use Rattle.std.proofs.Common.{◌*◌, ◌++◌, List, ℕ}
 use Rattle.std.specs.Borrow.{Bor}
 use Rattle.std.specs.Prelude.{codes, Result}
 use Rattle.yaml_base.specs.values.ValueText.{line_at}
-use Rattle.yaml_read.specs.RunPlaces.{StopsWithin}
+use Rattle.yaml_read.specs.RunPlaces.{StopsAmong}
 use Rattle.yaml_read.specs.Words.{Cuts}
 use Rattle.yaml_read.specs.declared.errors.Stop.{Stop}
 use Rattle.yaml_read.proofs.Awaits.{cut_within, line_within}
@@ -23,7 +23,7 @@ returns-clause-cut c =
 
 pub returns-in_err-line-clause-stops : goal.returns-in_err-line-clause-stops
 returns-in_err-line-clause-stops c =
-    err_exit (StopsWithin c.args.text.now) c.in_err-line.field-0.0 c.from_residual.result c.from_residual.ensures
+    err_exit (StopsAmong c.args.text.now) c.in_err-line.field-0.0 c.from_residual.result c.from_residual.ensures
     (line_within c.args.depth c.args.text.now c.in_err-line.field-0.0 c.in_err-line.ensures.lacks)
 
 pub returns-clause-stops : goal.returns-clause-stops

@@ -9,7 +9,7 @@ use Rattle.yaml_read.proofs.Encoded.{word_encoded}
 use Rattle.yaml_read.proofs.NameTexts.{anchor_absent, anchor_sound, anchor_there, space_there, within_here}
 use Rattle.yaml_read.proofs.Turns.{cut_is}
 use Rattle.yaml_read.proofs.Words.{at_exit, error_stays}
-use Rattle.yaml_read.specs.RunPlaces.{StopsWithin}
+use Rattle.yaml_read.specs.RunPlaces.{StopsAmong}
 use Rattle.yaml_read.specs.Words.{OrMemory}
 use Rattle.yaml_read.proofs.names.read_anchor.Goals as goal
 
@@ -49,13 +49,13 @@ returns-in_ok-rest-in-Some-clause-sound g c =
 
 pub returns-in_err-name-in-Some-clause-stops : goal.returns-in_err-name-in-Some-clause-stops
 returns-in_err-name-in-Some-clause-stops g c =
-    err_exit (StopsWithin c.args.text.now) c.in_err-name-in-Some.field-0.0 c.from_residual.result c.from_residual.ensures
+    err_exit (StopsAmong c.args.text.now) c.in_err-name-in-Some.field-0.0 c.from_residual.result c.from_residual.ensures
     (within_here c.args.text.now c.in-Some.inside.now c.in_err-name-in-Some.field-0.0 (omega (arith, c.in-Some.ensures.shorter))
     c.in_err-name-in-Some.ensures.placed)
 
 pub returns-in_err-rest-in-Some-clause-stops : goal.returns-in_err-rest-in-Some-clause-stops
 returns-in_err-rest-in-Some-clause-stops g c =
-    err_exit (StopsWithin c.args.text.now) c.in_err-rest-in-Some.field-0.0 c.from_residual-in_err-rest-in-Some.result
+    err_exit (StopsAmong c.args.text.now) c.in_err-rest-in-Some.field-0.0 c.from_residual-in_err-rest-in-Some.result
     c.from_residual-in_err-rest-in-Some.ensures
     (within_here c.args.text.now c.in_ok-name-in-Some.behind.now c.in_err-rest-in-Some.field-0.0
     (omega (arith, c.in-Some.ensures.shorter, c.in_ok-name-in-Some.ensures.shorter)) (inr c.in_err-rest-in-Some.ensures.placed))

@@ -2,7 +2,7 @@ use Rattle.std.proofs.Common.{◌≡◌, ◌∷◌, ◌++◌, None, Option, Some
 use Rattle.std.specs.Prelude.{IfOk, Ok, IfErr}
 use Rattle.yaml_read.specs.Awaits.{seen_await, seen_awaits}
 use Rattle.yaml_read.specs.EventSteps.{GoesTo, open_behind_opening, open_now, trail_behind_opening}
-use Rattle.yaml_read.specs.RunPlaces.{StopsWithin}
+use Rattle.yaml_read.specs.RunPlaces.{StopsAmong}
 use Rattle.yaml_read.specs.Words.{OrMemory}
 use Rattle.yaml_read.specs.declared.leads.Await.{Await}
 use Rattle.yaml_read.proofs.Awaits.{memory_exit, memory_within}
@@ -34,5 +34,5 @@ returns-in_err-push-in-Some-clause-reads g c =
 
 pub returns-in_err-push-in-Some-clause-stops : goal.returns-in_err-push-in-Some-clause-stops
 returns-in_err-push-in-Some-clause-stops g c =
-    err_exit (StopsWithin c.args.text.now) c.in_err-push-in-Some.field-0.0 c.from_residual.result c.from_residual.ensures
+    err_exit (StopsAmong c.args.text.now) c.in_err-push-in-Some.field-0.0 c.from_residual.result c.from_residual.ensures
     (memory_within c.args.text.now c.in_err-push-in-Some.field-0.0 c.in_err-push-in-Some.ensures.memory)

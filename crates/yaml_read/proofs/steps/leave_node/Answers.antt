@@ -1,7 +1,7 @@
 use Rattle.std.proofs.Common.{◌≡◌, ◌∷◌, List, ℕ, ap, ◌∙◌, arith}
 use Rattle.yaml_read.specs.Awaits.{seen_await, seen_awaits}
 use Rattle.yaml_read.specs.EventTexts.{next_awaited}
-use Rattle.yaml_read.specs.RunPlaces.{StopsWithin}
+use Rattle.yaml_read.specs.RunPlaces.{StopsAmong}
 use Rattle.yaml_read.specs.Words.{OrMemory}
 use Rattle.yaml_read.proofs.Awaits.{memory_exit, await_more, here_within, memory_within, no_awaits, node_left, node_stays, root_left}
 use Rattle.yaml_read.proofs.Breaking.{err_exit}
@@ -34,11 +34,11 @@ returns-in_err-push-in-Some-clause-reads g c =
 
 pub returns-in_err-rest-in-Some-clause-stops : goal.returns-in_err-rest-in-Some-clause-stops
 returns-in_err-rest-in-Some-clause-stops g c =
-    err_exit (StopsWithin c.args.text.now) c.in_err-rest-in-Some.field-0.0 c.from_residual.result c.from_residual.ensures
+    err_exit (StopsAmong c.args.text.now) c.in_err-rest-in-Some.field-0.0 c.from_residual.result c.from_residual.ensures
     (here_within c.args.text.now c.in_err-rest-in-Some.field-0.0 c.in_err-rest-in-Some.ensures.placed)
 
 pub returns-in_err-push-in-Some-clause-stops : goal.returns-in_err-push-in-Some-clause-stops
 returns-in_err-push-in-Some-clause-stops g c =
-    err_exit (StopsWithin c.args.text.now) c.in_err-push-in-Some.field-0.0 c.from_residual-in_err-push-in-Some.result
+    err_exit (StopsAmong c.args.text.now) c.in_err-push-in-Some.field-0.0 c.from_residual-in_err-push-in-Some.result
     c.from_residual-in_err-push-in-Some.ensures
     (memory_within c.args.text.now c.in_err-push-in-Some.field-0.0 c.in_err-push-in-Some.ensures.memory)

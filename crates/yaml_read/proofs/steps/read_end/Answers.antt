@@ -2,8 +2,8 @@ use Rattle.std.proofs.Common.{◌≡◌, ◌++◌, List, ap, subst, sym, ◌∙�
 use Rattle.yaml_base.specs.Seen.{seen_event}
 use Rattle.yaml_read.specs.Awaits.{seen_awaits}
 use Rattle.yaml_read.specs.EventSteps.{GoesTo, open_now}
-use Rattle.yaml_read.specs.EventTexts.{Awaited, open_behind, outside, trail_text}
-use Rattle.yaml_read.specs.RunPlaces.{StopsWithin}
+use Rattle.yaml_read.specs.EventTexts.{Pending, left_open, outside, trail_text}
+use Rattle.yaml_read.specs.RunPlaces.{StopsAmong}
 use Rattle.yaml_read.specs.Words.{OrMemory}
 use Rattle.yaml_read.proofs.Breaking.{err_exit}
 use Rattle.yaml_read.proofs.Awaits.{error_exit}
@@ -15,7 +15,7 @@ returns-clause-sound g c =
     λ innermost.
     let levels = seen_awaits c.args.awaits.now.items in (
       c.end_event.ensures levels innermost,
-      subst (λ (l : List Awaited). GoesTo (open_behind l) (trail_text l) c.args.text.now (seen_awaits c.leave_node.new.awaits.items)
+      subst (λ (l : List Pending). GoesTo (left_open l) (trail_text l) c.args.text.now (seen_awaits c.leave_node.new.awaits.items)
           c.in_ok-progress.progress) c.leave_collection.ensures c.in_ok-progress.ensures.moved,
     )
 
@@ -27,4 +27,4 @@ returns-in_err-progress-clause-reads g c =
 
 pub returns-in_err-progress-clause-stops : goal.returns-in_err-progress-clause-stops
 returns-in_err-progress-clause-stops g c =
-    err_exit (StopsWithin c.args.text.now) c.in_err-progress.field-0.0 c.from_residual.result c.from_residual.ensures c.in_err-progress.ensures.stops
+    err_exit (StopsAmong c.args.text.now) c.in_err-progress.field-0.0 c.from_residual.result c.from_residual.ensures c.in_err-progress.ensures.stops

@@ -5,8 +5,8 @@ use Rattle.std.specs.Str.{encode_utf8_all}
 use Rattle.yaml_base.specs.Seen.{seen_event}
 use Rattle.yaml_read.specs.Awaits.{IsInnermostAwait, LeadStands, closing_event, seen_awaits}
 use Rattle.yaml_read.specs.EventSteps.{GoesTo, ReadsEvent, ReadsNode, bytes_behind, open_now}
-use Rattle.yaml_read.specs.EventTexts.{closing_text, lead_text, open_behind, outside, trail_text}
-use Rattle.yaml_read.specs.RunPlaces.{StopsWithin}
+use Rattle.yaml_read.specs.EventTexts.{closing_text, lead_text, left_open, outside, trail_text}
+use Rattle.yaml_read.specs.RunPlaces.{StopsAmong}
 use Rattle.yaml_read.specs.Words.{OrMemory}
 use Rattle.yaml_read.specs.declared.errors.Stop.{Stop}
 use Rattle.yaml_read.specs.declared.levels.Entry.{Entry}
@@ -40,7 +40,7 @@ returns-in-End-clause-sound g c =
     let stands = subst (λ (e : Entry). LeadStands levels text (Ok e)) c.in-End.is
     (c.in_ok-lead.ensures.stands levels innermost (c.len.ensures ∙ c.args.awaits.now.ok.0 ∙ sym (awaits_length c.args.awaits.now.items))) in
     if_ok c.read_end.result (λ found. (seen_event found.0 ≡ closing_event levels)
-    × GoesTo (open_behind (outside levels)) (trail_text (outside levels)) rest now found.1)
+    × GoesTo (left_open (outside levels)) (trail_text (outside levels)) rest now found.1)
     (λ found. ReadsEvent levels text (open_now now found.1) (seen_event found.0) (bytes_behind found.1))
     (λ found ends. end_read levels text rest (bytes_behind found.1) (open_now now found.1) (seen_event found.0) stands.0 stands.1 ends.0 ends.1.0 ends.1.1)
     (c.read_end.ensures.sound innermost)
@@ -73,13 +73,13 @@ returns-in-End-clause-reads g c =
     (c.in_ok-lead.ensures.stands levels innermost (c.len.ensures ∙ c.args.awaits.now.ok.0 ∙ sym (awaits_length c.args.awaits.now.items))) in
     let due = end_due levels event tail c.args.text.now c.in-End.rest.now (it_comes levels event tail c.args.text.now in_node comes is) stands.0 stands.1 in
     or_memory_by c.read_end.result (λ found. (seen_event found.0 ≡ closing_event levels)
-    × GoesTo (open_behind (outside levels)) (trail_text (outside levels)) c.in-End.rest.now now found.1)
+    × GoesTo (left_open (outside levels)) (trail_text (outside levels)) c.in-End.rest.now now found.1)
     (λ found. seen_event found.0 ≡ event)
     (c.read_end.ensures.reads (encode_utf8_all tail) due.1) (c.read_end.ensures.sound innermost) (λ found read. read.0 ∙ due.0)
 
 pub returns-in_err-lead-clause-stops : goal.returns-in_err-lead-clause-stops
 returns-in_err-lead-clause-stops g c =
-    err_exit (StopsWithin c.args.text.now) c.in_err-lead.field-0.0 c.from_residual.result c.from_residual.ensures c.in_err-lead.ensures.stops
+    err_exit (StopsAmong c.args.text.now) c.in_err-lead.field-0.0 c.from_residual.result c.from_residual.ensures c.in_err-lead.ensures.stops
 
 pub returns-in-Another-clause-stops : goal.returns-in-Another-clause-stops
 returns-in-Another-clause-stops g c =
@@ -116,7 +116,7 @@ returns-in-End-clause-shorter g c =
     let stands = subst (λ (e : Entry). LeadStands levels c.args.text.now (Ok e)) c.in-End.is
     (c.in_ok-lead.ensures.stands levels innermost (c.len.ensures ∙ c.args.awaits.now.ok.0 ∙ sym (awaits_length c.args.awaits.now.items))) in
     if_ok c.read_end.result (λ found. (seen_event found.0 ≡ closing_event levels)
-    × GoesTo (open_behind (outside levels)) (trail_text (outside levels)) rest now found.1)
+    × GoesTo (left_open (outside levels)) (trail_text (outside levels)) rest now found.1)
     (λ found. length (bytes_behind found.1) < length c.args.text.now)
     (λ found ends. behind_less (trail_text (outside levels)) c.args.text.now rest (bytes_behind found.1) ends.1.1
     (end_shorter levels c.args.text.now rest stands.0 stands.1)) (c.read_end.ensures.sound innermost)

@@ -7,7 +7,7 @@ use Rattle.yaml_base.specs.Seen.{seen_event}
 use Rattle.yaml_read.specs.Awaits.{seen_awaits}
 use Rattle.yaml_read.specs.EventSteps.{await_opened, bytes_behind, open_behind_opening, open_now, trail_behind_opening}
 use Rattle.yaml_read.specs.EventTexts.{opening_text}
-use Rattle.yaml_read.specs.RunPlaces.{StopsWithin}
+use Rattle.yaml_read.specs.RunPlaces.{StopsAmong}
 use Rattle.yaml_read.specs.Words.{OrMemory}
 use Rattle.yaml_read.specs.declared.leads.Await.{Await}
 use Rattle.yaml_read.specs.declared.steps.Progress.{Progress}
@@ -61,11 +61,11 @@ returns-clause-reads g c =
 
 pub returns-in_err-event-clause-stops : goal.returns-in_err-event-clause-stops
 returns-in_err-event-clause-stops g c =
-    err_exit (StopsWithin c.args.text.now) c.in_err-event.field-0.0 c.from_residual.result c.from_residual.ensures c.in_err-event.ensures.stops
+    err_exit (StopsAmong c.args.text.now) c.in_err-event.field-0.0 c.from_residual.result c.from_residual.ensures c.in_err-event.ensures.stops
 
 pub returns-in_err-progress-clause-stops : goal.returns-in_err-progress-clause-stops
 returns-in_err-progress-clause-stops g c =
-    err_exit (StopsWithin c.args.text.now) c.in_err-progress.field-0.0 c.from_residual-in_err-progress.result c.from_residual-in_err-progress.ensures
+    err_exit (StopsAmong c.args.text.now) c.in_err-progress.field-0.0 c.from_residual-in_err-progress.result c.from_residual-in_err-progress.ensures
     (within_less c.args.text.now c.in_ok-event.rest.now c.in_err-progress.field-0.0 c.in_ok-event.ensures.shorter c.in_err-progress.ensures.stops)
 
 pub returns-clause-shorter : goal.returns-clause-shorter
