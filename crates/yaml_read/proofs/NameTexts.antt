@@ -1,12 +1,13 @@
 -- Names, and the anchors in front of nodes.
-use Rattle.yaml_base.proofs.Common.{ℕ, ◌+◌, ◌-◌, ◌<◌, ◌≤◌, ◌==◌, suc, Bool, true, false, not, cond, Option, None, Some, List, [], ◌∷◌, ◌++◌, refl, ◌≡◌}
-use Rattle.yaml_base.proofs.Common.{ap, subst, sym, ◌∙◌, arith, nat_tests, true≢false, eqb-true, not-true, and_parts, and_from, append_assoc, length, length-append}
-use Rattle.yaml_base.proofs.Common.{if◌then◌else◌, ◌&&◌, inl, inr, list_all-append, list_all, take, drop, chars, chars-IsAscii, codes, nat_lt, ltb-true, Text, encode_utf8_all, encode_utf8, is_alpha, alias_fault, space}
-use Rattle.std.proofs.lemmas.List.{take-append-drop, take-append-le, drop-append-le, take_all, append_cancel_left}
+use Rattle.yaml_base.proofs.Common.{ℕ, ◌+◌, ◌-◌, ◌<◌, ◌≤◌, ◌==◌, suc, Bool, true, false, cond, Option, None, Some, List, [], ◌∷◌, ◌++◌, refl, ◌≡◌, ap, subst}
+use Rattle.yaml_base.proofs.Common.{sym, ◌∙◌, arith, nat_tests, true≢false, eqb-true, not-true, and_parts, and_from, append_assoc, length, if◌then◌else◌}
+use Rattle.yaml_base.proofs.Common.{◌&&◌, inl, inr, list_all-append, list_all, take, drop, chars, chars-IsAscii, codes, nat_lt, ltb-true, Text}
+use Rattle.yaml_base.proofs.Common.{encode_utf8_all, encode_utf8, is_alpha, alias_fault, space}
+use Rattle.std.proofs.lemmas.List.{take-append-drop, append_cancel_left}
 use Rattle.std.proofs.lemmas.List.Sums.{prefix_len-le-length}
 use Rattle.std.proofs.lemmas.Str.{IsCharBoundary-from_take, IsUtf8-from_ascii, char_from_byte}
 use Rattle.std.specs.List.{prefix_len}
-use Rattle.std.specs.Str.{IsAscii, IsCharBoundary, IsUtf8}
+use Rattle.std.specs.Str.{IsCharBoundary, IsUtf8}
 use Rattle.std.specs.Prelude.{String}
 use Rattle.std.specs.String.{string_bytes}
 use Rattle.yaml_base.proofs.AllPass.{all_pass}
@@ -23,7 +24,6 @@ use Rattle.yaml_read.specs.Places.{IsHereOrMemory}
 use Rattle.yaml_read.specs.RunPlaces.{StopsAmong}
 use Rattle.yaml_read.specs.Words.{past_word}
 use Rattle.yaml_read.specs.declared.errors.Stop.{Stop}
-use Rattle.yaml_read.specs.declared.errors.Stop.TheVariants as stop
 
 -- ---- the alphabet
 
@@ -217,9 +217,3 @@ anchor_sound name text inside behind rest named cut read spaced =
 pub within_here : (bytes inside : List ℕ) (error : Stop) → length inside ≤ length bytes → IsHereOrMemory inside error → StopsAmong bytes error
 within_here bytes inside error few (inl memory) = subst (StopsAmong bytes) (sym memory) tt
 within_here bytes inside error few (inr here) = subst (StopsAmong bytes) (sym here) few
-
--- what stops within a part of the bytes stops within them
-pub within_part : (bytes inside : List ℕ) (error : Stop) → length inside ≤ length bytes → StopsAmong inside error → StopsAmong bytes error
-within_part bytes inside (stop.Refused left) few within = omega (arith, few, within)
-within_part bytes inside (stop.TooDeep left) few within = within
-within_part bytes inside stop.Memory few within = tt

@@ -1,22 +1,19 @@
 -- How the nodes of a document begin.
-use Rattle.yaml_base.proofs.Common.{ℕ, ◌+◌, ◌<◌, ◌≤◌, true, false, Option, None, Some, List, [], ◌∷◌, ◌++◌, refl, ◌≡◌, ap, subst, sym, ◌∙◌, arith}
-use Rattle.yaml_base.proofs.Common.{append_assoc, append-nil, codes, length, length-append, Text, encode_utf8_all, all_scalars, tag_fault, alias_fault, Event, alias}
-use Rattle.yaml_base.proofs.Common.{any_style, any_layout, opening_event_of, Held, scalar_held, sequence_held, mapping_held, scalar, sequence_start, mapping_start}
-use Rattle.std.specs.Prelude.{String, Result, Ok, Err}
-use Rattle.yaml_base.proofs.Common.{◌==◌, nat_tests, true≢false, flat_map, character_text, space, percent_escaped}
+use Rattle.yaml_base.proofs.Common.{ℕ, ◌+◌, true, false, Option, None, Some, List, [], ◌∷◌, ◌++◌, refl, ◌≡◌, ap, subst, sym, ◌∙◌, arith, append_assoc, codes}
+use Rattle.yaml_base.proofs.Common.{Text, encode_utf8_all, all_scalars, tag_fault, alias_fault, Event, alias, any_style, any_layout, opening_event_of, Held}
+use Rattle.yaml_base.proofs.Common.{scalar_held, sequence_held, mapping_held, ◌==◌, nat_tests, true≢false, flat_map, character_text, space, percent_escaped}
+use Rattle.std.specs.Prelude.{Result, Ok, Err}
 use Rattle.std.proofs.lemmas.List.{append_cancel_left}
 use Rattle.std.proofs.lemmas.Str.{encodes-append}
 use Rattle.yaml_base.specs.scalars.DoubleQuoted.{quote}
 use Rattle.yaml_base.specs.values.ValueText.{in_quotes}
 use Rattle.yaml_read.proofs.Encoded.{word_encoded}
+use Rattle.yaml_read.proofs.TagBytes.{same_first}
 use Rattle.yaml_read.proofs.TagTexts.{IsSpelled, is_spelled, of_document, of_type, whole}
 use Rattle.yaml_read.proofs.Words.{no_word}
 use Rattle.yaml_read.specs.Words.{OrMemory, past_word}
 use Rattle.yaml_base.specs.graphs.DumpedText.{anchor_text, tag_text}
-use Rattle.yaml_read.specs.EventTexts.{AreParts, BeginsNode, IsAnchor, is_alias, is_mapping, is_scalar, is_sequence, opening_text}
-use Rattle.yaml_read.specs.Grammar.{quoted_text}
-use Rattle.yaml_read.specs.Places.{BreaksAt}
-use Rattle.yaml_read.specs.RunPlaces.{StopsAmong}
+use Rattle.yaml_read.specs.EventTexts.{BeginsNode, IsAnchor, is_alias, is_mapping, is_scalar, is_sequence, opening_text}
 use Rattle.yaml_read.specs.WrittenTags.{HasHeldText, mapping_opened, sequence_opened, value_quoted}
 use Rattle.yaml_read.specs.declared.errors.Stop.{Stop}
 use Rattle.yaml_read.specs.declared.errors.Stop.TheVariants as stop
@@ -64,27 +61,16 @@ begins_by anchor tag _ _ named sound scalars mapping_opened = (
   append_assoc (anchor_text anchor) (tag_text (Some tag) false) (codes "{"),
 )
 
--- ---- places
-
--- a text that breaks off stops within its bytes
-pub quoted_within : (bytes : List ℕ) (error : Stop) → BreaksAt quoted_text bytes error → StopsAmong bytes error
-quoted_within bytes (stop.Refused left) breaks =
-    omega (arith, breaks.place, ap (λ (t : List ℕ). length t) breaks.parts, length-append (flat_map (λ (word : List ℕ). word) breaks.read) breaks.rest)
-quoted_within bytes (stop.TooDeep left) breaks = breaks
-quoted_within bytes stop.Memory breaks = tt
-
 -- ---- behind a tag
 
 first_differs : (a b : ℕ) (x y : List ℕ) → (a == b) ≡ false → a ∷ x ≡ b ∷ y → ⊥
-first_differs a b x y other is = true≢false (sym (ap (λ n. n == b) (heads is) ∙ same b) ∙ other)
+first_differs a b x y other is = true≢false (sym (ap (λ n. n == b) (same_first a b x y is).0 ∙ same b) ∙ other)
   where
-    heads : a ∷ x ≡ b ∷ y → a ≡ b
-    heads e = cc
-
     same : (n : ℕ) → (n == n) ≡ true
     same n = grind (arith, nat_tests)
 
-quoted_bytes : (value rest : Text) → encode_utf8_all (in_quotes value ++ rest) ≡ 0x22 ∷ encode_utf8_all ((flat_map (character_text true) value ++ quote ∷ []) ++ rest)
+quoted_bytes : (value rest : Text)
+    → encode_utf8_all (in_quotes value ++ rest) ≡ 0x22 ∷ encode_utf8_all ((flat_map (character_text true) value ++ quote ∷ []) ++ rest)
 quoted_bytes value rest = word_encoded (codes "\"") ((flat_map (character_text true) value ++ quote ∷ []) ++ rest) refl
 
 -- a sequence opens

@@ -1,12 +1,11 @@
 -- The bytes of written tags.
-use Rattle.yaml_base.proofs.Common.{ℕ, ◌%◌, ◌/◌, ◌<◌, ◌==◌, Bool, true, false, not, ◌&&◌, ◌||◌, Option, None, Some, List, [], ◌∷◌, ◌++◌, refl, ◌≡◌}
-use Rattle.yaml_base.proofs.Common.{ap, subst, sym, ◌∙◌, arith, nat_tests, true≢false, agree_below_at, and_parts, and_from, append_assoc, append-nil, not-true}
-use Rattle.yaml_base.proofs.Common.{if◌then◌else◌, nat_lt, lt-ltb, ltb-true, list_all, list_all-append, flat_map, chars, chars-encodes, scalar_cases, or_parts}
-use Rattle.yaml_base.proofs.Common.{Text, hex_digit, encode_utf8, encode_utf8_all, all_scalars, is_tag_character, byte_escaped, percent_sign, percent_escaped, codes}
-use Rattle.yaml_base.proofs.Common.{hex_digits, length, flat_map-append}
+use Rattle.yaml_base.proofs.Common.{ℕ, ◌%◌, ◌/◌, ◌<◌, ◌==◌, Bool, true, false, ◌&&◌, ◌||◌, List, [], ◌∷◌, ◌++◌, refl, ◌≡◌, ap, sym, ◌∙◌, arith, nat_tests}
+use Rattle.yaml_base.proofs.Common.{true≢false, agree_below_at, and_parts, and_from, append_assoc, append-nil, not-true, if◌then◌else◌, nat_lt, ltb-true}
+use Rattle.yaml_base.proofs.Common.{list_all-append, flat_map, chars, chars-encodes, scalar_cases, or_parts, Text, hex_digit, encode_utf8, encode_utf8_all}
+use Rattle.yaml_base.proofs.Common.{all_scalars, is_tag_character, byte_escaped, percent_sign, percent_escaped, hex_digits}
 use Rattle.std.proofs.Common.{⊎_elim}
 use Rattle.std.proofs.lemmas.Option.{same_Some}
-use Rattle.std.proofs.lemmas.Str.{IsUtf8-string_bytes, encode_same, encode_ascii, encodes-chars}
+use Rattle.std.proofs.lemmas.Str.{IsUtf8-string_bytes, encode_same, encode_ascii}
 use Rattle.std.specs.Prelude.{String, Vec}
 use Rattle.std.specs.String.{string_bytes, string_vec}
 use Rattle.yaml_base.specs.Seen.{seen_text}
@@ -18,8 +17,7 @@ use Rattle.yaml_base.specs.reading.ReadDouble.{digit_meaning}
 use Rattle.yaml_mark.proofs.EscapingLemmas.{escaped_by_bytes}
 use Rattle.yaml_read.proofs.Encoded.{are_ascii, word_encoded}
 use Rattle.yaml_read.proofs.Escapes.{digit_reads}
-use Rattle.yaml_read.proofs.Firsts.{first_is, not_empty}
-use Rattle.yaml_read.proofs.HeadsRead.{word_bytes}
+use Rattle.yaml_read.proofs.Firsts.{first_is}
 use Rattle.yaml_read.specs.WrittenTags.{byte_in_tag, ends_tag}
 
 -- ---- ASCII
@@ -77,8 +75,9 @@ same_digit : (n m : ℕ) → hex_digit (n % 16) ≡ hex_digit (m % 16) → n % 1
 same_digit n m is =
     same_Some (n % 16) (m % 16) (sym (digit_reads (n % 16) (omega arith)) ∙ ap digit_meaning is ∙ digit_reads (m % 16) (omega arith))
 
-heads : (a b : ℕ) (x y : List ℕ) → a ∷ x ≡ b ∷ y → (a ≡ b) × (x ≡ y)
-heads a b x y is = (cc, cc)
+-- lists that are the same begin alike
+pub same_first : (a b : ℕ) (x y : List ℕ) → a ∷ x ≡ b ∷ y → (a ≡ b) × (x ≡ y)
+same_first a b x y is = (cc, cc)
 
 no_percent : is_tag_character percent_sign ≡ false
 no_percent = refl
@@ -88,13 +87,13 @@ byte_first b d x y few also is = by (is_tag_character b) (is_tag_character d) re
   where
     by : (s t : Bool) → is_tag_character b ≡ s → is_tag_character d ≡ t
         → (if s then b ∷ [] else byte_escaped b) ++ x ≡ (if t then d ∷ [] else byte_escaped d) ++ y → (b ≡ d) × (x ≡ y)
-    by true true e f is = heads b d x y is
-    by true false e f is = absurd (true≢false (sym e ∙ ap is_tag_character (heads b percent_sign x _ is).0 ∙ no_percent))
-    by false true e f is = absurd (true≢false (sym f ∙ ap is_tag_character (sym (heads percent_sign d _ y is).0) ∙ no_percent))
+    by true true e f is = same_first b d x y is
+    by true false e f is = absurd (true≢false (sym e ∙ ap is_tag_character (same_first b percent_sign x _ is).0 ∙ no_percent))
+    by false true e f is = absurd (true≢false (sym f ∙ ap is_tag_character (sym (same_first percent_sign d _ y is).0) ∙ no_percent))
     by false false e f is =
-        let one = heads percent_sign percent_sign (hex_digit (b / 16 % 16) ∷ hex_digit (b % 16) ∷ x) (hex_digit (d / 16 % 16) ∷ hex_digit (d % 16) ∷ y) is in
-        let two = heads (hex_digit (b / 16 % 16)) (hex_digit (d / 16 % 16)) (hex_digit (b % 16) ∷ x) (hex_digit (d % 16) ∷ y) one.1 in
-        let three = heads (hex_digit (b % 16)) (hex_digit (d % 16)) x y two.1 in
+        let one = same_first percent_sign percent_sign (hex_digit (b / 16 % 16) ∷ hex_digit (b % 16) ∷ x) (hex_digit (d / 16 % 16) ∷ hex_digit (d % 16) ∷ y) is in
+        let two = same_first (hex_digit (b / 16 % 16)) (hex_digit (d / 16 % 16)) (hex_digit (b % 16) ∷ x) (hex_digit (d % 16) ∷ y) one.1 in
+        let three = same_first (hex_digit (b % 16)) (hex_digit (d % 16)) x y two.1 in
         let high = same_digit (b / 16) (d / 16) two.0 in
         let low = same_digit b d three.0 in
         (omega (arith, few, also, high, low), three.1)
@@ -167,14 +166,6 @@ all_unread text read left value rest parts few none scalars ends is = by un.todo
         ∙ ap (λ t. byte_in_tag d ++ t) (sym (word_encoded (flat_map byte_in_tag todo) rest (bytes_ascii todo)))
         ∙ sym (word_encoded (byte_in_tag d) (flat_map byte_in_tag todo ++ rest) (byte_ascii d))))
 
--- one more was read
-pub bytes_more : (text read : List ℕ) (b : ℕ) (rest next : List ℕ) → text ≡ flat_map byte_in_tag read ++ rest → rest ≡ byte_in_tag b ++ next
-    → text ≡ flat_map byte_in_tag (read ++ b ∷ []) ++ next
-bytes_more text read b rest next is more =
-    is ∙ ap (λ t. flat_map byte_in_tag read ++ t) more ∙ sym (append_assoc (flat_map byte_in_tag read) (byte_in_tag b) next)
-    ∙ ap (λ t. t ++ next) (ap (λ t. flat_map byte_in_tag read ++ t) (sym (append-nil (byte_in_tag b)))
-    ∙ sym (flat_map-append byte_in_tag read (b ∷ [])))
-
 -- ---- by its first character
 
 -- what the first character of a written byte says
@@ -190,47 +181,11 @@ first_of_byte byte rest c text tail starts is = by (is_tag_character byte) refl 
     by true e is = let first = first_is text tail c byte rest starts is in as_itself e first.0 first.1
     by false e is = let first = first_is text tail c percent_sign (hex_digits 2 byte ++ rest) starts is in as_form e first.0 first.1
 
--- a text that a byte begins isn't empty
-pub byte_there : (byte : ℕ) (rest : Text) (text : List ℕ) → text ≡ encode_utf8_all (byte_in_tag byte ++ rest) → length text ≡ 0 → ⊥
-byte_there byte rest text is none = by (is_tag_character byte) is
-  where
-    by : (s : Bool) → text ≡ encode_utf8_all ((if s then byte ∷ [] else byte_escaped byte) ++ rest) → ⊥
-    by true is = not_empty text byte rest is none
-    by false is = not_empty text percent_sign (hex_digits 2 byte ++ rest) is none
-
--- behind `%` stand two digits
-pub form_follows : (byte : ℕ) (rest : Text) (c : ℕ) (tail : List ℕ) → FirstOfByte byte rest c tail → c ≡ percent_sign
-    → (is_tag_character byte ≡ false) × (tail ≡ encode_utf8_all (hex_digits 2 byte ++ rest))
-form_follows byte rest c tail (as_itself stands same behind) is =
-    absurd (true≢false (sym stands ∙ ap is_tag_character (sym same ∙ is) ∙ no_percent))
-form_follows byte rest c tail (as_form other same behind) is = (other, behind)
-
 -- another character stands for itself
 pub itself_follows : (byte : ℕ) (rest : Text) (c : ℕ) (tail : List ℕ) → FirstOfByte byte rest c tail → (c ≡ percent_sign → ⊥)
     → (is_tag_character c ≡ true) × (c ≡ byte) × (tail ≡ encode_utf8_all rest)
 itself_follows byte rest c tail (as_itself stands same behind) is = (ap is_tag_character same ∙ stands, same, behind)
 itself_follows byte rest c tail (as_form other same behind) is = absurd (is same)
-
--- a byte that was read
-pub itself_read : (text tail : List ℕ) (c : ℕ) → text ≡ encode_utf8 c ++ tail → is_tag_character c ≡ true → text ≡ byte_in_tag c ++ tail
-itself_read text tail c starts stands =
-    starts ∙ ap (λ t. t ++ tail) (encode_ascii c (ltb-true c 128 (tag_character_is_ascii c stands))
-    ∙ ap (λ b. if b then c ∷ [] else byte_escaped c) (sym stands))
-
-pub form_read : (text tail next : List ℕ) (c byte : ℕ) → text ≡ encode_utf8 c ++ tail → c ≡ percent_sign → is_tag_character byte ≡ false
-    → tail ≡ encode_utf8_all (hex_digits 2 byte) ++ next → text ≡ byte_in_tag byte ++ next
-form_read text tail next c byte starts same other is =
-    starts ∙ ap (λ d. encode_utf8 d ++ tail) same ∙ ap (λ t. t ++ tail) (encode_ascii percent_sign (omega arith))
-    ∙ ap (λ t. percent_sign ∷ t) (is ∙ ap (λ t. t ++ next) (word_bytes (hex_digits 2 byte) digits))
-    ∙ ap (λ b. (if b then byte ∷ [] else byte_escaped byte) ++ next) (sym other)
-  where
-    digits : are_ascii (hex_digits 2 byte) ≡ true
-    digits = rw (digit_ascii (byte / 16), digit_ascii byte) refl
-
--- a number that fits among others
-pub small_more : (read : List ℕ) (b : ℕ) → are_bytes read ≡ true → b < 256 → are_bytes (read ++ b ∷ []) ≡ true
-small_more read b few also =
-    list_all-append (λ n. nat_lt n 256) read (b ∷ []) ∙ and_from (are_bytes read) (nat_lt b 256 && true) few (ap (λ t. t && true) (lt-ltb b 256 also))
 
 -- a text of bytes that were read
 pub bytes_of : {A : Type 0} (found : String A) (bytes : Vec ℕ A) → string_vec found ≡ bytes → string_bytes found ≡ bytes.items

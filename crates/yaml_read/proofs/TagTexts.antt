@@ -1,10 +1,10 @@
 -- How a tag is written, and read: verbatim, or behind a handle.
-use Rattle.yaml_base.proofs.Common.{ℕ, ◌+◌, ◌<◌, ◌==◌, Bool, true, false, not, ◌&&◌, ◌||◌, Option, None, Some, List, [], ◌∷◌, ◌++◌, refl, ◌≡◌}
-use Rattle.yaml_base.proofs.Common.{ap, subst, sym, ◌∙◌, arith, nat_tests, true≢false, and_parts, append_assoc, append-nil, codes, length, is_some, space, suc}
-use Rattle.yaml_base.proofs.Common.{if◌then◌else◌, list_all, list_all-append, and_from, chars, chars-IsAscii, chars-encodes, ne_eqb, not-true, nat_lt, ltb-true}
-use Rattle.yaml_base.proofs.Common.{Text, encode_utf8, encode_utf8_all, all_scalars, percent_escaped, tag_fault, spelled, shorthand, verbatim, Spelling, eqb-true}
+use Rattle.yaml_base.proofs.Common.{ℕ, ◌+◌, ◌<◌, ◌==◌, Bool, true, false, not, ◌&&◌, Option, None, Some, List, [], ◌∷◌, ◌++◌, refl, ◌≡◌, ap, subst, sym, ◌∙◌}
+use Rattle.yaml_base.proofs.Common.{arith, nat_tests, true≢false, and_parts, append_assoc, codes, length, is_some, space, if◌then◌else◌, list_all}
+use Rattle.yaml_base.proofs.Common.{list_all-append, and_from, chars, chars-IsAscii, ne_eqb, nat_lt, ltb-true, Text, encode_utf8_all, all_scalars}
+use Rattle.yaml_base.proofs.Common.{percent_escaped, tag_fault, spelled, verbatim, eqb-true}
 use Rattle.std.proofs.lemmas.List.{append_cancel_left}
-use Rattle.std.proofs.lemmas.Str.{chars-append, chars-nil, encodes-chars, encodes-append, encode_ascii, IsUtf8-from_ascii, IsUtf8-past_char, IsUtf8-string_bytes}
+use Rattle.std.proofs.lemmas.Str.{chars-append, chars-nil, encodes-chars, encode_ascii, IsUtf8-from_ascii, IsUtf8-past_char, IsUtf8-string_bytes}
 use Rattle.std.specs.Prelude.{String}
 use Rattle.std.specs.Str.{IsUtf8}
 use Rattle.std.specs.String.{string_bytes}
@@ -12,13 +12,13 @@ use Rattle.yaml_base.proofs.AsciiWords.{ascii_of}
 use Rattle.yaml_base.proofs.PercentLaws.{escaped_begins, escaped_stands, stands_written, written_is_no_exclamation, written_is_no_less}
 use Rattle.yaml_base.proofs.TagForms.{behind-whole, behind_begins, scalars_behind}
 use Rattle.yaml_base.specs.Seen.{seen_text}
-use Rattle.yaml_base.specs.Tags.{behind, default_directives, spelling, spelling_by}
+use Rattle.yaml_base.specs.Tags.{behind, spelling_by}
 use Rattle.yaml_base.specs.graphs.DumpedText.{tag_text}
 use Rattle.yaml_read.proofs.Encoded.{are_ascii, word_encoded}
 use Rattle.yaml_read.proofs.Firsts.{not_empty}
 use Rattle.yaml_read.proofs.HeadsRead.{word_bytes}
-use Rattle.yaml_read.proofs.TagBytes.{escaped_ascii}
-use Rattle.yaml_read.proofs.Words.{behind_word, no_word}
+use Rattle.yaml_read.proofs.TagBytes.{escaped_ascii, same_first}
+use Rattle.yaml_read.proofs.Words.{no_word}
 use Rattle.yaml_read.specs.WrittenTags.{stays_verbatim, type_prefix}
 use Rattle.yaml_read.specs.Words.{past_word}
 
@@ -129,18 +129,15 @@ suffix_first (c ∷ suffix) end some =
       stands,
     )
 
-heads : (a b : ℕ) (x y : List ℕ) → a ∷ x ≡ b ∷ y → a ≡ b
-heads a b x y is = cc
-
 no_less : (suffix end : Text) (inside : List ℕ) → 0 < length suffix → encode_utf8_all (percent_escaped suffix ++ end) ≡ 0x3C ∷ inside → ⊥
 no_less suffix end inside some is =
     let first = suffix_first suffix end some in
-    true≢false (ap (λ n. n == 0x3C) (sym (heads first.0 0x3C first.1 inside (sym first.2 ∙ is))) ∙ written_is_no_less first.0 first.3)
+    true≢false (ap (λ n. n == 0x3C) (sym (same_first first.0 0x3C first.1 inside (sym first.2 ∙ is)).0) ∙ written_is_no_less first.0 first.3)
 
 no_mark : (suffix end : Text) (inside : List ℕ) → 0 < length suffix → encode_utf8_all (percent_escaped suffix ++ end) ≡ 0x21 ∷ inside → ⊥
 no_mark suffix end inside some is =
     let first = suffix_first suffix end some in
-    true≢false (ap (λ n. n == 0x21) (sym (heads first.0 0x21 first.1 inside (sym first.2 ∙ is))) ∙ written_is_no_exclamation first.0 first.3)
+    true≢false (ap (λ n. n == 0x21) (sym (same_first first.0 0x21 first.1 inside (sym first.2 ∙ is)).0) ∙ written_is_no_exclamation first.0 first.3)
 
 -- behind `!<` stands the whole tag
 pub at_verbatim : (tag written rest : Text) (text inside : List ℕ) → IsSpelled tag written → text ≡ encode_utf8_all (written ++ rest)

@@ -18,16 +18,19 @@ use Rattle.yaml_read.proofs.nodes.read_properties.Goals as goal
 pub returns-in_err-anchor-clause-reads : goal.returns-in_err-anchor-clause-reads
 returns-in_err-anchor-clause-reads g c =
     λ anchor tag held written rest named sound scalars has is.
-    let Found = λ (found : yaml_event_t g.row.A.Denot × Bor (List ℕ)). (seen_event found.0 ≡ opening_event_of anchor tag held) × (found.1.now ≡ encode_utf8_all rest) in
+    let Found = λ (found : yaml_event_t g.row.A.Denot × Bor (List ℕ)).
+    (seen_event found.0 ≡ opening_event_of anchor tag held) × (found.1.now ≡ encode_utf8_all rest) in
     let more = tag_text (Some tag) false ++ (written ++ rest) in
     at_exit (OrMemory Found) c.in_err-anchor.field-0.0 c.from_residual.result c.from_residual.ensures
-    (error_stays (λ (found : Option (String g.row.A.Denot) × Bor (List ℕ)). (option_map seen_text found.0 ≡ anchor) × (found.1.now ≡ encode_utf8_all more)) Found
-    c.in_err-anchor.field-0.0 (c.in_err-anchor.ensures.reads anchor more named (no_anchor_mark tag (written ++ rest) sound) is))
+    (error_stays
+    (λ (found : Option (String g.row.A.Denot) × Bor (List ℕ)). (option_map seen_text found.0 ≡ anchor) × (found.1.now ≡ encode_utf8_all more))
+    Found c.in_err-anchor.field-0.0 (c.in_err-anchor.ensures.reads anchor more named (no_anchor_mark tag (written ++ rest) sound) is))
 
 pub returns-in_err-tag-clause-reads : goal.returns-in_err-tag-clause-reads
 returns-in_err-tag-clause-reads g c =
     λ anchor tag held written rest named sound scalars has is.
-    let Found = λ (found : yaml_event_t g.row.A.Denot × Bor (List ℕ)). (seen_event found.0 ≡ opening_event_of anchor tag held) × (found.1.now ≡ encode_utf8_all rest) in
+    let Found = λ (found : yaml_event_t g.row.A.Denot × Bor (List ℕ)).
+    (seen_event found.0 ≡ opening_event_of anchor tag held) × (found.1.now ≡ encode_utf8_all rest) in
     let first = c.in_ok-anchor.ensures.reads anchor (tag_text (Some tag) false ++ (written ++ rest)) named (no_anchor_mark tag (written ++ rest) sound) is in
     at_exit (OrMemory Found) c.in_err-tag.field-0.0 c.from_residual-in_err-tag.result c.from_residual-in_err-tag.ensures
     (error_stays (λ (found : String g.row.A.Denot × Bor (List ℕ)). (seen_text found.0 ≡ tag) × (found.1.now ≡ encode_utf8_all (written ++ rest))) Found

@@ -23,7 +23,8 @@ returns-clause-reads g c =
     λ suffix rest scalars some is.
     let read = c.in_ok-suffix.ensures.reads suffix (space ∷ rest) scalars refl is in (
       joined c.push_str.new.self c.in_ok-suffix.suffix c.args.prefix.now c.requires
-          (c.in_ok-push_str.ensures.bytes ∙ ap (λ t. t ++ c.as_str-2.result.now) c.in_ok-tag.ensures.ok ∙ ap (λ t. c.args.prefix.now ++ t) c.as_str-2.ensures.value)
+          (c.in_ok-push_str.ensures.bytes ∙ ap (λ t. t ++ c.as_str-2.result.now) c.in_ok-tag.ensures.ok
+          ∙ ap (λ t. c.args.prefix.now ++ t) c.as_str-2.ensures.value)
           ∙ ap (λ t. c.args.prefix.now ++ t) read.0,
       cut_is (codes " ") c.in_ok-suffix.behind.now c.in_ok-rest.rest.now (encode_utf8_all rest) c.in_ok-rest.ensures.cut
           (read.1 ∙ word_encoded (codes " ") rest refl),
@@ -34,6 +35,7 @@ returns-clause-sound g c = (
   seen_text c.in_ok-suffix.suffix,
   some_chars c.in_ok-suffix.suffix c.as_str.result.now c.as_str.ensures.value (sym c.is_empty.ensures ∙ c.if-is_empty.false),
   joined c.push_str.new.self c.in_ok-suffix.suffix c.args.prefix.now c.requires
-      (c.in_ok-push_str.ensures.bytes ∙ ap (λ t. t ++ c.as_str-2.result.now) c.in_ok-tag.ensures.ok ∙ ap (λ t. c.args.prefix.now ++ t) c.as_str-2.ensures.value),
+      (c.in_ok-push_str.ensures.bytes ∙ ap (λ t. t ++ c.as_str-2.result.now) c.in_ok-tag.ensures.ok
+          ∙ ap (λ t. c.args.prefix.now ++ t) c.as_str-2.ensures.value),
   c.in_ok-suffix.ensures.sound ∙ ap (λ t. percent_escaped (seen_text c.in_ok-suffix.suffix) ++ t) c.in_ok-rest.ensures.cut,
 )
