@@ -36,6 +36,6 @@ returns-clause-sound g c = (
   some_chars c.in_ok-suffix.suffix c.as_str.result.now c.as_str.ensures.value (sym c.is_empty.ensures ∙ c.if-is_empty.false),
   joined c.push_str.new.self c.in_ok-suffix.suffix c.args.prefix.now c.requires
       (c.in_ok-push_str.ensures.bytes ∙ ap (λ t. t ++ c.as_str-2.result.now) c.in_ok-tag.ensures.ok
-          ∙ ap (λ t. c.args.prefix.now ++ t) c.as_str-2.ensures.value),
+      ∙ ap (λ t. c.args.prefix.now ++ t) c.as_str-2.ensures.value),
   c.in_ok-suffix.ensures.sound ∙ ap (λ t. percent_escaped (seen_text c.in_ok-suffix.suffix) ++ t) c.in_ok-rest.ensures.cut,
 )
