@@ -3,6 +3,7 @@ use Rattle.yaml_base.proofs.Common.{ℕ, ◌%◌, ◌/◌, ◌<◌, ◌==◌, Bo
 use Rattle.yaml_base.proofs.Common.{true≢false, agree_below_at, and_parts, and_from, append_assoc, append-nil, not-true, if◌then◌else◌, nat_lt, ltb-true}
 use Rattle.yaml_base.proofs.Common.{list_all-append, flat_map, chars, chars-encodes, scalar_cases, or_parts, Text, hex_digit, encode_utf8, encode_utf8_all}
 use Rattle.yaml_base.proofs.Common.{all_scalars, is_tag_character, byte_escaped, percent_sign, percent_escaped, hex_digits}
+use Rattle.yaml_base.proofs.Common.{length}
 use Rattle.std.proofs.Common.{⊎_elim}
 use Rattle.std.proofs.lemmas.Option.{same_Some}
 use Rattle.std.proofs.lemmas.Str.{IsUtf8-string_bytes, encode_same, encode_ascii}
@@ -17,7 +18,7 @@ use Rattle.yaml_base.specs.reading.ReadDouble.{digit_meaning}
 use Rattle.yaml_mark.proofs.EscapingLemmas.{escaped_by_bytes}
 use Rattle.yaml_read.proofs.Encoded.{are_ascii, word_encoded}
 use Rattle.yaml_read.proofs.Escapes.{digit_reads}
-use Rattle.yaml_read.proofs.Firsts.{first_is}
+use Rattle.yaml_read.proofs.Firsts.{first_is, not_empty}
 use Rattle.yaml_read.specs.WrittenTags.{byte_in_tag, ends_tag}
 
 -- ---- ASCII
@@ -181,11 +182,32 @@ first_of_byte byte rest c text tail starts is = by (is_tag_character byte) refl 
     by true e is = let first = first_is text tail c byte rest starts is in as_itself e first.0 first.1
     by false e is = let first = first_is text tail c percent_sign (hex_digits 2 byte ++ rest) starts is in as_form e first.0 first.1
 
+-- a text that a byte begins isn't empty
+pub byte_there : (byte : ℕ) (rest : Text) (text : List ℕ) → text ≡ encode_utf8_all (byte_in_tag byte ++ rest) → length text ≡ 0 → ⊥
+byte_there byte rest text is none = by (is_tag_character byte) is
+  where
+    by : (s : Bool) → text ≡ encode_utf8_all ((if s then byte ∷ [] else byte_escaped byte) ++ rest) → ⊥
+    by true is = not_empty text byte rest is none
+    by false is = not_empty text percent_sign (hex_digits 2 byte ++ rest) is none
+
+-- behind `%` stand two digits
+pub form_follows : (byte : ℕ) (rest : Text) (c : ℕ) (tail : List ℕ) → FirstOfByte byte rest c tail → c ≡ percent_sign
+    → (is_tag_character byte ≡ false) × (tail ≡ encode_utf8_all (hex_digits 2 byte ++ rest))
+form_follows byte rest c tail (as_itself stands same behind) is =
+    absurd (true≢false (sym stands ∙ ap is_tag_character (sym same ∙ is) ∙ no_percent))
+form_follows byte rest c tail (as_form other same behind) is = (other, behind)
+
 -- another character stands for itself
 pub itself_follows : (byte : ℕ) (rest : Text) (c : ℕ) (tail : List ℕ) → FirstOfByte byte rest c tail → (c ≡ percent_sign → ⊥)
     → (is_tag_character c ≡ true) × (c ≡ byte) × (tail ≡ encode_utf8_all rest)
 itself_follows byte rest c tail (as_itself stands same behind) is = (ap is_tag_character same ∙ stands, same, behind)
 itself_follows byte rest c tail (as_form other same behind) is = absurd (is same)
+
+-- a character that was read for itself
+pub itself_read : (text tail : List ℕ) (c : ℕ) → text ≡ encode_utf8 c ++ tail → is_tag_character c ≡ true → text ≡ byte_in_tag c ++ tail
+itself_read text tail c starts stands =
+    starts ∙ ap (λ t. t ++ tail) (encode_ascii c (ltb-true c 128 (tag_character_is_ascii c stands))
+    ∙ ap (λ b. if b then c ∷ [] else byte_escaped c) (sym stands))
 
 -- a text of bytes that were read
 pub bytes_of : {A : Type 0} (found : String A) (bytes : Vec ℕ A) → string_vec found ≡ bytes → string_bytes found ≡ bytes.items
