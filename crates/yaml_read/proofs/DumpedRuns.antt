@@ -28,7 +28,7 @@ pub record SameParts (start other : DocumentStart) (events others : List Event) 
   pub inside : events ≡ others
   pub ends : end ≡ also
 
-same_parts : (start other : DocumentStart) (events others : List Event) (end also : Bool)
+pub same_parts : (start other : DocumentStart) (events others : List Event) (end also : Bool)
     → document_start start ∷ (events ++ document_end end ∷ []) ≡ document_start other ∷ (others ++ document_end also ∷ [])
     → SameParts start other events others end also
 same_parts start other events others end also same =

@@ -31,6 +31,7 @@ pub mod ChildWalks
 pub mod NodeEvents
 pub mod UnstyledGraphs
 pub mod DumpedRuns
+pub mod DumpedReads
 pub mod Awaits
 pub mod EventSteps
 pub mod EventRuns

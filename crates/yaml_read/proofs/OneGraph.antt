@@ -69,3 +69,15 @@ styled_isomorphic graph other alike =
       one_to_one = λ number reached. alike.one_to_one number (reached_unstyled graph reached);
       onto = alike.onto;
     }
+
+pub isomorphic_styled : (graph other : Graph) → Isomorphic graph (unstyled_graph other) → Isomorphic graph other
+isomorphic_styled graph other alike =
+    record {
+      partner = alike.partner;
+      back = alike.back;
+      root = alike.root;
+      labels = λ number reached. sym (label_unstyled other (alike.partner number)) ∙ alike.labels number reached;
+      kept = λ number reached. sym (children_unstyled other (alike.partner number)) ∙ alike.kept number reached;
+      one_to_one = alike.one_to_one;
+      onto = λ number reached. alike.onto number (reached_unstyled other reached);
+    }

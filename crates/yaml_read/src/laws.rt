@@ -1,6 +1,9 @@
-//! Laws of the words of canonical bytes, the contracts of functions that do nothing.
+//! Laws of canonical bytes and their words, the contracts of functions that do nothing.
 ghost use Rattle.std.specs.Prelude.{◌-◌, ◌<◌, List, length, take, ℕ};
+ghost use Rattle.yaml_base.specs.graphs.Isomorphic.{Isomorphic};
+ghost use Rattle.yaml_base.specs.graphs.Meetings.{Graph};
 ghost use Rattle.yaml_base.specs.values.TypedValues.{TypedValue, most_nested};
+ghost use Rattle.yaml_read.specs.DocumentTexts.{AreDumpedBytes};
 ghost use Rattle.yaml_read.specs.Grammar.{behind_value, node};
 ghost use Rattle.yaml_read.specs.Opened.{HasRead, IsOpen};
 ghost use Rattle.yaml_read.specs.Places.{BreaksOff};
@@ -28,4 +31,10 @@ pub fn texts_begin_up_to_places()
         → length levels < most_nested → BreaksOff (node (length levels)) bytes left → BeginsValue (take (length whole - left) whole) }
     ensures behind_node { (whole : List ℕ) (levels : List OpenLevel) (value : TypedValue) (bytes : List ℕ) (left : ℕ)
         → HasRead whole levels value bytes → BreaksOff (behind_value levels) bytes left → BeginsValue (take (length whole - left) whole) }
+{}
+
+/// States that documents whose dumps have the same canonical bytes say the same: the parts of their graphs that the roots reach are
+/// isomorphic.
+pub fn dumped_bytes_tell_graphs()
+    ensures { (one other : Graph) (bytes : List ℕ) → AreDumpedBytes one bytes → AreDumpedBytes other bytes → Isomorphic one other }
 {}

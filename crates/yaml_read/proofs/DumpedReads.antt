@@ -1,0 +1,135 @@
+-- The canonical reader finds a graph's content in the bytes of its dump, however deep it nests and however long they are.
+use Rattle.yaml_base.proofs.Common.{Bool, true, false, not, ◌&&◌, ◌==◌, Option, None, Some, List, [], ◌∷◌, ◌++◌, if◌then◌else◌, refl, ◌≡◌, ap, subst, sym, ◌∙◌}
+use Rattle.yaml_base.proofs.Common.{ℕ, All, All-head, All-tail, arith, and_from, append_assoc, codes, eqb-true, flat_map-append, list_all, list_all-append, option_or}
+use Rattle.yaml_base.proofs.Common.{Text, line_feed, encode, encode_utf8_all, utf8, with_breaks_written, line_feed_break, bytes_written, layout}
+use Rattle.yaml_base.proofs.Common.{Standing, Piece, text_of, piece_text, root_place, render_node, document_end_piece, stream_end_piece, first_standing}
+use Rattle.yaml_base.proofs.Common.{Event, DocumentStart, document_start, document_end, alias, Document, Documents, documents_and, no_documents, document_events}
+use Rattle.yaml_base.proofs.Common.{Node, node_events, Graph, canonical_content, DocumentContent}
+use Rattle.yaml_base.proofs.Common.{Isomorphic, option_and_then, unwrap_or}
+use Rattle.yaml_base.proofs.ContentsUnfold.{content_unfolds}
+use Rattle.yaml_base.proofs.Decoding.{text_bytes-utf8}
+use Rattle.yaml_base.proofs.DocumentsUnfold.{document_unfolds}
+use Rattle.yaml_base.proofs.DumpedLeaves.{Writes, force, s}
+use Rattle.yaml_base.proofs.DumpedOutputs.{bare_document, stream_alone}
+use Rattle.yaml_base.proofs.DumpedTexts.{node_writes}
+use Rattle.yaml_base.proofs.SameShapes.{same_shape}
+use Rattle.yaml_base.specs.Tags.{anchor_fault, tag_fault}
+use Rattle.yaml_base.specs.graphs.DumpedText.{dumped_text, node_text}
+use Rattle.yaml_base.specs.graphs.Unfolding.{TreeUnfolds, Unfolds, content_shape}
+use Rattle.yaml_base.specs.reading.Content.{Content, alias_content, documents_content, node_content}
+use Rattle.yaml_emitter.proofs.canonical.Canonical.{bytes_read}
+use Rattle.yaml_emitter.proofs.canonical.CanonicalSound.{is_good_canonical, documents_ok}
+use Rattle.yaml_read.specs.DocumentTexts.{AreDumpedBytes}
+use Rattle.yaml_read.specs.EventTexts.{AreParts, BeginsNode, IsAnchor, IsInNode, begins_node, ends_mapping, ends_sequence, is_alias, is_mapping, is_scalar}
+use Rattle.yaml_read.specs.EventTexts.{is_sequence}
+use Rattle.yaml_read.specs.RunPlaces.{bare_start, in_document}
+use Rattle.yaml_read.proofs.DumpedRuns.{dumped_bytes_run, run_is_dumped, same_parts}
+use Rattle.yaml_read.proofs.OneGraph.{isomorphic_styled, styled_isomorphic}
+use Rattle.yaml_read.proofs.UnstyledGraphs.{unstyled_graph}
+
+-- ---- events
+
+anchor_good : (anchor : Option Text) → IsAnchor anchor → option_and_then anchor_fault anchor ≡ None
+anchor_good None sound = refl
+anchor_good (Some name) sound = sound
+
+opening_good : (event : Event) → BeginsNode event → is_good_canonical event ≡ true
+opening_good _ (is_alias name sound) = rw sound refl
+opening_good _ (is_scalar anchor tag value parts) =
+    rw (anchor_good anchor parts.anchor_sound, parts.tag_sound, parts.tag_scalars, parts.value_scalars) refl
+opening_good _ (is_sequence anchor tag parts) = rw (anchor_good anchor parts.anchor_sound, parts.tag_sound, parts.tag_scalars) refl
+opening_good _ (is_mapping anchor tag parts) = rw (anchor_good anchor parts.anchor_sound, parts.tag_sound, parts.tag_scalars) refl
+
+event_good : (event : Event) → IsInNode event → is_good_canonical event ≡ true
+event_good _ (begins_node event begins) = opening_good event begins
+event_good _ ends_sequence = refl
+event_good _ ends_mapping = refl
+
+node_good : (events : List Event) → All IsInNode events → list_all is_good_canonical (events ++ document_end true ∷ []) ≡ true
+node_good [] all = refl
+node_good (event ∷ events) all =
+    and_from (is_good_canonical event) (list_all is_good_canonical (events ++ document_end true ∷ []))
+    (event_good event (All-head IsInNode event events all)) (node_good events (All-tail IsInNode event events all))
+
+run_good : (events : List Event) → All IsInNode events → list_all is_good_canonical (in_document events) ≡ true
+run_good events all = node_good events all
+
+-- ---- bytes
+
+more_text : (a b c : List Piece) → text_of ((a ++ b) ++ c) ≡ text_of a ++ (text_of b ++ text_of c)
+more_text a b c =
+    flat_map-append piece_text (a ++ b) c ∙ ap (λ t. t ++ text_of c) (flat_map-append piece_text a b) ∙ append_assoc (text_of a) (text_of b) (text_of c)
+
+-- a document's text is that of its layout
+layout_text : (root : Node) → text_of (layout s (stream_alone None (bare_document true root))) ≡ dumped_text root
+layout_text root =
+    let node = render_node root s force root_place first_standing in
+    let end = document_end_piece true node.standing in
+    let last = stream_end_piece end.standing in
+    let written : Writes (node_text 0 root) 0 node = node_writes root None first_standing in
+    let ends : text_of (end.piece ∷ []) ++ text_of (last.piece ∷ []) ≡ line_feed ∷ [] =
+    ap
+    (λ (from : Standing). let made = document_end_piece true from in text_of (made.piece ∷ []) ++ text_of ((stream_end_piece made.standing).piece ∷ []))
+    written.stands in
+    ap (λ t. codes "---\n" ++ t)
+    (more_text node.pieces (end.piece ∷ []) (last.piece ∷ []) ∙ ap (λ t. t ++ (text_of (end.piece ∷ []) ++ text_of (last.piece ∷ []))) written.is
+    ∙ ap (λ t. node_text 0 root ++ t) ends)
+
+breaks_same : (text : Text) → with_breaks_written line_feed_break text ≡ text
+breaks_same [] = refl
+breaks_same (c ∷ rest) = by (c == line_feed) refl (breaks_same rest)
+  where
+    by : (b : Bool) → (c == line_feed) ≡ b → with_breaks_written line_feed_break rest ≡ rest
+        → (if b then line_feed ∷ [] else c ∷ []) ++ with_breaks_written line_feed_break rest ≡ c ∷ rest
+    by true e same = ap (λ d. d ∷ with_breaks_written line_feed_break rest) (sym (eqb-true c line_feed e)) ∙ ap (λ t. c ∷ t) same
+    by false e same = ap (λ t. c ∷ t) same
+
+-- the canonical reader finds in a document's bytes its content
+root_read : (root : Node) → list_all is_good_canonical (document_events (bare_document true root)) ≡ true
+    → canonical_content false (encode (Some utf8) (dumped_text root)) ≡ Some (documents_content (documents_and no_documents (bare_document true root)))
+root_read root good =
+    let stream = stream_alone None (bare_document true root) in
+    ap (λ t. canonical_content false (encode (Some utf8) t)) (sym (layout_text root) ∙ sym (breaks_same (text_of (layout s stream))))
+    ∙ bytes_read s (omega arith) stream (documents_ok stream.documents good) false
+
+-- a root that unfolds a graph without styles, and whose content is read of the bytes
+record ReadsRoot (graph : Graph) (bytes : List ℕ) : Type 0 where
+  root : Node
+  unfolds : TreeUnfolds (unstyled_graph graph) root
+  read : canonical_content false bytes ≡ Some (documents_content (documents_and no_documents (bare_document true root)))
+
+dumped_reads : (graph : Graph) (bytes : List ℕ) → AreDumpedBytes graph bytes → ReadsRoot graph bytes
+dumped_reads graph bytes dumped =
+    let run = dumped_bytes_run graph bytes dumped in
+    let without = run_is_dumped (unstyled_graph graph) run.events run.node bytes run.whole run.is_list run.run run.in_node run.is in
+    let has = without.is_dumped.events in
+    let parts = same_parts has.document.start bare_start (node_events has.document.root) run.events has.document.end_implicit true
+    (has.is_document ∙ run.is_list) in
+    let good : list_all is_good_canonical (document_events (bare_document true has.document.root)) ≡ true =
+    ap (λ events. list_all is_good_canonical (in_document events)) parts.inside ∙ run_good run.events run.in_node in
+    record {
+      root = has.document.root;
+      unfolds = without.is_dumped.unfolds;
+      read =
+          ap (canonical_content false) (sym without.is_encoded ∙ ap (λ (t : Text). encode (Some utf8) t) has.is_text)
+          ∙ root_read has.document.root good;
+    }
+
+-- the content of the first root
+abbrev first_root : List DocumentContent → Content
+first_root [] = alias_content []
+first_root (content ∷ rest) = content.root
+
+-- documents whose dumps have the same bytes are isomorphic
+pub one_graph : (one other : Graph) (bytes : List ℕ) → AreDumpedBytes one bytes → AreDumpedBytes other bytes → Isomorphic one other
+one_graph one other bytes dumped also =
+    let first = dumped_reads one bytes dumped in
+    let second = dumped_reads other bytes also in
+    let same : node_content first.root ≡ node_content second.root =
+    ap (λ (found : Option (List DocumentContent)). first_root (unwrap_or found [])) (sym first.read ∙ second.read) in
+    isomorphic_styled one other
+    (styled_isomorphic one (unstyled_graph other)
+    (same_shape (unstyled_graph one) (unstyled_graph other) (content_shape (node_content first.root))
+    (content_unfolds (unstyled_graph one) first.root first.unfolds)
+    (subst (λ (content : Content). Unfolds false (unstyled_graph other) (content_shape content)) (sym same)
+    (content_unfolds (unstyled_graph other) second.root second.unfolds))))
