@@ -65,13 +65,6 @@ fits_same depth due same (Ok done) opened both after = (λ fits. both.0 (after.0
 fits_same depth due same (Err stop.TooDeep) opened both after = λ fits. after (both.1 fits)
 fits_same depth due same (Err (stop.Failed error)) opened both after = tt
 
-pub fits_of : (depth : ℕ) (due : Type 0) (answer : Result (Unit {0}) yaml_error_t) (result : Result (Unit {0}) Stop) (opened : List Rest)
-    → IsStopOf answer result → PendingFits depth 0 opened ↔ due → FitsAfter depth due result opened
-fits_of depth due (Ok done) (Ok same) opened is both = both
-fits_of depth due (Ok done) (Err stopped) opened is both = absurd is
-fits_of depth due (Err error) (Ok done) opened is both = absurd is
-fits_of depth due (Err error) (Err stopped) opened is both = subst (λ (s : Stop). FitsAfter depth due (Err s) opened) (sym is) tt
-
 pub fits_failed : (depth : ℕ) (due : Type 0) (answer : Result (Unit {0}) yaml_error_t) (stopped : Stop) (opened : List Rest)
     → IsStopOf answer (Err stopped) → FitsAfter depth due (Err stopped) opened
 fits_failed depth due (Ok done) stopped opened is = absurd is
@@ -79,19 +72,6 @@ fits_failed depth due (Err error) stopped opened is = subst (λ (s : Stop). Fits
 
 pub fits_memory : (depth : ℕ) (due : Type 0) (stopped : Stop) (opened : List Rest) → IsOwnMemory stopped → FitsAfter depth due (Err stopped) opened
 fits_memory depth due stopped opened is = subst (λ (s : Stop). FitsAfter depth due (Err s) opened) (sym is) tt
-
--- a value, by what it stands for
-pub fits_seen : (depth : ℕ) (x y : TomlNode) (result : Result (Unit {0}) Stop) (opened after : List Rest) → x ≡ y
-    → FitsAfter depth (NodeFits depth (toml_nesting y) opened) result after → FitsAfter depth (NodeFits depth (toml_nesting x) opened) result after
-fits_seen depth x y result opened after is =
-    subst (λ (z : TomlNode). FitsAfter depth (NodeFits depth (toml_nesting z) opened) result after) (sym is)
-
--- a scalar was written
-pub fits_scalar : (depth : ℕ) (x y : TomlNode) (answer : Result (Unit {0}) yaml_error_t) (result : Result (Unit {0}) Stop) (opened : List Rest) → x ≡ y
-    → toml_nesting y ≡ 0 → IsStopOf answer result → FitsAfter depth (NodeFits depth (toml_nesting x) opened) result opened
-fits_scalar depth x y answer result opened is none stops =
-    fits_of depth (NodeFits depth (toml_nesting x) opened) answer result opened stops
-    (subst (λ n. PendingFits depth 0 opened ↔ NodeFits depth n opened) (sym (ap toml_nesting is ∙ none)) (fits_leaf depth opened))
 
 -- ---- a whole document
 

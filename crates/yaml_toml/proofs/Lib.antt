@@ -13,6 +13,7 @@ pub mod Integers
 pub mod TomlMeanings
 pub mod YamlOf
 pub mod Running
+pub mod Stepping
 pub mod Views
 pub mod Refusing
 pub mod RowsDepth

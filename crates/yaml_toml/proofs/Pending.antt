@@ -90,9 +90,9 @@ module _ (most : ℕ) (in_flow : Bool) (was now : WriterState) where
       → Moved was (start_event in_flow (rest_kind r) ∷ []) [] (rest_kind r ∷ []) now
       → GaveSome most in_flow was (start_event in_flow (rest_kind r) ∷ (rest_events was.canonical in_flow r ++ pending was.canonical in_flow opened))
       (kinds_of opened)
-      (RestHasNumbers r × PendingHaveNumbers opened) (1 + (rest_size r + pending_size opened)) now after
+      (RestHasNumbers r × PendingHaveNumbers opened) (1 + rest_size r + pending_size opened) now after
   steps_enter r opened after is room moved = subst (λ (all : List Rest). GaveSome most in_flow was (start_event in_flow (rest_kind r)
-      ∷ (rest_events was.canonical in_flow r ++ pending was.canonical in_flow opened)) (kinds_of opened) (RestHasNumbers r × PendingHaveNumbers opened) (1 + (rest_size r + pending_size opened)) now all) (sym is)
+      ∷ (rest_events was.canonical in_flow r ++ pending was.canonical in_flow opened)) (kinds_of opened) (RestHasNumbers r × PendingHaveNumbers opened) (1 + rest_size r + pending_size opened) now all) (sym is)
       (record {
         given = start_event in_flow (rest_kind r) ∷ [];
         moved =
@@ -137,10 +137,10 @@ module _ (most : ℕ) (in_flow : Bool) (was now : WriterState) where
     few = subst (λ (ks : List CollectionKind). length ks ≤ most → Opens most (length ks) steps.given (length (kinds_of opened))) kinds steps.few;
   }
 
--- an event, and then steps
-pub steps_after : (most : ℕ) (in_flow : Bool) (was between now : WriterState) (content : Scalar) (due : List Event) (kinds : List CollectionKind) (numbers : Type 0)
-    (size : ℕ) (opened : List Rest) → WroteEvent was (scalar content) between → GaveSome most in_flow between due kinds numbers size now opened
-    → GaveSome most in_flow was (scalar content ∷ due) kinds numbers size now opened
+-- a scalar, and then steps
+pub steps_after : (most : ℕ) (in_flow : Bool) (was between now : WriterState) (content : Scalar) (due : List Event) (kinds : List CollectionKind)
+    (numbers : Type 0) (size : ℕ) (opened : List Rest) → WroteEvent was (scalar content) between
+    → GaveSome most in_flow between due kinds numbers size now opened → GaveSome most in_flow was (scalar content ∷ due) kinds numbers size now opened
 steps_after most in_flow was between now content due kinds numbers size opened wrote steps = record {
   given = scalar content ∷ steps.given;
   moved = moved_then was between now (scalar content ∷ []) steps.given kinds kinds (kinds_of opened) (moved_event was between (scalar content) kinds wrote)
@@ -152,135 +152,3 @@ steps_after most in_flow was between now content due kinds numbers size opened w
   less = steps.less;
   few = λ fits. (fits, steps.few fits);
 }
-
--- a value that is next, of a collection of which this is left behind it
-pub due_next : (canonical in_flow : Bool) (r : Rest) (opened : List Rest) (x : TomlNode) (due : List Event)
-    → toml_events canonical in_flow x ++ rest_events canonical in_flow r ≡ due
-    → toml_events canonical in_flow x ++ pending canonical in_flow (opened ++ r ∷ []) ≡ due ++ pending canonical in_flow opened
-due_next canonical in_flow r opened x due parts =
-    ap (λ (events : List Event). toml_events canonical in_flow x ++ events) (pending-push canonical in_flow opened r)
-    ∙ sym (append_assoc (toml_events canonical in_flow x) (rest_events canonical in_flow r) (pending canonical in_flow opened))
-    ∙ ap (λ (events : List Event). events ++ pending canonical in_flow opened) parts
-
-module _ (most : ℕ) (in_flow : Bool) (was now : WriterState) (r : Rest) (opened kept after : List Rest) (is : kept ≡ opened ++ r ∷ []) where
-  pub steps_next : (x : TomlNode) (due : List Event) (numbers : Type 0) (size : ℕ)
-      → toml_events was.canonical in_flow x ++ rest_events was.canonical in_flow r ≡ due
-      → (HasNumbers x → RestHasNumbers r → numbers) → node_size x + rest_size r ≤ size
-      → GaveSome most in_flow was (toml_events was.canonical in_flow x ++ pending was.canonical in_flow kept) (kinds_of kept)
-      (HasNumbers x × PendingHaveNumbers kept)
-      (node_size x + pending_size kept) now after
-      → GaveSome most in_flow was (due ++ pending was.canonical in_flow opened) (kinds_of opened ++ rest_kind r ∷ []) (numbers × PendingHaveNumbers opened)
-      (size + pending_size opened) now after
-  steps_next x due numbers size parts follows within steps =
-      let c = was.canonical in
-      let pushed = subst (λ (all : List Rest). GaveSome most in_flow was (toml_events c in_flow x ++ pending c in_flow all) (kinds_of all)
-      (HasNumbers x × PendingHaveNumbers all) (node_size x + pending_size all) now after) is steps in
-      steps_same most in_flow was now (toml_events c in_flow x ++ pending c in_flow (opened ++ r ∷ [])) (due ++ pending c in_flow opened)
-      (kinds_of (opened ++ r ∷ [])) (kinds_of opened ++ rest_kind r ∷ []) (HasNumbers x × PendingHaveNumbers (opened ++ r ∷ []))
-      (numbers × PendingHaveNumbers opened) (node_size x + pending_size (opened ++ r ∷ [])) (size + pending_size opened) after
-      (due_next c in_flow r opened x due parts)
-      (kinds-push opened r)
-      (λ have. let more = numbers-push opened r have.1 in (follows have.0 more.0, more.1))
-      (omega (arith, size-push opened r, within)) pushed
-
--- the same, behind a key
-pub steps_named : (most : ℕ) (in_flow : Bool) (was between now : WriterState) (content : Scalar) (due : (canonical : Bool) → List Event) (kinds : List CollectionKind)
-    (numbers : Type 0) (size : ℕ) (opened after : List Rest) → WroteEvent was (scalar content) between
-    → GaveSome most in_flow between (due between.canonical ++ pending between.canonical in_flow opened) kinds numbers size now after
-    → GaveSome most in_flow was (scalar content ∷ (due was.canonical ++ pending was.canonical in_flow opened)) kinds numbers size now after
-steps_named most in_flow was between now content due kinds numbers size opened after wrote steps =
-    subst (λ (c : Bool). GaveSome most in_flow was (scalar content ∷ (due c ++ pending c in_flow opened)) kinds numbers size now after) wrote.canonical
-    (steps_after most in_flow was between now content (due between.canonical ++ pending between.canonical in_flow opened) kinds numbers size after wrote steps)
-
--- the last table of an array is begun, behind which nothing is left
-pub due_last : (canonical in_flow : Bool) (empty last : Rest) (opened : List Rest) (keys : toml.TomlNodes) (due : List Event) → rest_kind last ≡ Mapping
-    → rest_events canonical in_flow last ≡ keys_events canonical in_flow keys ++ mapping_end ∷ []
-    → rest_events canonical in_flow empty ≡ sequence_end ∷ []
-    → mapping_start (collection_in in_flow) ∷ (keys_events canonical in_flow keys ++ mapping_end ∷ sequence_end ∷ []) ≡ due
-    → start_event in_flow (rest_kind last) ∷ (rest_events canonical in_flow last ++ pending canonical in_flow (opened ++ empty ∷ []))
-    ≡ due ++ pending canonical in_flow opened
-due_last canonical in_flow empty last opened keys due mapping lasts empties parts =
-    let all = pending canonical in_flow opened in
-    ap (λ (kind : CollectionKind). start_event in_flow kind ∷ (rest_events canonical in_flow last ++ pending canonical in_flow (opened ++ empty ∷ []))) mapping
-    ∙ ap (λ (events : List Event). mapping_start (collection_in in_flow) ∷ (rest_events canonical in_flow last ++ events))
-    (pending-push canonical in_flow opened empty)
-    ∙ ap (λ (events : List Event). mapping_start (collection_in in_flow) ∷ (rest_events canonical in_flow last ++ (events ++ all))) empties
-    ∙ ap (λ (events : List Event). mapping_start (collection_in in_flow) ∷ (events ++ (sequence_end ∷ all))) lasts
-    ∙ ap (λ (events : List Event). mapping_start (collection_in in_flow) ∷ events)
-    (append_assoc (keys_events canonical in_flow keys) (mapping_end ∷ []) (sequence_end ∷ all)
-    ∙ sym (append_assoc (keys_events canonical in_flow keys) (mapping_end ∷ sequence_end ∷ []) all))
-    ∙ ap (λ (events : List Event). events ++ all) parts
-
-module _ (most : ℕ) (in_flow : Bool) (was now : WriterState) (empty last : Rest) (opened kept after : List Rest) (is : kept ≡ opened ++ empty ∷ []) where
-  pub steps_last : (keys : toml.TomlNodes) (due : List Event) (numbers : Type 0) (size : ℕ) → rest_kind last ≡ Mapping
-      → rest_events was.canonical in_flow last ≡ keys_events was.canonical in_flow keys ++ mapping_end ∷ []
-      → rest_events was.canonical in_flow empty ≡ sequence_end ∷ []
-      → mapping_start (collection_in in_flow) ∷ (keys_events was.canonical in_flow keys ++ mapping_end ∷ sequence_end ∷ []) ≡ due
-      → (RestHasNumbers last → numbers) → 1 + (rest_size last + rest_size empty) ≤ size
-      → GaveSome most in_flow was (start_event in_flow (rest_kind last) ∷ (rest_events was.canonical in_flow last ++ pending was.canonical in_flow kept))
-      (kinds_of kept)
-      (RestHasNumbers last × PendingHaveNumbers kept) (1 + (rest_size last + pending_size kept)) now after
-      → GaveSome most in_flow was (due ++ pending was.canonical in_flow opened) (kinds_of opened ++ rest_kind empty ∷ []) (numbers × PendingHaveNumbers opened)
-      (size + pending_size opened) now after
-  steps_last keys due numbers size mapping lasts empties parts follows within steps =
-      let c = was.canonical in
-      let all = pending c in_flow opened in
-      let pushed = subst
-      (λ (open_now : List Rest). GaveSome most in_flow was (start_event in_flow (rest_kind last) ∷ (rest_events c in_flow last ++ pending c in_flow open_now))
-      (kinds_of open_now) (RestHasNumbers last × PendingHaveNumbers open_now) (1 + (rest_size last + pending_size open_now)) now after) is steps in
-      steps_same most in_flow was now (start_event in_flow (rest_kind last) ∷ (rest_events c in_flow last ++ pending c in_flow (opened ++ empty ∷ [])))
-      (due ++ all)
-      (kinds_of (opened ++ empty ∷ [])) (kinds_of opened ++ rest_kind empty ∷ []) (RestHasNumbers last × PendingHaveNumbers (opened ++ empty ∷ []))
-      (numbers × PendingHaveNumbers opened) (1 + (rest_size last + pending_size (opened ++ empty ∷ []))) (size + pending_size opened) after
-      (due_last c in_flow empty last opened keys due mapping lasts empties parts)
-      (kinds-push opened empty)
-      (λ have. let more = numbers-push opened empty have.1 in (follows have.0, more.1))
-      (omega (arith, size-push opened empty, within)) pushed
-
--- a table is begun; an array of tables is
-abbrev Entry : Type 0
-Entry = String Global × CodeNode × ℕ
-
-module _ (most : ℕ) (in_flow : Bool) (was now : WriterState) (opened after : List Rest) where
-  pub begun_table : (origin : Origin) (ms keys : List Entry) → ms ≡ keys
-      → GaveSome most in_flow was (start_event in_flow Mapping ∷ (keys_left was.canonical in_flow ms ++ pending was.canonical in_flow opened)) (kinds_of opened)
-      (KeysHaveNumbers (entries_view ms) × PendingHaveNumbers opened) (1 + (1 + keys_size (entries_view ms) + pending_size opened)) now after
-      → GaveSome most in_flow was (toml_events was.canonical in_flow (table origin (entries_view keys)) ++ pending was.canonical in_flow opened)
-      (kinds_of opened)
-      (KeysHaveNumbers (entries_view keys) × PendingHaveNumbers opened) (2 + keys_size (entries_view keys) + pending_size opened) now after
-  begun_table origin ms keys is steps =
-      subst (λ (es : List Entry). GaveSome most in_flow was
-      (toml_events was.canonical in_flow (table origin (entries_view es)) ++ pending was.canonical in_flow opened)
-      (kinds_of opened) (KeysHaveNumbers (entries_view es) × PendingHaveNumbers opened) (2 + keys_size (entries_view es) + pending_size opened) now after) is
-      (steps_same most in_flow was now (start_event in_flow Mapping ∷ (keys_left was.canonical in_flow ms ++ pending was.canonical in_flow opened))
-      (start_event in_flow Mapping ∷ (keys_left was.canonical in_flow ms ++ pending was.canonical in_flow opened)) (kinds_of opened) (kinds_of opened)
-      (KeysHaveNumbers (entries_view ms) × PendingHaveNumbers opened) (KeysHaveNumbers (entries_view ms) × PendingHaveNumbers opened)
-      (1 + (1 + keys_size (entries_view ms) + pending_size opened)) (2 + keys_size (entries_view ms) + pending_size opened) after refl refl (λ have. have)
-      (omega arith) steps)
-
-  abbrev tables_left : List CodeNode → List Entry → List Event
-  tables_left done last =
-      toml_items_events was.canonical in_flow (items_view done)
-      ++ mapping_start (collection_in in_flow) ∷ (keys_events was.canonical in_flow (entries_view last) ++ mapping_end ∷ sequence_end ∷ [])
-
-  pub begun_tables : (ds : List CodeNode) (ms : List Entry) (done : List CodeNode) (last : List Entry) → ds ≡ done → ms ≡ last
-      → GaveSome most in_flow was (start_event in_flow Sequence ∷ (tables_left ds ms ++ pending was.canonical in_flow opened)) (kinds_of opened)
-      ((ItemsHaveNumbers (items_view ds) × KeysHaveNumbers (entries_view ms)) × PendingHaveNumbers opened)
-      (1 + (4 + (items_size (items_view ds) + keys_size (entries_view ms)) + pending_size opened)) now after
-      → GaveSome most in_flow was
-      (toml_events was.canonical in_flow (toml.tables (items_view done) (entries_view last)) ++ pending was.canonical in_flow opened)
-      (kinds_of opened) ((ItemsHaveNumbers (items_view done) × KeysHaveNumbers (entries_view last)) × PendingHaveNumbers opened)
-      (5 + (items_size (items_view done) + keys_size (entries_view last)) + pending_size opened) now after
-  begun_tables ds ms done last first second steps =
-      subst (λ (es : List Entry). GaveSome most in_flow was (toml_events was.canonical in_flow (toml.tables (items_view done) (entries_view es))
-      ++ pending was.canonical in_flow opened) (kinds_of opened) ((ItemsHaveNumbers (items_view done) × KeysHaveNumbers (entries_view es)) × PendingHaveNumbers opened)
-      (5 + (items_size (items_view done) + keys_size (entries_view es)) + pending_size opened) now after) second
-      (subst (λ (xs : List CodeNode). GaveSome most in_flow was (toml_events was.canonical in_flow (toml.tables (items_view xs) (entries_view ms))
-      ++ pending was.canonical in_flow opened) (kinds_of opened) ((ItemsHaveNumbers (items_view xs) × KeysHaveNumbers (entries_view ms)) × PendingHaveNumbers opened)
-      (5 + (items_size (items_view xs) + keys_size (entries_view ms)) + pending_size opened) now after) first
-      (steps_same most in_flow was now (start_event in_flow Sequence ∷ (tables_left ds ms ++ pending was.canonical in_flow opened))
-      (start_event in_flow Sequence ∷ (tables_left ds ms ++ pending was.canonical in_flow opened)) (kinds_of opened) (kinds_of opened)
-      ((ItemsHaveNumbers (items_view ds) × KeysHaveNumbers (entries_view ms)) × PendingHaveNumbers opened)
-      ((ItemsHaveNumbers (items_view ds) × KeysHaveNumbers (entries_view ms)) × PendingHaveNumbers opened)
-      (1 + (4 + (items_size (items_view ds) + keys_size (entries_view ms)) + pending_size opened))
-      (5 + (items_size (items_view ds) + keys_size (entries_view ms)) + pending_size opened) after refl refl (λ have. have) (omega arith) steps))

@@ -2,12 +2,7 @@
 use Rattle.yaml_json.proofs.Common.{◌≡◌, ℕ, suc, zero, length, ◌≤◌, ◌∷◌, ◌++◌, [], List, Bool, Ok, refl, ap, subst, sym, ◌∙◌, append-nil, append_assoc, arith}
 use Rattle.yaml_json.proofs.Common.{Event, WriterState, Wrote}
 use Rattle.yaml_base.specs.declared.kinds.CollectionKind.{CollectionKind}
-use Rattle.std.specs.Prelude.{String}
-use Rattle.std.specs.declared.alloc.Global.{Global}
-use Rattle.yaml_json.proofs.Common.{collection_in}
-use Rattle.toml_ordered.specs.Data as toml
-use Rattle.toml_ordered.specs.Data.{entries_view}
-use Rattle.toml_ordered.specs.declared.tree.Node.{Node as CodeNode}
+use Rattle.toml_ordered.specs.Data.{TomlNodes, table}
 use Rattle.toml_ordered.specs.declared.tree.Origin.TheVariants.{Header}
 use Rattle.yaml_toml.specs.Events.{toml_events}
 use Rattle.yaml_base.proofs.Common.{sequence_start, sequence_end, mapping_start, mapping_end, open_count}
@@ -15,10 +10,14 @@ use Rattle.yaml_emitter.proofs.AcceptedLists.{Stays, after_event, few_open}
 use Rattle.yaml_json.proofs.WroteLemmas.{adds_then}
 use Rattle.yaml_toml.specs.Failing.{GaveFirst}
 use Rattle.yaml_toml.specs.OpenCounts.{Opens, count_after}
-use Rattle.yaml_toml.specs.Walk.{Moved, GaveSome, StepsStop, KeptAfterStop, PendingHaveNumbers, RestHasNumbers, keys_left, kinds_of, rest_kind, pending}
-use Rattle.yaml_toml.specs.Walk.{rest_events, HasInnermost}
+use Rattle.yaml_toml.specs.Walk.{Moved, GaveSome, StepsStop, KeptAfterStop, KeysHaveNumbers, PendingHaveNumbers, RestHasNumbers, kinds_of, rest_kind}
+use Rattle.yaml_toml.specs.Walk.{pending, rest_events, HasInnermost}
+use Rattle.yaml_toml.specs.WalkSteps.{RootStopped, StepGiven, StepStopped, value_due, walk_at}
+use Rattle.yaml_toml.specs.declared.settings.TomlSettings.{TomlSettings}
 use Rattle.yaml_toml.specs.declared.walk.Rest.{Rest}
+use Rattle.yaml_toml.specs.declared.walk.Stop.{Stop}
 use Rattle.yaml_toml.proofs.Answering.{moved_then, kept_then}
+use Rattle.yaml_toml.proofs.Fitting.{DocumentFits, nests_first, nests_never}
 use Rattle.yaml_toml.proofs.Pending.{kinds-push, pending-push}
 
 numbers-pull : (opened : List Rest) (r : Rest) → RestHasNumbers r → PendingHaveNumbers opened → PendingHaveNumbers (opened ++ r ∷ [])
@@ -56,26 +55,6 @@ pub few_of : (most behind : ℕ) (events : List Event) → Opens most 0 events b
     → open_count prefix ≤ most
 few_of most behind events opens prefix rest is = few_open most events prefix rest (stays_if most 0 behind events opens) is
 
--- a walk that stopped at its start
-pub stopped_first : (most : ℕ) (due : List Event) (start now : WriterState) → StepsStop most start due [] now → GaveFirst most due start now
-stopped_first most due start now stop =
-    let few = stop.few (omega arith) in
-    record { given = stop.given; begins = stop.begins; few = few_of most few.0 stop.given few.1; adds = stop.adds }
-
--- a document that wasn't begun, or no more than that
-pub stopped_at_root : (most : ℕ) (in_flow : Bool) (start now : WriterState) (ms keys : List (String Global × CodeNode × ℕ)) (opened : List Rest) → opened ≡ []
-    → ms ≡ keys
-    → StepsStop most start (mapping_start (collection_in in_flow) ∷ (keys_left start.canonical in_flow ms ++ pending start.canonical in_flow opened))
-    (kinds_of opened) now
-    → GaveFirst most (toml_events start.canonical in_flow (toml.table Header (entries_view keys))) start now
-stopped_at_root most in_flow start now ms keys opened none same stop =
-    let c = start.canonical in
-    let begins = mapping_start (collection_in in_flow) in
-    let empty = subst (λ (o : List Rest). StepsStop most start (begins ∷ (keys_left c in_flow ms ++ pending c in_flow o)) (kinds_of o) now) none stop in
-    let alone = subst (λ (events : List Event). StepsStop most start (begins ∷ events) [] now) (append-nil (keys_left c in_flow ms)) empty in
-    stopped_first most (toml_events c in_flow (toml.table Header (entries_view keys))) start now
-    (subst (λ (es : List (String Global × CodeNode × ℕ)). StepsStop most start (begins ∷ keys_left c in_flow es) [] now) same alone)
-
 -- ---- the walk so far
 
 pub record Running (most : ℕ) (in_flow : Bool) (start : WriterState) (all : List Event) (numbers : Type 0) (now : WriterState) (opened : List Rest) : Type 0 where
@@ -86,11 +65,35 @@ pub record Running (most : ℕ) (in_flow : Bool) (start : WriterState) (all : Li
   pub kept : KeptAfterStop start (Ok tt) now
   pub few : Opens most 0 given (length (kinds_of opened))
 
-pub runs_first : (most : ℕ) (in_flow : Bool) (start now : WriterState) (all : List Event) (numbers : Type 0) (size : ℕ) (opened : List Rest)
-    → GaveSome most in_flow start all [] numbers size now opened
-    → KeptAfterStop start (Ok tt) now → Running most in_flow start all numbers now opened
-runs_first most in_flow start now all numbers size opened steps kept =
-    record { given = steps.given; moved = steps.moved; parts = steps.parts; numbers_in = steps.numbers_in; kept = kept; few = steps.few (omega arith) }
+-- its root table was begun
+module _ (settings : TomlSettings) (start now : WriterState) (root : TomlNodes) (after : List Rest) where
+  abbrev pub root_due : List Event
+  root_due = toml_events start.canonical settings.flow (table Header root)
+
+  pub runs_first : StepGiven settings (value_due (table Header root)) (walk_at start []) (walk_at now after)
+      → DocumentFits settings.depth root after × Running settings.depth settings.flow start root_due (KeysHaveNumbers root) now after
+  runs_first step = (nests_first settings.depth root after step.nests, record {
+    given = step.written.given;
+    moved = step.written.moved;
+    parts = step.written.parts ∙ append-nil root_due;
+    numbers_in = λ have. (step.written.numbers_in have).0;
+    kept = step.kept;
+    few = step.written.few (omega arith);
+  })
+
+  -- or not
+  pub stopped_first : (stopped : Stop) → StepStopped settings (value_due (table Header root)) (walk_at start []) stopped (walk_at now after)
+      → RootStopped settings root start stopped now
+  stopped_first stopped step =
+      let stops = subst (λ (events : List Event). StepsStop settings.depth start events [] now) (append-nil root_due) step.stopped in
+      let few = stops.few (omega arith) in
+      record {
+        nests = nests_never settings.depth root stopped after step.nests;
+        stopped = record {
+          given = stops.given; begins = stops.begins; few = few_of settings.depth few.0 stops.given few.1; adds = stops.adds
+        };
+        kept = step.kept;
+      }
 
 module _ (most : ℕ) (in_flow : Bool) (start between now : WriterState) (all : List Event) (numbers : Type 0) (left after : List Rest) (r : Rest)
     (so : Running most in_flow start all numbers between (left ++ r ∷ [])) where

@@ -31,12 +31,3 @@ node_view-Boolean flag = search (rules, the_lemmas)
 
 pub node_view-Datetime : (d : DatetimeValue) → node_view (Datetime d) ≡ toml.datetime d
 node_view-Datetime d = search (rules, the_lemmas)
-
--- a step of a value, by what the value stands for
-pub steps_seen : (most : ℕ) (in_flow : Bool) (was now : WriterState) (x y : toml.TomlNode) (rest : List Event) (kinds : List CollectionKind) (P : Type 0)
-    (size : ℕ) (opened : List Rest)
-    → x ≡ y → GaveSome most in_flow was (toml_events was.canonical in_flow y ++ rest) kinds (HasNumbers y × P) (node_size y + size) now opened
-    → GaveSome most in_flow was (toml_events was.canonical in_flow x ++ rest) kinds (HasNumbers x × P) (node_size x + size) now opened
-steps_seen most in_flow was now x y rest kinds P size opened is =
-    subst (λ (z : toml.TomlNode). GaveSome most in_flow was (toml_events was.canonical in_flow z ++ rest) kinds (HasNumbers z × P)
-    (node_size z + size) now opened) (sym is)

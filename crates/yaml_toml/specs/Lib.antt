@@ -7,3 +7,4 @@ pub mod OpenCounts
 pub mod Places
 pub mod Several
 pub mod Walk
+pub mod WalkSteps

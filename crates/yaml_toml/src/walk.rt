@@ -1,20 +1,16 @@
 //! A walk over a document, depth first, from its tree to a writer. What is left of each array and table that is open stands in a
 //! list.
-ghost use Rattle.std.specs.Prelude.{◌≡◌, suc, ◌+◌, List, [], ◌∷◌, ◌++◌, IfErr, MatchOption, OnErr, OnOk};
-ghost use Rattle.yaml_toml.specs.Depth.{items_nesting, keys_nesting, toml_nesting};
-ghost use Rattle.yaml_toml.specs.Failing.{GaveFirst};
-ghost use Rattle.yaml_toml.specs.Fitting.{FitsAfter, NestsAfter, NodeFits, RestFits, rest_nesting};
-ghost use Rattle.toml_ordered.specs.Data.{entries_view, items_view, node_view, table};
-ghost use Rattle.toml_ordered.specs.declared.tree.Origin.TheVariants.{Header};
+ghost use Rattle.std.specs.Prelude.{◌≡◌, List, [], ◌∷◌, ◌++◌, IfErr, MatchOption, OnOk};
+ghost use Rattle.toml_ordered.specs.Data.{entries_view, node_view};
 ghost use Rattle.yaml_base.specs.declared.kinds.CollectionKind.TheVariants.{Mapping, Sequence};
 ghost use Rattle.yaml_base.specs.Seen.{seen_mapping_style, seen_sequence_style};
 ghost use Rattle.yaml_base.specs.declared.kinds.CollectionKind.{CollectionKind};
 ghost use Rattle.yaml_writer.specs.Contents.{style_of};
-ghost use Rattle.yaml_json.specs.Wrote.{IsBare, Wrote, start_event};
-ghost use Rattle.yaml_toml.specs.Events.{infinite, toml_events};
-ghost use Rattle.yaml_toml.specs.Walk.{Answers, HasInnermost, HasNumbers, IsOwnMemory, IsStopOf, ItemsHaveNumbers, KeptAfterStop, KeysHaveNumbers, Moved};
-ghost use Rattle.yaml_toml.specs.Walk.{PendingHaveNumbers, RestHasNumbers, GaveSome, StepsStop, items_left, keys_left, items_size, keys_size, rest_kind};
-ghost use Rattle.yaml_toml.specs.Walk.{kinds_of, node_size, pending, pending_size, rest_events, rest_size};
+ghost use Rattle.yaml_json.specs.Wrote.{IsBare, start_event};
+ghost use Rattle.yaml_toml.specs.Events.{infinite};
+ghost use Rattle.yaml_toml.specs.Walk.{Answers, HasInnermost, IsOwnMemory, IsStopOf, Moved, kinds_of, rest_kind};
+ghost use Rattle.yaml_toml.specs.WalkSteps.{RootStep, TomlStep, collection_due, rest_due, value_due, walk_at};
+ghost use Rattle.yaml_toml.specs.declared.walk.Rest.TheVariants as rests;
 ghost use Rattle.yaml_writer.specs.Writing.{end_event};
 
 use crate::scalars::{
@@ -141,17 +137,7 @@ fn enter<'a, A: Allocator + Copy>(
     settings: &TomlSettings,
 ) -> Result<(), Stop>
     requires { IsBare writer.old }
-    ensures entered { OnOk result (GaveSome settings.now.depth settings.now.flow writer.old
-        (start_event settings.now.flow (rest_kind rest.entry) ∷ (rest_events writer.old.canonical settings.now.flow rest.entry
-        ++ pending writer.old.canonical settings.now.flow opened.old.items))
-        (kinds_of opened.old.items) (RestHasNumbers rest.entry × PendingHaveNumbers opened.old.items)
-        (1 + (rest_size rest.entry + pending_size opened.old.items)) writer.new opened.new.items) }
-    ensures nests { FitsAfter settings.now.depth (NodeFits settings.now.depth (suc (rest_nesting rest.entry)) opened.old.items) result opened.new.items }
-    ensures stopped { OnErr result (StepsStop settings.now.depth writer.old
-        (start_event settings.now.flow (rest_kind rest.entry) ∷ (rest_events writer.old.canonical settings.now.flow rest.entry
-        ++ pending writer.old.canonical settings.now.flow opened.old.items))
-        (kinds_of opened.old.items) writer.new) }
-    ensures kept { KeptAfterStop writer.old result writer.new }
+    ensures { TomlStep settings.now (collection_due rest.entry) (walk_at writer.old opened.old.items) result (walk_at writer.new opened.new.items) }
 {
     if opened.len() >= settings.depth {
         return Err(Stop::TooDeep);
@@ -171,15 +157,7 @@ fn write_node<'a, A: Allocator + Copy>(
     settings: &TomlSettings,
 ) -> Result<(), Stop>
     requires { IsBare writer.old }
-    ensures written { OnOk result (GaveSome settings.now.depth settings.now.flow writer.old
-        (toml_events writer.old.canonical settings.now.flow (node_view node.now) ++ pending writer.old.canonical settings.now.flow opened.old.items)
-        (kinds_of opened.old.items) (HasNumbers (node_view node.now) × PendingHaveNumbers opened.old.items)
-        (node_size (node_view node.now) + pending_size opened.old.items) writer.new opened.new.items) }
-    ensures nests { FitsAfter settings.now.depth (NodeFits settings.now.depth (toml_nesting (node_view node.now)) opened.old.items) result opened.new.items }
-    ensures stopped { OnErr result (StepsStop settings.now.depth writer.old
-        (toml_events writer.old.canonical settings.now.flow (node_view node.now) ++ pending writer.old.canonical settings.now.flow opened.old.items)
-        (kinds_of opened.old.items) writer.new) }
-    ensures kept { KeptAfterStop writer.old result writer.new }
+    ensures { TomlStep settings.now (value_due (node_view node.now)) (walk_at writer.old opened.old.items) result (walk_at writer.new opened.new.items) }
 {
     match node {
         Node::Text(text) => stop_of(write_text(writer, text.as_str())),
@@ -218,15 +196,7 @@ fn write_rest<'a, A: Allocator + Copy>(
 ) -> Result<(), Stop>
     requires bare { IsBare writer.old }
     requires innermost { HasInnermost writer.old (kinds_of opened.old.items) (rest_kind rest) }
-    ensures written { OnOk result (GaveSome settings.now.depth settings.now.flow writer.old
-        (rest_events writer.old.canonical settings.now.flow rest.entry ++ pending writer.old.canonical settings.now.flow opened.old.items)
-        (kinds_of opened.old.items ++ rest_kind rest.entry ∷ []) (RestHasNumbers rest.entry × PendingHaveNumbers opened.old.items)
-        (rest_size rest.entry + pending_size opened.old.items) writer.new opened.new.items) }
-    ensures nests { FitsAfter settings.now.depth (RestFits settings.now.depth (rest_nesting rest.entry) opened.old.items) result opened.new.items }
-    ensures stopped { OnErr result (StepsStop settings.now.depth writer.old
-        (rest_events writer.old.canonical settings.now.flow rest.entry ++ pending writer.old.canonical settings.now.flow opened.old.items)
-        (kinds_of opened.old.items ++ rest_kind rest.entry ∷ []) writer.new) }
-    ensures kept { KeptAfterStop writer.old result writer.new }
+    ensures { TomlStep settings.now (rest_due rest.entry) (walk_at writer.old opened.old.items) result (walk_at writer.new opened.new.items) }
 {
     match rest {
         Rest::Items(items) => write_item(alloc, writer, opened, items, settings),
@@ -258,16 +228,7 @@ fn write_item<'a, A: Allocator + Copy>(
 ) -> Result<(), Stop>
     requires bare { IsBare writer.old }
     requires innermost { HasInnermost writer.old (kinds_of opened.old.items) Sequence }
-    ensures written { OnOk result (GaveSome settings.now.depth settings.now.flow writer.old
-        (items_left writer.old.canonical settings.now.flow items.now ++ pending writer.old.canonical settings.now.flow opened.old.items)
-        (kinds_of opened.old.items ++ Sequence ∷ []) (ItemsHaveNumbers (items_view items.now) × PendingHaveNumbers opened.old.items)
-        (1 + items_size (items_view items.now) + pending_size opened.old.items) writer.new opened.new.items) }
-    ensures nests { FitsAfter settings.now.depth (RestFits settings.now.depth (items_nesting (items_view items.now)) opened.old.items) result
-        opened.new.items }
-    ensures stopped { OnErr result (StepsStop settings.now.depth writer.old
-        (items_left writer.old.canonical settings.now.flow items.now ++ pending writer.old.canonical settings.now.flow opened.old.items)
-        (kinds_of opened.old.items ++ Sequence ∷ []) writer.new) }
-    ensures kept { KeptAfterStop writer.old result writer.new }
+    ensures { TomlStep settings.now (rest_due (rests.Items items.entry)) (walk_at writer.old opened.old.items) result (walk_at writer.new opened.new.items) }
 {
     match items.split_first() {
         None => stop_of(end_innermost(writer)),
@@ -290,16 +251,7 @@ fn write_member<'a, A: Allocator + Copy>(
 ) -> Result<(), Stop>
     requires bare { IsBare writer.old }
     requires innermost { HasInnermost writer.old (kinds_of opened.old.items) Mapping }
-    ensures written { OnOk result (GaveSome settings.now.depth settings.now.flow writer.old
-        (keys_left writer.old.canonical settings.now.flow keys.now ++ pending writer.old.canonical settings.now.flow opened.old.items)
-        (kinds_of opened.old.items ++ Mapping ∷ []) (KeysHaveNumbers (entries_view keys.now) × PendingHaveNumbers opened.old.items)
-        (1 + keys_size (entries_view keys.now) + pending_size opened.old.items) writer.new opened.new.items) }
-    ensures nests { FitsAfter settings.now.depth (RestFits settings.now.depth (keys_nesting (entries_view keys.now)) opened.old.items) result
-        opened.new.items }
-    ensures stopped { OnErr result (StepsStop settings.now.depth writer.old
-        (keys_left writer.old.canonical settings.now.flow keys.now ++ pending writer.old.canonical settings.now.flow opened.old.items)
-        (kinds_of opened.old.items ++ Mapping ∷ []) writer.new) }
-    ensures kept { KeptAfterStop writer.old result writer.new }
+    ensures { TomlStep settings.now (rest_due (rests.Members keys.entry)) (walk_at writer.old opened.old.items) result (walk_at writer.new opened.new.items) }
 {
     match keys.split_first() {
         None => stop_of(end_innermost(writer)),
@@ -323,13 +275,7 @@ pub(crate) fn write_root<A: Allocator + Copy>(
     settings: &TomlSettings,
 ) -> Result<(), Stop>
     requires { IsBare writer.old }
-    ensures written { OnOk result (Wrote writer.old (toml_events writer.old.canonical settings.now.flow (table Header (entries_view root.now.items)))
-        writer.new) }
-    ensures numbers { OnOk result (KeysHaveNumbers (entries_view root.now.items)) }
-    ensures nests { NestsAfter settings.now.depth (entries_view root.now.items) result }
-    ensures stopped { OnErr result (GaveFirst settings.now.depth
-        (toml_events writer.old.canonical settings.now.flow (table Header (entries_view root.now.items))) writer.old writer.new) }
-    ensures kept { KeptAfterStop writer.old result writer.new }
+    ensures { RootStep settings.now (entries_view root.now.items) writer.old result writer.new }
 {
     let mut opened: Vec<Rest<'_>> = Vec::new(alloc);
     if let Err(stop) = enter(

@@ -1,13 +1,50 @@
-use Rattle.yaml_json.proofs.Common.{List, Event, subst, ap, arith}
-use Rattle.toml_ordered.specs.Data.{entries_view, table}
+use Rattle.yaml_json.proofs.Common.{◌≡◌, ◌∷◌, ◌+◌, [], ℕ, List, Result, Ok, Err, Event, WriterState, subst, ap, sym, arith}
+use Rattle.std.specs.Prelude.{String}
+use Rattle.std.specs.declared.alloc.Global.{Global}
+use Rattle.toml_ordered.specs.Data.{TomlNodes, entries_view, table}
+use Rattle.toml_ordered.specs.declared.tree.Node.{Node as CodeNode}
 use Rattle.toml_ordered.specs.declared.tree.Origin.TheVariants.{Header}
 use Rattle.yaml_toml.specs.Events.{toml_events}
-use Rattle.yaml_toml.specs.Walk.{KeysHaveNumbers, pending_size}
+use Rattle.yaml_toml.specs.Walk.{KeysHaveNumbers, pending_size, rest_size}
+use Rattle.yaml_toml.specs.WalkSteps.{TomlStep, collection_due, value_due, walk_at}
+use Rattle.yaml_toml.specs.declared.settings.TomlSettings.{TomlSettings}
 use Rattle.yaml_toml.specs.declared.walk.Rest.{Rest}
+use Rattle.yaml_toml.specs.declared.walk.Rest.TheVariants as rest
+use Rattle.yaml_toml.specs.declared.walk.Stop.{Stop}
+use Rattle.yaml_toml.proofs.Answering.{kept_then}
 use Rattle.yaml_toml.proofs.Pending.{size-push}
 use Rattle.yaml_toml.proofs.Fitting.{DocumentFits, nests_on, nests_stopped}
-use Rattle.yaml_toml.proofs.Running.{Running, innermost, runs_on, runs_out, runs_stopped, stopped_at_root}
+use Rattle.yaml_toml.proofs.Running.{Running, innermost, runs_first, runs_on, runs_out, runs_stopped, stopped_first}
+use Rattle.yaml_toml.proofs.Stepping.{step_begun, value_of}
 use Rattle.yaml_toml.proofs.walk.write_root.Goals as goal
+
+abbrev Entry : Type 0
+Entry = String Global × CodeNode × ℕ
+
+-- the root table is begun
+first_step : (settings : TomlSettings) (start now : WriterState) (root : TomlNodes) (r : Rest) (opened after : List Rest) (result : Result (Unit {0}) Stop)
+    → opened ≡ [] → table Header root ≡ value_of Header r → TomlStep settings (collection_due r) (walk_at start opened) result (walk_at now after)
+    → TomlStep settings (value_due (table Header root)) (walk_at start []) result (walk_at now after)
+first_step settings start now root r opened after result none seen step =
+    step_begun settings start now Header r (table Header root) [] after result seen
+    (subst (λ (o : List Rest). TomlStep settings (collection_due r) (walk_at start o) result (walk_at now after)) none step)
+
+pub rests-init : goal.rests-init
+rests-init g c =
+    let root = entries_view c.args.root.now.items in
+    runs_first c.args.settings.now c.args.writer.now c.enter.new.writer root c.enter.new.opened.items
+    (first_step c.args.settings.now c.args.writer.now c.enter.new.writer root (rest.Members c.as_slice.result) c.new-opened.result.items
+    c.enter.new.opened.items (Ok tt) c.new-opened.ensures.items
+    (ap (λ (ms : List Entry). table Header (entries_view ms)) (sym c.as_slice.ensures.value)) c.in_default.ensures)
+
+pub returns-in-Err : goal.returns-in-Err
+returns-in-Err g c =
+    let root = entries_view c.args.root.now.items in
+    let stopped = c.in-Err.stop in
+    stopped_first c.args.settings.now c.args.writer.now c.enter.new.writer root c.enter.new.opened.items stopped
+    (first_step c.args.settings.now c.args.writer.now c.enter.new.writer root (rest.Members c.as_slice.result) c.new-opened.result.items
+    c.enter.new.opened.items (Err stopped) c.new-opened.ensures.items
+    (ap (λ (ms : List Entry). table Header (entries_view ms)) (sym c.as_slice.ensures.value)) c.in-Err.ensures)
 
 pub write_rest-requires-clause-innermost : goal.write_rest-requires-clause-innermost
 write_rest-requires-clause-innermost g c =
@@ -34,47 +71,46 @@ rests-preserved g c =
     let so = subst (λ (opened : List Rest). Running c.args.settings.now.depth flow start all numbers c.rests.writer opened) c.in-Some.ensures c.rests.invariant.1 in
     let depth = c.args.settings.now.depth in
     let root = entries_view c.args.root.now.items in
+    let step = c.in_default-write_rest.ensures in
     let fits = subst (λ (opened : List Rest). DocumentFits depth root opened) c.in-Some.ensures c.rests.invariant.0 in (
-      nests_on depth root left c.write_rest.new.opened.items c.in-Some.rest fits c.in_default-write_rest.ensures.nests,
-      runs_on depth flow start c.rests.writer c.write_rest.new.writer all numbers left c.write_rest.new.opened.items c.in-Some.rest so _
-          c.in_default-write_rest.ensures.written c.in_default-write_rest.ensures.kept,
+      nests_on depth root left c.write_rest.new.opened.items c.in-Some.rest fits step.nests,
+      runs_on depth flow start c.rests.writer c.write_rest.new.writer all numbers left c.write_rest.new.opened.items c.in-Some.rest so
+          (rest_size c.in-Some.rest + pending_size left) step.written step.kept,
     )
 
-pub returns-clause-written : goal.returns-clause-written
-returns-clause-written g c =
-    let start = c.args.writer.now in
-    let flow = c.args.settings.now.flow in
-    let all : List Event = toml_events start.canonical flow (table Header (entries_view c.args.root.now.items)) in
-    let numbers : Type 0 = KeysHaveNumbers (entries_view c.args.root.now.items) in
-    runs_out c.args.settings.now.depth flow start c.rests.writer all numbers
-    (subst (λ (opened : List Rest). Running c.args.settings.now.depth flow start all numbers c.rests.writer opened) c.in_default-take_innermost.ensures.0 c.rests.invariant.1)
-
-pub returns-clause-nests : goal.returns-clause-nests
-returns-clause-nests g c =
-    let depth = c.args.settings.now.depth in
-    let root = entries_view c.args.root.now.items in
-    (subst (λ (opened : List Rest). DocumentFits depth root opened) c.in_default-take_innermost.ensures.0 c.rests.invariant.0).0 tt
-
-pub returns-in-Err-clause-stopped : goal.returns-in-Err-clause-stopped
-returns-in-Err-clause-stopped g c =
-    stopped_at_root c.args.settings.now.depth c.args.settings.now.flow c.args.writer.now c.enter.new.writer c.as_slice.result.now c.args.root.now.items
-    c.new-opened.result.items c.new-opened.ensures.items c.as_slice.ensures.value c.in-Err.ensures.stopped
-
-pub returns-in-Err-write_rest-clause-nests : goal.returns-in-Err-write_rest-clause-nests
-returns-in-Err-write_rest-clause-nests g c =
-    let depth = c.args.settings.now.depth in
-    let root = entries_view c.args.root.now.items in
-    let fits = subst (λ (opened : List Rest). DocumentFits depth root opened) c.in-Some.ensures c.rests.invariant.0 in
-    nests_stopped depth root c.take_innermost.new.opened.items c.write_rest.new.opened.items c.in-Some.rest fits c.in-Err-write_rest.stop
-    c.in-Err-write_rest.ensures.nests
-
-pub returns-in-Err-write_rest-clause-stopped : goal.returns-in-Err-write_rest-clause-stopped
-returns-in-Err-write_rest-clause-stopped g c =
+pub returns : goal.returns
+returns g c =
     let start = c.args.writer.now in
     let flow = c.args.settings.now.flow in
     let depth = c.args.settings.now.depth in
-    let all : List Event = toml_events start.canonical flow (table Header (entries_view c.args.root.now.items)) in
-    let numbers : Type 0 = KeysHaveNumbers (entries_view c.args.root.now.items) in
+    let root = entries_view c.args.root.now.items in
+    let all : List Event = toml_events start.canonical flow (table Header root) in
+    let numbers : Type 0 = KeysHaveNumbers root in
+    let none = c.in_default-take_innermost.ensures.0 in
+    let so = subst (λ (opened : List Rest). Running depth flow start all numbers c.rests.writer opened) none c.rests.invariant.1 in
+    record {
+      written = runs_out depth flow start c.rests.writer all numbers so;
+      numbers = so.numbers_in tt;
+      nests = (subst (λ (opened : List Rest). DocumentFits depth root opened) none c.rests.invariant.0).0 tt;
+      kept = so.kept;
+    }
+
+pub returns-in-Err-write_rest : goal.returns-in-Err-write_rest
+returns-in-Err-write_rest g c =
+    let start = c.args.writer.now in
+    let flow = c.args.settings.now.flow in
+    let depth = c.args.settings.now.depth in
+    let root = entries_view c.args.root.now.items in
+    let all : List Event = toml_events start.canonical flow (table Header root) in
+    let numbers : Type 0 = KeysHaveNumbers root in
     let left = c.take_innermost.new.opened.items in
+    let now = c.write_rest.new.writer in
+    let stopped = c.in-Err-write_rest.stop in
+    let step = c.in-Err-write_rest.ensures in
     let so = subst (λ (opened : List Rest). Running depth flow start all numbers c.rests.writer opened) c.in-Some.ensures c.rests.invariant.1 in
-    runs_stopped depth flow start c.rests.writer c.write_rest.new.writer all numbers left left c.in-Some.rest so c.in-Err-write_rest.ensures.stopped
+    let fits = subst (λ (opened : List Rest). DocumentFits depth root opened) c.in-Some.ensures c.rests.invariant.0 in
+    record {
+      nests = nests_stopped depth root left c.write_rest.new.opened.items c.in-Some.rest fits stopped step.nests;
+      stopped = runs_stopped depth flow start c.rests.writer now all numbers left left c.in-Some.rest so step.stopped;
+      kept = kept_then start c.rests.writer now (Err stopped) so.kept step.kept;
+    }
