@@ -1,13 +1,11 @@
 -- What a call of `yaml_toml` returned is a right answer.
-use Rattle.yaml_c.proofs.Common.{ℕ, Bool, List, Settings}
+use Rattle.yaml_c.proofs.Common.{ℕ, List, seen_settings}
 use Rattle.std.specs.Prelude.{IsUtf8}
-use Rattle.std.proofs.Common.{Err, Ok, Result, Vec, IfOk, IfErr, None, ◌≡◌}
-use Rattle.toml_ordered.specs.Grammar.{ordered_document}
-use Rattle.yaml_toml.specs.{Means.IsYamlOfToml, Walk.DeniesToml, declared.error.TomlError.TomlError}
+use Rattle.std.proofs.Common.{Err, Ok, Result, Vec}
+use Rattle.yaml_toml.specs.{WritingCalls.ReturnsTomlYaml, declared.error.TomlError.TomlError, declared.settings.TomlSettings.TomlSettings}
 use Rattle.yaml_c.specs.TomlAnswers.{IsTomlAnswer, toml_answer_of}
 
-pub right_toml : {A : Type 0} (given : Settings) (flow : Bool) (text : List ℕ) (result : Result (Vec ℕ A) TomlError) → IsUtf8 text
-    → IfOk result (λ bytes. IsYamlOfToml given flow text bytes.items) → IfErr result (λ error. DeniesToml error → ordered_document text ≡ None)
-    → IsTomlAnswer given flow text (toml_answer_of result)
-right_toml given flow text (Ok bytes) utf8 stream refused = (utf8, stream)
-right_toml given flow text (Err error) utf8 stream refused = (utf8, refused)
+pub right_toml : {A : Type 0} (settings : TomlSettings) (text : List ℕ) (result : Result (Vec ℕ A) TomlError) → IsUtf8 text
+    → ReturnsTomlYaml settings text result → IsTomlAnswer (seen_settings settings.writer) settings.flow text (toml_answer_of result)
+right_toml settings text (Ok bytes) utf8 returned = (utf8, returned.stream)
+right_toml settings text (Err error) utf8 returned = (utf8, returned.refused)

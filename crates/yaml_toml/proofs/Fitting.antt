@@ -3,12 +3,12 @@ use Rattle.yaml_json.proofs.Common.{◌≡◌, ℕ, suc, ◌+◌, ◌-◌, ◌<�
 use Rattle.yaml_json.proofs.Common.{sym, ◌∙◌, length, length-append, cases_lt, inl, inr}
 use Rattle.std.specs.Prelude.{◌↔◌, max}
 use Rattle.yaml_base.specs.declared.errors.{yaml_error_t.yaml_error_t}
-use Rattle.toml_ordered.specs.Data.{TomlNode, TomlNodes}
+use Rattle.toml_ordered.specs.Data.{TomlNodes}
 use Rattle.toml_ordered.specs.Grammar.{ordered_document}
 use Rattle.toml_ordered.specs.Places.{place_left}
 use Rattle.toml_ordered.specs.declared.fault.Fault.{Fault}
 use Rattle.toml_ordered.specs.declared.fault.Fault.TheVariants as fault
-use Rattle.yaml_toml.specs.Depth.{ExplainsDepth, document_nesting, toml_nesting}
+use Rattle.yaml_toml.specs.Depth.{ExplainsDepth, document_nesting}
 use Rattle.yaml_toml.specs.Fitting.{FitsAfter, NestsAfter, NodeFits, PendingFits, RestFits, rest_nesting}
 use Rattle.yaml_toml.specs.Places.{IsBeforeLeft}
 use Rattle.yaml_toml.specs.Walk.{IsOwnMemory, IsStopOf, fault_error, stop_error, toml_writers_error}

@@ -1,5 +1,5 @@
 -- What was given where a walk stops.
-use Rattle.yaml_json.proofs.Common.{◌≡◌, ℕ, suc, ◌≤◌, arith, ◌∷◌, ◌++◌, [], List, Bool, Result, Ok, Err, inl, inr, refl, ap, subst, sym, ◌∙◌, append-nil}
+use Rattle.yaml_json.proofs.Common.{◌≡◌, ℕ, suc, ◌≤◌, arith, ◌∷◌, [], List, Result, Ok, Err, inl, inr, refl, ap, subst, sym, append-nil}
 use Rattle.yaml_json.proofs.Common.{length}
 use Rattle.std.specs.Prelude.{OnErr, pred, zero}
 use Rattle.yaml_json.proofs.Common.{Event, Scalar, scalar, WriterState, WroteEvent, StandsTaken, FailedGiving}

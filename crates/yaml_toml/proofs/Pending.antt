@@ -3,19 +3,16 @@ use Rattle.yaml_json.proofs.Common.{◌≡◌, ℕ, suc, length, length-append, 
 use Rattle.yaml_json.proofs.Common.{append-nil, append_assoc}
 use Rattle.std.specs.Prelude.{String, string_bytes}
 use Rattle.std.specs.declared.alloc.Global.{Global}
-use Rattle.yaml_json.proofs.Common.{Event, WriterState, WroteEvent, start_event, scalar, text_content, chars, sequence_end, mapping_end, mapping_start}
-use Rattle.yaml_json.proofs.Common.{collection_in}
+use Rattle.yaml_json.proofs.Common.{Event, WriterState, WroteEvent, start_event, scalar, text_content, chars, sequence_end, mapping_end}
 use Rattle.yaml_base.specs.declared.kinds.CollectionKind.{CollectionKind}
 use Rattle.yaml_base.specs.declared.kinds.CollectionKind.TheVariants.{Mapping, Sequence}
-use Rattle.toml_ordered.specs.Data as toml
-use Rattle.toml_ordered.specs.Data.{TomlNode, items_view, entries_view, node_view, table}
+use Rattle.toml_ordered.specs.Data.{items_view, entries_view, node_view}
 use Rattle.toml_ordered.specs.declared.tree.Node.{Node as CodeNode}
-use Rattle.toml_ordered.specs.declared.tree.Origin.{Origin}
 use Rattle.std.proofs.lemmas.List.{length-map}
 use Rattle.yaml_toml.specs.Events.{toml_events, toml_items_events, keys_events}
 use Rattle.yaml_toml.specs.OpenCounts.{Opens, count_after}
-use Rattle.yaml_toml.specs.Walk.{Moved, GaveSome, HasNumbers, ItemsHaveNumbers, KeysHaveNumbers, PendingHaveNumbers, RestHasNumbers, items_left, keys_left}
-use Rattle.yaml_toml.specs.Walk.{rest_kind, kinds_of, pending, rest_events, rest_size, pending_size, node_size, items_size, keys_size}
+use Rattle.yaml_toml.specs.Walk.{Moved, GaveSome, PendingHaveNumbers, RestHasNumbers, items_left, keys_left}
+use Rattle.yaml_toml.specs.Walk.{rest_kind, kinds_of, pending, rest_events, rest_size, pending_size}
 use Rattle.yaml_toml.specs.declared.walk.Rest.{Rest}
 use Rattle.yaml_toml.proofs.Answering.{moved_event, moved_within, moved_then}
 

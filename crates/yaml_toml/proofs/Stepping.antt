@@ -1,19 +1,16 @@
 -- The calls of a walk over a document, from what the calls of its writer and of its list do.
-use Rattle.yaml_json.proofs.Common.{◌≡◌, ℕ, suc, length, ◌+◌, ◌-◌, ◌<◌, ◌≤◌, arith, ◌∷◌, ◌++◌, [], List, Bool, Result, Ok, Err, OnOk, refl, ap, subst, sym, ◌∙◌}
-use Rattle.yaml_json.proofs.Common.{append_assoc, Event, Scalar, scalar, WriterState, WroteEvent, start_event, end_event, collection_in, mapping_start}
-use Rattle.yaml_json.proofs.Common.{mapping_end, sequence_end, text_content, chars}
-use Rattle.std.specs.Prelude.{◌↔◌, String, max, pred, string_bytes}
-use Rattle.std.specs.declared.alloc.Global.{Global}
+use Rattle.yaml_json.proofs.Common.{◌≡◌, ℕ, suc, length, ◌+◌, ◌<◌, ◌≤◌, arith, ◌∷◌, ◌++◌, [], List, Bool, Result, Ok, Err, OnOk, refl, ap, subst, sym, ◌∙◌}
+use Rattle.yaml_json.proofs.Common.{append_assoc, Event, Scalar, scalar, WriterState, WroteEvent, start_event, end_event}
+use Rattle.std.specs.Prelude.{◌↔◌, max, pred}
 use Rattle.toml_ordered.specs.Data as toml
 use Rattle.toml_ordered.specs.Data.{TomlNode, items_view, entries_view, node_view}
-use Rattle.toml_ordered.specs.declared.tree.Node.{Node as CodeNode}
 use Rattle.toml_ordered.specs.declared.tree.Origin.{Origin}
 use Rattle.yaml_base.specs.declared.errors.yaml_error_t.{yaml_error_t}
 use Rattle.yaml_base.specs.declared.kinds.CollectionKind.{CollectionKind}
 use Rattle.yaml_base.specs.declared.kinds.CollectionKind.TheVariants.{Mapping, Sequence}
-use Rattle.yaml_json.proofs.WroteLemmas.{adds_then, on_ok}
+use Rattle.yaml_json.proofs.WroteLemmas.{on_ok}
 use Rattle.yaml_toml.specs.Depth.{toml_nesting}
-use Rattle.yaml_toml.specs.Events.{toml_events, keys_events}
+use Rattle.yaml_toml.specs.Events.{toml_events}
 use Rattle.yaml_toml.specs.Fitting.{NodeFits, PendingFits, RestFits, rest_nesting}
 use Rattle.yaml_toml.specs.OpenCounts.{count_after}
 use Rattle.yaml_toml.specs.Walk.{Answers, GaveSome, HasNumbers, IsOwnMemory, IsStopOf, Moved, PendingHaveNumbers, RestHasNumbers, kinds_of, node_size, pending}

@@ -1,15 +1,10 @@
 -- A value of the reader beside what it stands for, and a step seen so.
-use Rattle.yaml_json.proofs.Common.{◌≡◌, ◌+◌, ◌++◌, List, Bool, sym, subst}
-use Rattle.std.proofs.Common.{ℕ, ℤ, String, Global, string_bytes, rules}
+use Rattle.yaml_json.proofs.Common.{◌≡◌, Bool}
+use Rattle.std.proofs.Common.{ℤ, String, Global, string_bytes, rules}
 use Rattle.toml_datetime.specs.declared.datetime.Datetime.{Datetime as DatetimeValue}
 use Rattle.toml_ordered.specs.Data as toml
 use Rattle.toml_ordered.specs.Data.{node_view}
 use Rattle.toml_ordered.specs.declared.tree.Node.{Text, Integer, Decimal, Infinity, NotANumber, Boolean, Datetime, the_lemmas}
-use Rattle.yaml_base.specs.declared.kinds.CollectionKind.{CollectionKind}
-use Rattle.yaml_json.proofs.Common.{Event, WriterState}
-use Rattle.yaml_toml.specs.Events.{toml_events}
-use Rattle.yaml_toml.specs.Walk.{HasNumbers, GaveSome, node_size}
-use Rattle.yaml_toml.specs.declared.walk.Rest.{Rest}
 
 pub node_view-Text : (s : String Global) → node_view (Text s) ≡ toml.string (string_bytes s)
 node_view-Text s = search (rules, the_lemmas)

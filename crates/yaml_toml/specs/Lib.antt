@@ -8,3 +8,4 @@ pub mod Places
 pub mod Several
 pub mod Walk
 pub mod WalkSteps
+pub mod WritingCalls

@@ -1,16 +1,11 @@
 //! TOML documents as YAML.
-ghost use Rattle.std.specs.Prelude.{◌≡◌, ◌-◌, IfErr, IfOk, IfSome, None, OnOk, length};
-ghost use Rattle.toml_ordered.specs.Grammar.{ordered_document};
+ghost use Rattle.std.specs.Prelude.{◌≡◌, ◌-◌, IfSome, length};
 ghost use Rattle.toml_ordered.specs.Places.{IsConflict, place_left};
-ghost use Rattle.yaml_emitter.specs.Given.{seen_settings};
 ghost use Rattle.yaml_json.specs.Places.{AreOf};
 ghost use Rattle.yaml_json.specs.Wrote.{IsBare};
-ghost use Rattle.yaml_pen.specs.Wrote.{Grows};
-ghost use Rattle.yaml_toml.specs.Depth.{ExplainsDepth, NestsWithin};
-ghost use Rattle.yaml_toml.specs.Failing.{TomlFailsBy, StopsInDocument};
-ghost use Rattle.yaml_toml.specs.Means.{IsYamlOfToml};
-ghost use Rattle.yaml_toml.specs.Places.{HasConflict, HasTomlPlace, IsBeforeLeft};
-ghost use Rattle.yaml_toml.specs.Walk.{DeniesToml, IsSoundAfterToml, WroteToml, fault_error, stop_error, toml_writers_error};
+ghost use Rattle.yaml_toml.specs.Places.{HasConflict, IsBeforeLeft};
+ghost use Rattle.yaml_toml.specs.Walk.{DeniesToml, fault_error, stop_error, toml_writers_error};
+ghost use Rattle.yaml_toml.specs.WritingCalls.{ReturnsTomlYaml, WritesToml};
 
 use crate::error::TomlError;
 use crate::settings::TomlSettings;
@@ -82,15 +77,7 @@ pub fn write_toml<A: Allocator + Copy>(
     settings: TomlSettings,
 ) -> Result<(), TomlError>
     requires { IsBare writer.old }
-    ensures grows { Grows writer.old.emitter.page writer.new.emitter.page }
-    ensures sound { IsSoundAfterToml writer.old result writer.new }
-    ensures written { OnOk result (WroteToml settings.flow text.now writer.old writer.new) }
-    ensures nests { OnOk result (NestsWithin settings.depth text.now) }
-    ensures refused { IfErr result (λ error. DeniesToml error → ordered_document text.now ≡ None) }
-    ensures deep { IfErr result (ExplainsDepth settings.depth text.now) }
-    ensures stopped { IfErr result (λ error. StopsInDocument settings.depth settings.flow text.now writer.old error writer.new) }
-    ensures place { IfErr result (HasTomlPlace text.now) }
-    ensures conflict { IfErr result (HasConflict text.now) }
+    ensures { WritesToml settings text.now writer.old result writer.new }
 {
     let root = match read_document(alloc, text) {
         Ok(root) => root,
@@ -113,14 +100,7 @@ pub fn yaml_from_toml(
     text: &str,
     settings: TomlSettings,
 ) -> Result<Vec<u8>, TomlError>
-    ensures stream { IfOk result (λ bytes. IsYamlOfToml (seen_settings settings.writer) settings.flow text.now bytes.items) }
-    ensures nests { OnOk result (NestsWithin settings.depth text.now) }
-    ensures refused { IfErr result (λ error. DeniesToml error → ordered_document text.now ≡ None) }
-    ensures deep { IfErr result (ExplainsDepth settings.depth text.now) }
-    ensures failed { IfErr result (λ error. IfSome (toml_writers_error error)
-        (TomlFailsBy (seen_settings settings.writer) settings.flow settings.depth text.now)) }
-    ensures place { IfErr result (HasTomlPlace text.now) }
-    ensures conflict { IfErr result (HasConflict text.now) }
+    ensures { ReturnsTomlYaml settings text.now result }
 {
     let Ok(mut writer) = Writer::new(alloc, settings.writer) else {
         return Err(TomlError::Emitter(yaml_error_t::Memory));

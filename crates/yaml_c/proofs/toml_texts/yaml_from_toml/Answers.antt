@@ -11,14 +11,12 @@ returns c =
     let given = c.args.options.now in
     let s = c.toml_settings_from-settings.result in
     let by = c.toml_settings_from-settings.ensures in
-    let call = c.yaml_from_toml.ensures in
     let answer : TomlAnswer = toml_answer_of c.yaml_from_toml.result in
     let same : c.in-Ok.content.now ≡ c.args.text.now = search rules in
     let fits : to_z w32 (of_z w32 c.move_toml.result) ≡ c.move_toml.result = search rules in
     let text = c.args.text.now in
     let writer : Settings = seen_settings s.writer in
-    let right = right_toml writer s.flow c.in-Ok.content.now c.yaml_from_toml.result (subst IsUtf8 (sym same) c.in-Ok.ensures.cases.1) call.stream
-    call.refused in (
+    let right = right_toml s c.in-Ok.content.now c.yaml_from_toml.result (subst IsUtf8 (sym same) c.in-Ok.ensures.cases.1) c.yaml_from_toml.ensures in (
       answer,
       subst (λ (x : Settings). IsTomlAnswer x (is_on given.flow) text answer) by.writer
           (subst (λ (x : Bool). IsTomlAnswer writer x text answer) by.flow

@@ -5,28 +5,45 @@ use Rattle.yaml_emitter.specs.Given.{seen_settings}
 use Rattle.yaml_toml.proofs.YamlOf.{yaml_of}
 use Rattle.yaml_toml.proofs.texts.yaml_from_toml.Goals as goal
 
-pub returns-in-Ok-finish-clause-stream : goal.returns-in-Ok-finish-clause-stream
-returns-in-Ok-finish-clause-stream c =
-    let settings = c.args.settings in
-    let first = c.in-Ok in
-    yaml_of (seen_settings settings.writer) settings.flow c.args.text.now c.in-Ok-finish.bytes.items first.writer c.write_toml.new.writer
-    first.ensures.stands first.ensures.canonical c.in_default-write_toml.ensures.written c.in-Ok-finish.ensures.finishes
+pub returns-in_default : goal.returns-in_default
+returns-in_default c = record { refused = λ denied. absurd denied; deep = tt; failed = inl refl; place = λ denied. absurd denied; conflict = tt }
 
-pub returns-in_default-clause-failed : goal.returns-in_default-clause-failed
-returns-in_default-clause-failed c = inl refl
-
-pub returns-in-Err-clause-failed : goal.returns-in-Err-clause-failed
-returns-in-Err-clause-failed c =
-    let settings = c.args.settings in
+pub returns-in-Err : goal.returns-in-Err
+returns-in-Err c =
+    let s = c.args.settings in
     let first = c.in-Ok in
-    text_failed (seen_settings settings.writer) settings.flow settings.depth c.args.text.now first.writer c.write_toml.new.writer first.ensures.stands
-    first.ensures.canonical c.in-Err.error c.in-Err.ensures.stopped c.in-Err.ensures.sound
+    let unwritten = c.in-Err.ensures in
+    record {
+      refused = unwritten.refused;
+      deep = unwritten.deep;
+      failed = text_failed (seen_settings s.writer) s.flow s.depth c.args.text.now first.writer c.write_toml.new.writer first.ensures.stands
+          first.ensures.canonical c.in-Err.error unwritten.stopped unwritten.sound;
+      place = unwritten.place;
+      conflict = unwritten.conflict;
+    }
 
-pub returns-in-Err-finish-clause-failed : goal.returns-in-Err-finish-clause-failed
-returns-in-Err-finish-clause-failed c =
-    let settings = c.args.settings in
+pub returns-in-Ok-finish : goal.returns-in-Ok-finish
+returns-in-Ok-finish c =
+    let s = c.args.settings in
     let first = c.in-Ok in
-    let wrote = c.in_default-write_toml.ensures.written in
-    finish_failed (seen_settings settings.writer) settings.flow settings.depth c.args.text.now first.writer c.write_toml.new.writer first.ensures.stands
-    first.ensures.canonical wrote c.in_default-write_toml.ensures.nests c.in-Err-finish.error
-    (c.in-Err-finish.ensures.unfinished (bare_awaits_none c.write_toml.new.writer wrote.wrote.bare))
+    let wrote = c.in_default-write_toml.ensures in
+    record {
+      stream = yaml_of (seen_settings s.writer) s.flow c.args.text.now c.in-Ok-finish.bytes.items first.writer c.write_toml.new.writer
+          first.ensures.stands first.ensures.canonical wrote.written c.in-Ok-finish.ensures.finishes;
+      nests = wrote.nests;
+    }
+
+pub returns-in-Err-finish : goal.returns-in-Err-finish
+returns-in-Err-finish c =
+    let s = c.args.settings in
+    let first = c.in-Ok in
+    let now = c.write_toml.new.writer in
+    let wrote = c.in_default-write_toml.ensures in
+    record {
+      refused = λ denied. absurd denied;
+      deep = tt;
+      failed = finish_failed (seen_settings s.writer) s.flow s.depth c.args.text.now first.writer now first.ensures.stands first.ensures.canonical
+          wrote.written wrote.nests c.in-Err-finish.error (c.in-Err-finish.ensures.unfinished (bare_awaits_none now wrote.written.wrote.bare));
+      place = λ denied. absurd denied;
+      conflict = tt;
+    }

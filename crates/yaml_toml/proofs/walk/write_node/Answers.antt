@@ -1,4 +1,4 @@
-use Rattle.yaml_json.proofs.Common.{◌≡◌, ◌∷◌, [], ℕ, List, refl, ap, subst, sym, ◌∙◌, scalar, chars, text_content, OnOk, WroteEvent}
+use Rattle.yaml_json.proofs.Common.{◌∷◌, [], ℕ, List, refl, ap, subst, sym, ◌∙◌, scalar, chars, text_content}
 use Rattle.std.specs.Prelude.{string_bytes, FitsSigned, String}
 use Rattle.std.specs.declared.alloc.Global.{Global}
 use Rattle.std.proofs.Common.{ℤ, rules, w64}

@@ -1,4 +1,4 @@
-use Rattle.yaml_json.proofs.Common.{◌≡◌, ◌∷◌, ◌+◌, [], ℕ, List, Result, Ok, Err, Event, WriterState, subst, ap, sym, arith}
+use Rattle.yaml_json.proofs.Common.{◌≡◌, ◌+◌, [], ℕ, List, Result, Ok, Err, Event, WriterState, subst, ap, sym, arith}
 use Rattle.std.specs.Prelude.{String}
 use Rattle.std.specs.declared.alloc.Global.{Global}
 use Rattle.toml_ordered.specs.Data.{TomlNodes, entries_view, table}
