@@ -80,9 +80,6 @@ pub kept_memory : (before : WriterState) (stopped : Stop) → IsOwnMemory stoppe
 kept_memory before stopped is =
     record { grows = grows_itself before.emitter.page; sound = subst (λ (s : Stop). HasErrorSaid before (stop_error s) before) (sym is) (unchanged before) }
 
-pub kept_deep : (before : WriterState) → KeptAfterStop before (Err stop.TooDeep) before
-kept_deep before = record { grows = grows_itself before.emitter.page; sound = λ none. none }
-
 -- a success, and then another call
 pub kept_then : (before between after : WriterState) (result : Result (Unit {0}) Stop) → KeptAfterStop before (Ok tt) between
     → KeptAfterStop between result after

@@ -18,14 +18,16 @@ use Rattle.yaml_toml.proofs.Answering.{moved_event, moved_within, moved_then}
 
 module _ (canonical in_flow : Bool) where
   -- one more that is open
-  pub pending-push : (opened : List Rest) (r : Rest) → pending canonical in_flow (opened ++ r ∷ []) ≡ rest_events canonical in_flow r ++ pending canonical in_flow opened
+  pub pending-push : (opened : List Rest) (r : Rest)
+      → pending canonical in_flow (opened ++ r ∷ []) ≡ rest_events canonical in_flow r ++ pending canonical in_flow opened
   pending-push [] r = sym (append-nil (rest_events canonical in_flow r))
   pending-push (outer ∷ inner) r =
       ap (λ (events : List Event). events ++ rest_events canonical in_flow outer) (pending-push inner r)
       ∙ append_assoc (rest_events canonical in_flow r) (pending canonical in_flow inner) (rest_events canonical in_flow outer)
 
   -- an item, and those after it
-  pub items_left-more : (x : CodeNode) (xs : List CodeNode) → items_left canonical in_flow (x ∷ xs) ≡ toml_events canonical in_flow (node_view x) ++ items_left canonical in_flow xs
+  pub items_left-more : (x : CodeNode) (xs : List CodeNode)
+      → items_left canonical in_flow (x ∷ xs) ≡ toml_events canonical in_flow (node_view x) ++ items_left canonical in_flow xs
   items_left-more x xs = append_assoc (toml_events canonical in_flow (node_view x)) (toml_items_events canonical in_flow (items_view xs)) (sequence_end ∷ [])
 
   pub keys_left-more : (m : String Global × CodeNode × ℕ) (ms : List (String Global × CodeNode × ℕ))
@@ -86,10 +88,10 @@ module _ (most : ℕ) (in_flow : Bool) (was now : WriterState) where
   pub steps_enter : (r : Rest) (opened after : List Rest) → after ≡ opened ++ r ∷ [] → length opened < most
       → Moved was (start_event in_flow (rest_kind r) ∷ []) [] (rest_kind r ∷ []) now
       → GaveSome most in_flow was (start_event in_flow (rest_kind r) ∷ (rest_events was.canonical in_flow r ++ pending was.canonical in_flow opened))
-      (kinds_of opened)
-      (RestHasNumbers r × PendingHaveNumbers opened) (1 + rest_size r + pending_size opened) now after
+      (kinds_of opened) (RestHasNumbers r × PendingHaveNumbers opened) (1 + rest_size r + pending_size opened) now after
   steps_enter r opened after is room moved = subst (λ (all : List Rest). GaveSome most in_flow was (start_event in_flow (rest_kind r)
-      ∷ (rest_events was.canonical in_flow r ++ pending was.canonical in_flow opened)) (kinds_of opened) (RestHasNumbers r × PendingHaveNumbers opened) (1 + rest_size r + pending_size opened) now all) (sym is)
+      ∷ (rest_events was.canonical in_flow r ++ pending was.canonical in_flow opened)) (kinds_of opened)
+      (RestHasNumbers r × PendingHaveNumbers opened) (1 + rest_size r + pending_size opened) now all) (sym is)
       (record {
         given = start_event in_flow (rest_kind r) ∷ [];
         moved =

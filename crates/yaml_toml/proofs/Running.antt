@@ -57,7 +57,8 @@ few_of most behind events opens prefix rest is = few_open most events prefix res
 
 -- ---- the walk so far
 
-pub record Running (most : ℕ) (in_flow : Bool) (start : WriterState) (all : List Event) (numbers : Type 0) (now : WriterState) (opened : List Rest) : Type 0 where
+pub record Running (most : ℕ) (in_flow : Bool) (start : WriterState) (all : List Event) (numbers : Type 0) (now : WriterState) (opened : List Rest)
+    : Type 0 where
   pub given : List Event
   pub moved : Moved start given [] (kinds_of opened) now
   pub parts : given ++ pending start.canonical in_flow opened ≡ all
@@ -72,14 +73,17 @@ module _ (settings : TomlSettings) (start now : WriterState) (root : TomlNodes) 
 
   pub runs_first : StepGiven settings (value_due (table Header root)) (walk_at start []) (walk_at now after)
       → DocumentFits settings.depth root after × Running settings.depth settings.flow start root_due (KeysHaveNumbers root) now after
-  runs_first step = (nests_first settings.depth root after step.nests, record {
-    given = step.written.given;
-    moved = step.written.moved;
-    parts = step.written.parts ∙ append-nil root_due;
-    numbers_in = λ have. (step.written.numbers_in have).0;
-    kept = step.kept;
-    few = step.written.few (omega arith);
-  })
+  runs_first step = (
+    nests_first settings.depth root after step.nests,
+    record {
+      given = step.written.given;
+      moved = step.written.moved;
+      parts = step.written.parts ∙ append-nil root_due;
+      numbers_in = λ have. (step.written.numbers_in have).0;
+      kept = step.kept;
+      few = step.written.few (omega arith);
+    },
+  )
 
   -- or not
   pub stopped_first : (stopped : Stop) → StepStopped settings (value_due (table Header root)) (walk_at start []) stopped (walk_at now after)
@@ -90,7 +94,10 @@ module _ (settings : TomlSettings) (start now : WriterState) (root : TomlNodes) 
       record {
         nests = nests_never settings.depth root stopped after step.nests;
         stopped = record {
-          given = stops.given; begins = stops.begins; few = few_of settings.depth few.0 stops.given few.1; adds = stops.adds
+          given = stops.given;
+          begins = stops.begins;
+          few = few_of settings.depth few.0 stops.given few.1;
+          adds = stops.adds;
         };
         kept = step.kept;
       }
@@ -121,7 +128,8 @@ module _ (most : ℕ) (in_flow : Bool) (start between now : WriterState) (all : 
           parts = append_assoc so.given stop.given stop.begins.rest ∙ ap (λ (events : List Event). so.given ++ events) stop.begins.parts ∙ due_is;
         };
         few =
-            few_of most few.0 (so.given ++ stop.given) (opens_then most 0 (length (kinds_of left ++ rest_kind r ∷ [])) few.0 so.given stop.given so_few few.1);
+            few_of most few.0 (so.given ++ stop.given)
+            (opens_then most 0 (length (kinds_of left ++ rest_kind r ∷ [])) few.0 so.given stop.given so_few few.1);
         adds = adds_then start.emitter between.emitter now.emitter so.given stop.given so.moved.adds stop.adds;
       }
 
@@ -148,7 +156,8 @@ module _ (most : ℕ) (in_flow : Bool) (start between now : WriterState) (all : 
       (start.levels, so.moved.levels start.levels (sym (append-nil start.levels)) ∙ ap (λ (ks : List CollectionKind). start.levels ++ ks) (kinds-push left r))
 
 -- nothing is left
-pub runs_out : (most : ℕ) (in_flow : Bool) (start now : WriterState) (all : List Event) (numbers : Type 0) → Running most in_flow start all numbers now [] → Wrote start all now
+pub runs_out : (most : ℕ) (in_flow : Bool) (start now : WriterState) (all : List Event) (numbers : Type 0) → Running most in_flow start all numbers now []
+    → Wrote start all now
 runs_out most in_flow start now all numbers so = subst (λ (events : List Event). Wrote start events now) (sym (append-nil so.given) ∙ so.parts) (record {
   adds = so.moved.adds;
   canonical = so.moved.canonical;

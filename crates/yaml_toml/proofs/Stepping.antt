@@ -21,14 +21,15 @@ use Rattle.yaml_toml.specs.declared.settings.TomlSettings.{TomlSettings}
 use Rattle.yaml_toml.specs.declared.walk.Rest.{Rest}
 use Rattle.yaml_toml.specs.declared.walk.Rest.TheVariants as rest
 use Rattle.yaml_toml.specs.declared.walk.Stop.{Stop}
-use Rattle.yaml_toml.specs.declared.walk.Stop.TheVariants as stop
-use Rattle.yaml_toml.proofs.Answering.{kept_deep, kept_memory, kept_of, kept_then, ok_of}
+use Rattle.yaml_toml.proofs.Answering.{kept_memory, kept_of, kept_then, ok_of}
 use Rattle.yaml_toml.proofs.Fitting.{fits_end, fits_enter, fits_failed, fits_leaf, fits_memory, fits_next, fits_same}
 use Rattle.yaml_toml.proofs.Halting.{fewer_fit, halts_after, halts_at_once, halts_of, halts_same}
-use Rattle.yaml_toml.proofs.Pending.{kinds_length, kinds-push, numbers-push, pending-push, size-push, steps_after, steps_end, steps_enter, steps_leaf, steps_same}
+use Rattle.yaml_toml.proofs.Pending.{kinds_length, kinds-push, numbers-push, pending-push, size-push, steps_after}
+use Rattle.yaml_toml.proofs.Pending.{steps_end, steps_enter, steps_leaf, steps_same}
 
 -- what is due, behind these events, is what else is due, and each within its collections
-pub record SameDue (ahead : List Event) (depth : ℕ) (canonical in_flow : Bool) (part : Due) (kept : List Rest) (whole : Due) (opened : List Rest) : Type 0 where
+pub record SameDue (ahead : List Event) (depth : ℕ) (canonical in_flow : Bool) (part : Due) (kept : List Rest) (whole : Due) (opened : List Rest)
+    : Type 0 where
   pub events :
       ahead ++ (events_due canonical in_flow part ++ pending canonical in_flow kept) ≡ events_due canonical in_flow whole ++ pending canonical in_flow opened
   pub kinds : kinds_around part kept ≡ kinds_around whole opened
@@ -107,15 +108,6 @@ module _ (settings : TomlSettings) (was : WriterState) where
     nests = fits_memory settings.depth (DueFits settings.depth due opened) stopped after is;
     stopped = halts_at_once settings.depth was (all_due settings.flow due (walk_at was opened)) (kinds_around due opened);
     kept = kept_memory was stopped is;
-  }
-
-  -- no more may be open
-  pub step_deep : (r : Rest) (opened : List Rest) → settings.depth ≤ length opened
-      → TomlStep settings (collection_due r) (walk_at was opened) (Err stop.TooDeep) (walk_at was opened)
-  step_deep r opened full = record {
-    nests = λ fits. absurd (omega (arith, full, fits.0));
-    stopped = halts_at_once settings.depth was (all_due settings.flow (collection_due r) (walk_at was opened)) (kinds_of opened);
-    kept = kept_deep was;
   }
 
   -- ---- a call of the writer
@@ -215,8 +207,9 @@ module _ (settings : TomlSettings) (was : WriterState) where
         → SameDue [] settings.depth was.canonical settings.flow part kept whole opened
         → TomlStep settings part (walk_at was kept) result (walk_at now after) → TomlStep settings whole (walk_at was opened) result (walk_at now after)
     step_same part whole kept opened after (Ok done) same step = record {
-      written = steps_same settings.depth settings.flow was now (all_due settings.flow part (walk_at was kept)) (all_due settings.flow whole (walk_at was opened))
-          (kinds_around part kept) (kinds_around whole opened) (DueHasNumbers part × PendingHaveNumbers kept) (DueHasNumbers whole × PendingHaveNumbers opened)
+      written = steps_same settings.depth settings.flow was now (all_due settings.flow part (walk_at was kept))
+          (all_due settings.flow whole (walk_at was opened)) (kinds_around part kept) (kinds_around whole opened)
+          (DueHasNumbers part × PendingHaveNumbers kept) (DueHasNumbers whole × PendingHaveNumbers opened)
           (due_size part + pending_size kept) (due_size whole + pending_size opened) after same.events same.kinds same.numbers same.size step.written;
       nests = fits_same settings.depth (DueFits settings.depth part kept) (DueFits settings.depth whole opened) (Ok done) after same.fits step.nests;
       kept = step.kept;

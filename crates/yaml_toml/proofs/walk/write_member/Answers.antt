@@ -1,4 +1,5 @@
-use Rattle.yaml_json.proofs.Common.{◌≡◌, ◌∷◌, ◌++◌, [], ◌+◌, ℕ, List, Result, refl, ap, subst, sym, ◌∙◌, append_assoc, arith, Event, scalar, chars, text_content}
+use Rattle.yaml_json.proofs.Common.{◌≡◌, ◌∷◌, ◌++◌, [], ◌+◌, ℕ, List, Result, refl, ap, subst, sym, ◌∙◌, append_assoc, arith, Event}
+use Rattle.yaml_json.proofs.Common.{scalar, chars, text_content}
 use Rattle.std.proofs.lemmas.Grind.{common_steps}
 use Rattle.std.specs.Prelude.{String, string_bytes}
 use Rattle.std.specs.declared.alloc.Global.{Global}
@@ -50,7 +51,8 @@ returns-in-Err-stop_of g c =
     let more = toml_events canonical s.flow (node_view m.1) ++ keys_left canonical s.flow ms in
     let behind = pending canonical s.flow opened in
     let events =
-    ap (λ (bytes : List ℕ). scalar (text_content (chars bytes)) ∷ more) named ∙ sym (keys_left-more canonical s.flow m ms) ∙ ap (keys_left canonical s.flow) all in
+    ap (λ (bytes : List ℕ). scalar (text_content (chars bytes)) ∷ more) named ∙ sym (keys_left-more canonical s.flow m ms)
+    ∙ ap (keys_left canonical s.flow) all in
     step_failed s a.writer.now c.write_text.new.writer (rest_due (rest.Members a.keys)) opened c.keep.new.opened.items
     (scalar (text_content (chars c.as_str.result.now))) (more ++ behind) c.write_text.result c.in-Err-stop_of.stop
     (ap (λ (es : List Event). es ++ behind) events) (λ fits. fits)
@@ -70,7 +72,8 @@ returns-in_default-stop_of g c =
     let key = text_content (chars c.as_str.result.now) in
     let more = toml_events canonical s.flow (node_view m.1) ++ keys_left canonical s.flow ms in
     let events =
-    ap (λ (bytes : List ℕ). scalar (text_content (chars bytes)) ∷ more) named ∙ sym (keys_left-more canonical s.flow m ms) ∙ ap (keys_left canonical s.flow) all in
+    ap (λ (bytes : List ℕ). scalar (text_content (chars bytes)) ∷ more) named ∙ sym (keys_left-more canonical s.flow m ms)
+    ∙ ap (keys_left canonical s.flow) all in
     let sizes = ap (λ (es : List Entry). keys_size (entries_view es)) all in
     step_behind s a.writer.now c.write_node.new.writer c.write_text.new.writer key (value_due (node_view m.1)) (rest_due (rest.Members a.keys)) kept opened
     c.write_node.new.opened.items c.write_text.result c.write_node.result

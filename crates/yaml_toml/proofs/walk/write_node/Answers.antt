@@ -26,54 +26,72 @@ Entry = String Global × CodeNode × ℕ
 pub returns-in-Text : goal.returns-in-Text
 returns-in-Text g c =
     let a = c.args in
-    step_scalar a.settings.now a.writer.now c.write_text.new.writer a.opened.now.items (node_view a.node.now) (toml.string (string_bytes c.in-Text.text)) _ c.write_text.result
-    c.stop_of.result (ap node_view c.in-Text.is ∙ node_view-Text c.in-Text.text) (ap (λ (bytes : List ℕ). scalar (text_content (chars bytes)) ∷ []) c.as_str.ensures.value) refl refl c.stop_of.ensures
-    c.write_text.ensures.kept (on_ok c.write_text.result (λ wrote. (tt, wrote)) c.write_text.ensures.written)
+    step_scalar a.settings.now a.writer.now c.write_text.new.writer a.opened.now.items (node_view a.node.now)
+    (toml.string (string_bytes c.in-Text.text)) _ c.write_text.result c.stop_of.result
+    (ap node_view c.in-Text.is ∙ node_view-Text c.in-Text.text)
+    (ap (λ (bytes : List ℕ). scalar (text_content (chars bytes)) ∷ []) c.as_str.ensures.value) refl refl
+    c.stop_of.ensures c.write_text.ensures.kept
+    (on_ok c.write_text.result (λ wrote. (tt, wrote)) c.write_text.ensures.written)
 
 pub returns-in-Integer : goal.returns-in-Integer
 returns-in-Integer g c =
     let a = c.args in
     let z = c.in-Integer.integer in
     let fits : FitsSigned w64 z = search rules in
-    step_scalar a.settings.now a.writer.now c.write_integer.new.writer a.opened.now.items (node_view a.node.now) (toml.integer z) _ c.write_integer.result
-    c.stop_of-in-Integer.result (ap node_view c.in-Integer.is ∙ node_view-Integer z) (ap (λ (n : ℤ). scalar (integer_content a.writer.now.canonical n) ∷ []) (to_z-of_z w64 z fits)) refl refl c.stop_of-in-Integer.ensures
-    c.write_integer.ensures.kept (on_ok c.write_integer.result (λ wrote. (few_digits z fits, wrote)) c.write_integer.ensures.written)
+    step_scalar a.settings.now a.writer.now c.write_integer.new.writer a.opened.now.items (node_view a.node.now)
+    (toml.integer z) _ c.write_integer.result c.stop_of-in-Integer.result
+    (ap node_view c.in-Integer.is ∙ node_view-Integer z)
+    (ap (λ (n : ℤ). scalar (integer_content a.writer.now.canonical n) ∷ []) (to_z-of_z w64 z fits)) refl refl
+    c.stop_of-in-Integer.ensures c.write_integer.ensures.kept
+    (on_ok c.write_integer.result (λ wrote. (few_digits z fits, wrote)) c.write_integer.ensures.written)
 
 pub returns-in-Decimal : goal.returns-in-Decimal
 returns-in-Decimal g c =
     let a = c.args in
-    step_scalar a.settings.now a.writer.now c.write_decimal.new.writer a.opened.now.items (node_view a.node.now) (toml.decimal (string_bytes c.in-Decimal.word)) _ c.write_decimal.result
-    c.stop_of-in-Decimal.result (ap node_view c.in-Decimal.is ∙ node_view-Decimal c.in-Decimal.word) (ap (λ (bytes : List ℕ). scalar (decimal_content a.writer.now.canonical bytes) ∷ []) c.as_str-in-Decimal.ensures.value) refl refl c.stop_of-in-Decimal.ensures
-    c.write_decimal.ensures.kept (on_ok c.write_decimal.result (λ both. (subst IsJsonWord c.as_str-in-Decimal.ensures.value both.1, both.0))
+    step_scalar a.settings.now a.writer.now c.write_decimal.new.writer a.opened.now.items (node_view a.node.now)
+    (toml.decimal (string_bytes c.in-Decimal.word)) _ c.write_decimal.result c.stop_of-in-Decimal.result
+    (ap node_view c.in-Decimal.is ∙ node_view-Decimal c.in-Decimal.word)
+    (ap (λ (bytes : List ℕ). scalar (decimal_content a.writer.now.canonical bytes) ∷ []) c.as_str-in-Decimal.ensures.value) refl refl
+    c.stop_of-in-Decimal.ensures c.write_decimal.ensures.kept
+    (on_ok c.write_decimal.result (λ both. (subst IsJsonWord c.as_str-in-Decimal.ensures.value both.1, both.0))
     (on_both _ _ c.write_decimal.result c.write_decimal.ensures.written c.write_decimal.ensures.number))
 
 pub returns-in-Infinity : goal.returns-in-Infinity
 returns-in-Infinity g c =
     let a = c.args in
-    step_scalar a.settings.now a.writer.now c.write_special.new.writer a.opened.now.items (node_view a.node.now) (toml.infinity c.in-Infinity.negative) _ c.write_special.result
-    c.stop_of-in-Infinity.result (ap node_view c.in-Infinity.is ∙ node_view-Infinity c.in-Infinity.negative) (ap (λ (value : SpecialFloat). scalar (special_content a.writer.now.canonical value) ∷ []) c.infinity.ensures) refl refl c.stop_of-in-Infinity.ensures
-    c.write_special.ensures.kept (on_ok c.write_special.result (λ wrote. (tt, wrote)) c.write_special.ensures.written)
+    step_scalar a.settings.now a.writer.now c.write_special.new.writer a.opened.now.items (node_view a.node.now)
+    (toml.infinity c.in-Infinity.negative) _ c.write_special.result c.stop_of-in-Infinity.result
+    (ap node_view c.in-Infinity.is ∙ node_view-Infinity c.in-Infinity.negative)
+    (ap (λ (value : SpecialFloat). scalar (special_content a.writer.now.canonical value) ∷ []) c.infinity.ensures) refl refl
+    c.stop_of-in-Infinity.ensures c.write_special.ensures.kept
+    (on_ok c.write_special.result (λ wrote. (tt, wrote)) c.write_special.ensures.written)
 
 pub returns-in-NotANumber : goal.returns-in-NotANumber
 returns-in-NotANumber g c =
     let a = c.args in
-    step_scalar a.settings.now a.writer.now c.write_special-in-NotANumber.new.writer a.opened.now.items (node_view a.node.now) (toml.not_a_number) _ c.write_special-in-NotANumber.result
-    c.stop_of-in-NotANumber.result (ap node_view c.in-NotANumber.is ∙ node_view-NotANumber) (refl) refl refl c.stop_of-in-NotANumber.ensures
-    c.write_special-in-NotANumber.ensures.kept (on_ok c.write_special-in-NotANumber.result (λ wrote. (tt, wrote)) c.write_special-in-NotANumber.ensures.written)
+    step_scalar a.settings.now a.writer.now c.write_special-in-NotANumber.new.writer a.opened.now.items (node_view a.node.now)
+    toml.not_a_number _ c.write_special-in-NotANumber.result c.stop_of-in-NotANumber.result
+    (ap node_view c.in-NotANumber.is ∙ node_view-NotANumber)
+    refl refl refl c.stop_of-in-NotANumber.ensures c.write_special-in-NotANumber.ensures.kept
+    (on_ok c.write_special-in-NotANumber.result (λ wrote. (tt, wrote)) c.write_special-in-NotANumber.ensures.written)
 
 pub returns-in-Boolean : goal.returns-in-Boolean
 returns-in-Boolean g c =
     let a = c.args in
-    step_scalar a.settings.now a.writer.now c.write_bool.new.writer a.opened.now.items (node_view a.node.now) (toml.boolean c.in-Boolean.flag) _ c.write_bool.result
-    c.stop_of-in-Boolean.result (ap node_view c.in-Boolean.is ∙ node_view-Boolean c.in-Boolean.flag) (refl) refl refl c.stop_of-in-Boolean.ensures
-    c.write_bool.ensures.kept (on_ok c.write_bool.result (λ wrote. (tt, wrote)) c.write_bool.ensures.written)
+    step_scalar a.settings.now a.writer.now c.write_bool.new.writer a.opened.now.items (node_view a.node.now)
+    (toml.boolean c.in-Boolean.flag) _ c.write_bool.result c.stop_of-in-Boolean.result
+    (ap node_view c.in-Boolean.is ∙ node_view-Boolean c.in-Boolean.flag)
+    refl refl refl c.stop_of-in-Boolean.ensures c.write_bool.ensures.kept
+    (on_ok c.write_bool.result (λ wrote. (tt, wrote)) c.write_bool.ensures.written)
 
 pub returns-in-Datetime : goal.returns-in-Datetime
 returns-in-Datetime g c =
     let a = c.args in
-    step_scalar a.settings.now a.writer.now c.write_datetime.new.writer a.opened.now.items (node_view a.node.now) (toml.datetime c.in-Datetime.datetime) _ c.write_datetime.result
-    c.stop_of-in-Datetime.result (ap node_view c.in-Datetime.is ∙ node_view-Datetime c.in-Datetime.datetime) (refl) refl refl c.stop_of-in-Datetime.ensures
-    c.write_datetime.ensures.kept (on_ok c.write_datetime.result (λ wrote. (tt, wrote)) c.write_datetime.ensures.written)
+    step_scalar a.settings.now a.writer.now c.write_datetime.new.writer a.opened.now.items (node_view a.node.now)
+    (toml.datetime c.in-Datetime.datetime) _ c.write_datetime.result c.stop_of-in-Datetime.result
+    (ap node_view c.in-Datetime.is ∙ node_view-Datetime c.in-Datetime.datetime)
+    refl refl refl c.stop_of-in-Datetime.ensures c.write_datetime.ensures.kept
+    (on_ok c.write_datetime.result (λ wrote. (tt, wrote)) c.write_datetime.ensures.written)
 
 pub returns-in-Array : goal.returns-in-Array
 returns-in-Array g c =
@@ -86,8 +104,8 @@ returns-in-Array g c =
 pub returns-in-Table : goal.returns-in-Table
 returns-in-Table g c =
     let a = c.args in
-    step_begun a.settings.now a.writer.now c.enter-in-Table.new.writer c.in-Table.field-0 (rest.Members c.as_slice-in-Table.result) (node_view a.node.now) a.opened.now.items
-    c.enter-in-Table.new.opened.items c.enter-in-Table.result
+    step_begun a.settings.now a.writer.now c.enter-in-Table.new.writer c.in-Table.field-0 (rest.Members c.as_slice-in-Table.result) (node_view a.node.now)
+    a.opened.now.items c.enter-in-Table.new.opened.items c.enter-in-Table.result
     (ap node_view c.in-Table.is ∙ node_view-Table c.in-Table.field-0 c.in-Table.keys
     ∙ ap (λ (ms : List Entry). toml.table c.in-Table.field-0 (entries_view ms)) (sym c.as_slice-in-Table.ensures.value)) c.enter-in-Table.ensures
 

@@ -53,8 +53,9 @@ write_rest-requires-clause-innermost g c =
     let all : List Event = toml_events start.canonical flow (table Header (entries_view c.args.root.now.items)) in
     let numbers : Type 0 = KeysHaveNumbers (entries_view c.args.root.now.items) in
     let left = c.take_innermost.new.opened.items in
-    let so = subst (λ (opened : List Rest). Running c.args.settings.now.depth flow start all numbers c.rests.writer opened) c.in-Some.ensures c.rests.invariant.1 in
-    innermost c.args.settings.now.depth flow start c.rests.writer c.rests.writer all numbers left left c.in-Some.rest so
+    let depth = c.args.settings.now.depth in
+    let so = subst (λ (opened : List Rest). Running depth flow start all numbers c.rests.writer opened) c.in-Some.ensures c.rests.invariant.1 in
+    innermost depth flow start c.rests.writer c.rests.writer all numbers left left c.in-Some.rest so
 
 pub rests-smaller : goal.rests-smaller
 rests-smaller g c =
@@ -68,8 +69,8 @@ rests-preserved g c =
     let all : List Event = toml_events start.canonical flow (table Header (entries_view c.args.root.now.items)) in
     let numbers : Type 0 = KeysHaveNumbers (entries_view c.args.root.now.items) in
     let left = c.take_innermost.new.opened.items in
-    let so = subst (λ (opened : List Rest). Running c.args.settings.now.depth flow start all numbers c.rests.writer opened) c.in-Some.ensures c.rests.invariant.1 in
     let depth = c.args.settings.now.depth in
+    let so = subst (λ (opened : List Rest). Running depth flow start all numbers c.rests.writer opened) c.in-Some.ensures c.rests.invariant.1 in
     let root = entries_view c.args.root.now.items in
     let step = c.in_default-write_rest.ensures in
     let fits = subst (λ (opened : List Rest). DocumentFits depth root opened) c.in-Some.ensures c.rests.invariant.0 in (

@@ -9,7 +9,8 @@ use Rattle.yaml_toml.proofs.walk.write_root.Given as goal
 abbrev pub invariant-rests : goal.invariant-rests
 invariant-rests g l =
     DocumentFits l.fn.settings.depth (entries_view l.fn.root.items) l.opened.items
-    × Running l.fn.settings.depth l.fn.settings.flow l.fn.writer (toml_events l.fn.writer.canonical l.fn.settings.flow (table Header (entries_view l.fn.root.items)))
+    × Running l.fn.settings.depth l.fn.settings.flow l.fn.writer
+    (toml_events l.fn.writer.canonical l.fn.settings.flow (table Header (entries_view l.fn.root.items)))
     (KeysHaveNumbers (entries_view l.fn.root.items)) l.writer l.opened.items
 
 abbrev pub decreases-rests : goal.decreases-rests
