@@ -1,136 +1,36 @@
 -- A document goes on with each call of its writer.
 use Rattle.yaml_serde.proofs.Common.{ℕ, ◌<◌, ◌≤◌, OnOk, Option, None, Some, Result, Err, Ok, length, take, Bool, false, true, List, [], ◌++◌, ◌∷◌}
-use Rattle.yaml_serde.proofs.Common.{refl, ◌≡◌, append-nil, append_assoc, ap, subst, sym, ◌∙◌, arith, Appends, All, ∥∥₁_map, Text, Event, Settings, State}
-use Rattle.yaml_serde.proofs.Common.{grows_itself, Grows, IsWriterEvent, IsDocument, AppendsDocument, GivesEvents, is_kept, HandsOn, WriterState}
-use Rattle.yaml_serde.proofs.Common.{opening, closing, with_collection, awaits_node, StandsTaken, TakesBytes, IsStream, Finishes}
+use Rattle.yaml_serde.proofs.Common.{refl, ◌≡◌, append-nil, ap, subst, sym, ◌∙◌, arith, Appends, ∥∥₁_map, Text, Event, State}
+use Rattle.yaml_serde.proofs.Common.{Grows, IsWriterEvent, IsDocument, GivesEvents, is_kept, HandsOn, WriterState}
+use Rattle.yaml_serde.proofs.Common.{opening, with_collection, awaits_node, StandsTaken}
 use mathlib.Core.Logic.{∥∥₁_elim}
 use Rattle.yaml_base.proofs.Common.{inl, inr, length-append, ◌⊎◌}
-use Rattle.yaml_base.proofs.Prefixes.{prefix_itself, prefix_then}
+use Rattle.yaml_base.proofs.Prefixes.{prefix_then}
 use Rattle.yaml_base.specs.Prefix.{IsPrefix}
 use Rattle.yaml_writer.proofs.Common.{end_event, AddsEvent, GaveEvent}
 use Rattle.std.{proofs.Math.Seq.drop-append_seam, proofs.Math.Seq.take-length, proofs.lemmas.List.length-take, proofs.lemmas.List.take-append-le}
-use Rattle.std.{proofs.Props.props, proofs.lemmas.List.Elements.All-nil, proofs.lemmas.List.Elements.All-cons, proofs.lemmas.List.Elements.All-append}
-use Rattle.std.specs.{Borrow.GName, Prelude.IfErr, Prelude.OnErr, Prelude.drop}
+use Rattle.std.{proofs.Props.props}
+use Rattle.std.specs.{Prelude.IfErr, Prelude.drop}
 use Rattle.yaml_base.specs.declared.errors.{yaml_error_t.yaml_error_t, yaml_error_t.TheVariants.Memory}
 use Rattle.yaml_base.specs.declared.kinds.CollectionKind.{CollectionKind}
 use Rattle.yaml_emitter.proofs.standing.Promising.{promised}
 use Rattle.yaml_base.specs.Sinks.{AppendsFirst}
-use Rattle.yaml_pen.proofs.Composing.{grows_then}
 use Rattle.yaml_pen.specs.Page.{output_left}
-use Rattle.std.proofs.KnownBytes.{Appends-nil, Appends-trans}
-use Rattle.yaml_serde.proofs.Handing.{appends_first, failed_is_sent, grows_taken, left_begins}
+use Rattle.std.proofs.KnownBytes.{Appends-trans}
+use Rattle.yaml_serde.proofs.Gave.{gave_more, gave_none, gave_taken}
+use Rattle.yaml_serde.proofs.Handing.{failed_is_sent, grows_taken, left_begins}
 use Rattle.std.specs.Float.Ieee.{Float, Format, nan, inf, fin}
 use Rattle.std.specs.Prelude.{if◌then◌else◌}
 use Rattle.yaml_writer.specs.Floats.{GivesFloat}
 use Rattle.yaml_writer.specs.declared.floats.SpecialFloat.TheVariants.{Infinity, NegativeInfinity, NotANumber}
-use Rattle.yaml_serde.specs.Documents.{AppendsBeginning, GaveEvents, IsPartial, SendsEvents, end_call, number_call, special_call}
-use Rattle.yaml_serde.specs.Outlets.{GaveAndHandedOn, HandsAll, HandsFirst, HandsNone, HasGiven, Stands, has_failed}
+use Rattle.yaml_serde.specs.Documents.{GaveEvents, IsPartial, SendsEvents, end_call, number_call, special_call}
+use Rattle.yaml_serde.specs.Outlets.{GaveAndHandedOn, HandsAll, HandsFirst, HandsNone, HasGiven, Outside, Stands, has_failed}
+use Rattle.yaml_serde.specs.ValueCalls.{GavePart, GivesValue, SendsBeginning, SentValue}
 use Rattle.yaml_serde.specs.declared.error.Error.{Error}
 use Rattle.yaml_serde.specs.declared.outlet.Handing.{Handing}
 use Rattle.yaml_serde.specs.declared.outlet.Handing.TheVariants.{Kept, Open, Failed}
 use Rattle.yaml_serde.specs.declared.outlet.Outlet.{Outlet}
 use Rattle.yaml_writer.specs.{Writing.NodeExpected, Writing.Begins, Writing.Gives, Writing.EndsInnermost}
-
--- ---- the emitter
-
--- nothing was given yet
-gave_none : (start : State) → GaveEvents start [] start
-gave_none start = record {
-  events = [];
-  are = All-nil IsWriterEvent;
-  stands = λ given all sent stands.
-      subst (λ (events : List Event). StandsTaken given events (sent ++ []) start) (sym (append-nil all))
-      (subst (λ (taken : List ℕ). StandsTaken given all taken start) (sym (append-nil sent)) stands);
-  grows = grows_itself start.page;
-}
-
-pub gives_none : (start : State) → GivesEvents start start
-gives_none start = ∣ gave_none start ∣₁
-
--- one call more
-gave_more : (start : State) (bytes : List ℕ) (before after : State) (event : Event) → IsWriterEvent event → AddsEvent before event after
-    → Grows before.page after.page → GaveEvents start bytes before → GaveEvents start bytes after
-gave_more start bytes before after event call adds grows gave = record {
-  events = gave.events ++ event ∷ [];
-  are = All-append IsWriterEvent gave.events (event ∷ []) gave.are (All-cons IsWriterEvent event [] call (All-nil IsWriterEvent));
-  stands = λ given all sent stands.
-      subst (λ (events : List Event). StandsTaken given events (sent ++ bytes) after) (append_assoc all gave.events (event ∷ []))
-      (adds given (all ++ gave.events) (sent ++ bytes) (gave.stands given all sent stands));
-  grows = grows_then gave.grows grows;
-}
-
--- more bytes are taken
-gave_taken : (start : State) (bytes more : List ℕ) (before after : State) → TakesBytes before more after → Grows before.page after.page
-    → GaveEvents start bytes before → GaveEvents start (bytes ++ more) after
-gave_taken start bytes more before after takes grows gave = record {
-  events = gave.events;
-  are = gave.are;
-  stands = λ given all sent stands.
-      subst (λ (taken : List ℕ). StandsTaken given (all ++ gave.events) taken after) (append_assoc sent bytes more)
-      (takes given (all ++ gave.events) (sent ++ bytes) (gave.stands given all sent stands));
-  grows = grows_then gave.grows grows;
-}
-
--- the document of a writer at its start
-gave_document : (given : Settings) (start emitter : State) (bytes rest : List ℕ) → StandsTaken given opening [] start → GaveEvents start bytes emitter
-    → Finishes emitter rest → (events : List Event) × All IsWriterEvent events × IsStream given (opening ++ events ++ closing) (bytes ++ rest)
-gave_document given start emitter bytes rest stands gave finishes =
-    (gave.events, gave.are, finishes given (opening ++ gave.events) bytes (gave.stands given opening [] stands))
-
--- the document that was asked for
-pub finished_document : (given : Settings) (start emitter : State) (bytes : List ℕ) → StandsTaken given opening [] start → GivesEvents start emitter
-    → Finishes emitter bytes → IsDocument given bytes
-finished_document given start emitter bytes began gives finishes =
-    ∥∥₁_map gives (λ gave. gave_document given start emitter [] bytes began gave finishes)
-
--- what is left was handed on, too
-sent_document : (given : Settings) (held mid now : Option (List ℕ)) (start emitter : State) (rest : List ℕ) → StandsTaken given opening [] start
-    → SendsEvents held start mid emitter → Finishes emitter rest → Appends mid now rest → AppendsDocument given held now
-sent_document given held mid now start emitter rest began sends finishes appends = ∥∥₁_map sends whole
-  where
-    whole : (bytes : List ℕ) × Appends held mid bytes × GaveEvents start bytes emitter → (bytes : List ℕ) × Appends held now bytes × IsDocument given bytes
-    whole sent = (
-      sent.0 ++ rest,
-      Appends-trans held mid now sent.0 rest sent.1 appends,
-      ∣ gave_document given start emitter sent.0 rest began sent.2 finishes ∣₁,
-    )
-
--- or a beginning of it was
-sent_beginning : (given : Settings) (held mid now : Option (List ℕ)) (start emitter : State) (rest : List ℕ) → StandsTaken given opening [] start
-    → SendsEvents held start mid emitter → Finishes emitter rest → AppendsFirst mid now rest → AppendsBeginning given held now
-sent_beginning given held mid now start emitter rest began sends finishes first = ∥∥₁_map sends part
-  where
-    part : (bytes : List ℕ) × Appends held mid bytes × GaveEvents start bytes emitter
-        → (bytes : List ℕ) × AppendsFirst held now bytes × ((bytes ≡ []) ⊎ (IsPartial given bytes ⊎ IsDocument given bytes))
-    part sent = (
-      sent.0 ++ rest,
-      appends_first held mid now sent.0 rest sent.1 first,
-      inr (inr ∣ gave_document given start emitter sent.0 rest began sent.2 finishes ∣₁),
-    )
-
--- what an answer tells of both
-pub written_by : {E : Type 0} (answer : Result (Unit {0}) E) (given : Settings) (held mid now : Option (List ℕ)) (start emitter : State) (rest : List ℕ)
-    → StandsTaken given opening [] start → SendsEvents held start mid emitter → Finishes emitter rest → OnOk answer (Appends mid now rest)
-    → OnOk answer (AppendsDocument given held now)
-written_by (Ok done) given held mid now start emitter rest began sends finishes appends =
-    sent_document given held mid now start emitter rest began sends finishes appends
-written_by (Err error) given held mid now start emitter rest began sends finishes appends = tt
-
-pub begun_by : {E : Type 0} (answer : Result (Unit {0}) E) (given : Settings) (held mid now : Option (List ℕ)) (start emitter : State) (rest : List ℕ)
-    → StandsTaken given opening [] start → SendsEvents held start mid emitter → Finishes emitter rest → OnErr answer (AppendsFirst mid now rest)
-    → OnErr answer (AppendsBeginning given held now)
-begun_by (Ok done) given held mid now start emitter rest began sends finishes first = tt
-begun_by (Err error) given held mid now start emitter rest began sends finishes first =
-    sent_beginning given held mid now start emitter rest began sends finishes first
-
--- what holds after any error
-pub fails_with : {E P : Type 0} (answer : Result (Unit {0}) E) → P → OnErr answer P
-fails_with (Ok done) holds = tt
-fails_with (Err error) holds = holds
-
--- nothing of it
-pub begins_nothing : (given : Settings) (held : Option (List ℕ)) → AppendsBeginning given held held
-begins_nothing given held = ∣ ([], ([], prefix_itself [], Appends-nil held), inl refl) ∣₁
 
 -- ---- truncated facts
 
@@ -166,25 +66,26 @@ open_less outer now kind fewer is =
 
 -- ---- the document
 
-module _ {W : Type 0} (contents : W → Option (List ℕ)) (held : Option (List ℕ)) (name : GName) (keeps : Bool) (start : WriterState) where
+module _ {W : Type 0} (contents : W → Option (List ℕ)) (outside : Outside) where
   abbrev StandsIn : Outlet W → ℕ → WriterState → Type 0
-  StandsIn outlet base writer = Stands contents held name keeps start outlet base writer
+  StandsIn outlet base writer = Stands contents outside outlet base writer
 
   -- what was given, with some bytes handed on
   abbrev Given : Outlet W → State → Type 0
-  Given outlet emitter = GaveAndHandedOn contents held start.emitter outlet emitter
+  Given outlet emitter = GaveAndHandedOn contents outside.held outside.start.emitter outlet emitter
 
   -- a document begins
-  pub stands_new : (outlet : Outlet W) (base : ℕ) (writer : WriterState) → writer ≡ start → Appends held (contents outlet.sink.now) []
-      → is_kept outlet.handing ≡ keeps → (keeps ≡ false → outlet.sink.ghost_name ≡ name) → base ≡ length writer.levels → StandsIn outlet base writer
-  stands_new outlet base writer is appends kept same count =
+  pub stands_new : (outlet : Outlet W) {base : ℕ} {writer : WriterState} → writer ≡ outside.start → Appends outside.held (contents outlet.sink.now) []
+      → is_kept outlet.handing ≡ outside.keeps → (outside.keeps ≡ false → outlet.sink.ghost_name ≡ outside.name) → base ≡ length writer.levels
+      → StandsIn outlet base writer
+  stands_new outlet {base} {writer} is appends kept same count =
       record {
         given = ∣ begun ∣₁;
         kept = kept;
         same = same;
         base_is = count ∙ ap (λ (w : WriterState). length w.levels) is;
         canonical = ap (λ (w : WriterState). w.canonical) is;
-        above = ap (λ (w : WriterState). take (length start.levels) w.levels) is ∙ take-length start.levels;
+        above = ap (λ (w : WriterState). take (length outside.start.levels) w.levels) is ∙ take-length outside.start.levels;
       }
     where
       begun : Given outlet writer.emitter
@@ -192,22 +93,22 @@ module _ {W : Type 0} (contents : W → Option (List ℕ)) (held : Option (List 
         taken = [];
         more = [];
         handed = record { sends = appends; none = λ unfailed. refl; kept = λ kept. refl };
-        gave = subst (λ (w : WriterState). GaveEvents start.emitter [] w.emitter) (sym is) (gave_none start.emitter);
+        gave = subst (λ (w : WriterState). GaveEvents outside.start.emitter [] w.emitter) (sym is) (gave_none outside.start.emitter);
         begins = λ given all sent stands.
             subst (λ (w : WriterState). IsPrefix ((sent ++ []) ++ []) w.emitter.page.output) (sym is)
-            (subst (λ (l : List ℕ). IsPrefix l start.emitter.page.output) (sym (append-nil (sent ++ []) ∙ append-nil sent)) stands.begins);
+            (subst (λ (l : List ℕ). IsPrefix l outside.start.emitter.page.output) (sym (append-nil (sent ++ []) ∙ append-nil sent)) stands.begins);
       }
 
   -- nothing changes but properties of the next node
   stands_kept : (outlet : Outlet W) (base : ℕ) (before after : WriterState) → after.emitter ≡ before.emitter → after.canonical ≡ before.canonical
       → after.levels ≡ before.levels → StandsIn outlet base before → StandsIn outlet base after
   stands_kept outlet base before after emitter canonical levels stands = record {
-    given = subst (HasGiven contents held start.emitter outlet) (sym emitter) stands.given;
+    given = subst (HasGiven contents outside.held outside.start.emitter outlet) (sym emitter) stands.given;
     kept = stands.kept;
     same = stands.same;
     base_is = stands.base_is;
     canonical = canonical ∙ stands.canonical;
-    above = ap (take (length start.levels)) levels ∙ stands.above;
+    above = ap (take (length outside.start.levels)) levels ∙ stands.above;
   }
 
   stands_same : (outlet : Outlet W) (base : ℕ) (before after : WriterState) → after ≡ before → StandsIn outlet base before → StandsIn outlet base after
@@ -218,7 +119,7 @@ module _ {W : Type 0} (contents : W → Option (List ℕ)) (held : Option (List 
   -- an event more
   stands_more : (outlet : Outlet W) (base : ℕ) (before after : WriterState) (event : Event) → IsWriterEvent event
       → AddsEvent before.emitter event after.emitter → Grows before.emitter.page after.emitter.page → after.canonical ≡ before.canonical
-      → take (length start.levels) after.levels ≡ start.levels → StandsIn outlet base before → StandsIn outlet base after
+      → take (length outside.start.levels) after.levels ≡ outside.start.levels → StandsIn outlet base before → StandsIn outlet base after
   stands_more outlet base before after event call adds grows canonical above stands =
       record {
         given = ∥∥₁_map stands.given more;
@@ -234,47 +135,47 @@ module _ {W : Type 0} (contents : W → Option (List ℕ)) (held : Option (List 
         taken = given.taken;
         more = given.more;
         handed = given.handed;
-        gave = gave_more start.emitter given.taken before.emitter after.emitter event call adds grows given.gave;
+        gave = gave_more outside.start.emitter given.taken before.emitter after.emitter event call adds grows given.gave;
         begins = λ any all sent stood. prefix_then (given.begins any all sent stood) grows.output;
       }
 
   gave_one : (outlet : Outlet W) (base : ℕ) (before inside after : WriterState) (event : Event) (error : Option yaml_error_t) → IsWriterEvent event
-      → inside.emitter ≡ before.emitter → inside.canonical ≡ before.canonical → take (length start.levels) inside.levels ≡ start.levels
+      → inside.emitter ≡ before.emitter → inside.canonical ≡ before.canonical → take (length outside.start.levels) inside.levels ≡ outside.start.levels
       → GaveEvent inside event error after → StandsIn outlet base before → StandsIn outlet base after
   gave_one outlet base before inside after event error call emitter canonical above gave =
       stands_more outlet base before after event call (subst (λ (e : State). AddsEvent e event after.emitter) emitter gave.adds)
       (subst (λ (e : State). Grows e.page after.emitter.page) emitter gave.grows) (gave.canonical ∙ canonical)
-      (ap (take (length start.levels)) gave.levels ∙ above)
+      (ap (take (length outside.start.levels)) gave.levels ∙ above)
 
   -- an event was given, or there was no memory for it
-  pub stands_given : (answer : Result (Unit {0}) yaml_error_t) (outlet : Outlet W) (base : ℕ) (before after : WriterState) {event : Event}
+  pub stands_given : (answer : Result (Unit {0}) yaml_error_t) {outlet : Outlet W} {base : ℕ} {before after : WriterState} {event : Event}
       → IsWriterEvent event → Gives before event answer after → StandsIn outlet base before → StandsIn outlet base after
-  stands_given (Ok done) outlet base before after {event} call gave stands =
+  stands_given (Ok done) {outlet} {base} {before} {after} {event} call gave stands =
       gave_one outlet base before before after event None call refl refl stands.above gave stands
-  stands_given (Err error) outlet base before after {event} call (inl failed) stands =
+  stands_given (Err error) {outlet} {base} {before} {after} {event} call (inl failed) stands =
       gave_one outlet base before before after event (Some error) call refl refl stands.above failed stands
-  stands_given (Err error) outlet base before after {event} call (inr none) stands = stands_same outlet base before after none.1 stands
+  stands_given (Err error) {outlet} {base} {before} {after} {event} call (inr none) stands = stands_same outlet base before after none.1 stands
 
   -- a float was given, or there was no memory for it
-  pub stands_float : (format : Format) (float : Float) (answer : Result (Unit {0}) yaml_error_t) (outlet : Outlet W) (base : ℕ) (before after : WriterState)
+  pub stands_float : (format : Format) (float : Float) (answer : Result (Unit {0}) yaml_error_t) {outlet : Outlet W} {base : ℕ} {before after : WriterState}
       → GivesFloat format before float answer after → StandsIn outlet base before → StandsIn outlet base after
-  stands_float format nan answer outlet base before after gave stands =
-      stands_given answer outlet base before after (special_call before NotANumber) gave stands
-  stands_float format (inf negative) answer outlet base before after gave stands =
-      stands_given answer outlet base before after (special_call before (if negative then NegativeInfinity else Infinity)) gave stands
-  stands_float format (fin negative significand exponent) answer outlet base before after gave stands =
-      stands_given answer outlet base before after (number_call before gave.0 gave.1.is_number.valid) gave.2 stands
+  stands_float format nan answer {outlet} {base} {before} {after} gave stands =
+      stands_given answer (special_call before NotANumber) gave stands
+  stands_float format (inf negative) answer {outlet} {base} {before} {after} gave stands =
+      stands_given answer (special_call before (if negative then NegativeInfinity else Infinity)) gave stands
+  stands_float format (fin negative significand exponent) answer {outlet} {base} {before} {after} gave stands =
+      stands_given answer (number_call before gave.0 gave.1.is_number.valid) gave.2 stands
 
   -- the start of a collection was given, or there was no memory for it
-  pub stands_begun : (answer : Result (Unit {0}) yaml_error_t) (outlet : Outlet W) (base : ℕ) (before after : WriterState) (kind : CollectionKind)
+  pub stands_begun : (answer : Result (Unit {0}) yaml_error_t) (kind : CollectionKind) {outlet : Outlet W} {base : ℕ} {before after : WriterState}
       {event : Event} → IsWriterEvent event → Begins kind before event answer after → StandsIn outlet base before → StandsIn outlet base after
-  stands_begun (Ok done) outlet base before after kind {event} call gave stands =
-      gave_one outlet base before (with_collection before kind) after event None call refl refl (open_more start.levels before.levels kind stands.above)
+  stands_begun (Ok done) kind {outlet} {base} {before} {after} {event} call gave stands =
+      gave_one outlet base before (with_collection before kind) after event None call refl refl (open_more outside.start.levels before.levels kind stands.above)
       gave stands
-  stands_begun (Err error) outlet base before after kind {event} call (inl failed) stands =
+  stands_begun (Err error) kind {outlet} {base} {before} {after} {event} call (inl failed) stands =
       gave_one outlet base before (with_collection before kind) after event (Some error) call refl refl
-      (open_more start.levels before.levels kind stands.above) failed stands
-  stands_begun (Err error) outlet base before after kind {event} call (inr none) stands = stands_same outlet base before after none.1 stands
+      (open_more outside.start.levels before.levels kind stands.above) failed stands
+  stands_begun (Err error) kind {outlet} {base} {before} {after} {event} call (inr none) stands = stands_same outlet base before after none.1 stands
 
   -- a collection of the document was ended
   stands_end : (answer : Result (Unit {0}) yaml_error_t) (outlet : Outlet W) (base : ℕ) (before after : WriterState) → base < length before.levels
@@ -283,29 +184,36 @@ module _ {W : Type 0} (contents : W → Option (List ℕ)) (held : Option (List 
   stands_end answer outlet base before after inner (inr ended) stands =
       stands_more outlet base before after (end_event ended.kind) (end_call ended.kind) ended.adds ended.grows
       (ap (λ (w : WriterState). w.canonical) ended.rest)
-      (ap (λ (w : WriterState). take (length start.levels) w.levels) ended.rest
-      ∙ open_less start.levels ended.outer ended.kind (omega (arith, inner, stands.base_is, ap length ended.levels))
-      (ap (take (length start.levels)) (sym ended.levels) ∙ stands.above))
+      (ap (λ (w : WriterState). take (length outside.start.levels) w.levels) ended.rest
+      ∙ open_less outside.start.levels ended.outer ended.kind (omega (arith, inner, stands.base_is, ap length ended.levels))
+      (ap (take (length outside.start.levels)) (sym ended.levels) ∙ stands.above))
       stands
 
   -- or a tag awaited its node
-  pub stands_ended : (answer : Result (Unit {0}) yaml_error_t) (outlet : Outlet W) (base : ℕ) (before after : WriterState) → base < length before.levels
+  pub stands_ended : (answer : Result (Unit {0}) yaml_error_t) {outlet : Outlet W} {base : ℕ} {before after : WriterState} → base < length before.levels
       → (awaits_node before ≡ true → NodeExpected before answer after) → (awaits_node before ≡ false → EndsInnermost before answer after)
       → StandsIn outlet base before → StandsIn outlet base after
-  stands_ended answer outlet base before after inner awaited ended = by (awaits_node before) refl
+  stands_ended answer {outlet} {base} {before} {after} inner awaited ended = by (awaits_node before) refl
     where
       by : (x : Bool) → awaits_node before ≡ x → StandsIn outlet base before → StandsIn outlet base after
       by true is = stands_same outlet base before after (awaited is).1
       by false is = stands_end answer outlet base before after inner (ended is)
 
   -- the next node has a tag, or there was no memory for it
-  pub stands_tagged : (answer : Result (Unit {0}) yaml_error_t) (outlet : Outlet W) (base : ℕ) (before after : WriterState) (tag : Text)
+  pub stands_tagged : (answer : Result (Unit {0}) yaml_error_t) (tag : Text) {outlet : Outlet W} {base : ℕ} {before after : WriterState}
       → OnOk answer (after ≡ record before { tag = Some tag }) → IfErr answer (λ error. (error ≡ Memory) × (after ≡ before))
       → StandsIn outlet base before → StandsIn outlet base after
-  stands_tagged (Ok done) outlet base before after tag tagged none =
+  stands_tagged (Ok done) tag {outlet} {base} {before} {after} tagged none =
       stands_kept outlet base before after (ap (λ (w : WriterState). w.emitter) tagged) (ap (λ (w : WriterState). w.canonical) tagged)
       (ap (λ (w : WriterState). w.levels) tagged)
-  stands_tagged (Err error) outlet base before after tag tagged none = stands_same outlet base before after none.1
+  stands_tagged (Err error) tag {outlet} {base} {before} {after} tagged none = stands_same outlet base before after none.1
+
+  -- a sink that didn't fail has what was taken
+  sends_taken : (outlet : Outlet W) (emitter : State) → has_failed outlet.handing ≡ false → (gave : Given outlet emitter)
+      → Appends outside.held (contents outlet.sink.now) gave.taken
+  sends_taken outlet emitter unfailed gave =
+      subst (Appends outside.held (contents outlet.sink.now))
+      (ap (λ (l : List ℕ). gave.taken ++ l) (gave.handed.none unfailed) ∙ append-nil gave.taken) gave.handed.sends
 
   -- nothing was handed on
   stands_none : (old new : Outlet W) (base : ℕ) (before after : WriterState) → HandsNone old before new after → StandsIn old base before
@@ -323,7 +231,7 @@ module _ {W : Type 0} (contents : W → Option (List ℕ)) (held : Option (List 
         same = λ sent. same ∙ stands.same sent;
         base_is = stands.base_is;
         canonical = ap (λ (w : WriterState). w.canonical) hands.writer ∙ stands.canonical;
-        above = ap (λ (w : WriterState). take (length start.levels) w.levels) hands.writer ∙ stands.above;
+        above = ap (λ (w : WriterState). take (length outside.start.levels) w.levels) hands.writer ∙ stands.above;
       }
     where
       left : List ℕ
@@ -334,17 +242,15 @@ module _ {W : Type 0} (contents : W → Option (List ℕ)) (held : Option (List 
 
       handed : Given old before.emitter → Given new after.emitter
       handed given =
-          let none : given.more ≡ [] = given.handed.none (ap has_failed is) in
-          let sends : Appends held (contents old.sink.now) given.taken =
-          subst (Appends held (contents old.sink.now)) (ap (λ (l : List ℕ). given.taken ++ l) none ∙ append-nil given.taken) given.handed.sends in
-          let gave : GaveEvents start.emitter (given.taken ++ left) after.emitter =
-          gave_taken start.emitter given.taken left before.emitter after.emitter hands.takes (grows_taken before after hands.writer) given.gave in
+          let sends = sends_taken old before.emitter (ap has_failed is) given in
+          let gave : GaveEvents outside.start.emitter (given.taken ++ left) after.emitter =
+          gave_taken outside.start.emitter given.taken left before.emitter after.emitter hands.takes (grows_taken before after hands.writer) given.gave in
           record {
             taken = given.taken ++ left;
             more = [];
             handed = record {
-              sends = subst (Appends held (contents new.sink.now)) (sym (append-nil (given.taken ++ left)))
-                  (Appends-trans held (contents old.sink.now) (contents new.sink.now) given.taken left sends hands.sends);
+              sends = subst (Appends outside.held (contents new.sink.now)) (sym (append-nil (given.taken ++ left)))
+                  (Appends-trans outside.held (contents old.sink.now) (contents new.sink.now) given.taken left sends hands.sends);
               none = λ unfailed. refl;
               kept = λ kept. absurd (not_kept (sym (ap is_kept is_open) ∙ kept));
             };
@@ -370,14 +276,12 @@ module _ {W : Type 0} (contents : W → Option (List ℕ)) (held : Option (List 
     where
       handed : Given old before.emitter → Given new before.emitter
       handed given =
-          let none : given.more ≡ [] = given.handed.none (ap has_failed is) in
-          let sends : Appends held (contents old.sink.now) given.taken =
-          subst (Appends held (contents old.sink.now)) (ap (λ (l : List ℕ). given.taken ++ l) none ∙ append-nil given.taken) given.handed.sends in
+          let sends = sends_taken old before.emitter (ap has_failed is) given in
           record {
             taken = given.taken;
             more = hands.sends.0;
             handed = record {
-              sends = Appends-trans held (contents old.sink.now) (contents new.sink.now) given.taken hands.sends.0 sends hands.sends.2;
+              sends = Appends-trans outside.held (contents old.sink.now) (contents new.sink.now) given.taken hands.sends.0 sends hands.sends.2;
               none = λ unfailed. absurd (not_kept (sym unfailed ∙ hands.fails));
               kept = λ kept. absurd (not_kept (sym (failed_is_sent new.handing hands.fails) ∙ kept));
             };
@@ -388,10 +292,10 @@ module _ {W : Type 0} (contents : W → Option (List ℕ)) (held : Option (List 
           }
 
   -- bytes were handed on
-  pub stands_handed : (old new : Outlet W) (base : ℕ) (before after : WriterState) (answer : Result (Unit {0}) Error)
+  pub stands_handed : (answer : Result (Unit {0}) Error) {old new : Outlet W} {base : ℕ} {before after : WriterState}
       → HandsOn contents old.handing old before answer new after → new.sink.ghost_name ≡ old.sink.ghost_name
       → StandsIn old base before → StandsIn new base after
-  stands_handed old new base before after answer hands same = by old.handing refl answer hands
+  stands_handed answer {old} {new} {base} {before} {after} hands same = by old.handing refl answer hands
     where
       by : (handing : Handing) → old.handing ≡ handing → (answer : Result (Unit {0}) Error) → HandsOn contents handing old before answer new after
           → StandsIn old base before → StandsIn new base after
@@ -403,41 +307,58 @@ module _ {W : Type 0} (contents : W → Option (List ℕ)) (held : Option (List 
   -- ---- its end
 
   -- all its bytes stayed with the writer
-  pub kept_gives : (outlet : Outlet W) (base : ℕ) (writer : WriterState) → keeps ≡ true → StandsIn outlet base writer
-      → GivesEvents start.emitter writer.emitter
+  kept_gives : (outlet : Outlet W) (base : ℕ) (writer : WriterState) → outside.keeps ≡ true → StandsIn outlet base writer
+      → GivesEvents outside.start.emitter writer.emitter
   kept_gives outlet base writer kept stands = ∥∥₁_map stands.given gives
     where
-      gives : Given outlet writer.emitter → GaveEvents start.emitter [] writer.emitter
+      gives : Given outlet writer.emitter → GaveEvents outside.start.emitter [] writer.emitter
       gives given =
-          subst (λ (bytes : List ℕ). GaveEvents start.emitter bytes writer.emitter) (given.handed.kept (stands.kept ∙ kept)) given.gave
+          subst (λ (bytes : List ℕ). GaveEvents outside.start.emitter bytes writer.emitter) (given.handed.kept (stands.kept ∙ kept)) given.gave
 
   -- what was written before stays
-  pub given_grows : (outlet : Outlet W) (base : ℕ) (writer : WriterState) → StandsIn outlet base writer → Grows start.emitter.page writer.emitter.page
+  given_grows : (outlet : Outlet W) (base : ℕ) (writer : WriterState) → StandsIn outlet base writer → Grows outside.start.emitter.page writer.emitter.page
   given_grows outlet base writer stands =
       record {
-        text = prefix_had start.emitter.page.text writer.emitter.page.text (∥∥₁_map stands.given (λ given. given.gave.grows.text));
-        output = prefix_had start.emitter.page.output writer.emitter.page.output (∥∥₁_map stands.given (λ given. given.gave.grows.output));
+        text = prefix_had outside.start.emitter.page.text writer.emitter.page.text (∥∥₁_map stands.given (λ given. given.gave.grows.text));
+        output = prefix_had outside.start.emitter.page.output writer.emitter.page.output (∥∥₁_map stands.given (λ given. given.gave.grows.output));
       }
 
-  -- where the sink didn't fail it has what was taken
-  sends_taken : (outlet : Outlet W) (emitter : State) → has_failed outlet.handing ≡ false → (gave : Given outlet emitter)
-      → Appends held (contents outlet.sink.now) gave.taken
-  sends_taken outlet emitter unfailed gave =
-      subst (Appends held (contents outlet.sink.now))
-      (ap (λ (l : List ℕ). gave.taken ++ l) (gave.handed.none unfailed) ∙ append-nil gave.taken) gave.handed.sends
+  -- whatever it is, it is a part of a value
+  gave_part : (outlet : Outlet W) (base : ℕ) (writer : WriterState) → outside.keeps ≡ true → StandsIn outlet base writer → GavePart outside.start writer
+  gave_part outlet base writer kept stands = record {
+    gives = kept_gives outlet base writer kept stands;
+    grows = given_grows outlet base writer stands;
+    canonical = stands.canonical;
+    above = stands.above;
+  }
 
-  pub sent_events : (outlet : Outlet W) (base : ℕ) (writer : WriterState) → has_failed outlet.handing ≡ false → StandsIn outlet base writer
-      → SendsEvents held start.emitter (contents outlet.sink.now) writer.emitter
+  -- and a whole one, where the writer has no error, and nothing more is open than before
+  pub gives_value : (answer : Result (Unit {0}) Error) {outlet : Outlet W} {base : ℕ} {writer : WriterState} → outside.keeps ≡ true
+      → StandsIn outlet base writer → OnOk answer ((length writer.levels ≡ base) × (awaits_node writer ≡ false))
+      → OnOk answer (writer.emitter.error ≡ None) → GivesValue outside.start answer writer
+  gives_value (Ok done) {outlet} {base} {writer} kept stands whole sound = record {
+    part = gave_part outlet base writer kept stands;
+    whole = (
+      sym (take-length writer.levels) ∙ ap (λ (count : ℕ). take count writer.levels) (whole.0 ∙ stands.base_is) ∙ stands.above,
+      whole.1,
+    );
+    sound = sound;
+  }
+  gives_value (Err error) {outlet} {base} {writer} kept stands whole sound = gave_part outlet base writer kept stands
+
+  -- where the sink didn't fail it has what was taken
+  sent_events : (outlet : Outlet W) (base : ℕ) (writer : WriterState) → has_failed outlet.handing ≡ false → StandsIn outlet base writer
+      → SendsEvents outside.held outside.start.emitter (contents outlet.sink.now) writer.emitter
   sent_events outlet base writer unfailed stands =
       ∥∥₁_map stands.given (λ gave. (gave.taken, sends_taken outlet writer.emitter unfailed gave, gave.gave))
 
   -- nothing more was handed on
-  pub sent_part : (given : Settings) (outlet : Outlet W) (base : ℕ) (writer : WriterState) → StandsTaken given opening [] start.emitter
-      → StandsIn outlet base writer → AppendsBeginning given held (contents outlet.sink.now)
-  sent_part given outlet base writer began stands = ∥∥₁_map stands.given part
+  pub sent_part : {outlet : Outlet W} {base : ℕ} {writer : WriterState} → StandsIn outlet base writer
+      → SendsBeginning outside.held outside.start.emitter (contents outlet.sink.now)
+  sent_part {outlet} {base} {writer} stands given began = ∥∥₁_map stands.given part
     where
       part : Given outlet writer.emitter
-          → (bytes : List ℕ) × AppendsFirst held (contents outlet.sink.now) bytes × ((bytes ≡ []) ⊎ (IsPartial given bytes ⊎ IsDocument given bytes))
+          → (bytes : List ℕ) × AppendsFirst outside.held (contents outlet.sink.now) bytes × ((bytes ≡ []) ⊎ (IsPartial given bytes ⊎ IsDocument given bytes))
       part gave =
           let stood : StandsTaken given (opening ++ gave.gave.events) gave.taken writer.emitter = gave.gave.stands given opening [] began in (
             writer.emitter.page.output,
@@ -451,3 +372,9 @@ module _ {W : Type 0} (contents : W → Option (List ℕ)) (held : Option (List 
               output_is = refl;
             })),
           )
+
+  -- all that was taken was handed on
+  pub sent_value : {outlet : Outlet W} {base : ℕ} {writer : WriterState} → has_failed outlet.handing ≡ false → StandsIn outlet base writer
+      → SentValue outside.held outside.start.emitter (contents outlet.sink.now) writer.emitter
+  sent_value {outlet} {base} {writer} unfailed stands =
+      record { whole = sent_events outlet base writer unfailed stands; first = sent_part stands }

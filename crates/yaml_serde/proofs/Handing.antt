@@ -1,8 +1,8 @@
 -- What is handed on of a document's bytes.
-use Rattle.yaml_serde.proofs.Common.{ℕ, Option, None, Some, Bool, true, false, List, [], ◌++◌, refl, ◌≡◌, append-nil, append_assoc, ap, subst, sym, ◌∙◌}
-use Rattle.yaml_serde.proofs.Common.{Appends, Err, Ok, OnOk, Result, Event, Settings, State, grows_itself, Grows, is_kept, WriterState, StandsTaken}
+use Rattle.yaml_serde.proofs.Common.{ℕ, Option, None, true, false, List, ◌++◌, refl, ◌≡◌, append_assoc, ap, subst, sym, ◌∙◌}
+use Rattle.yaml_serde.proofs.Common.{Appends, Err, Ok, OnOk, Result, Event, Settings, State, Grows, is_kept, WriterState, StandsTaken}
 use Rattle.yaml_base.specs.Prefix.{IsPrefix}
-use Rattle.yaml_base.proofs.Prefixes.{prefix_itself, prefix_same}
+use Rattle.yaml_base.proofs.Prefixes.{prefix_itself}
 use Rattle.yaml_emitter.proofs.Common.{with_all_taken}
 use Rattle.yaml_pen.specs.Page.{output_left}
 use Rattle.yaml_base.specs.Sinks.{AppendsFirst}

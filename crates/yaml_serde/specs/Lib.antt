@@ -1,3 +1,4 @@
 pub mod Documents
 pub mod Outlets
+pub mod ValueCalls
 pub mod Variants

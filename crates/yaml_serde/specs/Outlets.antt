@@ -88,17 +88,49 @@ pub record GaveAndHandedOn {W : Type 0} (contents : W → Option (List ℕ)) (he
 abbrev pub HasGiven : {W : Type 0} → (W → Option (List ℕ)) → Option (List ℕ) → State → Outlet W → State → Type 0
 HasGiven contents held start outlet emitter = ∥ GaveAndHandedOn contents held start outlet emitter ∥₁
 
+-- what stood before a document: its writer and the name of the reference to it, the bytes of its sink where they are known and the name
+-- of the reference to that, and whether the document's bytes stay with the writer
+pub record Outside : Type 0 where
+  pub start : WriterState
+  pub lent : GName
+  pub held : Option (List ℕ)
+  pub name : GName
+  pub keeps : Bool
+
+-- of which nothing is known
+abbrev pub some_outside : Outside
+some_outside =
+    record {
+      start = record { emitter = new_state; canonical = false; levels = []; anchor = None; tag = None };
+      lent = 0;
+      held = None;
+      name = 0;
+      keeps = true;
+    }
+
+-- a document begins whose bytes stay with this writer
+pub record BeginsKept (outside : Outside) (writer : WriterState) (writer_name : GName) : Type 0 where
+  pub start : writer ≡ outside.start
+  pub lent : writer_name ≡ outside.lent
+  pub held : outside.held ≡ None
+  pub keeps : outside.keeps ≡ true
+
+-- or whose bytes are handed on to the sink that has these bytes
+pub record BeginsSent (outside : Outside) (writer : WriterState) (writer_name : GName) (bytes : Option (List ℕ)) (sink_name : GName)
+    : Type 0 where
+  pub start : writer ≡ outside.start
+  pub lent : writer_name ≡ outside.lent
+  pub held : outside.held ≡ bytes
+  pub name : outside.name ≡ sink_name
+  pub keeps : outside.keeps ≡ false
+
 -- a document within a writer, which is handed on by the reference of this name: the collections that were open before stay so, and below the
 -- base of the document
-pub record Stands {W : Type 0} (contents : W → Option (List ℕ)) (held : Option (List ℕ)) (name : GName) (keeps : Bool) (start : WriterState)
-    (outlet : Outlet W) (base : ℕ) (writer : WriterState) : Type 0 where
-  pub given : HasGiven contents held start.emitter outlet writer.emitter
-  pub kept : is_kept outlet.handing ≡ keeps
-  pub same : keeps ≡ false → outlet.sink.ghost_name ≡ name
-  pub base_is : base ≡ length start.levels
-  pub canonical : writer.canonical ≡ start.canonical
-  pub above : take (length start.levels) writer.levels ≡ start.levels
-
--- a writer of which nothing is known
-abbrev pub some_writer : WriterState
-some_writer = record { emitter = new_state; canonical = false; levels = []; anchor = None; tag = None }
+pub record Stands {W : Type 0} (contents : W → Option (List ℕ)) (outside : Outside) (outlet : Outlet W) (base : ℕ) (writer : WriterState)
+    : Type 0 where
+  pub given : HasGiven contents outside.held outside.start.emitter outlet writer.emitter
+  pub kept : is_kept outlet.handing ≡ outside.keeps
+  pub same : outside.keeps ≡ false → outlet.sink.ghost_name ≡ outside.name
+  pub base_is : base ≡ length outside.start.levels
+  pub canonical : writer.canonical ≡ outside.start.canonical
+  pub above : take (length outside.start.levels) writer.levels ≡ outside.start.levels

@@ -1,12 +1,9 @@
 //! A document that is being written.
-ghost use Rattle.std.specs.Borrow.{GName};
-ghost use Rattle.std.specs.Prelude.{◌≡◌, ℕ, [], chars, false, true, Bool, List, None, Ok, OnOk, Option, Some, length, take};
-ghost use Rattle.yaml_base.specs.Settings as base;
-ghost use Rattle.yaml_pen.specs.Wrote.{Grows};
+ghost use Rattle.std.specs.Prelude.{◌≡◌, chars, false, true, None, Ok, OnOk, Some, length};
 ghost use Rattle.yaml_writer.specs.NumberParts.{HasNumber};
-ghost use Rattle.yaml_writer.specs.Writing.{StandsTaken, WriterState, awaits_node, opening, text_event};
-ghost use Rattle.yaml_serde.specs.Documents.{AppendsBeginning, GivesEvents, SendsEvents};
-ghost use Rattle.yaml_serde.specs.Outlets.{HandsOn, Stands, some_writer};
+ghost use Rattle.yaml_writer.specs.Writing.{WriterState, awaits_node, text_event};
+ghost use Rattle.yaml_serde.specs.Outlets.{BeginsKept, BeginsSent, HandsOn, Outside, Stands, some_outside};
+ghost use Rattle.yaml_serde.specs.ValueCalls.{GivesValue, SendsValue};
 ghost use Rattle.yaml_serde.specs.Variants.{GivesAndSends, GivesMapping};
 
 use crate::error::{Cause, Error};
@@ -17,31 +14,14 @@ use std::io::Write;
 use std::marker::{Brand, PhantomData};
 use yaml_writer::{Writer, YAML_BLOCK_MAPPING_STYLE, YAML_BLOCK_SEQUENCE_STYLE, yaml_error_t};
 
-/// What stood before a document, which its type names: its writer and the name of the reference to it, the bytes of its sink
-/// where they are known and the name of the reference to that, and whether the document's bytes stay with the writer.
+/// What stood before a document, which its type names.
 pub(crate) trait Given {
-    ghost start: { WriterState };
-
-    ghost lent: { GName };
-
-    ghost held: { Option (List ℕ) };
-
-    ghost name: { GName };
-
-    ghost keeps: { Bool };
+    ghost outside: { Outside };
 }
 
-/// The caller of a generic function chooses them.
+/// The caller of a generic function chooses it.
 impl Given for Brand {
-    ghost start = { some_writer };
-
-    ghost lent = { 0 };
-
-    ghost held = { None };
-
-    ghost name = { 0 };
-
-    ghost keeps = { true };
+    ghost outside = { some_outside };
 }
 
 /// A document being written: its writer, and where the bytes go.
@@ -52,17 +32,14 @@ pub(crate) struct Document<'w, 'a, G: Given, W: Write> {
     /// How many collections of the writer are no part of the document.
     base: usize,
     marker: PhantomData<G>,
-    ghost stands: { Stands W.contents G.held G.name G.keeps G.start outlet base writer.now },
-    ghost lent: { writer.ghost_name ≡ G.lent },
+    ghost stands: { Stands W.contents G.outside outlet base writer.now },
+    ghost lent: { writer.ghost_name ≡ G.outside.lent },
 }
 
 impl<'w, 'a, G: Given, W: Write> Document<'w, 'a, G, W> {
     /// Makes a document whose bytes stay with the writer; the sink gets none.
     pub(crate) fn kept(writer: &'w mut Writer<Global>, nowhere: &'a mut W) -> Document<'w, 'a, G, W>
-        requires start { writer.now ≡ G.start }
-        requires lent { writer.ghost_name ≡ G.lent }
-        requires held { G.held ≡ None }
-        requires keeps { G.keeps ≡ true }
+        requires { BeginsKept G.outside writer.now writer.ghost_name }
     {
         let base = writer.depth();
         Document {
@@ -78,11 +55,7 @@ impl<'w, 'a, G: Given, W: Write> Document<'w, 'a, G, W> {
 
     /// Makes a document whose bytes are handed on to a sink.
     pub(crate) fn sent(writer: &'w mut Writer<Global>, sink: &'a mut W) -> Document<'w, 'a, G, W>
-        requires start { writer.now ≡ G.start }
-        requires lent { writer.ghost_name ≡ G.lent }
-        requires held { G.held ≡ W.contents sink.now }
-        requires name { G.name ≡ sink.ghost_name }
-        requires keeps { G.keeps ≡ false }
+        requires { BeginsSent G.outside writer.now writer.ghost_name (W.contents sink.now) sink.ghost_name }
     {
         let base = writer.depth();
         Document {
@@ -185,12 +158,10 @@ impl<'w, 'a, G: Given, W: Write> Document<'w, 'a, G, W> {
 
     /// Returns the writer, the sink as far as the document was handed on, and the sink's error, if it has one.
     pub(crate) fn into_parts(self) -> (&'w mut Writer<Global>, &'a mut W, Result<(), Error>)
-        requires { G.keeps ≡ false }
-        ensures lent { result.0.ghost_name ≡ G.lent }
-        ensures same { result.1.ghost_name ≡ G.name }
-        ensures whole { OnOk result.2 (SendsEvents G.held G.start.emitter (W.contents result.1.now) result.0.now.emitter) }
-        ensures first { (given : base.Settings) → StandsTaken given opening [] G.start.emitter
-            → AppendsBeginning given G.held (W.contents result.1.now) }
+        requires { G.outside.keeps ≡ false }
+        ensures lent { result.0.ghost_name ≡ G.outside.lent }
+        ensures same { result.1.ghost_name ≡ G.outside.name }
+        ensures sends { SendsValue G.outside.held G.outside.start.emitter result.2 (W.contents result.1.now) result.0.now.emitter }
     {
         let Document { writer, outlet, .. } = self;
         let Outlet { sink, handing } = outlet;
@@ -203,14 +174,9 @@ impl<'w, 'a, G: Given, W: Write> Document<'w, 'a, G, W> {
     /// Returns the writer, the sink, and the writer's error, if it has one; `ExpectedNode` where something that the document
     /// opened isn't ended, or an anchor or a tag awaits its node.
     pub(crate) fn into_writer(self) -> (&'w mut Writer<Global>, &'a mut W, Result<(), Error>)
-        requires { G.keeps ≡ true }
-        ensures lent { result.0.ghost_name ≡ G.lent }
-        ensures gives { GivesEvents G.start.emitter result.0.now.emitter }
-        ensures grows { Grows G.start.emitter.page result.0.now.emitter.page }
-        ensures canonical { result.0.now.canonical ≡ G.start.canonical }
-        ensures above { take (length G.start.levels) result.0.now.levels ≡ G.start.levels }
-        ensures whole { OnOk result.2 ((result.0.now.levels ≡ G.start.levels) × (awaits_node result.0.now ≡ false)) }
-        ensures sound { OnOk result.2 (result.0.now.emitter.error ≡ None) }
+        requires { G.outside.keeps ≡ true }
+        ensures lent { result.0.ghost_name ≡ G.outside.lent }
+        ensures gives { GivesValue G.outside.start result.2 result.0.now }
     {
         let Document {
             writer,
@@ -219,11 +185,20 @@ impl<'w, 'a, G: Given, W: Write> Document<'w, 'a, G, W> {
             ..
         } = self;
         let Outlet { sink, handing: _ } = outlet;
-        let whole = match writer.error() {
-            Some(error) => Err(Error::from(error)),
-            None if writer.depth() == base && !writer.awaits_node() => Ok(()),
-            None => Err(Error::from(yaml_error_t::ExpectedNode)),
-        };
+        let whole = check_whole(writer, base);
         (writer, sink, whole)
+    }
+}
+
+/// Returns the error of a writer, if it has one; `ExpectedNode` where it has another number of open collections, or an anchor or a tag
+/// awaits its node.
+fn check_whole(writer: &Writer<Global>, base: usize) -> Result<(), Error>
+    ensures whole { OnOk result ((length writer.now.levels ≡ base) × (awaits_node writer.now ≡ false)) }
+    ensures sound { OnOk result (writer.now.emitter.error ≡ None) }
+{
+    match writer.error() {
+        Some(error) => Err(Error::from(error)),
+        None if writer.depth() == base && !writer.awaits_node() => Ok(()),
+        None => Err(Error::from(yaml_error_t::ExpectedNode)),
     }
 }

@@ -1,13 +1,12 @@
 //! A value as YAML.
 ghost use Rattle.std.specs.Io.KnownBytes.{Appends};
-ghost use Rattle.std.specs.Prelude.{◌≡◌, [], IfOk, IsUtf8, None, OnErr, OnOk, false, length, string_bytes, take, true};
-ghost use Rattle.yaml_base.specs.Settings as base;
+ghost use Rattle.std.specs.Prelude.{◌≡◌, IfOk, IsUtf8, OnErr, OnOk, string_bytes};
 ghost use Rattle.yaml_emitter.specs.Given.{seen_settings};
 ghost use Rattle.yaml_base.specs.Sinks.{AppendsFirst};
-ghost use Rattle.yaml_pen.specs.Wrote.{Grows};
 ghost use Rattle.yaml_writer.specs.Given.{given_for_values};
-ghost use Rattle.yaml_writer.specs.Writing.{StandsTaken, awaits_node, opening};
-ghost use Rattle.yaml_serde.specs.Documents.{AppendsBeginning, AppendsDocument, GivesEvents, IsDocument, SendsEvents};
+ghost use Rattle.yaml_serde.specs.Documents.{AppendsBeginning, AppendsDocument, IsDocument};
+ghost use Rattle.yaml_serde.specs.Outlets.{BeginsKept, BeginsSent};
+ghost use Rattle.yaml_serde.specs.ValueCalls.{GivesValue, SendsValue};
 
 use crate::document::{Document, Given};
 use crate::error::Error;
@@ -119,12 +118,7 @@ pub fn write<T: Serialize>(
     writer: &mut Writer<Global>,
     value: &T,
 ) -> Result<(), Error>
-    ensures gives { GivesEvents writer.old.emitter writer.new.emitter }
-    ensures grows { Grows writer.old.emitter.page writer.new.emitter.page }
-    ensures canonical { writer.new.canonical ≡ writer.old.canonical }
-    ensures above { take (length writer.old.levels) writer.new.levels ≡ writer.old.levels }
-    ensures whole { OnOk result ((writer.new.levels ≡ writer.old.levels) × (awaits_node writer.new ≡ false)) }
-    ensures sound { OnOk result (writer.new.emitter.error ≡ None) }
+    ensures { GivesValue writer.old result writer.new }
 {
     write_with(alloc, SerdeSettings::default(), writer, value)
 }
@@ -139,12 +133,7 @@ pub fn write_with<T: Serialize>(
     writer: &mut Writer<Global>,
     value: &T,
 ) -> Result<(), Error>
-    ensures gives { GivesEvents writer.old.emitter writer.new.emitter }
-    ensures grows { Grows writer.old.emitter.page writer.new.emitter.page }
-    ensures canonical { writer.new.canonical ≡ writer.old.canonical }
-    ensures above { take (length writer.old.levels) writer.new.levels ≡ writer.old.levels }
-    ensures whole { OnOk result ((writer.new.levels ≡ writer.old.levels) × (awaits_node writer.new ≡ false)) }
-    ensures sound { OnOk result (writer.new.emitter.error ≡ None) }
+    ensures { GivesValue writer.old result writer.new }
 {
     let mut nowhere = io::sink();
     let (lent, _nowhere, answer) = given::<T, Brand>(
@@ -179,9 +168,7 @@ fn write_and_send<T: Serialize, W: Write>(
     sink: &mut W,
     value: &T,
 ) -> Result<(), Error>
-    ensures whole { OnOk result (SendsEvents (W.contents sink.old) writer.old.emitter (W.contents sink.new) writer.new.emitter) }
-    ensures first { (given : base.Settings) → StandsTaken given opening [] writer.old.emitter
-        → AppendsBeginning given (W.contents sink.old) (W.contents sink.new) }
+    ensures { SendsValue (W.contents sink.old) writer.old.emitter result (W.contents sink.new) writer.new.emitter }
 {
     let (lent, sent, answer) = handed::<T, W, Brand>(alloc, variants, writer, sink, value);
     // For the proof, which reads here what the writer and the sink have.
@@ -198,16 +185,10 @@ fn handed<'w, 'a, T: Serialize, W: Write, G: Given>(
     sink: &'a mut W,
     value: &T,
 ) -> (&'w mut Writer<Global>, &'a mut W, Result<(), Error>)
-    requires start { writer.now ≡ G.start }
-    requires lent { writer.ghost_name ≡ G.lent }
-    requires held { G.held ≡ W.contents sink.now }
-    requires name { G.name ≡ sink.ghost_name }
-    requires keeps { G.keeps ≡ false }
-    ensures lent { result.0.ghost_name ≡ G.lent }
-    ensures same { result.1.ghost_name ≡ G.name }
-    ensures whole { OnOk result.2 (SendsEvents G.held G.start.emitter (W.contents result.1.now) result.0.now.emitter) }
-    ensures first { (given : base.Settings) → StandsTaken given opening [] G.start.emitter
-        → AppendsBeginning given G.held (W.contents result.1.now) }
+    requires { BeginsSent G.outside writer.now writer.ghost_name (W.contents sink.now) sink.ghost_name }
+    ensures lent { result.0.ghost_name ≡ G.outside.lent }
+    ensures same { result.1.ghost_name ≡ G.outside.name }
+    ensures sends { SendsValue G.outside.held G.outside.start.emitter result.2 (W.contents result.1.now) result.0.now.emitter }
 {
     let document: Document<'w, 'a, G, W> = Document::sent(writer, sink);
     let (document, answer) = with_value(alloc, variants, document, value);
@@ -226,17 +207,9 @@ fn given<'w, 'a, T: Serialize, G: Given>(
     nowhere: &'a mut NoSink,
     value: &T,
 ) -> (&'w mut Writer<Global>, &'a mut NoSink, Result<(), Error>)
-    requires start { writer.now ≡ G.start }
-    requires lent { writer.ghost_name ≡ G.lent }
-    requires held { G.held ≡ None }
-    requires keeps { G.keeps ≡ true }
-    ensures lent { result.0.ghost_name ≡ G.lent }
-    ensures gives { GivesEvents G.start.emitter result.0.now.emitter }
-    ensures grows { Grows G.start.emitter.page result.0.now.emitter.page }
-    ensures canonical { result.0.now.canonical ≡ G.start.canonical }
-    ensures above { take (length G.start.levels) result.0.now.levels ≡ G.start.levels }
-    ensures whole { OnOk result.2 ((result.0.now.levels ≡ G.start.levels) × (awaits_node result.0.now ≡ false)) }
-    ensures sound { OnOk result.2 (result.0.now.emitter.error ≡ None) }
+    requires { BeginsKept G.outside writer.now writer.ghost_name }
+    ensures lent { result.0.ghost_name ≡ G.outside.lent }
+    ensures gives { GivesValue G.outside.start result.2 result.0.now }
 {
     let document: Document<'w, 'a, G, NoSink> = Document::kept(writer, nowhere);
     let (document, answer) = with_value(alloc, variants, document, value);

@@ -1,8 +1,8 @@
 use Rattle.yaml_serde.proofs.Common.{seen_settings}
-use Rattle.yaml_serde.proofs.Giving.{finished_document}
+use Rattle.yaml_serde.proofs.Gave.{finished_document}
 use Rattle.yaml_serde.proofs.serializing.to_vec_with.Goals as goal
 
 pub returns : goal.returns
 returns g c =
     finished_document (seen_settings c.args.settings.writer) c.in_ok-writer.writer.emitter c.write_with.new.writer.emitter c.in_ok-finish.field-0.items
-    c.in_ok-writer.ensures.stands c.write_with.ensures.gives c.in_ok-finish.ensures.finishes
+    c.in_ok-writer.ensures.stands c.in_ok-write_with.ensures.part.gives c.in_ok-finish.ensures.finishes

@@ -1,5 +1,5 @@
 use Rattle.yaml_serde.proofs.Common.{seen_settings, subst, sym, Finishes}
-use Rattle.yaml_serde.proofs.Giving.{begins_nothing, begun_by, fails_with, written_by}
+use Rattle.yaml_serde.proofs.Gave.{begins_nothing, begun_by, fails_with, written_by}
 use Rattle.yaml_serde.proofs.serializing.to_writer_with.Goals as goal
 
 pub returns-in_err-writer-clause-first : goal.returns-in_err-writer-clause-first
@@ -9,12 +9,12 @@ returns-in_err-writer-clause-first g c =
 pub returns-in_err-write_and_send-clause-first : goal.returns-in_err-write_and_send-clause-first
 returns-in_err-write_and_send-clause-first g c =
     fails_with c.from_residual-in_err-write_and_send.result
-    (c.write_and_send.ensures.first (seen_settings c.args.settings.writer) c.in_ok-writer.ensures.stands)
+    (c.in_err-write_and_send.ensures (seen_settings c.args.settings.writer) c.in_ok-writer.ensures.stands)
 
 pub returns-in_err-rest-clause-first : goal.returns-in_err-rest-clause-first
 returns-in_err-rest-clause-first g c =
     fails_with c.from_residual-in_err-rest.result
-    (c.write_and_send.ensures.first (seen_settings c.args.settings.writer) c.in_ok-writer.ensures.stands)
+    (c.in_ok-write_and_send.ensures.first (seen_settings c.args.settings.writer) c.in_ok-writer.ensures.stands)
 
 pub returns-clause-written : goal.returns-clause-written
 returns-clause-written g c =

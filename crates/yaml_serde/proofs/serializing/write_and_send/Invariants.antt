@@ -3,4 +3,12 @@ use Rattle.yaml_serde.proofs.serializing.write_and_send.Given as goal
 
 abbrev pub ghosts-handed : goal.ghosts-handed
 ghosts-handed g a =
-    record { start = a.writer.now; lent = a.writer.ghost_name; held = g.W.Write.contents a.sink.now; name = a.sink.ghost_name; keeps = false }
+    record {
+      outside = record {
+        start = a.writer.now;
+        lent = a.writer.ghost_name;
+        held = g.W.Write.contents a.sink.now;
+        name = a.sink.ghost_name;
+        keeps = false;
+      };
+    }

@@ -13,10 +13,7 @@ invariant_of-self g c =
     let self = c.args.self.now in
     let answer = c.begin_mapping-begun in
     record {
-      stands =
-          stands_begun g.W.Write.contents g.G.Given.held g.G.Given.name g.G.Given.keeps g.G.Given.start
-          answer.result self.outlet self.base self.writer.now answer.new.self
-          Mapping (mapping_call (with_collection self.writer.now Mapping)) answer.ensures self.stands;
+      stands = stands_begun _ _ answer.result Mapping (mapping_call (with_collection self.writer.now Mapping)) answer.ensures self.stands;
       lent = self.lent;
     }
 
@@ -25,7 +22,8 @@ returns g c =
     let self = c.args.self.now in
     let called = c.begin_mapping-begun in
     let settled = c.settle in
+    let event = mapping_event self.writer.now block in
     gives_and_sends g.W.Write.contents self.outlet settled.new.self.outlet (with_collection self.writer.now Mapping) called.new.self settled.new.self.writer.now
-    (mapping_event self.writer.now block) called.result settled.result
-    (λ ok. subst (λ (answer : Result (Unit {0}) yaml_error_t). Begins Mapping self.writer.now (mapping_event self.writer.now block) answer called.new.self) ok called.ensures)
+    event called.result settled.result
+    (λ ok. subst (λ (answer : Result (Unit {0}) yaml_error_t). Begins Mapping self.writer.now event answer called.new.self) ok called.ensures)
     settled.ensures.given settled.ensures.hands

@@ -8,9 +8,6 @@ invariant_of-self g c =
     let self = c.args.self.now in
     let answer = c.begin_sequence-begun in
     record {
-      stands =
-          stands_begun g.W.Write.contents g.G.Given.held g.G.Given.name g.G.Given.keeps g.G.Given.start
-          answer.result self.outlet self.base self.writer.now answer.new.self
-          Sequence (sequence_call (with_collection self.writer.now Sequence)) answer.ensures self.stands;
+      stands = stands_begun _ _ answer.result Sequence (sequence_call (with_collection self.writer.now Sequence)) answer.ensures self.stands;
       lent = self.lent;
     }

@@ -6,9 +6,6 @@ invariant_of-self g c =
     let self = c.args.self.now in
     let answer = c.bytes-given in
     record {
-      stands =
-          stands_given g.W.Write.contents g.G.Given.held g.G.Given.name g.G.Given.keeps g.G.Given.start
-          answer.result self.outlet self.base self.writer.now answer.new.self
-          (bytes_call self.writer.now c.args.value.now) answer.ensures self.stands;
+      stands = stands_given _ _ answer.result (bytes_call self.writer.now c.args.value.now) answer.ensures self.stands;
       lent = self.lent;
     }

@@ -8,9 +8,6 @@ invariant_of-self-2 g c =
     let answer = c.end-ended in
     let inner : self.base < length self.writer.now.levels = omega arith in
     record {
-      stands =
-          stands_ended g.W.Write.contents g.G.Given.held g.G.Given.name g.G.Given.keeps g.G.Given.start
-          answer.result self.outlet self.base self.writer.now answer.new.self
-          inner answer.ensures.awaited answer.ensures.ended self.stands;
+      stands = stands_ended _ _ answer.result inner answer.ensures.awaited answer.ensures.ended self.stands;
       lent = self.lent;
     }

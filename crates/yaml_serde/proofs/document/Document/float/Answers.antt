@@ -7,8 +7,6 @@ invariant_of-self g c =
     let self = c.args.self.now in
     let answer = c.float-given in
     record {
-      stands =
-          stands_float g.W.Write.contents g.G.Given.held g.G.Given.name g.G.Given.keeps g.G.Given.start
-          binary64 c.args.value answer.result self.outlet self.base self.writer.now answer.new.self answer.ensures self.stands;
+      stands = stands_float _ _ binary64 c.args.value answer.result answer.ensures self.stands;
       lent = self.lent;
     }

@@ -7,9 +7,6 @@ invariant_of-self g c =
     let self = c.args.self.now in
     let answer = c.int-given in
     record {
-      stands =
-          stands_given g.W.Write.contents g.G.Given.held g.G.Given.name g.G.Given.keeps g.G.Given.start
-          answer.result self.outlet self.base self.writer.now answer.new.self
-          (int_call self.writer.now (to_z w64 (of_z w64 c.args.value))) answer.ensures self.stands;
+      stands = stands_given _ _ answer.result (int_call self.writer.now (to_z w64 (of_z w64 c.args.value))) answer.ensures self.stands;
       lent = self.lent;
     }

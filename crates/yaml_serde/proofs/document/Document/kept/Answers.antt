@@ -8,8 +8,7 @@ invariant_of-result g c =
     let now = g.W.Write.contents c.args.nowhere.now in
     record {
       stands =
-          stands_new g.W.Write.contents g.G.Given.held g.G.Given.name g.G.Given.keeps g.G.Given.start
-          (record { sink = c.args.nowhere; handing = Kept }) c.depth-base.result c.args.writer.now c.requires.start
+          stands_new _ _ (record { sink = c.args.nowhere; handing = Kept }) c.requires.start
           (subst (λ (held : Option (List ℕ)). Appends held now []) (sym c.requires.held) tt) (sym c.requires.keeps)
           (λ sent. cc) c.depth-base.ensures;
       lent = c.requires.lent;

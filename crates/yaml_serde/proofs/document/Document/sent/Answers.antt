@@ -9,8 +9,7 @@ invariant_of-result g c =
     let now = g.W.Write.contents c.args.sink.now in
     record {
       stands =
-          stands_new g.W.Write.contents g.G.Given.held g.G.Given.name g.G.Given.keeps g.G.Given.start
-          (record { sink = c.args.sink; handing = Open }) c.depth-base.result c.args.writer.now c.requires.start
+          stands_new _ _ (record { sink = c.args.sink; handing = Open }) c.requires.start
           (subst (λ (held : Option (List ℕ)). Appends held now []) (sym c.requires.held) (Appends-nil now)) (sym c.requires.keeps)
           (λ sent. sym c.requires.name) c.depth-base.ensures;
       lent = c.requires.lent;

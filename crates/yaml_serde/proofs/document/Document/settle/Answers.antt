@@ -5,8 +5,6 @@ pub invariant_of-self : goal.invariant_of-self
 invariant_of-self g c =
     let self = c.args.self.now in
     record {
-      stands =
-          stands_handed g.W.Write.contents g.G.Given.held g.G.Given.name g.G.Given.keeps g.G.Given.start self.outlet c.hand_on.new.outlet self.base
-          self.writer.now c.hand_on.new.writer c.hand_on.result c.hand_on.ensures.hands c.hand_on.ensures.same self.stands;
+      stands = stands_handed _ _ c.hand_on.result c.hand_on.ensures.hands c.hand_on.ensures.same self.stands;
       lent = self.lent;
     }

@@ -7,9 +7,6 @@ invariant_of-self g c =
     let self = c.args.self.now in
     let answer = c.tagged in
     record {
-      stands =
-          stands_tagged g.W.Write.contents g.G.Given.held g.G.Given.name g.G.Given.keeps g.G.Given.start
-          answer.result self.outlet self.base self.writer.now answer.new.self
-          (chars c.args.tag.now) answer.ensures.tagged answer.ensures.memory self.stands;
+      stands = stands_tagged _ _ answer.result (chars c.args.tag.now) answer.ensures.tagged answer.ensures.memory self.stands;
       lent = self.lent;
     }

@@ -11,10 +11,7 @@ invariant_of-self g c =
     let self = c.args.self.now in
     let answer = c.text-given in
     record {
-      stands =
-          stands_given g.W.Write.contents g.G.Given.held g.G.Given.name g.G.Given.keeps g.G.Given.start
-          answer.result self.outlet self.base self.writer.now answer.new.self
-          (text_call self.writer.now (chars c.args.value.now)) answer.ensures self.stands;
+      stands = stands_given _ _ answer.result (text_call self.writer.now (chars c.args.value.now)) answer.ensures self.stands;
       lent = self.lent;
     }
 
@@ -23,7 +20,8 @@ returns g c =
     let self = c.args.self.now in
     let called = c.text-given in
     let settled = c.settle in
+    let event = text_event self.writer.now (chars c.args.value.now) in
     gives_and_sends g.W.Write.contents self.outlet settled.new.self.outlet self.writer.now called.new.self settled.new.self.writer.now
-    (text_event self.writer.now (chars c.args.value.now)) called.result settled.result
-    (λ ok. subst (λ (answer : Result (Unit {0}) yaml_error_t). Gives self.writer.now (text_event self.writer.now (chars c.args.value.now)) answer called.new.self) ok called.ensures)
+    event called.result settled.result
+    (λ ok. subst (λ (answer : Result (Unit {0}) yaml_error_t). Gives self.writer.now event answer called.new.self) ok called.ensures)
     settled.ensures.given settled.ensures.hands
