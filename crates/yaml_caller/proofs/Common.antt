@@ -11,6 +11,6 @@ pub use Rattle.std.specs.Prelude.{Err, Ok, Result, Decides, IsErrAnd, IfErr, IsE
 pub use Rattle.yaml_base.proofs.Literals.{chars-literal}
 pub use Rattle.yaml_base.specs.{Ready.held_back, Seen.seen_text, Seen.seen_directive, graphs.Documents.graph_of, graphs.Dumped.GraphsRead}
 pub use Rattle.yaml_base.specs.{graphs.Isomorphic.bare, values.TypedValues.typed_settings}
-pub use Rattle.yaml_caller.specs.{Cycle.cycle_graph, Cycle.cycle_bytes, GraphBytes.graph_events, GraphBytes.IsRefused, Cycle.cycle_settings}
+pub use Rattle.yaml_caller.specs.{Cycle.cycle_graph, Cycle.cycle_bytes, Alone.graph_events, GraphBytes.IsRefused, Cycle.cycle_settings}
 pub use Rattle.yaml_caller.specs.{Pair.portable_settings, Pair.pair_events}
 pub use Rattle.yaml_dump.specs.Dumps.{opening_unless, closing_unless, Dumps}

@@ -2,6 +2,7 @@ pub mod Common
 pub mod KnownStreams
 pub mod OnlyMemory
 pub mod SameBytes
+pub mod DumpedAlone
 pub mod Dumped
 pub mod CycleFits
 pub mod GraphsCompared

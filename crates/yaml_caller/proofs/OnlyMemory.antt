@@ -5,7 +5,7 @@ use Rattle.yaml_caller.proofs.Common.{refl, ◌≡◌, append_assoc, inl, inr, a
 use Rattle.yaml_caller.proofs.Common.{most_open, open_count, IsAccepted, Settings}
 use Rattle.yaml_caller.proofs.Common.{RefusedAt, Promised, State}
 use Rattle.yaml_base.proofs.Common.{◌+◌, ◌-◌, count_by, cond, sum_by-append, settings_for, bytes_written, list_layout, begins_collection}
-use Rattle.yaml_base.proofs.Common.{ends_collection}
+use Rattle.yaml_base.proofs.Common.{ends_collection, true≢false}
 use Rattle.std.{proofs.Common.lt_of_not-le}
 use Rattle.yaml_base.specs.declared.errors.{yaml_error_t.yaml_error_t, yaml_error_t.TheVariants.Memory, yaml_error_t.TheVariants.WriteError}
 use Rattle.yaml_emitter.specs.{Promises.FailsOnlyByMemory, Promises.FitsLimit, Uncut.IsUncut}
@@ -45,10 +45,14 @@ memory_or_limit given events all rest state error accepted begins promised is =
     absurd (never_refused given events all rest error state accepted begins (promised.refused error is tt))
 
 -- what holds of an error holds where it is passed on
+pub at_exit : {A : Type 0} (P : Result A yaml_error_t → Type 0) (error : yaml_error_t) (answer : Result A yaml_error_t) → P (Err error)
+    → IsErr answer × IsErrAnd answer (λ given. given ≡ error) → P answer
+at_exit P error (Ok done) holds is = absurd (true≢false (sym is.0))
+at_exit P error (Err given) holds is = subst (λ (e : yaml_error_t). P (Err e)) (sym is.1) holds
+
 pub passed_on : {A : Type 0} (P : yaml_error_t → Type 0) (error : yaml_error_t) (answer : Result A yaml_error_t) → P error
     → IsErr answer × IsErrAnd answer (λ given. given ≡ error) → IfErr answer P
-passed_on P error (Ok done) holds is = tt
-passed_on P error (Err given) holds is = subst P (sym is.1) holds
+passed_on P error answer holds is = at_exit (λ given. IfErr given P) error answer holds is
 
 -- no more collections are open after any event than the list begins
 pub shallow : (events : List Event) → count_by begins_collection events ≤ most_open → (prefix rest : List Event) → prefix ++ rest ≡ events

@@ -1,3 +1,4 @@
+pub mod Alone
 pub mod Cycle
 pub mod GraphBytes
 pub mod Pair

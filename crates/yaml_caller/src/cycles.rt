@@ -1,18 +1,20 @@
 //! A caller of dumps: it writes a document that holds itself, and proves the bytes and that they tell the graph.
-ghost use Rattle.std.specs.Prelude.{◌≡◌, IfOk, IfErr, OnOk, pos, true, false, None, [], ◌∷◌, codes, length, map};
+ghost use Rattle.std.specs.Prelude.{◌≡◌, IfOk, IfErr, pos, false, [], ◌∷◌, codes, length, map};
 ghost use Rattle.yaml_base.specs.graphs.Documents.{graph_of};
 ghost use Rattle.yaml_base.specs.graphs.Dumped.{GraphsRead};
 ghost use Rattle.yaml_dump.specs.GraphTrees.{GraphsReadBack};
 ghost use Rattle.yaml_base.specs.graphs.SeenNodes.{all_numbers, numbers_of, seen_node};
 ghost use Rattle.yaml_emitter.specs.StandsAfter.{StandsAfter};
-ghost use Rattle.yaml_caller.specs.Cycle.{cycle_bytes, cycle_graph, cycle_settings, key_node, map_node};
+ghost use Rattle.yaml_caller.specs.Alone.{IsUnopened};
+ghost use Rattle.yaml_caller.specs.Cycle.{cycle_graph, cycle_settings, key_node, map_node};
 
+use crate::alone::dump_alone;
 use std::alloc::{AllocError, Allocator};
 use yaml_base::{
     YAML_ANY_SCALAR_STYLE, YAML_BLOCK_MAPPING_STYLE, yaml_document_t, yaml_error_t,
     yaml_node_data_t, yaml_node_pair_t, yaml_node_t,
 };
-use yaml_dump::{YAML_MAP_TAG, YAML_STR_TAG, yaml_emitter_close, yaml_emitter_dump};
+use yaml_dump::{YAML_MAP_TAG, YAML_STR_TAG};
 use yaml_emitter::{
     yaml_emitter_initialize, yaml_emitter_set_canonical, yaml_emitter_set_output_string,
     yaml_emitter_set_width, yaml_emitter_t, yaml_emitter_take_output,
@@ -31,17 +33,18 @@ pub fn cycle_written<A: Allocator + Copy>(alloc: A) -> Result<Vec<u8, A>, yaml_e
     let Ok(mut emitter) = canonical_emitter(alloc) else {
         return Err(yaml_error_t::Memory);
     };
-    dump_cycle(alloc, &mut emitter)?;
+    let Ok(document) = cycle(alloc) else {
+        return Err(yaml_error_t::Memory);
+    };
+    dump_alone(alloc, &mut emitter, document)?;
     Ok(yaml_emitter_take_output(&mut emitter))
 }
 
 /// Makes an emitter that writes canonical form into at most 100 bytes.
 fn canonical_emitter<A: Allocator + Copy>(alloc: A) -> Result<yaml_emitter_t<A>, yaml_error_t>
     ensures stands { IfOk result (λ emitter. StandsAfter cycle_settings [] emitter) }
-    ensures output { IfOk result (λ emitter. emitter.has_output ≡ true) }
-    ensures no_error { IfOk result (λ emitter. emitter.error ≡ None) }
+    ensures unopened { IfOk result (λ emitter. IsUnopened emitter) }
     ensures untaken { IfOk result (λ emitter. emitter.page.taken ≡ 0) }
-    ensures unopened { IfOk result (λ emitter. (emitter.opened ≡ false) × (emitter.closed ≡ false)) }
     ensures memory { IfErr result (λ error. error ≡ yaml_error_t.Memory) }
 {
     let Ok(mut emitter) = yaml_emitter_initialize(alloc) else {
@@ -51,29 +54,6 @@ fn canonical_emitter<A: Allocator + Copy>(alloc: A) -> Result<yaml_emitter_t<A>,
     yaml_emitter_set_canonical(&mut emitter, true);
     yaml_emitter_set_width(&mut emitter, -1);
     Ok(emitter)
-}
-
-/// Dumps the document as a whole stream.
-fn dump_cycle<A: Allocator + Copy>(
-    alloc: A,
-    emitter: &mut yaml_emitter_t<A>,
-) -> Result<(), yaml_error_t>
-    requires stands { StandsAfter cycle_settings [] emitter.old }
-    requires output { emitter.old.has_output ≡ true }
-    requires no_error { emitter.old.error ≡ None }
-    requires unopened { emitter.old.opened ≡ false }
-    requires unclosed { emitter.old.closed ≡ false }
-    ensures bytes { OnOk result (emitter.new.page.output ≡ cycle_bytes) }
-    ensures taken { emitter.new.page.taken ≡ emitter.old.page.taken }
-    ensures graph { OnOk result (GraphsRead false (cycle_graph ∷ []) emitter.new.page.output) }
-    ensures trees { OnOk result (GraphsReadBack false (cycle_graph ∷ []) emitter.new.page.output) }
-    ensures memory { IfErr result (λ error. error ≡ yaml_error_t.Memory) }
-{
-    let Ok(document) = cycle(alloc) else {
-        return Err(yaml_error_t::Memory);
-    };
-    yaml_emitter_dump(alloc, emitter, document)?;
-    yaml_emitter_close(emitter)
 }
 
 /// Makes the document: its mapping is node 1, and the key is node 2.

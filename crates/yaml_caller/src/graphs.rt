@@ -1,15 +1,12 @@
 //! A caller of dumps: it compares the graphs of documents by their canonical bytes, as a store that hashes them does.
-ghost use Rattle.std.specs.Prelude.{◌≡◌, ◌⊎◌, ◌==◌, Decides, IfOk, IfErr, OnOk, None, [], true, false, length};
+ghost use Rattle.std.specs.Prelude.{◌≡◌, ◌⊎◌, ◌==◌, Decides, IfOk, IfErr, false, length};
 ghost use Rattle.yaml_base.specs.graphs.Documents.{graph_of};
-ghost use Rattle.yaml_base.specs.graphs.Isomorphic.{Isomorphic, bare};
-ghost use Rattle.yaml_base.specs.Settings.{largest_usize};
-ghost use Rattle.yaml_base.specs.values.TypedValues.{typed_settings};
-ghost use Rattle.yaml_emitter.specs.StandsAfter.{StandsAfter};
+ghost use Rattle.yaml_base.specs.graphs.Isomorphic.{Isomorphic};
 ghost use Rattle.yaml_caller.specs.GraphBytes.{IsRefused, WritesGraph};
 
+use crate::alone::dump_alone;
 use std::alloc::Allocator;
 use yaml_base::{yaml_document_t, yaml_error_t};
-use yaml_dump::{yaml_emitter_close, yaml_emitter_dump};
 use yaml_emitter::{yaml_emitter_t, yaml_emitter_take_output};
 use yaml_value::canonical_settings;
 
@@ -72,35 +69,11 @@ fn graph_bytes<A: Allocator + Copy>(
     let Ok(mut emitter) = yaml_emitter_t::with_settings(alloc, canonical_settings()) else {
         return Err(yaml_error_t::Memory);
     };
-    let answer = dump_graph(alloc, &mut emitter, document.bare());
+    let answer = dump_alone(alloc, &mut emitter, document.bare());
     // Taken after an error, too: a vector is shorter than the limit, so the error isn't that the output was full.
     let output = yaml_emitter_take_output(&mut emitter);
     match answer {
         Ok(()) => Ok(output),
         Err(error) => Err(error),
     }
-}
-
-/// Dumps the document as a whole stream.
-fn dump_graph<A: Allocator + Copy>(
-    alloc: A,
-    emitter: &mut yaml_emitter_t<A>,
-    document: yaml_document_t<A>,
-) -> Result<(), yaml_error_t>
-    requires stands { StandsAfter typed_settings [] emitter.old }
-    requires output { emitter.old.has_output ≡ true }
-    requires no_error { emitter.old.error ≡ None }
-    requires unopened { emitter.old.opened ≡ false }
-    requires unclosed { emitter.old.closed ≡ false }
-    requires nonempty { (length (graph_of document).nodes == 0) ≡ false }
-    requires is_bare { bare (graph_of document) ≡ graph_of document }
-    ensures taken { emitter.new.page.taken ≡ emitter.old.page.taken }
-    ensures written { OnOk result (WritesGraph (graph_of document) emitter.new.page.output) }
-    ensures failed { IfErr result (λ error. (error ≡ yaml_error_t.Memory)
-        ⊎ ((length emitter.new.page.output ≡ largest_usize) ⊎ IsRefused (graph_of document) error)) }
-{
-    // A law: what the nodes hold are numbers of nodes.
-    document.numbers_name_nodes();
-    yaml_emitter_dump(alloc, emitter, document)?;
-    yaml_emitter_close(emitter)
 }

@@ -1,6 +1,7 @@
 //! A caller of the emitter: it knows the public contracts and the definitions, and proves the bytes that it gets.
 #![tactic(auto)]
 
+mod alone;
 mod cycles;
 mod graphs;
 mod pairs;

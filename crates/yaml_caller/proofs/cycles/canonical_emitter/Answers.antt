@@ -1,7 +1,15 @@
-use Rattle.yaml_caller.proofs.Common.{Some, true, [], ◌≡◌, ap, subst, sym, ◌∙◌, Settings, State, StandsAfter}
+use Rattle.yaml_caller.proofs.Common.{Some, true, [], ◌≡◌, ap, subst, sym, ◌∙◌, Settings, State, StandsAfter, rules}
 use Rattle.std.specs.Prelude.{negsuc}
 use Rattle.yaml_base.specs.Settings.{nothing_given}
 use Rattle.yaml_caller.proofs.cycles.canonical_emitter.Goals as goal
+
+pub returns-clause-unopened : goal.returns-clause-unopened
+returns-clause-unopened g c =
+    let limit = c.yaml_emitter_set_output_string.ensures.set in
+    let form = c.yaml_emitter_set_canonical.ensures.set in
+    let width = c.yaml_emitter_set_width.ensures.set in
+    let made = c.in-Ok.ensures.made in
+    record { output = search rules; no_error = search rules; unopened = search rules; unclosed = search rules }
 
 pub returns-clause-stands : goal.returns-clause-stands
 returns-clause-stands g c =

@@ -1,17 +1,29 @@
-use Rattle.yaml_caller.proofs.Common.{false, [], ◌∷◌, subst, sym, ◌∙◌, GraphsRead, cycle_graph}
+use Rattle.yaml_caller.proofs.Common.{◌==◌, length, false, [], ◌∷◌, refl, ◌≡◌, ap, subst, sym, ◌∙◌, Graph, GraphsRead, cycle_graph, cycle_settings}
+use Rattle.yaml_base.specs.declared.errors.yaml_error_t.TheVariants.{Memory}
 use Rattle.yaml_dump.specs.GraphTrees.{GraphsReadBack}
+use Rattle.yaml_caller.specs.Alone.{DumpedAlone}
+use Rattle.yaml_caller.proofs.{CycleFits.cycle_failed, Dumped.all_portable, Dumped.cycle_row, OnlyMemory.passed_on}
 use Rattle.yaml_caller.proofs.cycles.cycle_written.Goals as goal
 
-pub returns-clause-bytes : goal.returns-clause-bytes
-returns-clause-bytes g c =
-    c.yaml_emitter_take_output.ensures.untaken (c.dump_cycle.ensures.taken ∙ c.in-Ok.ensures.untaken) ∙ c.in_ok-dump_cycle.ensures.bytes
+pub dump_alone-requires-clause-nonempty : goal.dump_alone-requires-clause-nonempty
+dump_alone-requires-clause-nonempty g c = ap (λ (graph : Graph). length graph.nodes == 0) c.in-Ok-cycle.ensures.graph
 
-pub returns-clause-graph : goal.returns-clause-graph
-returns-clause-graph g c =
-    subst (GraphsRead false (cycle_graph ∷ []))
-    (sym (c.yaml_emitter_take_output.ensures.untaken (c.dump_cycle.ensures.taken ∙ c.in-Ok.ensures.untaken))) c.in_ok-dump_cycle.ensures.graph
+pub returns : goal.returns
+returns g c =
+    let output = c.dump_alone.new.emitter.page.output in
+    let same = c.yaml_emitter_take_output.ensures.untaken (c.dump_alone.ensures.taken ∙ c.in-Ok.ensures.untaken) in
+    let dumped = subst (λ (graph : Graph). DumpedAlone cycle_settings graph output) c.in-Ok-cycle.ensures.graph
+    (c.in_ok-dump_alone.ensures.dumps cycle_settings c.in-Ok.ensures.stands) in
+    record {
+      bytes = same ∙ dumped.output_is ∙ cycle_row;
+      graph = subst (GraphsRead false (cycle_graph ∷ [])) (sym same) (dumped.reads refl);
+      trees = subst (GraphsReadBack false (cycle_graph ∷ [])) (sym same) (dumped.trees all_portable);
+      memory = tt;
+    }
 
-pub returns-clause-trees : goal.returns-clause-trees
-returns-clause-trees g c =
-    subst (GraphsReadBack false (cycle_graph ∷ []))
-    (sym (c.yaml_emitter_take_output.ensures.untaken (c.dump_cycle.ensures.taken ∙ c.in-Ok.ensures.untaken))) c.in_ok-dump_cycle.ensures.trees
+pub returns-in_err-dump_alone-clause-memory : goal.returns-in_err-dump_alone-clause-memory
+returns-in_err-dump_alone-clause-memory g c =
+    let error = c.in_err-dump_alone.field-0.0 in
+    passed_on (λ error. error ≡ Memory) error c.from_residual.result
+    (cycle_failed _ c.dump_alone.new.emitter error c.in-Ok-cycle.ensures.graph (c.in_err-dump_alone.ensures.dumps cycle_settings c.in-Ok.ensures.stands))
+    c.from_residual.ensures
