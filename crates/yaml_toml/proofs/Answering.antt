@@ -15,7 +15,6 @@ use Rattle.yaml_writer.specs.Writing.{tag_or_default, timestamp_event, timestamp
 use Rattle.yaml_toml.specs.Events.{moment_content}
 use Rattle.yaml_toml.specs.Walk.{Answers, KeptAfterStop, SoundAfterStop, stop_error, IsStopOf, IsOwnMemory, Moved}
 use Rattle.yaml_toml.specs.declared.walk.Stop.{Stop}
-use Rattle.yaml_toml.specs.declared.walk.Stop.TheVariants as stop
 
 -- nothing changed
 unchanged : (before : WriterState) → HasErrorSaid before (Some Memory) before

@@ -72,7 +72,7 @@ pub record StepGiven (settings : TomlSettings) (due : Due) (before after : TomlW
   pub nests : FitsAfter settings.depth (DueFits settings.depth due before.opened) (Ok tt) after.opened
   pub kept : KeptAfterStop before.writer (Ok tt) after.writer
 
--- the first of what was due was given, and no more; it doesn't fit where the walk is too deep
+-- the first of what was due was given, and no more; after `TooDeep` it doesn't fit what is allowed
 pub record StepStopped (settings : TomlSettings) (due : Due) (before : TomlWalk) (stop : Stop) (after : TomlWalk) : Type 0 where
   pub nests : FitsAfter settings.depth (DueFits settings.depth due before.opened) (Err stop) after.opened
   pub stopped : StepsStop settings.depth before.writer (all_due settings.flow due before) (kinds_around due before.opened) after.writer
@@ -91,7 +91,7 @@ pub record RootGiven (settings : TomlSettings) (root : TomlNodes) (was now : Wri
   pub nests : NestsAfter settings.depth root (Ok tt)
   pub kept : KeptAfterStop was (Ok tt) now
 
--- the first of them were given, and no more; it nests deeper where the walk is too deep
+-- the first of them were given, and no more; after `TooDeep` it nests deeper
 pub record RootStopped (settings : TomlSettings) (root : TomlNodes) (was : WriterState) (stop : Stop) (now : WriterState) : Type 0 where
   pub nests : NestsAfter settings.depth root (Err stop)
   pub stopped : GaveFirst settings.depth (toml_events was.canonical settings.flow (table Header root)) was now
