@@ -1,5 +1,5 @@
 -- What is open in the code, and what stands before an event.
-use Rattle.yaml_base.proofs.Common.{ℕ, ◌-◌, ◌+◌, ◌*◌, ◌<◌, ◌≤◌, suc, Bool, true, false, Option, None, Some, List, [], ◌∷◌, ◌++◌, refl, ◌≡◌, ap, subst, sym, ◌∙◌}
+use Rattle.yaml_base.proofs.Common.{ℕ, ◌-◌, ◌+◌, ◌*◌, ◌<◌, ◌≤◌, suc, true, false, Option, None, Some, List, [], ◌∷◌, ◌++◌, refl, ◌≡◌, ap, subst, sym, ◌∙◌}
 use Rattle.yaml_base.proofs.Common.{append_assoc, append-nil, arith, codes, false≢true, length, length-append, Text, encode_utf8_all}
 use Rattle.std.proofs.lemmas.List.{append_cancel_left}
 use Rattle.std.specs.Borrow.{Bor}
@@ -12,7 +12,7 @@ use Rattle.yaml_base.specs.values.ValueText.{line_at}
 use Rattle.yaml_read.specs.Awaits.{EntryStands, IsInnermostAwait, IsLastAwait, LeadStands, awaits_onto, can_end, seen_await, seen_awaits}
 use Rattle.yaml_read.specs.EventTexts.{Pending, closing_text, item_awaited, key_awaited, lead_text, next_awaited, left_open, outside, trail_text}
 use Rattle.yaml_read.specs.EventTexts.{value_awaited}
-use Rattle.yaml_read.specs.Places.{IsHere, LacksLevel, LacksLine, no_level, no_line}
+use Rattle.yaml_read.specs.Places.{IsHere, LacksLine, no_level, no_line}
 use Rattle.yaml_read.specs.RunPlaces.{StopsAmong}
 use Rattle.yaml_read.specs.Words.{OrMemory, past_word}
 use Rattle.yaml_read.specs.declared.errors.Stop.{Stop}

@@ -1,5 +1,5 @@
 -- Where the bytes of a node break off, and those behind a node.
-use Rattle.yaml_base.proofs.Common.{ℕ, ◌-◌, ◌+◌, ◌<◌, ◌≤◌, suc, true, Option, None, Some, List, [], ◌∷◌, ◌++◌, refl, ◌≡◌, ap, subst, sym, ◌∙◌, ◌⊎◌}
+use Rattle.yaml_base.proofs.Common.{ℕ, ◌+◌, ◌<◌, ◌≤◌, suc, true, Option, None, Some, List, [], ◌∷◌, ◌++◌, refl, ◌≡◌, ap, subst, sym, ◌∙◌, ◌⊎◌}
 use Rattle.yaml_base.proofs.Common.{inl, inr, pos, arith, append_assoc, append-nil, codes, flat_map, length, encode_utf8_all, encode_utf8}
 use Rattle.yaml_base.proofs.Common.{character_text, Text}
 use Rattle.std.proofs.lemmas.Bool.{cases_lt}

@@ -1,26 +1,24 @@
 -- The canonical reader finds a graph's content in the bytes of its dump, however deep it nests and however long they are.
-use Rattle.yaml_base.proofs.Common.{Bool, true, false, not, ◌&&◌, ◌==◌, Option, None, Some, List, [], ◌∷◌, ◌++◌, if◌then◌else◌, refl, ◌≡◌, ap, subst, sym, ◌∙◌}
-use Rattle.yaml_base.proofs.Common.{ℕ, All, All-head, All-tail, arith, and_from, append_assoc, codes, eqb-true, flat_map-append, list_all, list_all-append, option_or}
-use Rattle.yaml_base.proofs.Common.{Text, line_feed, encode, encode_utf8_all, utf8, with_breaks_written, line_feed_break, bytes_written, layout}
+use Rattle.yaml_base.proofs.Common.{Bool, true, false, ◌==◌, Option, None, Some, List, [], ◌∷◌, ◌++◌, if◌then◌else◌, refl, ◌≡◌, ap, subst, sym, ◌∙◌}
+use Rattle.yaml_base.proofs.Common.{ℕ, All, All-head, All-tail, arith, and_from, append_assoc, codes, eqb-true, flat_map-append, list_all}
+use Rattle.yaml_base.proofs.Common.{Text, line_feed, encode, utf8, with_breaks_written, line_feed_break, layout}
 use Rattle.yaml_base.proofs.Common.{Standing, Piece, text_of, piece_text, root_place, render_node, document_end_piece, stream_end_piece, first_standing}
-use Rattle.yaml_base.proofs.Common.{Event, DocumentStart, document_start, document_end, alias, Document, Documents, documents_and, no_documents, document_events}
+use Rattle.yaml_base.proofs.Common.{Event, document_end, documents_and, no_documents, document_events}
 use Rattle.yaml_base.proofs.Common.{Node, node_events, Graph, canonical_content, DocumentContent}
 use Rattle.yaml_base.proofs.Common.{Isomorphic, option_and_then, unwrap_or}
 use Rattle.yaml_base.proofs.ContentsUnfold.{content_unfolds}
-use Rattle.yaml_base.proofs.Decoding.{text_bytes-utf8}
-use Rattle.yaml_base.proofs.DocumentsUnfold.{document_unfolds}
 use Rattle.yaml_base.proofs.DumpedLeaves.{Writes, force, s}
 use Rattle.yaml_base.proofs.DumpedOutputs.{bare_document, stream_alone}
 use Rattle.yaml_base.proofs.DumpedTexts.{node_writes}
 use Rattle.yaml_base.proofs.SameShapes.{same_shape}
-use Rattle.yaml_base.specs.Tags.{anchor_fault, tag_fault}
+use Rattle.yaml_base.specs.Tags.{anchor_fault}
 use Rattle.yaml_base.specs.graphs.DumpedText.{dumped_text, node_text}
 use Rattle.yaml_base.specs.graphs.Unfolding.{TreeUnfolds, Unfolds, content_shape}
 use Rattle.yaml_base.specs.reading.Content.{Content, alias_content, documents_content, node_content}
 use Rattle.yaml_emitter.proofs.canonical.Canonical.{bytes_read}
 use Rattle.yaml_emitter.proofs.canonical.CanonicalSound.{is_good_canonical, documents_ok}
 use Rattle.yaml_read.specs.DocumentTexts.{AreDumpedBytes}
-use Rattle.yaml_read.specs.EventTexts.{AreParts, BeginsNode, IsAnchor, IsInNode, begins_node, ends_mapping, ends_sequence, is_alias, is_mapping, is_scalar}
+use Rattle.yaml_read.specs.EventTexts.{BeginsNode, IsAnchor, IsInNode, begins_node, ends_mapping, ends_sequence, is_alias, is_mapping, is_scalar}
 use Rattle.yaml_read.specs.EventTexts.{is_sequence}
 use Rattle.yaml_read.specs.RunPlaces.{bare_start, in_document}
 use Rattle.yaml_read.proofs.DumpedRuns.{dumped_bytes_run, run_is_dumped, same_parts}

@@ -1,6 +1,6 @@
 -- A document's events, one after another: what was read, and what is due.
-use Rattle.yaml_base.proofs.Common.{ℕ, ◌≤◌, Bool, true, false, Option, None, Some, List, [], ◌∷◌, ◌++◌, refl, ◌≡◌, ap, subst, sym, ◌∙◌}
-use Rattle.yaml_base.proofs.Common.{append_assoc, All, All-head, All-tail, codes, false≢true, inl, inr, ◌⊎◌, length, line_feed, Text, encode_utf8_all, Event, alias, scalar}
+use Rattle.yaml_base.proofs.Common.{ℕ, true, false, Option, None, Some, List, [], ◌∷◌, ◌++◌, refl, ◌≡◌, ap, subst, sym, ◌∙◌}
+use Rattle.yaml_base.proofs.Common.{append_assoc, All, All-head, All-tail, codes, false≢true, inl, inr, ◌⊎◌, line_feed, Text, encode_utf8_all, Event, alias, scalar}
 use Rattle.yaml_base.proofs.Common.{sequence_start, sequence_end, mapping_start, mapping_end, stream_start, stream_end, document_start, document_end}
 use Rattle.std.proofs.lemmas.List.Elements.{All-nil, All-push}
 use Rattle.std.proofs.lemmas.Str.{encodes-append}
@@ -8,7 +8,7 @@ use Rattle.std.specs.Prelude.{Result, Ok, Err, IfErr}
 use Rattle.yaml_read.specs.EventSteps.{ReadsEvent}
 use Rattle.yaml_read.specs.EventTexts.{Pending, HasBegunText, HasRunText, IsInNode, closing_text, ends_name, event_text, item_awaited, key_awaited, lead_text}
 use Rattle.yaml_read.specs.EventTexts.{may_come, more_come, none_begun, one_more, next_open, left_open, outside, root_ends, value_awaited}
-use Rattle.yaml_read.specs.RunPlaces.{NoEventBegins, RunStops, StopsAmong, bare_start, behind_root, in_document, in_event}
+use Rattle.yaml_read.specs.RunPlaces.{RunStops, StopsAmong, bare_start, behind_root, in_document, in_event}
 use Rattle.yaml_read.specs.Words.{OrMemory}
 use Rattle.yaml_read.specs.declared.errors.Stop.{Stop}
 use Rattle.yaml_read.specs.declared.errors.Stop.TheVariants as stop

@@ -1,5 +1,5 @@
 -- Names, and the anchors in front of nodes.
-use Rattle.yaml_base.proofs.Common.{ℕ, ◌+◌, ◌-◌, ◌<◌, ◌≤◌, ◌==◌, suc, Bool, true, false, cond, Option, None, Some, List, [], ◌∷◌, ◌++◌, refl, ◌≡◌, ap, subst}
+use Rattle.yaml_base.proofs.Common.{ℕ, ◌+◌, ◌<◌, ◌≤◌, ◌==◌, suc, Bool, true, false, cond, Option, None, Some, List, [], ◌∷◌, ◌++◌, refl, ◌≡◌, ap, subst}
 use Rattle.yaml_base.proofs.Common.{sym, ◌∙◌, arith, nat_tests, true≢false, eqb-true, not-true, and_parts, and_from, append_assoc, length, if◌then◌else◌}
 use Rattle.yaml_base.proofs.Common.{◌&&◌, inl, inr, list_all-append, list_all, take, drop, chars, chars-IsAscii, codes, nat_lt, ltb-true, Text}
 use Rattle.yaml_base.proofs.Common.{encode_utf8_all, encode_utf8, is_alpha, alias_fault, space}

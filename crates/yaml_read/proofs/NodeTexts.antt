@@ -1,5 +1,5 @@
 -- How the nodes of a document begin.
-use Rattle.yaml_base.proofs.Common.{ℕ, ◌+◌, true, false, Option, None, Some, List, [], ◌∷◌, ◌++◌, refl, ◌≡◌, ap, subst, sym, ◌∙◌, arith, append_assoc, codes}
+use Rattle.yaml_base.proofs.Common.{ℕ, true, false, Option, None, Some, List, [], ◌∷◌, ◌++◌, refl, ◌≡◌, ap, subst, sym, ◌∙◌, arith, append_assoc, codes}
 use Rattle.yaml_base.proofs.Common.{Text, encode_utf8_all, all_scalars, tag_fault, alias_fault, Event, alias, any_style, any_layout, opening_event_of, Held}
 use Rattle.yaml_base.proofs.Common.{scalar_held, sequence_held, mapping_held, ◌==◌, nat_tests, true≢false, flat_map, character_text, space, percent_escaped}
 use Rattle.std.specs.Prelude.{Result, Ok, Err}

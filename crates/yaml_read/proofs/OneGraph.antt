@@ -1,7 +1,7 @@
 -- Graphs of the same events are isomorphic, and so are a graph and one of its events without styles.
 use Rattle.yaml_base.proofs.Common.{ℕ, false, Option, None, Some, List, [], ◌∷◌, ◌++◌, refl, ◌≡◌, ap, subst, sym, ◌∙◌, map, option_map}
 use Rattle.yaml_base.proofs.Common.{Event, stream_start, stream_end, Node, alias_node, Document, Documents, documents_and, no_documents, Stream}
-use Rattle.yaml_base.proofs.Common.{Graph, GraphNode, children, node_numbered, document_event_list, Isomorphic, IsWholeGraph}
+use Rattle.yaml_base.proofs.Common.{Graph, GraphNode, node_numbered, document_event_list, Isomorphic, IsWholeGraph}
 use Rattle.yaml_base.proofs.ContentsUnfold.{content_unfolds}
 use Rattle.yaml_base.proofs.DocumentsUnfold.{document_unfolds}
 use Rattle.yaml_base.proofs.SameShapes.{same_shape}

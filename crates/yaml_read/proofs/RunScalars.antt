@@ -1,12 +1,12 @@
 -- The text of a node's events consists of Unicode scalar values, so its bytes are UTF-8.
-use Rattle.yaml_base.proofs.Common.{ℕ, ◌*◌, ◌<◌, Bool, true, false, not, Option, None, Some, List, [], ◌∷◌, ◌++◌, refl, ◌≡◌, ap, subst, sym, ◌∙◌}
-use Rattle.yaml_base.proofs.Common.{All, All-head, All-tail, if◌then◌else◌, and_parts, and_from, agree_below_at, arith, bytes_eq, codes, flat_map, length, list_all, list_all-append}
-use Rattle.yaml_base.proofs.Common.{ltb-true, nat_lt, nat_tests, all_scalars, encode_utf8_all, is_alpha, line_feed, replicate, space, Text}
+use Rattle.yaml_base.proofs.Common.{ℕ, ◌*◌, Bool, true, false, not, Option, None, Some, List, [], ◌∷◌, ◌++◌, refl, ◌≡◌, ap, sym, ◌∙◌}
+use Rattle.yaml_base.proofs.Common.{All, All-head, All-tail, if◌then◌else◌, agree_below_at, arith, bytes_eq, codes, length, list_all}
+use Rattle.yaml_base.proofs.Common.{ltb-true, nat_lt, nat_tests, all_scalars, is_alpha, line_feed, space, Text}
 use Rattle.yaml_base.proofs.Common.{percent_escaped, suffix_escaped}
 use Rattle.std.specs.Str.{IsUtf8}
 use lib.Utf8.{scalar}
-use Rattle.yaml_base.specs.Event.{Event, Scalar, alias, any_layout, any_style, mapping_end, sequence_end}
-use Rattle.yaml_base.specs.Tags.{Spelling, default_directives, name_fault, shorthand, spelled, spelling, spelling_by, verbatim, behind}
+use Rattle.yaml_base.specs.Event.{Event}
+use Rattle.yaml_base.specs.Tags.{default_directives, name_fault, spelled, spelling, spelling_by, verbatim, behind}
 use Rattle.yaml_base.specs.declared.errors.yaml_error_t.{yaml_error_t}
 use Rattle.yaml_base.specs.graphs.DumpedText.{anchor_text, closing_line, tag_text}
 use Rattle.yaml_base.specs.graphs.Meetings.{string_tag}
@@ -14,7 +14,7 @@ use Rattle.yaml_base.specs.values.ValueText.{in_quotes, line_at}
 use Rattle.yaml_base.proofs.AllPass.{all_pass}
 use Rattle.yaml_base.proofs.PercentLaws.{escaped_stands, stands_written, suffix_stands}
 use Rattle.yaml_read.specs.DocumentPlaces.{AreRunBytes}
-use Rattle.yaml_read.specs.EventTexts.{AreParts, Pending, item_awaited, key_awaited, value_awaited, BeginsNode, is_alias, is_scalar, is_sequence, is_mapping}
+use Rattle.yaml_read.specs.EventTexts.{Pending, item_awaited, key_awaited, value_awaited, BeginsNode, is_alias, is_scalar, is_sequence, is_mapping}
 use Rattle.yaml_read.specs.EventTexts.{IsInNode, begins_node, ends_sequence, ends_mapping, HasRunText, root_ends, more_come, IsAnchor}
 use Rattle.yaml_read.specs.EventTexts.{closing_text, event_text, lead_text, outside, trail_text}
 use Rattle.yaml_read.proofs.Encoded.{word_encoded}
@@ -134,6 +134,8 @@ pub run_utf8 : (bytes : List ℕ) (events : List Event) → AreRunBytes bytes ev
 run_utf8 bytes events run =
     let behind = run.node ++ line_feed ∷ [] in (
       codes "---\n" ++ behind,
-      (joined_scalars run.node (line_feed ∷ []) (run_scalars [] events run.node run.run run.in_node) refl,
-      word_encoded (codes "---\n") behind refl ∙ sym run.parts),
+      (
+        joined_scalars run.node (line_feed ∷ []) (run_scalars [] events run.node run.run run.in_node) refl,
+        word_encoded (codes "---\n") behind refl ∙ sym run.parts,
+      ),
     )

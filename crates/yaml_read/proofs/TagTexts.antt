@@ -1,5 +1,5 @@
 -- How a tag is written, and read: verbatim, or behind a handle.
-use Rattle.yaml_base.proofs.Common.{ℕ, ◌+◌, ◌<◌, ◌==◌, Bool, true, false, not, ◌&&◌, Option, None, Some, List, [], ◌∷◌, ◌++◌, refl, ◌≡◌, ap, subst, sym, ◌∙◌}
+use Rattle.yaml_base.proofs.Common.{ℕ, ◌<◌, ◌==◌, Bool, true, false, not, ◌&&◌, Option, None, Some, List, [], ◌∷◌, ◌++◌, refl, ◌≡◌, ap, subst, sym, ◌∙◌}
 use Rattle.yaml_base.proofs.Common.{arith, nat_tests, true≢false, and_parts, append_assoc, codes, length, is_some, space, if◌then◌else◌, list_all}
 use Rattle.yaml_base.proofs.Common.{list_all-append, and_from, chars, chars-IsAscii, ne_eqb, nat_lt, ltb-true, Text, encode_utf8_all, all_scalars}
 use Rattle.yaml_base.proofs.Common.{percent_escaped, tag_fault, spelled, verbatim, eqb-true}

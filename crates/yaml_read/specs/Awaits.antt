@@ -1,10 +1,8 @@
 -- What is open while the events of a document are read.
 use Rattle.std.specs.Prelude.{ℕ, ◌≡◌, Bool, true, false, Option, None, Some, Result, Ok, Err, List, [], ◌∷◌, ◌++◌}
-use Rattle.std.specs.Str.{encode_utf8_all}
-use Rattle.yaml_base.specs.Characters.{Text}
-use Rattle.yaml_base.specs.Event.{Event, sequence_start, sequence_end, mapping_start, mapping_end}
-use Rattle.yaml_read.specs.EventTexts.{Pending, BeginsNode, IsInNode, closing_text, event_text, item_awaited, key_awaited, lead_text, may_come, next_open}
-use Rattle.yaml_read.specs.EventTexts.{left_open, opening_text, trail_text, value_awaited}
+use Rattle.yaml_base.specs.Event.{Event, sequence_end, mapping_end}
+use Rattle.yaml_read.specs.EventTexts.{Pending, closing_text, item_awaited, key_awaited, lead_text}
+use Rattle.yaml_read.specs.EventTexts.{value_awaited}
 use Rattle.yaml_read.specs.Words.{past_word}
 use Rattle.yaml_read.specs.declared.errors.Stop.{Stop}
 use Rattle.yaml_read.specs.declared.leads.Await.{Await}

@@ -1,6 +1,5 @@
 -- The canonical text of a document's node, event by event.
-use Rattle.std.specs.Prelude.{ℕ, ◌*◌, ◌≡◌, Bool, true, false, not, Option, None, Some, List, [], ◌∷◌, ◌++◌, ◌⊎◌, codes, length}
-use Rattle.std.specs.List.{list_all}
+use Rattle.std.specs.Prelude.{◌*◌, ◌≡◌, Bool, true, false, not, Option, None, Some, List, [], ◌∷◌, ◌++◌, codes, length}
 use Rattle.std.specs.Str.{all_scalars}
 use Rattle.yaml_base.specs.Characters.{Text, is_alpha}
 use Rattle.yaml_base.specs.Event.{Event, alias, scalar, sequence_start, sequence_end, mapping_start, mapping_end, any_style, any_layout}

@@ -1,11 +1,9 @@
 -- Where the bytes of a document stop to be those of a node's events.
-use Rattle.std.specs.Prelude.{ℕ, ◌-◌, ◌≤◌, ◌≡◌, ◌≢◌, ◌⊎◌, true, None, List, [], ◌∷◌, ◌++◌, codes, length, map}
-use Rattle.std.specs.Str.{IsUtf8, IsValidUpTo, encode_utf8_all}
-use Rattle.yaml_base.specs.Characters.{Text, line_feed}
+use Rattle.std.specs.Prelude.{ℕ, ◌≤◌, ◌≡◌, ◌≢◌, true, None, List, [], ◌∷◌, ◌++◌, codes, length}
+use Rattle.std.specs.Str.{encode_utf8_all}
+use Rattle.yaml_base.specs.Characters.{Text}
 use Rattle.yaml_base.specs.Event.{DocumentStart, Event, document_start, document_end}
-use Rattle.yaml_base.specs.values.LinesAndColumns.{column_of, line_of}
 use Rattle.yaml_read.specs.EventTexts.{Pending, HasBegunText, HasRunText, IsInNode, ends_name, event_text, may_come}
-use Rattle.yaml_read.specs.Words.{past_word}
 use Rattle.yaml_read.specs.declared.errors.Stop.{Stop}
 use Rattle.yaml_read.specs.declared.errors.Stop.TheVariants as stop
 

@@ -1,4 +1,4 @@
-use Rattle.std.proofs.Common.{◌≡◌, ◌∙◌, rules, sym}
+use Rattle.std.proofs.Common.{◌∙◌, sym}
 use Rattle.yaml_base.specs.graphs.Documents.{graph_of}
 use Rattle.yaml_read.proofs.DocumentsRead.{has_nodes}
 use Rattle.yaml_read.proofs.documents.composed.Goals as goal

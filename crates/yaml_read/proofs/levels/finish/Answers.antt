@@ -1,4 +1,4 @@
-use Rattle.std.proofs.Common.{◌++◌, [], ap, ◌∙◌}
+use Rattle.std.proofs.Common.{◌++◌, ap, ◌∙◌}
 use Rattle.std.specs.Prelude.{codes}
 use Rattle.yaml_value.specs.SeenValues.{seen_value}
 use Rattle.yaml_read.proofs.Opening.{nothing_left, some_left, value_out}

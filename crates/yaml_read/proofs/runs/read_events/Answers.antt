@@ -1,11 +1,10 @@
-use Rattle.std.proofs.Common.{◌≡◌, ◌++◌, ◌∷◌, ◌<◌, [], List, Some, ap, subst, sym, ◌∙◌, arith, length, map, rules}
-use Rattle.std.specs.Prelude.{Ok, All, Result, codes}
+use Rattle.std.proofs.Common.{◌≡◌, ◌++◌, ◌∷◌, ◌<◌, [], ap, subst, sym, ◌∙◌, length, map, rules}
+use Rattle.std.specs.Prelude.{codes}
 use Rattle.yaml_base.specs.Event.{Event, document_end}
 use Rattle.yaml_base.specs.Seen.{seen_event}
 use Rattle.yaml_read.specs.Awaits.{seen_awaits}
 use Rattle.yaml_read.specs.EventSteps.{bytes_behind, open_now}
 use Rattle.yaml_read.specs.RunPlaces.{RunStops, in_document}
-use Rattle.yaml_read.specs.Words.{OrMemory}
 use Rattle.yaml_read.specs.declared.steps.Progress.{Progress}
 use Rattle.std.proofs.Common.{true}
 use Rattle.yaml_read.proofs.Awaits.{error_exit, if_ok, memory_exit, or_memory_by}

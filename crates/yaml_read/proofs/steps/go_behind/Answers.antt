@@ -1,9 +1,8 @@
-use Rattle.std.proofs.Common.{◌≡◌, ◌∷◌, ◌++◌, None, Option, Some, refl, subst, sym}
-use Rattle.std.specs.Prelude.{IfOk, Ok, IfErr}
-use Rattle.yaml_read.specs.Awaits.{seen_await, seen_awaits}
-use Rattle.yaml_read.specs.EventSteps.{GoesTo, open_behind_opening, open_now, trail_behind_opening}
+use Rattle.std.proofs.Common.{◌≡◌, ◌++◌, Option, subst, sym}
+use Rattle.std.specs.Prelude.{IfOk}
+use Rattle.yaml_read.specs.Awaits.{seen_awaits}
+use Rattle.yaml_read.specs.EventSteps.{GoesTo, open_behind_opening, trail_behind_opening}
 use Rattle.yaml_read.specs.RunPlaces.{StopsAmong}
-use Rattle.yaml_read.specs.Words.{OrMemory}
 use Rattle.yaml_read.specs.declared.leads.Await.{Await}
 use Rattle.yaml_read.proofs.Awaits.{memory_exit, memory_within}
 use Rattle.yaml_read.proofs.EventSteps.{opened_on}

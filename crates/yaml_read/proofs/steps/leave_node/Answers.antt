@@ -1,8 +1,6 @@
-use Rattle.std.proofs.Common.{◌≡◌, ◌∷◌, List, ℕ, ap, ◌∙◌, arith}
+use Rattle.std.proofs.Common.{ap, ◌∙◌, arith}
 use Rattle.yaml_read.specs.Awaits.{seen_await, seen_awaits}
-use Rattle.yaml_read.specs.EventTexts.{next_awaited}
 use Rattle.yaml_read.specs.RunPlaces.{StopsAmong}
-use Rattle.yaml_read.specs.Words.{OrMemory}
 use Rattle.yaml_read.proofs.Awaits.{memory_exit, await_more, here_within, memory_within, no_awaits, node_left, node_stays, root_left}
 use Rattle.yaml_read.proofs.Breaking.{err_exit}
 use Rattle.yaml_read.proofs.steps.leave_node.Goals as goal

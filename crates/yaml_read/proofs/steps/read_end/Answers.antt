@@ -1,10 +1,8 @@
-use Rattle.std.proofs.Common.{◌≡◌, ◌++◌, List, ap, subst, sym, ◌∙◌}
-use Rattle.yaml_base.specs.Seen.{seen_event}
+use Rattle.std.proofs.Common.{◌++◌, List, ap, subst, sym, ◌∙◌}
 use Rattle.yaml_read.specs.Awaits.{seen_awaits}
-use Rattle.yaml_read.specs.EventSteps.{GoesTo, open_now}
-use Rattle.yaml_read.specs.EventTexts.{Pending, left_open, outside, trail_text}
+use Rattle.yaml_read.specs.EventSteps.{GoesTo}
+use Rattle.yaml_read.specs.EventTexts.{Pending, left_open, trail_text}
 use Rattle.yaml_read.specs.RunPlaces.{StopsAmong}
-use Rattle.yaml_read.specs.Words.{OrMemory}
 use Rattle.yaml_read.proofs.Breaking.{err_exit}
 use Rattle.yaml_read.proofs.Awaits.{error_exit}
 use Rattle.yaml_read.specs.declared.steps.Progress.{Progress}

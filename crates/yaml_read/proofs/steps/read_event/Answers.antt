@@ -1,19 +1,15 @@
-use Rattle.std.proofs.Common.{◌≡◌, ◌++◌, ◌<◌, ap, subst, sym, ◌∙◌, arith}
-use Rattle.std.proofs.lemmas.List.{length-append}
-use Rattle.std.specs.Prelude.{Ok, Result, length}
+use Rattle.std.proofs.Common.{◌≡◌, ◌<◌, subst, sym, ◌∙◌}
+use Rattle.std.specs.Prelude.{Ok, length}
 use Rattle.std.specs.Str.{encode_utf8_all}
 use Rattle.yaml_base.specs.Seen.{seen_event}
-use Rattle.yaml_read.specs.Awaits.{IsInnermostAwait, LeadStands, closing_event, seen_awaits}
+use Rattle.yaml_read.specs.Awaits.{LeadStands, closing_event, seen_awaits}
 use Rattle.yaml_read.specs.EventSteps.{GoesTo, ReadsEvent, ReadsNode, bytes_behind, open_now}
 use Rattle.yaml_read.specs.EventTexts.{closing_text, lead_text, left_open, outside, trail_text}
 use Rattle.yaml_read.specs.RunPlaces.{StopsAmong}
-use Rattle.yaml_read.specs.Words.{OrMemory}
-use Rattle.yaml_read.specs.declared.errors.Stop.{Stop}
 use Rattle.yaml_read.specs.declared.levels.Entry.{Entry}
 use Rattle.yaml_read.proofs.Awaits.{awaits_length, behind_less, errs_behind, if_ok, innermost_is, less_behind, or_memory_by}
 use Rattle.yaml_read.proofs.EventSteps.{end_due, end_read, end_shorter, event_read, it_comes, node_due, none_comes}
 use Rattle.yaml_read.proofs.Breaking.{err_exit}
-use Rattle.yaml_read.proofs.Words.{at_exit}
 use Rattle.yaml_read.proofs.steps.read_event.Goals as goal
 
 pub returns-in-Another-clause-sound : goal.returns-in-Another-clause-sound

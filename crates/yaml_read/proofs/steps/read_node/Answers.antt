@@ -1,14 +1,12 @@
-use Rattle.std.proofs.Common.{◌≡◌, ◌++◌, List, ℕ, ap, subst, sym, ◌∙◌, arith, append_assoc}
+use Rattle.std.proofs.Common.{◌≡◌, ◌++◌, List, ℕ, ap, sym, ◌∙◌, arith, append_assoc}
 use Rattle.std.proofs.lemmas.List.{length-append}
 use Rattle.std.specs.Prelude.{Option, length}
 use Rattle.std.specs.Str.{encode_utf8_all}
-use Rattle.yaml_base.specs.Event.{Event}
 use Rattle.yaml_base.specs.Seen.{seen_event}
 use Rattle.yaml_read.specs.Awaits.{seen_awaits}
 use Rattle.yaml_read.specs.EventSteps.{await_opened, bytes_behind, open_behind_opening, open_now, trail_behind_opening}
 use Rattle.yaml_read.specs.EventTexts.{opening_text}
 use Rattle.yaml_read.specs.RunPlaces.{StopsAmong}
-use Rattle.yaml_read.specs.Words.{OrMemory}
 use Rattle.yaml_read.specs.declared.leads.Await.{Await}
 use Rattle.yaml_read.specs.declared.steps.Progress.{Progress}
 use Rattle.yaml_base.specs.declared.events.yaml_event_t.{yaml_event_t}
