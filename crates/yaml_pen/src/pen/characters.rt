@@ -116,7 +116,6 @@ impl<A: Allocator> Pen<A> {
     }
 
     // In UTF-16.
-    #[inline(never)]
     fn write_ascii_characters(&mut self, text: &[u8]) -> Result<(), yaml_error_t>
         requires ready { IsReady self.old }
         requires ascii { IsAscii text.now }

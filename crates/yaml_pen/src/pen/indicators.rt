@@ -134,7 +134,6 @@ impl<A: Allocator> Pen<A> {
     }
 
     // Most indicators are one byte, which is a store.
-    #[inline(always)]
     fn write_indicator_text(&mut self, text: &str) -> Result<(), yaml_error_t>
         requires ready { IsReady self.old }
         requires no_break { list_any is_break (chars text.now) ≡ false }

@@ -72,7 +72,6 @@ impl<A: Allocator> Pen<A> {
     }
 
     // Most lines begin at few columns. A start whose length is known is copied without a call.
-    #[inline(always)]
     fn write_line_start(&mut self, at: u32) -> Result<(), yaml_error_t>
         requires ready { IsReady self.old }
         requires breaks { breaks_line at self.old.cursor ≡ true }
@@ -89,7 +88,6 @@ impl<A: Allocator> Pen<A> {
         }
     }
 
-    #[inline(always)]
     fn append_line_start(&mut self, at: u32) -> Result<(), yaml_error_t>
         requires ready { IsReady self.old }
         requires breaks { breaks_line at self.old.cursor ≡ true }
