@@ -49,7 +49,6 @@ pub(crate) fn is_free(byte: u8, classes: u8) -> bool
 }
 
 /// Returns whether the four bytes from a place on are of none of these classes. One branch tells it of all four.
-#[inline(always)]
 fn are_free(bytes: &[u8], place: usize, classes: u8) -> bool
     requires { place + 4 ≤ length bytes.now }
     ensures { result ≡ four_are_free classes bytes.now place }
@@ -61,7 +60,6 @@ fn are_free(bytes: &[u8], place: usize, classes: u8) -> bool
 }
 
 /// Returns whether the four bytes from a place on are of none of these classes, where none before them is.
-#[inline(always)]
 fn are_free_too(bytes: &[u8], place: usize, classes: u8) -> bool
     requires { place + 4 ≤ length bytes.now }
     ensures { result ≡ true → list_all (is_free classes) (take place bytes.now) ≡ true → list_all (is_free classes) (take (place + 4) bytes.now) ≡ true }

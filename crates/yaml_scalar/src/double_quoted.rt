@@ -101,7 +101,6 @@ fn write_escape<A: Allocator>(pen: &mut Pen<A>, c: char) -> Result<(), yaml_erro
 }
 
 /// Writes the bytes of a character's escape.
-#[inline(always)]
 fn write_bytes<A: Allocator>(pen: &mut Pen<A>, c: char, bytes: &[u8]) -> Result<(), yaml_error_t>
     requires ready { IsReady pen.old }
     requires bytes { bytes.now ≡ spec.escape_text c }
@@ -265,7 +264,6 @@ fn write_batch<A: Allocator>(pen: &mut Pen<A>, bytes: &BatchBytes) -> Result<(),
 }
 
 /// Returns whether a value is short and stands as it is, wherever its line ends.
-#[inline(always)]
 fn is_short(value: &str, quoting: Quoting) -> bool
     ensures { result ≡ true → IsShortRun (stays quoting.unicode (limit_where quoting.allow_breaks quoting.width)) value.now }
 {
@@ -320,7 +318,6 @@ fn write_escapes<'a, A: Allocator>(
 }
 
 /// Writes the next characters in one call if the first needs an escape, else none. Returns the last one and the rest.
-#[inline(always)]
 fn write_next_escapes<'a, A: Allocator>(
     pen: &mut Pen<A>,
     before: char,
@@ -341,7 +338,6 @@ fn write_next_escapes<'a, A: Allocator>(
 }
 
 /// Writes what stands between the quotes: in turn a character, the run after it, and escapes with what is between them.
-#[inline(never)]
 fn write_inside<A: Allocator>(
     pen: &mut Pen<A>,
     value: &str,

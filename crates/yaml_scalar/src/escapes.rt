@@ -21,7 +21,6 @@ pub(crate) enum Escape {
 }
 
 /// Returns whether a character is unprintable, past ASCII where that isn't kept, a break, the quote or the backslash.
-#[inline(always)]
 pub(crate) fn needs_escape(c: char, unicode: bool) -> bool
     ensures { result ≡ spec.needs_escape unicode c }
 {
@@ -33,7 +32,6 @@ pub(crate) fn needs_escape(c: char, unicode: bool) -> bool
 }
 
 /// Returns whether a byte of ASCII is unprintable, a break, the quote or the backslash.
-#[inline(always)]
 fn is_escaped_byte(byte: u8) -> bool
     requires { byte < 128 }
     ensures { (unicode : Bool) → result ≡ spec.needs_escape unicode byte }
@@ -78,7 +76,6 @@ fn escape_letter(c: char) -> Option<u8>
 }
 
 /// Returns an escape by number, with two, four or eight digits.
-#[inline]
 fn number_escape(n: u32) -> Escape
     ensures { escape_bytes result ≡ class.backslash ∷ spec.escape_after_backslash None n }
 {

@@ -247,7 +247,6 @@ fn run_after<A: Allocator>(pen: &Pen<A>, character: char, rest: &str, lines: Lin
 
 /// Returns whether a value is one short line, which stands as it is. An empty value isn't: it would fit even where no column is
 /// left.
-#[inline(always)]
 fn is_short_line<A: Allocator>(pen: &Pen<A>, value: &str, lines: Lines) -> bool
     requires { IsKnown lines.known lines.quoted value.now }
     ensures { result ≡ true → IsShortLine (limit_where lines.allow_breaks lines.width) lines.quoted pen.now.cursor value.now }

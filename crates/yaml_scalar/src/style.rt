@@ -27,7 +27,6 @@ struct Context {
 ///
 /// # Errors
 /// `NoTagNorImplicit` where no tag is written and both flags are off.
-#[inline(always)]
 pub fn select_scalar_style(
     style: yaml_scalar_style_t,
     allowed: &scalar_data_t,
