@@ -71,7 +71,6 @@ pub fn yaml_emitter_emit_scalar<A: Allocator + Copy>(
 }
 
 /// Queues a copy of a scalar with which not every queued event is ready.
-#[inline(never)]
 fn wait_behind<A: Allocator + Copy>(
     emitter: &mut yaml_emitter_t<A>,
     content: &ScalarContent<'_>,

@@ -13,7 +13,6 @@ use yaml_base::yaml_error_t;
 use yaml_mark::analyze_anchor;
 
 /// Refuses a scalar's faulty anchor, and an empty tag where the tag is written.
-#[inline(always)]
 pub(crate) fn check_scalar_names(
     canonical: bool,
     content: &ScalarContent,
@@ -25,7 +24,6 @@ pub(crate) fn check_scalar_names(
 }
 
 /// Refuses a collection's faulty anchor, and an empty tag where the tag is written.
-#[inline(always)]
 pub(crate) fn check_collection_names(
     canonical: bool,
     content: &CollectionContent,
@@ -37,7 +35,6 @@ pub(crate) fn check_collection_names(
     check_properties(content.anchor, content.tag, written)
 }
 
-#[inline(always)]
 fn check_properties(
     anchor: Option<&str>,
     tag: Option<&str>,
@@ -49,7 +46,6 @@ fn check_properties(
     if tag_written { check_tag(tag) } else { Ok(()) }
 }
 
-#[inline(always)]
 fn check_anchor(anchor: Option<&str>) -> Result<(), yaml_error_t>
     ensures { refused result ≡ option_and_then anchor_fault (seen_name anchor.entry) }
 {
@@ -73,7 +69,6 @@ pub(crate) fn check_alias(name: &str) -> Result<(), yaml_error_t>
     analyze_anchor(name, alias)
 }
 
-#[inline(always)]
 fn check_tag(tag: Option<&str>) -> Result<(), yaml_error_t>
     ensures { refused result ≡ option_and_then tag_fault (seen_name tag.entry) }
 {

@@ -113,7 +113,6 @@ pub fn yaml_emitter_consume_output<A: Allocator + Copy>(emitter: &mut yaml_emitt
 
 impl<A: Allocator + Copy> yaml_emitter_t<A> {
     /// Writes the queued events that are ready with this one behind them; `None` stands for a scalar.
-    #[inline(always)]
     pub(crate) fn write_waiting(
         &mut self,
         next: Option<&yaml_event_t<A>>,
@@ -129,7 +128,6 @@ impl<A: Allocator + Copy> yaml_emitter_t<A> {
     }
 
     /// Writes the queued events that are ready with a scalar behind them.
-    #[inline(always)]
     pub(crate) fn write_before_scalar<'a>(&'a mut self) -> Result<(), yaml_error_t>
         requires no_error { self.old.error ≡ None }
         requires output { self.old.has_output ≡ true }
@@ -162,7 +160,6 @@ impl<A: Allocator + Copy> yaml_emitter_t<A> {
 
 impl<A: Allocator + Copy> Machine<A> {
     /// Writes an event that needn't wait, where none waits. An error is kept for good.
-    #[inline(always)]
     fn give(&mut self, event: &yaml_event_t<A>) -> Result<(), yaml_error_t>
         requires no_error { self.old.error ≡ None }
         requires ready { is_head_ready (seen_event event.now ∷ []) ≡ true }

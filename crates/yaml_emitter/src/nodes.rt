@@ -73,7 +73,6 @@ impl<A: Allocator + Copy> Machine<A> {
     }
 
     /// Processes any other scalar: its anchor and tag are looked at before its place.
-    #[inline(never)]
     fn chosen_scalar(&mut self, content: &ScalarContent) -> Result<(), yaml_error_t>
         ensures { (empty : Bool) → Processed (scalar (seen_scalar content.now)) empty self.old self.new result }
     {

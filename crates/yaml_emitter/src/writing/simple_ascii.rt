@@ -27,7 +27,6 @@ use yaml_pen::Pen;
 use yaml_scalar::{is_simple_ascii, write_simple_ascii_scalar};
 
 /// Returns whether a scalar can be plain without analysis: it has no anchor, its tag is left out, and its value is simple ASCII.
-#[inline(always)]
 pub(crate) fn stands_plain(settings: &EffectiveSettings, content: &ScalarContent) -> bool
     ensures { result ≡ true → StandsPlain settings.now.canonical content.now }
 {

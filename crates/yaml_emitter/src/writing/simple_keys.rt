@@ -31,7 +31,6 @@ pub(crate) fn is_simple_alias_key(settings: &EffectiveSettings, place: &Place, n
 }
 
 /// Returns whether a scalar at a place is a simple key, its tag spelled so.
-#[inline(always)]
 pub(crate) fn is_simple_scalar_key(
     settings: &EffectiveSettings,
     place: &Place,
@@ -85,7 +84,6 @@ fn is_simple_alias(name: &str) -> bool
     byte_count(name) <= MOST_BYTES
 }
 
-#[inline(always)]
 fn is_simple_scalar(content: &ScalarContent, tag: Option<SpelledTag>) -> bool
     ensures { result
         ≡ (not (list_any class.is_break (chars content.now.value.now))

@@ -54,7 +54,6 @@ pub(crate) fn write_text<A: Allocator>(
 }
 
 /// Writes a text in a style that stands in flow, too.
-#[inline(always)]
 fn write_flow_text<A: Allocator>(
     pen: &mut Pen<A>,
     site: &Site,
@@ -83,7 +82,6 @@ fn write_flow_text<A: Allocator>(
 }
 
 /// Writes a text in literal style, behind its header.
-#[inline(always)]
 fn write_literal_text<A: Allocator>(
     pen: &mut Pen<A>,
     open_ended: &mut OpenEnded,
@@ -105,7 +103,6 @@ fn write_literal_text<A: Allocator>(
 }
 
 /// Writes a text in folded style, behind its header.
-#[inline(always)]
 fn write_folded_text<A: Allocator>(
     pen: &mut Pen<A>,
     open_ended: &mut OpenEnded,
