@@ -125,8 +125,7 @@ impl<A: Allocator + Copy> Writer<A> {
         self.respelled_number(number)
     }
 
-    /// Does what `number` does where the spelling may be another text. Out of line, so that `number` is inlined.
-    #[inline(never)]
+    /// Does what `number` does where the spelling may be another text.
     fn respelled_number(&mut self, number: &Number<'_>) -> Result<(), yaml_error_t>
         ensures { Gives self.old (number_event self.old number.now) result self.new }
     {

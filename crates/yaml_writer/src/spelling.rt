@@ -151,8 +151,7 @@ impl<'a> Number<'a> {
         is_surely_spelled(self.text) || self.has_spelled_parts()
     }
 
-    /// Returns what `is_spelled` returns, by its parts. Out of line, so that `is_spelled` is inlined.
-    #[inline(never)]
+    /// Returns what `is_spelled` returns, by its parts.
     fn has_spelled_parts(&self) -> bool
         ensures { result ≡ spellings.is_spelled self.now }
     {

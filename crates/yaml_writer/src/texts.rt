@@ -50,7 +50,6 @@ fn begins_with_reserved_word(text: &[u8]) -> bool
 /// Returns whether a byte is a space or a letter, or another byte of ASCII above them, that is neither the second nor the
 /// third of a reserved word. One range has all these letters, which then cost one test of a bit.
 #[rattlefmt::skip]
-#[inline(always)]
 fn leaves_reserved(byte: u8) -> bool
     ensures { result ≡ words.leaves_reserved byte }
 {
