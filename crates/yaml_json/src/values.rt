@@ -179,7 +179,6 @@ fn next_token<'a, A: Allocator + Copy>(reader: &mut Tokens<'a, A>) -> Result<Tok
 }
 
 /// Writes the first token of a value.
-#[inline(always)]
 fn write_first<'a, A: Allocator + Copy>(
     writer: &mut Writer<A>,
     reader: &mut Tokens<'a, A>,

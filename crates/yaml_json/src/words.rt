@@ -39,7 +39,6 @@ pub(crate) fn is_operator(byte: u8) -> bool
 }
 
 /// Returns whether a word ends before this byte.
-#[inline(always)]
 pub(crate) fn is_delimiter(byte: u8) -> bool
     ensures { result ≡ (is_operator byte || is_space byte) }
 {
@@ -146,7 +145,6 @@ fn number_end(text: &[u8]) -> Option<usize>
 }
 
 /// Returns the number that a text begins with, and what follows it.
-#[inline(always)]
 fn number<'a>(text: &'a str) -> Option<(Token<'a>, &'a str)>
     ensures reads { ReadsWord text.now (number_before text.now (after_number text.now)) result }
     ensures over { IfSome result (λ part. EndsWord text.now part.1.now) }
@@ -165,7 +163,6 @@ fn number<'a>(text: &'a str) -> Option<(Token<'a>, &'a str)>
 }
 
 /// Returns this token where a text begins with its name, and what follows it.
-#[inline(always)]
 fn literal<'a>(text: &'a str, name: &[u8], token: Token<'a>) -> Option<(Token<'a>, &'a str)>
     requires name { IsInWord name.now }
     requires good { token_of token ≢ bad }
@@ -181,7 +178,6 @@ fn literal<'a>(text: &'a str, name: &[u8], token: Token<'a>) -> Option<(Token<'a
 }
 
 /// Returns the token of the word that a text begins with, and what follows the word; `None` where the word is no token.
-#[inline(always)]
 pub(crate) fn word<'a>(text: &'a str) -> Option<(Token<'a>, &'a str)>
     ensures reads { ReadsWord text.now (word text.now) result }
     ensures over { IfSome result (λ part. EndsWord text.now part.1.now) }
