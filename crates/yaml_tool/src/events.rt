@@ -58,7 +58,6 @@ fn document_start_with<A: Allocator>(
 }
 
 /// Parses what follows `+DOC`: whether it is implicit, a version, directives.
-#[inline(never)]
 fn document_start_of<A: Allocator + Copy>(
     alloc: A,
     rest: Option<&str>,
@@ -84,7 +83,6 @@ fn document_end_of<A: Allocator>(rest: Option<&str>) -> Option<yaml_event_t<A>>
 }
 
 /// Parses what follows `=ALI`: a name.
-#[inline(never)]
 fn alias_of<A: Allocator>(
     alloc: A,
     rest: Option<&str>,
@@ -144,7 +142,6 @@ fn scalar_with<A: Allocator>(fields: ScalarFields<A>) -> Option<yaml_event_t<A>>
 }
 
 /// Parses what follows a scalar's words: an anchor, a tag, a value.
-#[inline(always)]
 fn scalar_from<A: Allocator + Copy>(
     alloc: A,
     words: ScalarWords,
