@@ -1,6 +1,6 @@
 //! A file that is written beside the one that it replaces, so that this appears whole or not at all.
 //!
-//! (What names files isn't inlined: a name takes 4 KB of stack in each call of the system, which is free again before texts are written.)
+//! (`create` and `replace` aren't inlined: a name takes 4 KB of stack in each call of the system, which is free again before texts are written.)
 use std::fs::{File, TryLockError};
 use std::io::ErrorKind;
 use std::os::unix::fs::MetadataExt;
@@ -17,7 +17,6 @@ const MOST_LINKS: u32 = 40;
 const TOO_MANY_LINKS: i32 = 40;
 
 /// Returns whether the file of this name is written where it lies: it is a device or a pipe, say, which no file can replace.
-#[inline(never)]
 pub fn is_written_in_place(rt: &HostRuntime, name: &str) -> bool {
     match fs::metadata(rt, name) {
         Ok(found) => !found.is_file(),
@@ -35,7 +34,6 @@ fn path_meant(rt: &HostRuntime, link: &str, path: &str) -> io::Result<String> {
 }
 
 /// Returns the file that is meant where this name is that of a link, also where there is no such file yet.
-#[inline(never)]
 fn target_of(rt: &HostRuntime, name: &str) -> io::Result<String> {
     let mut target = String::from_str(rt.alloc(), name)?;
     for _ in 0..MOST_LINKS {
@@ -64,7 +62,6 @@ fn temporary_name(
 }
 
 /// Returns whether an open file still has this name.
-#[inline(never)]
 fn has_name(rt: &HostRuntime, file: &File, name: &str) -> bool {
     match (file.metadata(), fs::symlink_metadata(rt, name)) {
         (Ok(open), Ok(named)) => open.dev() == named.dev() && open.ino() == named.ino(),
@@ -73,7 +70,6 @@ fn has_name(rt: &HostRuntime, file: &File, name: &str) -> bool {
 }
 
 /// Removes the temporary file of this name if a run that was cut off has left it: then it isn't locked.
-#[inline(never)]
 fn remove_if_left(rt: &HostRuntime, name: &str) -> io::Result<()> {
     if !fs::symlink_metadata(rt, name)?.is_file() {
         return Ok(());
@@ -138,7 +134,6 @@ impl Beside {
     }
 
     /// Gives the file the permissions of the one that it is to replace, where there is one; where that fails, removes it.
-    #[inline(never)]
     fn with_permissions(self, rt: &HostRuntime) -> io::Result<Beside> {
         let given = match fs::metadata(rt, self.target.as_str()) {
             Ok(found) => self.file.set_permissions(found.permissions()),
@@ -171,7 +166,6 @@ impl Beside {
     }
 
     /// Removes the file.
-    #[inline(never)]
     pub fn remove(self, rt: &HostRuntime) {
         let _gone = fs::remove_file(rt, self.name.as_str());
     }

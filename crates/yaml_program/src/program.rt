@@ -21,8 +21,7 @@ use std::os::fd::AsFd;
 use std::rt::Runtime;
 use std::{fs, io};
 
-/// Writes what is to be converted to a device or a pipe, say, where it lies. (Not inlined, as what names files in `output`.)
-#[inline(never)]
+/// Writes what is to be converted to a device or a pipe, say, where it lies.
 fn send_in_place<'a, F: Format, S: Sources + AllocGlobal>(
     rt: &HostRuntime,
     sources: &S,
@@ -38,7 +37,6 @@ fn send_in_place<'a, F: Format, S: Sources + AllocGlobal>(
 }
 
 /// Writes what is to be converted to a file, which appears whole or not at all.
-#[inline(never)]
 fn send_to_file<'a, F: Format, S: Sources + AllocGlobal>(
     rt: &HostRuntime,
     sources: &S,

@@ -40,8 +40,6 @@ impl Read for Source {
 impl Sources for HostRuntime {
     type Reader = Source;
 
-    // (Not inlined: a name takes 4 KB of stack in a call of the system, which is free again before texts are read.)
-    #[inline(never)]
     fn open(&self, name: &str) -> io::Result<Source> {
         if name == STREAM {
             return Ok(Source::Stream(self.stdin()));
