@@ -18,10 +18,7 @@ pub(super) enum Holds<'a> {
 pub(super) type Given<'a> = (&'a str, Holds<'a>);
 
 /// Returns the pairs of a mapping.
-fn pairs_of(
-    alloc: Global,
-    pairs: &[(i32, i32)],
-) -> Result<Vec<yaml_node_pair_t>, AllocError> {
+fn pairs_of(alloc: Global, pairs: &[(i32, i32)]) -> Result<Vec<yaml_node_pair_t>, AllocError> {
     let mut all = Vec::new(alloc);
     for (key, value) in pairs {
         all.push(yaml_node_pair_t {

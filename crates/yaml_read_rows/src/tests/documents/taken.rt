@@ -7,7 +7,9 @@ use std::alloc::Global;
 use std::process::Abort;
 
 const STR: &str = "tag:yaml.org,2002:str";
+
 const SEQ: &str = "tag:yaml.org,2002:seq";
+
 const MAP: &str = "tag:yaml.org,2002:map";
 
 /// Documents whose nodes are numbered in the order in which they begin, and the bytes of their dumps.
@@ -25,10 +27,7 @@ pub(super) const TAKEN: &[(&[Given<'static>], &str)] = &[
         &[(SEQ, Items(&[2, 2])), (STR, Value("a"))],
         "---\n!!seq [\n  &id001 !!str \"a\",\n  *id001,\n]\n",
     ),
-    (
-        &[(SEQ, Items(&[1]))],
-        "---\n&id001 !!seq [\n  *id001,\n]\n",
-    ),
+    (&[(SEQ, Items(&[1]))], "---\n&id001 !!seq [\n  *id001,\n]\n"),
     (
         &[(MAP, Pairs(&[(1, 1)]))],
         "---\n&id001 !!map {\n  ? *id001\n  : *id001,\n}\n",
@@ -94,11 +93,7 @@ const OTHERWISE: (&[Given<'static>], &[Given<'static>]) = (
         (STR, Value("unreached")),
         (STR, Value("a")),
     ],
-    &[
-        (SEQ, Items(&[2, 3])),
-        (STR, Value("a")),
-        (STR, Value("b")),
-    ],
+    &[(SEQ, Items(&[2, 3])), (STR, Value("a")), (STR, Value("b"))],
 );
 
 #[test]
