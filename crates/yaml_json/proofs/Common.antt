@@ -33,7 +33,7 @@ pub use Rattle.yaml_json.specs.Sent.{Advances, StopsWithin, IsScanned}
 pub use Rattle.yaml_json.specs.Walk.{unwind, LeavesOpen, IsScalar, opener, closer, KeepsNames, FitsNames, KeepsNamesAfter, HasUniqueNames, BeganValue}
 pub use Rattle.yaml_json.specs.Walk.{BeginFailed}
 pub use Rattle.yaml_json.specs.Walk.{RefusesToken, BeganFirstValue, FirstFailed, RefusesFirst, WhyStopped, Refuses, WalkProgress}
-pub use Rattle.yaml_json.specs.Wrote.{IsBare, Wrote, WroteEvent, start_event, WroteText, AreJson, parts_events, ReadsTexts}
+pub use Rattle.yaml_json.specs.Wrote.{IsBare, WasGiven, WroteEvent, start_event, WroteText, AreJson, parts_events, ReadsTexts}
 pub use Rattle.yaml_writer.{proofs.PartLemmas.number_found, specs.NumberParts.number_in, specs.NumberParts.IsNumber}
 pub use Rattle.yaml_writer.specs.Writing.{WriterState, opening, closing, float_tag, number_tag, number_event, text_style, text_event, mapping_event}
 pub use Rattle.yaml_writer.specs.Writing.{sequence_event, end_event, with_collection, StandsTaken, AddsEvents, PassedEvents, GaveEvent, EndsInnermost}

@@ -2,7 +2,7 @@
 use Rattle.yaml_json.proofs.Common.{ℕ, Option, None, Some, Err, Ok, length, Bool, List, []}
 use Rattle.yaml_json.proofs.Common.{◌++◌, ◌∷◌, refl, ◌≡◌, append-nil, append_assoc, ap, subst, sym, ◌∙◌}
 use Rattle.yaml_json.proofs.Common.{flat_map-append, Appends, Json, Event, between, events_with_separators}
-use Rattle.yaml_json.proofs.Common.{json_events, IsBare, Wrote}
+use Rattle.yaml_json.proofs.Common.{json_events, IsBare, WasGiven}
 use Rattle.yaml_json.proofs.Common.{WriterState, StandsTaken, PassedEvents, AddsEvents, FailedWith, inr, some_from_result}
 use Rattle.yaml_pen.proofs.Writing.{none_from_result}
 use Rattle.yaml_emitter.{proofs.Common.with_all_taken, proofs.standing.Taking.stands_taken, specs.State.State}
@@ -88,7 +88,7 @@ adds_taking_more before middle after first second bytes one other =
     subst (λ (b : List ℕ). AddsTaking before (first ++ second) b after) (append-nil bytes)
     (adds_taking_then before middle after first second bytes [] one (adds_none_taken middle after second other))
 
-pub took_none : (before after : WriterState) (events : List Event) → Wrote before events after → WroteTaking before events [] after
+pub took_none : (before after : WriterState) (events : List Event) → WasGiven before events after → WroteTaking before events [] after
 took_none before after events wrote =
     record {
       adds = λ given all sent stands.

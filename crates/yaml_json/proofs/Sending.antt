@@ -1,7 +1,7 @@
 -- JSON texts that come part by part, in turn.
 use Rattle.yaml_json.proofs.Common.{ℕ, flat_map, Option, Bool, true, List, [], map, ◌++◌, ◌∷◌, ◌⊎◌, refl, ◌≡◌, append-nil, append_assoc, inl, inr}
 use Rattle.yaml_json.proofs.Common.{ap, subst, sym, ◌∙◌, arith, map-append, Appends, Event, Json, tokens, FailedWith, between, events_with_separators}
-use Rattle.yaml_json.proofs.Common.{json_events, NamesOnce, HaveNamesOnce, texts_in, IsBare, Wrote, WroteText, AreJson, AddsEvents, parts_events, State}
+use Rattle.yaml_json.proofs.Common.{json_events, NamesOnce, HaveNamesOnce, texts_in, IsBare, WasGiven, WroteText, AreJson, AddsEvents, parts_events, State}
 use Rattle.yaml_json.proofs.Common.{WriterState}
 use Rattle.std.proofs.lemmas.Str.{IsUtf8-append, IsUtf8-nil}
 use Rattle.std.specs.Prelude.{IsUtf8}
@@ -123,7 +123,7 @@ module _ (depth : ℕ) (in_flow unique : Bool) (text : List ℕ) (was : WriterSt
   events_given : WroteTaking now (json_events was.canonical in_flow one.json) [] given
   events_given =
       took_none now given (json_events was.canonical in_flow one.json)
-      (subst (λ (canonical : Bool). Wrote now (json_events canonical in_flow one.json) given) sending.wrote.canonical one.wrote)
+      (subst (λ (canonical : Bool). WasGiven now (json_events canonical in_flow one.json) given) sending.wrote.canonical one.wrote)
 
   joined_now : flat_map (λ part. part.0) all_parts ++ left ≡ text
   joined_now =

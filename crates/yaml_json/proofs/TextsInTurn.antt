@@ -2,7 +2,7 @@
 use Rattle.yaml_json.proofs.Common.{ℕ, ◌<◌, ◌==◌, flat_map, Some, Result, Err, length, Bool, false, true, List, [], map, ◌++◌, ◌∷◌, refl, ◌≡◌, eqb-true}
 use Rattle.yaml_json.proofs.Common.{append-nil, append_assoc, inl, inr, ap, subst, sym, ◌∙◌, false≢true, flat_map-append, map-append, Json, value, tokens}
 use Rattle.yaml_json.proofs.Common.{Option, None, json_tokens, Event, between, events_with_separators}
-use Rattle.yaml_json.proofs.Common.{json_events, NamesOnce, HaveNamesOnce, texts_in, after_byte, CutsFirstText, tokens_events, IsBare, Wrote, WroteText}
+use Rattle.yaml_json.proofs.Common.{json_events, NamesOnce, HaveNamesOnce, texts_in, after_byte, CutsFirstText, tokens_events, IsBare, WasGiven, WroteText}
 use Rattle.yaml_json.proofs.Common.{AreJson, BeginsWithinDepth, parts_events, ReadsTexts, WriterState, PassedEvents, AddsEvents}
 use Rattle.std.proofs.lemmas.List.{nil_from_length}
 use Rattle.yaml_base.specs.declared.errors.yaml_error_t.{yaml_error_t}
@@ -95,14 +95,14 @@ pub record TextsSoFar (depth : ℕ) (in_flow : Bool) (unique : Bool) (text : Lis
   pub cut : map (λ part. part.0) parts ++ texts_in rest ≡ texts_in text
   pub each : AreJson depth parts
   pub names : HaveNamesOnce unique (map (λ part. part.0) parts)
-  pub wrote : Wrote was (events_with_separators was.canonical in_flow parts) now
+  pub wrote : WasGiven was (events_with_separators was.canonical in_flow parts) now
 
 pub texts_begin : (depth : ℕ) (in_flow unique : Bool) (text : List ℕ) (was : WriterState) → IsBare was → TextsSoFar depth in_flow unique text was text was
 texts_begin depth in_flow unique text was bare = record { parts = []; joined = refl; cut = refl; each = tt; names = tt; wrote = wrote_nothing was bare }
 
 -- the next document is begun
 next_begun : (before after : WriterState) (answer : Result (Unit {0}) yaml_error_t) → IsBare before → PassedEvents before between answer after
-    → Wrote before between after
+    → WasGiven before between after
 next_begun before after answer bare passed =
     record {
       adds = passed.adds;
@@ -115,8 +115,8 @@ module _ (depth : ℕ) (in_flow unique : Bool) (text : List ℕ) (was : WriterSt
     (cuts : CutsFirstText rest first more) (so_far : TextsSoFar depth in_flow unique text was rest now)
     (named : unique ≡ true → NamesOnce [] (tokens first)) (one : WroteText depth in_flow first now given) where
   -- the next text's events, as the first writer would give them
-  events_given : Wrote now (json_events was.canonical in_flow one.json) given
-  events_given = subst (λ (canonical : Bool). Wrote now (json_events canonical in_flow one.json) given) so_far.wrote.canonical one.wrote
+  events_given : WasGiven now (json_events was.canonical in_flow one.json) given
+  events_given = subst (λ (canonical : Bool). WasGiven now (json_events canonical in_flow one.json) given) so_far.wrote.canonical one.wrote
 
   joined_now : (after : List ℕ) → after ≡ more → flat_map (λ part. part.0) (so_far.parts ++ (first, one.json) ∷ []) ++ after ≡ text
   joined_now after is =
@@ -191,7 +191,7 @@ module _ (depth : ℕ) (in_flow unique : Bool) (text : List ℕ) (was : WriterSt
   joined_done : more ≡ [] → flat_map (λ part. part.0) (so_far.parts ++ (first, one.json) ∷ []) ≡ text
   joined_done none = sym (append-nil (flat_map (λ part. part.0) (so_far.parts ++ (first, one.json) ∷ []))) ∙ joined_now [] (sym none)
 
-  wrote_done : Wrote was (parts_events was.canonical in_flow (so_far.parts ++ (first, one.json) ∷ [])) given
+  wrote_done : WasGiven was (parts_events was.canonical in_flow (so_far.parts ++ (first, one.json) ∷ [])) given
   wrote_done =
       wrote_same was given (events_with_separators was.canonical in_flow so_far.parts ++ json_events was.canonical in_flow one.json)
       (parts_events was.canonical in_flow (so_far.parts ++ (first, one.json) ∷ [])) (ends_with was.canonical in_flow so_far.parts (first, one.json))

@@ -1,7 +1,7 @@
 -- What a writer was given, call by call.
 use Rattle.yaml_json.proofs.Common.{ℕ, is_none, IfErr, OnOk, Option, None, Result, Err, Ok, Bool, false, List, [], ◌++◌, ◌∷◌, refl, ◌≡◌, append-nil}
 use Rattle.yaml_json.proofs.Common.{append_assoc, inl, inr, ap, ap₂, subst, sym, ◌∙◌, Text, ScalarStyle, plain, Event, scalar, sequence_start, mapping_start}
-use Rattle.yaml_json.proofs.Common.{JsonNumber, yaml_number, State, word_content, number_content, text_content, collection_in, IsBare, Wrote, WroteEvent}
+use Rattle.yaml_json.proofs.Common.{JsonNumber, yaml_number, State, word_content, number_content, text_content, collection_in, IsBare, WasGiven, WroteEvent}
 use Rattle.yaml_json.proofs.Common.{start_event, number_found, number_in, IsNumber, WriterState, number_tag, number_event, text_style, text_event}
 use Rattle.yaml_json.proofs.Common.{mapping_event, sequence_event, end_event, with_collection, StandsTaken, AddsEvents, GaveEvent, EndsInnermost}
 use Rattle.yaml_base.specs.Event.{CollectionStyle}
@@ -31,7 +31,7 @@ on_err (Err error) follows held = follows error held
 -- Events
 
 -- nothing was given
-pub wrote_nothing : (writer : WriterState) → IsBare writer → Wrote writer [] writer
+pub wrote_nothing : (writer : WriterState) → IsBare writer → WasGiven writer [] writer
 wrote_nothing writer bare =
     record {
       adds = λ given all sent stands. subst (λ (events : List Event). StandsTaken given events sent writer.emitter) (sym (append-nil all)) stands;
@@ -47,8 +47,8 @@ adds_then before between after first second one other = λ given all sent stands
     subst (λ (events : List Event). StandsTaken given events sent after) (append_assoc all first second)
     (other given (all ++ first) sent (one given all sent stands))
 
-pub wrote_then : (before between after : WriterState) (first second : List Event) → Wrote before first between → Wrote between second after
-    → Wrote before (first ++ second) after
+pub wrote_then : (before between after : WriterState) (first second : List Event) → WasGiven before first between → WasGiven between second after
+    → WasGiven before (first ++ second) after
 wrote_then before between after first second one other =
     record {
       adds = adds_then before.emitter between.emitter after.emitter first second one.adds other.adds;
@@ -58,8 +58,8 @@ wrote_then before between after first second one other =
     }
 
 -- the events are these
-pub wrote_same : (before after : WriterState) (events same : List Event) → events ≡ same → Wrote before events after → Wrote before same after
-wrote_same before after events same is = subst (λ (e : List Event). Wrote before e after) is
+pub wrote_same : (before after : WriterState) (events same : List Event) → events ≡ same → WasGiven before events after → WasGiven before same after
+wrote_same before after events same is = subst (λ (e : List Event). WasGiven before e after) is
 
 -- a call that gave one event
 pub wrote_event : (before after : WriterState) (event same : Event) → event ≡ same → GaveEvent before event None after → WroteEvent before same after

@@ -1,6 +1,6 @@
 -- The streams of JSON texts.
 use Rattle.yaml_json.proofs.Common.{ℕ, flat_map, Some, Bool, true, List, [], ◌++◌, ◌∷◌, refl, ◌≡◌, append-nil, subst, sym, ◌∙◌, and_from, list_all-append}
-use Rattle.yaml_json.proofs.Common.{list_all, Json, value, tokens, HasNumbers, Event, has_scalar_texts, Settings, json_events, Wrote, WroteText, AreJson}
+use Rattle.yaml_json.proofs.Common.{list_all, Json, value, tokens, HasNumbers, Event, has_scalar_texts, Settings, json_events, WasGiven, WroteText, AreJson}
 use Rattle.yaml_json.proofs.Common.{parts_events, ReadsTexts, WriterState, opening, closing, StandsTaken}
 use Rattle.json.proofs.Numbered.{ArePrintableOrBad-tokens, value-HasNumbers}
 use Rattle.yaml_json.{proofs.JsonReads.HaveNumbers, proofs.JsonReads.reads_as_values, proofs.JsonReads.reads_as_json, proofs.Trees.values_of}
@@ -82,7 +82,7 @@ sent_reads depth in_flow text was now taken (part ∷ rest) last = texts_read de
 -- nothing was taken
 pub last_reads : (depth : ℕ) (in_flow : Bool) (text : List ℕ) (was now : WriterState) (parts : List (List ℕ × Json)) (last : List ℕ × Json)
     → flat_map (λ part. part.0) (parts ++ last ∷ []) ≡ text → AreJson depth (parts ++ last ∷ [])
-    → Wrote was (parts_events was.canonical in_flow (parts ++ last ∷ [])) now
+    → WasGiven was (parts_events was.canonical in_flow (parts ++ last ∷ [])) now
     → ReadsTexts depth in_flow text was now
 last_reads depth in_flow text was now parts last joined each wrote given sent bytes stands canonical finishes =
     subst (λ (s : List ℕ). IsYamlOfTexts given in_flow depth text (s ++ bytes)) (append-nil sent)

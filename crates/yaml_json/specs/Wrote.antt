@@ -18,7 +18,7 @@ abbrev pub IsBare : WriterState → Type 0
 IsBare writer = (writer.anchor ≡ None) × (writer.tag ≡ None)
 
 -- these events were given, wherever the writer's emitter stood; the next node has no anchor and no tag
-pub record Wrote (before : WriterState) (events : List Event) (after : WriterState) : Type 0 where
+pub record WasGiven (before : WriterState) (events : List Event) (after : WriterState) : Type 0 where
   pub adds : AddsEvents before.emitter events after.emitter
   pub canonical : after.canonical ≡ before.canonical
   pub levels : after.levels ≡ before.levels
@@ -26,7 +26,7 @@ pub record Wrote (before : WriterState) (events : List Event) (after : WriterSta
 
 -- one event was given
 abbrev pub WroteEvent : WriterState → Event → WriterState → Type 0
-WroteEvent before event after = Wrote before (event ∷ []) after
+WroteEvent before event after = WasGiven before (event ∷ []) after
 
 -- the event with which a collection begins
 abbrev pub start_event : (in_flow : Bool) → CollectionKind → Event
@@ -37,13 +37,13 @@ start_event in_flow Mapping = mapping_start (collection_in in_flow)
 pub record WroteValue (depth : ℕ) (in_flow : Bool) (before : List Token) (was : WriterState) (after : List Token) (now : WriterState) : Type 0 where
   pub json : Json
   pub read : value depth before ≡ Some (json, after)
-  pub wrote : Wrote was (json_events was.canonical in_flow json) now
+  pub wrote : WasGiven was (json_events was.canonical in_flow json) now
 
 -- the tokens are a value nested at most `depth` deep, and nothing after it; its events were given
 pub record WroteDocument (depth : ℕ) (in_flow : Bool) (before : List Token) (was : WriterState) (now : WriterState) : Type 0 where
   pub json : Json
   pub read : value depth before ≡ Some (json, [])
-  pub wrote : Wrote was (json_events was.canonical in_flow json) now
+  pub wrote : WasGiven was (json_events was.canonical in_flow json) now
 
 -- the text is JSON nested at most `depth` deep; its events were given
 abbrev pub WroteText : (depth : ℕ) → (in_flow : Bool) → (text : List ℕ) → WriterState → WriterState → Type 0
@@ -67,7 +67,7 @@ pub record WroteTexts (depth : ℕ) (in_flow : Bool) (text : List ℕ) (was now 
   pub cut : map (λ part. part.0) parts ≡ texts_in text
   pub joined : flat_map (λ part. part.0) parts ≡ text
   pub each : AreJson depth parts
-  pub wrote : Wrote was (parts_events was.canonical in_flow parts) now
+  pub wrote : WasGiven was (parts_events was.canonical in_flow parts) now
 
 -- the text is one JSON text after another, the bytes are the stream of their documents, and both schemas read them as their
 -- values, in portable mode with the line breaks of YAML 1.1 and with those of 1.2

@@ -10,7 +10,7 @@ use Rattle.toml_ordered.specs.Data.{items_view, entries_view, node_view}
 use Rattle.toml_ordered.specs.declared.tree.Node.{Node as CodeNode}
 use Rattle.std.proofs.lemmas.List.{length-map}
 use Rattle.yaml_toml.specs.Events.{toml_events, toml_items_events, keys_events}
-use Rattle.yaml_toml.specs.OpenCounts.{Opens, count_after}
+use Rattle.yaml_toml.specs.OpenCounts.{OpensAtMost, count_after}
 use Rattle.yaml_toml.specs.Walk.{Moved, GaveSome, PendingHaveNumbers, RestHasNumbers, items_left, keys_left}
 use Rattle.yaml_toml.specs.Walk.{rest_kind, kinds_of, pending, rest_events, rest_size, pending_size}
 use Rattle.yaml_toml.specs.declared.walk.Rest.{Rest}
@@ -58,12 +58,12 @@ pushed_length : (opened : List Rest) (r : Rest) → length (kinds_of (opened ++ 
 pushed_length opened r = ap length (kinds-push opened r) ∙ length-append (kinds_of opened) (rest_kind r ∷ []) ∙ omega arith
 
 pub entered : (in_flow : Bool) (kind : CollectionKind) (most before behind : ℕ) → before ≤ most → suc before ≤ most → behind ≡ suc before
-    → Opens most before (start_event in_flow kind ∷ []) behind
+    → OpensAtMost most before (start_event in_flow kind ∷ []) behind
 entered in_flow Sequence most before behind fits room is = (fits, (room, sym is))
 entered in_flow Mapping most before behind fits room is = (fits, (room, sym is))
 
 pub left_open : (event : Event) (most before behind : ℕ) → before ≤ most → ((n : ℕ) → count_after event (suc n) ≡ n) → before ≡ suc behind
-    → Opens most before (event ∷ []) behind
+    → OpensAtMost most before (event ∷ []) behind
 left_open event most before behind fits falls is =
     let next : count_after event before ≡ behind = ap (count_after event) is ∙ falls behind in
     (fits, (omega (arith, fits, is, next), next))
@@ -133,7 +133,7 @@ module _ (most : ℕ) (in_flow : Bool) (was now : WriterState) where
     parts = steps.parts ∙ is;
     numbers_in = λ pending. follows (steps.numbers_in pending);
     less = omega (arith, steps.less, within);
-    few = subst (λ (ks : List CollectionKind). length ks ≤ most → Opens most (length ks) steps.given (length (kinds_of opened))) kinds steps.few;
+    few = subst (λ (ks : List CollectionKind). length ks ≤ most → OpensAtMost most (length ks) steps.given (length (kinds_of opened))) kinds steps.few;
   }
 
 -- a scalar, and then steps

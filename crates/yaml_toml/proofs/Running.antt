@@ -1,6 +1,6 @@
 -- The walk from its start to where it is.
 use Rattle.yaml_json.proofs.Common.{◌≡◌, ℕ, suc, zero, length, ◌≤◌, ◌∷◌, ◌++◌, [], List, Bool, Ok, refl, ap, subst, sym, ◌∙◌, append-nil, append_assoc, arith}
-use Rattle.yaml_json.proofs.Common.{Event, WriterState, Wrote}
+use Rattle.yaml_json.proofs.Common.{Event, WriterState, WasGiven}
 use Rattle.yaml_base.specs.declared.kinds.CollectionKind.{CollectionKind}
 use Rattle.toml_ordered.specs.Data.{TomlNodes, table}
 use Rattle.toml_ordered.specs.declared.tree.Origin.TheVariants.{Header}
@@ -9,7 +9,7 @@ use Rattle.yaml_base.proofs.Common.{sequence_start, sequence_end, mapping_start,
 use Rattle.yaml_emitter.proofs.AcceptedLists.{Stays, after_event, few_open}
 use Rattle.yaml_json.proofs.WroteLemmas.{adds_then}
 use Rattle.yaml_toml.specs.Failing.{GaveFirst}
-use Rattle.yaml_toml.specs.OpenCounts.{Opens, count_after}
+use Rattle.yaml_toml.specs.OpenCounts.{OpensAtMost, count_after}
 use Rattle.yaml_toml.specs.Walk.{Moved, GaveSome, StepsStop, KeptAfterStop, KeysHaveNumbers, PendingHaveNumbers, RestHasNumbers, kinds_of, rest_kind}
 use Rattle.yaml_toml.specs.Walk.{pending, rest_events, HasInnermost}
 use Rattle.yaml_toml.specs.WalkSteps.{RootStopped, StepGiven, StepStopped, value_due, walk_at}
@@ -26,13 +26,13 @@ numbers-pull (outer ∷ inner) r have rest = (rest.0, numbers-pull inner r have 
 
 -- ---- how many are open
 
-pub opens_fit : (most before behind : ℕ) (events : List Event) → Opens most before events behind → behind ≤ most
+pub opens_fit : (most before behind : ℕ) (events : List Event) → OpensAtMost most before events behind → behind ≤ most
 opens_fit most before behind [] opens = omega (arith, opens.0, opens.1)
 opens_fit most before behind (event ∷ events) opens = opens_fit most (count_after event before) behind events opens.1
 
-pub opens_then : (most before between behind : ℕ) (first second : List Event) → Opens most before first between → Opens most between second behind
-    → Opens most before (first ++ second) behind
-opens_then most before between behind [] second one other = subst (λ n. Opens most n second behind) (sym one.1) other
+pub opens_then : (most before between behind : ℕ) (first second : List Event) → OpensAtMost most before first between → OpensAtMost most between second behind
+    → OpensAtMost most before (first ++ second) behind
+opens_then most before between behind [] second one other = subst (λ n. OpensAtMost most n second behind) (sym one.1) other
 opens_then most before between behind (event ∷ first) second one other =
     (one.0, opens_then most (count_after event before) between behind first second one.1 other)
 
@@ -45,13 +45,13 @@ same_after mapping_end zero = refl
 same_after mapping_end (suc n) = refl
 same_after event n = refl
 
-stays_if : (most before behind : ℕ) (events : List Event) → Opens most before events behind → Stays most before events
+stays_if : (most before behind : ℕ) (events : List Event) → OpensAtMost most before events behind → Stays most before events
 stays_if most before behind [] opens = opens.0
 stays_if most before behind (event ∷ events) opens =
     (opens.0, subst (λ n. Stays most n events) (same_after event before) (stays_if most (count_after event before) behind events opens.1))
 
 -- no more after any prefix
-pub few_of : (most behind : ℕ) (events : List Event) → Opens most 0 events behind → (prefix rest : List Event) → prefix ++ rest ≡ events
+pub few_of : (most behind : ℕ) (events : List Event) → OpensAtMost most 0 events behind → (prefix rest : List Event) → prefix ++ rest ≡ events
     → open_count prefix ≤ most
 few_of most behind events opens prefix rest is = few_open most events prefix rest (stays_if most 0 behind events opens) is
 
@@ -64,7 +64,7 @@ pub record Running (most : ℕ) (in_flow : Bool) (start : WriterState) (all : Li
   pub parts : given ++ pending start.canonical in_flow opened ≡ all
   pub numbers_in : PendingHaveNumbers opened → numbers
   pub kept : KeptAfterStop start (Ok tt) now
-  pub few : Opens most 0 given (length (kinds_of opened))
+  pub few : OpensAtMost most 0 given (length (kinds_of opened))
 
 -- its root table was begun
 module _ (settings : TomlSettings) (start now : WriterState) (root : TomlNodes) (after : List Rest) where
@@ -112,8 +112,8 @@ module _ (most : ℕ) (in_flow : Bool) (start between now : WriterState) (all : 
       ap (λ (c : Bool). so.given ++ (rest_events c in_flow r ++ pending c in_flow left)) same
       ∙ ap (λ (events : List Event). so.given ++ events) (sym (pending-push start.canonical in_flow left r)) ∙ so.parts
 
-  so_few : Opens most 0 so.given (length (kinds_of left ++ rest_kind r ∷ []))
-  so_few = subst (λ (ks : List CollectionKind). Opens most 0 so.given (length ks)) (kinds-push left r) so.few
+  so_few : OpensAtMost most 0 so.given (length (kinds_of left ++ rest_kind r ∷ []))
+  so_few = subst (λ (ks : List CollectionKind). OpensAtMost most 0 so.given (length ks)) (kinds-push left r) so.few
 
   -- the walk stopped
   pub runs_stopped : StepsStop most between (rest_events between.canonical in_flow r ++ pending between.canonical in_flow left)
@@ -157,8 +157,8 @@ module _ (most : ℕ) (in_flow : Bool) (start between now : WriterState) (all : 
 
 -- nothing is left
 pub runs_out : (most : ℕ) (in_flow : Bool) (start now : WriterState) (all : List Event) (numbers : Type 0) → Running most in_flow start all numbers now []
-    → Wrote start all now
-runs_out most in_flow start now all numbers so = subst (λ (events : List Event). Wrote start events now) (sym (append-nil so.given) ∙ so.parts) (record {
+    → WasGiven start all now
+runs_out most in_flow start now all numbers so = subst (λ (events : List Event). WasGiven start events now) (sym (append-nil so.given) ∙ so.parts) (record {
   adds = so.moved.adds;
   canonical = so.moved.canonical;
   levels = so.moved.levels start.levels (sym (append-nil start.levels)) ∙ append-nil start.levels;

@@ -11,6 +11,6 @@ count_after mapping_end now = pred now
 count_after event now = now
 
 -- never more than the most are open, of so many before some events and so many behind them
-abbrev pub Opens : (most before : ℕ) → List Event → (behind : ℕ) → Type 0
-Opens most before [] behind = (before ≤ most) × (before ≡ behind)
-Opens most before (event ∷ events) behind = (before ≤ most) × Opens most (count_after event before) events behind
+abbrev pub OpensAtMost : (most before : ℕ) → List Event → (behind : ℕ) → Type 0
+OpensAtMost most before [] behind = (before ≤ most) × (before ≡ behind)
+OpensAtMost most before (event ∷ events) behind = (before ≤ most) × OpensAtMost most (count_after event before) events behind

@@ -18,11 +18,11 @@ use Rattle.yaml_base.specs.declared.kinds.CollectionKind.TheVariants.{Mapping, S
 use Rattle.yaml_base.specs.Prefix.{IsPrefix}
 use Rattle.yaml_json.specs.Failing.{FailedGiving, HasErrorSaid, StaysSound}
 use Rattle.yaml_writer.specs.Contents.{collection_in}
-use Rattle.yaml_json.specs.Wrote.{IsBare, Wrote}
+use Rattle.yaml_json.specs.Wrote.{IsBare, WasGiven}
 use Rattle.yaml_writer.specs.NumberParts.{IsNumber, number_in}
 use Rattle.yaml_writer.specs.Writing.{AddsEvents, WriterState}
 use Rattle.yaml_toml.specs.Events.{toml_events, toml_items_events, keys_events, json_word}
-use Rattle.yaml_toml.specs.OpenCounts.{Opens}
+use Rattle.yaml_toml.specs.OpenCounts.{OpensAtMost}
 use Rattle.yaml_toml.specs.declared.walk.Rest.{Rest}
 use Rattle.yaml_toml.specs.declared.walk.Rest.TheVariants as rest
 use Rattle.yaml_toml.specs.declared.walk.Stop.{Stop}
@@ -148,14 +148,14 @@ pub record GaveSome (most : ℕ) (in_flow : Bool) (was : WriterState) (due : Lis
   pub parts : given ++ pending was.canonical in_flow opened ≡ due
   pub numbers_in : PendingHaveNumbers opened → numbers
   pub less : pending_size opened < size
-  pub few : length before ≤ most → Opens most (length before) given (length (kinds_of opened))
+  pub few : length before ≤ most → OpensAtMost most (length before) given (length (kinds_of opened))
 
 -- the first of the events that were due were given, and no more
 pub record StepsStop (most : ℕ) (was : WriterState) (due : List Event) (before : List CollectionKind) (now : WriterState) : Type 0 where
   pub given : List Event
   pub begins : IsPrefix given due
   pub adds : AddsEvents was.emitter given now.emitter
-  pub few : length before ≤ most → (behind : ℕ) × Opens most (length before) given behind
+  pub few : length before ≤ most → (behind : ℕ) × OpensAtMost most (length before) given behind
 
 -- ---- what a call returned
 
@@ -208,7 +208,7 @@ pub record WroteToml (in_flow : Bool) (text : List ℕ) (was now : WriterState) 
   pub root : TomlNodes
   pub read : ordered_document text ≡ Some root
   pub numbers : KeysHaveNumbers root
-  pub wrote : Wrote was (toml_events was.canonical in_flow (table Header root)) now
+  pub wrote : WasGiven was (toml_events was.canonical in_flow (table Header root)) now
 
 -- an error that says that the text is no document of TOML
 abbrev pub DeniesToml : TomlError → Type 0

@@ -4,7 +4,7 @@ use Rattle.toml_ordered.specs.Data.{TomlNode, TomlNodes, table}
 use Rattle.toml_ordered.specs.declared.tree.Origin.TheVariants.{Header}
 use Rattle.yaml_base.specs.Event.{Event}
 use Rattle.yaml_base.specs.declared.kinds.CollectionKind.{CollectionKind}
-use Rattle.yaml_json.specs.Wrote.{Wrote, start_event}
+use Rattle.yaml_json.specs.Wrote.{WasGiven, start_event}
 use Rattle.yaml_writer.specs.Writing.{WriterState}
 use Rattle.yaml_toml.specs.Depth.{toml_nesting}
 use Rattle.yaml_toml.specs.Events.{toml_events}
@@ -86,7 +86,7 @@ TomlStep settings due before (Err stop) after = StepStopped settings due before 
 
 -- the events of the root table were given, and it nests no deeper than is allowed
 pub record RootGiven (settings : TomlSettings) (root : TomlNodes) (was now : WriterState) : Type 0 where
-  pub written : Wrote was (toml_events was.canonical settings.flow (table Header root)) now
+  pub written : WasGiven was (toml_events was.canonical settings.flow (table Header root)) now
   pub numbers : KeysHaveNumbers root
   pub nests : NestsAfter settings.depth root (Ok tt)
   pub kept : KeptAfterStop was (Ok tt) now
