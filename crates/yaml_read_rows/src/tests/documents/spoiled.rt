@@ -10,20 +10,33 @@ use std::process::Abort;
 const OTHERS: &[u8] =
     b"\0\t\n !\"%&*,-./0123479:<>?@ADEFZ[\\]_abdilnqrstxz{|}~\x7F\x80\xA9\xC3\xFF";
 
-/// Reads with each other byte at an offset: it is refused, or gives a document that is dumped as these bytes.
-fn check_spoiled(rt: &impl Abort, alloc: Global, bytes: &[u8], offset: usize) {
+/// Returns how many other bytes at an offset are read. Each of them gives a document that is dumped as these bytes.
+fn count_read(rt: &impl Abort, alloc: Global, bytes: &[u8], offset: usize) -> usize {
+    let mut count = 0usize;
     for byte in OTHERS {
         let spoiled = replaced(rt, alloc, bytes, offset, *byte);
-        let _answer = read_and_dumped(rt, alloc, spoiled.as_slice());
+        if spoiled.as_slice() != bytes && read_and_dumped(rt, alloc, spoiled.as_slice()).is_none() {
+            count = count.saturating_add(1);
+        }
     }
+    count
 }
 
+/// Returns the same of all offsets.
+fn count_all_read(rt: &impl Abort, alloc: Global, bytes: &[u8]) -> usize {
+    let mut count = 0usize;
+    for offset in 0..bytes.len() {
+        count = count.saturating_add(count_read(rt, alloc, bytes, offset));
+    }
+    count
+}
+
+/// In each text some byte of a tag can be another.
 #[test]
 fn a_byte_changed_is_refused_or_gives_another_document(rt: HostRuntime) {
     for (_, text) in TAKEN {
-        for offset in 0..text.len() {
-            check_spoiled(&rt, rt.alloc(), text.as_bytes(), offset);
-        }
+        let count = count_all_read(&rt, rt.alloc(), text.as_bytes());
+        equal(&rt, &(*text, count > 0), &(*text, true));
     }
 }
 
