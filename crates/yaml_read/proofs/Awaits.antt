@@ -26,7 +26,8 @@ use Rattle.yaml_read.proofs.Words.{at_exit, error_stays, memory_is, no_word}
 
 -- ---- the code's list
 
-onto_more : (outer : List Pending) (awaits : List Await) (awaited : Await) → awaits_onto outer (awaits ++ awaited ∷ []) ≡ seen_await awaited ∷ awaits_onto outer awaits
+onto_more : (outer : List Pending) (awaits : List Await) (awaited : Await)
+    → awaits_onto outer (awaits ++ awaited ∷ []) ≡ seen_await awaited ∷ awaits_onto outer awaits
 onto_more outer [] awaited = refl
 onto_more outer (first ∷ awaits) awaited = onto_more (seen_await first ∷ outer) awaits awaited
 
@@ -108,10 +109,6 @@ pub memory_within : (bytes : List ℕ) (error : Stop) → error ≡ stop.Memory 
 memory_within bytes error is = subst (λ (e : Stop). StopsAmong bytes e) (sym is) tt
 
 -- ---- results
-
-pub if_ok : {T : Type 0} (result : Result T Stop) (P Q : T → Type 0) → ((found : T) → P found → Q found) → IfOk result P → IfOk result Q
-if_ok (Ok found) P Q leads holds = leads found holds
-if_ok (Err error) P Q leads holds = tt
 
 -- what a `?` returns, of an error that is want of memory, or that can't be
 pub memory_exit : {T : Type 0} (answer : Result T Stop) (Holds : T → Type 0) (error : Stop) → IsErr answer × IsErrAnd answer (λ given. given ≡ error)
@@ -210,6 +207,15 @@ stands_in levels found awaited count depth text result is innermost counted less
     let inner : IsInnermostAwait levels (Some awaited) = subst (IsInnermostAwait levels) is innermost in
     let lies : depth ≡ length inner.0 = omega (arith, counted, less, ap length inner.1) in
     subst (λ (l : List Pending). LeadStands l text result) (sym inner.1) (stands inner.0 lies)
+
+-- what stands there by the code's list
+pub lead_at : (awaits : List Await) (found : Option Await) (count : ℕ) (text : List ℕ) (lead entry : Entry)
+    → MatchOption found (awaits ≡ []) (λ awaited. IsLastAwait awaited awaits) → count ≡ length awaits → lead ≡ entry
+    → ((levels : List Pending) → IsInnermostAwait levels found → count ≡ length levels → LeadStands levels text (Ok lead))
+    → LeadStands (seen_awaits awaits) text (Ok entry)
+lead_at awaits found count text lead entry innermost counted is stands =
+    subst (λ (e : Entry). LeadStands (seen_awaits awaits) text (Ok e)) is
+    (stands (seen_awaits awaits) (innermost_is awaits found innermost) (counted ∙ sym (awaits_length awaits)))
 
 -- a node's lead and the collection's end don't begin one text
 pub lead_or_end : (levels : List Pending) (a b : List ℕ) → can_end levels ≡ true → lead_text levels ++ a ≡ closing_text levels ++ b → ⊥

@@ -1,6 +1,7 @@
 -- A document's events, one after another: what was read, and what is due.
 use Rattle.yaml_base.proofs.Common.{ℕ, true, false, Option, None, Some, List, [], ◌∷◌, ◌++◌, refl, ◌≡◌, ap, subst, sym, ◌∙◌}
-use Rattle.yaml_base.proofs.Common.{append_assoc, All, All-head, All-tail, codes, false≢true, inl, inr, ◌⊎◌, line_feed, Text, encode_utf8_all, Event, alias, scalar}
+use Rattle.yaml_base.proofs.Common.{append_assoc, All, All-head, All-tail, codes, false≢true, inl, inr, ◌⊎◌, line_feed, Text, encode_utf8_all, Event}
+use Rattle.yaml_base.proofs.Common.{alias, scalar}
 use Rattle.yaml_base.proofs.Common.{sequence_start, sequence_end, mapping_start, mapping_end, stream_start, stream_end, document_start, document_end}
 use Rattle.std.proofs.lemmas.List.Elements.{All-nil, All-push}
 use Rattle.std.proofs.lemmas.Str.{encodes-append}

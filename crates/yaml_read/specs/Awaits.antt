@@ -20,12 +20,12 @@ seen_await code.FirstKey = key_awaited true
 seen_await code.Key = key_awaited false
 seen_await code.Value = value_awaited
 
--- the innermost first, before outer ones
+-- these, the innermost first, before outer ones
 abbrev pub awaits_onto : List Pending → List Await → List Pending
 awaits_onto outer [] = outer
 awaits_onto outer (awaited ∷ awaits) = awaits_onto (seen_await awaited ∷ outer) awaits
 
--- all of them
+-- what is open in the code, the innermost first
 abbrev pub seen_awaits : List Await → List Pending
 seen_awaits awaits = awaits_onto [] awaits
 

@@ -9,7 +9,7 @@ ghost use Rattle.yaml_read.specs.EventSteps.{GoesTo, ReadsEvent, ReadsNode, awai
 ghost use Rattle.yaml_read.specs.EventSteps.{trail_behind_opening};
 ghost use Rattle.yaml_read.specs.EventTexts.{Pending, BeginsNode, IsInNode, ends_name, event_text, may_come, next_awaited, left_open, outside, trail_text};
 ghost use Rattle.yaml_read.specs.RunPlaces.{StopsAmong};
-ghost use Rattle.yaml_read.specs.Words.{Cuts, OrMemory};
+ghost use Rattle.yaml_read.specs.Words.{OrMemory};
 ghost use Rattle.yaml_read.specs.declared.errors.Stop.TheVariants as stop;
 
 use crate::cuts::after;

@@ -7,7 +7,8 @@ use Rattle.yaml_read.specs.EventSteps.{bytes_behind, open_now}
 use Rattle.yaml_read.specs.RunPlaces.{RunStops, in_document}
 use Rattle.yaml_read.specs.declared.steps.Progress.{Progress}
 use Rattle.std.proofs.Common.{true}
-use Rattle.yaml_read.proofs.Awaits.{error_exit, if_ok, memory_exit, or_memory_by}
+use Rattle.std.proofs.lemmas.Result.{IfOk-weaker}
+use Rattle.yaml_read.proofs.Awaits.{error_exit, memory_exit, or_memory_by}
 use Rattle.yaml_read.proofs.Breaking.{err_exit}
 use Rattle.yaml_read.proofs.EventRuns.{RunDue, RunRead, memory_stops, next_of, run_begins, run_goes, run_sound, stops_at_end, stops_at_event}
 use Rattle.yaml_base.specs.declared.events.yaml_event_t.{yaml_event_t}
@@ -62,12 +63,14 @@ pub returns-in_err-event-clause-stops : goal.returns-in_err-event-clause-stops
 returns-in_err-event-clause-stops g c =
     err_exit (RunStops c.args.text.now) c.in_err-event.field-0.0 c.from_residual-in_err-event.result c.from_residual-in_err-event.ensures
     (stops_at_event c.args.text.now (map seen_event c.steps.events.items) (seen_awaits c.steps.awaits.items) c.steps.rest.now c.in_err-event.field-0.0
-    (λ (event : Event) (found : yaml_event_t g.row.A.Denot × Progress). seen_event found.0 ≡ event) c.steps.invariant.1 c.in_err-event.ensures.reads c.in_err-event.ensures.stops)
+    (λ (event : Event) (found : yaml_event_t g.row.A.Denot × Progress). seen_event found.0 ≡ event) c.steps.invariant.1
+    c.in_err-event.ensures.reads c.in_err-event.ensures.stops)
 
 pub returns-in_err-push-clause-reads : goal.returns-in_err-push-clause-reads
 returns-in_err-push-clause-reads g c =
     λ events node run in_node is.
-    memory_exit c.from_residual-in_err-push.result (λ found. map seen_event found.items ≡ in_document events) c.in_err-push.field-0.0 c.from_residual-in_err-push.ensures
+    memory_exit c.from_residual-in_err-push.result (λ found. map seen_event found.items ≡ in_document events) c.in_err-push.field-0.0
+    c.from_residual-in_err-push.ensures
     c.in_err-push.ensures.memory
 
 pub returns-in_err-push-clause-stops : goal.returns-in_err-push-clause-stops
@@ -100,7 +103,7 @@ returns-in-RootEnds-clause-sound g c =
     (bytes_behind progress) (open_now now progress) (seen_event c.in_ok-event.event) c.in_ok-push.ensures.pushed c.steps.invariant.1 c.steps.invariant.2
     c.in_ok-event.ensures.sound c.in_ok-event.ensures.reads in
     let ended = subst (λ (p : Progress). RunRead c.args.text.now new (open_now now p) (bytes_behind p)) c.in-RootEnds.is goes.0 in
-    if_ok c.end_events.result
+    IfOk-weaker c.end_events.result
     (λ found. (map seen_event found.items ≡ new ++ document_end true ∷ []) × (c.in-RootEnds.next.now ≡ codes "\n")) _
     (λ found sound. run_sound c.args.text.now new (map seen_event found.items) c.in-RootEnds.next.now ended sound.0 sound.1) c.end_events.ensures.sound
 

@@ -28,7 +28,8 @@ returns-in_err-rest-in-Some-clause-reads g c =
 pub returns-in_err-push-in-Some-clause-reads : goal.returns-in_err-push-in-Some-clause-reads
 returns-in_err-push-in-Some-clause-reads g c =
     λ tail is.
-    memory_exit c.from_residual-in_err-push-in-Some.result (λ _. Unit {0}) c.in_err-push-in-Some.field-0.0 c.from_residual-in_err-push-in-Some.ensures c.in_err-push-in-Some.ensures.memory
+    memory_exit c.from_residual-in_err-push-in-Some.result (λ _. Unit {0}) c.in_err-push-in-Some.field-0.0
+    c.from_residual-in_err-push-in-Some.ensures c.in_err-push-in-Some.ensures.memory
 
 pub returns-in_err-rest-in-Some-clause-stops : goal.returns-in_err-rest-in-Some-clause-stops
 returns-in_err-rest-in-Some-clause-stops g c =

@@ -1,13 +1,14 @@
-use Rattle.std.proofs.Common.{◌≡◌, ◌<◌, subst, sym, ◌∙◌}
-use Rattle.std.specs.Prelude.{Ok, length}
+use Rattle.std.proofs.Common.{◌≡◌, ◌<◌, sym, ◌∙◌}
+use Rattle.std.specs.Prelude.{length}
 use Rattle.std.specs.Str.{encode_utf8_all}
 use Rattle.yaml_base.specs.Seen.{seen_event}
-use Rattle.yaml_read.specs.Awaits.{LeadStands, closing_event, seen_awaits}
+use Rattle.yaml_read.specs.Awaits.{closing_event, seen_awaits}
 use Rattle.yaml_read.specs.EventSteps.{GoesTo, ReadsEvent, ReadsNode, bytes_behind, open_now}
 use Rattle.yaml_read.specs.EventTexts.{closing_text, lead_text, left_open, outside, trail_text}
 use Rattle.yaml_read.specs.RunPlaces.{StopsAmong}
-use Rattle.yaml_read.specs.declared.levels.Entry.{Entry}
-use Rattle.yaml_read.proofs.Awaits.{awaits_length, behind_less, errs_behind, if_ok, innermost_is, less_behind, or_memory_by}
+use Rattle.yaml_read.specs.declared.levels.Entry.TheVariants.{Another, End}
+use Rattle.std.proofs.lemmas.Result.{IfOk-weaker}
+use Rattle.yaml_read.proofs.Awaits.{awaits_length, lead_at, behind_less, errs_behind, innermost_is, less_behind, or_memory_by}
 use Rattle.yaml_read.proofs.EventSteps.{end_due, end_read, end_shorter, event_read, it_comes, node_due, none_comes}
 use Rattle.yaml_read.proofs.Breaking.{err_exit}
 use Rattle.yaml_read.proofs.steps.read_event.Goals as goal
@@ -18,10 +19,9 @@ returns-in-Another-clause-sound g c =
     let now = seen_awaits c.read_node.new.awaits.items in
     let text = c.args.text.now in
     let rest = c.in-Another.rest.now in
-    let stands = subst (λ (e : Entry). LeadStands levels text (Ok e)) c.in-Another.is
-    (c.in_ok-lead.ensures.stands levels (innermost_is c.args.awaits.now.items c.innermost-last.result c.innermost-last.ensures)
-    (c.len.ensures ∙ c.args.awaits.now.ok.0 ∙ sym (awaits_length c.args.awaits.now.items))) in
-    if_ok c.read_node.result (λ found. ReadsNode levels rest (open_now now found.1) (seen_event found.0) (bytes_behind found.1))
+    let stands = lead_at c.args.awaits.now.items c.innermost-last.result c.len.result c.args.text.now c.in_ok-lead.lead (Another c.in-Another.rest)
+    c.innermost-last.ensures (c.len.ensures ∙ c.args.awaits.now.ok.0) c.in-Another.is c.in_ok-lead.ensures.stands in
+    IfOk-weaker c.read_node.result (λ found. ReadsNode levels rest (open_now now found.1) (seen_event found.0) (bytes_behind found.1))
     (λ found. ReadsEvent levels text (open_now now found.1) (seen_event found.0) (bytes_behind found.1))
     (λ found node. event_read levels text rest (bytes_behind found.1) (open_now now found.1) (seen_event found.0) stands node)
     c.read_node.ensures.sound
@@ -33,9 +33,9 @@ returns-in-End-clause-sound g c =
     let text = c.args.text.now in
     let rest = c.in-End.rest.now in
     let innermost = innermost_is c.args.awaits.now.items c.innermost-last.result c.innermost-last.ensures in
-    let stands = subst (λ (e : Entry). LeadStands levels text (Ok e)) c.in-End.is
-    (c.in_ok-lead.ensures.stands levels innermost (c.len.ensures ∙ c.args.awaits.now.ok.0 ∙ sym (awaits_length c.args.awaits.now.items))) in
-    if_ok c.read_end.result (λ found. (seen_event found.0 ≡ closing_event levels)
+    let stands = lead_at c.args.awaits.now.items c.innermost-last.result c.len.result c.args.text.now c.in_ok-lead.lead (End c.in-End.rest)
+    c.innermost-last.ensures (c.len.ensures ∙ c.args.awaits.now.ok.0) c.in-End.is c.in_ok-lead.ensures.stands in
+    IfOk-weaker c.read_end.result (λ found. (seen_event found.0 ≡ closing_event levels)
     × GoesTo (left_open (outside levels)) (trail_text (outside levels)) rest now found.1)
     (λ found. ReadsEvent levels text (open_now now found.1) (seen_event found.0) (bytes_behind found.1))
     (λ found ends. end_read levels text rest (bytes_behind found.1) (open_now now found.1) (seen_event found.0) stands.0 stands.1 ends.0 ends.1.0 ends.1.1)
@@ -53,9 +53,8 @@ pub returns-in-Another-clause-reads : goal.returns-in-Another-clause-reads
 returns-in-Another-clause-reads g c =
     λ event tail in_node comes ends is.
     let levels = seen_awaits c.args.awaits.now.items in
-    let stands = subst (λ (e : Entry). LeadStands levels c.args.text.now (Ok e)) c.in-Another.is
-    (c.in_ok-lead.ensures.stands levels (innermost_is c.args.awaits.now.items c.innermost-last.result c.innermost-last.ensures)
-    (c.len.ensures ∙ c.args.awaits.now.ok.0 ∙ sym (awaits_length c.args.awaits.now.items))) in
+    let stands = lead_at c.args.awaits.now.items c.innermost-last.result c.len.result c.args.text.now c.in_ok-lead.lead (Another c.in-Another.rest)
+    c.innermost-last.ensures (c.len.ensures ∙ c.args.awaits.now.ok.0) c.in-Another.is c.in_ok-lead.ensures.stands in
     let due = node_due levels event tail c.args.text.now c.in-Another.rest.now (it_comes levels event tail c.args.text.now in_node comes is) stands in
     c.read_node.ensures.reads event tail due.0 ends due.1
 
@@ -65,8 +64,8 @@ returns-in-End-clause-reads g c =
     let levels = seen_awaits c.args.awaits.now.items in
     let now = seen_awaits c.read_end.new.awaits.items in
     let innermost = innermost_is c.args.awaits.now.items c.innermost-last.result c.innermost-last.ensures in
-    let stands = subst (λ (e : Entry). LeadStands levels c.args.text.now (Ok e)) c.in-End.is
-    (c.in_ok-lead.ensures.stands levels innermost (c.len.ensures ∙ c.args.awaits.now.ok.0 ∙ sym (awaits_length c.args.awaits.now.items))) in
+    let stands = lead_at c.args.awaits.now.items c.innermost-last.result c.len.result c.args.text.now c.in_ok-lead.lead (End c.in-End.rest)
+    c.innermost-last.ensures (c.len.ensures ∙ c.args.awaits.now.ok.0) c.in-End.is c.in_ok-lead.ensures.stands in
     let due = end_due levels event tail c.args.text.now c.in-End.rest.now (it_comes levels event tail c.args.text.now in_node comes is) stands.0 stands.1 in
     or_memory_by c.read_end.result (λ found. (seen_event found.0 ≡ closing_event levels)
     × GoesTo (left_open (outside levels)) (trail_text (outside levels)) c.in-End.rest.now now found.1)
@@ -80,27 +79,24 @@ returns-in_err-lead-clause-stops g c =
 pub returns-in-Another-clause-stops : goal.returns-in-Another-clause-stops
 returns-in-Another-clause-stops g c =
     let levels = seen_awaits c.args.awaits.now.items in
-    let stands = subst (λ (e : Entry). LeadStands levels c.args.text.now (Ok e)) c.in-Another.is
-    (c.in_ok-lead.ensures.stands levels (innermost_is c.args.awaits.now.items c.innermost-last.result c.innermost-last.ensures)
-    (c.len.ensures ∙ c.args.awaits.now.ok.0 ∙ sym (awaits_length c.args.awaits.now.items))) in
+    let stands = lead_at c.args.awaits.now.items c.innermost-last.result c.len.result c.args.text.now c.in_ok-lead.lead (Another c.in-Another.rest)
+    c.innermost-last.ensures (c.len.ensures ∙ c.args.awaits.now.ok.0) c.in-Another.is c.in_ok-lead.ensures.stands in
     errs_behind c.read_node.result (lead_text levels) c.args.text.now c.in-Another.rest.now stands c.read_node.ensures.stops
 
 pub returns-in-End-clause-stops : goal.returns-in-End-clause-stops
 returns-in-End-clause-stops g c =
     let levels = seen_awaits c.args.awaits.now.items in
-    let stands = subst (λ (e : Entry). LeadStands levels c.args.text.now (Ok e)) c.in-End.is
-    (c.in_ok-lead.ensures.stands levels (innermost_is c.args.awaits.now.items c.innermost-last.result c.innermost-last.ensures)
-    (c.len.ensures ∙ c.args.awaits.now.ok.0 ∙ sym (awaits_length c.args.awaits.now.items))) in
+    let stands = lead_at c.args.awaits.now.items c.innermost-last.result c.len.result c.args.text.now c.in_ok-lead.lead (End c.in-End.rest)
+    c.innermost-last.ensures (c.len.ensures ∙ c.args.awaits.now.ok.0) c.in-End.is c.in_ok-lead.ensures.stands in
     errs_behind c.read_end.result (closing_text levels) c.args.text.now c.in-End.rest.now stands.1 c.read_end.ensures.stops
 
 pub returns-in-Another-clause-shorter : goal.returns-in-Another-clause-shorter
 returns-in-Another-clause-shorter g c =
     let levels = seen_awaits c.args.awaits.now.items in
     let rest = c.in-Another.rest.now in
-    let stands = subst (λ (e : Entry). LeadStands levels c.args.text.now (Ok e)) c.in-Another.is
-    (c.in_ok-lead.ensures.stands levels (innermost_is c.args.awaits.now.items c.innermost-last.result c.innermost-last.ensures)
-    (c.len.ensures ∙ c.args.awaits.now.ok.0 ∙ sym (awaits_length c.args.awaits.now.items))) in
-    if_ok c.read_node.result (λ found. length (bytes_behind found.1) < length rest) (λ found. length (bytes_behind found.1) < length c.args.text.now)
+    let stands = lead_at c.args.awaits.now.items c.innermost-last.result c.len.result c.args.text.now c.in_ok-lead.lead (Another c.in-Another.rest)
+    c.innermost-last.ensures (c.len.ensures ∙ c.args.awaits.now.ok.0) c.in-Another.is c.in_ok-lead.ensures.stands in
+    IfOk-weaker c.read_node.result (λ found. length (bytes_behind found.1) < length rest) (λ found. length (bytes_behind found.1) < length c.args.text.now)
     (λ found less. less_behind (lead_text levels) c.args.text.now rest (bytes_behind found.1) stands less) c.read_node.ensures.shorter
 
 pub returns-in-End-clause-shorter : goal.returns-in-End-clause-shorter
@@ -109,9 +105,9 @@ returns-in-End-clause-shorter g c =
     let now = seen_awaits c.read_end.new.awaits.items in
     let rest = c.in-End.rest.now in
     let innermost = innermost_is c.args.awaits.now.items c.innermost-last.result c.innermost-last.ensures in
-    let stands = subst (λ (e : Entry). LeadStands levels c.args.text.now (Ok e)) c.in-End.is
-    (c.in_ok-lead.ensures.stands levels innermost (c.len.ensures ∙ c.args.awaits.now.ok.0 ∙ sym (awaits_length c.args.awaits.now.items))) in
-    if_ok c.read_end.result (λ found. (seen_event found.0 ≡ closing_event levels)
+    let stands = lead_at c.args.awaits.now.items c.innermost-last.result c.len.result c.args.text.now c.in_ok-lead.lead (End c.in-End.rest)
+    c.innermost-last.ensures (c.len.ensures ∙ c.args.awaits.now.ok.0) c.in-End.is c.in_ok-lead.ensures.stands in
+    IfOk-weaker c.read_end.result (λ found. (seen_event found.0 ≡ closing_event levels)
     × GoesTo (left_open (outside levels)) (trail_text (outside levels)) rest now found.1)
     (λ found. length (bytes_behind found.1) < length c.args.text.now)
     (λ found ends. behind_less (trail_text (outside levels)) c.args.text.now rest (bytes_behind found.1) ends.1.1

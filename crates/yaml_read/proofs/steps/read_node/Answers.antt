@@ -31,7 +31,8 @@ returns-in_err-event-clause-reads g c =
     λ event tail begins ends is.
     let trail = trail_behind_opening (seen_awaits c.args.awaits.now.items) (await_opened event) in
     error_exit c.from_residual.result (λ found. seen_event found.0 ≡ event) c.in_err-event.field-0.0
-    (λ (found : yaml_event_t g.row.A.Denot × Bor (List ℕ)). (seen_event found.0 ≡ event) × (found.1.now ≡ encode_utf8_all (trail ++ tail))) c.from_residual.ensures
+    (λ (found : yaml_event_t g.row.A.Denot × Bor (List ℕ)). (seen_event found.0 ≡ event) × (found.1.now ≡ encode_utf8_all (trail ++ tail)))
+    c.from_residual.ensures
     (c.in_err-event.ensures.reads event (trail ++ tail) begins (trail_ends (seen_awaits c.args.awaits.now.items) (await_opened event) tail ends)
     (is ∙ ap encode_utf8_all (append_assoc (opening_text event) trail tail)))
 
