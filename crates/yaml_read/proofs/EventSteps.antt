@@ -1,5 +1,5 @@
 -- Events of a document, by what is open before them.
-use Rattle.yaml_base.proofs.Common.{ℕ, ◌+◌, ◌<◌, true, false, Option, None, Some, List, [], ◌∷◌, ◌++◌, refl, ◌≡◌, ap, subst, sym, ◌∙◌}
+use Rattle.yaml_base.proofs.Common.{ℕ, ◌<◌, true, false, Option, None, Some, List, [], ◌∷◌, ◌++◌, refl, ◌≡◌, ap, subst, sym, ◌∙◌}
 use Rattle.yaml_base.proofs.Common.{append_assoc, append-nil, arith, false≢true, length, length-append, Text, encode_utf8_all, Event, alias, scalar}
 use Rattle.yaml_base.proofs.Common.{sequence_start, sequence_end, mapping_start, mapping_end, Scalar}
 use Rattle.yaml_base.proofs.Common.{Collection}

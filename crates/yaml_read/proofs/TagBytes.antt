@@ -92,7 +92,8 @@ byte_first b d x y few also is = by (is_tag_character b) (is_tag_character d) re
     by true false e f is = absurd (true≢false (sym e ∙ ap is_tag_character (same_first b percent_sign x _ is).0 ∙ no_percent))
     by false true e f is = absurd (true≢false (sym f ∙ ap is_tag_character (sym (same_first percent_sign d _ y is).0) ∙ no_percent))
     by false false e f is =
-        let one = same_first percent_sign percent_sign (hex_digit (b / 16 % 16) ∷ hex_digit (b % 16) ∷ x) (hex_digit (d / 16 % 16) ∷ hex_digit (d % 16) ∷ y) is in
+        let one = same_first percent_sign percent_sign (hex_digit (b / 16 % 16) ∷ hex_digit (b % 16) ∷ x)
+        (hex_digit (d / 16 % 16) ∷ hex_digit (d % 16) ∷ y) is in
         let two = same_first (hex_digit (b / 16 % 16)) (hex_digit (d / 16 % 16)) (hex_digit (b % 16) ∷ x) (hex_digit (d % 16) ∷ y) one.1 in
         let three = same_first (hex_digit (b % 16)) (hex_digit (d % 16)) x y two.1 in
         let high = same_digit (b / 16) (d / 16) two.0 in

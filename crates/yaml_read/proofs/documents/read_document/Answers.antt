@@ -56,4 +56,5 @@ returns-in-Err-events_of_text-clause-complete g c =
 pub returns-in-Err-events_of_text-clause-placed : goal.returns-in-Err-events_of_text-clause-placed
 returns-in-Err-events_of_text-clause-placed g c =
     document_placed c.args.bytes.now c.in-Err-events_of_text.stop c.error_of.result c.in-Ok.ensures.cases.1 c.error_of.ensures.place
-    c.error_of.ensures.tells (subst (λ (b : List ℕ). DocumentStops b c.in-Err-events_of_text.stop) c.in-Ok.ensures.cases.0 c.in-Err-events_of_text.ensures.stops)
+    c.error_of.ensures.tells
+    (subst (λ (b : List ℕ). DocumentStops b c.in-Err-events_of_text.stop) c.in-Ok.ensures.cases.0 c.in-Err-events_of_text.ensures.stops)
