@@ -11,7 +11,8 @@ use Rattle.yaml_base.specs.graphs.Documents.{graph_of}
 use Rattle.yaml_base.specs.graphs.Isomorphic.{Isomorphic}
 use Rattle.yaml_base.specs.graphs.Meetings.{Graph, document_event_list, graph_steps, step_events}
 use Rattle.yaml_read.specs.DocumentPlaces.{AreEventsOf, AreRunBytes, ComposesNode, DocumentStops, IsDocumentPlaced}
-use Rattle.yaml_read.specs.DocumentTexts.{AreDumpedBytes}
+use Rattle.yaml_dump.specs.InOrder.{in_order}
+use Rattle.yaml_read.specs.DocumentTexts.{AreDumpedBytes, unstyled_graph}
 use Rattle.yaml_read.specs.Errors.{Tells}
 use Rattle.yaml_read.specs.EventTexts.{HasRunText, IsInNode}
 use Rattle.yaml_read.specs.Places.{HasPlaceOf, IsHere, IsNotCanonicalAt}
@@ -24,7 +25,6 @@ use Rattle.yaml_read.specs.declared.errors.Stop.TheVariants as stop
 use Rattle.yaml_read.proofs.DumpedRuns.{dumped_bytes_run, run_is_dumped}
 use Rattle.yaml_read.proofs.OneGraph.{same_events, styled_isomorphic}
 use Rattle.yaml_read.proofs.RunScalars.{run_utf8}
-use Rattle.yaml_read.proofs.UnstyledGraphs.{unstyled_graph}
 
 -- ---- events
 
@@ -91,6 +91,17 @@ composed_one bytes all events (Ok document) whole reads composes =
     let is = reads run.events (record { node = run.node; run = run.run; in_node = run.in_node; parts = run.is }) in
     styled_isomorphic graph (graph_of document)
     (same_events (unstyled_graph graph) (graph_of document) run.whole composes.0 (run.is_list ∙ sym is ∙ whole ∙ sym composes.1))
+
+-- of each such graph it has the nodes in the order in which they begin, without styles
+pub composed_exact : {A : Type 0} (bytes : List ℕ) (all events : List Event) (answer : Result (yaml_document_t A) ReadError) → all ≡ in_document events
+    → ((other : List Event) → AreRunBytes bytes other → all ≡ in_document other) → ComposesNode events answer
+    → IfOk answer (λ document. (graph : Graph) → AreDumpedBytes graph bytes → graph_of document ≡ in_order (unstyled_graph graph))
+composed_exact bytes all events (Err error) whole reads composes = tt
+composed_exact bytes all events (Ok document) whole reads composes =
+    λ graph dumped.
+    let run = dumped_bytes_run graph bytes dumped in
+    let is = reads run.events (record { node = run.node; run = run.run; in_node = run.in_node; parts = run.is }) in
+    composes.2 (unstyled_graph graph) run.whole (run.is_list ∙ sym is ∙ whole)
 
 -- memory gave out, or no graph's dump has these bytes
 abbrev pub NoneIsDumped : List ℕ → ReadError → Type 0

@@ -17,13 +17,12 @@ use Rattle.yaml_base.specs.graphs.Unfolding.{TreeUnfolds, Unfolds, content_shape
 use Rattle.yaml_base.specs.reading.Content.{Content, alias_content, documents_content, node_content}
 use Rattle.yaml_emitter.proofs.canonical.Canonical.{bytes_read}
 use Rattle.yaml_emitter.proofs.canonical.CanonicalSound.{is_good_canonical, documents_ok}
-use Rattle.yaml_read.specs.DocumentTexts.{AreDumpedBytes}
+use Rattle.yaml_read.specs.DocumentTexts.{AreDumpedBytes, unstyled_graph}
 use Rattle.yaml_read.specs.EventTexts.{BeginsNode, IsAnchor, IsInNode, begins_node, ends_mapping, ends_sequence, is_alias, is_mapping, is_scalar}
 use Rattle.yaml_read.specs.EventTexts.{is_sequence}
 use Rattle.yaml_read.specs.RunPlaces.{bare_start, in_document}
 use Rattle.yaml_read.proofs.DumpedRuns.{dumped_bytes_run, run_is_dumped, same_parts}
 use Rattle.yaml_read.proofs.OneGraph.{isomorphic_styled, styled_isomorphic}
-use Rattle.yaml_read.proofs.UnstyledGraphs.{unstyled_graph}
 
 -- ---- events
 

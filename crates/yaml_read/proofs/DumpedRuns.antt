@@ -14,8 +14,8 @@ use Rattle.yaml_read.proofs.Encoded.{word_encoded}
 use Rattle.yaml_read.proofs.NodeEvents.{root_between, root_events, root_in_node}
 use Rattle.yaml_read.proofs.RunTexts.{one_run_text, run_unstyled}
 use Rattle.yaml_read.proofs.TreeRuns.{tree_runs}
-use Rattle.yaml_read.proofs.UnstyledGraphs.{document_unstyled, unstyled_graph, whole_unstyled}
-use Rattle.yaml_read.specs.DocumentTexts.{AreDumpedBytes, IsWritable}
+use Rattle.yaml_read.proofs.UnstyledGraphs.{document_unstyled, whole_unstyled}
+use Rattle.yaml_read.specs.DocumentTexts.{AreDumpedBytes, IsWritable, unstyled_graph}
 use Rattle.yaml_read.specs.EventTexts.{BeginsNode, HasRunText, IsInNode, begins_node, ends_mapping, ends_sequence, is_alias, is_mapping, is_scalar}
 use Rattle.yaml_read.specs.EventTexts.{is_sequence}
 use Rattle.yaml_read.specs.RunPlaces.{bare_start, in_document}

@@ -11,7 +11,8 @@ use Rattle.yaml_base.specs.graphs.Meetings.{Held, mapping_held, scalar_held, seq
 use Rattle.yaml_base.specs.graphs.Unfolding.{IsReached, child_reached, first_reached, Label, Unfolds, content_shape, label_of}
 use Rattle.yaml_base.specs.reading.Content.{node_content}
 use Rattle.std.specs.Prelude.{Contains}
-use Rattle.yaml_read.proofs.UnstyledGraphs.{children_unstyled, node_unstyled, unstyled_graph, unstyled_node}
+use Rattle.yaml_read.proofs.UnstyledGraphs.{children_unstyled, node_unstyled}
+use Rattle.yaml_read.specs.DocumentTexts.{unstyled_graph, unstyled_node}
 
 -- ---- events
 

@@ -9,21 +9,9 @@ use Rattle.yaml_base.proofs.Common.{IsWholeGraph}
 use Rattle.yaml_base.proofs.Unstyled.{unstyled}
 use Rattle.yaml_base.specs.graphs.Meetings.{graph_steps}
 use Rattle.std.proofs.lemmas.Option.{slice_get-map}
+use Rattle.yaml_read.specs.DocumentTexts.{unstyled_graph, unstyled_held, unstyled_node}
 use Rattle.yaml_read.proofs.ChildWalks.{walks_same}
 use Rattle.yaml_read.proofs.NodeEvents.{root_events}
-
--- what a node holds, a node and a graph, each of no style; the document's start is implicit
-abbrev pub unstyled_held : Held → Held
-unstyled_held (scalar_held value style) = scalar_held value any_style
-unstyled_held (sequence_held items style) = sequence_held items any_layout
-unstyled_held (mapping_held pairs style) = mapping_held pairs any_layout
-
-abbrev pub unstyled_node : GraphNode → GraphNode
-unstyled_node node = record { tag = node.tag; held = unstyled_held node.held }
-
-abbrev pub unstyled_graph : Graph → Graph
-unstyled_graph graph =
-    record { start = record graph.start { implicit = true }; nodes = map unstyled_node graph.nodes; end_implicit = graph.end_implicit }
 
 -- ---- nodes and their children
 

@@ -8,6 +8,7 @@ use Rattle.yaml_base.specs.graphs.Meetings.{Graph, document_event_list}
 use Rattle.yaml_base.specs.graphs.Unfolding.{IsWholeGraph}
 use Rattle.yaml_base.specs.values.LinesAndColumns.{column_of, line_of}
 use Rattle.yaml_base.specs.declared.documents.yaml_document_t.{yaml_document_t}
+use Rattle.yaml_dump.specs.InOrder.{in_order}
 use Rattle.yaml_read.specs.EventTexts.{HasRunText, IsInNode}
 use Rattle.yaml_read.specs.Places.{IsBehindMarker}
 use Rattle.yaml_read.specs.RunPlaces.{StopsInRun, in_document}
@@ -59,9 +60,11 @@ DocumentStops bytes (stop.Refused left) = StopsInDumpedBytes bytes left
 DocumentStops bytes (stop.TooDeep left) = ⊥
 DocumentStops bytes stop.Memory = Unit {0}
 
--- a document has the events of this node; or none has, or memory gave out
+-- a document has the events of this node, and is each graph that has them, with its nodes in order; or none has, or memory gave out
 abbrev pub ComposesNode : {A : Type 0} → List Event → Result (yaml_document_t A) ReadError → Type 0
-ComposesNode events (Ok document) = IsWholeGraph (graph_of document) × (document_event_list (graph_of document) ≡ in_document events)
+ComposesNode events (Ok document) =
+    IsWholeGraph (graph_of document) × (document_event_list (graph_of document) ≡ in_document events)
+    × ((graph : Graph) → IsWholeGraph graph → document_event_list graph ≡ in_document events → graph_of document ≡ in_order graph)
 ComposesNode events (Err told.NotNumbered) = (graph : Graph) → IsWholeGraph graph → document_event_list graph ≢ in_document events
 ComposesNode events (Err told.Memory) = Unit {0}
 ComposesNode events (Err _) = ⊥

@@ -5,8 +5,9 @@ ghost use Rattle.yaml_base.specs.Seen.{seen_event};
 ghost use Rattle.yaml_base.specs.graphs.Documents.{graph_of};
 ghost use Rattle.yaml_base.specs.graphs.Isomorphic.{Isomorphic};
 ghost use Rattle.yaml_base.specs.graphs.Meetings.{Graph};
+ghost use Rattle.yaml_dump.specs.InOrder.{in_order};
 ghost use Rattle.yaml_read.specs.DocumentPlaces.{AreEventsOf, AreRunBytes, ComposesNode, DocumentStops, IsDocumentPlaced};
-ghost use Rattle.yaml_read.specs.DocumentTexts.{AreDumpedBytes};
+ghost use Rattle.yaml_read.specs.DocumentTexts.{AreDumpedBytes, unstyled_graph};
 ghost use Rattle.yaml_read.specs.RunPlaces.{in_document};
 ghost use Rattle.yaml_read.specs.Words.{OrMemory};
 
@@ -66,6 +67,7 @@ pub fn read_document<A: Allocator + Copy>(
     bytes: &[u8],
 ) -> Result<yaml_document_t<A>, ReadError>
     ensures read { IfOk result (λ document. AreDumpedBytes (graph_of document) bytes.now) }
+    ensures exact { IfOk result (λ document. (graph : Graph) → AreDumpedBytes graph bytes.now → graph_of document ≡ in_order (unstyled_graph graph)) }
     ensures one { IfOk result (λ document. (graph : Graph) → AreDumpedBytes graph bytes.now → Isomorphic graph (graph_of document)) }
     ensures complete { IfErr result (λ error. (error ≡ ReadError.Memory) ⊎ ((graph : Graph) → AreDumpedBytes graph bytes.now → ⊥)) }
     ensures placed { IfErr result (IsDocumentPlaced bytes.now) }

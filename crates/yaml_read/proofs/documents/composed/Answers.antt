@@ -5,8 +5,11 @@ use Rattle.yaml_read.proofs.documents.composed.Goals as goal
 
 pub returns-in-Ok : goal.returns-in-Ok
 returns-in-Ok g c node is =
-    let has = c.in-Ok.ensures.has_events ∙ is in
-    (record { whole = c.numbers_name_nodes.ensures; has_nodes = has_nodes (graph_of c.in-Ok.document) node has }, has)
+    let has = c.in-Ok.ensures.has_events ∙ is in (
+      record { whole = c.numbers_name_nodes.ensures; has_nodes = has_nodes (graph_of c.in-Ok.document) node has },
+      has,
+      λ graph whole list. c.in-Ok.ensures.composes graph whole (list ∙ sym is),
+    )
 
 pub returns-in-Err-NotDumped : goal.returns-in-Err-NotDumped
 returns-in-Err-NotDumped g c node is graph whole has =

@@ -6,8 +6,8 @@ use Rattle.yaml_base.specs.Seen.{seen_event}
 use Rattle.yaml_base.specs.declared.events.yaml_event_t.{yaml_event_t}
 use Rattle.yaml_read.specs.RunPlaces.{in_document}
 use Rattle.yaml_read.specs.DocumentPlaces.{AreRunBytes, DocumentStops}
-use Rattle.yaml_read.proofs.DocumentsRead.{composed_complete, composed_one, composed_placed, composed_read, document_placed, document_stopped, dumped_utf8}
-use Rattle.yaml_read.proofs.DocumentsRead.{no_document_placed}
+use Rattle.yaml_read.proofs.DocumentsRead.{composed_complete, composed_exact, composed_one, composed_placed, composed_read, document_placed}
+use Rattle.yaml_read.proofs.DocumentsRead.{document_stopped, dumped_utf8, no_document_placed}
 use Rattle.yaml_read.proofs.documents.read_document.Goals as goal
 
 pub returns-in-Err-clause-complete : goal.returns-in-Err-clause-complete
@@ -30,6 +30,13 @@ pub returns-in-Ok-events_of_text-clause-complete : goal.returns-in-Ok-events_of_
 returns-in-Ok-events_of_text-clause-complete g c =
     let found = c.in-Ok-events_of_text.ensures.sound in
     composed_complete c.args.bytes.now (map seen_event c.in-Ok-events_of_text.events.items) found.events c.composed.result found.whole
+    (λ other run. c.in-Ok-events_of_text.ensures.reads other (subst (λ (b : List ℕ). AreRunBytes b other) (sym c.in-Ok.ensures.cases.0) run))
+    (c.composed.ensures found.events (ap (map seen_event) c.as_slice.ensures.value ∙ found.whole))
+
+pub returns-in-Ok-events_of_text-clause-exact : goal.returns-in-Ok-events_of_text-clause-exact
+returns-in-Ok-events_of_text-clause-exact g c =
+    let found = c.in-Ok-events_of_text.ensures.sound in
+    composed_exact c.args.bytes.now (map seen_event c.in-Ok-events_of_text.events.items) found.events c.composed.result found.whole
     (λ other run. c.in-Ok-events_of_text.ensures.reads other (subst (λ (b : List ℕ). AreRunBytes b other) (sym c.in-Ok.ensures.cases.0) run))
     (c.composed.ensures found.events (ap (map seen_event) c.as_slice.ensures.value ∙ found.whole))
 
