@@ -4,7 +4,7 @@ ghost use Rattle.json2yaml.specs.Conversions.{AreJsonSettings};
 ghost use Rattle.yaml_program.specs.Conversions.{IsAskedBy};
 
 use crate::formats::JsonFormat;
-use crate::words::WORDS;
+use crate::words::words;
 use clap::{ArgMatches, Error};
 use std::alloc::{AllocError, Global};
 use yaml_json::JsonSettings;
@@ -42,5 +42,5 @@ pub fn conversion_of<'a>(
     alloc: Global,
     arguments: &'a [String],
 ) -> Result<Conversion<'a, JsonFormat>, Error> {
-    Ok(conversion_by(alloc, &matches_of(alloc, &WORDS, arguments)?)?)
+    Ok(conversion_by(alloc, &matches_of(alloc, words(), arguments)?)?)
 }

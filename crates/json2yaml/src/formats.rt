@@ -5,7 +5,7 @@ ghost use Rattle.yaml_program.specs.Bounds.{is_allowed};
 
 use crate::failures::failure_of;
 use crate::sending::send_all;
-use crate::words::WORDS;
+use crate::words;
 use std::io::Write;
 use yaml_json::JsonSettings;
 use yaml_program::{CommonSettings, Failure, Format, Sources, Wording};
@@ -24,7 +24,7 @@ impl Format for JsonFormat {
     ghost ending = { codes ".json" };
 
     fn words(&self) -> &'static Wording {
-        &WORDS
+        words::words()
     }
 
     fn ending(&self) -> &'static str {

@@ -4,7 +4,7 @@ ghost use Rattle.toml2yaml.specs.Conversions.{AreTomlSettings};
 ghost use Rattle.yaml_program.specs.Conversions.{IsAskedBy};
 
 use crate::formats::TomlFormat;
-use crate::words::WORDS;
+use crate::words::words;
 use clap::{ArgMatches, Error};
 use std::alloc::{AllocError, Global};
 use yaml_program::{Conversion, common_settings_of, conversion_with, matches_of};
@@ -41,5 +41,5 @@ pub fn conversion_of<'a>(
     alloc: Global,
     arguments: &'a [String],
 ) -> Result<Conversion<'a, TomlFormat>, Error> {
-    Ok(conversion_by(alloc, &matches_of(alloc, &WORDS, arguments)?)?)
+    Ok(conversion_by(alloc, &matches_of(alloc, words(), arguments)?)?)
 }

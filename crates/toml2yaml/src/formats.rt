@@ -4,7 +4,7 @@ ghost use Rattle.toml2yaml.specs.Conversions.{IsYamlOfTomlFiles};
 ghost use Rattle.yaml_program.specs.Bounds.{is_allowed};
 
 use crate::sending::send_all;
-use crate::words::WORDS;
+use crate::words;
 use std::io::Write;
 use yaml_program::{CommonSettings, Failure, Format, Sources, Wording};
 use yaml_toml::TomlSettings;
@@ -23,7 +23,7 @@ impl Format for TomlFormat {
     ghost ending = { codes ".toml" };
 
     fn words(&self) -> &'static Wording {
-        &WORDS
+        words::words()
     }
 
     fn ending(&self) -> &'static str {

@@ -8,7 +8,6 @@ mod sending;
 mod words;
 
 use crate::conversions::conversion_of;
-use crate::words::WORDS;
 use std::io;
 use std::process::ExitCode;
 use yaml_program::{Messages, read_arguments, refuse_arguments, serve};
@@ -17,7 +16,7 @@ use yaml_program::{Messages, read_arguments, refuse_arguments, serve};
 fn main(rt: HostRuntime) -> ExitCode {
     let stdin = rt.stdin();
     let stderr = rt.stderr();
-    let mut faults = Messages::new(&WORDS, io::writer(&stderr));
+    let mut faults = Messages::new(words::words(), io::writer(&stderr));
     let status = match read_arguments(&rt) {
         Ok(words) => {
             let asked = conversion_of(rt.alloc(), words.as_slice());

@@ -1,8 +1,12 @@
 //! What the program is called, and what its help says.
 use yaml_program::{Wording, wording};
 
-/// What the program is called, and what its help says.
-pub static WORDS: Wording = wording!(
+/// Returns what the program is called, and what its help says.
+pub fn words() -> &'static Wording {
+    &WORDS
+}
+
+static WORDS: Wording = wording!(
     "toml2yaml",
     "TOML",
     ".toml",
