@@ -117,12 +117,19 @@ fn check(rt: &impl Abort, alloc: Global, settings: &Settings, rows: &[Row]) {
     }
 }
 
+/// Rows under settings.
+const TABLES: &[(&Settings, &[Row])] = &[
+    (&UNSET, TEXTS),
+    (&UNSET, OTHERS),
+    (&UNSET, NESTED),
+    (&IN_FULL, CANONICAL),
+];
+
 #[test]
 fn a_typed_dump_keeps_the_type_of_each_scalar(rt: HostRuntime) {
-    check(&rt, rt.alloc(), &UNSET, TEXTS);
-    check(&rt, rt.alloc(), &UNSET, OTHERS);
-    check(&rt, rt.alloc(), &UNSET, NESTED);
-    check(&rt, rt.alloc(), &IN_FULL, CANONICAL);
+    for (settings, rows) in TABLES {
+        check(&rt, rt.alloc(), settings, rows);
+    }
 }
 
 /// Events, and the same typed. A scalar without a tag stays as it is.
