@@ -7,6 +7,7 @@ use Rattle.yaml_base.proofs.Prefixes.{prefix_itself}
 use Rattle.yaml_writer.proofs.Common.{AddsEvent}
 use Rattle.std.{proofs.lemmas.List.Elements.All-nil, proofs.lemmas.List.Elements.All-cons, proofs.lemmas.List.Elements.All-append}
 use Rattle.std.specs.Prelude.{OnErr}
+use Rattle.std.specs.Result.{result_and}
 use Rattle.yaml_base.specs.Sinks.{AppendsFirst}
 use Rattle.yaml_pen.proofs.Composing.{grows_then}
 use Rattle.std.proofs.KnownBytes.{Appends-nil, Appends-trans}
@@ -115,11 +116,25 @@ begins_nothing given held = ∣ ([], ([], prefix_itself [], Appends-nil held), i
 
 -- ---- a value, whatever the answer is
 
-pub part_of : {before after : WriterState} (answer : Result (Unit {0}) Error) → GivesValue before answer after → GavePart before after
-part_of (Ok done) gave = gave.part
-part_of (Err error) gave = gave
+part_of : (before after : WriterState) (answer : Result (Unit {0}) Error) → GivesValue before answer after → GavePart before after
+part_of before after (Ok done) gave = gave.part
+part_of before after (Err error) gave = gave
 
-pub beginning_of : (held now : Option (List ℕ)) (before after : State) (answer : Result (Unit {0}) Error) → SendsValue held before answer now after
+-- and of two the first error
+pub gives_and : (before after : WriterState) (first whole answer : Result (Unit {0}) Error) → answer ≡ result_and first whole
+    → GivesValue before whole after → GivesValue before answer after
+gives_and before after (Ok done) whole answer is gave = subst (λ (a : Result (Unit {0}) Error). GivesValue before a after) (sym is) gave
+gives_and before after (Err error) whole answer is gave =
+    subst (λ (a : Result (Unit {0}) Error). GivesValue before a after) (sym is) (part_of before after whole gave)
+
+beginning_of : (held now : Option (List ℕ)) (before after : State) (answer : Result (Unit {0}) Error) → SendsValue held before answer now after
     → SendsBeginning held before now
 beginning_of held now before after (Ok done) sent = sent.first
 beginning_of held now before after (Err error) sent = sent
+
+pub sends_and : (held now : Option (List ℕ)) (before after : State) (first whole answer : Result (Unit {0}) Error) → answer ≡ result_and first whole
+    → SendsValue held before whole now after → SendsValue held before answer now after
+sends_and held now before after (Ok done) whole answer is sent =
+    subst (λ (a : Result (Unit {0}) Error). SendsValue held before a now after) (sym is) sent
+sends_and held now before after (Err error) whole answer is sent =
+    subst (λ (a : Result (Unit {0}) Error). SendsValue held before a now after) (sym is) (beginning_of held now before after whole sent)

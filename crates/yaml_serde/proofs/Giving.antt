@@ -21,16 +21,17 @@ use Rattle.yaml_serde.proofs.Gave.{gave_more, gave_none, gave_taken}
 use Rattle.yaml_serde.proofs.Handing.{failed_is_sent, grows_taken, left_begins}
 use Rattle.std.specs.Float.Ieee.{Float, Format, nan, inf, fin}
 use Rattle.std.specs.Prelude.{if◌then◌else◌}
-use Rattle.yaml_writer.specs.Floats.{GivesFloat}
+use Rattle.yaml_writer.specs.Floats.{GivesFloat, special_event}
+use Rattle.yaml_writer.specs.declared.floats.SpecialFloat.{SpecialFloat}
 use Rattle.yaml_writer.specs.declared.floats.SpecialFloat.TheVariants.{Infinity, NegativeInfinity, NotANumber}
-use Rattle.yaml_serde.specs.Documents.{GaveEvents, IsPartial, SendsEvents, end_call, number_call, special_call}
+use Rattle.yaml_serde.specs.Documents.{GaveEvents, GivesCall, IsPartial, SendsEvents, end_call, number_call, special_call}
 use Rattle.yaml_serde.specs.Outlets.{GaveAndHandedOn, HandsAll, HandsFirst, HandsNone, HasGiven, Outside, Stands, has_failed}
 use Rattle.yaml_serde.specs.ValueCalls.{GavePart, GivesValue, SendsBeginning, SentValue}
 use Rattle.yaml_serde.specs.declared.error.Error.{Error}
 use Rattle.yaml_serde.specs.declared.outlet.Handing.{Handing}
 use Rattle.yaml_serde.specs.declared.outlet.Handing.TheVariants.{Kept, Open, Failed}
 use Rattle.yaml_serde.specs.declared.outlet.Outlet.{Outlet}
-use Rattle.yaml_writer.specs.{Writing.NodeExpected, Writing.Begins, Writing.Gives, Writing.EndsInnermost}
+use Rattle.yaml_writer.specs.{Writing.NodeExpected, Writing.Begins, Writing.Gives, Writing.EndsInnermost, Writing.number_event}
 
 -- ---- truncated facts
 
@@ -65,6 +66,16 @@ open_less outer now kind fewer is =
     sym (take-append-le (length outer) now (kind ∷ []) few) ∙ is
 
 -- ---- the document
+
+-- a float is given by one call
+pub float_call : (before after : WriterState) (format : Format) (float : Float) (answer : Result (Unit {0}) yaml_error_t)
+    → GivesFloat format before float answer after → GivesCall before answer after
+float_call before after format nan answer gave = (special_event before NotANumber, special_call before NotANumber, gave)
+float_call before after format (inf negative) answer gave =
+    let value : SpecialFloat = if negative then NegativeInfinity else Infinity in
+    (special_event before value, special_call before value, gave)
+float_call before after format (fin negative significand exponent) answer gave =
+    (number_event before gave.0, number_call before gave.0 gave.1.is_number.valid, gave.2)
 
 module _ {W : Type 0} (contents : W → Option (List ℕ)) (outside : Outside) where
   abbrev StandsIn : Outlet W → ℕ → WriterState → Type 0
@@ -155,16 +166,6 @@ module _ {W : Type 0} (contents : W → Option (List ℕ)) (outside : Outside) w
   stands_given (Err error) {outlet} {base} {before} {after} {event} call (inl failed) stands =
       gave_one outlet base before before after event (Some error) call refl refl stands.above failed stands
   stands_given (Err error) {outlet} {base} {before} {after} {event} call (inr none) stands = stands_same outlet base before after none.1 stands
-
-  -- a float was given, or there was no memory for it
-  pub stands_float : (format : Format) (float : Float) (answer : Result (Unit {0}) yaml_error_t) {outlet : Outlet W} {base : ℕ} {before after : WriterState}
-      → GivesFloat format before float answer after → StandsIn outlet base before → StandsIn outlet base after
-  stands_float format nan answer {outlet} {base} {before} {after} gave stands =
-      stands_given answer (special_call before NotANumber) gave stands
-  stands_float format (inf negative) answer {outlet} {base} {before} {after} gave stands =
-      stands_given answer (special_call before (if negative then NegativeInfinity else Infinity)) gave stands
-  stands_float format (fin negative significand exponent) answer {outlet} {base} {before} {after} gave stands =
-      stands_given answer (number_call before gave.0 gave.1.is_number.valid) gave.2 stands
 
   -- the start of a collection was given, or there was no memory for it
   pub stands_begun : (answer : Result (Unit {0}) yaml_error_t) (kind : CollectionKind) {outlet : Outlet W} {base : ℕ} {before after : WriterState}

@@ -1,9 +1,10 @@
 -- Documents, as they are written and when they are finished.
 use Rattle.std.specs.Io.KnownBytes.{Appends}
-use Rattle.std.specs.Prelude.{◌≡◌, ◌⊎◌, ℕ, ℤ, Bool, true, Option, List, [], ◌++◌}
+use Rattle.std.specs.Prelude.{◌≡◌, ◌⊎◌, ℕ, ℤ, Bool, true, Option, Result, List, [], ◌++◌}
 use Rattle.std.specs.List.{All}
 use Rattle.yaml_base.specs.Characters.{Text}
 use Rattle.yaml_base.specs.Event.{Event, block}
+use Rattle.yaml_base.specs.declared.errors.yaml_error_t.{yaml_error_t}
 use Rattle.yaml_base.specs.values.JsonNumbers.{JsonNumber, is_json_number}
 use Rattle.yaml_base.specs.Settings.{Settings}
 use Rattle.yaml_base.specs.Sinks.{AppendsFirst}
@@ -13,7 +14,7 @@ use Rattle.yaml_emitter.specs.StandsAfter.{StandsAfter}
 use Rattle.yaml_emitter.specs.State.{State}
 use Rattle.yaml_writer.specs.Binary.{bytes_event}
 use Rattle.yaml_writer.specs.Floats.{special_event}
-use Rattle.yaml_writer.specs.Writing.{WriterState, IsStream, StandsTaken, bool_event, closing, end_event, int_event, mapping_event, null_event, number_event}
+use Rattle.yaml_writer.specs.Writing.{WriterState, Gives, IsStream, StandsTaken, bool_event, closing, end_event, int_event, mapping_event, null_event, number_event}
 use Rattle.yaml_writer.specs.Writing.{opening, sequence_event, text_event}
 use Rattle.yaml_writer.specs.declared.floats.SpecialFloat.{SpecialFloat}
 use Rattle.yaml_base.specs.declared.kinds.CollectionKind.{CollectionKind}
@@ -31,6 +32,10 @@ pub data IsWriterEvent : Event → Type 0 where
   mapping_call : (writer : WriterState) → IsWriterEvent (mapping_event writer block)
   sequence_call : (writer : WriterState) → IsWriterEvent (sequence_event writer block)
   end_call : (kind : CollectionKind) → IsWriterEvent (end_event kind)
+
+-- a call gives its event, or there is no memory for it
+abbrev pub GivesCall : WriterState → Result (Unit {0}) yaml_error_t → WriterState → Type 0
+GivesCall before answer after = (event : Event) × IsWriterEvent event × Gives before event answer after
 
 -- bytes are the output of a stream that begins and ends a document round the events of some calls: well-formed, written whole
 -- under these settings, and read back as those events

@@ -1,14 +1,13 @@
 //! A document that is being written.
 ghost use Rattle.std.specs.Prelude.{◌≡◌, chars, false, true, None, Ok, OnOk, Some, length};
-ghost use Rattle.yaml_writer.specs.NumberParts.{HasNumber};
 ghost use Rattle.yaml_writer.specs.Writing.{WriterState, awaits_node, text_event};
 ghost use Rattle.yaml_serde.specs.Outlets.{BeginsKept, BeginsSent, HandsOn, Outside, Stands, some_outside};
 ghost use Rattle.yaml_serde.specs.ValueCalls.{GivesValue, SendsValue};
 ghost use Rattle.yaml_serde.specs.Variants.{GivesAndSends, GivesMapping};
 
 use crate::error::{Cause, Error};
-use crate::numbers::number_in;
 use crate::outlet::{Handing, Outlet, hand_on};
+use crate::scalars::{Scalar, give_scalar};
 use std::alloc::Global;
 use std::io::Write;
 use std::marker::{Brand, PhantomData};
@@ -79,46 +78,9 @@ impl<'w, 'a, G: Given, W: Write> Document<'w, 'a, G, W> {
         hand_on(self.writer, &mut self.outlet)
     }
 
-    pub(crate) fn null(&mut self) -> Result<(), Error> {
-        let given = self.writer.null();
-        self.settle(given)
-    }
-
-    pub(crate) fn bool(&mut self, value: bool) -> Result<(), Error> {
-        let given = self.writer.bool(value);
-        self.settle(given)
-    }
-
-    pub(crate) fn int(&mut self, value: i64) -> Result<(), Error> {
-        let given = self.writer.int(value);
-        self.settle(given)
-    }
-
-    pub(crate) fn unsigned(&mut self, value: u64) -> Result<(), Error> {
-        let given = self.writer.unsigned(value);
-        self.settle(given)
-    }
-
-    /// Writes the number of JSON that a text is.
-    pub(crate) fn number(&mut self, text: &str) -> Result<(), Error>
-        requires { HasNumber text.now }
-    {
-        let given = self.writer.number(&number_in(text));
-        self.settle(given)
-    }
-
-    pub(crate) fn single(&mut self, value: f32) -> Result<(), Error> {
-        let given = self.writer.single(value);
-        self.settle(given)
-    }
-
-    pub(crate) fn float(&mut self, value: f64) -> Result<(), Error> {
-        let given = self.writer.float(value);
-        self.settle(given)
-    }
-
-    pub(crate) fn bytes(&mut self, value: &[u8]) -> Result<(), Error> {
-        let given = self.writer.bytes(value);
+    /// Writes a node that is neither a text nor a collection.
+    pub(crate) fn scalar(&mut self, scalar: Scalar<'_>) -> Result<(), Error> {
+        let given = give_scalar(self.writer, scalar);
         self.settle(given)
     }
 

@@ -39,14 +39,15 @@ pub enum Cause {
 
 impl fmt::Display for Cause {
     fn fmt<W: fmt::Write>(&self, f: &mut fmt::Formatter<W>) -> fmt::Result {
-        match self {
-            Cause::Emitter(error) => write!(f, "{error}"),
-            Cause::Custom(message) => f.write_str(message.as_str()),
-            Cause::TwoTags => f.write_str("the data of a variant has a tag of its own"),
-            Cause::Flattened => f.write_str("a flattened value is neither a struct nor a map"),
-            Cause::Sink(error) => write!(f, "cannot write: {error}"),
-            Cause::Memory => f.write_str("out of memory"),
-        }
+        let text = match self {
+            Cause::Emitter(error) => return write!(f, "{error}"),
+            Cause::Sink(error) => return write!(f, "cannot write: {error}"),
+            Cause::Custom(message) => message.as_str(),
+            Cause::TwoTags => "the data of a variant has a tag of its own",
+            Cause::Flattened => "a flattened value is neither a struct nor a map",
+            Cause::Memory => "out of memory",
+        };
+        f.write_str(text)
     }
 }
 

@@ -3,9 +3,9 @@
 
 mod document;
 mod error;
-mod numbers;
 mod outlet;
 mod path;
+mod scalars;
 mod serializer;
 mod serializing;
 mod settings;

@@ -1,4 +1,5 @@
 //! The path to where a serializer is within its value.
+use crate::error::Error;
 use std::alloc::{AllocError, Global};
 use std::fmt::{Display, Write};
 use std::str;
@@ -54,7 +55,7 @@ impl Path {
         }
     }
 
-    pub(crate) fn enter(&mut self, kind: LevelKind) -> Result<(), AllocError> {
+    pub(crate) fn enter(&mut self, kind: LevelKind) -> Result<(), Error> {
         let step = match kind {
             LevelKind::Sequence => Step::Item(0),
             LevelKind::Map | LevelKind::Unwritten => Step::Between,
@@ -91,20 +92,23 @@ impl Path {
     }
 
     /// Passes a text, which is kept where it is a key.
-    pub(crate) fn pass_text(&mut self, text: &str) -> Result<(), AllocError> {
-        if self.is_in_key() {
-            self.keys.extend_from_slice(text.as_bytes())?;
-            self.keep_key();
-        } else {
+    pub(crate) fn pass_text(&mut self, text: &str) -> Result<(), Error> {
+        if !self.is_in_key() {
             self.pass();
+            return Ok(());
+        }
+        self.keys.extend_from_slice(text.as_bytes())?;
+        let end = self.keys.len();
+        if let Some(level) = self.levels.last_mut() {
+            level.step = Step::Key(end);
         }
         Ok(())
     }
 
     /// Passes an integer, which is kept where it is a key.
-    pub(crate) fn pass_integer<T: Display>(&mut self, value: &T) -> Result<(), AllocError> {
+    pub(crate) fn pass_integer<T: Display>(&mut self, value: &T) -> Result<(), Error> {
         if self.is_in_key() {
-            let text = format!(in self.alloc; "{value}")?;
+            let text = text_of(self.alloc, value)?;
             return self.pass_text(text.as_str());
         }
         self.pass();
@@ -118,15 +122,19 @@ impl Path {
         }
     }
 
-    fn keep_key(&mut self) {
-        let end = self.keys.len();
-        if let Some(level) = self.levels.last_mut() {
-            level.step = Step::Key(end);
+    /// Returns an answer, of whose error this is the path.
+    pub(crate) fn located(&self, answer: Result<(), Error>) -> Result<(), Error> {
+        match answer {
+            Ok(()) => Ok(()),
+            Err(Error { cause, .. }) => Err(Error {
+                cause,
+                path: self.to_text(),
+            }),
         }
     }
 
     /// Returns the path as a text; `None` where it is empty, or there is no memory for it.
-    pub(crate) fn to_text(&self) -> Option<String> {
+    fn to_text(&self) -> Option<String> {
         let mut text = String::new(self.alloc);
         for level in &self.levels {
             self.append(level, &mut text).ok()?;
@@ -143,6 +151,11 @@ impl Path {
             Step::OtherKey => append_key(None, text),
         }
     }
+}
+
+/// Returns what a value prints.
+pub(crate) fn text_of<T: Display>(alloc: Global, value: &T) -> Result<String, AllocError> {
+    format!(in alloc; "{value}")
 }
 
 /// Appends a key; `?` where it is unknown.

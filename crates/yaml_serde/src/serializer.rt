@@ -1,17 +1,18 @@
 //! The serializer over a document.
-ghost use Rattle.std.specs.Prelude.{◌≡◌, OnOk};
+ghost use Rattle.std.specs.Prelude.{◌++◌, ◌≡◌, chars, IfOk, OnOk, string_bytes};
 ghost use Rattle.serde.specs.Spelling.{spelled};
 ghost use Rattle.serde.specs.declared.name.NameKind.TheVariants as kind;
-ghost use Rattle.yaml_serde.specs.Variants.{BeginsVariant, GivesMapping};
+ghost use Rattle.yaml_serde.specs.Variants.{BeginsVariant, GivesAndSends, GivesMapping};
+ghost use Rattle.yaml_writer.specs.Writing.{text_event};
 ghost use Rattle.yaml_serde.specs.declared.settings.Variants.TheVariants as variants;
 
 use crate::document::{Document, Given};
 use crate::error::{Cause, Error};
-use crate::numbers::{give_signed, give_unsigned};
-use crate::path::{LevelKind, Path};
+use crate::path::{LevelKind, Path, text_of};
+use crate::scalars::Scalar;
 use crate::settings::Variants;
-use serde::{Case, NameKind, Serializer};
-use std::alloc::Global;
+use serde::{Case, NameKind, Serialize, Serializer};
+use std::alloc::{AllocError, Global};
 use std::fmt::Display;
 use std::io::Write;
 
@@ -32,7 +33,7 @@ enum Next {
 
 /// Writes what a value sends.
 #[derive(Drop)]
-pub(crate) struct ValueSerializer<'w, 'a, G: Given, W: Write> {
+struct ValueSerializer<'w, 'a, G: Given, W: Write> {
     alloc: Global,
     document: Document<'w, 'a, G, W>,
     variants: Variants,
@@ -40,45 +41,36 @@ pub(crate) struct ValueSerializer<'w, 'a, G: Given, W: Write> {
     path: Path,
 }
 
+/// Returns a document with a value more, and what the value's own `serialize` answered, with the path to where it did.
+pub(crate) fn with_value<'w, 'a, T: Serialize, W: Write, G: Given>(
+    alloc: Global,
+    variants: Variants,
+    document: Document<'w, 'a, G, W>,
+    value: &T,
+) -> (Document<'w, 'a, G, W>, Result<(), Error>) {
+    let mut serializer = ValueSerializer {
+        alloc,
+        document,
+        variants,
+        next: Next::Node,
+        path: Path::new(alloc),
+    };
+    let answer = value.serialize(&mut serializer);
+    let ValueSerializer { document, path, .. } = serializer;
+    (document, path.located(answer))
+}
+
 impl<'w, 'a, G: Given, W: Write> ValueSerializer<'w, 'a, G, W> {
-    pub(crate) fn new(
-        alloc: Global,
-        variants: Variants,
-        document: Document<'w, 'a, G, W>,
-    ) -> ValueSerializer<'w, 'a, G, W> {
-        ValueSerializer {
-            alloc,
-            document,
-            variants,
-            next: Next::Node,
-            path: Path::new(alloc),
-        }
-    }
-
-    /// Returns the document, and what the value's own `serialize` answered, with the path to where it did.
-    pub(crate) fn finish(
-        self,
-        answer: Result<(), Error>,
-    ) -> (Document<'w, 'a, G, W>, Result<(), Error>) {
-        let ValueSerializer { document, path, .. } = self;
-        match answer {
-            Ok(()) => (document, Ok(())),
-            Err(error) => {
-                let path = path.to_text();
-                let Error { cause, .. } = error;
-                (document, Err(Error { cause, path }))
-            }
-        }
-    }
-
     /// Makes ready for a node that is no map.
     fn ready(&mut self) -> Result<(), Error> {
-        if matches!(self.next, Next::Members) {
-            return Err(Error::from(Cause::Flattened));
+        match self.next {
+            Next::Members => Err(Error::from(Cause::Flattened)),
+            Next::Entry | Next::EntryOfData => self.open_map(),
+            Next::Node | Next::Data => {
+                self.next = Next::Node;
+                Ok(())
+            }
         }
-        self.open_entry()?;
-        self.next = Next::Node;
-        Ok(())
     }
 
     /// Writes the start of a map of one entry that is no variant.
@@ -121,8 +113,7 @@ impl<'w, 'a, G: Given, W: Write> ValueSerializer<'w, 'a, G, W> {
         ensures { OnOk result (BeginsVariant variants.Tags (spelled case kind.Variant name.now)
             self.old.document.writer.now self.new.document.writer.now) }
     {
-        let mut tag = String::from_str(self.alloc, "!")?;
-        case.append(NameKind::Variant, name, &mut tag)?;
+        let tag = spelled_text(self.alloc, "!", NameKind::Variant, name, case)?;
         self.document.tagged(tag.as_str())?;
         self.enter_unwritten(Next::Data)
     }
@@ -132,25 +123,44 @@ impl<'w, 'a, G: Given, W: Write> ValueSerializer<'w, 'a, G, W> {
         ensures { OnOk result (BeginsVariant variants.OneKeyMap (spelled case kind.Variant name.now)
             self.old.document.writer.now self.new.document.writer.now) }
     {
-        let mut key = String::new(self.alloc);
-        case.append(NameKind::Variant, name, &mut key)?;
+        let key = spelled_text(self.alloc, "", NameKind::Variant, name, case)?;
         self.open_map()?;
         self.path.begin_key();
-        self.document.text(key.as_str())?;
-        self.path.pass_text(key.as_str())?;
-        Ok(())
+        self.give_text(key.as_str())
+    }
+
+    /// Writes a text as the next node.
+    fn give_text(&mut self, value: &str) -> Result<(), Error>
+        ensures { OnOk result (GivesAndSends self.old.document.writer.now (text_event self.old.document.writer.now (chars value.now))
+            self.new.document.writer.now) }
+    {
+        self.document.text(value)?;
+        self.path.pass_text(value)
     }
 
     fn text(&mut self, value: &str) -> Result<(), Error> {
         self.ready()?;
-        self.document.text(value)?;
-        self.path.pass_text(value)?;
+        self.give_text(value)
+    }
+
+    /// Writes a node that is no text, no integer and no collection.
+    fn node(&mut self, scalar: Scalar<'_>) -> Result<(), Error> {
+        self.ready()?;
+        self.document.scalar(scalar)?;
+        self.path.pass();
         Ok(())
     }
 
-    /// Passes a node that is no text, no integer and no collection, once it was given.
-    fn passed(&mut self, given: Result<(), Error>) -> Result<(), Error> {
-        given?;
+    /// Writes an integer, which prints as its text.
+    fn integer<T: Display>(&mut self, scalar: Scalar<'_>, value: &T) -> Result<(), Error> {
+        self.ready()?;
+        self.document.scalar(scalar)?;
+        self.path.pass_integer(value)
+    }
+
+    /// Ends the innermost collection, which is no level of the path any more.
+    fn end_collection(&mut self) -> Result<(), Error> {
+        self.document.end()?;
         self.path.pass();
         Ok(())
     }
@@ -159,59 +169,55 @@ impl<'w, 'a, G: Given, W: Write> ValueSerializer<'w, 'a, G, W> {
         if case == Case::AsIs {
             return self.text(name);
         }
-        let mut spelled = String::new(self.alloc);
-        case.append(kind, name, &mut spelled)?;
+        let spelled = spelled_text(self.alloc, "", kind, name, case)?;
         self.text(spelled.as_str())
     }
+}
+
+/// Returns a name as it is spelled, after a prefix.
+fn spelled_text(
+    alloc: Global,
+    prefix: &str,
+    kind: NameKind,
+    name: &str,
+    case: Case,
+) -> Result<String, AllocError>
+    ensures { IfOk result (λ text. string_bytes text ≡ prefix.now ++ spelled case kind name.now) }
+{
+    let mut text = String::from_str(alloc, prefix)?;
+    case.append(kind, name, &mut text)?;
+    Ok(text)
 }
 
 impl<G: Given, W: Write> Serializer for ValueSerializer<'_, '_, G, W> {
     type Error = Error;
 
     fn bool(&mut self, v: bool) -> Result<(), Error> {
-        self.ready()?;
-        let given = self.document.bool(v);
-        self.passed(given)
+        self.node(Scalar::Bool(v))
     }
 
     fn i64(&mut self, v: i64) -> Result<(), Error> {
-        self.ready()?;
-        self.document.int(v)?;
-        self.path.pass_integer(&v)?;
-        Ok(())
+        self.integer(Scalar::Int(v), &v)
     }
 
     fn u64(&mut self, v: u64) -> Result<(), Error> {
-        self.ready()?;
-        self.document.unsigned(v)?;
-        self.path.pass_integer(&v)?;
-        Ok(())
+        self.integer(Scalar::Unsigned(v), &v)
     }
 
     fn i128(&mut self, v: i128) -> Result<(), Error> {
-        self.ready()?;
-        give_signed(&mut self.document, v)?;
-        self.path.pass_integer(&v)?;
-        Ok(())
+        self.integer(Scalar::WideInt(v), &v)
     }
 
     fn u128(&mut self, v: u128) -> Result<(), Error> {
-        self.ready()?;
-        give_unsigned(&mut self.document, v)?;
-        self.path.pass_integer(&v)?;
-        Ok(())
+        self.integer(Scalar::WideUnsigned(v), &v)
     }
 
     fn f32(&mut self, v: f32) -> Result<(), Error> {
-        self.ready()?;
-        let given = self.document.single(v);
-        self.passed(given)
+        self.node(Scalar::Single(v))
     }
 
     fn f64(&mut self, v: f64) -> Result<(), Error> {
-        self.ready()?;
-        let given = self.document.float(v);
-        self.passed(given)
+        self.node(Scalar::Float(v))
     }
 
     fn char(&mut self, v: char) -> Result<(), Error> {
@@ -228,9 +234,7 @@ impl<G: Given, W: Write> Serializer for ValueSerializer<'_, '_, G, W> {
         if matches!(self.next, Next::Data) {
             return Err(Error::from(Cause::TwoTags));
         }
-        self.ready()?;
-        let given = self.document.bytes(v);
-        self.passed(given)
+        self.node(Scalar::Bytes(v))
     }
 
     fn unit(&mut self) -> Result<(), Error> {
@@ -238,9 +242,7 @@ impl<G: Given, W: Write> Serializer for ValueSerializer<'_, '_, G, W> {
             self.next = Next::Node;
             return Ok(());
         }
-        self.ready()?;
-        let given = self.document.null();
-        self.passed(given)
+        self.node(Scalar::Null)
     }
 
     fn str_cased(&mut self, name: &str, case: Case) -> Result<(), Error> {
@@ -250,27 +252,25 @@ impl<G: Given, W: Write> Serializer for ValueSerializer<'_, '_, G, W> {
     fn begin_seq(&mut self, _len: Option<usize>) -> Result<(), Error> {
         self.ready()?;
         self.document.begin_sequence()?;
-        self.path.enter(LevelKind::Sequence)?;
-        Ok(())
+        self.path.enter(LevelKind::Sequence)
     }
 
     fn end_seq(&mut self) -> Result<(), Error> {
         self.open_entry()?;
         self.path.leave();
-        let ended = self.document.end();
-        self.passed(ended)
+        self.end_collection()
     }
 
     /// Begins a map. One of one entry waits for its key, which may be the name of a variant.
     fn begin_map(&mut self, len: Option<usize>) -> Result<(), Error> {
         self.open_entry()?;
-        match self.next {
-            Next::Members => self.enter_unwritten(Next::Node),
-            Next::Data if len == Some(1) => {
+        match (self.next, len) {
+            (Next::Members, _) => self.enter_unwritten(Next::Node),
+            (Next::Data, Some(1)) => {
                 self.next = Next::EntryOfData;
                 Ok(())
             }
-            _ if len == Some(1) => {
+            (_, Some(1)) => {
                 self.next = Next::Entry;
                 Ok(())
             }
@@ -280,11 +280,13 @@ impl<G: Given, W: Write> Serializer for ValueSerializer<'_, '_, G, W> {
 
     fn end_map(&mut self) -> Result<(), Error> {
         self.open_entry()?;
-        let ended = match self.path.leave() {
-            Some(LevelKind::Unwritten) => Ok(()),
-            Some(LevelKind::Map | LevelKind::Sequence) | None => self.document.end(),
-        };
-        self.passed(ended)
+        match self.path.leave() {
+            Some(LevelKind::Unwritten) => {
+                self.path.pass();
+                Ok(())
+            }
+            Some(LevelKind::Map | LevelKind::Sequence) | None => self.end_collection(),
+        }
     }
 
     fn key_cased(&mut self, name: &str, case: Case) -> Result<(), Error> {
@@ -328,7 +330,7 @@ impl<G: Given, W: Write> Serializer for ValueSerializer<'_, '_, G, W> {
     }
 
     fn collect_str<T: Display>(&mut self, value: &T) -> Result<(), Error> {
-        let text = format!(in self.alloc; "{value}")?;
+        let text = text_of(self.alloc, value)?;
         self.text(text.as_str())
     }
 }

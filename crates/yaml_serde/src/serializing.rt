@@ -10,7 +10,7 @@ ghost use Rattle.yaml_serde.specs.ValueCalls.{GivesValue, SendsValue};
 
 use crate::document::{Document, Given};
 use crate::error::Error;
-use crate::serializer::ValueSerializer;
+use crate::serializer::with_value;
 use crate::settings::{SerdeSettings, Variants};
 use serde::Serialize;
 use std::alloc::Global;
@@ -148,18 +148,6 @@ pub fn write_with<T: Serialize>(
     answer
 }
 
-/// Returns a document with a value more, and what the value's own `serialize` answered.
-fn with_value<'w, 'a, T: Serialize, W: Write, G: Given>(
-    alloc: Global,
-    variants: Variants,
-    document: Document<'w, 'a, G, W>,
-    value: &T,
-) -> (Document<'w, 'a, G, W>, Result<(), Error>) {
-    let mut serializer = ValueSerializer::new(alloc, variants, document);
-    let answer = value.serialize(&mut serializer);
-    serializer.finish(answer)
-}
-
 /// Gives a value to a writer, and hands on to a sink what is flushed.
 fn write_and_send<T: Serialize, W: Write>(
     alloc: Global,
@@ -193,10 +181,7 @@ fn handed<'w, 'a, T: Serialize, W: Write, G: Given>(
     let document: Document<'w, 'a, G, W> = Document::sent(writer, sink);
     let (document, answer) = with_value(alloc, variants, document, value);
     let (writer, sink, whole) = document.into_parts();
-    match answer {
-        Ok(()) => (writer, sink, whole),
-        Err(error) => (writer, sink, Err(error)),
-    }
+    (writer, sink, answer.and(whole))
 }
 
 /// Returns a writer with a value more.
@@ -214,10 +199,7 @@ fn given<'w, 'a, T: Serialize, G: Given>(
     let document: Document<'w, 'a, G, NoSink> = Document::kept(writer, nowhere);
     let (document, answer) = with_value(alloc, variants, document, value);
     let (writer, nowhere, whole) = document.into_writer();
-    match answer {
-        Ok(()) => (writer, nowhere, whole),
-        Err(error) => (writer, nowhere, Err(error)),
-    }
+    (writer, nowhere, answer.and(whole))
 }
 
 /// Writes the last bytes to a sink.

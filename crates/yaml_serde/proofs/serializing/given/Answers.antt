@@ -1,5 +1,7 @@
-use Rattle.yaml_serde.proofs.Gave.{part_of}
+use Rattle.yaml_serde.proofs.Gave.{gives_and}
 use Rattle.yaml_serde.proofs.serializing.given.Goals as goal
 
-pub returns-in-Err-clause-gives : goal.returns-in-Err-clause-gives
-returns-in-Err-clause-gives g c = part_of c.into_writer-writer.result.2 c.into_writer-writer.ensures.gives
+pub returns-clause-gives : goal.returns-clause-gives
+returns-clause-gives g c =
+    let parts = c.into_writer-writer in
+    gives_and g.G.Given.outside.start parts.result.0.now c.with_value-document.result.1 parts.result.2 c.and.result c.and.ensures parts.ensures.gives

@@ -1,8 +1,9 @@
-use Rattle.yaml_serde.proofs.Gave.{beginning_of}
+use Rattle.yaml_serde.proofs.Gave.{sends_and}
 use Rattle.yaml_serde.proofs.serializing.handed.Goals as goal
 
-pub returns-in-Err-clause-sends : goal.returns-in-Err-clause-sends
-returns-in-Err-clause-sends g c =
+pub returns-clause-sends : goal.returns-clause-sends
+returns-clause-sends g c =
     let outside = g.G.Given.outside in
     let parts = c.into_parts-writer in
-    beginning_of outside.held (g.W.Write.contents parts.result.1.now) outside.start.emitter parts.result.0.now.emitter parts.result.2 parts.ensures.sends
+    sends_and outside.held (g.W.Write.contents parts.result.1.now) outside.start.emitter parts.result.0.now.emitter c.with_value-document.result.1
+    parts.result.2 c.and.result c.and.ensures parts.ensures.sends
