@@ -3,7 +3,7 @@ ghost use Rattle.std.specs.Prelude.{◌≡◌, ◌++◌, false, true};
 ghost use Rattle.yaml_writer.specs.Dates as dates;
 ghost use Rattle.yaml_writer.specs.Dates.{calendar_date, is_calendar_date};
 
-use crate::digits::{push_four_digits, push_two_digits};
+use crate::digits::{push_four_digits, push_marked};
 use std::alloc::{AllocError, Allocator};
 use std::error::Error;
 use std::fmt;
@@ -78,9 +78,7 @@ impl Date {
         ensures { IfOk result (λ _. string_bytes text.new ≡ string_bytes text.old ++ dates.date_text (seen_date self.now)) }
     {
         push_four_digits(text, self.year)?;
-        text.push('-')?;
-        push_two_digits(text, self.month)?;
-        text.push('-')?;
-        push_two_digits(text, self.day)
+        push_marked(text, '-', self.month)?;
+        push_marked(text, '-', self.day)
     }
 }

@@ -1,5 +1,5 @@
 //! Decimal digits, pushed one by one.
-ghost use Rattle.std.specs.Prelude.{◌≡◌, ◌++◌, ◌∷◌, [], IfOk, string_bytes};
+ghost use Rattle.std.specs.Prelude.{◌≡◌, ◌++◌, ◌∷◌, ◌<◌, [], IfOk, string_bytes};
 ghost use Rattle.yaml_writer.specs.Dates as dates;
 ghost use Rattle.yaml_writer.specs.Times as times;
 
@@ -13,15 +13,24 @@ fn push_digit<A: Allocator>(text: &mut String<A>, number: u16) -> Result<(), All
 }
 
 /// Appends the last two digits of a number.
-pub(crate) fn push_two_digits<A: Allocator>(
-    text: &mut String<A>,
-    number: u8,
-) -> Result<(), AllocError>
+fn push_two_digits<A: Allocator>(text: &mut String<A>, number: u16) -> Result<(), AllocError>
     ensures { IfOk result (λ _. string_bytes text.new ≡ string_bytes text.old ++ dates.two_digits number) }
 {
-    let number = u16::from(number);
     push_digit(text, number / 10)?;
     push_digit(text, number)
+}
+
+/// Appends a character of ASCII, and the last two digits of a number.
+pub(crate) fn push_marked<A: Allocator>(
+    text: &mut String<A>,
+    mark: char,
+    number: u8,
+) -> Result<(), AllocError>
+    requires { mark < 128 }
+    ensures { IfOk result (λ _. string_bytes text.new ≡ string_bytes text.old ++ mark ∷ dates.two_digits number) }
+{
+    text.push(mark)?;
+    push_two_digits(text, u16::from(number))
 }
 
 /// Appends the last four digits of a number.
@@ -31,10 +40,8 @@ pub(crate) fn push_four_digits<A: Allocator>(
 ) -> Result<(), AllocError>
     ensures { IfOk result (λ _. string_bytes text.new ≡ string_bytes text.old ++ dates.four_digits number) }
 {
-    push_digit(text, number / 1000)?;
-    push_digit(text, number / 100)?;
-    push_digit(text, number / 10)?;
-    push_digit(text, number)
+    push_two_digits(text, number / 100)?;
+    push_two_digits(text, number)
 }
 
 /// Appends the last three digits of a number.
@@ -45,6 +52,5 @@ pub(crate) fn push_three_digits<A: Allocator>(
     ensures { IfOk result (λ _. string_bytes text.new ≡ string_bytes text.old ++ times.three_digits number) }
 {
     push_digit(text, number / 100)?;
-    push_digit(text, number / 10)?;
-    push_digit(text, number)
+    push_two_digits(text, number)
 }

@@ -1,7 +1,7 @@
 //! Events given to an emitter.
 ghost use Rattle.std.specs.Prelude.{◌≡◌, IfOk, IfErr, OnOk, [], ◌∷◌, true, None, chars, is_none, option_map};
 ghost use Rattle.std.specs.Option.{option_or};
-ghost use Rattle.yaml_base.specs.Event.{alias, document_end};
+ghost use Rattle.yaml_base.specs.Event.{document_end};
 ghost use Rattle.yaml_base.specs.Seen.{seen_event, seen_scalar_style, seen_text};
 ghost use Rattle.yaml_base.specs.Settings.{Settings};
 ghost use Rattle.yaml_emitter.specs.BorrowedTexts.{seen_name, seen_scalar};
@@ -15,10 +15,10 @@ use crate::collections::CollectionStart;
 use crate::ends::{DocumentEnd, is_implicit};
 use std::alloc::Allocator;
 use yaml_base::{
-    YAML_ALIAS_EVENT, YAML_ANY_ENCODING, YAML_DOCUMENT_END_EVENT, YAML_DOCUMENT_START_EVENT,
-    YAML_MAPPING_END_EVENT, YAML_MAPPING_START_EVENT, YAML_SEQUENCE_END_EVENT,
-    YAML_SEQUENCE_START_EVENT, YAML_STREAM_END_EVENT, YAML_STREAM_START_EVENT, yaml_error_t,
-    yaml_event_t, yaml_scalar_style_t,
+    YAML_ANY_ENCODING, YAML_DOCUMENT_END_EVENT, YAML_DOCUMENT_START_EVENT, YAML_MAPPING_END_EVENT,
+    YAML_MAPPING_START_EVENT, YAML_SEQUENCE_END_EVENT, YAML_SEQUENCE_START_EVENT,
+    YAML_STREAM_END_EVENT, YAML_STREAM_START_EVENT, yaml_error_t, yaml_event_t,
+    yaml_scalar_style_t,
 };
 use yaml_emitter::{
     CollectionKind, ScalarContent, borrowed_text, yaml_emitter_emit, yaml_emitter_t,
@@ -194,20 +194,6 @@ pub(crate) fn give_end<A: Allocator + Copy>(
         CollectionKind::Sequence => YAML_SEQUENCE_END_EVENT,
     };
     give(emitter, event)
-}
-
-/// Gives an alias.
-pub(crate) fn give_alias<A: Allocator + Copy>(
-    emitter: &mut yaml_emitter_t<A>,
-    anchor: String<A>,
-) -> Result<(), yaml_error_t>
-    requires output { emitter.old.has_output ≡ true }
-    ensures adds { AddsEvents emitter.old (alias (seen_text anchor) ∷ []) emitter.new }
-    ensures grows { Grows emitter.old.page emitter.new.page }
-    ensures answered { result ≡ result_of_error emitter.new.error }
-    ensures output { emitter.new.has_output ≡ true }
-{
-    give(emitter, YAML_ALIAS_EVENT { anchor })
 }
 
 /// Gives the end of a document and the start of the next. The error of the first is the second's.

@@ -4,10 +4,10 @@ ghost use Rattle.yaml_base.specs.Event as event;
 ghost use Rattle.yaml_writer.specs.Writing.{NodeExpected, PassedEvents, awaits_node, is_implicit, plain_start};
 
 use crate::ends::DocumentEnd;
-use crate::giving::{give_alias, give_next};
+use crate::giving::{give, give_next};
 use crate::writer::Writer;
 use std::alloc::Allocator;
-use yaml_base::yaml_error_t;
+use yaml_base::{YAML_ALIAS_EVENT, yaml_error_t};
 use yaml_emitter::copied_text;
 
 impl<A: Allocator + Copy> Writer<A> {
@@ -49,7 +49,7 @@ impl<A: Allocator + Copy> Writer<A> {
             return Err(yaml_error_t::ExpectedNode);
         }
         let name = copied_text(self.alloc, name)?;
-        give_alias(&mut self.emitter, name)
+        give(&mut self.emitter, YAML_ALIAS_EVENT { anchor: name })
     }
 
     /// Ends the document, and begins another.

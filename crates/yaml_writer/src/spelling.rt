@@ -148,14 +148,7 @@ impl<'a> Number<'a> {
     pub(crate) fn is_spelled(&self) -> bool
         ensures { result ≡ spellings.is_spelled self.now }
     {
-        is_surely_spelled(self.text) || self.has_spelled_parts()
-    }
-
-    /// Returns what `is_spelled` returns, by its parts.
-    fn has_spelled_parts(&self) -> bool
-        ensures { result ≡ spellings.is_spelled self.now }
-    {
-        self.parts().is_spelled()
+        is_surely_spelled(self.text) || self.parts().is_spelled()
     }
 
     /// Returns its spelling, which the type repository of YAML 1.1 and the core schema of YAML 1.2 read as exactly this

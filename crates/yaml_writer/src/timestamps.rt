@@ -1,5 +1,5 @@
 //! Timestamps of YAML 1.1, and their texts.
-ghost use Rattle.std.specs.Prelude.{◌≡◌, ◌||◌, ◌++◌, IfOk, Some, if◌then◌else◌, is_some, option_map, string_bytes};
+ghost use Rattle.std.specs.Prelude.{◌≡◌, ◌<◌, ◌||◌, ◌++◌, IfOk, codes, Some, if◌then◌else◌, is_some, option_map, string_bytes};
 ghost use Rattle.yaml_base.specs.Seen.{seen_text};
 ghost use Rattle.yaml_writer.specs.SeenNumbers.{is_minus};
 ghost use Rattle.yaml_writer.specs.SeenTimes.{seen_offset, seen_time, seen_timestamp};
@@ -7,7 +7,7 @@ ghost use Rattle.yaml_writer.specs.Times as times;
 ghost use Rattle.yaml_writer.specs.Writing.{Gives, timestamp_event};
 
 use crate::dates::Date;
-use crate::digits::{push_three_digits, push_two_digits};
+use crate::digits::{push_marked, push_three_digits};
 use crate::numbers::Sign;
 use crate::scalars::own_tag;
 use crate::tags::YAML_TIMESTAMP_TAG;
@@ -50,7 +50,8 @@ fn push_fraction<A: Allocator>(text: &mut String<A>, nanosecond: u32) -> Result<
 }
 
 fn sign_char(sign: Sign) -> char
-    ensures { result ≡ (if is_minus sign then 0x2D else 0x2B) }
+    ensures value { result ≡ (if is_minus sign then 0x2D else 0x2B) }
+    ensures ascii { result < 128 }
 {
     match sign {
         Sign::Plus => '+',
@@ -62,10 +63,8 @@ fn sign_char(sign: Sign) -> char
 fn push_offset<A: Allocator>(text: &mut String<A>, offset: &Offset) -> Result<(), AllocError>
     ensures { IfOk result (λ _. string_bytes text.new ≡ string_bytes text.old ++ times.zone_text (Some (seen_offset offset.now))) }
 {
-    text.push(sign_char(offset.sign))?;
-    push_two_digits(text, offset.hours)?;
-    text.push(':')?;
-    push_two_digits(text, offset.minutes)
+    push_marked(text, sign_char(offset.sign), offset.hours)?;
+    push_marked(text, ':', offset.minutes)
 }
 
 /// Appends an offset, or `Z` for UTC.
@@ -78,15 +77,13 @@ fn push_zone<A: Allocator>(text: &mut String<A>, offset: &Option<Offset>) -> Res
     }
 }
 
-/// Appends hours, minutes and seconds.
+/// Appends `T`, hours, minutes and seconds.
 fn push_clock<A: Allocator>(text: &mut String<A>, time: &Time) -> Result<(), AllocError>
-    ensures { IfOk result (λ _. string_bytes text.new ≡ string_bytes text.old ++ times.clock_text (seen_time time.now)) }
+    ensures { IfOk result (λ _. string_bytes text.new ≡ string_bytes text.old ++ (codes "T" ++ times.clock_text (seen_time time.now))) }
 {
-    push_two_digits(text, time.hour)?;
-    text.push(':')?;
-    push_two_digits(text, time.minute)?;
-    text.push(':')?;
-    push_two_digits(text, time.second)?;
+    push_marked(text, 'T', time.hour)?;
+    push_marked(text, ':', time.minute)?;
+    push_marked(text, ':', time.second)?;
     push_fraction(text, time.nanosecond)
 }
 
@@ -97,7 +94,6 @@ fn push_time<A: Allocator>(text: &mut String<A>, time: &Option<Time>) -> Result<
     match time {
         None => Ok(()),
         Some(time) => {
-            text.push('T')?;
             push_clock(text, time)?;
             push_zone(text, &time.offset)
         }

@@ -199,9 +199,13 @@ impl<A: Allocator + Copy> Writer<A> {
         ensures left { OnErr result (self.new ≡ self.old) }
         ensures first { OnErr result (AppendsFirst (W.contents sink.old) (W.contents sink.new) (output_left self.old.emitter.page)) }
     {
-        write_to_sink(sink, self.emitter.output())?;
-        yaml_emitter_consume_output(&mut self.emitter);
-        Ok(())
+        match write_to_sink(sink, self.emitter.output()) {
+            Ok(()) => {
+                yaml_emitter_consume_output(&mut self.emitter);
+                Ok(())
+            }
+            Err(error) => Err(error),
+        }
     }
 
     /// Ends the document and the stream, and returns the bytes of the stream that weren't taken before. A stream of more

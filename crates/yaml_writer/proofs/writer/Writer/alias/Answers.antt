@@ -4,8 +4,8 @@ use Rattle.yaml_writer.proofs.writer.Writer.alias.Goals as goal
 
 pub returns-clause-passed : goal.returns-clause-passed
 returns-clause-passed g c none =
-    let after = c.give_alias.new.emitter in
+    let after = c.give.new.emitter in
     inr
-    (passed (writer_state_of c.self.inside) c.args.self.now (alias (chars c.args.name.now) ∷ []) c.give_alias.result after c.self.view_is
-    (subst (λ (name : Text). AddsEvents c.self.inside.emitter (alias name ∷ []) after) c.in_ok-name.ensures c.give_alias.ensures.adds)
-    c.give_alias.ensures.grows c.give_alias.ensures.answered)
+    (passed (writer_state_of c.self.inside) c.args.self.now (alias (chars c.args.name.now) ∷ []) c.give.result after c.self.view_is
+    (subst (λ (name : Text). AddsEvents c.self.inside.emitter (alias name ∷ []) after) c.in_ok-name.ensures c.give.ensures.adds)
+    c.give.ensures.grows c.give.ensures.answered)
