@@ -18,6 +18,29 @@ pub(crate) trait Given {
     ghost outside: { Outside };
 }
 
+/// What a value is written to, by the state of its writer.
+pub(crate) trait Target {
+    ghost state: { Self → WriterState };
+
+    /// Writes a node that is neither a text nor a collection.
+    fn scalar(&mut self, scalar: Scalar<'_>) -> Result<(), Error>;
+
+    fn text(&mut self, value: &str) -> Result<(), Error>
+        ensures { OnOk result (GivesAndSends (state self.old) (text_event (state self.old) (chars value.now)) (state self.new)) };
+
+    fn begin_mapping(&mut self) -> Result<(), Error>
+        ensures { OnOk result (GivesMapping (state self.old) (state self.new)) };
+
+    fn begin_sequence(&mut self) -> Result<(), Error>;
+
+    /// Ends the innermost collection that was begun here.
+    fn end(&mut self) -> Result<(), Error>;
+
+    /// Gives the next node a tag.
+    fn tagged(&mut self, tag: &str) -> Result<(), Error>
+        ensures { OnOk result (state self.new ≡ record (state self.old) { tag = Some (chars tag.now) }) };
+}
+
 /// The caller of a generic function chooses it.
 impl Given for Brand {
     ghost outside = { some_outside };
@@ -26,7 +49,7 @@ impl Given for Brand {
 /// A document being written: its writer, and where the bytes go.
 #[derive(Drop)]
 pub(crate) struct Document<'w, 'a, G: Given, W: Write> {
-    pub(crate) writer: &'w mut Writer<Global>,
+    writer: &'w mut Writer<Global>,
     outlet: Outlet<'a, W>,
     /// How many collections of the writer are no part of the document.
     base: usize,
@@ -78,46 +101,6 @@ impl<'w, 'a, G: Given, W: Write> Document<'w, 'a, G, W> {
         hand_on(self.writer, &mut self.outlet)
     }
 
-    /// Writes a node that is neither a text nor a collection.
-    pub(crate) fn scalar(&mut self, scalar: Scalar<'_>) -> Result<(), Error> {
-        let given = give_scalar(self.writer, scalar);
-        self.settle(given)
-    }
-
-    pub(crate) fn text(&mut self, value: &str) -> Result<(), Error>
-        ensures { OnOk result (GivesAndSends self.old.writer.now (text_event self.old.writer.now (chars value.now)) self.new.writer.now) }
-    {
-        let given = self.writer.text(value);
-        self.settle(given)
-    }
-
-    pub(crate) fn begin_mapping(&mut self) -> Result<(), Error>
-        ensures { OnOk result (GivesMapping self.old.writer.now self.new.writer.now) }
-    {
-        let begun = self.writer.begin_mapping(YAML_BLOCK_MAPPING_STYLE);
-        self.settle(begun)
-    }
-
-    pub(crate) fn begin_sequence(&mut self) -> Result<(), Error> {
-        let begun = self.writer.begin_sequence(YAML_BLOCK_SEQUENCE_STYLE);
-        self.settle(begun)
-    }
-
-    /// Ends the innermost collection of the document.
-    pub(crate) fn end(&mut self) -> Result<(), Error> {
-        if self.writer.depth() <= self.base {
-            return Err(Error::from(yaml_error_t::ExpectedDocumentEnd));
-        }
-        let ended = self.writer.end();
-        self.settle(ended)
-    }
-
-    pub(crate) fn tagged(&mut self, tag: &str) -> Result<(), Error>
-        ensures { OnOk result (self.new.writer.now ≡ record self.old.writer.now { tag = Some (chars tag.now) }) }
-    {
-        Ok(self.writer.tagged(tag)?)
-    }
-
     /// Returns the writer, the sink as far as the document was handed on, and the sink's error, if it has one.
     pub(crate) fn into_parts(self) -> (&'w mut Writer<Global>, &'a mut W, Result<(), Error>)
         requires { G.outside.keeps ≡ false }
@@ -149,6 +132,42 @@ impl<'w, 'a, G: Given, W: Write> Document<'w, 'a, G, W> {
         let Outlet { sink, handing: _ } = outlet;
         let whole = check_whole(writer, base);
         (writer, sink, whole)
+    }
+}
+
+impl<G: Given, W: Write> Target for Document<'_, '_, G, W> {
+    ghost state = { λ document. document.writer.now };
+
+    fn scalar(&mut self, scalar: Scalar<'_>) -> Result<(), Error> {
+        let given = give_scalar(self.writer, scalar);
+        self.settle(given)
+    }
+
+    fn text(&mut self, value: &str) -> Result<(), Error> {
+        let given = self.writer.text(value);
+        self.settle(given)
+    }
+
+    fn begin_mapping(&mut self) -> Result<(), Error> {
+        let begun = self.writer.begin_mapping(YAML_BLOCK_MAPPING_STYLE);
+        self.settle(begun)
+    }
+
+    fn begin_sequence(&mut self) -> Result<(), Error> {
+        let begun = self.writer.begin_sequence(YAML_BLOCK_SEQUENCE_STYLE);
+        self.settle(begun)
+    }
+
+    fn end(&mut self) -> Result<(), Error> {
+        if self.writer.depth() <= self.base {
+            return Err(Error::from(yaml_error_t::ExpectedDocumentEnd));
+        }
+        let ended = self.writer.end();
+        self.settle(ended)
+    }
+
+    fn tagged(&mut self, tag: &str) -> Result<(), Error> {
+        Ok(self.writer.tagged(tag)?)
     }
 }
 

@@ -6,7 +6,7 @@ ghost use Rattle.yaml_serde.specs.Variants.{BeginsVariant, GivesAndSends, GivesM
 ghost use Rattle.yaml_writer.specs.Writing.{text_event};
 ghost use Rattle.yaml_serde.specs.declared.settings.Variants.TheVariants as variants;
 
-use crate::document::{Document, Given};
+use crate::document::Target;
 use crate::error::{Cause, Error};
 use crate::path::{LevelKind, Path, text_of};
 use crate::scalars::Scalar;
@@ -14,7 +14,6 @@ use crate::settings::Variants;
 use serde::{Case, NameKind, Serialize, Serializer};
 use std::alloc::{AllocError, Global};
 use std::fmt::Display;
-use std::io::Write;
 
 /// What the next call is about.
 #[derive(Clone, Copy)]
@@ -32,22 +31,21 @@ enum Next {
 }
 
 /// Writes what a value sends.
-#[derive(Drop)]
-struct ValueSerializer<'w, 'a, G: Given, W: Write> {
+struct ValueSerializer<D: Target> {
     alloc: Global,
-    document: Document<'w, 'a, G, W>,
+    document: D,
     variants: Variants,
     next: Next,
     path: Path,
 }
 
 /// Returns a document with a value more, and what the value's own `serialize` answered, with the path to where it did.
-pub(crate) fn with_value<'w, 'a, T: Serialize, W: Write, G: Given>(
+pub(crate) fn with_value<T: Serialize, D: Target>(
     alloc: Global,
     variants: Variants,
-    document: Document<'w, 'a, G, W>,
+    document: D,
     value: &T,
-) -> (Document<'w, 'a, G, W>, Result<(), Error>) {
+) -> (D, Result<(), Error>) {
     let mut serializer = ValueSerializer {
         alloc,
         document,
@@ -56,11 +54,17 @@ pub(crate) fn with_value<'w, 'a, T: Serialize, W: Write, G: Given>(
         path: Path::new(alloc),
     };
     let answer = value.serialize(&mut serializer);
-    let ValueSerializer { document, path, .. } = serializer;
+    let ValueSerializer {
+        alloc: _,
+        document,
+        variants: _,
+        next: _,
+        path,
+    } = serializer;
     (document, path.located(answer))
 }
 
-impl<'w, 'a, G: Given, W: Write> ValueSerializer<'w, 'a, G, W> {
+impl<D: Target> ValueSerializer<D> {
     /// Makes ready for a node that is no map.
     fn ready(&mut self) -> Result<(), Error> {
         match self.next {
@@ -82,7 +86,7 @@ impl<'w, 'a, G: Given, W: Write> ValueSerializer<'w, 'a, G, W> {
     }
 
     fn open_map(&mut self) -> Result<(), Error>
-        ensures { OnOk result (GivesMapping self.old.document.writer.now self.new.document.writer.now) }
+        ensures { OnOk result (GivesMapping (D.state self.old.document) (D.state self.new.document)) }
     {
         self.path.enter(LevelKind::Map)?;
         self.next = Next::Node;
@@ -90,7 +94,7 @@ impl<'w, 'a, G: Given, W: Write> ValueSerializer<'w, 'a, G, W> {
     }
 
     fn enter_unwritten(&mut self, next: Next) -> Result<(), Error>
-        ensures { self.new.document.writer.now ≡ self.old.document.writer.now }
+        ensures { D.state self.new.document ≡ D.state self.old.document }
     {
         self.path.enter(LevelKind::Unwritten)?;
         self.next = next;
@@ -100,7 +104,7 @@ impl<'w, 'a, G: Given, W: Write> ValueSerializer<'w, 'a, G, W> {
     /// Begins a variant with data, in place of a map of one entry.
     fn begin_variant(&mut self, name: &str, case: Case) -> Result<(), Error>
         ensures { OnOk result (BeginsVariant self.old.variants (spelled case kind.Variant name.now)
-            self.old.document.writer.now self.new.document.writer.now) }
+            (D.state self.old.document) (D.state self.new.document)) }
     {
         match self.variants {
             Variants::Tags => self.begin_tagged(name, case),
@@ -111,7 +115,7 @@ impl<'w, 'a, G: Given, W: Write> ValueSerializer<'w, 'a, G, W> {
     /// Gives the next node the tag of a variant.
     fn begin_tagged(&mut self, name: &str, case: Case) -> Result<(), Error>
         ensures { OnOk result (BeginsVariant variants.Tags (spelled case kind.Variant name.now)
-            self.old.document.writer.now self.new.document.writer.now) }
+            (D.state self.old.document) (D.state self.new.document)) }
     {
         let tag = spelled_text(self.alloc, "!", NameKind::Variant, name, case)?;
         self.document.tagged(tag.as_str())?;
@@ -121,7 +125,7 @@ impl<'w, 'a, G: Given, W: Write> ValueSerializer<'w, 'a, G, W> {
     /// Begins a map, whose first key is the name of a variant.
     fn begin_keyed(&mut self, name: &str, case: Case) -> Result<(), Error>
         ensures { OnOk result (BeginsVariant variants.OneKeyMap (spelled case kind.Variant name.now)
-            self.old.document.writer.now self.new.document.writer.now) }
+            (D.state self.old.document) (D.state self.new.document)) }
     {
         let key = spelled_text(self.alloc, "", NameKind::Variant, name, case)?;
         self.open_map()?;
@@ -131,8 +135,8 @@ impl<'w, 'a, G: Given, W: Write> ValueSerializer<'w, 'a, G, W> {
 
     /// Writes a text as the next node.
     fn give_text(&mut self, value: &str) -> Result<(), Error>
-        ensures { OnOk result (GivesAndSends self.old.document.writer.now (text_event self.old.document.writer.now (chars value.now))
-            self.new.document.writer.now) }
+        ensures { OnOk result (GivesAndSends (D.state self.old.document) (text_event (D.state self.old.document) (chars value.now))
+            (D.state self.new.document)) }
     {
         self.document.text(value)?;
         self.path.pass_text(value)
@@ -189,7 +193,7 @@ fn spelled_text(
     Ok(text)
 }
 
-impl<G: Given, W: Write> Serializer for ValueSerializer<'_, '_, G, W> {
+impl<D: Target> Serializer for ValueSerializer<D> {
     type Error = Error;
 
     fn bool(&mut self, v: bool) -> Result<(), Error> {

@@ -1,6 +1,6 @@
 use Rattle.yaml_serde.proofs.Common.{◌<◌, length, arith}
 use Rattle.yaml_serde.proofs.Giving.{stands_ended}
-use Rattle.yaml_serde.proofs.document.Document.end.Goals as goal
+use Rattle.yaml_serde.proofs.document.DocumentTarget.end.Goals as goal
 
 pub invariant_of-self-2 : goal.invariant_of-self-2
 invariant_of-self-2 g c =

@@ -1,5 +1,5 @@
 use Rattle.yaml_serde.proofs.Giving.{stands_given}
-use Rattle.yaml_serde.proofs.document.Document.scalar.Goals as goal
+use Rattle.yaml_serde.proofs.document.DocumentTarget.scalar.Goals as goal
 
 pub invariant_of-self : goal.invariant_of-self
 invariant_of-self g c =

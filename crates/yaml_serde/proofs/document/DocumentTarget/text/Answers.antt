@@ -4,7 +4,7 @@ use Rattle.yaml_serde.proofs.Common.{Result, subst}
 use Rattle.yaml_serde.proofs.Handing.{gives_and_sends}
 use Rattle.yaml_base.specs.declared.errors.yaml_error_t.{yaml_error_t}
 use Rattle.yaml_writer.specs.Writing.{Gives, text_event}
-use Rattle.yaml_serde.proofs.document.Document.text.Goals as goal
+use Rattle.yaml_serde.proofs.document.DocumentTarget.text.Goals as goal
 
 pub invariant_of-self : goal.invariant_of-self
 invariant_of-self g c =

@@ -1,6 +1,6 @@
 use Rattle.yaml_serde.proofs.Common.{chars}
 use Rattle.yaml_serde.proofs.Giving.{stands_tagged}
-use Rattle.yaml_serde.proofs.document.Document.tagged.Goals as goal
+use Rattle.yaml_serde.proofs.document.DocumentTarget.tagged.Goals as goal
 
 pub invariant_of-self : goal.invariant_of-self
 invariant_of-self g c =

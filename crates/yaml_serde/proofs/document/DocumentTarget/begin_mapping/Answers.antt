@@ -6,7 +6,7 @@ use Rattle.yaml_serde.proofs.Handing.{gives_and_sends}
 use Rattle.yaml_base.specs.declared.errors.yaml_error_t.{yaml_error_t}
 use Rattle.yaml_base.specs.Event.{block}
 use Rattle.yaml_writer.specs.Writing.{Begins, mapping_event}
-use Rattle.yaml_serde.proofs.document.Document.begin_mapping.Goals as goal
+use Rattle.yaml_serde.proofs.document.DocumentTarget.begin_mapping.Goals as goal
 
 pub invariant_of-self : goal.invariant_of-self
 invariant_of-self g c =

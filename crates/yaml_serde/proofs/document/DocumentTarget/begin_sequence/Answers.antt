@@ -1,7 +1,7 @@
 use Rattle.yaml_serde.{proofs.Giving.stands_begun, specs.Documents.sequence_call}
 use Rattle.yaml_base.specs.declared.kinds.CollectionKind.TheVariants.{Sequence}
 use Rattle.yaml_writer.specs.Writing.{with_collection}
-use Rattle.yaml_serde.proofs.document.Document.begin_sequence.Goals as goal
+use Rattle.yaml_serde.proofs.document.DocumentTarget.begin_sequence.Goals as goal
 
 pub invariant_of-self : goal.invariant_of-self
 invariant_of-self g c =
