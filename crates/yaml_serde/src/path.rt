@@ -1,5 +1,6 @@
 //! The path to where a serializer is within its value.
 use crate::error::Error;
+use crate::scalars::Scalar;
 use std::alloc::{AllocError, Global};
 use std::fmt::{Display, Write};
 use std::str;
@@ -65,11 +66,15 @@ impl Path {
         Ok(())
     }
 
-    /// Leaves the innermost level, if there is one, and returns what it was.
-    pub(crate) fn leave(&mut self) -> Option<LevelKind> {
-        let level = self.levels.pop()?;
-        self.keys.truncate(level.start);
-        Some(level.kind)
+    /// Leaves the innermost level, if there is one, and returns whether it is one that has no end of its own.
+    pub(crate) fn leave(&mut self) -> bool {
+        match self.levels.pop() {
+            Some(level) => {
+                self.keys.truncate(level.start);
+                matches!(level.kind, LevelKind::Unwritten)
+            }
+            None => false,
+        }
     }
 
     /// Says that the next node is a key.
@@ -105,8 +110,22 @@ impl Path {
         Ok(())
     }
 
+    /// Passes a node that is neither a text nor a collection: an integer is kept where it is a key.
+    pub(crate) fn pass_scalar(&mut self, scalar: Scalar<'_>) -> Result<(), Error> {
+        match scalar {
+            Scalar::Int(value) => self.pass_integer(&value),
+            Scalar::Unsigned(value) => self.pass_integer(&value),
+            Scalar::WideInt(value) => self.pass_integer(&value),
+            Scalar::WideUnsigned(value) => self.pass_integer(&value),
+            _ => {
+                self.pass();
+                Ok(())
+            }
+        }
+    }
+
     /// Passes an integer, which is kept where it is a key.
-    pub(crate) fn pass_integer<T: Display>(&mut self, value: &T) -> Result<(), Error> {
+    fn pass_integer<T: Display>(&mut self, value: &T) -> Result<(), Error> {
         if self.is_in_key() {
             let text = text_of(self.alloc, value)?;
             return self.pass_text(text.as_str());

@@ -147,19 +147,11 @@ impl<D: Target> ValueSerializer<D> {
         self.give_text(value)
     }
 
-    /// Writes a node that is no text, no integer and no collection.
+    /// Writes a node that is neither a text nor a collection.
     fn node(&mut self, scalar: Scalar<'_>) -> Result<(), Error> {
         self.ready()?;
         self.document.scalar(scalar)?;
-        self.path.pass();
-        Ok(())
-    }
-
-    /// Writes an integer, which prints as its text.
-    fn integer<T: Display>(&mut self, scalar: Scalar<'_>, value: &T) -> Result<(), Error> {
-        self.ready()?;
-        self.document.scalar(scalar)?;
-        self.path.pass_integer(value)
+        self.path.pass_scalar(scalar)
     }
 
     /// Ends the innermost collection, which is no level of the path any more.
@@ -170,7 +162,7 @@ impl<D: Target> ValueSerializer<D> {
     }
 
     fn name(&mut self, kind: NameKind, name: &str, case: Case) -> Result<(), Error> {
-        if case == Case::AsIs {
+        if matches!(case, Case::AsIs) {
             return self.text(name);
         }
         let spelled = spelled_text(self.alloc, "", kind, name, case)?;
@@ -201,19 +193,19 @@ impl<D: Target> Serializer for ValueSerializer<D> {
     }
 
     fn i64(&mut self, v: i64) -> Result<(), Error> {
-        self.integer(Scalar::Int(v), &v)
+        self.node(Scalar::Int(v))
     }
 
     fn u64(&mut self, v: u64) -> Result<(), Error> {
-        self.integer(Scalar::Unsigned(v), &v)
+        self.node(Scalar::Unsigned(v))
     }
 
     fn i128(&mut self, v: i128) -> Result<(), Error> {
-        self.integer(Scalar::WideInt(v), &v)
+        self.node(Scalar::WideInt(v))
     }
 
     fn u128(&mut self, v: u128) -> Result<(), Error> {
-        self.integer(Scalar::WideUnsigned(v), &v)
+        self.node(Scalar::WideUnsigned(v))
     }
 
     fn f32(&mut self, v: f32) -> Result<(), Error> {
@@ -284,13 +276,11 @@ impl<D: Target> Serializer for ValueSerializer<D> {
 
     fn end_map(&mut self) -> Result<(), Error> {
         self.open_entry()?;
-        match self.path.leave() {
-            Some(LevelKind::Unwritten) => {
-                self.path.pass();
-                Ok(())
-            }
-            Some(LevelKind::Map | LevelKind::Sequence) | None => self.end_collection(),
+        if self.path.leave() {
+            self.path.pass();
+            return Ok(());
         }
+        self.end_collection()
     }
 
     fn key_cased(&mut self, name: &str, case: Case) -> Result<(), Error> {
