@@ -241,6 +241,8 @@ pub(crate) fn finished<A: Allocator + Copy>(
     ensures finishes { IfOk result (λ bytes. FinishesBy (writing.is_implicit end) emitter.old bytes.items) }
     ensures unfinished { IfErr result (λ error. IsUnfinishedBy (writing.is_implicit end) emitter.old error) }
 {
-    end_stream(emitter, end)?;
-    Ok(yaml_emitter_take_output(emitter))
+    match end_stream(emitter, end) {
+        Ok(()) => Ok(yaml_emitter_take_output(emitter)),
+        Err(error) => Err(error),
+    }
 }

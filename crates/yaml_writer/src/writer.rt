@@ -235,14 +235,7 @@ impl<A: Allocator + Copy> Writer<A> {
         if self.awaits_node() {
             return Err(yaml_error_t::ExpectedNode);
         }
-        let Writer {
-            alloc: _,
-            mut emitter,
-            canonical: _,
-            levels: _,
-            anchor: _,
-            tag: _,
-        } = self;
+        let mut emitter = self.into_emitter();
         finished(&mut emitter, end)
     }
 }
