@@ -19,8 +19,13 @@ impl<A: Allocator + Copy> Writer<A> {
         ensures named { OnOk result (self.new ≡ record self.old { anchor = Some (chars name.now) }) }
         ensures memory { IfErr result (λ error. (error ≡ yaml_error_t.Memory) × (self.new ≡ self.old)) }
     {
-        self.anchor = Some(copied_text(self.alloc, name)?);
-        Ok(())
+        match copied_text(self.alloc, name) {
+            Ok(anchor) => {
+                self.anchor = Some(anchor);
+                Ok(())
+            }
+            Err(error) => Err(error),
+        }
     }
 
     /// Gives the next node a tag, which is written.
@@ -31,8 +36,13 @@ impl<A: Allocator + Copy> Writer<A> {
         ensures tagged { OnOk result (self.new ≡ record self.old { tag = Some (chars tag.now) }) }
         ensures memory { IfErr result (λ error. (error ≡ yaml_error_t.Memory) × (self.new ≡ self.old)) }
     {
-        self.tag = Some(copied_text(self.alloc, tag)?);
-        Ok(())
+        match copied_text(self.alloc, tag) {
+            Ok(tag) => {
+                self.tag = Some(tag);
+                Ok(())
+            }
+            Err(error) => Err(error),
+        }
     }
 
     /// Writes an alias, which stands for the node of this name.
@@ -48,8 +58,10 @@ impl<A: Allocator + Copy> Writer<A> {
         if self.awaits_node() {
             return Err(yaml_error_t::ExpectedNode);
         }
-        let name = copied_text(self.alloc, name)?;
-        give(&mut self.emitter, YAML_ALIAS_EVENT { anchor: name })
+        match copied_text(self.alloc, name) {
+            Ok(anchor) => give(&mut self.emitter, YAML_ALIAS_EVENT { anchor }),
+            Err(error) => Err(error),
+        }
     }
 
     /// Ends the document, and begins another.

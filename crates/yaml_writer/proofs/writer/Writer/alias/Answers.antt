@@ -2,10 +2,10 @@ use Rattle.yaml_writer.proofs.Common.{chars, [], ◌∷◌, inr, subst, Text, al
 use Rattle.yaml_writer.proofs.Taken.{passed}
 use Rattle.yaml_writer.proofs.writer.Writer.alias.Goals as goal
 
-pub returns-clause-passed : goal.returns-clause-passed
-returns-clause-passed g c none =
+pub returns-in-Ok-clause-passed : goal.returns-in-Ok-clause-passed
+returns-in-Ok-clause-passed g c none =
     let after = c.give.new.emitter in
     inr
     (passed (writer_state_of c.self.inside) c.args.self.now (alias (chars c.args.name.now) ∷ []) c.give.result after c.self.view_is
-    (subst (λ (name : Text). AddsEvents c.self.inside.emitter (alias name ∷ []) after) c.in_ok-name.ensures c.give.ensures.adds)
+    (subst (λ (name : Text). AddsEvents c.self.inside.emitter (alias name ∷ []) after) c.in-Ok.ensures c.give.ensures.adds)
     c.give.ensures.grows c.give.ensures.answered)
