@@ -41,13 +41,17 @@ pub fn yaml_emitter_emit<A: Allocator + Copy>(
 {
     emitter.started = true;
     if let Some(error) = emitter.machine.error() {
+        drop(event);
         return Err(error);
     }
     if let Err(error) = emitter.write_waiting(Some(&event)) {
+        drop(event);
         return Err(error);
     }
     if needs_no_waiting(&emitter.queue, &event) {
-        return emitter.machine.give(&event);
+        let answer = emitter.machine.give(&event);
+        drop(event);
+        return answer;
     }
     emitter.queue.push_reserved(event);
     Ok(())

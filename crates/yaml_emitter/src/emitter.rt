@@ -64,8 +64,8 @@ pub fn yaml_emitter_initialize<A: Allocator + Copy>(
     ensures stands { IfOk result (λ emitter. StandsAfter nothing_given [] emitter) }
     ensures memory { IfErr result (λ error. error ≡ yaml_error_t.Memory) }
 {
-    let machine = Machine::new(alloc)?;
     let queue = room_for_four(alloc)?;
+    let machine = Machine::new(alloc)?;
     Ok(yaml_emitter_t {
         started: false,
         has_output: false,

@@ -76,10 +76,12 @@ impl<A: Allocator + Copy> Machine<A> {
     fn chosen_scalar(&mut self, content: &ScalarContent) -> Result<(), yaml_error_t>
         ensures { (empty : Bool) → Processed (scalar (seen_scalar content.now)) empty self.old self.new result }
     {
-        check_scalar_names(self.settings.canonical, content)?;
-        match self.stage {
-            Stage::Node => self.put_chosen(content),
-            stage => Err(stage.refusal()),
+        match check_scalar_names(self.settings.canonical, content) {
+            Ok(()) => match self.stage {
+                Stage::Node => self.put_chosen(content),
+                stage => Err(stage.refusal()),
+            },
+            Err(error) => Err(error),
         }
     }
 

@@ -176,7 +176,7 @@ pub(crate) fn drop_first<A: Allocator>(queue: &mut WaitingEvents<A>, count: usiz
 {
     let mut left = count;
     'events: while left > 0 {
-        let _ = queue.remove(0);
+        drop(queue.remove(0));
         left -= 1;
     }
 }

@@ -66,15 +66,17 @@ impl<A: Allocator> SpareTexts<A> {
     }
 
     fn keep_text(&mut self, event: yaml_event_t<A>) {
-        if let YAML_SCALAR_EVENT { value, .. } = event {
-            if value.capacity() <= MOST_BYTES {
-                self.keep(value);
-            }
+        match event {
+            YAML_SCALAR_EVENT { value, .. } => self.keep(value),
+            other => drop(other),
         }
     }
 
+    /// Keeps a text, unless it takes too much memory.
     fn keep(&mut self, text: String<A>) {
-        if self.first.is_none() {
+        if text.capacity() > MOST_BYTES {
+            drop(text);
+        } else if self.first.is_none() {
             self.first = Some(text);
         } else {
             self.second = Some(text);

@@ -57,9 +57,13 @@ pub(crate) fn write_atoms<A: Allocator>(
     requires no_break { some_atom_breaks atoms ≡ false }
     ensures { Wrote (render_atoms (seen_effective site.now.settings.now) (seen_place site.now.place) atoms.entry) pen.old pen.new result }
 {
-    write_atom(pen, site, atoms.0)?;
-    write_atom(pen, site, atoms.1)?;
-    write_atom(pen, site, atoms.2)
+    match write_atom(pen, site, atoms.0) {
+        Ok(()) => match write_atom(pen, site, atoms.1) {
+            Ok(()) => write_atom(pen, site, atoms.2),
+            Err(error) => Err(error),
+        },
+        Err(error) => Err(error),
+    }
 }
 
 fn write_atom<A: Allocator>(pen: &mut Pen<A>, site: &Site, atom: Atom) -> Result<(), yaml_error_t>

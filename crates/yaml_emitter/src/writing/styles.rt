@@ -97,9 +97,13 @@ fn write_literal_text<A: Allocator>(
 {
     let settings = site.settings;
     let indent = line_indent(settings, &site.place);
-    let header = write_literal_scalar(pen, value, indent, settings.indent as i32)?;
-    *open_ended = OpenEnded::after_header(header);
-    Ok(())
+    match write_literal_scalar(pen, value, indent, settings.indent as i32) {
+        Ok(header) => {
+            *open_ended = OpenEnded::after_header(header);
+            Ok(())
+        }
+        Err(error) => Err(error),
+    }
 }
 
 /// Writes a text in folded style, behind its header.
@@ -118,9 +122,13 @@ fn write_folded_text<A: Allocator>(
 {
     let settings = site.settings;
     let indent = line_indent(settings, &site.place);
-    let header = write_folded_scalar(pen, value, indent, settings.indent as i32, settings.width)?;
-    *open_ended = OpenEnded::after_header(header);
-    Ok(())
+    match write_folded_scalar(pen, value, indent, settings.indent as i32, settings.width) {
+        Ok(header) => {
+            *open_ended = OpenEnded::after_header(header);
+            Ok(())
+        }
+        Err(error) => Err(error),
+    }
 }
 
 /// Returns where a scalar's further lines begin, in columns.

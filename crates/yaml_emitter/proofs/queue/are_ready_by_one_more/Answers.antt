@@ -1,5 +1,4 @@
-use Rattle.yaml_emitter.proofs.Common.{common_steps, rules}
-use Rattle.yaml_emitter.proofs.Common.{◌+◌, drop, length, nat_lt, ◌&&◌, Bool, false, true, refl, ◌≡◌, ap, sym, ◌∙◌, arith, awaited}
+use Rattle.yaml_emitter.proofs.Common.{◌+◌, drop, length, nat_lt, ◌&&◌, Bool, true, refl, ◌≡◌, ap, sym, ◌∙◌, arith, awaited, le-ltb}
 use Rattle.yaml_emitter.proofs.Common.{seen_event, seen_events}
 use Rattle.std.proofs.lemmas.{Bool.lt-ltb, List.drop_all, List.length-drop}
 use Rattle.yaml_emitter.proofs.standing.WritingAll.{ready_from}
@@ -7,7 +6,15 @@ use Rattle.yaml_emitter.specs.Queue.{are_ready_by_one_more}
 use Rattle.yaml_emitter.proofs.queue.are_ready_by_one_more.Goals as goal
 
 pub returns-then-followers-left : goal.returns-then-followers-left
-returns-then-followers-left g c = first_of (search (rules, ready_from), grind (arith, common_steps, ready_from))
+returns-then-followers-left g c =
+    let waiting = c.args.waiting.now in
+    let i = c.loop-event.event-index in
+    let x = seen_event c.event-item.result in
+    sym
+    (sym c.loop-event.invariant.what_is_left
+    ∙ ready_from seen_event waiting i c.event-item.result c.loop-event-test.true c.event-item.is
+    ∙ ap (λ (b : Bool). b && are_ready_by_one_more (seen_events (drop (i + 1) waiting)))
+    (le-ltb (awaited x) (length (drop i waiting) + 1) (omega (arith, c.followers.ensures, c.if-followers-left.true, c.loop-event.invariant.left))))
 
 pub loop-event-preserved : goal.loop-event-preserved
 loop-event-preserved g c =
@@ -27,10 +34,13 @@ loop-event-preserved g c =
     }
 
 pub returns : goal.returns
-returns g c = first_of (search (rules, drop_all), grind (arith, common_steps, drop_all))
+returns g c =
+    ap (λ q. are_ready_by_one_more (seen_events q)) (sym (drop_all c.loop-event.event-index c.args.waiting.now (omega (arith, c.loop-event-test.false))))
+    ∙ c.loop-event.invariant.what_is_left
 
 pub loop-event-init : goal.loop-event-init
 loop-event-init g c = record { left = refl; what_is_left = refl }
 
 pub overflow_sub-left : goal.overflow_sub-left
-overflow_sub-left g c = first_of (search (rules, length-drop), grind (arith, common_steps, length-drop))
+overflow_sub-left g c =
+    omega (arith, c.loop-event.invariant.left, length-drop c.loop-event.event-index c.args.waiting.now, c.loop-event-test.true)

@@ -1,7 +1,9 @@
-use Rattle.yaml_emitter.proofs.Common.{arith, common_steps, rules}
-use Rattle.yaml_emitter.proofs.Common.{wrote_as}
+use Rattle.yaml_emitter.proofs.Common.{seen_effective, render_document_end, wrote_as}
 use Rattle.yaml_emitter.proofs.pieces.WritingPieces.{wrote_document_end}
 use Rattle.yaml_emitter.proofs.writing.documents.write_document_end.Goals as goal
 
 pub returns : goal.returns
-returns g c = first_of (search (rules, wrote_as, wrote_document_end), grind (arith, common_steps, wrote_as, wrote_document_end))
+returns g c = λ open_ended.
+    wrote_document_end c.args.implicit open_ended
+    (wrote_as (render_document_end c.args.implicit)
+    (c.document_end_atoms.ensures.rendered (seen_effective c.args.settings.now) c.args.pen.now.cursor) c.write_document_atoms.ensures)

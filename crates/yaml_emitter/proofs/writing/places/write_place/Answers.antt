@@ -1,11 +1,22 @@
-use Rattle.yaml_emitter.proofs.Common.{arith, common_steps, rules}
-use Rattle.yaml_emitter.proofs.Common.{wrote_as}
+use Rattle.yaml_emitter.proofs.Common.{render_place, seen_effective, seen_place, seen_role, wrote_as, ◌∙◌, ap}
 use Rattle.yaml_emitter.proofs.pieces.AtomsWritten.{flow_here, flow_at_line, block_here}
 use Rattle.yaml_emitter.specs.declared.place.Role as kinds
+use Rattle.yaml_emitter.proofs.Common.{render_flow_place}
 use Rattle.yaml_emitter.proofs.writing.places.write_place.Goals as goal
 
 pub returns-then-site : goal.returns-then-site
-returns-then-site g c = first_of (search (rules, flow_at_line, flow_here, wrote_as), grind (arith, common_steps, flow_at_line, flow_here, wrote_as))
+returns-then-site g c =
+    let site = c.args.site.now in
+    let s = seen_effective site.settings.now in
+    let cursor = c.args.pen.now.cursor in
+    wrote_as (render_place s (seen_place site.place) site.simple)
+    (ap (λ (r : kinds.Role). render_flow_place s (seen_role r) site.simple c.at_line-place.result.column cursor) c.at_line-place.ensures.role
+    ∙ flow_at_line s (seen_role site.place.role) site.simple c.at_line-place.result.column site.place.column cursor c.at_line-place.ensures.column
+    ∙ flow_here s (seen_place site.place) site.simple cursor c.if-site.true)
+    c.write_flow_place.ensures
 
 pub returns-else-site : goal.returns-else-site
-returns-else-site g c = first_of (search (rules, block_here, wrote_as), grind (arith, common_steps, block_here, wrote_as))
+returns-else-site g c =
+    let site = c.args.site.now in
+    wrote_as (render_place (seen_effective site.settings.now) (seen_place site.place) site.simple)
+    (block_here (seen_effective site.settings.now) (seen_place site.place) site.simple c.args.pen.now.cursor c.if-site.false) c.write_block_place.ensures

@@ -1,34 +1,33 @@
-use Rattle.yaml_emitter.proofs.Common.{pos, ◌≡◌, FitsSigned as SFits, refl, rules, ◌∙◌, w32, to_z, arith, ints, to_z-of_z, chars, Ok, wrote_exit}
+use Rattle.yaml_emitter.proofs.Common.{pos, ◌≡◌, FitsSigned as SFits, refl, rules, ◌∙◌, w32, to_z, arith, ints, to_z-of_z, chars, Ok, Err}
 use Rattle.yaml_base.specs.declared.styles.yaml_scalar_style_t.TheVariants.{YAML_FOLDED_SCALAR_STYLE}
 use Rattle.yaml_base.specs.scalars.BlockHeader.{ending}
 use Rattle.yaml_emitter.proofs.pieces.WritingScalars.{wrote_folded, block_some}
 use Rattle.yaml_emitter.proofs.writing.styles.write_folded_text.Goals as goal
 
-pub returns-in_err-header-clause-written : goal.returns-in_err-header-clause-written
-returns-in_err-header-clause-written g c =
-    let settings = c.args.site.now.settings.now in
-    let fits : SFits w32 settings.width = search rules in
-    let indent_fits : SFits w32 c.line_indent-indent.result = search rules in
-    let best : to_z w32 settings.indent ≡ pos settings.indent = omega (arith, ints, settings.indents_within) in
-    wrote_exit c.from_residual.ensures
-    (wrote_folded settings c.args.site.now.place.in_flow c.args.site.now.simple (chars c.args.value.now)
-    (to_z-of_z w32 c.line_indent-indent.result indent_fits ∙ c.line_indent-indent.ensures.value) (to_z-of_z w32 settings.width fits) settings.counts
-    {style = YAML_FOLDED_SCALAR_STYLE} best refl c.requires.fits c.in_err-header.ensures.written)
-
-pub returns-clause-written : goal.returns-clause-written
-returns-clause-written g c =
+pub returns-in-Err-clause-written : goal.returns-in-Err-clause-written
+returns-in-Err-clause-written g c =
     let settings = c.args.site.now.settings.now in
     let fits : SFits w32 settings.width = search rules in
     let indent_fits : SFits w32 c.line_indent-indent.result = search rules in
     let best : to_z w32 settings.indent ≡ pos settings.indent = omega (arith, ints, settings.indents_within) in
     wrote_folded settings c.args.site.now.place.in_flow c.args.site.now.simple (chars c.args.value.now)
     (to_z-of_z w32 c.line_indent-indent.result indent_fits ∙ c.line_indent-indent.ensures.value) (to_z-of_z w32 settings.width fits) settings.counts
-    {style = YAML_FOLDED_SCALAR_STYLE} best refl c.requires.fits {answer = Ok tt} c.in_ok-header.ensures.written
+    {style = YAML_FOLDED_SCALAR_STYLE} best refl c.requires.fits {answer = Err c.in-Err.error} c.in-Err.ensures.written
 
-pub returns-clause-open_ended : goal.returns-clause-open_ended
-returns-clause-open_ended g c =
-    let header_fits : SFits w32 c.in_ok-header.header = search rules in
-    c.after_header.ensures (ending (chars c.args.value.now)) (to_z-of_z w32 c.in_ok-header.header header_fits ∙ c.in_ok-header.ensures.open_ended)
+pub returns-in-Ok-clause-written : goal.returns-in-Ok-clause-written
+returns-in-Ok-clause-written g c =
+    let settings = c.args.site.now.settings.now in
+    let fits : SFits w32 settings.width = search rules in
+    let indent_fits : SFits w32 c.line_indent-indent.result = search rules in
+    let best : to_z w32 settings.indent ≡ pos settings.indent = omega (arith, ints, settings.indents_within) in
+    wrote_folded settings c.args.site.now.place.in_flow c.args.site.now.simple (chars c.args.value.now)
+    (to_z-of_z w32 c.line_indent-indent.result indent_fits ∙ c.line_indent-indent.ensures.value) (to_z-of_z w32 settings.width fits) settings.counts
+    {style = YAML_FOLDED_SCALAR_STYLE} best refl c.requires.fits {answer = Ok tt} c.in-Ok.ensures.written
+
+pub returns-in-Ok-clause-open_ended : goal.returns-in-Ok-clause-open_ended
+returns-in-Ok-clause-open_ended g c =
+    let header_fits : SFits w32 c.in-Ok.header = search rules in
+    c.after_header.ensures (ending (chars c.args.value.now)) (to_z-of_z w32 c.in-Ok.header header_fits ∙ c.in-Ok.ensures.open_ended)
 
 pub write_folded_scalar-requires-clause-some : goal.write_folded_scalar-requires-clause-some
 write_folded_scalar-requires-clause-some g c = block_some (chars c.args.value.now) c.args.site.now.simple c.requires.fits
