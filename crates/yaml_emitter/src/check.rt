@@ -49,17 +49,11 @@ fn check_properties(
 fn check_anchor(anchor: Option<&str>) -> Result<(), yaml_error_t>
     ensures { refused result ≡ option_and_then anchor_fault (seen_name anchor.entry) }
 {
+    let alias = false;
     match anchor {
-        Some(name) => check_anchor_name(name),
+        Some(name) => analyze_anchor(name, alias),
         None => Ok(()),
     }
-}
-
-fn check_anchor_name(name: &str) -> Result<(), yaml_error_t>
-    ensures { refused result ≡ anchor_fault (chars name.now) }
-{
-    let alias = false;
-    analyze_anchor(name, alias)
 }
 
 pub(crate) fn check_alias(name: &str) -> Result<(), yaml_error_t>

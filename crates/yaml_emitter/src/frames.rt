@@ -77,8 +77,10 @@ impl<A: Allocator> Frames<A> {
     pub(crate) fn may_end(&self, kind: CollectionKind) -> bool
         ensures { result ≡ steps.node_allowed self.now (end_of_kind (is_mapping kind)) }
     {
-        self.innermost
-            .is_some_and(|frame| frame.place.role.may_end(kind))
+        match self.innermost {
+            Some(frame) => frame.place.role.may_end(kind),
+            None => false,
+        }
     }
 
     /// Goes on after a node of the innermost collection, which may have been a simple key. Returns what comes next.
@@ -103,7 +105,10 @@ impl<A: Allocator> Frames<A> {
         if self.innermost.is_none() || self.is_full() {
             return Ok(());
         }
-        self.outer.reserve(1).map_err(|_| yaml_error_t::Memory)
+        match self.outer.reserve(1) {
+            Ok(()) => Ok(()),
+            Err(_) => Err(yaml_error_t::Memory),
+        }
     }
 
     /// Opens a collection within the innermost one.
@@ -115,7 +120,9 @@ impl<A: Allocator> Frames<A> {
         ensures memory { IfErr result (λ e. e ≡ yaml_error_t.Memory) }
     {
         if let Some(around) = self.innermost {
-            self.outer.push(around).map_err(|_| yaml_error_t::Memory)?;
+            if self.outer.push(around).is_err() {
+                return Err(yaml_error_t::Memory);
+            }
         }
         self.innermost = Some(frame);
         Ok(())

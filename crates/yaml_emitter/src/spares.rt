@@ -67,7 +67,16 @@ impl<A: Allocator> SpareTexts<A> {
 
     fn keep_text(&mut self, event: yaml_event_t<A>) {
         match event {
-            YAML_SCALAR_EVENT { value, .. } => self.keep(value),
+            YAML_SCALAR_EVENT {
+                anchor,
+                tag,
+                value,
+                ..
+            } => {
+                drop(anchor);
+                drop(tag);
+                self.keep(value);
+            }
             other => drop(other),
         }
     }

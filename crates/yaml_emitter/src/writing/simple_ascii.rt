@@ -74,20 +74,6 @@ pub(crate) fn write_simple_ascii<A: Allocator>(
 {
     let bare = false;
     write_lead(pen, site, None, None, bare)?;
-    write_simple_ascii_text(pen, site, value)
-}
-
-fn write_simple_ascii_text<A: Allocator>(
-    pen: &mut Pen<A>,
-    site: &Site,
-    value: &str,
-) -> Result<(), yaml_error_t>
-    requires ready { IsReady pen.old }
-    requires simple_ascii { IsSimpleAscii value.now }
-    ensures { Wrote
-        (text_at plain (seen_effective site.now.settings.now) (seen_place site.now.place) site.now.simple (chars value.now))
-        pen.old pen.new result }
-{
     let settings = site.settings;
     let indent = line_indent(settings, &site.place);
     write_simple_ascii_scalar(pen, value, !site.simple, indent, settings.width)

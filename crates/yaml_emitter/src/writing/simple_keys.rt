@@ -27,7 +27,7 @@ pub(crate) fn is_simple_alias_key(settings: &EffectiveSettings, place: &Place, n
     ensures { result
         ≡ (is_key (seen_place place.now).role && (not settings.now.canonical && layout.is_simple_alias (chars name.now))) }
 {
-    place.role.is_key() && (!settings.canonical && is_simple_alias(name))
+    place.role.is_key() && (!settings.canonical && byte_count(name) <= MOST_BYTES)
 }
 
 /// Returns whether a scalar at a place is a simple key, its tag spelled so.
@@ -56,7 +56,7 @@ pub(crate) fn is_simple_ascii_key(place: &Place, value: &str) -> bool
         ≡ (is_key (seen_place place.now).role
         && (not canonical && layout.is_simple_scalar canonical directives (seen_scalar content))) }
 {
-    place.role.is_key() && is_short(byte_count(value), None, None)
+    place.role.is_key() && is_short_count(byte_count(value), 0, 0)
 }
 
 /// Returns whether a collection at a place, which may be empty, is a simple key, its tag spelled so.
@@ -76,12 +76,6 @@ pub(crate) fn is_simple_collection_key(
         (seen_collection content.now style) empty)) }
 {
     place.role.is_key() && (!settings.canonical && (empty && is_short(0, content.anchor, tag)))
-}
-
-fn is_simple_alias(name: &str) -> bool
-    ensures { result ≡ layout.is_simple_alias (chars name.now) }
-{
-    byte_count(name) <= MOST_BYTES
 }
 
 fn is_simple_scalar(content: &ScalarContent, tag: Option<SpelledTag>) -> bool

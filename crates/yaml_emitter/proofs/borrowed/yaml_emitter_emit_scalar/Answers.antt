@@ -84,3 +84,22 @@ returns-then-are_ready_by_one_more-clause-output g c =
     let output : c.emitter-then-are_ready_by_one_more.inside.has_output ≡ true =
     h.set.has_output ∙ has_output_inside c.emitter.inside c.emitter.view_is c.requires in
     output
+
+pub invariant_of-emitter : goal.invariant_of-emitter
+invariant_of-emitter g c =
+    kept_emitting c.emitter.inside _ (has_output_inside c.emitter.inside c.emitter.view_is c.requires) refl c.emitter.invariant.room c.emitter.invariant.waits
+
+pub invariant_of-emitter-then-are_ready_by_one_more : goal.invariant_of-emitter-then-are_ready_by_one_more
+invariant_of-emitter-then-are_ready_by_one_more g c =
+    kept_emitting c.emitter.inside _ (has_output_inside c.emitter.inside c.emitter.view_is c.requires) refl c.emitter.invariant.room c.emitter.invariant.waits
+
+pub write_before_scalar-requires-clause-no_error : goal.write_before_scalar-requires-clause-no_error
+write_before_scalar-requires-clause-no_error g c = sym c.error.ensures ∙ c.in_default.is
+
+pub wait_behind-requires-clause-waits : goal.wait_behind-requires-clause-waits
+wait_behind-requires-clause-waits g c =
+    ap (λ (s : State). are_ready_by_one_more s.held) (sym c.emitter.view_is)
+    ∙ ap (λ q. are_ready_by_one_more (seen_events q)) (sym c.as_slice.ensures.value) ∙ sym c.are_ready_by_one_more.ensures ∙ c.if-are_ready_by_one_more.false
+
+pub wait_behind-requires-clause-no_error : goal.wait_behind-requires-clause-no_error
+wait_behind-requires-clause-no_error g c = ap (λ (s : State). s.error) (sym c.emitter.view_is) ∙ sym c.error.ensures ∙ c.in_default.is

@@ -134,3 +134,18 @@ returns g c =
       kept = emitted.kept;
       output = emitted.moves.set.has_output ∙ c.requires;
     }
+
+pub invariant_of-emitter : goal.invariant_of-emitter
+invariant_of-emitter g c =
+    kept_emitting c.emitter.inside _ (has_output_inside c.emitter.inside c.emitter.view_is c.requires) refl c.emitter.invariant.room c.emitter.invariant.waits
+
+pub invariant_of-emitter-2 : goal.invariant_of-emitter-2
+invariant_of-emitter-2 g c =
+    kept_emitting c.emitter.inside _ (has_output_inside c.emitter.inside c.emitter.view_is c.requires) refl c.emitter.invariant.room c.emitter.invariant.waits
+
+pub write_waiting-requires-clause-no_error : goal.write_waiting-requires-clause-no_error
+write_waiting-requires-clause-no_error g c = sym c.error.ensures ∙ c.in_default.is
+
+pub give-answer-requires-clause-ready : goal.give-answer-requires-clause-ready
+give-answer-requires-clause-ready g c =
+    (passes seen_event c.emitter-2.inside.queue.items (seen_event c.args.event) (sym c.needs_no_waiting.ensures ∙ c.if-needs_no_waiting.true)).1

@@ -1,6 +1,7 @@
 use Rattle.yaml_emitter.proofs.Common.{common_steps, rules}
 use Rattle.yaml_emitter.proofs.Common.{option_map, nat_lt, length, ap, ◌∙◌, arith, any_layout, most_open, spelling}
 use Rattle.yaml_emitter.proofs.Common.{seen_collection, machine_state, start_of_kind, is_mapping, seen_place, seen_frame, seen_stage}
+use Rattle.yaml_emitter.proofs.Common.{collection_tag, seen_tag}
 use Rattle.std.proofs.lemmas.{Bool.ltb-true, Result.on_ok_weaker}
 use Rattle.yaml_emitter.proofs.{events_done.ProcessedBy.processed_exit, pieces.WritingTags.spelled_handle}
 use Rattle.yaml_emitter.proofs.events_done.CollectionsDone.{room_here, full_here, of_any_style, start_refused, start_cut, start_left}
@@ -20,7 +21,11 @@ write_collection_start-requires-clause-ready g c =
     ready_inside c.self.inside c.self.invariant (at_node_inside c.self.inside c.self.view_is c.requires.stage)
 
 pub write_collection_start-requires-clause-handle : goal.write_collection_start-requires-clause-handle
-write_collection_start-requires-clause-handle g c = first_of (search (rules, spelled_handle), grind (arith, common_steps, spelled_handle))
+write_collection_start-requires-clause-handle g c =
+    spelled_handle c.self.inside.directives
+    (collection_tag c.self.inside.settings.canonical (seen_collection c.args.content.now any_layout)) (seen_tag c.spell-tag.result)
+    (c.spell-tag.ensures ∙ ap (option_map (spelling c.self.inside.directives)) (c.written_collection_tag-written.ensures any_layout))
+    c.self.invariant.handles
 
 pub write_collection_start-requires-clause-anchor : goal.write_collection_start-requires-clause-anchor
 write_collection_start-requires-clause-anchor g c = collection_anchor c.args.self.now.given.canonical (is_mapping c.args.kind)

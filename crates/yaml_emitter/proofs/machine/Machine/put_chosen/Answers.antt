@@ -1,4 +1,4 @@
-use Rattle.yaml_emitter.proofs.Common.{arith, common_steps, rules}
+use Rattle.yaml_emitter.proofs.Common.{machine_state, scalar, seen_place, MachineState, true}
 use Rattle.yaml_emitter.proofs.Common.{option_map, false, ap, sym, ◌∙◌, scalar_tag, spelling, seen_scalar}
 use Rattle.yaml_emitter.proofs.Common.{seen_tag}
 use Rattle.yaml_emitter.proofs.{pieces.AtomsWritten.written_is_some, pieces.WritingTags.spelled_handle}
@@ -7,11 +7,13 @@ use Rattle.yaml_emitter.proofs.events_done.NodesDone.{scalar_refused, scalar_don
 use Rattle.yaml_emitter.proofs.machine.Machine.put_chosen.Goals as goal
 
 pub returns-then-lacks_flag : goal.returns-then-lacks_flag
-returns-then-lacks_flag g c =
-    first_of (
-      search (rules, at_node_inside, lacks_given, names_inside, scalar_refused, seen_at_node),
-      grind (arith, common_steps, at_node_inside, lacks_given, names_inside, scalar_refused, seen_at_node),
-    )
+returns-then-lacks_flag g c = λ empty.
+    let content = seen_scalar c.args.content.now in
+    scalar_refused c.args.self.now c.self.inside.directives c.self.inside.frames content empty
+    (sym (ap (λ (s : MachineState). s.stage) c.self.view_is) ∙ seen_at_node c.self.inside (at_node_inside c.self.inside c.self.view_is c.requires.stage))
+    c.requires.names
+    (lacks_given content c.lacks_flag.result c.self.inside.settings.canonical c.args.self.now.given.canonical true
+    (c.self.invariant.canonical ∙ ap (λ (s : MachineState). s.given.canonical) c.self.view_is) c.if-lacks_flag.true c.lacks_flag.ensures)
 
 pub write_scalar-requires-clause-ready : goal.write_scalar-requires-clause-ready
 write_scalar-requires-clause-ready g c =
@@ -35,8 +37,17 @@ invariant_of-self g c =
     (c.advance-self-inside.ensures.stage c.self.inside.directives) c.write_scalar.ensures.ready
 
 pub returns : goal.returns
-returns g c =
-    first_of (
-      search (rules, at_node_inside, lacks_given, names_inside, scalar_done, seen_at_node),
-      grind (arith, common_steps, at_node_inside, lacks_given, names_inside, scalar_done, seen_at_node),
-    )
+returns g c = λ empty.
+    let content = seen_scalar c.args.content.now in
+    let spelled = c.spell-tag.ensures ∙ ap (option_map (spelling c.self.inside.directives)) c.written_scalar_tag-written.ensures in
+    rw (← c.self.view_is)
+    (scalar_done (machine_state c.self.inside) c.self.inside.directives c.self.inside.frames content empty c.is_simple_scalar_key-simple.result
+    (seen_place c.next_place-place.result) _ _ c.write_scalar.new.pen c.write_scalar.result
+    (seen_at_node c.self.inside (at_node_inside c.self.inside c.self.view_is c.requires.stage))
+    (names_inside c.self.inside c.self.view_is (scalar content) c.requires.names)
+    (lacks_given content c.lacks_flag.result c.self.inside.settings.canonical c.self.inside.given.canonical false
+    c.self.invariant.canonical c.if-lacks_flag.false c.lacks_flag.ensures)
+    c.next_place-place.ensures.place
+    (c.is_simple_scalar_key-simple.ensures c.self.inside.directives spelled)
+    (c.advance-self-inside.ensures.stage c.self.inside.directives)
+    c.write_scalar.ensures.open_ended_is (c.write_scalar.ensures.written c.self.inside.directives spelled))

@@ -30,7 +30,10 @@ returns-in_err-directives g c = λ empty.
 
 pub write_document_start-requires-clause-handles : goal.write_document_start-requires-clause-handles
 write_document_start-requires-clause-handles g c =
-    first_of (search (rules, none_behind, sound_handles), grind (arith, common_steps, none_behind, sound_handles))
+    let own = map seen_directive c.args.own.now in
+    sound_handles own
+    (none_behind (option_and_then version_fault (option_map seen_version c.args.version)) (directives_fault own)
+    (sym (c.in_ok-directives.ensures.refusal (λ h. cc))))
 
 pub invariant_of-self-in_err-write_document_start : goal.invariant_of-self-in_err-write_document_start
 invariant_of-self-in_err-write_document_start g c =
@@ -38,11 +41,24 @@ invariant_of-self-in_err-write_document_start g c =
     (seen_at c.self.inside (Document c.in-Document.first) c.in-Document.is) c.self.invariant c.write_document_start.ensures.ready
 
 pub returns-in_err-write_document_start : goal.returns-in_err-write_document_start
-returns-in_err-write_document_start g c =
-    first_of (
-      search (rules, document_start_cut, processed_exit, seen_at, seen_without),
-      grind (arith, common_steps, document_start_cut, processed_exit, seen_at, seen_without),
-    )
+returns-in_err-write_document_start g c = λ empty.
+    let start : DocumentStart = record {
+      version = option_map seen_version c.args.version;
+      directives = map seen_directive c.args.own.now;
+      implicit = c.args.implicit;
+    } in
+    let event = document_start start in
+    let before : MachineState = machine_state c.self.inside in
+    let page = c.write_document_start.new.pen in
+    let answer = c.from_residual-in_err-write_document_start.result in
+    let at = seen_at c.self.inside (Document c.in-Document.first) c.in-Document.is in
+    let error = c.in_err-write_document_start.field-0.0 in
+    subst (λ (s : MachineState). Processed event empty c.args.self.now (record s { page = page }) answer)
+    (sym (seen_without c.self.inside c.replace-before.new.dest c.in-Document.first at))
+    (subst (λ (s : MachineState). Processed event empty s (record before { page = page }) answer) c.self.view_is
+    (processed_exit event empty before (record before { page = page }) error answer c.from_residual-in_err-write_document_start.ensures
+    (document_start_cut empty before c.in-Document.first start page error at (sym (c.in_ok-directives.ensures.refusal (λ h. cc)))
+    c.in_err-write_document_start.ensures)))
 
 pub invariant_of-self-2 : goal.invariant_of-self-2
 invariant_of-self-2 g c =
