@@ -1,6 +1,7 @@
 //! The options of a program, and what its help says of them.
 use crate::version::VERSION;
 use crate::words::Wording;
+use clap::builder::ValueParser;
 use clap::{Arg, ArgAction, Command};
 use std::alloc::{AllocError, Global};
 
@@ -94,68 +95,6 @@ fn option_with_value<'a>(
         .value_name(value)
         .help(help)
         .long_help(long_help)
-        .action(ArgAction::Set)
-}
-
-/// Returns the option that names the file to write.
-fn output_option<'a>(alloc: Global, words: &Wording) -> Arg<'a> {
-    option_with_value(alloc, "output", "FILE", OUTPUT_HELP, words.output).short('o')
-}
-
-fn heading_option<'a>(alloc: Global, words: &Wording) -> Arg<'a> {
-    option_with_value(alloc, "heading", "TEXT", HEADING_HELP, words.heading)
-}
-
-/// Returns the option that converts each file by itself.
-fn each_flag<'a>(alloc: Global, words: &Wording) -> Result<Arg<'a>, AllocError> {
-    flag(alloc, "each", words.each, words.each_long)
-        .conflicts_with("output")?
-        .requires_arg("files")
-}
-
-fn indent_option<'a>(alloc: Global, words: &Wording) -> Arg<'a> {
-    let option = option_with_value(alloc, "indent", "COLUMNS", INDENT_HELP, words.indent);
-    option.value_parser(clap::value_parser!(i32).range(2..=9))
-}
-
-fn width_option<'a>(alloc: Global, words: &Wording) -> Arg<'a> {
-    let option = option_with_value(alloc, "width", "COLUMN", WIDTH_HELP, words.width);
-    option
-        .allow_negative_numbers(true)
-        .value_parser(clap::value_parser!(i32))
-}
-
-fn depth_option<'a>(alloc: Global, words: &Wording) -> Arg<'a> {
-    let option = option_with_value(alloc, "depth", "LEVELS", words.depth, words.depth_long);
-    option.value_parser(clap::value_parser!(usize).range(0..=1_000_000))
-}
-
-/// Adds the options that have a value.
-fn with_settings<'a>(
-    alloc: Global,
-    words: &Wording,
-    command: Command<'a>,
-) -> Result<Command<'a>, AllocError> {
-    command
-        .arg(output_option(alloc, words))?
-        .arg(each_flag(alloc, words)?)?
-        .arg(heading_option(alloc, words))?
-        .arg(indent_option(alloc, words))?
-        .arg(width_option(alloc, words))?
-        .arg(depth_option(alloc, words))
-}
-
-/// Adds options that have none.
-fn with_flags<'a>(
-    alloc: Global,
-    flags: &[(&'static str, &'static str, &'static str)],
-    command: Command<'a>,
-) -> Result<Command<'a>, AllocError> {
-    let mut command = command;
-    for (name, help, long_help) in flags {
-        command = command.arg(flag(alloc, name, help, long_help))?;
-    }
-    Ok(command)
 }
 
 /// Returns the files that are read.
@@ -165,7 +104,97 @@ fn files_argument<'a>(alloc: Global, words: &Wording) -> Arg<'a> {
         .help(words.files)
         .long_help(words.files_long)
         .num_args(0..)
-        .action(ArgAction::Append)
+}
+
+/// What has a value, or depends on what else is there.
+enum Setting {
+    Output,
+    Each,
+    Heading,
+    Indent,
+    Width,
+    Depth,
+    Files,
+}
+
+/// Returns the argument of this setting.
+fn argument_of<'a>(
+    alloc: Global,
+    words: &Wording,
+    setting: &Setting,
+) -> Result<Arg<'a>, AllocError> {
+    Ok(match setting {
+        Setting::Output => {
+            option_with_value(alloc, "output", "FILE", OUTPUT_HELP, words.output).short('o')
+        }
+        Setting::Each => {
+            return flag(alloc, "each", words.each, words.each_long)
+                .conflicts_with("output")?
+                .requires_arg("files");
+        }
+        Setting::Heading => {
+            option_with_value(alloc, "heading", "TEXT", HEADING_HELP, words.heading)
+        }
+        Setting::Indent => option_with_value(
+            alloc,
+            "indent",
+            "COLUMNS",
+            INDENT_HELP,
+            words.indent,
+        ).value_parser(ValueParser::signed(2, 9)),
+        Setting::Width => option_with_value(alloc, "width", "COLUMN", WIDTH_HELP, words.width)
+            .allow_negative_numbers(true)
+            .value_parser(clap::value_parser!(i32)),
+        Setting::Depth => {
+            option_with_value(alloc, "depth", "LEVELS", words.depth, words.depth_long).value_parser(
+                ValueParser::unsigned(0, 1_000_000),
+            )
+        }
+        Setting::Files => files_argument(alloc, words),
+    })
+}
+
+/// Adds options that have none.
+fn push_flags<'a>(
+    alloc: Global,
+    flags: &[(&'static str, &'static str, &'static str)],
+    arguments: &mut Vec<Arg<'a>>,
+) -> Result<(), AllocError> {
+    for (name, help, long_help) in flags {
+        arguments.push(flag(alloc, name, help, long_help))?;
+    }
+    Ok(())
+}
+
+/// Adds the files, and the options that have a value or depend on what else is there.
+fn push_settings<'a>(
+    alloc: Global,
+    words: &Wording,
+    arguments: &mut Vec<Arg<'a>>,
+) -> Result<(), AllocError> {
+    for setting in &[
+        Setting::Output,
+        Setting::Each,
+        Setting::Heading,
+        Setting::Indent,
+        Setting::Width,
+        Setting::Depth,
+        Setting::Files,
+    ] {
+        arguments.push(argument_of(alloc, words, setting)?)?;
+    }
+    Ok(())
+}
+
+/// Adds the files and all options.
+fn push_arguments<'a>(
+    alloc: Global,
+    words: &Wording,
+    arguments: &mut Vec<Arg<'a>>,
+) -> Result<(), AllocError> {
+    push_settings(alloc, words, arguments)?;
+    push_flags(alloc, words.flags, arguments)?;
+    push_flags(alloc, words.own_flags, arguments)
 }
 
 /// Returns the command line without its arguments. Its words come without the program's name.
@@ -179,7 +208,7 @@ fn bare_command<'a>(alloc: Global, words: &Wording) -> Command<'a> {
 
 /// Returns the command line of a program, whose words come without the program's name.
 pub fn command_of<'a>(alloc: Global, words: &Wording) -> Result<Command<'a>, AllocError> {
-    let command = with_settings(alloc, words, bare_command(alloc, words))?;
-    let command = with_flags(alloc, words.flags, command)?;
-    with_flags(alloc, words.own_flags, command)?.arg(files_argument(alloc, words))
+    let mut arguments = Vec::new(alloc);
+    push_arguments(alloc, words, &mut arguments)?;
+    bare_command(alloc, words).args(arguments)
 }
