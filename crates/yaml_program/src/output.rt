@@ -71,12 +71,11 @@ fn has_name(rt: &HostRuntime, file: &File, name: &str) -> bool {
 
 /// Removes the temporary file of this name if a run that was cut off has left it: then it isn't locked.
 fn remove_if_left(rt: &HostRuntime, name: &str) -> io::Result<()> {
-    if !fs::symlink_metadata(rt, name)?.is_file() {
-        return Ok(());
-    }
-    let file = File::open(rt, name)?;
-    if file.try_lock().is_ok() && has_name(rt, &file, name) {
-        fs::remove_file(rt, name)?;
+    if fs::symlink_metadata(rt, name)?.is_file() {
+        let file = File::open(rt, name)?;
+        if file.try_lock().is_ok() && has_name(rt, &file, name) {
+            return fs::remove_file(rt, name);
+        }
     }
     Ok(())
 }
@@ -101,6 +100,20 @@ fn is_kept(file: &File) -> bool {
     }
 }
 
+/// Makes a file that no other run removes; `None` where there is one of this name, or another run has removed it.
+fn create_kept(rt: &HostRuntime, name: &str) -> io::Result<Option<File>> {
+    match File::create_new(rt, name) {
+        Ok(file) => Ok(if is_kept(&file) { Some(file) } else { None }),
+        Err(error) => {
+            if error.kind() == ErrorKind::AlreadyExists {
+                Ok(None)
+            } else {
+                Err(error)
+            }
+        }
+    }
+}
+
 /// A file beside another, which it is to replace. It is locked as long as it is open.
 #[derive(Drop)]
 pub struct Beside {
@@ -117,35 +130,25 @@ impl Beside {
         remove_all_left(rt, program, target.as_str())?;
         for number in 0..MOST_NAMES {
             let name = temporary_name(rt, program, target.as_str(), number)?;
-            match File::create_new(rt, name.as_str()) {
-                Ok(file) => {
-                    if is_kept(&file) {
-                        return Beside { file, name, target }.with_permissions(rt);
-                    }
-                }
-                Err(error) => {
-                    if error.kind() != ErrorKind::AlreadyExists {
-                        return Err(error);
-                    }
-                }
+            if let Some(file) = create_kept(rt, name.as_str())? {
+                let beside = Beside { file, name, target };
+                beside.take_permissions(rt)?;
+                return Ok(beside);
             }
         }
         Err(io::Error::from(ErrorKind::AlreadyExists))
     }
 
     /// Gives the file the permissions of the one that it is to replace, where there is one; where that fails, removes it.
-    fn with_permissions(self, rt: &HostRuntime) -> io::Result<Beside> {
+    fn take_permissions(&self, rt: &HostRuntime) -> io::Result<()> {
         let given = match fs::metadata(rt, self.target.as_str()) {
             Ok(found) => self.file.set_permissions(found.permissions()),
             Err(_) => Ok(()),
         };
-        match given {
-            Ok(()) => Ok(self),
-            Err(error) => {
-                self.remove(rt);
-                Err(error)
-            }
+        if given.is_err() {
+            self.remove(rt);
         }
+        given
     }
 
     /// Returns the file that is written.
@@ -155,18 +158,16 @@ impl Beside {
 
     /// Gives the file the name of the one that it replaces; where that fails, removes it.
     #[inline(never)]
-    pub fn replace(self, rt: &HostRuntime) -> io::Result<()> {
-        match fs::rename(rt, self.name.as_str(), self.target.as_str()) {
-            Ok(()) => Ok(()),
-            Err(error) => {
-                self.remove(rt);
-                Err(error)
-            }
+    pub fn replace(&self, rt: &HostRuntime) -> io::Result<()> {
+        let renamed = fs::rename(rt, self.name.as_str(), self.target.as_str());
+        if renamed.is_err() {
+            self.remove(rt);
         }
+        renamed
     }
 
     /// Removes the file.
-    pub fn remove(self, rt: &HostRuntime) {
+    pub fn remove(&self, rt: &HostRuntime) {
         let _gone = fs::remove_file(rt, self.name.as_str());
     }
 }
