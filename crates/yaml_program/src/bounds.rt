@@ -5,7 +5,7 @@ ghost use Rattle.yaml_program.specs.Bounds as bounds;
 use crate::arguments::CommonSettings;
 
 /// How deep collections may nest where lines are indented by their depth.
-pub const MOST_INDENTED: usize = 10_000;
+const MOST_INDENTED: usize = 10_000;
 
 /// Returns whether a width is negative, so that nothing is folded.
 fn is_negative(width: Option<i32>) -> bool

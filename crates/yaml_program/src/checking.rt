@@ -38,7 +38,7 @@ fn compare<S: Sources + AllocGlobal, W: Write>(
             }
         }
         Err(error) if error.kind() == ErrorKind::NotFound => tell_difference(name, faults),
-        Err(error) => give_up(&Failure::ReadFailed(error), Some(name), faults),
+        Err(error) => give_up(Failure::ReadFailed(error), Some(name), faults),
     }
 }
 
@@ -55,9 +55,8 @@ pub fn check<F: Format, S: Sources + AllocGlobal, W: Write>(
         name.now }
 {
     let mut yaml = Vec::new(sources.alloc());
-    let sent = send_all(sources, conversion, &mut yaml);
-    if sent.is_err() {
-        return report(&sent, None, faults);
+    match send_all(sources, conversion, &mut yaml) {
+        Ok(()) => compare(sources, yaml.as_slice(), name, faults),
+        Err(stop) => report(Err(stop), None, faults),
     }
-    compare(sources, yaml.as_slice(), name, faults)
 }

@@ -41,19 +41,15 @@ fn convert_stem<'a, F: Format + Copy + Drop, S: Sources + AllocGlobal, W: Write>
     conversion: &Conversion<'a, F>,
     names: (&'a str, &'a str),
     faults: &mut Messages<W>,
-) -> u8
+) -> Result<u8, AllocError>
     requires { names.0.now ≡ names.1.now ++ F.ending }
-    ensures known { result ≤ 3 }
-    ensures done { result ≡ 0 → IsDoneBeside F.is_yaml F.ending (S.bytes_of sources.now) conversion.now names.entry.0.now }
+    ensures known { IfOk result (λ status. status ≤ 3) }
+    ensures done { IfOk result (λ status. status ≡ 0 → IsDoneBeside F.is_yaml F.ending (S.bytes_of sources.now) conversion.now names.entry.0.now) }
 {
     let (name, stem) = names;
-    let Ok(target) = yaml_name(sources.alloc(), stem) else {
-        return give_up(&NO_MEMORY, None, faults);
-    };
-    let Ok(one) = conversion_of_one(sources.alloc(), conversion, name) else {
-        return give_up(&NO_MEMORY, None, faults);
-    };
-    perform(rt, sources, &one, Some(target.as_str()), faults)
+    let target = yaml_name(sources.alloc(), stem)?;
+    let one = conversion_of_one(sources.alloc(), conversion, name)?;
+    Ok(perform(rt, sources, &one, Some(target.as_str()), faults))
 }
 
 /// Converts a file to the one beside it, if its name says which.
@@ -69,7 +65,10 @@ fn convert_beside<'a, F: Format + Copy + Drop, S: Sources + AllocGlobal, W: Writ
 {
     let ending = conversion.format.ending();
     match stem_of(name, ending) {
-        Some(stem) => convert_stem(rt, sources, conversion, (name, stem), faults),
+        Some(stem) => match convert_stem(rt, sources, conversion, (name, stem), faults) {
+            Ok(status) => status,
+            Err(_) => give_up(NO_MEMORY, None, faults),
+        },
         None => {
             faults.end_line();
             let program = faults.words.name;

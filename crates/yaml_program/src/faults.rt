@@ -110,74 +110,91 @@ fn is_out_of_memory(error: &Failure) -> bool {
     }
 }
 
-/// Returns a file's name as a message shows it, where `stream` is what the program reads or writes without a name.
-fn shown<'a>(name: Option<&'a str>, stream: &'a str) -> &'a str {
+/// Returns whether nobody reads what is written.
+fn is_broken_pipe(error: &Failure) -> bool {
+    matches!(error, Failure::WriteFailed(error) if error.kind() == ErrorKind::BrokenPipe)
+}
+
+/// Returns the name of the file that an error is about, as a message shows it.
+fn shown<'a>(name: Option<&'a str>, error: &Failure) -> &'a str {
     match name {
         Some(name) if name != STREAM => name,
-        _ => stream,
+        _ => match error {
+            Failure::WriteFailed(_) => "standard output",
+            _ => "standard input",
+        },
+    }
+}
+
+/// Says in a line why a text is refused, with the name of its file.
+fn write_refusal<W: Write>(
+    place: &Option<(usize, usize)>,
+    reason: &Reason,
+    name: &str,
+    faults: &mut Messages<W>,
+) -> io::Result<()> {
+    let program = faults.words.name;
+    match place {
+        Some((line, column)) => writeln!(&mut faults.sink, "{name}:{line}:{column}: {reason}"),
+        None => writeln!(&mut faults.sink, "{program}: {name}: {reason}"),
     }
 }
 
 /// Says in a line what went wrong, with the name of the file that can't be read or written, or whose text is refused.
-fn write_error<W: Write>(
-    error: &Failure,
-    name: Option<&str>,
-    faults: &mut Messages<W>,
-) -> io::Result<()> {
+fn write_error<W: Write>(error: &Failure, name: &str, faults: &mut Messages<W>) -> io::Result<()> {
     faults.end_line();
     let program = faults.words.name;
-    let sink = &mut faults.sink;
-    if is_out_of_memory(error) {
-        return writeln!(sink, "{program}: out of memory");
-    }
     match error {
         Failure::ReadFailed(error) => {
-            let name = shown(name, "standard input");
-            writeln!(sink, "{program}: cannot read {name}: {error}")
+            writeln!(&mut faults.sink, "{program}: cannot read {name}: {error}")
         }
         Failure::WriteFailed(error) => {
-            let name = shown(name, "standard output");
-            writeln!(sink, "{program}: cannot write {name}: {error}")
+            writeln!(&mut faults.sink, "{program}: cannot write {name}: {error}")
         }
-        Failure::Refused { place, reason } => {
-            let name = shown(name, "standard input");
-            match place {
-                Some((line, column)) => writeln!(sink, "{name}:{line}:{column}: {reason}"),
-                None => writeln!(sink, "{program}: {name}: {reason}"),
-            }
-        }
-        Failure::Unwritten(error) => {
-            let name = shown(name, "standard input");
-            writeln!(sink, "{program}: {name}: {error}")
-        }
+        Failure::Refused { place, reason } => write_refusal(place, reason, name, faults),
+        Failure::Unwritten(error) => writeln!(&mut faults.sink, "{program}: {name}: {error}"),
     }
 }
 
+/// Says why a program does nothing or no more, and returns the status where its arguments are at fault.
+pub fn refuse<W: Write>(why: &str, faults: &mut Messages<W>) -> u8
+    ensures { result ≡ 2 }
+{
+    faults.end_line();
+    let program = faults.words.name;
+    let _reported = writeln!(&mut faults.sink, "{program}: {why}");
+    2
+}
+
 /// Says what went wrong, unless it is that nobody reads what is written, and returns the status.
-pub fn give_up<W: Write>(error: &Failure, name: Option<&str>, faults: &mut Messages<W>) -> u8
-    ensures status { result ≡ statuses.failure_status error.now }
+pub fn give_up<W: Write>(error: Failure, name: Option<&str>, faults: &mut Messages<W>) -> u8
+    ensures status { result ≡ statuses.failure_status error }
     ensures some { 1 ≤ result }
     ensures known { result ≤ 3 }
 {
-    if !matches!(error, Failure::WriteFailed(error) if error.kind() == ErrorKind::BrokenPipe) {
-        let _reported = write_error(error, name, faults);
+    if is_out_of_memory(&error) {
+        refuse("out of memory", faults);
+    } else if !is_broken_pipe(&error) {
+        let _reported = write_error(&error, shown(name, &error), faults);
     }
-    status_of(error)
+    status_of(&error)
 }
 
 /// Says what went wrong, if anything did, and returns the status.
 pub fn report<W: Write>(
-    sent: &Result<(), (Option<&str>, Failure)>,
+    sent: Result<(), (Option<&str>, Failure)>,
     output: Option<&str>,
     faults: &mut Messages<W>,
 ) -> u8
-    ensures status { result ≡ statuses.status_of_run sent.now }
-    ensures done { result ≡ 0 → IsOk sent.now }
+    ensures status { result ≡ statuses.status_of_run sent.entry }
+    ensures done { result ≡ 0 → IsOk sent.entry }
     ensures known { result ≤ 3 }
 {
     match sent {
         Ok(()) => 0,
-        Err((_, error @ Failure::WriteFailed(_))) => give_up(error, output, faults),
-        Err((name, error)) => give_up(error, *name, faults),
+        Err((_, Failure::WriteFailed(error))) => {
+            give_up(Failure::WriteFailed(error), output, faults)
+        }
+        Err((name, error)) => give_up(error, name, faults),
     }
 }

@@ -5,21 +5,26 @@ ghost use Rattle.yaml_program.specs.Conversions.{AllDone, HaveYaml, IsDone, OfFi
 ghost use Rattle.yaml_program.specs.Faults as statuses;
 
 use crate::arguments::Conversion;
-use crate::bounds::MOST_INDENTED;
 use crate::checking::check;
 use crate::each::convert_each;
-use crate::faults::{Failure, Messages, NO_MEMORY, give_up, report};
+use crate::faults::{Failure, Messages, NO_MEMORY, give_up, refuse, report};
 use crate::formats::Format;
 use crate::output::{Beside, is_written_in_place};
 use crate::sending::send_buffered;
 use crate::sources::{STREAM, Sources};
-use crate::words::Wording;
 use clap::Error as UsageError;
 use clap::error::ErrorKind as UsageKind;
 use std::io::{ErrorKind, IsTerminal, Write};
 use std::os::fd::AsFd;
 use std::rt::Runtime;
 use std::{fs, io};
+
+/// What is said where collections can't nest as deep as is asked for.
+const DEPTH_REFUSED: &str =
+    "--depth past 10000 needs --flow, and neither --width nor --canonical: else the output grows with the square of the depth";
+
+/// What is said where there is nothing to compare with.
+const CHECK_REFUSED: &str = "--check needs --each, or --output with a file";
 
 /// Writes what is to be converted to a device or a pipe, say, where it lies.
 fn send_in_place<'a, F: Format, S: Sources + AllocGlobal>(
@@ -94,7 +99,8 @@ fn hint<F, I: IsTerminal, W: Write>(
     faults: &mut Messages<W>,
 ) {
     if reads_stream(conversion) && stdin.is_terminal() {
-        let Wording { name, format, .. } = *faults.words;
+        let name = faults.words.name;
+        let format = faults.words.format;
         let _reported = writeln!(
             &mut faults.sink,
             "{name}: reading {format} from the terminal, up to Ctrl-D; {name} --help tells more"
@@ -126,7 +132,7 @@ pub fn perform<F: Format, S: Sources + AllocGlobal, W: Write>(
         Some(name) if conversion.checks => check(sources, conversion, name, faults),
         _ => {
             let sent = send(rt, sources, conversion, target);
-            report(&sent, target, faults)
+            report(sent, target, faults)
         }
     }
 }
@@ -144,7 +150,7 @@ fn convert<F: Format + Copy + Drop, S: Sources + AllocGlobal, I: IsTerminal + As
 {
     hint(conversion, stdin, faults);
     if let Err(error) = check_stream(conversion, stdin) {
-        return give_up(&Failure::ReadFailed(error), None, faults);
+        return give_up(Failure::ReadFailed(error), None, faults);
     }
     if conversion.each {
         convert_each(rt, sources, conversion, faults)
@@ -158,11 +164,9 @@ pub fn refuse_arguments<W: Write>(error: &io::Error, faults: &mut Messages<W>) -
     ensures { result ≤ 3 }
 {
     if error.kind() == ErrorKind::OutOfMemory {
-        return give_up(&NO_MEMORY, None, faults);
+        return give_up(NO_MEMORY, None, faults);
     }
-    let program = faults.words.name;
-    let _reported = writeln!(&mut faults.sink, "{program}: an argument isn't UTF-8");
-    2
+    refuse("an argument isn't UTF-8", faults)
 }
 
 /// Says why the arguments ask for no conversion, which may be that they ask for help, and returns the program's status.
@@ -171,10 +175,10 @@ fn answer<R: Runtime, W: Write>(rt: &R, error: &UsageError, faults: &mut Message
     ensures status { statuses.IsStatusOfUsage (kind_of error.now) result }
 {
     match error.kind() {
-        UsageKind::OutOfMemory => give_up(&NO_MEMORY, None, faults),
+        UsageKind::OutOfMemory => give_up(NO_MEMORY, None, faults),
         UsageKind::DisplayHelp | UsageKind::DisplayVersion => match print!(rt; "{error}") {
             Ok(()) => 0,
-            Err(error) => give_up(&Failure::WriteFailed(error), None, faults),
+            Err(error) => give_up(Failure::WriteFailed(error), None, faults),
         },
         _ => {
             let _reported = write!(&mut faults.sink, "{error}");
@@ -183,36 +187,11 @@ fn answer<R: Runtime, W: Write>(rt: &R, error: &UsageError, faults: &mut Message
     }
 }
 
-/// Says that collections can't nest as deep as is asked for, and returns the program's status.
-fn refuse_depth<W: Write>(faults: &mut Messages<W>) -> u8
-    ensures { result ≡ 2 }
-{
-    let program = faults.words.name;
-    let _reported = writeln!(
-        &mut faults.sink,
-        "{program}: --depth past {MOST_INDENTED} needs --flow, and neither --width nor --canonical: else the output grows with the \
-        square of the depth"
-    );
-    2
-}
-
 /// Returns whether there is no file that what would be written can be compared with.
 fn lacks_target<F>(conversion: &Conversion<'_, F>) -> bool {
     conversion.checks
         && !conversion.each
         && !matches!(conversion.output, Some(name) if name != STREAM)
-}
-
-/// Says that there is nothing to compare with, and returns the program's status.
-fn refuse_check<W: Write>(faults: &mut Messages<W>) -> u8
-    ensures { result ≡ 2 }
-{
-    let program = faults.words.name;
-    let _reported = writeln!(
-        &mut faults.sink,
-        "{program}: --check needs --each, or --output with a file"
-    );
-    2
 }
 
 /// Does what the arguments ask for, says on `faults` what went wrong, and returns the program's status.
@@ -229,8 +208,8 @@ pub fn serve<F: Format + Copy + Drop, S: Sources + AllocGlobal, I: IsTerminal + 
     ensures refused { IfErr asked.now (λ error. statuses.IsStatusOfUsage (kind_of error) result) }
 {
     match asked {
-        Ok(conversion) if !conversion.format.is_bounded() => refuse_depth(faults),
-        Ok(conversion) if lacks_target(conversion) => refuse_check(faults),
+        Ok(conversion) if !conversion.format.is_bounded() => refuse(DEPTH_REFUSED, faults),
+        Ok(conversion) if lacks_target(conversion) => refuse(CHECK_REFUSED, faults),
         Ok(conversion) => convert(rt, sources, conversion, stdin, faults),
         Err(error) => answer(rt, error, faults),
     }
