@@ -39,7 +39,7 @@ pub fn status(answer: &run_answer_t) -> u8
 }
 
 /// What went wrong in a run.
-#[derive(Debug, Drop, Error)]
+#[derive(Drop, Error)]
 enum Fault {
     Refused(u64, yaml_error_t),
     BadLine(u64),
@@ -60,6 +60,13 @@ impl fmt::Display for Fault {
             Fault::WriteFailed => f.write_str("yamlemit: cannot write"),
             Fault::NoMemory => f.write_str("yamlemit: out of memory"),
         }
+    }
+}
+
+/// Writes the same words: an `Error` has a `Debug`.
+impl fmt::Debug for Fault {
+    fn fmt<W: fmt::Write>(&self, f: &mut fmt::Formatter<W>) -> fmt::Result {
+        fmt::Display::fmt(self, f)
     }
 }
 
