@@ -123,35 +123,34 @@ fn argument_of<'a>(
     words: &Wording,
     setting: &Setting,
 ) -> Result<Arg<'a>, AllocError> {
-    Ok(match setting {
+    match setting {
         Setting::Output => {
-            option_with_value(alloc, "output", "FILE", OUTPUT_HELP, words.output).short('o')
+            Ok(option_with_value(alloc, "output", "FILE", OUTPUT_HELP, words.output).short('o'))
         }
-        Setting::Each => {
-            return flag(alloc, "each", words.each, words.each_long)
-                .conflicts_with("output")?
-                .requires_arg("files");
-        }
+        Setting::Each => flag(alloc, "each", words.each, words.each_long)
+            .conflicts_with("output")?
+            .requires_arg("files"),
         Setting::Heading => {
-            option_with_value(alloc, "heading", "TEXT", HEADING_HELP, words.heading)
+            Ok(option_with_value(alloc, "heading", "TEXT", HEADING_HELP, words.heading))
         }
-        Setting::Indent => option_with_value(
-            alloc,
-            "indent",
-            "COLUMNS",
-            INDENT_HELP,
-            words.indent,
-        ).value_parser(ValueParser::signed(2, 9)),
-        Setting::Width => option_with_value(alloc, "width", "COLUMN", WIDTH_HELP, words.width)
-            .allow_negative_numbers(true)
-            .value_parser(clap::value_parser!(i32)),
-        Setting::Depth => {
-            option_with_value(alloc, "depth", "LEVELS", words.depth, words.depth_long).value_parser(
-                ValueParser::unsigned(0, 1_000_000),
+        Setting::Indent => {
+            let option = option_with_value(alloc, "indent", "COLUMNS", INDENT_HELP, words.indent);
+            Ok(option.value_parser(ValueParser::signed(2, 9)))
+        }
+        Setting::Width => {
+            let option = option_with_value(alloc, "width", "COLUMN", WIDTH_HELP, words.width);
+            Ok(
+                option
+                    .allow_negative_numbers(true)
+                    .value_parser(clap::value_parser!(i32)),
             )
         }
-        Setting::Files => files_argument(alloc, words),
-    })
+        Setting::Depth => {
+            let option = option_with_value(alloc, "depth", "LEVELS", words.depth, words.depth_long);
+            Ok(option.value_parser(ValueParser::unsigned(0, 1_000_000)))
+        }
+        Setting::Files => Ok(files_argument(alloc, words)),
+    }
 }
 
 /// Adds options that have none.
