@@ -3,7 +3,7 @@ ghost use Rattle.std.specs.Prelude.{◌≡◌, ◌≤◌, ◌++◌, IfOk, false,
 ghost use Rattle.yaml_program.specs.Conversions.{ConvertsOne, EachIsDone, IsDoneBeside, names_of};
 
 use crate::arguments::Conversion;
-use crate::faults::{Messages, NO_MEMORY, give_up};
+use crate::faults::{Messages, run_out};
 use crate::formats::Format;
 use crate::names::{stem_of, yaml_name};
 use crate::program::perform;
@@ -67,7 +67,7 @@ fn convert_beside<'a, F: Format + Copy + Drop, S: Sources + AllocGlobal, W: Writ
     match stem_of(name, ending) {
         Some(stem) => match convert_stem(rt, sources, conversion, (name, stem), faults) {
             Ok(status) => status,
-            Err(_) => give_up(NO_MEMORY, None, faults),
+            Err(_) => run_out(faults),
         },
         None => {
             faults.end_line();

@@ -166,6 +166,14 @@ pub fn refuse<W: Write>(why: &str, faults: &mut Messages<W>) -> u8
     2
 }
 
+/// Says that no memory is left, and returns the status.
+pub fn run_out<W: Write>(faults: &mut Messages<W>) -> u8
+    ensures { result ≡ 3 }
+{
+    refuse("out of memory", faults);
+    3
+}
+
 /// Says what went wrong, unless it is that nobody reads what is written, and returns the status.
 pub fn give_up<W: Write>(error: Failure, name: Option<&str>, faults: &mut Messages<W>) -> u8
     ensures status { result ≡ statuses.failure_status error }
@@ -173,7 +181,7 @@ pub fn give_up<W: Write>(error: Failure, name: Option<&str>, faults: &mut Messag
     ensures known { result ≤ 3 }
 {
     if is_out_of_memory(&error) {
-        refuse("out of memory", faults);
+        run_out(faults);
     } else if !is_broken_pipe(&error) {
         let _reported = write_error(&error, shown(name, &error), faults);
     }

@@ -7,7 +7,7 @@ ghost use Rattle.yaml_program.specs.Faults as statuses;
 use crate::arguments::Conversion;
 use crate::checking::check;
 use crate::each::convert_each;
-use crate::faults::{Failure, Messages, NO_MEMORY, give_up, refuse, report};
+use crate::faults::{Failure, Messages, give_up, refuse, report, run_out};
 use crate::formats::Format;
 use crate::output::{Beside, is_written_in_place};
 use crate::sending::send_buffered;
@@ -19,7 +19,7 @@ use std::os::fd::AsFd;
 use std::rt::Runtime;
 use std::{fs, io};
 
-/// What is said where collections can't nest as deep as is asked for.
+/// What is said where collections can't nest as deep as is asked for. (Its number is `MOST_INDENTED`.)
 const DEPTH_REFUSED: &str =
     "--depth past 10000 needs --flow, and neither --width nor --canonical: else the output grows with the square of the depth";
 
@@ -164,7 +164,7 @@ pub fn refuse_arguments<W: Write>(error: &io::Error, faults: &mut Messages<W>) -
     ensures { result ≤ 3 }
 {
     if error.kind() == ErrorKind::OutOfMemory {
-        return give_up(NO_MEMORY, None, faults);
+        return run_out(faults);
     }
     refuse("an argument isn't UTF-8", faults)
 }
@@ -175,7 +175,7 @@ fn answer<R: Runtime, W: Write>(rt: &R, error: &UsageError, faults: &mut Message
     ensures status { statuses.IsStatusOfUsage (kind_of error.now) result }
 {
     match error.kind() {
-        UsageKind::OutOfMemory => give_up(NO_MEMORY, None, faults),
+        UsageKind::OutOfMemory => run_out(faults),
         UsageKind::DisplayHelp | UsageKind::DisplayVersion => match print!(rt; "{error}") {
             Ok(()) => 0,
             Err(error) => give_up(Failure::WriteFailed(error), None, faults),
