@@ -1,35 +1,165 @@
--- Two lists that are compared place by place.
-use Rattle.yaml_base.proofs.Common.{ℕ, ◌+◌, ◌<◌, ◌≤◌, length, take, slice_index_or as get_or, List, [], map, ◌++◌, ◌∷◌, ◌≡◌, ap, sym, ◌∙◌, arith, map-append}
-use Rattle.yaml_base.proofs.Common.{suc, zero, refl}
-use Rattle.std.proofs.Common.{take_all}
-use Rattle.std.proofs.lemmas.List.{take_more, get_or-map}
+-- What `==` says of events: whether they are seen alike.
+use Rattle.yaml_dump.proofs.Common.{◌≡◌, refl, ap, sym, ◌∙◌, Bool, ◌&&◌, List, [], ◌∷◌, map, Option, None, Some, option_map, Event, seen_event}
+use Rattle.std.proofs.lemmas.{Bool.Decides.Decides-at, Bool.Decides.Decides-like, Bool.Decides.Decides-and, Bool.Decides.Decides-int_eq, Slice.Eq.bytes_eq-Decides, Str.encodes-chars}
+use Rattle.std.proofs.lemmas.Str.{IsUtf8-string_bytes}
+use Rattle.std.specs.{Bool.Decides, Cmp.booleans_Decides, Cmp.Lexicographic.pointwise, Option.option_eq, String.string_eq, String.string_bytes, Str.chars}
+use Rattle.std.specs.Str.{encode_utf8_all}
+use Rattle.std.specs.Prelude.{String}
+use Rattle.std.specs.declared.alloc.Allocator.{Ghosts}
+use Rattle.yaml_base.specs.Event.{Version, TagDirective, DocumentStart, Scalar, Collection}
+use Rattle.yaml_base.specs.{Event.stream_start, Event.document_start, Event.document_end, Event.alias, Event.scalar, Event.sequence_start, Event.mapping_start}
+use Rattle.yaml_base.specs.Seen.{seen_text, seen_version, seen_directive, seen_encoding, seen_scalar_style, seen_sequence_style, seen_mapping_style}
+use Rattle.yaml_base.specs.declared.encodings.yaml_encoding_t.{yaml_encoding_t}
+use Rattle.yaml_base.specs.declared.encodings.yaml_encoding_t.TheVariants.{YAML_ANY_ENCODING, YAML_UTF8_ENCODING, YAML_UTF16LE_ENCODING, YAML_UTF16BE_ENCODING}
+use Rattle.yaml_base.specs.declared.styles.yaml_scalar_style_t.{yaml_scalar_style_t}
+use Rattle.yaml_base.specs.declared.styles.yaml_scalar_style_t.TheVariants.{YAML_ANY_SCALAR_STYLE, YAML_PLAIN_SCALAR_STYLE, YAML_SINGLE_QUOTED_SCALAR_STYLE}
+use Rattle.yaml_base.specs.declared.styles.yaml_scalar_style_t.TheVariants.{YAML_DOUBLE_QUOTED_SCALAR_STYLE, YAML_LITERAL_SCALAR_STYLE}
+use Rattle.yaml_base.specs.declared.styles.yaml_scalar_style_t.TheVariants.{YAML_FOLDED_SCALAR_STYLE}
+use Rattle.yaml_base.specs.declared.styles.yaml_sequence_style_t.{yaml_sequence_style_t}
+use Rattle.yaml_base.specs.declared.styles.yaml_sequence_style_t.TheVariants.{YAML_ANY_SEQUENCE_STYLE, YAML_BLOCK_SEQUENCE_STYLE, YAML_FLOW_SEQUENCE_STYLE}
+use Rattle.yaml_base.specs.declared.styles.yaml_mapping_style_t.{yaml_mapping_style_t}
+use Rattle.yaml_base.specs.declared.styles.yaml_mapping_style_t.TheVariants.{YAML_ANY_MAPPING_STYLE, YAML_BLOCK_MAPPING_STYLE, YAML_FLOW_MAPPING_STYLE}
+use Rattle.yaml_base.specs.declared.directives.yaml_version_directive_t.{yaml_version_directive_t}
+use Rattle.yaml_base.specs.declared.directives.yaml_tag_directive_t.{yaml_tag_directive_t}
+use Rattle.yaml_base.specs.declared.events.yaml_event_t.{yaml_event_t}
+use Rattle.yaml_base.specs.declared.events.yaml_event_t.TheVariants.{YAML_STREAM_START_EVENT, YAML_STREAM_END_EVENT, YAML_DOCUMENT_START_EVENT}
+use Rattle.yaml_base.specs.declared.events.yaml_event_t.TheVariants.{YAML_DOCUMENT_END_EVENT, YAML_ALIAS_EVENT, YAML_SCALAR_EVENT, YAML_SEQUENCE_START_EVENT}
+use Rattle.yaml_base.specs.declared.events.yaml_event_t.TheVariants.{YAML_SEQUENCE_END_EVENT, YAML_MAPPING_START_EVENT, YAML_MAPPING_END_EVENT}
+use Rattle.yaml_base.specs.contracts.encodings.yaml_encoding_tPartialEq.TheImpl as encodings
+use Rattle.yaml_base.specs.contracts.styles.yaml_scalar_style_tPartialEq.TheImpl as scalars
+use Rattle.yaml_base.specs.contracts.styles.yaml_sequence_style_tPartialEq.TheImpl as sequences
+use Rattle.yaml_base.specs.contracts.styles.yaml_mapping_style_tPartialEq.TheImpl as mappings
+use Rattle.yaml_base.specs.contracts.directives.yaml_version_directive_tPartialEq.TheImpl as versions
+use Rattle.yaml_base.specs.contracts.events.yaml_event_tPartialEq.TheImpl as events
+use denote.RattleType.{RattleType}
+use mir.Syntax.{Dict}
 
--- one more place that is the same
-pub same_more : {X Y : Type 0} (seen : X → Y) (first second : List X) (place : ℕ) (x y : X) → place < length first → length first ≡ length second
-    → x ≡ get_or first place x → y ≡ get_or second place y → map seen (take place first) ≡ map seen (take place second) → seen x ≡ seen y
-    → map seen (take (place + 1) first) ≡ map seen (take (place + 1) second)
-same_more {X} seen first second place x y within lengths at also so_far same =
-    ap (map seen) (take_more first place x within)
-    ∙ map-append seen (take place first) (get_or first place x ∷ [])
-    ∙ ap (λ (item : X). map seen (take place first) ++ seen item ∷ []) (sym at)
-    ∙ ap (λ start. start ++ seen x ∷ []) so_far
-    ∙ ap (λ item. map seen (take place second) ++ item ∷ []) same
-    ∙ ap (λ (item : X). map seen (take place second) ++ seen item ∷ []) also
-    ∙ sym (map-append seen (take place second) (get_or second place y ∷ []))
-    ∙ ap (map seen) (sym (take_more second place y (omega (arith, within, lengths))))
+same_encodings : (x y : yaml_encoding_t) → Decides (encodings.eq-value.it x y) (seen_encoding x ≡ seen_encoding y)
+same_encodings YAML_ANY_ENCODING YAML_ANY_ENCODING = (λ _. refl, λ _. refl)
+same_encodings YAML_UTF8_ENCODING YAML_UTF8_ENCODING = (λ _. refl, λ _. refl)
+same_encodings YAML_UTF16LE_ENCODING YAML_UTF16LE_ENCODING = (λ _. refl, λ _. refl)
+same_encodings YAML_UTF16BE_ENCODING YAML_UTF16BE_ENCODING = (λ _. refl, λ _. refl)
+same_encodings _ _ = (λ no. cc, λ no. cc)
 
--- a place that differs
-pub differ_at : {X Y : Type 0} (seen : X → Y) (first second : List X) (place : ℕ) (x y : X) → place < length first → length first ≡ length second
-    → x ≡ get_or first place x → y ≡ get_or second place y → map seen first ≡ map seen second → seen x ≡ seen y
-differ_at seen first second place x y within lengths at also same =
-    ap seen at
-    ∙ sym (get_or-map seen first place x (seen x) within)
-    ∙ ap (λ list. get_or list place (seen x)) same
-    ∙ get_or-map seen second place y (seen x) (omega (arith, within, lengths))
-    ∙ ap seen (sym also)
+same_scalar_styles : (x y : yaml_scalar_style_t) → Decides (scalars.eq-value.it x y) (seen_scalar_style x ≡ seen_scalar_style y)
+same_scalar_styles YAML_ANY_SCALAR_STYLE YAML_ANY_SCALAR_STYLE = (λ _. refl, λ _. refl)
+same_scalar_styles YAML_PLAIN_SCALAR_STYLE YAML_PLAIN_SCALAR_STYLE = (λ _. refl, λ _. refl)
+same_scalar_styles YAML_SINGLE_QUOTED_SCALAR_STYLE YAML_SINGLE_QUOTED_SCALAR_STYLE = (λ _. refl, λ _. refl)
+same_scalar_styles YAML_DOUBLE_QUOTED_SCALAR_STYLE YAML_DOUBLE_QUOTED_SCALAR_STYLE = (λ _. refl, λ _. refl)
+same_scalar_styles YAML_LITERAL_SCALAR_STYLE YAML_LITERAL_SCALAR_STYLE = (λ _. refl, λ _. refl)
+same_scalar_styles YAML_FOLDED_SCALAR_STYLE YAML_FOLDED_SCALAR_STYLE = (λ _. refl, λ _. refl)
+same_scalar_styles _ _ = (λ no. cc, λ no. cc)
 
--- all places
-pub same_all : {X Y : Type 0} (seen : X → Y) (first second : List X) (place : ℕ) → length first ≤ place → length first ≡ length second
-    → map seen (take place first) ≡ map seen (take place second) → map seen first ≡ map seen second
-same_all seen first second place end lengths so_far =
-    ap (map seen) (sym (take_all place first end)) ∙ so_far ∙ ap (map seen) (take_all place second (omega (arith, end, lengths)))
+same_sequence_styles : (x y : yaml_sequence_style_t) → Decides (sequences.eq-value.it x y) (seen_sequence_style x ≡ seen_sequence_style y)
+same_sequence_styles YAML_ANY_SEQUENCE_STYLE YAML_ANY_SEQUENCE_STYLE = (λ _. refl, λ _. refl)
+same_sequence_styles YAML_BLOCK_SEQUENCE_STYLE YAML_BLOCK_SEQUENCE_STYLE = (λ _. refl, λ _. refl)
+same_sequence_styles YAML_FLOW_SEQUENCE_STYLE YAML_FLOW_SEQUENCE_STYLE = (λ _. refl, λ _. refl)
+same_sequence_styles _ _ = (λ no. cc, λ no. cc)
+
+same_mapping_styles : (x y : yaml_mapping_style_t) → Decides (mappings.eq-value.it x y) (seen_mapping_style x ≡ seen_mapping_style y)
+same_mapping_styles YAML_ANY_MAPPING_STYLE YAML_ANY_MAPPING_STYLE = (λ _. refl, λ _. refl)
+same_mapping_styles YAML_BLOCK_MAPPING_STYLE YAML_BLOCK_MAPPING_STYLE = (λ _. refl, λ _. refl)
+same_mapping_styles YAML_FLOW_MAPPING_STYLE YAML_FLOW_MAPPING_STYLE = (λ _. refl, λ _. refl)
+same_mapping_styles _ _ = (λ no. cc, λ no. cc)
+
+same_texts : {A : Type 0} (x y : String A) → Decides (string_eq x y) (seen_text x ≡ seen_text y)
+same_texts x y =
+    Decides-like _ (ap chars)
+    (λ is. sym (encodes-chars _ (IsUtf8-string_bytes x)) ∙ ap encode_utf8_all is ∙ encodes-chars _ (IsUtf8-string_bytes y))
+    (bytes_eq-Decides (string_bytes x) (string_bytes y))
+
+same_options : {X Y : Type 0} (E : X → X → Bool) (seen : X → Y) → ((x y : X) → Decides (E x y) (seen x ≡ seen y)) → (x y : Option X)
+    → Decides (option_eq E x y) (option_map seen x ≡ option_map seen y)
+same_options E seen same None None = (λ _. refl, λ _. refl)
+same_options E seen same (Some x) (Some y) = Decides-like _ (ap (λ item. Some item)) (λ is. cc) (same x y)
+same_options E seen same _ _ = (λ no. cc, λ no. cc)
+
+same_lists : {X Y : Type 0} (E : X → X → Bool) (seen : X → Y) → ((x y : X) → Decides (E x y) (seen x ≡ seen y)) → (xs ys : List X)
+    → Decides (pointwise E xs ys) (map seen xs ≡ map seen ys)
+same_lists E seen same [] [] = (λ _. refl, λ _. refl)
+same_lists E seen same (x ∷ xs) (y ∷ ys) =
+    Decides-like _ (λ all i. all.0 i ∷ all.1 i) (λ is. (cc, cc)) (Decides-and (E x y) _ (same x y) (same_lists E seen same xs ys))
+same_lists E seen same _ _ = (λ no. cc, λ no. cc)
+
+same_versions : (x y : yaml_version_directive_t) → Decides (versions.eq-value.it x y) (seen_version x ≡ seen_version y)
+same_versions x y =
+    Decides-like _ (λ all i. record { major = all.0 i; minor = all.1 i })
+    (λ is. (ap (λ (version : Version). version.major) is, ap (λ (version : Version). version.minor) is))
+    (Decides-and _ _ (Decides-int_eq x.major y.major) (Decides-int_eq x.minor y.minor))
+
+same_directives : {A : Type 0} (x y : yaml_tag_directive_t A)
+    → Decides (string_eq x.handle y.handle && string_eq x.prefix y.prefix) (seen_directive x ≡ seen_directive y)
+same_directives x y =
+    Decides-like _ (λ all i. record { handle = all.0 i; prefix = all.1 i })
+    (λ is. (ap (λ (directive : TagDirective). directive.handle) is, ap (λ (directive : TagDirective). directive.prefix) is))
+    (Decides-and _ _ (same_texts x.handle y.handle) (same_texts x.prefix y.prefix))
+
+same_names : {A : Type 0} (x y : Option (String A)) → Decides (option_eq string_eq x y) (option_map seen_text x ≡ option_map seen_text y)
+same_names x y = same_options string_eq seen_text same_texts x y
+
+start_of : {x y : DocumentStart} → document_start x ≡ document_start y → x ≡ y
+start_of is = cc
+
+content_of : {x y : Scalar} → scalar x ≡ scalar y → x ≡ y
+content_of is = cc
+
+sequence_of : {x y : Collection} → sequence_start x ≡ sequence_start y → x ≡ y
+sequence_of is = cc
+
+mapping_of : {x y : Collection} → mapping_start x ≡ mapping_start y → x ≡ y
+mapping_of is = cc
+
+scalar_parts : {x y : Scalar} → x ≡ y
+    → (x.anchor ≡ y.anchor) × ((x.tag ≡ y.tag) × ((x.value ≡ y.value)
+    × ((x.plain_implicit ≡ y.plain_implicit) × ((x.quoted_implicit ≡ y.quoted_implicit) × (x.style ≡ y.style)))))
+scalar_parts same =
+    (λ i. (same i).anchor, (λ i. (same i).tag, (λ i. (same i).value, (λ i. (same i).plain_implicit, (λ i. (same i).quoted_implicit, λ i. (same i).style)))))
+
+collection_parts : {x y : Collection} → x ≡ y → (x.anchor ≡ y.anchor) × ((x.tag ≡ y.tag) × ((x.implicit ≡ y.implicit) × (x.style ≡ y.style)))
+collection_parts same = (λ i. (same i).anchor, (λ i. (same i).tag, (λ i. (same i).implicit, λ i. (same i).style)))
+
+same_events : (A : RattleType) (allocator : Ghosts A.Denot) (own drops : Dict) (x y : yaml_event_t A.Denot)
+    → Decides ((events.eq-value A allocator own drops).it x y) (seen_event x ≡ seen_event y)
+same_events A allocator own drops (YAML_STREAM_START_EVENT encoding) (YAML_STREAM_START_EVENT other) =
+    Decides-like _ (ap stream_start) (λ is. cc) (same_encodings encoding other)
+same_events A allocator own drops YAML_STREAM_END_EVENT YAML_STREAM_END_EVENT = (λ _. refl, λ _. refl)
+same_events A allocator own drops (YAML_DOCUMENT_START_EVENT version directives implicit) (YAML_DOCUMENT_START_EVENT other others also) =
+    Decides-like _ (λ all i. document_start record { version = all.0 i; directives = all.1.0 i; implicit = all.1.1 i })
+    (λ is. let same = start_of is in
+    (λ i. (same i).version, (λ i. (same i).directives, λ i. (same i).implicit)))
+    (Decides-and _ _ (same_options _ seen_version same_versions version other)
+    (Decides-and _ _ (same_lists _ seen_directive same_directives directives.items others.items) (booleans_Decides implicit also)))
+same_events A allocator own drops (YAML_DOCUMENT_END_EVENT implicit) (YAML_DOCUMENT_END_EVENT other) =
+    Decides-like _ (ap document_end) (λ is. cc) (booleans_Decides implicit other)
+same_events A allocator own drops (YAML_ALIAS_EVENT anchor) (YAML_ALIAS_EVENT other) = Decides-like _ (ap alias) (λ is. cc) (same_texts anchor other)
+same_events A allocator own drops (YAML_SCALAR_EVENT anchor tag value plain quoted style) (YAML_SCALAR_EVENT name kind text bare marked shape) =
+    Decides-like _
+    (λ all i. scalar record {
+      anchor = all.0 i;
+      tag = all.1.0 i;
+      value = all.1.1.0 i;
+      plain_implicit = all.1.1.1.0 i;
+      quoted_implicit = all.1.1.1.1.0 i;
+      style = all.1.1.1.1.1 i;
+    }) (λ is. scalar_parts (content_of is))
+    (Decides-and _ _ (same_names anchor name) (Decides-and _ _ (same_names tag kind) (Decides-and _ _ (same_texts value text)
+    (Decides-and _ _ (booleans_Decides plain bare) (Decides-and _ _ (booleans_Decides quoted marked) (same_scalar_styles style shape))))))
+same_events A allocator own drops (YAML_SEQUENCE_START_EVENT anchor tag implicit style) (YAML_SEQUENCE_START_EVENT name kind also shape) =
+    Decides-like _ (λ all i. sequence_start record { anchor = all.0 i; tag = all.1.0 i; implicit = all.1.1.0 i; style = all.1.1.1 i })
+    (λ is. collection_parts (sequence_of is))
+    (Decides-and _ _ (same_names anchor name)
+    (Decides-and _ _ (same_names tag kind) (Decides-and _ _ (booleans_Decides implicit also) (same_sequence_styles style shape))))
+same_events A allocator own drops YAML_SEQUENCE_END_EVENT YAML_SEQUENCE_END_EVENT = (λ _. refl, λ _. refl)
+same_events A allocator own drops (YAML_MAPPING_START_EVENT anchor tag implicit style) (YAML_MAPPING_START_EVENT name kind also shape) =
+    Decides-like _ (λ all i. mapping_start record { anchor = all.0 i; tag = all.1.0 i; implicit = all.1.1.0 i; style = all.1.1.1 i })
+    (λ is. collection_parts (mapping_of is))
+    (Decides-and _ _ (same_names anchor name)
+    (Decides-and _ _ (same_names tag kind) (Decides-and _ _ (booleans_Decides implicit also) (same_mapping_styles style shape))))
+same_events A allocator own drops YAML_MAPPING_END_EVENT YAML_MAPPING_END_EVENT = (λ _. refl, λ _. refl)
+same_events A allocator own drops _ _ = (λ no. cc, λ no. cc)
+
+-- so of what a comparison of two lists answers
+pub events_told : (A : RattleType) (allocator : Ghosts A.Denot) (own drops : Dict) (first second : List (yaml_event_t A.Denot)) (result : Bool)
+    → result ≡ pointwise (events.eq-value A allocator own drops).it first second → Decides result (map seen_event first ≡ map seen_event second)
+events_told A allocator own drops first second result is =
+    Decides-at result _ is (same_lists (events.eq-value A allocator own drops).it seen_event (same_events A allocator own drops) first second)

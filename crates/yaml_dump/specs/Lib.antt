@@ -12,5 +12,4 @@ pub mod TypedDumps
 pub mod InOrder
 pub mod Composition
 pub mod SeenComposer
-pub mod SameEvents
 pub mod Composing

@@ -1,24 +1,8 @@
-use Rattle.yaml_dump.proofs.Common.{false, true, ◌≡◌, refl, sym, ◌∙◌}
-use Rattle.yaml_base.specs.Seen.{seen_event}
-use Rattle.yaml_dump.proofs.SameEventLemmas.{same_more, differ_at, same_all}
+use Rattle.yaml_dump.proofs.SameEventLemmas.{events_told}
 use Rattle.yaml_dump.proofs.same_events.are_same.Goals as goal
-
-pub returns-then-not-is_same : goal.returns-then-not-is_same
-returns-then-not-is_same g c = (
-  λ no. absurd (let is : false ≡ true = no in cc),
-  λ same. sym c.if-not-is_same.true
-      ∙ c.is_same.ensures.1
-      (differ_at seen_event c.args.first.now c.args.second.now c.loop-place.place c.index-first-place.result c.index-second-place.result c.loop-place-test.true
-      c.if-first-second.false c.index-first-place.is c.index-second-place.is same),
-)
-
-pub loop-place-preserved : goal.loop-place-preserved
-loop-place-preserved g c =
-    same_more seen_event c.args.first.now c.args.second.now c.loop-place.place c.index-first-place.result c.index-second-place.result c.loop-place-test.true
-    c.if-first-second.false c.index-first-place.is c.index-second-place.is c.loop-place.invariant (c.is_same.ensures.0 c.if-not-is_same.false)
+use Rattle.yaml_dump.proofs.same_events.are_same.Lts.{impl_arg-0-0}
 
 pub returns : goal.returns
-returns g c = (
-  λ yes. same_all seen_event c.args.first.now c.args.second.now c.loop-place.place c.loop-place-test.false c.if-first-second.false c.loop-place.invariant,
-  λ same. refl,
-)
+returns g c =
+    events_told (impl_arg-0-0 g.row.A g.A.laws g.A.Allocator g.A.Allocator-dict g.A.Destruct-dict c.eq.lifetimes) g.A.Allocator g.A.Allocator-dict
+    g.A.Destruct-dict c.args.first.now c.args.second.now c.eq.result c.eq.ensures
