@@ -3,6 +3,7 @@ ghost use Rattle.std.specs.Prelude.{◌≡◌, [], ◌∷◌, IfOk, map, option_
 ghost use Rattle.yaml_base.specs.Seen.{seen_text, seen_event};
 ghost use Rattle.yaml_base.specs.graphs.Meetings.{GraphNode};
 ghost use Rattle.yaml_base.specs.graphs.SeenNodes.{seen_number, seen_node, seen_pair};
+ghost use Rattle.yaml_dump.specs.Composition as composition;
 ghost use Rattle.yaml_dump.specs.Composition.{with_children, begun_node, opened_node, carried, nothing_composed, composed, ended, filled, node_with, paired};
 ghost use Rattle.yaml_dump.specs.SeenComposer.{seen_composer};
 
@@ -28,18 +29,23 @@ struct Composer<A: Allocator> {
     carriers: Vec<i32, A>,
 }
 
-/// Returns pairs of numbers that follow one another.
-fn pairs_of<A: Allocator>(alloc: A, numbers: &[i32]) -> Result<Vec<yaml_node_pair_t, A>, AllocError>
-    ensures { IfOk result (λ pairs. map seen_pair pairs.items ≡ paired (map seen_number numbers.now)) }
+/// Sets pairs to those of numbers that follow one another.
+fn fill_pairs<A: Allocator>(
+    alloc: A,
+    pairs: &mut Vec<yaml_node_pair_t, A>,
+    numbers: &[i32],
+) -> Result<(), AllocError>
+    ensures { IfOk result (λ _. map seen_pair pairs.new.items ≡ paired (map seen_number numbers.now)) }
 {
     let count = numbers.len() / 2;
-    let mut pairs = Vec::with_capacity(alloc, count)?;
+    let mut made = Vec::with_capacity(alloc, count)?;
     for place in 0..count {
         let key = numbers[2 * place];
         let value = numbers[2 * place + 1];
-        pairs.push(yaml_node_pair_t { key, value })?;
+        made.push(yaml_node_pair_t { key, value })?;
     }
-    Ok(pairs)
+    *pairs = made;
+    Ok(())
 }
 
 /// Gives a collection its children.
@@ -51,16 +57,13 @@ fn fill<A: Allocator + Copy>(
     ensures { IfOk result (λ _. seen_node node.new ≡ node_with (map seen_number children.items) (seen_node node.old)) }
 {
     match &mut node.contents {
-        yaml_node_data_t::Scalar { .. } => {}
-        yaml_node_data_t::Sequence { items, .. } => *items = children,
-        yaml_node_data_t::Mapping { pairs, .. } => {
-            let Ok(filled) = pairs_of(alloc, children.as_slice()) else {
-                return Err(AllocError);
-            };
-            *pairs = filled;
+        yaml_node_data_t::Scalar { .. } => Ok(()),
+        yaml_node_data_t::Sequence { items, .. } => {
+            *items = children;
+            Ok(())
         }
+        yaml_node_data_t::Mapping { pairs, .. } => fill_pairs(alloc, pairs, children.as_slice()),
     }
-    Ok(())
 }
 
 /// Gives the collection at a place its children.
@@ -136,26 +139,35 @@ impl<A: Allocator> Composer<A> {
         }
     }
 
-    /// Begins a node whose anchor has this number.
-    fn begin(&mut self, anchor: usize, node: yaml_node_t<A>) -> Result<(), AllocError>
-        ensures { IfOk result (λ _. seen_composer self.new ≡ begun_node anchor (seen_node node) (seen_composer self.old)) }
+    /// Begins a node with this anchor.
+    fn begin(&mut self, anchor: &Option<String<A>>, node: yaml_node_t<A>) -> Result<(), AllocError>
+        ensures { IfOk result (λ _. seen_composer self.new
+            ≡ begun_node (composition.number_of_anchor (option_map seen_text anchor.now)) (seen_node node) (seen_composer self.old)) }
     {
         let before = self.nodes.len();
         if before >= i32::MAX as usize {
             return Err(AllocError);
         }
         let number = before as i32 + 1;
-        self.carry(anchor, number);
+        self.carry(number_of_anchor(anchor), number);
         self.nodes.push(node)?;
         self.add(number)
     }
 
     /// Begins a collection.
-    fn open(&mut self, alloc: A, anchor: usize, node: yaml_node_t<A>) -> Result<(), AllocError>
-        ensures { IfOk result (λ _. seen_composer self.new ≡ opened_node anchor (seen_node node) (seen_composer self.old)) }
+    fn open(
+        &mut self,
+        alloc: A,
+        anchor: &Option<String<A>>,
+        node: yaml_node_t<A>,
+    ) -> Result<(), AllocError>
+        ensures { IfOk result (λ _. seen_composer self.new
+            ≡ opened_node (composition.number_of_anchor (option_map seen_text anchor.now)) (seen_node node) (seen_composer self.old)) }
     {
         let place = self.nodes.len();
-        self.begin(anchor, node)?;
+        let Ok(()) = self.begin(anchor, node) else {
+            return Err(AllocError);
+        };
         let children = Vec::new(alloc);
         self.unended.push(Unended { place, children })?;
         Ok(())
@@ -193,12 +205,11 @@ impl<A: Allocator> Composer<A> {
                 ..
             } => {
                 let tag = copied_tag(alloc, tag)?;
-                let value = String::from_str(alloc, value.as_str())?;
                 let contents = yaml_node_data_t::Scalar {
-                    value,
+                    value: String::from_str(alloc, value.as_str())?,
                     style: *style,
                 };
-                self.begin(number_of_anchor(anchor), yaml_node_t { tag, contents })
+                self.begin(anchor, yaml_node_t { tag, contents })
             }
             yaml_event_t::YAML_SEQUENCE_START_EVENT {
                 anchor,
@@ -211,11 +222,7 @@ impl<A: Allocator> Composer<A> {
                     items: Vec::new(alloc),
                     style: *style,
                 };
-                self.open(
-                    alloc,
-                    number_of_anchor(anchor),
-                    yaml_node_t { tag, contents },
-                )
+                self.open(alloc, anchor, yaml_node_t { tag, contents })
             }
             yaml_event_t::YAML_MAPPING_START_EVENT {
                 anchor,
@@ -228,14 +235,11 @@ impl<A: Allocator> Composer<A> {
                     pairs: Vec::new(alloc),
                     style: *style,
                 };
-                self.open(
-                    alloc,
-                    number_of_anchor(anchor),
-                    yaml_node_t { tag, contents },
-                )
+                self.open(alloc, anchor, yaml_node_t { tag, contents })
             }
-            yaml_event_t::YAML_SEQUENCE_END_EVENT => self.end(alloc),
-            yaml_event_t::YAML_MAPPING_END_EVENT => self.end(alloc),
+            yaml_event_t::YAML_SEQUENCE_END_EVENT | yaml_event_t::YAML_MAPPING_END_EVENT => {
+                self.end(alloc)
+            }
             _ => Ok(()),
         }
     }
@@ -251,7 +255,9 @@ pub(crate) fn composed_nodes<A: Allocator + Copy>(
 {
     let mut composer = Composer::at_start(alloc, events.len())?;
     for event in events {
-        composer.take(alloc, event)?;
+        let Ok(()) = composer.take(alloc, event) else {
+            return Err(AllocError);
+        };
     }
     Ok(composer.nodes)
 }

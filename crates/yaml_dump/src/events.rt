@@ -289,7 +289,9 @@ pub(crate) fn events_of_walk<A: Allocator + Copy>(
         walk,
         end_implicit,
     } = outline;
-    push_walk(alloc, nodes.as_mut_slice(), walk.as_slice(), &mut events)?;
+    let Ok(()) = push_walk(alloc, nodes.as_mut_slice(), walk.as_slice(), &mut events) else {
+        return Err(AllocError);
+    };
     events.push(yaml_event_t::YAML_DOCUMENT_END_EVENT {
         implicit: end_implicit,
     })?;

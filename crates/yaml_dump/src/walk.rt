@@ -139,9 +139,13 @@ pub(crate) fn walk<A: Allocator + Copy>(
     // A law: the numbers that nodes hold are numbers of nodes.
     document.numbers_name_nodes();
     let mut walker = Walker::at_start(alloc, document.node_count() as usize)?;
-    walker.meet(1)?;
+    let Ok(()) = walker.meet(1) else {
+        return Err(AllocError);
+    };
     while let Some(visit) = walker.visits.pop() {
-        walker.resume(document, visit)?;
+        let Ok(()) = walker.resume(document, visit) else {
+            return Err(AllocError);
+        };
     }
     Ok(walker.steps)
 }

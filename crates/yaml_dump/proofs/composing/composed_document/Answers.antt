@@ -1,7 +1,12 @@
-use Rattle.yaml_dump.proofs.Common.{length, ◌-◌, ◌≤◌, rules}
+use Rattle.yaml_dump.proofs.Common.{length, ◌-◌, ◌≤◌, rules, sym, ◌∙◌}
+use Rattle.std.proofs.lemmas.Bool.{eqb-true}
 use Rattle.yaml_base.specs.Settings.{largest_usize}
-use Rattle.yaml_dump.proofs.ComposingLemmas.{first_is, last_is, last_place, no_heading, no_end, composed_so}
+use Rattle.yaml_dump.proofs.ComposingLemmas.{first_is, last_is, last_place, some_events, no_heading, no_end, composed_so}
 use Rattle.yaml_dump.proofs.composing.composed_document.Goals as goal
+
+pub returns-then-is_empty : goal.returns-then-is_empty
+returns-then-is_empty g c graph document same =
+    absurd (some_events graph c.args.events.now document same (eqb-true _ 0 (sym c.is_empty.ensures ∙ c.if-is_empty.true)))
 
 pub returns-in_default-found : goal.returns-in_default-found
 returns-in_default-found g c graph document same =

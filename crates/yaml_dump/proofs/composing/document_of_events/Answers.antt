@@ -1,8 +1,24 @@
-use Rattle.yaml_dump.proofs.Common.{sym, ap, map, ◌∙◌, ◌≡◌, true, false, graph_of}
+use Rattle.yaml_dump.proofs.Common.{sym, ap, map, ◌∙◌, ◌≡◌, true, false, graph_of, refl, Option, None, Some, option_map}
 use Rattle.yaml_dump.specs.InOrder.{in_order}
 use Rattle.yaml_base.specs.Seen.{seen_event}
 use Rattle.yaml_dump.proofs.ComposingLemmas.{events_found, graph_found}
 use Rattle.yaml_dump.proofs.composing.document_of_events.Goals as goal
+
+pub returns-in_default : goal.returns-in_default
+returns-in_default g c = record { has_events = tt; composes = λ graph is same. refl }
+
+pub returns-in_default-found : goal.returns-in_default-found
+returns-in_default-found g c = record {
+  has_events = tt;
+  composes = λ graph is same.
+      absurd (let none : None ≡ Some (in_order graph) = sym (ap (option_map graph_of) c.in_default-found.is) ∙ c.in-Ok.ensures graph is same in cc);
+}
+
+pub returns-in_default-document_events : goal.returns-in_default-document_events
+returns-in_default-document_events g c = record { has_events = tt; composes = λ graph is same. refl }
+
+pub returns-then-not-are_same-clause-has_events : goal.returns-then-not-are_same-clause-has_events
+returns-then-not-are_same-clause-has_events g c = tt
 
 pub returns-then-not-are_same-clause-composes : goal.returns-then-not-are_same-clause-composes
 returns-then-not-are_same-clause-composes g c graph is same =

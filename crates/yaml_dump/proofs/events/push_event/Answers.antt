@@ -1,6 +1,22 @@
 use Rattle.yaml_dump.proofs.Common.{step_events, seen_step}
 use Rattle.yaml_dump.proofs.EventLemmas.{pushed, nothing_pushed}
+use Rattle.std.proofs.lemmas.Result.{IfOk-from_err}
 use Rattle.yaml_dump.proofs.events.push_event.Goals as goal
+
+pub returns-in_default-clause-held : goal.returns-in_default-clause-held
+returns-in_default-clause-held g c = c.step_event.ensures.held
+
+pub returns-in_err-push-clause-event : goal.returns-in_err-push-clause-event
+returns-in_err-push-clause-event g c = IfOk-from_err c.from_residual.result _ c.from_residual.ensures.0
+
+pub returns-in_err-push-clause-held : goal.returns-in_err-push-clause-held
+returns-in_err-push-clause-held g c = c.step_event.ensures.held
+
+pub returns-in_ok-push-clause-held : goal.returns-in_ok-push-clause-held
+returns-in_ok-push-clause-held g c = c.step_event.ensures.held
+
+pub returns-in_default-found-clause-held : goal.returns-in_default-found-clause-held
+returns-in_default-found-clause-held g c = c.step_event.ensures.held
 
 pub returns-in_ok-push-clause-event : goal.returns-in_ok-push-clause-event
 returns-in_ok-push-clause-event g c graph walk before has_places holds first =

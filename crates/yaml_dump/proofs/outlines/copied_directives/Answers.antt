@@ -1,6 +1,7 @@
 use Rattle.yaml_dump.proofs.Common.{ℕ, ◌+◌, ◌<◌, length, slice_index_or as get_or, take, List, [], map, ◌++◌, ◌∷◌, ◌≡◌, ap, sym, ◌∙◌, map-append}
 use Rattle.yaml_base.specs.{Seen.seen_directive, declared.directives.yaml_tag_directive_t.yaml_tag_directive_t}
-use Rattle.std.proofs.lemmas.List.{take_more}
+use Rattle.std.proofs.{Common.take_all, lemmas.List.take_more}
+use Rattle.std.proofs.lemmas.Result.{IfOk-from_err}
 use Rattle.yaml_dump.proofs.outlines.copied_directives.Goals as goal
 
 -- one more copy
@@ -14,6 +15,16 @@ copied_more directives copies grown index copy directive inside is same so_far g
     ∙ ap (λ one. map seen_directive (take index directives) ++ one ∷ []) (same ∙ ap seen_directive is)
     ∙ sym (map-append seen_directive (take index directives) (get_or directives index directive ∷ []))
     ∙ sym (ap (map seen_directive) (take_more directives index directive inside))
+
+pub loop-directive-init : goal.loop-directive-init
+loop-directive-init g c = ap (map seen_directive) c.new-copies.ensures.items
+
+pub returns-in_err-push : goal.returns-in_err-push
+returns-in_err-push g c = IfOk-from_err c.from_residual.result _ c.from_residual.ensures.0
+
+pub returns : goal.returns
+returns g c =
+    c.loop-directive.invariant ∙ ap (map seen_directive) (take_all c.loop-directive.directive-index c.args.directives.now c.loop-directive-test.false)
 
 pub loop-directive-preserved : goal.loop-directive-preserved
 loop-directive-preserved g c =

@@ -2,7 +2,14 @@ use Rattle.std.proofs.Common.{pos, ◌∷◌, ◌+◌, arith, ◌∙◌, ap, map
 use Rattle.yaml_base.specs.graphs.SeenNodes.{seen_number}
 use Rattle.yaml_dump.specs.Composition.{paired}
 use Rattle.yaml_dump.proofs.ComposerLemmas.{pairs_kept, pairs_more, pair_seen, all_paired}
-use Rattle.yaml_dump.proofs.composer.pairs_of.Goals as goal
+use Rattle.std.proofs.lemmas.Result.{IfOk-from_err}
+use Rattle.yaml_dump.proofs.composer.fill_pairs.Goals as goal
+
+pub returns-in_err-made : goal.returns-in_err-made
+returns-in_err-made g c = IfOk-from_err c.from_residual.result _ c.from_residual.ensures.0
+
+pub returns-in_err-push : goal.returns-in_err-push
+returns-in_err-push g c = IfOk-from_err c.from_residual-in_err-push.result _ c.from_residual-in_err-push.ensures.0
 
 pub loop-place-preserved : goal.loop-place-preserved
 loop-place-preserved g c =
@@ -12,9 +19,9 @@ loop-place-preserved g c =
     let value = get_or numbers (2 * place + 1) (pos 0) in
     let key_fits : FitsSigned w32 key = search (rules, c.well_formed) in
     let value_fits : FitsSigned w32 value = search (rules, c.well_formed) in
-    pairs_kept numbers c.loop-place.pairs.items c.push.new.self.items place _ c.in_ok-push.ensures.items
+    pairs_kept numbers c.loop-place.made.items c.push.new.self.items place _ c.in_ok-push.ensures.items
     (pairs_more numbers place (pos 0) (omega (arith, c.loop-place-test.true))
     ∙ ap (λ pair. pair ∷ paired (map seen_number (drop (2 * (place + 1)) numbers))) (pair_seen key value key_fits value_fits)) c.loop-place.invariant
 
 pub returns : goal.returns
-returns g c = all_paired c.args.numbers.now c.loop-place.pairs.items c.loop-place.place (omega (arith, c.loop-place-test.false)) c.loop-place.invariant
+returns g c = all_paired c.args.numbers.now c.loop-place.made.items c.loop-place.place (omega (arith, c.loop-place-test.false)) c.loop-place.invariant
