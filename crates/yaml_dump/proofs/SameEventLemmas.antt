@@ -1,5 +1,5 @@
 -- What `==` says of events: whether they are seen alike.
-use Rattle.yaml_dump.proofs.Common.{◌≡◌, refl, ap, sym, ◌∙◌, Bool, ◌&&◌, List, [], ◌∷◌, map, Option, None, Some, option_map, Event, seen_event}
+use Rattle.yaml_dump.proofs.Common.{◌≡◌, refl, false≢true, ap, sym, ◌∙◌, Bool, ◌&&◌, List, [], ◌∷◌, map, Option, None, Some, option_map, seen_event}
 use Rattle.std.proofs.lemmas.{Bool.Decides.Decides-at, Bool.Decides.Decides-like, Bool.Decides.Decides-and, Bool.Decides.Decides-int_eq, Slice.Eq.bytes_eq-Decides, Str.encodes-chars}
 use Rattle.std.proofs.lemmas.Str.{IsUtf8-string_bytes}
 use Rattle.std.specs.{Bool.Decides, Cmp.booleans_Decides, Cmp.Lexicographic.pointwise, Option.option_eq, String.string_eq, String.string_bytes, Str.chars}
@@ -39,7 +39,7 @@ same_encodings YAML_ANY_ENCODING YAML_ANY_ENCODING = (λ _. refl, λ _. refl)
 same_encodings YAML_UTF8_ENCODING YAML_UTF8_ENCODING = (λ _. refl, λ _. refl)
 same_encodings YAML_UTF16LE_ENCODING YAML_UTF16LE_ENCODING = (λ _. refl, λ _. refl)
 same_encodings YAML_UTF16BE_ENCODING YAML_UTF16BE_ENCODING = (λ _. refl, λ _. refl)
-same_encodings _ _ = (λ no. cc, λ no. cc)
+same_encodings _ _ = (λ no. absurd (false≢true no), λ no. cc)
 
 same_scalar_styles : (x y : yaml_scalar_style_t) → Decides (scalars.eq-value.it x y) (seen_scalar_style x ≡ seen_scalar_style y)
 same_scalar_styles YAML_ANY_SCALAR_STYLE YAML_ANY_SCALAR_STYLE = (λ _. refl, λ _. refl)
@@ -48,19 +48,19 @@ same_scalar_styles YAML_SINGLE_QUOTED_SCALAR_STYLE YAML_SINGLE_QUOTED_SCALAR_STY
 same_scalar_styles YAML_DOUBLE_QUOTED_SCALAR_STYLE YAML_DOUBLE_QUOTED_SCALAR_STYLE = (λ _. refl, λ _. refl)
 same_scalar_styles YAML_LITERAL_SCALAR_STYLE YAML_LITERAL_SCALAR_STYLE = (λ _. refl, λ _. refl)
 same_scalar_styles YAML_FOLDED_SCALAR_STYLE YAML_FOLDED_SCALAR_STYLE = (λ _. refl, λ _. refl)
-same_scalar_styles _ _ = (λ no. cc, λ no. cc)
+same_scalar_styles _ _ = (λ no. absurd (false≢true no), λ no. cc)
 
 same_sequence_styles : (x y : yaml_sequence_style_t) → Decides (sequences.eq-value.it x y) (seen_sequence_style x ≡ seen_sequence_style y)
 same_sequence_styles YAML_ANY_SEQUENCE_STYLE YAML_ANY_SEQUENCE_STYLE = (λ _. refl, λ _. refl)
 same_sequence_styles YAML_BLOCK_SEQUENCE_STYLE YAML_BLOCK_SEQUENCE_STYLE = (λ _. refl, λ _. refl)
 same_sequence_styles YAML_FLOW_SEQUENCE_STYLE YAML_FLOW_SEQUENCE_STYLE = (λ _. refl, λ _. refl)
-same_sequence_styles _ _ = (λ no. cc, λ no. cc)
+same_sequence_styles _ _ = (λ no. absurd (false≢true no), λ no. cc)
 
 same_mapping_styles : (x y : yaml_mapping_style_t) → Decides (mappings.eq-value.it x y) (seen_mapping_style x ≡ seen_mapping_style y)
 same_mapping_styles YAML_ANY_MAPPING_STYLE YAML_ANY_MAPPING_STYLE = (λ _. refl, λ _. refl)
 same_mapping_styles YAML_BLOCK_MAPPING_STYLE YAML_BLOCK_MAPPING_STYLE = (λ _. refl, λ _. refl)
 same_mapping_styles YAML_FLOW_MAPPING_STYLE YAML_FLOW_MAPPING_STYLE = (λ _. refl, λ _. refl)
-same_mapping_styles _ _ = (λ no. cc, λ no. cc)
+same_mapping_styles _ _ = (λ no. absurd (false≢true no), λ no. cc)
 
 same_texts : {A : Type 0} (x y : String A) → Decides (string_eq x y) (seen_text x ≡ seen_text y)
 same_texts x y =
@@ -72,14 +72,14 @@ same_options : {X Y : Type 0} (E : X → X → Bool) (seen : X → Y) → ((x y 
     → Decides (option_eq E x y) (option_map seen x ≡ option_map seen y)
 same_options E seen same None None = (λ _. refl, λ _. refl)
 same_options E seen same (Some x) (Some y) = Decides-like _ (ap (λ item. Some item)) (λ is. cc) (same x y)
-same_options E seen same _ _ = (λ no. cc, λ no. cc)
+same_options E seen same _ _ = (λ no. absurd (false≢true no), λ no. cc)
 
 same_lists : {X Y : Type 0} (E : X → X → Bool) (seen : X → Y) → ((x y : X) → Decides (E x y) (seen x ≡ seen y)) → (xs ys : List X)
     → Decides (pointwise E xs ys) (map seen xs ≡ map seen ys)
 same_lists E seen same [] [] = (λ _. refl, λ _. refl)
 same_lists E seen same (x ∷ xs) (y ∷ ys) =
     Decides-like _ (λ all i. all.0 i ∷ all.1 i) (λ is. (cc, cc)) (Decides-and (E x y) _ (same x y) (same_lists E seen same xs ys))
-same_lists E seen same _ _ = (λ no. cc, λ no. cc)
+same_lists E seen same _ _ = (λ no. absurd (false≢true no), λ no. cc)
 
 same_versions : (x y : yaml_version_directive_t) → Decides (versions.eq-value.it x y) (seen_version x ≡ seen_version y)
 same_versions x y =
@@ -156,7 +156,7 @@ same_events A allocator own drops (YAML_MAPPING_START_EVENT anchor tag implicit 
     (Decides-and _ _ (same_names anchor name)
     (Decides-and _ _ (same_names tag kind) (Decides-and _ _ (booleans_Decides implicit also) (same_mapping_styles style shape))))
 same_events A allocator own drops YAML_MAPPING_END_EVENT YAML_MAPPING_END_EVENT = (λ _. refl, λ _. refl)
-same_events A allocator own drops _ _ = (λ no. cc, λ no. cc)
+same_events A allocator own drops _ _ = (λ no. absurd (false≢true no), λ no. cc)
 
 -- so of what a comparison of two lists answers
 pub events_told : (A : RattleType) (allocator : Ghosts A.Denot) (own drops : Dict) (first second : List (yaml_event_t A.Denot)) (result : Bool)

@@ -1,4 +1,4 @@
-use Rattle.yaml_dump.proofs.Common.{sym, ap, map, ◌∙◌, ◌≡◌, true, false, graph_of, refl, Option, None, Some, option_map}
+use Rattle.yaml_dump.proofs.Common.{sym, ap, map, ◌∙◌, ◌≡◌, true, false, graph_of, refl, None, Some, option_map}
 use Rattle.yaml_dump.specs.InOrder.{in_order}
 use Rattle.yaml_base.specs.Seen.{seen_event}
 use Rattle.yaml_dump.proofs.ComposingLemmas.{events_found, graph_found}

@@ -3,6 +3,12 @@ use Rattle.yaml_dump.proofs.EventLemmas.{pushed, nothing_pushed}
 use Rattle.std.proofs.lemmas.Result.{IfOk-from_err}
 use Rattle.yaml_dump.proofs.events.push_event.Goals as goal
 
+pub step_event-requires : goal.step_event-requires
+step_event-requires g c = record { counted = c.requires.counted; placed = c.requires.placed }
+
+pub returns-in_default-clause-event : goal.returns-in_default-clause-event
+returns-in_default-clause-event g c = tt
+
 pub returns-in_default-clause-held : goal.returns-in_default-clause-held
 returns-in_default-clause-held g c = c.step_event.ensures.held
 
