@@ -3,7 +3,17 @@ use Rattle.yaml_base.specs.declared.errors.yaml_error_t.TheVariants.{Memory}
 use Rattle.yaml_dump.specs.GraphTrees.{GraphsReadBack}
 use Rattle.yaml_caller.specs.Alone.{DumpedAlone}
 use Rattle.yaml_caller.proofs.{CycleFits.cycle_failed, Dumped.all_portable, Dumped.cycle_row, OnlyMemory.passed_on}
+use Rattle.std.proofs.lemmas.Result.{IfOk-from_err}
 use Rattle.yaml_caller.proofs.cycles.cycle_written.Goals as goal
+
+pub returns-in_err-dump_alone-clause-bytes : goal.returns-in_err-dump_alone-clause-bytes
+returns-in_err-dump_alone-clause-bytes g c = IfOk-from_err c.from_residual.result _ c.from_residual.ensures.0
+
+pub returns-in_err-dump_alone-clause-graph : goal.returns-in_err-dump_alone-clause-graph
+returns-in_err-dump_alone-clause-graph g c = IfOk-from_err c.from_residual.result _ c.from_residual.ensures.0
+
+pub returns-in_err-dump_alone-clause-trees : goal.returns-in_err-dump_alone-clause-trees
+returns-in_err-dump_alone-clause-trees g c = IfOk-from_err c.from_residual.result _ c.from_residual.ensures.0
 
 pub dump_alone-requires-clause-nonempty : goal.dump_alone-requires-clause-nonempty
 dump_alone-requires-clause-nonempty g c = ap (λ (graph : Graph). length graph.nodes == 0) c.in-Ok-cycle.ensures.graph

@@ -2,7 +2,14 @@ use Rattle.yaml_caller.proofs.Common.{bytes_eq, ◌⊎◌, ◌≡◌, rules, gra
 use Rattle.yaml_base.specs.declared.errors.yaml_error_t.TheVariants.{Memory, TagEmpty, TooDeep}
 use Rattle.yaml_caller.proofs.GraphsCompared.{graphs_decide, is_document, named_so, first_refused, second_refused}
 use Rattle.yaml_caller.proofs.OnlyMemory.{passed_on}
+use Rattle.std.proofs.lemmas.Result.{IfOk-from_err}
 use Rattle.yaml_caller.proofs.graphs.same_nodes.Goals as goal
+
+pub returns-in_err-one-clause-same : goal.returns-in_err-one-clause-same
+returns-in_err-one-clause-same g c = IfOk-from_err c.from_residual.result _ c.from_residual.ensures.0
+
+pub returns-in_err-other-clause-same : goal.returns-in_err-other-clause-same
+returns-in_err-other-clause-same g c = IfOk-from_err c.from_residual-in_err-other.result _ c.from_residual-in_err-other.ensures.0
 
 pub returns-clause-same : goal.returns-clause-same
 returns-clause-same g c =

@@ -2,7 +2,14 @@ use Rattle.std.proofs.Common.{sym, ◌∙◌, subst}
 use Rattle.yaml_base.specs.values.TypedValues.{WritesValue}
 use Rattle.yaml_value.specs.SeenValues.{seen_value}
 use Rattle.yaml_caller.proofs.ReadBack.{read_same, refused_for_memory, written_readable}
+use Rattle.std.proofs.lemmas.Result.{IfOk-from_err}
 use Rattle.yaml_caller.proofs.values.written_and_read.Goals as goal
+
+pub returns-in_err-bytes-clause-same : goal.returns-in_err-bytes-clause-same
+returns-in_err-bytes-clause-same g c = IfOk-from_err c.from_residual.result _ c.from_residual.ensures.0
+
+pub returns-in_err-bytes-clause-read : goal.returns-in_err-bytes-clause-read
+returns-in_err-bytes-clause-read g c = IfOk-from_err c.from_residual.result _ c.from_residual.ensures.0
 
 pub returns-clause-same : goal.returns-clause-same
 returns-clause-same g c =
