@@ -32,13 +32,23 @@ loop-step-preserved g c =
           (c.place_met-shared.ensures.placed (map seen_step (take now.step-index c.args.walk.now)) before));
     }
 
+pub returns-in_default : goal.returns-in_default
+returns-in_default g c = record { each = tt; placed = tt; anchors = tt }
+
+pub returns-clause-each : goal.returns-clause-each
+returns-clause-each g c = c.loop-step.invariant.each
+
+pub returns-clause-placed : goal.returns-clause-placed
+returns-clause-placed g c =
+    let now = c.loop-step in
+    let whole = ap (map seen_step) (take_all now.step-index c.args.walk.now c.loop-step-test.false) in
+    (subst (λ steps. Places steps now.shared now.places.items) whole now.invariant.placed).given
+
 pub returns-clause-anchors : goal.returns-clause-anchors
 returns-clause-anchors g c number first last =
     let now = c.loop-step in
     let walk = map seen_step c.args.walk.now in
-    let whole = ap (map seen_step) (take_all now.step-index c.args.walk.now c.loop-step-test.false) in
-    let placed = (subst (λ steps. Places steps now.shared now.places.items) whole now.invariant.placed).given in
-    ap anchor_of_place (placed.placed number first (omega (arith, last, now.invariant.each))) ∙ sym (anchor_placed walk number)
+    ap anchor_of_place ((returns-clause-placed g c).placed number first (omega (arith, last, now.invariant.each))) ∙ sym (anchor_placed walk number)
 
 pub loop-step-init : goal.loop-step-init
 loop-step-init g c =
