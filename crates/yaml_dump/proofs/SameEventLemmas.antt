@@ -1,6 +1,7 @@
 -- What `==` says of events: whether they are seen alike.
 use Rattle.yaml_dump.proofs.Common.{◌≡◌, refl, false≢true, ap, sym, ◌∙◌, Bool, ◌&&◌, List, [], ◌∷◌, map, Option, None, Some, option_map, seen_event}
-use Rattle.std.proofs.lemmas.{Bool.Decides.Decides-at, Bool.Decides.Decides-like, Bool.Decides.Decides-and, Bool.Decides.Decides-int_eq, Slice.Eq.bytes_eq-Decides, Str.encodes-chars}
+use Rattle.std.proofs.lemmas.{Bool.Decides.Decides-at, Bool.Decides.Decides-like, Bool.Decides.Decides-and}
+use Rattle.std.proofs.lemmas.{Bool.Decides.Decides-int_eq, Slice.Eq.bytes_eq-Decides, Str.encodes-chars}
 use Rattle.std.proofs.lemmas.Str.{IsUtf8-string_bytes}
 use Rattle.std.specs.{Bool.Decides, Cmp.booleans_Decides, Cmp.Lexicographic.pointwise, Option.option_eq, String.string_eq, String.string_bytes, Str.chars}
 use Rattle.std.specs.Str.{encode_utf8_all}
