@@ -18,10 +18,6 @@ onto_text (first ∷ bytes) text texts = ap (onto_first first) (onto_text bytes 
 pub scan_begins : Scanned [] (record { mode = Before; levels = 0 })
 scan_begins = record { texts = λ more. refl; few = omega arith; fresh = λ none. refl }
 
--- how many are levels after a byte
-begun_few : (byte : ℕ) → (scan_first_byte byte).levels ≤ 1
-begun_few byte = grind arith
-
 step_few : (mode : Mode) (levels byte : ℕ) (next : Scan) → after_byte (record { mode = mode; levels = levels }) byte ≡ Some next → next.levels ≤ suc levels
 step_few Before levels byte next is = grind arith
 step_few Within levels byte next is = grind arith
@@ -89,9 +85,6 @@ string_stays scan byte is no_quote no_backslash =
     ∙ ap (λ (mode : Mode). Some (record { mode = mode; levels = scan.levels })) (sym is)
 
 -- ---- by index
-
-pub cut_begins : (text : List ℕ) → HasScanned text (record { scan = record { mode = Before; levels = 0 }; scanned = 0 })
-cut_begins text = record { within = omega arith; scanned = scan_begins }
 
 -- more may follow
 pub still_scanned : (text more : List ℕ) (cut : Cut) → HasScanned text cut → HasScanned (text ++ more) cut

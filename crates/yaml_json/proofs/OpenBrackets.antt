@@ -4,7 +4,7 @@ use Rattle.std.proofs.Common.{arith}
 use Rattle.std.proofs.lemmas.Bool.Decides.{nat_tests}
 use Rattle.std.proofs.lemmas.List.{at_drop_more, drop_all}
 use Rattle.yaml_base.specs.declared.kinds.CollectionKind.{CollectionKind}
-use Rattle.yaml_json.specs.Expected.{IsDepth, IsFront, StandingInJson, innermost, kind_at, standing_after, standing_over, start}
+use Rattle.yaml_json.specs.Expected.{IsDepth, IsFront, StandingInJson, kind_at, standing_after, standing_over, start}
 use Rattle.yaml_json.specs.declared.expecting.Depth.{Depth}
 use Rattle.yaml_json.specs.declared.expecting.Front.{Front}
 
@@ -14,13 +14,6 @@ none_above deep [] less = refl
 none_above deep (kind ∷ outer) less =
     let no : (suc (length outer) == deep) ≡ false = grind (arith, nat_tests) in
     rw no (none_above deep outer (omega (arith, less)))
-
--- the innermost is open with all
-pub innermost_is : (kinds : List CollectionKind) → kind_at (length kinds) kinds ≡ innermost kinds
-innermost_is [] = refl
-innermost_is (kind ∷ outer) =
-    let yes : (suc (length outer) == suc (length outer)) ≡ true = grind (arith, nat_tests) in
-    rw yes refl
 
 -- the one that makes as many is closed
 pub closed_there : (deep : ℕ) (kinds : List CollectionKind) (depth after : Depth) → IsDepth deep kinds depth → depth.count ≡ deep

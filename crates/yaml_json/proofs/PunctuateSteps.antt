@@ -59,10 +59,6 @@ unfolding lex
 lex-word [] e = absurd (space_apart e)
 lex-word (x ∷ xs) e = ap (λ c. lex_byte between c x xs (λ next. lex next xs)) e
 
-pub lex-nothing : lex between [] ≡ []
-unfolding lex
-lex-nothing = refl
-
 -- ---- a token where it may stand
 
 pub put-begin_object : (p : Place) (ls : List Lexeme) → may_begin p ≡ true → punctuate p (token begin_object ∷ ls) ≡ begin_object ∷ punctuate fresh ls
@@ -287,9 +283,6 @@ no_colon (x ∷ xs) trimmed apart = go (is_operator x) (is_space x) refl refl
 class_other : (q b : Bool) → q ≡ false → b ≡ false → (o s : Bool) → o ≡ false → s ≡ false
     → cond q quote (cond b backslash (cond o operator (cond s space other))) ≡ other
 class_other q b e f o s g h = λ i. cond (e i) quote (cond (f i) backslash (cond (g i) operator (cond (h i) space other)))
-
-not_operator : (x : ℕ) → (x ≡ 123 → ⊥) → (x ≡ 125 → ⊥) → (x ≡ 91 → ⊥) → (x ≡ 93 → ⊥) → (x ≡ 58 → ⊥) → (x ≡ 44 → ⊥) → is_operator x ≡ false
-not_operator x a b c d e f = λ i. ne_eqb x 123 a i || ne_eqb x 125 b i || ne_eqb x 91 c i || ne_eqb x 93 d i || ne_eqb x 58 e i || ne_eqb x 44 f i
 
 -- a byte that is nothing else begins a word
 pub begins_word : (t : List ℕ) → IsTrimmed t → (t ≡ [] → ⊥) → (head t ≡ 34 → ⊥) → (head t ≡ 92 → ⊥) → is_operator (head t) ≡ false → class (head t) ≡ other

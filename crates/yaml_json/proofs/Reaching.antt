@@ -7,7 +7,7 @@ use Rattle.json.specs.Reads.{token_of}
 use Rattle.json.specs.Token.{Token}
 use Rattle.yaml_json.specs.Ahead.{IsTidy, IsTrimmed, Passes, PassesOrEnds, ReadsFirst, ahead, place_of}
 use Rattle.yaml_json.specs.Lexing.{Leads}
-use Rattle.yaml_json.specs.Reached.{AreFrom, HasReadTokens, HaveTokens, IsReader, LastRead, Passed, Reader, last_bytes}
+use Rattle.yaml_json.specs.Reached.{HasReadTokens, HaveTokens, IsReader, LastRead, Passed, Reader, last_bytes}
 use Rattle.yaml_json.specs.declared.tokens.Stage.{Stage}
 use Rattle.yaml_json.specs.declared.tokens.Stage.TheVariants.{Open, Behind, Owed, Over}
 use Rattle.yaml_json.specs.declared.tokens.Step.{Step}
@@ -160,13 +160,4 @@ module _ (text : List ℕ) (stage : Stage) (rest : List ℕ) (was : Stage) (left
     stands = reads_on text reader.taken stage rest step some reader.stands reads leads;
     once = reader.taken;
     stood = stood_there;
-  }
-
-  pub last_from : AreFrom text (ahead was (last_bytes text left)) (length text - left)
-  last_from = record {
-    within = omega arith;
-    taken = reader.once;
-    stage = was;
-    stood = reader.stood;
-    are = refl;
   }

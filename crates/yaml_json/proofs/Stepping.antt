@@ -173,20 +173,6 @@ closes_array text rest step e left ends = record {
 
 -- ---- from a stage
 
-pub from_begin : (stage : Stage) (text : List ℕ) (step : Step) → begins_here stage ≡ true → StepsFrom may_begin (lex between text) step
-    → ahead stage text ≡ token_of step.token ∷ ahead step.stage step.rest.now
-from_begin Open text step e steps = steps.first fresh refl
-from_begin Behind text step e steps = absurd (true≢false (sym e))
-from_begin Owed text step e steps = steps.first after_comma refl
-from_begin Over text step e steps = absurd (true≢false (sym e))
-
-pub from_close : (stage : Stage) (text : List ℕ) (step : Step) → closes_here stage ≡ true → StepsFrom may_close (lex between text) step
-    → ahead stage text ≡ token_of step.token ∷ ahead step.stage step.rest.now
-from_close Open text step e steps = steps.first fresh refl
-from_close Behind text step e steps = steps.first after_value refl
-from_close Owed text step e steps = absurd (true≢false (sym e))
-from_close Over text step e steps = absurd (true≢false (sym e))
-
 pub at_end_closed : (stage : Stage) → closes_here stage ≡ true → ahead stage [] ≡ []
 unfolding lex punctuate
 at_end_closed Open e = refl

@@ -6,9 +6,9 @@ use Rattle.yaml_json.specs.{Walk.ReadsNone, declared.values.Stop.Stop}
 use Rattle.yaml_json.proofs.Common.{Token, refl, ap, State}
 use Rattle.yaml_pen.{proofs.Composing.grows_itself, proofs.Composing.grows_then, proofs.Writing.none_from_result, specs.Wrote.Grows}
 use Rattle.yaml_json.specs.declared.values.Stop.TheVariants as stops
-use Rattle.yaml_json.proofs.Common.{FailedWith, FailedGiving, WriterState, end_event, with_collection, StandsTaken, AddsEvents, GaveEvent, EndsInnermost}
+use Rattle.yaml_json.proofs.Common.{FailedWith, FailedGiving, WriterState, end_event, with_collection, StandsTaken, GaveEvent, EndsInnermost}
 use Rattle.yaml_base.specs.declared.errors.{yaml_error_t.yaml_error_t, yaml_error_t.TheVariants.Memory, yaml_error_t.TheVariants.ExpectedDocumentEnd}
-use Rattle.yaml_json.proofs.WroteLemmas.{adds_then, none_more, on_err, same_last}
+use Rattle.yaml_json.proofs.WroteLemmas.{none_more, on_err, same_last}
 use Rattle.yaml_base.specs.declared.kinds.CollectionKind.{CollectionKind}
 use Rattle.yaml_writer.specs.Writing.{Failed}
 
@@ -81,17 +81,6 @@ answered_end before after (Err error) (Err stop) is (inr end) = (
 )
 
 -- ---- events
-
--- the events are these
-pub failed_same : (was now : WriterState) (events same : List Event) (error : yaml_error_t) → events ≡ same → FailedWith was events error now
-    → FailedWith was same error now
-failed_same was now events same error is = subst (λ (e : List Event). FailedWith was e error now) is
-
--- events were given before
-pub failed_then : (before between after : WriterState) (first second : List Event) (error : yaml_error_t) → AddsEvents before.emitter first between.emitter
-    → FailedWith between second error after → FailedWith before (first ++ second) error after
-failed_then before between after first second error one other =
-    record { adds = adds_then before.emitter between.emitter after.emitter first second one other.adds; is_error = other.is_error }
 
 -- a call that was to give one event
 pub event_failed : (before after : WriterState) (event same : Event) (error : yaml_error_t) → event ≡ same → Failed before event error after

@@ -2,15 +2,15 @@
 use Rattle.std.proofs.Common.{◌≡◌, ℕ, suc, ◌+◌, Bool, true, false, cond, ◌||◌, ◌==◌, List, [], ◌∷◌, drop, length, Option, Some, None}
 use Rattle.std.proofs.Common.{option_and_then, refl, sym}
 use Rattle.std.proofs.Common.{ap, ◌∙◌, ◌&&◌, ◌-◌, subst, arith, nat_eq, take, length-drop}
-use Rattle.std.proofs.lemmas.Bool.{true≢false, eqb-true, or_parts, and_parts}
+use Rattle.std.proofs.lemmas.Bool.{true≢false, eqb-true, ne_eqb, or_parts, and_parts}
 use Rattle.std.proofs.lemmas.Bool.Decides.{nat_tests}
 use Rattle.std.specs.Char.{is_ascii_digit}
 use Rattle.json.specs.Ascii as ascii
 use Rattle.std.specs.List.{prefix_len, starts_with}
 use Rattle.json.specs.Lex.{backslash, between, class, in_word, lex, operator, other, quote, space}
 use Rattle.json.specs.Word.{after_digits, after_exponent, after_fraction, after_minus, after_number, after_sign, after_whole, ends_word, head}
-use Rattle.json.specs.Token.{Token, bad, number}
-use Rattle.json.specs.Word.{is_operator, is_space, literal, number_before}
+use Rattle.json.specs.Token.{Token, bad, boolean, null, number}
+use Rattle.json.specs.Word.{is_operator, is_space, literal, number_before, word}
 use Rattle.yaml_json.specs.Lexemes.{IsInWord, LeavesAt}
 use Rattle.yaml_json.proofs.LexSteps.{lex-delimiter, lex-in_word, lex-none, value_is}
 
@@ -137,3 +137,11 @@ number_read t run left end leaves ends same is =
       (λ e. let apart : number run ≡ bad = sym found ∙ e in cc),
       ap (lex between) is ∙ ends_here (drop end t) ends ∙ number_over t (drop end t) (sym leaves.0),
     )
+
+-- what names no value is a number, or none
+pub number_word : (t : List ℕ) → (head t ≡ 116 → ⊥) → (head t ≡ 102 → ⊥) → (head t ≡ 110 → ⊥) → word t ≡ number_before t (after_number t)
+unfolding word
+number_word t no_true no_false no_null = λ i.
+    cond (ne_eqb (head t) 116 no_true i) (literal ascii.true_text (boolean true) t)
+    (cond (ne_eqb (head t) 102 no_false i) (literal ascii.false_text (boolean false) t)
+    (cond (ne_eqb (head t) 110 no_null i) (literal ascii.null_text null t) (number_before t (after_number t))))

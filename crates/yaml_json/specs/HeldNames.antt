@@ -30,3 +30,9 @@ AddsName names levels name new held =
     HoldsNames ((name ∷ names) ∷ levels) held
     × (new ≡ true → held.are_kept ≡ true → IsNewName names name)
     × (new ≡ false → (held.are_kept ≡ true) × (IsNewName names name → ⊥))
+
+-- a name was added to the innermost object; it is new, or it isn't
+pub record NameAdded {A : Type 0} (old : Names A) (name : List ℕ) (new : Bool) (now : Names A) : Type 0 where
+  pub kept : now.are_kept ≡ old.are_kept
+  pub adds : (names : List (List ℕ)) (levels : List (List (List ℕ))) → HoldsNames (names ∷ levels) old → AddsName names levels name new now
+  pub as_long : length now.levels.items ≡ length old.levels.items

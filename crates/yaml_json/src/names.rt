@@ -1,7 +1,7 @@
 //! The names in the objects that are open.
 ghost use Rattle.std.specs.Prelude.{◌≡◌, ◌∷◌, ◌+◌, ◌-◌, [], List, ℕ, IfOk, OnOk, bytes_eq, length, true};
 ghost use Rattle.std.specs.List.{list_any};
-ghost use Rattle.yaml_json.specs.HeldNames.{AddsName, HoldsNames};
+ghost use Rattle.yaml_json.specs.HeldNames.{HoldsNames, NameAdded};
 ghost use Rattle.yaml_json.specs.Names.{outer_names};
 
 use std::alloc::{AllocError, Allocator};
@@ -80,10 +80,7 @@ impl<'a, A: Allocator + Copy> Names<'a, A> {
 
     /// Adds a name to the innermost object. Returns whether it is new.
     pub(crate) fn add(&mut self, name: &'a str) -> Result<bool, AllocError>
-        ensures kept { OnOk result (self.new.are_kept ≡ self.old.are_kept) }
-        ensures adds { IfOk result (λ new. (names : List (List ℕ)) → (levels : List (List (List ℕ))) → HoldsNames (names ∷ levels) self.old
-            → AddsName names levels name.now new self.new) }
-        ensures as_long { OnOk result (length self.new.levels.items ≡ length self.old.levels.items) }
+        ensures { IfOk result (λ new. NameAdded self.old name.now new self.new) }
     {
         if !self.are_kept {
             return Ok(true);

@@ -1,6 +1,8 @@
-use Rattle.std.proofs.Common.{◌≡◌, arith, rules, ap, sym, ◌∙◌}
-use Rattle.std.proofs.lemmas.Grind.{common_steps}
+use Rattle.std.proofs.Common.{◌≡◌, ap, arith, subst, sym, ◌∙◌}
+use Rattle.json.specs.Token.{Token}
 use Rattle.json.specs.Word.{head, word}
+use Rattle.yaml_json.specs.Lexemes.{ReadsWord}
+use Rattle.yaml_json.proofs.WordSteps.{number_word}
 use Rattle.yaml_json.proofs.words.word.Goals as goal
 
 pub returns-in-116-clause-reads : goal.returns-in-116-clause-reads
@@ -22,5 +24,9 @@ returns-in-110-clause-reads c =
     rw first c.literal-in-110.ensures.reads
 
 pub returns-in_default-clause-reads : goal.returns-in_default-clause-reads
-unfolding word
-returns-in_default-clause-reads c = first_of (search rules, grind (arith, common_steps))
+returns-in_default-clause-reads c =
+    let text = c.args.text.now in
+    let first : head text ≡ c.byte_at.result = ap head (sym c.as_bytes.ensures.value) ∙ sym c.byte_at.ensures in
+    subst (λ (token : Token). ReadsWord text token c.number.result)
+    (sym (number_word text (λ e. absurd (omega (arith, first, e))) (λ e. absurd (omega (arith, first, e))) (λ e. absurd (omega (arith, first, e)))))
+    c.number.ensures.reads
