@@ -1,5 +1,5 @@
 -- The tokens that are still to come.
-use Rattle.std.specs.Prelude.{◌≡◌, ◌≢◌, ◌⊎◌, ℕ, Bool, true, false, List, [], ◌∷◌, ◌++◌, Option, MatchOption}
+use Rattle.std.specs.Prelude.{◌≡◌, ◌≢◌, ◌⊎◌, ℕ, Bool, true, false, List, [], ◌∷◌, ◌++◌, Option, IfSome, MatchOption}
 use Rattle.json.specs.Ascii as ascii
 use Rattle.json.specs.Lex.{Lexeme, Place, after_comma, after_value, begins_colon, between, fresh, lex, punctuate, token}
 use Rattle.json.specs.Reads.{token_of}
@@ -101,3 +101,12 @@ pub record ReadsFirst (stage : Stage) (text : List ℕ) (step : Step) : Type 0 w
 -- where there is no step, no token is left
 abbrev pub Reads : Stage → (text : List ℕ) → Option Step → Type 0
 Reads stage text found = MatchOption found (ahead stage text ≡ []) (ReadsFirst stage text)
+
+-- the step is from this text on
+pub record StepsOver (may_stand : Place → Bool) (text : List ℕ) (step : Step) : Type 0 where
+  pub steps : StepsFrom may_stand (lex between text) step
+  pub over : Leads text step.rest.now
+
+pub record ReadsOn (stage : Stage) (text : List ℕ) (found : Option Step) : Type 0 where
+  pub reads : Reads stage text found
+  pub over : IfSome found (λ step. Leads text step.rest.now)

@@ -6,7 +6,7 @@ ghost use Rattle.json.specs.Reads.{token_of};
 ghost use Rattle.json.specs.Token as spec;
 ghost use Rattle.json.specs.Word.{head};
 ghost use Rattle.yaml_json.specs.Lexing.{Leads};
-ghost use Rattle.yaml_json.specs.Ahead.{Ends, IsTidy, IsTrimmed, Opens, Reads, StepsFrom, begins_here, closes_here};
+ghost use Rattle.yaml_json.specs.Ahead.{Ends, IsTidy, IsTrimmed, Opens, ReadsOn, StepsFrom, StepsOver, begins_here, closes_here};
 ghost use Rattle.yaml_json.specs.Reached.{AreFrom};
 
 use crate::escapes::unescape;
@@ -150,8 +150,7 @@ fn escaped<'a, A: Allocator + Copy>(
 ) -> Result<Step<'a>, AllocError>
     requires quote { head text.now ≡ 34 }
     requires trimmed { IsTrimmed text.now }
-    ensures steps { IfOk result (StepsFrom may_begin (lex between text.now)) }
-    ensures over { IfOk result (λ step. Leads text.now step.rest.now) }
+    ensures { IfOk result (StepsOver may_begin text.now) }
 {
     match unescape(alloc, text, 1) {
         Err(_) => Err(AllocError),
@@ -172,8 +171,7 @@ fn string<'a, A: Allocator + Copy>(
 ) -> Result<Step<'a>, AllocError>
     requires quote { head text.now ≡ 34 }
     requires trimmed { IsTrimmed text.now }
-    ensures steps { IfOk result (StepsFrom may_begin (lex between text.now)) }
-    ensures over { IfOk result (λ step. Leads text.now step.rest.now) }
+    ensures { IfOk result (StepsOver may_begin text.now) }
 {
     let bytes = text.as_bytes();
     let end = plain_end(bytes, 1);
@@ -189,8 +187,7 @@ fn string<'a, A: Allocator + Copy>(
 fn word_step<'a>(text: &'a str) -> Step<'a>
     requires other { class (head text.now) ≡ other }
     requires trimmed { IsTrimmed text.now }
-    ensures steps { StepsFrom may_begin (lex between text.now) result }
-    ensures over { Leads text.now result.rest.now }
+    ensures { StepsOver may_begin text.now result }
 {
     match word(text) {
         None => bad(text),
@@ -202,8 +199,7 @@ fn word_step<'a>(text: &'a str) -> Step<'a>
 #[inline(always)]
 fn closing<'a>(text: &'a str, byte: u8) -> Step<'a>
     requires { (head text.now ≡ byte) × ((byte ≡ 125) ⊎ (byte ≡ 93)) }
-    ensures steps { StepsFrom may_close (lex between text.now) result }
-    ensures over { Leads text.now result.rest.now }
+    ensures { StepsOver may_close text.now result }
 {
     let rest = skip_blanks(&text[1..]);
     if byte == b'}' {
@@ -223,8 +219,7 @@ fn beginning<'a, A: Allocator + Copy>(
     requires some { text.now ≢ [] }
     requires trimmed { IsTrimmed text.now }
     requires opens { (head text.now ≢ 125) × (head text.now ≢ 93) }
-    ensures steps { IfOk result (StepsFrom may_begin (lex between text.now)) }
-    ensures over { IfOk result (λ step. Leads text.now step.rest.now) }
+    ensures { IfOk result (StepsOver may_begin text.now) }
 {
     match byte_at(text.as_bytes(), 0) {
         b'"' => string(alloc, arena, text),
@@ -239,8 +234,7 @@ fn beginning<'a, A: Allocator + Copy>(
 fn at_end<'a>(text: &'a str, stage: Stage) -> Option<Step<'a>>
     requires over { stage ≢ Stage.Over }
     requires none { text.now ≡ [] }
-    ensures reads { Reads stage text.now result }
-    ensures over { IfSome result (λ step. Leads text.now step.rest.now) }
+    ensures { ReadsOn stage text.now result }
 {
     if stage.may_close() {
         None
@@ -259,8 +253,7 @@ fn read<'a, A: Allocator + Copy>(
 ) -> Result<Option<Step<'a>>, AllocError>
     requires over { stage ≢ Stage.Over }
     requires tidy { IsTidy stage text.now }
-    ensures reads { IfOk result (Reads stage text.now) }
-    ensures over { IfOk result (λ found. IfSome found (λ step. Leads text.now step.rest.now)) }
+    ensures { IfOk result (ReadsOn stage text.now) }
 {
     if text.is_empty() {
         return Ok(at_end(text, stage));

@@ -9,28 +9,6 @@ use Rattle.yaml_json.proofs.ModeSteps.{leads_on, operator_leads}
 use Rattle.std.proofs.Common.{refl}
 use Rattle.yaml_json.proofs.tokens.beginning.Goals as goal
 
-pub returns-in-123-clause-steps : goal.returns-in-123-clause-steps
-returns-in-123-clause-steps g c =
-    opens_object c.args.text.now c.opening.result (ap head (sym c.as_bytes.ensures.value) ∙ sym c.byte_at.ensures ∙ c.in-123.is) c.opening.ensures
-
-pub returns-in-91-clause-steps : goal.returns-in-91-clause-steps
-returns-in-91-clause-steps g c =
-    opens_array c.args.text.now c.opening-in-91.result (ap head (sym c.as_bytes.ensures.value) ∙ sym c.byte_at.ensures ∙ c.in-91.is) c.opening-in-91.ensures
-
-pub returns-in-44-clause-steps : goal.returns-in-44-clause-steps
-returns-in-44-clause-steps g c =
-    let d = c.args.text.now in
-    let seen = ap head (sym c.as_bytes.ensures.value) ∙ sym c.byte_at.ensures in
-    let stray = λ (none : (p : Place) → may_begin p ≡ true → punctuate p (lex between d) ≡ bad ∷ []).
-    refused may_begin (lex between d) c.bad.result none c.bad.ensures.token c.bad.ensures.over c.bad.ensures.tidy in
-    elim c.in-44.is [
-      | inl comma ↦ stray (λ p e. ap (punctuate p) (lex-comma d (seen ∙ comma)) ∙ stray-comma p (lex between (drop 1 d)) e)
-      | inr more ↦ elim more [
-        | inl colon ↦ stray (λ p e. ap (punctuate p) (lex-colon d (seen ∙ colon)) ∙ stray-colon p (lex between (drop 1 d)) e)
-        | inr slash ↦ stray (λ p e. ap (punctuate p) (lex-stray d (seen ∙ slash)) ∙ put-bad p (lex in_word (drop 1 d)))
-      ]
-    ]
-
 pub string-requires-clause-quote : goal.string-requires-clause-quote
 string-requires-clause-quote g c = ap head (sym c.as_bytes.ensures.value) ∙ sym c.byte_at.ensures ∙ c.in-34.is
 
@@ -44,31 +22,39 @@ opening-requires-in-91 g c =
     let at = found_at c.args.text.now 0 91 (ap head (sym c.as_bytes.ensures.value) ∙ sym c.byte_at.ensures ∙ c.in-91.is) (λ e. absurd (omega arith)) in
     (at.0, omega (arith, at.1))
 
-pub returns-in_default-clause-steps : goal.returns-in_default-clause-steps
-returns-in_default-clause-steps g c = c.word_step.ensures.steps
+pub returns-in-123 : goal.returns-in-123
+returns-in-123 g c = record {
+  steps = opens_object c.args.text.now c.opening.result (ap head (sym c.as_bytes.ensures.value) ∙ sym c.byte_at.ensures ∙ c.in-123.is) c.opening.ensures;
+  over =
+      let d = c.args.text.now in
+      leads_on d (drop 1 d) c.opening.result.rest.now
+      (operator_leads d 123 (ap head (sym c.as_bytes.ensures.value) ∙ sym c.byte_at.ensures ∙ c.in-123.is) refl (λ e. absurd (omega arith)))
+      c.opening.ensures.over;
+}
 
-pub returns-in-34-clause-steps : goal.returns-in-34-clause-steps
-returns-in-34-clause-steps g c = c.string.ensures.steps
+pub returns-in-91 : goal.returns-in-91
+returns-in-91 g c = record {
+  steps = opens_array c.args.text.now c.opening-in-91.result (ap head (sym c.as_bytes.ensures.value) ∙ sym c.byte_at.ensures ∙ c.in-91.is) c.opening-in-91.ensures;
+  over =
+      let d = c.args.text.now in
+      leads_on d (drop 1 d) c.opening-in-91.result.rest.now
+      (operator_leads d 91 (ap head (sym c.as_bytes.ensures.value) ∙ sym c.byte_at.ensures ∙ c.in-91.is) refl (λ e. absurd (omega arith)))
+      c.opening-in-91.ensures.over;
+}
 
-pub returns-in-123-clause-over : goal.returns-in-123-clause-over
-returns-in-123-clause-over g c =
-    let d = c.args.text.now in
-    leads_on d (drop 1 d) c.opening.result.rest.now
-    (operator_leads d 123 (ap head (sym c.as_bytes.ensures.value) ∙ sym c.byte_at.ensures ∙ c.in-123.is) refl (λ e. absurd (omega arith)))
-    c.opening.ensures.over
-
-pub returns-in-91-clause-over : goal.returns-in-91-clause-over
-returns-in-91-clause-over g c =
-    let d = c.args.text.now in
-    leads_on d (drop 1 d) c.opening-in-91.result.rest.now
-    (operator_leads d 91 (ap head (sym c.as_bytes.ensures.value) ∙ sym c.byte_at.ensures ∙ c.in-91.is) refl (λ e. absurd (omega arith)))
-    c.opening-in-91.ensures.over
-
-pub returns-in_default-clause-over : goal.returns-in_default-clause-over
-returns-in_default-clause-over g c = c.word_step.ensures.over
-
-pub returns-in-34-clause-over : goal.returns-in-34-clause-over
-returns-in-34-clause-over g c = c.string.ensures.over
-
-pub returns-in-44-clause-over : goal.returns-in-44-clause-over
-returns-in-44-clause-over g c = c.bad.ensures.stays
+pub returns-in-44 : goal.returns-in-44
+returns-in-44 g c = record {
+  steps =
+      let d = c.args.text.now in
+      let seen = ap head (sym c.as_bytes.ensures.value) ∙ sym c.byte_at.ensures in
+      let stray = λ (none : (p : Place) → may_begin p ≡ true → punctuate p (lex between d) ≡ bad ∷ []).
+      refused may_begin (lex between d) c.bad.result none c.bad.ensures.token c.bad.ensures.over c.bad.ensures.tidy in
+      elim c.in-44.is [
+        | inl comma ↦ stray (λ p e. ap (punctuate p) (lex-comma d (seen ∙ comma)) ∙ stray-comma p (lex between (drop 1 d)) e)
+        | inr more ↦ elim more [
+          | inl colon ↦ stray (λ p e. ap (punctuate p) (lex-colon d (seen ∙ colon)) ∙ stray-colon p (lex between (drop 1 d)) e)
+          | inr slash ↦ stray (λ p e. ap (punctuate p) (lex-stray d (seen ∙ slash)) ∙ put-bad p (lex in_word (drop 1 d)))
+        ]
+      ];
+  over = c.bad.ensures.stays;
+}

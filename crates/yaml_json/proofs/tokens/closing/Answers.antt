@@ -15,35 +15,35 @@ range_from-requires c positive =
       | inr array ↦ after_first c.args.text.now 93 c.utf8.text (c.requires.0 ∙ array) (omega arith) (λ e. absurd (omega arith))
     ]
 
-pub returns-then-byte-eq125-clause-steps : goal.returns-then-byte-eq125-clause-steps
-returns-then-byte-eq125-clause-steps c =
-    closes_object c.args.text.now c.skip_blanks-rest.result.now c.ending.result (c.requires.0 ∙ c.if-byte-eq125.true)
-    (c.skip_blanks-rest.ensures.same ∙ ap (lex between) c.range_from.ensures.value) c.ending.ensures
-
-pub returns-else-byte-eq125-clause-steps : goal.returns-else-byte-eq125-clause-steps
-returns-else-byte-eq125-clause-steps c =
-    elim c.requires.1 [
-      | inl object ↦ absurd (c.if-byte-eq125.false object)
-      | inr array ↦ closes_array c.args.text.now c.skip_blanks-rest.result.now c.ending-else-byte-eq125.result (c.requires.0 ∙ array)
-          (c.skip_blanks-rest.ensures.same ∙ ap (lex between) c.range_from.ensures.value) c.ending-else-byte-eq125.ensures
-    ]
-
 past_closer : (d rest left : List ℕ) → (head d ≡ 125) ⊎ (head d ≡ 93) → Leads (drop 1 d) rest → Leads rest left → Leads d left
 past_closer d rest left (inl object) one two =
     leads_on d (drop 1 d) left (operator_leads d 125 object refl (λ e. absurd (omega arith))) (leads_on (drop 1 d) rest left one two)
 past_closer d rest left (inr array) one two =
     leads_on d (drop 1 d) left (operator_leads d 93 array refl (λ e. absurd (omega arith))) (leads_on (drop 1 d) rest left one two)
 
-pub returns-then-byte-eq125-clause-over : goal.returns-then-byte-eq125-clause-over
-returns-then-byte-eq125-clause-over c =
-    past_closer c.args.text.now c.skip_blanks-rest.result.now c.ending.result.rest.now (inl (c.requires.0 ∙ c.if-byte-eq125.true))
-    (drop_leads c.args.text.now c.range_from.result.now c.skip_blanks-rest.result.now 1 c.range_from.ensures.value c.skip_blanks-rest.ensures.over)
-    c.ending.ensures.over
+pub returns-then-byte-eq125 : goal.returns-then-byte-eq125
+returns-then-byte-eq125 c = record {
+  steps =
+      closes_object c.args.text.now c.skip_blanks-rest.result.now c.ending.result (c.requires.0 ∙ c.if-byte-eq125.true)
+      (c.skip_blanks-rest.ensures.same ∙ ap (lex between) c.range_from.ensures.value) c.ending.ensures;
+  over =
+      past_closer c.args.text.now c.skip_blanks-rest.result.now c.ending.result.rest.now (inl (c.requires.0 ∙ c.if-byte-eq125.true))
+      (drop_leads c.args.text.now c.range_from.result.now c.skip_blanks-rest.result.now 1 c.range_from.ensures.value c.skip_blanks-rest.ensures.over)
+      c.ending.ensures.over;
+}
 
-pub returns-else-byte-eq125-clause-over : goal.returns-else-byte-eq125-clause-over
-returns-else-byte-eq125-clause-over c =
-    let which : (head c.args.text.now ≡ 125) ⊎ (head c.args.text.now ≡ 93) =
-    elim c.requires.1 [ inl object ↦ inl (c.requires.0 ∙ object) | inr array ↦ inr (c.requires.0 ∙ array) ] in
-    past_closer c.args.text.now c.skip_blanks-rest.result.now c.ending-else-byte-eq125.result.rest.now which
-    (drop_leads c.args.text.now c.range_from.result.now c.skip_blanks-rest.result.now 1 c.range_from.ensures.value c.skip_blanks-rest.ensures.over)
-    c.ending-else-byte-eq125.ensures.over
+pub returns-else-byte-eq125 : goal.returns-else-byte-eq125
+returns-else-byte-eq125 c = record {
+  steps =
+      elim c.requires.1 [
+        | inl object ↦ absurd (c.if-byte-eq125.false object)
+        | inr array ↦ closes_array c.args.text.now c.skip_blanks-rest.result.now c.ending-else-byte-eq125.result (c.requires.0 ∙ array)
+            (c.skip_blanks-rest.ensures.same ∙ ap (lex between) c.range_from.ensures.value) c.ending-else-byte-eq125.ensures
+      ];
+  over =
+      let which : (head c.args.text.now ≡ 125) ⊎ (head c.args.text.now ≡ 93) =
+      elim c.requires.1 [ inl object ↦ inl (c.requires.0 ∙ object) | inr array ↦ inr (c.requires.0 ∙ array) ] in
+      past_closer c.args.text.now c.skip_blanks-rest.result.now c.ending-else-byte-eq125.result.rest.now which
+      (drop_leads c.args.text.now c.range_from.result.now c.skip_blanks-rest.result.now 1 c.range_from.ensures.value c.skip_blanks-rest.ensures.over)
+      c.ending-else-byte-eq125.ensures.over;
+}

@@ -11,22 +11,25 @@ use Rattle.yaml_json.proofs.tokens.escaped.Goals as goal
 pub unescape-requires : goal.unescape-requires
 unescape-requires g c = after_first c.args.text.now 34 c.utf8.text c.requires.quote (omega arith) (λ e. absurd (omega arith))
 
-pub returns-in-Ok-None-clause-steps : goal.returns-in-Ok-None-clause-steps
-returns-in-Ok-None-clause-steps g c =
-    no_string c.args.text.now c.bad.result c.requires.quote (rw c.in-Ok-None.field-0-is at c.in-Ok-None.ensures)
-    c.bad.ensures.token c.bad.ensures.over c.bad.ensures.tidy
+pub returns-in-Ok-None : goal.returns-in-Ok-None
+returns-in-Ok-None g c = record {
+  steps =
+      no_string c.args.text.now c.bad.result c.requires.quote (rw c.in-Ok-None.field-0-is at c.in-Ok-None.ensures)
+      c.bad.ensures.token c.bad.ensures.over c.bad.ensures.tidy;
+  over = c.bad.ensures.stays;
+}
 
-pub returns-clause-steps : goal.returns-clause-steps
-returns-clause-steps g c =
-    let d = c.args.text.now in
-    let read : content plain (drop 1 d) ≡ Some (string_bytes c.in-Ok-Some.string) = rw c.in-Ok-Some.field-0-is at c.in-Ok-Some.ensures in
-    let holds = read ∙ ap Some (sym (c.in-Ok.ensures ∙ c.as_str.ensures.value)) in
-    subst (λ (ls : List Lexeme). StepsFrom may_begin ls c.string_step.result)
-    (string_is d c.in-Ok.content.now c.after_string.result.now c.requires.quote holds c.after_string.ensures.same)
-    c.string_step.ensures.steps
-
-pub returns-clause-over : goal.returns-clause-over
-returns-clause-over g c =
-    let d = c.args.text.now in
-    leads_on d c.after_string.result.now c.string_step.result.rest.now
-    (quote_leads d c.after_string.result.now c.requires.quote c.after_string.ensures.over) c.string_step.ensures.over
+pub returns : goal.returns
+returns g c = record {
+  steps =
+      let d = c.args.text.now in
+      let read : content plain (drop 1 d) ≡ Some (string_bytes c.in-Ok-Some.string) = rw c.in-Ok-Some.field-0-is at c.in-Ok-Some.ensures in
+      let holds = read ∙ ap Some (sym (c.in-Ok.ensures ∙ c.as_str.ensures.value)) in
+      subst (λ (ls : List Lexeme). StepsFrom may_begin ls c.string_step.result)
+      (string_is d c.in-Ok.content.now c.after_string.result.now c.requires.quote holds c.after_string.ensures.same)
+      c.string_step.ensures.steps;
+  over =
+      let d = c.args.text.now in
+      leads_on d c.after_string.result.now c.string_step.result.rest.now
+      (quote_leads d c.after_string.result.now c.requires.quote c.after_string.ensures.over) c.string_step.ensures.over;
+}

@@ -22,24 +22,20 @@ range_from-requires g c positive =
     let quote = found_at d end 34 (ap (λ t. head (drop end t)) (sym same) ∙ sym c.byte_at.ensures ∙ c.if-byte_at-eq34.true) (λ e. absurd (omega arith)) in
     IsCharBoundary-after_ascii d end c.utf8.text quote.0 (omega (arith, quote.1))
 
-pub returns-then-byte_at-eq34-clause-steps : goal.returns-then-byte_at-eq34-clause-steps
-returns-then-byte_at-eq34-clause-steps g c =
+pub returns-then-byte_at-eq34 : goal.returns-then-byte_at-eq34
+returns-then-byte_at-eq34 g c =
     let d = c.args.text.now in
     let end = c.plain_end-end.result in
     let same = c.as_bytes-bytes.ensures.value in
     let quote = found_at d end 34 (ap (λ t. head (drop end t)) (sym same) ∙ sym c.byte_at.ensures ∙ c.if-byte_at-eq34.true) (λ e. absurd (omega arith)) in
     let are = subst (λ (t : List ℕ). ArePlain t 1 end) same c.plain_end-end.ensures in
-    subst (λ (ls : List Lexeme). StepsFrom may_begin ls c.string_step.result)
-    (ap (λ t. token (spec.string c.range.result.now) ∷ lex between t) c.range_from.ensures.value
-    ∙ plain_string d c.range.result.now end c.requires.quote are quote.0 quote.1 c.range.ensures.value)
-    c.string_step.ensures.steps
-
-pub returns-then-byte_at-eq34-clause-over : goal.returns-then-byte_at-eq34-clause-over
-returns-then-byte_at-eq34-clause-over g c =
-    let d = c.args.text.now in
-    let end = c.plain_end-end.result in
-    let same = c.as_bytes-bytes.ensures.value in
-    let quote = found_at d end 34 (ap (λ t. head (drop end t)) (sym same) ∙ sym c.byte_at.ensures ∙ c.if-byte_at-eq34.true) (λ e. absurd (omega arith)) in
-    let are = subst (λ (t : List ℕ). ArePlain t 1 end) same c.plain_end-end.ensures in
-    leads_on d (drop (end + 1) d) c.string_step.result.rest.now (string_leads d end c.requires.quote are quote.0 quote.1)
-    (subst (λ (t : List ℕ). Leads t c.string_step.result.rest.now) c.range_from.ensures.value c.string_step.ensures.over)
+    record {
+      steps =
+          subst (λ (ls : List Lexeme). StepsFrom may_begin ls c.string_step.result)
+          (ap (λ t. token (spec.string c.range.result.now) ∷ lex between t) c.range_from.ensures.value
+          ∙ plain_string d c.range.result.now end c.requires.quote are quote.0 quote.1 c.range.ensures.value)
+          c.string_step.ensures.steps;
+      over =
+          leads_on d (drop (end + 1) d) c.string_step.result.rest.now (string_leads d end c.requires.quote are quote.0 quote.1)
+          (subst (λ (t : List ℕ). Leads t c.string_step.result.rest.now) c.range_from.ensures.value c.string_step.ensures.over);
+    }
