@@ -1,5 +1,5 @@
 -- What contracts see of the names in the objects that are open.
-use Rattle.std.specs.Prelude.{◌≡◌, ◌≤◌, ◌||◌, ℕ, Bool, true, false, List, [], ◌∷◌, ◌++◌, bytes_eq, drop, length, take}
+use Rattle.std.specs.Prelude.{◌≡◌, ◌+◌, ◌≤◌, ◌||◌, ℕ, Bool, true, false, List, [], ◌∷◌, ◌++◌, bytes_eq, drop, length, take}
 use Rattle.std.specs.Borrow.{Bor}
 use Rattle.std.specs.BTreeSet.{BTreeSet, contains_by}
 use Rattle.std.specs.Cmp.Lexicographic.{slice_cmp}
@@ -36,3 +36,9 @@ pub record NameAdded {A : Type 0} (old : Names A) (name : List ℕ) (new : Bool)
   pub kept : now.are_kept ≡ old.are_kept
   pub adds : (names : List (List ℕ)) (levels : List (List (List ℕ))) → HoldsNames (names ∷ levels) old → AddsName names levels name new now
   pub as_long : length now.levels.items ≡ length old.levels.items
+
+-- an array or object was entered
+pub record NamesEntered {A : Type 0} (old now : Names A) : Type 0 where
+  pub kept : now.are_kept ≡ old.are_kept
+  pub holds : (levels : List (List (List ℕ))) → HoldsNames levels old → HoldsNames ([] ∷ levels) now
+  pub longer : old.are_kept ≡ true → length now.levels.items ≡ length old.levels.items + 1

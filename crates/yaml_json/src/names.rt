@@ -1,8 +1,8 @@
 //! The names in the objects that are open.
-ghost use Rattle.std.specs.Prelude.{◌≡◌, ◌∷◌, ◌+◌, ◌-◌, [], List, ℕ, IfOk, OnOk, bytes_eq, length, true};
+ghost use Rattle.std.specs.Prelude.{◌≡◌, [], IfOk, OnOk, bytes_eq};
 ghost use Rattle.std.specs.List.{list_any};
-ghost use Rattle.yaml_json.specs.HeldNames.{HoldsNames, NameAdded};
-ghost use Rattle.yaml_json.specs.Names.{outer_names};
+ghost use Rattle.yaml_json.specs.HeldNames.{HoldsNames, NameAdded, NamesEntered};
+ghost use Rattle.yaml_json.specs.Walk.{LeavesNames};
 
 use std::alloc::{AllocError, Allocator};
 use std::collections::BTreeSet;
@@ -47,9 +47,7 @@ impl<'a, A: Allocator + Copy> Names<'a, A> {
 
     /// Enters one more array or object.
     pub(crate) fn enter(&mut self) -> Result<(), AllocError>
-        ensures kept { OnOk result (self.new.are_kept ≡ self.old.are_kept) }
-        ensures holds { OnOk result ((levels : List (List (List ℕ))) → HoldsNames levels self.old → HoldsNames ([] ∷ levels) self.new) }
-        ensures longer { OnOk result (self.old.are_kept ≡ true → length self.new.levels.items ≡ length self.old.levels.items + 1) }
+        ensures { OnOk result (NamesEntered self.old self.new) }
     {
         if !self.are_kept {
             return Ok(());
@@ -66,9 +64,7 @@ impl<'a, A: Allocator + Copy> Names<'a, A> {
 
     /// Leaves the innermost array or object.
     pub(crate) fn leave(&mut self)
-        ensures kept { self.new.are_kept ≡ self.old.are_kept }
-        ensures holds { (levels : List (List (List ℕ))) → HoldsNames levels self.old → HoldsNames (outer_names levels) self.new }
-        ensures shorter { self.old.are_kept ≡ true → length self.new.levels.items ≡ length self.old.levels.items - 1 }
+        ensures { LeavesNames self.old self.new }
     {
         if !self.are_kept {
             return;
