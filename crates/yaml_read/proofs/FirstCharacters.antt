@@ -14,6 +14,17 @@ none_some c is = cc
 
 -- ---- behind a backslash
 
+some_by : (c : ℕ) (escape rest : Text) (bytes : List ℕ) → AfterBackslash c escape → bytes ≡ encode_utf8_all (escape ++ rest) → length bytes ≡ 0 → ⊥
+some_by c _ rest bytes (by_letter letter means) is none = not_empty bytes letter rest is none
+some_by c _ rest bytes (by_two own few) is none = not_empty bytes 120 (hex_digits 2 c ++ rest) is none
+some_by c _ rest bytes (by_four own more few) is none = not_empty bytes 117 (hex_digits 4 c ++ rest) is none
+
+-- an escape goes on behind its backslash
+pub escape_there : (c : ℕ) (rest : Text) (bytes : List ℕ) → all_scalars (c ∷ []) ≡ true → needs_escape true c ≡ true
+    → bytes ≡ encode_utf8_all (escape_after_backslash (letter_among short_escapes c) c ++ rest) → length bytes ≡ 0 → ⊥
+escape_there c rest bytes scalar needs is none =
+    some_by c (escape_after_backslash (letter_among short_escapes c) c) rest bytes (after_backslash c scalar needs) is none
+
 two_by : (c : ℕ) (escape rest : Text) (letter : ℕ) (bytes tail : List ℕ) → AfterBackslash c escape → bytes ≡ encode_utf8_all (escape ++ rest)
     → bytes ≡ encode_utf8 letter ++ tail → letter ≡ 120
     → (c < 256) × (letter_among short_escapes c ≡ None) × (tail ≡ encode_utf8_all (hex_digits 2 c ++ rest))

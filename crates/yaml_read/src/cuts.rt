@@ -1,5 +1,5 @@
-//! What follows a word at a text's beginning.
-ghost use Rattle.std.specs.Prelude.{◌≡◌, ◌+◌, ◌*◌, ◌<◌, ◌≤◌, IfErr, IfOk, IfSome, length, replicate};
+//! What follows a word or a character at a text's beginning.
+ghost use Rattle.std.specs.Prelude.{◌≡◌, ◌++◌, ◌+◌, ◌*◌, ◌<◌, ◌≤◌, IfErr, IfOk, IfSome, MatchOption, encode_utf8, length, replicate};
 ghost use Rattle.yaml_base.specs.Characters.{space};
 ghost use Rattle.yaml_base.specs.values.ValueText.{line_at};
 ghost use Rattle.yaml_read.specs.Places.{IsHere, LacksLevel, LacksLine};
@@ -14,6 +14,18 @@ pub(crate) fn past<'a>(text: &'a str, word: &str) -> Option<&'a str>
 {
     match text.strip_prefix(word) {
         Some(rest) => Some(rest),
+        None => None,
+    }
+}
+
+/// Returns the first character, and what follows it.
+pub(crate) fn first(text: &str) -> Option<(char, &str)>
+    ensures cut { MatchOption result (length text.now ≡ 0) (λ found. text.now ≡ encode_utf8 found.0 ++ found.1.now) }
+    ensures shorter { IfSome result (λ found. length found.1.now < length text.now) }
+{
+    let mut characters = text.chars();
+    match characters.next() {
+        Some(c) => Some((c, characters.as_str())),
         None => None,
     }
 }

@@ -12,7 +12,7 @@ ghost use Rattle.yaml_read.specs.Places.{BreaksAt};
 ghost use Rattle.yaml_read.specs.Sound.{IsByNumber, IsCharacter, IsEscape};
 ghost use Rattle.yaml_read.specs.Words.{OrMemory};
 
-use crate::cuts::{after, past};
+use crate::cuts::{after, first, past};
 use crate::errors::{Stop, refused_at};
 use std::alloc::Allocator;
 use yaml_base::{is_break, is_printable};
@@ -86,10 +86,9 @@ fn read_digit(text: &str) -> Option<(u32, &str)>
     ensures small { IfSome result (λ found. found.0 < 16) }
     ensures shorter { IfSome result (λ found. length found.1.now ≤ length text.now) }
 {
-    let mut characters = text.chars();
-    let c = characters.next()?;
+    let (c, rest) = first(text)?;
     let digit = digit_of(c)?;
-    Some((digit, characters.as_str()))
+    Some((digit, rest))
 }
 
 /// Returns a number of two hexadecimal digits, and what follows.
@@ -184,14 +183,13 @@ fn read_escape(text: &str) -> Option<(char, &str)>
     ensures sound { IfSome result (λ found. IsEscape text.now found.0 found.1.now) }
     ensures shorter { IfSome result (λ found. length found.1.now ≤ length text.now) }
 {
-    let mut characters = text.chars();
-    let letter = characters.next()?;
+    let (letter, rest) = first(text)?;
     if letter == 'x' {
-        read_short_number(characters.as_str())
+        read_short_number(rest)
     } else if letter == 'u' {
-        read_long_number(characters.as_str())
+        read_long_number(rest)
     } else {
-        read_letter(letter, characters.as_str())
+        read_letter(letter, rest)
     }
 }
 
@@ -201,14 +199,13 @@ fn read_character(text: &str) -> Option<(char, &str)>
     ensures sound { IfSome result (λ found. IsCharacter text.now found.0 found.1.now) }
     ensures shorter { IfSome result (λ found. length found.1.now < length text.now) }
 {
-    let mut characters = text.chars();
-    let c = characters.next()?;
+    let (c, rest) = first(text)?;
     if c == '\\' {
-        read_escape(characters.as_str())
+        read_escape(rest)
     } else if needs_escape(c) {
         None
     } else {
-        Some((c, characters.as_str()))
+        Some((c, rest))
     }
 }
 

@@ -13,7 +13,7 @@ ghost use Rattle.yaml_read.specs.WrittenTags.{byte_in_tag, ends_tag, stays_verba
 ghost use Rattle.yaml_read.specs.Words.{OrMemory};
 ghost use Rattle.yaml_read.specs.declared.errors.Stop.TheVariants as stop;
 
-use crate::cuts::{after, past};
+use crate::cuts::{after, first, past};
 use crate::errors::{Stop, refused_at, refused_whole};
 use crate::quoted::read_two_digits;
 use std::alloc::Allocator;
@@ -55,12 +55,11 @@ fn read_byte(text: &str) -> Option<(u8, &str)>
     ensures small { IfSome result (λ found. found.0 < 256) }
     ensures shorter { IfSome result (λ found. length found.1.now < length text.now) }
 {
-    let mut characters = text.chars();
-    let c = characters.next()?;
+    let (c, rest) = first(text)?;
     if c == '%' {
-        read_form(characters.as_str())
+        read_form(rest)
     } else if is_tag_character(c) {
-        Some((c as u8, characters.as_str()))
+        Some((c as u8, rest))
     } else {
         None
     }

@@ -1,5 +1,4 @@
-use Rattle.std.proofs.Common.{◌++◌, ap, sym, ◌∙◌, true≢false}
-use Rattle.std.specs.Prelude.{encode_utf8, length}
+use Rattle.std.proofs.Common.{sym, ◌∙◌, true≢false, arith}
 use Rattle.yaml_read.proofs.FirstCharacters.{backslash_first, character_there, itself_first}
 use Rattle.std.proofs.lemmas.Option.{IfSome_then}
 use Rattle.yaml_read.proofs.CharactersRead.{escape_read, itself_read, scalar_of}
@@ -7,40 +6,37 @@ use Rattle.yaml_read.proofs.quoted.read_character.Goals as goal
 
 pub returns-in_err-c-clause-reads : goal.returns-in_err-c-clause-reads
 returns-in_err-c-clause-reads c =
-    λ d rest scalar is.
-    absurd (character_there d rest c.args.text.now is (ap length (sym c.chars-characters.ensures.rest) ∙ c.in_err-c.ensures.steps.0.0))
+    λ d rest scalar is. absurd (character_there d rest c.args.text.now is c.in_err-c.ensures.cut)
 
 pub returns-then-c-eq92-clause-reads : goal.returns-then-c-eq92-clause-reads
 returns-then-c-eq92-clause-reads c =
     λ d rest scalar is.
-    let starts = sym c.chars-characters.ensures.rest ∙ c.in_ok-c.ensures.steps.0 ∙ ap (λ t. encode_utf8 c.in_ok-c.c ++ t) (sym c.as_str.ensures) in
-    let escape = backslash_first d rest c.in_ok-c.c c.args.text.now c.as_str.result.now is starts c.if-c-eq92.true in
+    let escape = backslash_first d rest c.in_ok-c.c c.args.text.now c.in_ok-c.rest.now is c.in_ok-c.ensures.cut c.if-c-eq92.true in
     c.read_escape.ensures.reads d rest scalar escape.0 escape.1
 
 pub returns-then-needs_escape-clause-reads : goal.returns-then-needs_escape-clause-reads
 returns-then-needs_escape-clause-reads c =
     λ d rest scalar is.
-    let starts = sym c.chars-characters.ensures.rest ∙ c.in_ok-c.ensures.steps.0 in
-    let plain = itself_first d rest c.in_ok-c.c c.args.text.now c.next.new.self.rest.now is starts c.if-c-eq92.false in
+    let plain = itself_first d rest c.in_ok-c.c c.args.text.now c.in_ok-c.rest.now is c.in_ok-c.ensures.cut c.if-c-eq92.false in
     true≢false (sym c.if-needs_escape.true ∙ c.needs_escape.ensures ∙ plain.0)
 
 pub returns-else-needs_escape-clause-reads : goal.returns-else-needs_escape-clause-reads
 returns-else-needs_escape-clause-reads c =
     λ d rest scalar is.
-    let starts = sym c.chars-characters.ensures.rest ∙ c.in_ok-c.ensures.steps.0 in
-    let plain = itself_first d rest c.in_ok-c.c c.args.text.now c.next.new.self.rest.now is starts c.if-c-eq92.false in
-    (plain.1, c.as_str-else-needs_escape.ensures ∙ plain.2)
+    let plain = itself_first d rest c.in_ok-c.c c.args.text.now c.in_ok-c.rest.now is c.in_ok-c.ensures.cut c.if-c-eq92.false in
+    (plain.1, plain.2)
 
 pub returns-then-c-eq92-clause-sound : goal.returns-then-c-eq92-clause-sound
 returns-then-c-eq92-clause-sound c =
-    let starts = sym c.chars-characters.ensures.rest ∙ c.in_ok-c.ensures.steps.0 ∙ ap (λ t. encode_utf8 c.in_ok-c.c ++ t) (sym c.as_str.ensures) in
     IfSome_then c.read_escape.result c.read_escape.ensures.sound
-    (λ found is. escape_read c.args.text.now c.as_str.result.now found.1.now c.in_ok-c.c found.0 is starts c.if-c-eq92.true)
+    (λ found is. escape_read c.args.text.now c.in_ok-c.rest.now found.1.now c.in_ok-c.c found.0 is c.in_ok-c.ensures.cut c.if-c-eq92.true)
 
 pub returns-else-needs_escape-clause-sound : goal.returns-else-needs_escape-clause-sound
 returns-else-needs_escape-clause-sound c =
-    let starts = sym c.chars-characters.ensures.rest ∙ c.in_ok-c.ensures.steps.0
-    ∙ ap (λ t. encode_utf8 c.in_ok-c.c ++ t) (sym c.as_str-else-needs_escape.ensures) in
-    itself_read c.args.text.now c.as_str-else-needs_escape.result.now c.in_ok-c.c
-    (scalar_of c.args.text.now c.as_str-else-needs_escape.result.now c.in_ok-c.c c.utf8.text starts)
-    (sym c.needs_escape.ensures ∙ c.if-needs_escape.false) starts
+    itself_read c.args.text.now c.in_ok-c.rest.now c.in_ok-c.c
+    (scalar_of c.args.text.now c.in_ok-c.rest.now c.in_ok-c.c c.utf8.text c.in_ok-c.ensures.cut)
+    (sym c.needs_escape.ensures ∙ c.if-needs_escape.false) c.in_ok-c.ensures.cut
+
+pub returns-then-c-eq92-clause-shorter : goal.returns-then-c-eq92-clause-shorter
+returns-then-c-eq92-clause-shorter c =
+    IfSome_then c.read_escape.result c.read_escape.ensures.shorter (λ found less. omega (arith, less, c.in_ok-c.ensures.shorter))
