@@ -6,7 +6,7 @@ use Rattle.yaml_base.proofs.Common.{Collection}
 use Rattle.std.proofs.lemmas.List.{append_cancel_left}
 use Rattle.std.proofs.lemmas.Str.{encodes-append}
 use Rattle.std.specs.Borrow.{Bor}
-use Rattle.std.specs.Prelude.{Err}
+use Rattle.std.specs.Prelude.{Result, Ok, Err, IfErr, IfOk}
 use Rattle.yaml_read.specs.Awaits.{IsInnermostAwait, LeadStands, can_end, closing_event, seen_await}
 use Rattle.yaml_read.specs.EventSteps.{GoesTo, ReadsEvent, ReadsNode, await_opened, open_behind_opening, text_behind_lead, trail_behind_opening}
 use Rattle.yaml_read.specs.EventTexts.{Pending, BeginsNode, IsInNode, begins_node, closing_text, ends_mapping, ends_name, ends_sequence, event_text}
@@ -14,9 +14,11 @@ use Rattle.yaml_read.specs.EventTexts.{is_alias, is_mapping, is_scalar, is_seque
 use Rattle.yaml_read.specs.EventTexts.{opening_text, outside, trail_text, value_awaited}
 use Rattle.yaml_read.specs.declared.leads.Await.{Await}
 use Rattle.yaml_read.specs.declared.errors.Stop.{Stop}
+use Rattle.yaml_read.specs.Words.{OrMemory}
+use Rattle.yaml_read.specs.declared.steps.Progress.{Progress}
 use Rattle.yaml_read.specs.declared.steps.Progress.TheVariants.{Continues}
 use Rattle.yaml_read.proofs.Awaits.{closing_encoded, lead_encoded, lead_or_end, trail_encoded}
-use Rattle.yaml_read.proofs.Words.{no_word}
+use Rattle.yaml_read.proofs.Words.{error_stays, no_word}
 
 -- ---- an event that begins a node
 
@@ -242,3 +244,18 @@ pub end_due : (levels : List Pending) (event : Event) (tail : Text) (bytes rest 
     → bytes ≡ closing_text levels ++ rest → (closing_event levels ≡ event) × (rest ≡ trail_text (outside levels) ++ encode_utf8_all tail)
 end_due levels event tail bytes rest (node_comes begins is) can found = absurd (lead_or_end levels _ rest can (sym is ∙ found))
 end_due levels event tail bytes rest (end_comes also same is) can found = (same, append_cancel_left (closing_text levels) rest _ (sym found ∙ is))
+
+-- ---- an event beside what follows it
+
+pub goes_beside : {E : Type 0} (Goes : Progress → Type 0) (event : E) (behind : Result Progress Stop) (result : Result (E × Progress) Stop)
+    → IfOk result (λ found. (found.0 ≡ event) × (behind ≡ Ok found.1)) → IfOk behind Goes → IfOk result (λ found. (found.0 ≡ event) × Goes found.1)
+goes_beside Goes event behind (Ok found) is goes = (is.0, subst (λ (answer : Result Progress Stop). IfOk answer Goes) is.1 goes)
+goes_beside Goes event behind (Err error) is goes = tt
+
+pub memory_beside : {E : Type 0} (event : E) (behind : Result Progress Stop) (result : Result (E × Progress) Stop)
+    → IfOk result (λ found. (found.0 ≡ event) × (behind ≡ Ok found.1)) → IfErr result (λ error. behind ≡ Err error)
+    → OrMemory (λ _. Unit {0}) behind → OrMemory (λ found. found.0 ≡ event) result
+memory_beside {E} event behind (Ok found) is stops reads = is.0
+memory_beside {E} event behind (Err error) is stops reads =
+    error_stays (λ (_ : Progress). Unit {0}) (λ (found : E × Progress). found.0 ≡ event) error
+    (subst (λ (answer : Result Progress Stop). OrMemory (λ _. Unit {0}) answer) stops reads)

@@ -1,5 +1,5 @@
 //! The events of a document, one at a time.
-ghost use Rattle.std.specs.Prelude.{◌≡◌, ◌++◌, ◌∷◌, ◌<◌, true, IfErr, IfOk, List, OnOk, ℕ, length};
+ghost use Rattle.std.specs.Prelude.{◌≡◌, ◌++◌, ◌∷◌, ◌<◌, true, Err, IfErr, IfOk, List, Ok, OnOk, ℕ, length};
 ghost use Rattle.std.specs.Str.{encode_utf8_all};
 ghost use Rattle.yaml_base.specs.Characters.{Text};
 ghost use Rattle.yaml_base.specs.Event.{Event};
@@ -145,6 +145,20 @@ fn end_event<A: Allocator>(innermost: Option<Await>) -> yaml_event_t<A>
     }
 }
 
+/// Returns an event with what follows it, where that was read.
+fn beside<'a, E: Drop>(
+    event: E,
+    behind: Result<Progress<'a>, Stop>,
+) -> Result<(E, Progress<'a>), Stop>
+    ensures goes { IfOk result (λ found. (found.0 ≡ event) × (behind.entry ≡ Ok found.1)) }
+    ensures stops { IfErr result (λ error. behind.entry ≡ Err error) }
+{
+    match behind {
+        Ok(progress) => Ok((event, progress)),
+        Err(stop) => Err(stop),
+    }
+}
+
 /// Returns the event with which a node begins, and what follows it, behind what leads to it.
 fn read_node<'a, A: Allocator + Copy>(
     alloc: A,
@@ -160,8 +174,8 @@ fn read_node<'a, A: Allocator + Copy>(
     ensures shorter { IfOk result (λ found. length (bytes_behind found.1) < length text.now) }
 {
     let (event, rest) = read_opening(alloc, text)?;
-    let progress = go_behind(awaits, opened_by(&event), rest)?;
-    Ok((event, progress))
+    let behind = go_behind(awaits, opened_by(&event), rest);
+    beside(event, behind)
 }
 
 /// Returns the event with which the innermost collection ends, and what follows it, behind its closing bracket.
