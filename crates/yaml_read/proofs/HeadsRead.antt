@@ -1,5 +1,5 @@
 -- How a value that was read began.
-use Rattle.yaml_base.proofs.Common.{ℕ, ◌<◌, Bool, true, List, [], ◌++◌, refl, ◌≡◌, ap, subst, sym, ◌∙◌}
+use Rattle.yaml_base.proofs.Common.{ℕ, ◌<◌, Bool, true, false, None, List, [], ◌++◌, refl, ◌≡◌, ap, subst, sym, ◌∙◌}
 use Rattle.yaml_base.proofs.Common.{append_assoc, append-nil, arith, codes, Text, encode_utf8_all, chars, chars-IsAscii}
 use Rattle.std.proofs.Common.{FitsSigned, w64, pos, negsuc, rules}
 use Rattle.std.proofs.lemmas.Fmt.{IsAscii-signed}
@@ -16,8 +16,11 @@ use Rattle.yaml_base.specs.values.ValueText.{in_quotes}
 use Rattle.yaml_value.specs.SeenValues.{seen_value}
 use Rattle.yaml_value.specs.declared.value.Value as declared
 use Rattle.yaml_read.proofs.Encoded.{are_ascii, word_encoded}
+use Rattle.yaml_read.proofs.Turns.{cut_is}
+use Rattle.yaml_read.proofs.Words.{no_word}
 use Rattle.yaml_read.specs.Heads.{ListRead, MapRead}
 use Rattle.yaml_read.specs.Sound.{HeadIs, IsInteger, IsTruth, IsValue}
+use Rattle.yaml_read.specs.Words.{past_word}
 use Rattle.yaml_read.specs.declared.errors.Stop.{Stop}
 use Rattle.yaml_read.specs.declared.heads.Head.{Head}
 use Rattle.yaml_read.specs.declared.heads.Head.TheVariants as head
@@ -115,3 +118,27 @@ map_read bytes tail (Ok (head.Whole found, after)) tagged read =
 map_read bytes tail (Ok (head.Items, inside)) tagged read = absurd read
 map_read bytes tail (Ok (head.Pairs, inside)) tagged read = (tagged ∙ ap (λ t. codes "!!map " ++ t) read.0, read.1)
 map_read bytes tail (Err error) tagged read = tt
+
+-- the bytes of one truth value aren't those of the other
+pub true_there : (A : Type 0) (bytes after : List ℕ) (b : Bool) (rest : Text) → bytes ≡ codes "\"true\"" ++ after
+    → bytes ≡ encode_utf8_all (in_quotes (bool_text b) ++ rest) → (seen_value {A = A} (declared.Bool true) ≡ bool_value b) × (after ≡ encode_utf8_all rest)
+true_there A bytes after true rest cut is =
+    (seen_truth A true, cut_is (codes "\"true\"") bytes after (encode_utf8_all rest) cut (is ∙ word_encoded (codes "\"true\"") rest refl))
+true_there A bytes after false rest cut is =
+    absurd (no_word (codes "\"false\"") bytes (encode_utf8_all rest) (ap (past_word (codes "\"false\"")) cut)
+    (is ∙ word_encoded (codes "\"false\"") rest refl))
+
+pub false_there : (A : Type 0) (bytes after : List ℕ) (b : Bool) (rest : Text) → past_word (codes "\"true\"") bytes ≡ None
+    → bytes ≡ codes "\"false\"" ++ after → bytes ≡ encode_utf8_all (in_quotes (bool_text b) ++ rest)
+    → (seen_value {A = A} (declared.Bool false) ≡ bool_value b) × (after ≡ encode_utf8_all rest)
+false_there A bytes after true rest none cut is =
+    absurd (no_word (codes "\"true\"") bytes (encode_utf8_all rest) none (is ∙ word_encoded (codes "\"true\"") rest refl))
+false_there A bytes after false rest none cut is =
+    (seen_truth A false, cut_is (codes "\"false\"") bytes after (encode_utf8_all rest) cut (is ∙ word_encoded (codes "\"false\"") rest refl))
+
+pub no_truth_there : (bytes : List ℕ) (b : Bool) (rest : Text) → past_word (codes "\"true\"") bytes ≡ None → past_word (codes "\"false\"") bytes ≡ None
+    → bytes ≡ encode_utf8_all (in_quotes (bool_text b) ++ rest) → ⊥
+no_truth_there bytes true rest none other is =
+    no_word (codes "\"true\"") bytes (encode_utf8_all rest) none (is ∙ word_encoded (codes "\"true\"") rest refl)
+no_truth_there bytes false rest none other is =
+    no_word (codes "\"false\"") bytes (encode_utf8_all rest) other (is ∙ word_encoded (codes "\"false\"") rest refl)

@@ -7,7 +7,7 @@ use Rattle.yaml_base.specs.values.TypedValues.{list_value, map_value, most_neste
 use Rattle.yaml_base.specs.values.ValueText.{line_at, value_text, items_text, pairs_text, entry_lead, has_no_values, has_no_value_pairs, document_text}
 use Rattle.yaml_read.specs.Opened.{opened_text, IsOpen, HasRead}
 use Rattle.yaml_read.specs.Readable.{CanBeReadAt}
-use Rattle.yaml_read.specs.Remaining.{OpenLevel, items_open, pairs_open, value_due, column_in, seen_level, seen_levels}
+use Rattle.yaml_read.specs.Remaining.{Completes, IsRead, text_ends, OpenLevel, items_open, pairs_open, value_due, column_in, seen_level, seen_levels}
 use Rattle.yaml_read.specs.declared.levels.Level.{Level}
 use Rattle.yaml_read.proofs.SeenLevels.{level_more}
 use Rattle.yaml_read.proofs.Encoded.{are_ascii, word_encoded, line_encoded}
@@ -258,3 +258,12 @@ pub text_read : (value : TypedValue) (text whole : List ℕ) → text ≡ codes 
     → whole ≡ encode_utf8_all (value_text 0 value ++ line_feed ∷ []) → text ≡ encode_utf8_all (document_text value)
 text_read value text whole is read =
     is ∙ ap (λ t. codes "---\n" ++ t) read ∙ sym (word_encoded (codes "---\n") (value_text 0 value ++ line_feed ∷ []) refl)
+
+-- behind the outermost value stands a line's end
+pub root_ends : (root value : TypedValue) (bytes : List ℕ) → IsRead root [] value bytes → (value ≡ root) × (bytes ≡ codes "\n")
+root_ends root value bytes read =
+    let ends = by value read.rest read.completes in
+    (ends.0, read.text ∙ ap encode_utf8_all ends.1 ∙ ascii_all (codes "\n") refl)
+  where
+    by : (value : TypedValue) (text : Text) → Completes root [] value text → (value ≡ root) × (text ≡ line_feed ∷ [])
+    by _ _ (text_ends value text is line) = (is, line)

@@ -5,6 +5,7 @@ use Rattle.yaml_base.proofs.Common.{list_all-append, flat_map, chars, chars-enco
 use Rattle.yaml_base.proofs.Common.{all_scalars, is_tag_character, byte_escaped, percent_sign, percent_escaped, hex_digits}
 use Rattle.yaml_base.proofs.Common.{length}
 use Rattle.std.proofs.Common.{⊎_elim}
+use Rattle.std.proofs.lemmas.Grind.{flat_map-append}
 use Rattle.std.proofs.lemmas.Option.{same_Some}
 use Rattle.std.proofs.lemmas.Str.{IsUtf8-string_bytes, encode_same, encode_ascii}
 use Rattle.std.specs.Prelude.{String, Vec}
@@ -69,6 +70,18 @@ encoded_bytes (c ∷ text) h =
     let both : (scalar c ≡ true) × (all_scalars text ≡ true) = and_parts _ _ h in
     let below : c < 0x110000 = ⊎_elim (λ h. omega arith) (λ h. omega arith) (scalar_cases c both.0) in
     list_all-append (λ b. nat_lt b 256) (encode_utf8 c) (encode_utf8_all text) ∙ and_from _ _ (encode_is_bytes c below) (encoded_bytes text both.1)
+
+-- one byte more
+pub byte_more : (text now after bytes more : List ℕ) (byte : ℕ) → more ≡ bytes ++ byte ∷ [] → text ≡ flat_map byte_in_tag bytes ++ now
+    → now ≡ byte_in_tag byte ++ after → text ≡ flat_map byte_in_tag more ++ after
+byte_more text now after bytes more byte are is next =
+    is ∙ ap (λ t. flat_map byte_in_tag bytes ++ t) next ∙ sym (append_assoc (flat_map byte_in_tag bytes) (byte_in_tag byte) after)
+    ∙ ap (λ t. t ++ after) (sym (ap (flat_map byte_in_tag) are ∙ flat_map-append byte_in_tag bytes (byte ∷ [])
+    ∙ ap (λ t. flat_map byte_in_tag bytes ++ t) (append-nil (byte_in_tag byte))))
+
+pub bytes_more : (bytes more : List ℕ) (byte : ℕ) → more ≡ bytes ++ byte ∷ [] → are_bytes bytes ≡ true → byte < 256 → are_bytes more ≡ true
+bytes_more bytes more byte are small below =
+    ap are_bytes are ∙ list_all-append (λ b. nat_lt b 256) bytes (byte ∷ []) ∙ and_from _ _ small (and_from _ _ (grind (arith, nat_tests)) refl)
 
 -- ---- one byte is written in one way
 

@@ -28,7 +28,7 @@ pub enum ReadError {
 }
 
 /// Why the reader stops.
-#[derive(Clone, Copy, Debug, Drop)]
+#[derive(Clone, Copy, Drop)]
 pub(crate) enum Stop {
     /// The word so many bytes before the end can't stand there.
     Refused(usize),

@@ -24,9 +24,10 @@ fn push<A: Allocator>(
     ensures memory { IfErr result (λ error. error ≡ stop.Memory) }
 {
     match events.push(event) {
-        Ok(()) => Ok(()),
-        Err(_) => Err(Stop::Memory),
+        Ok(()) => {}
+        Err(_) => return Err(Stop::Memory),
     }
+    Ok(())
 }
 
 /// Returns the start of a document without a version and directives.

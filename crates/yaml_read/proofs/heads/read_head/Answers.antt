@@ -24,7 +24,8 @@ use Rattle.yaml_read.proofs.Breaking.{err_exit, missing}
 use Rattle.yaml_read.proofs.BreakingNodes.{no_list, no_map, no_tag_there, tag_passed}
 use Rattle.yaml_read.specs.Grammar.{node, nothing}
 use Rattle.yaml_read.specs.Places.{BreaksAt}
-use Rattle.std.proofs.Common.{[]}
+use Rattle.std.proofs.Common.{[], arith}
+use Rattle.std.proofs.lemmas.Result.{IfOk-weaker}
 use Rattle.yaml_read.proofs.heads.read_head.Goals as goal
 
 -- what follows the tag of a kind
@@ -192,3 +193,23 @@ returns-in-Map-clause-breaks g c =
     no_map depth c.args.text.now c.in_ok-kind.behind.now c.read_map.result
     (subst (λ (k : Kind). c.args.text.now ≡ tag_word k ++ c.in_ok-kind.behind.now) c.in-Map.is c.in_ok-kind.ensures.reads)
     c.read_map.ensures.reads c.read_map.ensures.placed
+
+pub returns-in_ok-rest-in-Null-clause-shorter : goal.returns-in_ok-rest-in-Null-clause-shorter
+returns-in_ok-rest-in-Null-clause-shorter g c = omega (arith, c.in_ok-kind.ensures.shorter, c.in_ok-rest-in-Null.ensures.shorter)
+
+pub returns-in_ok-value-in-Bool-clause-shorter : goal.returns-in_ok-value-in-Bool-clause-shorter
+returns-in_ok-value-in-Bool-clause-shorter g c = omega (arith, c.in_ok-kind.ensures.shorter, c.in_ok-value-in-Bool.ensures.shorter)
+
+pub returns-in_ok-value-in-Int-clause-shorter : goal.returns-in_ok-value-in-Int-clause-shorter
+returns-in_ok-value-in-Int-clause-shorter g c = omega (arith, c.in_ok-kind.ensures.shorter, c.in_ok-value-in-Int.ensures.shorter)
+
+pub returns-in_ok-value-in-Text-clause-shorter : goal.returns-in_ok-value-in-Text-clause-shorter
+returns-in_ok-value-in-Text-clause-shorter g c = omega (arith, c.in_ok-kind.ensures.shorter, c.in_ok-value-in-Text.ensures.shorter)
+
+pub returns-in-List-clause-shorter : goal.returns-in-List-clause-shorter
+returns-in-List-clause-shorter g c =
+    IfOk-weaker c.read_list.result _ _ (λ found less. omega (arith, less, c.in_ok-kind.ensures.shorter)) c.read_list.ensures.shorter
+
+pub returns-in-Map-clause-shorter : goal.returns-in-Map-clause-shorter
+returns-in-Map-clause-shorter g c =
+    IfOk-weaker c.read_map.result _ _ (λ found less. omega (arith, less, c.in_ok-kind.ensures.shorter)) c.read_map.ensures.shorter

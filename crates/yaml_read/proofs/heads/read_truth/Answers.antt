@@ -1,6 +1,6 @@
 use Rattle.std.proofs.Common.{◌++◌, true, false, refl, ap, sym, ◌∙◌}
 use Rattle.std.specs.Prelude.{codes}
-use Rattle.yaml_read.proofs.HeadsRead.{seen_truth, word_bytes}
+use Rattle.yaml_read.proofs.HeadsRead.{false_there, no_truth_there, seen_truth, true_there, word_bytes}
 use Rattle.yaml_read.proofs.Breaking.{err_exit, neither}
 use Rattle.yaml_read.specs.Grammar.{truth}
 use Rattle.yaml_read.specs.Places.{BreaksAt}
@@ -27,3 +27,14 @@ returns-in_err-rest-in-None-clause-breaks g c =
     err_exit (BreaksAt truth c.args.text.now) c.in_err-rest-in-None.field-0.0 c.from_residual.result c.from_residual.ensures
     (neither (codes "\"true\"") (codes "\"false\"") c.args.text.now c.in_err-rest-in-None.field-0.0 c.in-None.ensures.cut
     c.in_err-rest-in-None.ensures.cut c.in_err-rest-in-None.ensures.placed)
+
+pub returns-in-Some-clause-reads : goal.returns-in-Some-clause-reads
+returns-in-Some-clause-reads g c = λ b rest is. true_there g.row.A.Denot c.args.text.now c.in-Some.rest.now b rest c.in-Some.ensures.cut is
+
+pub returns-in_ok-rest-in-None-clause-reads : goal.returns-in_ok-rest-in-None-clause-reads
+returns-in_ok-rest-in-None-clause-reads g c =
+    λ b rest is. false_there g.row.A.Denot c.args.text.now c.in_ok-rest-in-None.rest.now b rest c.in-None.ensures.cut c.in_ok-rest-in-None.ensures.cut is
+
+pub returns-in_err-rest-in-None-clause-reads : goal.returns-in_err-rest-in-None-clause-reads
+returns-in_err-rest-in-None-clause-reads g c =
+    λ b rest is. absurd (no_truth_there c.args.text.now b rest c.in-None.ensures.cut c.in_err-rest-in-None.ensures.cut is)

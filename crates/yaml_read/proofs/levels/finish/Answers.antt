@@ -1,10 +1,27 @@
-use Rattle.std.proofs.Common.{◌++◌, ap, ◌∙◌}
-use Rattle.std.specs.Prelude.{codes}
+use Rattle.std.proofs.Common.{◌++◌, [], ap, ◌∙◌, arith}
+use Rattle.std.specs.Prelude.{codes, length}
 use Rattle.yaml_value.specs.SeenValues.{seen_value}
-use Rattle.yaml_read.proofs.Opening.{nothing_left, some_left, value_out}
+use Rattle.yaml_read.proofs.Opening.{nothing_left, root_ends, some_left, value_out}
+use Rattle.yaml_read.proofs.Turns.{cut_is}
+use Rattle.yaml_read.proofs.Words.{no_word}
 use Rattle.yaml_read.proofs.Breaking.{err_exit}
 use Rattle.yaml_read.specs.Places.{LacksEnd, more_follows, no_end}
 use Rattle.yaml_read.proofs.levels.finish.Goals as goal
+
+pub returns-in_err-end-clause-reached : goal.returns-in_err-end-clause-reached
+returns-in_err-end-clause-reached g c =
+    λ root levels read.
+    absurd (no_word (codes "\n") c.args.text.now [] c.in_err-end.ensures.cut (root_ends root (seen_value c.args.value) c.args.text.now read).1)
+
+pub returns-then-is_empty-clause-reached : goal.returns-then-is_empty-clause-reached
+returns-then-is_empty-clause-reached g c = λ root levels read. (root_ends root (seen_value c.args.value) c.args.text.now read).0
+
+pub returns-else-is_empty-clause-reached : goal.returns-else-is_empty-clause-reached
+returns-else-is_empty-clause-reached g c =
+    λ root levels read.
+    let none = cut_is (codes "\n") c.args.text.now c.in_ok-end.end.now [] c.in_ok-end.ensures.cut
+    (root_ends root (seen_value c.args.value) c.args.text.now read).1 in
+    absurd (omega (arith, some_left c.in_ok-end.end.now c.is_empty.result c.is_empty.ensures c.if-is_empty.false, ap length none))
 
 pub returns-then-is_empty-clause-read : goal.returns-then-is_empty-clause-read
 returns-then-is_empty-clause-read g c =

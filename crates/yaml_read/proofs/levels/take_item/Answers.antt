@@ -13,6 +13,7 @@ use Rattle.yaml_read.specs.Opened.{EntryCut, HasRead, IsOpen}
 use Rattle.yaml_read.proofs.Opening.{item_on, item_out}
 use Rattle.yaml_read.proofs.SeenLevels.{item_more, seen_list}
 use Rattle.yaml_read.proofs.Breaking.{err_exit}
+use Rattle.yaml_read.specs.Shorter.{EntryShorter}
 use Rattle.yaml_read.specs.Grammar.{entry_end}
 use Rattle.yaml_read.specs.Places.{BreaksAt}
 use Rattle.yaml_read.proofs.levels.take_item.Goals as goal
@@ -67,3 +68,9 @@ pub returns-in_err-entry-clause-breaks : goal.returns-in_err-entry-clause-breaks
 returns-in_err-entry-clause-breaks g c =
     err_exit (BreaksAt (entry_end c.args.depth (codes "  ") (codes "]")) c.args.text.now) c.in_err-entry.field-0.0 c.from_residual.result
     c.from_residual.ensures c.in_err-entry.ensures.breaks
+
+pub returns-in-Another-clause-shorter : goal.returns-in-Another-clause-shorter
+returns-in-Another-clause-shorter g c = subst (EntryShorter c.args.text.now) c.in-Another.is c.in_ok-entry.ensures.shorter
+
+pub returns-in-End-clause-shorter : goal.returns-in-End-clause-shorter
+returns-in-End-clause-shorter g c = subst (EntryShorter c.args.text.now) c.in-End.is c.in_ok-entry.ensures.shorter

@@ -14,7 +14,10 @@ use Rattle.yaml_read.specs.declared.errors.Stop.{Stop}
 use Rattle.yaml_read.specs.declared.heads.Head.{Head}
 use Rattle.yaml_read.specs.declared.heads.Head.TheVariants as head
 use Rattle.yaml_read.specs.declared.levels.Level.{Level}
+use Rattle.std.proofs.lemmas.Result.{IfOk-weaker}
+use Rattle.yaml_read.specs.Shorter.{NextShorter}
 use Rattle.yaml_read.specs.declared.levels.Next.{Next}
+use Rattle.yaml_read.specs.declared.levels.Next.TheVariants.{Done, Node}
 use Rattle.yaml_read.proofs.SeenLevels.{levels_length}
 use Rattle.yaml_read.proofs.Turns.{into, into_error, list_opens, map_opens, nested_readable, whole_read}
 use Rattle.yaml_read.proofs.Words.{at_exit}
@@ -43,6 +46,22 @@ head_is root levels bytes read h rest due is reads =
 -- the line of an entry in the levels of a program
 line_word : {A : Type 0} (levels : List (Level A)) → line_at (length levels * 2 + 2) ≡ line_at (length (seen_levels levels) * 2 + 2)
 line_word levels = ap (λ n. line_at (n * 2 + 2)) (sym (levels_length levels))
+
+-- less is left behind what begins later
+next_less : {A : Type 0} (text rest : List ℕ) (next : Next A) → length rest < length text → NextShorter rest next → NextShorter text next
+next_less text rest (Done value) less is = tt
+next_less text rest (Node after) less is = omega (arith, less, is)
+
+pub returns-after-is_collection-clause-shorter : goal.returns-after-is_collection-clause-shorter
+returns-after-is_collection-clause-shorter g c =
+    IfOk-weaker c.settle.result _ _ (λ next less. next_less c.args.text.now c.in_ok-head.rest.now next c.in_ok-head.ensures.shorter less)
+    c.settle.ensures.shorter
+
+pub returns-in_ok-next-in-Items-clause-shorter : goal.returns-in_ok-next-in-Items-clause-shorter
+returns-in_ok-next-in-Items-clause-shorter g c = omega (arith, c.in_ok-head.ensures.shorter, c.in_ok-next-in-Items.ensures.shorter)
+
+pub returns-in_ok-next-in-Pairs-clause-shorter : goal.returns-in_ok-next-in-Pairs-clause-shorter
+returns-in_ok-next-in-Pairs-clause-shorter g c = omega (arith, c.in_ok-head.ensures.shorter, c.in_ok-next-in-Pairs.ensures.shorter)
 
 pub returns-in_err-check_room-in-Whole-clause-reached : goal.returns-in_err-check_room-in-Whole-clause-reached
 returns-in_err-check_room-in-Whole-clause-reached g c =
