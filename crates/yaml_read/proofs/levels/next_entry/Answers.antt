@@ -1,4 +1,4 @@
-use Rattle.std.proofs.Common.{◌≡◌, ◌*◌, ◌++◌, None, ap, subst, sym, ◌∙◌}
+use Rattle.std.proofs.Common.{◌≡◌, ◌*◌, ◌++◌, None, ap, subst, sym, ◌∙◌, arith}
 use Rattle.std.specs.Prelude.{codes, Result}
 use Rattle.yaml_base.specs.values.ValueText.{line_at}
 use Rattle.yaml_read.specs.Entries.{EntryFound}
@@ -11,6 +11,10 @@ use Rattle.yaml_read.proofs.Breaking.{err_exit, no_comma, no_entry, no_line_behi
 use Rattle.yaml_read.specs.Grammar.{entry_end}
 use Rattle.yaml_read.specs.Places.{BreaksAt}
 use Rattle.yaml_read.proofs.levels.next_entry.Goals as goal
+
+pub returns-in_err-behind-clause-found : goal.returns-in_err-behind-clause-found
+returns-in_err-behind-clause-found c =
+    λ tail is. absurd (no_word (codes ",") c.args.text.now (line_at (c.args.depth * 2) ++ tail) c.in_err-behind.ensures.cut is)
 
 pub returns-in_err-line-clause-found : goal.returns-in_err-line-clause-found
 returns-in_err-line-clause-found c =
@@ -73,3 +77,10 @@ returns-in_err-rest-in-None-clause-breaks c =
     (no_entry c.args.depth c.args.lead.now c.args.end.now c.args.text.now c.in_ok-behind.behind.now c.in_ok-line.line.now
     c.in_err-rest-in-None.field-0.0 c.in_ok-behind.ensures.cut c.in_ok-line.ensures.cut c.in-None.ensures.cut c.in_err-rest-in-None.ensures.cut
     c.in_err-rest-in-None.ensures.placed)
+
+pub returns-in-Some-clause-shorter : goal.returns-in-Some-clause-shorter
+returns-in-Some-clause-shorter c = omega (arith, c.in_ok-behind.ensures.shorter, c.in_ok-line.ensures.shorter, c.in-Some.ensures.shorter)
+
+pub returns-in_ok-rest-in-None-clause-shorter : goal.returns-in_ok-rest-in-None-clause-shorter
+returns-in_ok-rest-in-None-clause-shorter c =
+    omega (arith, c.in_ok-behind.ensures.shorter, c.in_ok-line.ensures.shorter, c.in_ok-rest-in-None.ensures.shorter)

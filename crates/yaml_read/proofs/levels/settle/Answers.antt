@@ -1,4 +1,4 @@
-use Rattle.std.proofs.Common.{◌≡◌, List, subst, sym, ◌∙◌, rules, arith}
+use Rattle.std.proofs.Common.{◌≡◌, ◌<◌, List, subst, sym, ◌∙◌, rules, arith}
 use Rattle.std.specs.Prelude.{Result, Ok, length}
 use Rattle.yaml_value.specs.SeenValues.{seen_value}
 use Rattle.yaml_read.specs.Remaining.{IsDue, IsRead, OpenLevel, Reached, TurnReached, seen_level, seen_levels}
@@ -13,6 +13,7 @@ use Rattle.yaml_read.specs.Opened.{HasRead, IsOpen, TurnRead}
 use Rattle.yaml_read.proofs.Breaking.{err_exit}
 use Rattle.yaml_read.proofs.BreakingNodes.{end_stops, value_stops}
 use Rattle.yaml_read.specs.Places.{StopsIn}
+use Rattle.yaml_read.specs.Shorter.{TurnShorter}
 use Rattle.yaml_read.proofs.levels.settle.Goals as goal
 
 pub returns-in_err-turn-clause-reached : goal.returns-in_err-turn-clause-reached
@@ -106,3 +107,9 @@ returns-clause-stops g c =
     end_stops whole (seen_value c.loop-level.value) c.loop-level.rest.now c.finish.result
     (subst (λ (levels : List OpenLevel). HasRead whole levels (seen_value c.loop-level.value) c.loop-level.rest.now) none
     (c.loop-level.invariant.3.read whole read)) c.finish.ensures.lacks
+
+pub returns-in-Continues-clause-shorter : goal.returns-in-Continues-clause-shorter
+returns-in-Continues-clause-shorter g c =
+    let less : length c.in-Continues.next.now < length c.loop-level.rest.now =
+    subst (λ (t : Turn g.row.A.Denot). TurnShorter c.loop-level.rest.now t) c.in-Continues.is c.in_ok-turn.ensures.shorter in
+    omega (arith, less, c.loop-level.invariant.1)

@@ -9,7 +9,14 @@ use Rattle.yaml_base.specs.Seen.{seen_text}
 use Rattle.yaml_read.proofs.Encoded.{word_encoded}
 use Rattle.yaml_read.proofs.TagTexts.{joined, some_bytes, some_chars}
 use Rattle.yaml_read.proofs.Turns.{cut_is}
+use Rattle.yaml_read.proofs.Words.{no_word}
 use Rattle.yaml_read.proofs.tags.read_suffix.Goals as goal
+
+pub returns-in_err-rest-clause-reads : goal.returns-in_err-rest-clause-reads
+returns-in_err-rest-clause-reads g c =
+    λ suffix rest scalars some is.
+    let read = c.in_ok-suffix.ensures.reads suffix (space ∷ rest) scalars refl is in
+    absurd (no_word (codes " ") c.in_ok-suffix.behind.now (encode_utf8_all rest) c.in_err-rest.ensures.cut (read.1 ∙ word_encoded (codes " ") rest refl))
 
 pub returns-then-is_empty-clause-reads : goal.returns-then-is_empty-clause-reads
 returns-then-is_empty-clause-reads g c =
