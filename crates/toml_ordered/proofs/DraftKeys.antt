@@ -1,6 +1,6 @@
 -- A table while it is read beside the keys and values that it stands for.
 use Rattle.std.proofs.Common.{◌≡◌, ℕ, zero, suc, ◌+◌, ◌<◌, ◌≤◌, ◌==◌, true, false, Bool, List, [], ◌∷◌, ◌++◌, map, length, Option, Some}
-use Rattle.std.proofs.Common.{None, cond, String, Vec, BTreeMap, Global, string_bytes, bytes_eq, refl, sym, ap, subst, ◌∙◌, inl, inr, rules, arith, set, get_or}
+use Rattle.std.proofs.Common.{None, cond, String, Result, Ok, Err, ap₂, option_map, Vec, BTreeMap, Global, string_bytes, bytes_eq, refl, sym, ap, subst, ◌∙◌, inl, inr, rules, arith, set, get_or}
 use Rattle.std.proofs.lemmas.List.{length-append, append_assoc}
 use Rattle.std.proofs.lemmas.Bool.{cases_Bool, eq-eqb, eqb-true, false≢true}
 use Rattle.std.proofs.lemmas.Slice.Eq.{bytes_eq-Decides}
@@ -16,6 +16,8 @@ use Rattle.toml_ordered.specs.declared.route.Way.TheVariants as way
 use Rattle.toml_ordered.specs.Data.{TomlNode, string, integer, decimal, infinity, not_a_number, boolean, datetime, array, table}
 use Rattle.toml_ordered.specs.Data.{tables, TomlNodes, items_view, node_view}
 use Rattle.toml_ordered.specs.Drafts.{sealed, is_place, kept, nodes_from, draft_view, drafts_view, keys_view, HasKey, IsIndexedAt}
+use Rattle.toml_ordered.specs.Reading.{ParsesTo}
+use Rattle.toml_ordered.specs.declared.fault.Fault.{Fault}
 use Rattle.toml_ordered.specs.Tables.{Definition, key_value, std_table, array_table, Edit, passed, redefine, get_node, append, replace}
 
 abbrev pub Draft : Type 0
@@ -98,17 +100,17 @@ module _ (index : Places) (k : List ℕ) where
       (elsewhere index n k (string_bytes e.0) (apart (get_by_text index k) n at is))
       ∙ found_from (suc n) at es d (is ∙ ap (λ (m : ℕ). Some m) next) has
 
-  written_from : (n at : ℕ) (es : List Draft) (d u w : Draft) → get_by_text index k ≡ Some (n + at) → HasKey k at es → w.0 ≡ (get_or es at d).0
-      → nodes_from index n (drafts_view (set (set es at u) at w)) ≡ replace k (draft_view w.1) (nodes_from index n (drafts_view es))
-  written_from n at [] d u w is has same = absurd has
-  written_from n zero (e ∷ es) d u w is has same =
+  written_from : (n at : ℕ) (es : List Draft) (d w : Draft) → get_by_text index k ≡ Some (n + at) → HasKey k at es → w.0 ≡ (get_or es at d).0
+      → nodes_from index n (drafts_view (set es at w)) ≡ replace k (draft_view w.1) (nodes_from index n (drafts_view es))
+  written_from n at [] d w is has same = absurd has
+  written_from n zero (e ∷ es) d w is has same =
       let here : is_place (get_by_text index (string_bytes e.0)) n ≡ true = live_here n e is has in
       rw (same, here, has)
-  written_from n (suc at) (e ∷ es) d u w is has same =
+  written_from n (suc at) (e ∷ es) d w is has same =
       let next : n + suc at ≡ suc n + at = omega arith in
       let b = is_place (get_by_text index (string_bytes e.0)) n in
       let ns = nodes_from index (suc n) (drafts_view es) in
-      ap (kept b (string_bytes e.0) (draft_view e.1)) (written_from (suc n) at es d u w (is ∙ ap (λ (m : ℕ). Some m) next) has same)
+      ap (kept b (string_bytes e.0) (draft_view e.1)) (written_from (suc n) at es d w (is ∙ ap (λ (m : ℕ). Some m) next) has same)
       ∙ sym (replaced_over b k (string_bytes e.0) (draft_view e.1) (draft_view w.1) ns
       (elsewhere index n k (string_bytes e.0) (apart (get_by_text index k) n at is)))
 
@@ -142,12 +144,21 @@ found_at k at es d index has =
     let start : at ≡ 0 + at = omega arith in
     found_from index k 0 at es d (has.0 ∙ ap (λ (m : ℕ). Some m) start) has.1
 
--- what is left where it was moved out, and another written in its place
-pub written_at : (k : List ℕ) (at : ℕ) (es : List Draft) (d u w : Draft) (index : Places) → IsIndexedAt k at es index → w.0 ≡ (get_or es at d).0
-    → keys_view (set (set es at u) at w) index ≡ replace k (draft_view w.1) (keys_view es index)
-written_at k at es d u w index has same =
+-- another written in its place
+pub written_at : (k : List ℕ) (at : ℕ) (es : List Draft) (d w : Draft) (index : Places) → IsIndexedAt k at es index → w.0 ≡ (get_or es at d).0
+    → keys_view (set es at w) index ≡ replace k (draft_view w.1) (keys_view es index)
+written_at k at es d w index has same =
     let start : at ≡ 0 + at = omega arith in
-    written_from index k 0 at es d u w (has.0 ∙ ap (λ (m : ℕ). Some m) start) has.1 same
+    written_from index k 0 at es d w (has.0 ∙ ap (λ (m : ℕ). Some m) start) has.1 same
+
+-- the same of the value that stands there
+pub found_here : (k : List ℕ) (at : ℕ) (es : List Draft) (e : Draft) (index : Places) → IsIndexedAt k at es index → get_or es at e ≡ e
+    → get_node k (keys_view es index) ≡ Some (draft_view e.1)
+found_here k at es e index has is = found_at k at es e index has ∙ ap (λ (x : Draft). Some (draft_view x.1)) is
+
+pub written_here : (k : List ℕ) (at : ℕ) (es : List Draft) (e w : Draft) (index : Places) → IsIndexedAt k at es index → get_or es at e ≡ e → w.0 ≡ e.0
+    → keys_view (set es at w) index ≡ replace k (draft_view w.1) (keys_view es index)
+written_here k at es e w index has is same = written_at k at es e w index has (same ∙ ap (λ (x : Draft). x.0) (sym is))
 
 -- a key without a place
 pub absent : (k : List ℕ) (es : List Draft) (index : Places) → get_by_text index k ≡ None → get_node k (keys_view es index) ≡ None
@@ -378,3 +389,57 @@ sealed_stays array_table (datetime date) = refl
 sealed_stays array_table (array items) = refl
 sealed_stays array_table (table origin keys) = refl
 sealed_stays array_table (tables done last) = refl
+
+-- ---- a table, or the last of an array, after a key passed into it
+
+pub table_is : (was : CodeDraft) (o o' : Origin) (ks ks' : Vec Draft Global) (is is' : Places) → was ≡ DraftTable o ks is → o' ≡ o → ks' ≡ ks → is' ≡ is
+    → was ≡ DraftTable o' ks' is'
+table_is was o o' ks ks' is is' same a b c = cc
+
+pub tables_is : (was : CodeDraft) (xs xs' : Vec CodeNode Global) (ks ks' : Vec Draft Global) (is is' : Places) → was ≡ DraftTables xs ks is → xs' ≡ xs
+    → ks' ≡ ks → is' ≡ is → was ≡ DraftTables xs' ks' is'
+tables_is was xs xs' ks ks' is is' same a b c = cc
+
+pub refuses_table : (by : Way) (edit : Edit) (was : CodeDraft) (origin : Origin) (old : Vec Draft Global) (before : Places) → was ≡ DraftTable origin old before
+    → ((inner : TomlNodes) → passed by edit (table origin inner) ≡ None) → passed by edit (draft_view was) ≡ None
+refuses_table by edit was origin old before is refuses =
+    ap (λ (d : CodeDraft). passed by edit (draft_view d)) is ∙ ap (passed by edit) (draft_view-Table origin old before) ∙ refuses (keys_view old.items before)
+
+pub refuses_tables : (by : Way) (edit : Edit) (was : CodeDraft) (all : Vec CodeNode Global) (old : Vec Draft Global) (before : Places)
+    → was ≡ DraftTables all old before → by ≡ way.Dots → passed by edit (draft_view was) ≡ None
+refuses_tables by edit was all old before is dots =
+    ap₂ (λ (w : Way) (d : CodeDraft). passed w edit (draft_view d)) dots is ∙ ap (passed way.Dots edit) (draft_view-Tables all old before)
+
+pub refuses_value : (by : Way) (edit : Edit) (was : CodeDraft) (x : CodeNode) → was ≡ DraftValue x → passed by edit (draft_view was) ≡ None
+refuses_value by edit was x is =
+    ap (λ (d : CodeDraft). passed by edit (draft_view d)) is ∙ ap (passed by edit) (draft_view-Value x) ∙ sealed_passes by edit (node_view x)
+
+pub passes_table : (by : Way) (edit : Edit) (was : CodeDraft) (origin after : Origin) (old new : Vec Draft Global) (before index : Places)
+    (r : Result (Unit {0}) Fault) → was ≡ DraftTable origin old before
+    → ((inner : TomlNodes) → passed by edit (table origin inner) ≡ option_map (table after) (edit inner))
+    → ParsesTo (λ _. keys_view new.items index) r (edit (keys_view old.items before))
+    → ParsesTo (λ _. draft_view (DraftTable after new index)) r (passed by edit (draft_view was))
+passes_table by edit was origin after old new before index r is passes = done r
+  where
+    into : passed by edit (draft_view was) ≡ option_map (table after) (edit (keys_view old.items before))
+    into =
+        ap (λ (d : CodeDraft). passed by edit (draft_view d)) is ∙ ap (passed by edit) (draft_view-Table origin old before) ∙ passes (keys_view old.items before)
+
+    done : (r : Result (Unit {0}) Fault) → ParsesTo (λ _. keys_view new.items index) r (edit (keys_view old.items before))
+        → ParsesTo (λ _. draft_view (DraftTable after new index)) r (passed by edit (draft_view was))
+    done (Ok u) read = into ∙ ap (option_map (table after)) read ∙ ap (λ (x : TomlNode). Some x) (sym (draft_view-Table after new index))
+    done (Err e) read = λ real. into ∙ ap (option_map (table after)) (read real)
+
+pub passes_tables : (by : Way) (edit : Edit) (was : CodeDraft) (all : Vec CodeNode Global) (old new : Vec Draft Global) (before index : Places)
+    (r : Result (Unit {0}) Fault) → by ≡ way.Header → was ≡ DraftTables all old before
+    → ParsesTo (λ _. keys_view new.items index) r (edit (keys_view old.items before))
+    → ParsesTo (λ _. draft_view (DraftTables all new index)) r (passed by edit (draft_view was))
+passes_tables by edit was all old new before index r header is = done r
+  where
+    into : passed by edit (draft_view was) ≡ option_map (tables (items_view all.items)) (edit (keys_view old.items before))
+    into = ap₂ (λ (w : Way) (d : CodeDraft). passed w edit (draft_view d)) header is ∙ ap (passed way.Header edit) (draft_view-Tables all old before)
+
+    done : (r : Result (Unit {0}) Fault) → ParsesTo (λ _. keys_view new.items index) r (edit (keys_view old.items before))
+        → ParsesTo (λ _. draft_view (DraftTables all new index)) r (passed by edit (draft_view was))
+    done (Ok u) read = into ∙ ap (option_map (tables (items_view all.items))) read ∙ ap (λ (x : TomlNode). Some x) (sym (draft_view-Tables all new index))
+    done (Err e) read = λ real. into ∙ ap (option_map (tables (items_view all.items))) (read real)

@@ -2,7 +2,8 @@
 use Rattle.std.proofs.Common.{◌≡◌, ℕ, zero, suc, List, [], ◌∷◌, ◌++◌, map, Some, None, String, Vec, Global, string_bytes, refl, sym, ap, subst, ◌∙◌}
 use Rattle.std.proofs.Common.{inl, inr, ◌⊎◌, rules, set, get_or}
 use Rattle.std.proofs.Common.{Result, Ok, Err}
-use Rattle.std.specs.Result.{IfErr, IsErrAnd}
+use Rattle.std.proofs.lemmas.Result.{IfOk-weaker, IfErr-weaker}
+use Rattle.std.specs.Result.{IfOk, IfErr, IsErrAnd}
 use Rattle.std.proofs.lemmas.Slice.Eq.{bytes_eq-Decides}
 use Rattle.toml_ordered.specs.declared.drafts.Draft.{Draft as CodeDraft, Table as DraftTable, Tables as DraftTables, Value as DraftValue}
 use Rattle.toml_ordered.specs.declared.drafts.Draft.{the_lemmas}
@@ -15,6 +16,7 @@ use Rattle.toml_ordered.specs.Data.{TomlNode, TomlNodes, no_nodes}
 use Rattle.toml_ordered.specs.Drafts.{HasKey}
 use Rattle.toml_ordered.specs.Firsts.{Firsts, no_firsts, HasFirst, draft_firsts, keys_firsts, keys_in, keys_at, PassesKey, IsNewKey, AddsFirsts, IfAgain}
 use Rattle.toml_ordered.specs.Firsts.{IsAgain}
+use Rattle.toml_ordered.specs.Reading.{IsPassed, IsSameKey}
 use Rattle.toml_ordered.specs.Tables.{get_node, steps_along}
 
 pub draft_firsts-Value : (x : CodeNode) → draft_firsts (DraftValue x) ≡ no_firsts
@@ -52,23 +54,23 @@ of_last (e ∷ es) w (step ∷ path) key left (inr has) = elim (of_last es w (st
 ]
 
 -- another value at the place of a key
-pub of_written : (k : List ℕ) (at : ℕ) (es : List Draft) (d u w : Draft) → HasKey k at es → w.0 ≡ (get_or es at d).0 → w.2 ≡ (get_or es at d).2
-    → (path : Path) (key : List ℕ) (left : ℕ) → HasFirst (keys_firsts (set (set es at u) at w)) path key left
+pub of_written : (k : List ℕ) (at : ℕ) (es : List Draft) (d w : Draft) → HasKey k at es → w.0 ≡ (get_or es at d).0 → w.2 ≡ (get_or es at d).2
+    → (path : Path) (key : List ℕ) (left : ℕ) → HasFirst (keys_firsts (set es at w)) path key left
     → HasFirst (keys_firsts es) path key left ⊎ Under (string_bytes w.0) (draft_firsts w.1) path key left
-of_written k at [] d u w has name place path key left first = absurd has
-of_written k zero (e ∷ es) d u w has name place [] key left (inl here) =
+of_written k at [] d w has name place path key left first = absurd has
+of_written k zero (e ∷ es) d w has name place [] key left (inl here) =
     inl (inl (here.0 ∙ ap (λ (s : String Global). string_bytes s) name, here.1 ∙ place))
-of_written k zero (e ∷ es) d u w has name place [] key left (inr first) = inl (inr first)
-of_written k zero (e ∷ es) d u w has name place (step ∷ path) key left (inl here) = inr (path, ap (λ (s : List ℕ). s ∷ path) here.0, here.1)
-of_written k zero (e ∷ es) d u w has name place (step ∷ path) key left (inr first) = inl (inr first)
-of_written k (suc at) (e ∷ es) d u w has name place [] key left (inl here) = inl (inl here)
-of_written k (suc at) (e ∷ es) d u w has name place [] key left (inr first) = elim (of_written k at es d u w has name place [] key left first) [
+of_written k zero (e ∷ es) d w has name place [] key left (inr first) = inl (inr first)
+of_written k zero (e ∷ es) d w has name place (step ∷ path) key left (inl here) = inr (path, ap (λ (s : List ℕ). s ∷ path) here.0, here.1)
+of_written k zero (e ∷ es) d w has name place (step ∷ path) key left (inr first) = inl (inr first)
+of_written k (suc at) (e ∷ es) d w has name place [] key left (inl here) = inl (inl here)
+of_written k (suc at) (e ∷ es) d w has name place [] key left (inr first) = elim (of_written k at es d w has name place [] key left first) [
   | inl old ↦ inl (inr old)
   | inr new ↦ inr new
 ]
-of_written k (suc at) (e ∷ es) d u w has name place (step ∷ path) key left (inl here) = inl (inl here)
-of_written k (suc at) (e ∷ es) d u w has name place (step ∷ path) key left (inr first) =
-    elim (of_written k at es d u w has name place (step ∷ path) key left first) [
+of_written k (suc at) (e ∷ es) d w has name place (step ∷ path) key left (inl here) = inl (inl here)
+of_written k (suc at) (e ∷ es) d w has name place (step ∷ path) key left (inr first) =
+    elim (of_written k at es d w has name place (step ∷ path) key left first) [
       | inl old ↦ inl (inr old)
       | inr new ↦ inr new
     ]
@@ -101,14 +103,15 @@ new_behind k whole ns inner path key is new =
     (passes_behind k whole path key new.0, ap (λ (keys : TomlNodes). get_node key (keys_at path keys)) is ∙ new.1)
 
 -- what is defined inside of a key that is there
-pub adds_inside : (k : List ℕ) (whole : Path) (here : ℕ) (ns : TomlNodes) (x : TomlNode) (at : ℕ) (es : List Draft) (e u : Draft) (after : CodeDraft)
-    → get_node k ns ≡ Some x → HasKey k at es → get_or es at e ≡ e → AddsFirsts whole here (keys_in (Some x)) (draft_firsts e.1) (draft_firsts after)
-    → AddsFirsts (k ∷ whole) here ns (keys_firsts es) (keys_firsts (set (set es at u) at (e.0, after, e.2)))
-adds_inside k whole here ns x at es e u after found has is_e inner path key left first =
-    elim (of_written k at es e u (e.0, after, e.2) has (ap (λ (d : Draft). d.0) (sym is_e)) (ap (λ (d : Draft). d.2) (sym is_e)) path key left first) [
+pub adds_inside : (k : List ℕ) (whole : Path) (here : ℕ) (ns : TomlNodes) (x : TomlNode) (at : ℕ) (es : List Draft) (e w : Draft)
+    → get_node k ns ≡ Some x → HasKey k at es → get_or es at e ≡ e → IsSameKey e w
+    → AddsFirsts whole here (keys_in (Some x)) (draft_firsts e.1) (draft_firsts w.1) → AddsFirsts (k ∷ whole) here ns (keys_firsts es) (keys_firsts (set es at w))
+adds_inside k whole here ns x at es e w found has is_e same inner path key left first =
+    elim (of_written k at es e w has (same.0 ∙ ap (λ (d : Draft). d.0) (sym is_e)) (same.1 ∙ ap (λ (d : Draft). d.2) (sym is_e)) path key left first) [
       | inl old ↦ inl old
       | inr under ↦
-          let name : string_bytes e.0 ≡ k = ap (λ (d : Draft). string_bytes d.0) (sym is_e) ∙ sym (name_is k at es e has) in
+          let name : string_bytes w.0 ≡ k =
+          ap (λ (n : String Global). string_bytes n) same.0 ∙ ap (λ (d : Draft). string_bytes d.0) (sym is_e) ∙ sym (name_is k at es e has) in
           let is : path ≡ k ∷ under.0 = under.1 ∙ ap (λ (s : List ℕ). s ∷ under.0) name in
           elim (inner under.0 key left under.2) [
             | inl old ↦
@@ -122,6 +125,14 @@ adds_inside k whole here ns x at es e u after found has is_e inner path key left
                 )
           ]
     ]
+
+-- the same, said of equal keys
+pub adds_same : (r : Result (Unit {0}) Fault) (whole : Path) (here : ℕ) (ns ns' : TomlNodes) (old old' new new' : Firsts) → ns ≡ ns' → old ≡ old' → new ≡ new'
+    → IfOk r (λ _. AddsFirsts whole here ns' old' new') → IfOk r (λ _. AddsFirsts whole here ns old new)
+adds_same (Err e) whole here ns ns' old old' new new' a b c adds = tt
+adds_same (Ok u) whole here ns ns' old old' new new' a b c adds =
+    subst (λ (n : TomlNodes). AddsFirsts whole here n old new) (sym a) (subst (λ (f : Firsts). AddsFirsts whole here ns' f new) (sym b)
+    (subst (λ (f : Firsts). AddsFirsts whole here ns' old' f) (sym c) adds))
 
 -- a key that is missing, and what is defined inside of it
 pub adds_missing : (k : List ℕ) (whole : Path) (here : ℕ) (ns : TomlNodes) (es after : List Draft) (w : Draft) → string_bytes w.0 ≡ k → w.2 ≡ here
@@ -163,14 +174,13 @@ fails_so (Ok a) e Q P failed same holds = tt
 fails_so (Err y) e Q P failed same holds = subst P (sym (same y failed)) holds
 
 -- the key itself, which stands at the beginning of the whole path
-pub again_here : (k name : List ℕ) (rest : Path) (here place : ℕ) (at : ℕ) (es : List Draft) (e : Draft) (found : Fault) → HasKey k at es
-    → get_or es at e ≡ e → name ≡ k → place ≡ e.2 → IfAgain found (λ key first second. (key ≡ name) × (first ≡ place) × (second ≡ here))
-    → IsAgain (k ∷ rest) here (keys_firsts es) found
-again_here k name rest here place at es e fault.Memory has is_e is_name is_place passed = tt
-again_here k name rest here place at es e (fault.NotToml left) has is_e is_name is_place passed = tt
-again_here k name rest here place at es e (fault.DefinedAgain key first second) has is_e is_name is_place passed =
-    let is_key : string_bytes key ≡ k = passed.0 ∙ is_name in
-    let is_first : first ≡ (get_or es at e).2 = passed.1 ∙ is_place ∙ ap (λ (d : Draft). d.2) (sym is_e) in (
+pub again_here : (k : List ℕ) (rest : Path) (here : ℕ) (at : ℕ) (es : List Draft) (e : Draft) (found : Fault) → HasKey k at es
+    → get_or es at e ≡ e → IsPassed (string_bytes e.0) e.2 here found → IsAgain (k ∷ rest) here (keys_firsts es) found
+again_here k rest here at es e fault.Memory has is_e passed = tt
+again_here k rest here at es e (fault.NotToml left) has is_e passed = tt
+again_here k rest here at es e (fault.DefinedAgain key first second) has is_e passed =
+    let is_key : string_bytes key ≡ k = passed.0 ∙ ap (λ (d : Draft). string_bytes d.0) (sym is_e) ∙ sym (name_is k at es e has) in
+    let is_first : first ≡ (get_or es at e).2 = passed.1 ∙ ap (λ (d : Draft). d.2) (sym is_e) in (
       passed.2,
       [],
       subst (λ (l : List ℕ). HasFirst (keys_firsts es) [] l first) (sym is_key)
@@ -190,6 +200,25 @@ again_inside k whole here at es e (fault.DefinedAgain key first second) has is_e
       (subst (λ (d : Draft). HasFirst (draft_firsts d.1) again.1 (string_bytes key) first) (sym is_e) again.2),
   passes_behind k whole again.1 (string_bytes key) again.3,
 )
+
+-- what an edit in the value of a key adds, or finds to be defined again
+module _ (all : Path) (k : List ℕ) (whole : Path) (here at : ℕ) (es : List Draft) (e : Draft) (r : Result (Unit {0}) Fault) where
+  pub adds_along : (ns : TomlNodes) (x : TomlNode) (w : Draft) → all ≡ k ∷ whole → get_node k ns ≡ Some x → HasKey k at es → get_or es at e ≡ e → IsSameKey e w
+      → IfOk r (λ _. AddsFirsts whole here (keys_in (Some x)) (draft_firsts e.1) (draft_firsts w.1))
+      → IfOk r (λ _. AddsFirsts all here ns (keys_firsts es) (keys_firsts (set es at w)))
+  adds_along ns x w is found has is_e same adds =
+      IfOk-weaker r _ _
+      (λ _ inner. subst (λ (p : Path). AddsFirsts p here ns (keys_firsts es) (keys_firsts (set es at w))) (sym is)
+      (adds_inside k whole here ns x at es e w found has is_e same inner)) adds
+
+  pub again_along : all ≡ k ∷ whole → HasKey k at es → get_or es at e ≡ e
+      → IfErr r (λ fault. IsPassed (string_bytes e.0) e.2 here fault ⊎ IsAgain whole here (draft_firsts e.1) fault) → IfErr r (IsAgain all here (keys_firsts es))
+  again_along is has is_e again =
+      IfErr-weaker r _ _
+      (λ fault found. subst (λ (p : Path). IsAgain p here (keys_firsts es) fault) (sym is) (elim found [
+        | inl own ↦ again_here k whole here at es e fault has is_e own
+        | inr inside ↦ again_inside k whole here at es e fault has is_e inside
+      ])) again
 
 -- ---- routes
 

@@ -1,6 +1,7 @@
 -- How a result stands to what the grammar gives.
-use Rattle.std.specs.Prelude.{◌≡◌, ℕ, ◌<◌, string_bytes, List, [], ◌∷◌, ◌++◌, map, length, Result, MatchResult, IfOk, Option, Some, None}
+use Rattle.std.specs.Prelude.{◌≡◌, ℕ, ◌<◌, String, string_bytes, List, [], ◌∷◌, ◌++◌, map, length, Result, MatchResult, IfOk, Option, Some, None}
 use Rattle.std.specs.Borrow.{Bor}
+use Rattle.std.specs.declared.alloc.Global.{Global}
 use Rattle.toml_parser.specs.Lexical.{Read}
 use Rattle.toml_parser.specs.Reading.{path_view, key_view}
 use Rattle.toml_parser.specs.declared.error.ParseError.{ParseError}
@@ -17,7 +18,7 @@ use Rattle.toml_ordered.specs.declared.fault.Fault.TheVariants as fault
 use Rattle.toml_ordered.specs.declared.route.Route.{Route}
 use Rattle.toml_ordered.specs.declared.tables.Definition as code_definition
 use Rattle.toml_ordered.specs.declared.tables.Entry.{Entry}
-use Rattle.toml_ordered.specs.declared.tables.Passed.{Passed}
+use Rattle.toml_ordered.specs.declared.drafts.Draft.{Draft as CodeDraft}
 use Rattle.toml_ordered.specs.declared.tables.Definition.TheVariants.{Value, Table, Tables}
 
 -- an allocation failed
@@ -64,9 +65,13 @@ whole_of route entry = path_of route ++ string_bytes entry.key ∷ []
 abbrev pub along_route : Route → Entry → Edit
 along_route route entry = along (steps_of route) (at_key (string_bytes entry.key) (definition_view entry.what))
 
--- the fault of a key that is passed, here
-abbrev pub IsPassed : Passed → (here : ℕ) → Fault → Type 0
-IsPassed passed here found = IfAgain found (λ key first second. (key ≡ passed.key.now) × (first ≡ passed.first) × (second ≡ here))
+-- the fault of a key that is there and takes no more, here
+abbrev pub IsPassed : (key : List ℕ) → (first here : ℕ) → Fault → Type 0
+IsPassed key first here found = IfAgain found (λ k place second. (k ≡ key) × (place ≡ first) × (second ≡ here))
+
+-- a key and its place are what they were
+abbrev pub IsSameKey : (old new : String Global × CodeDraft × ℕ) → Type 0
+IsSameKey old new = (new.0 ≡ old.0) × (new.2 ≡ old.2)
 
 -- what was read of a document
 abbrev pub document_view : CodeDocument → TomlDocument

@@ -1,8 +1,8 @@
 //! The rules by which keys and headers define tables.
-ghost use Rattle.std.specs.Prelude.{◌≡◌, ◌⊎◌, [], ◌∷◌, IfErr, IfOk, IfSome, Some, option_map, string_bytes};
+ghost use Rattle.std.specs.Prelude.{◌≡◌, ◌⊎◌, [], ◌∷◌, IfErr, IfOk, Some, string_bytes};
 ghost use Rattle.toml_ordered.specs.Drafts.{draft_view, keys_view};
 ghost use Rattle.toml_ordered.specs.Firsts.{AddsFirsts, IsAgain, draft_firsts, keys_firsts, keys_in, no_firsts};
-ghost use Rattle.toml_ordered.specs.Reading.{ParsesTo, IsPassed, along_route, definition_view, whole_of};
+ghost use Rattle.toml_ordered.specs.Reading.{ParsesTo, IsPassed, IsSameKey, along_route, definition_view, whole_of};
 ghost use Rattle.toml_ordered.specs.Tables as spec;
 
 use crate::drafts::{Draft, Index, Keys, append, find, finish};
@@ -29,28 +29,14 @@ pub(crate) struct Entry {
     pub(crate) left: usize,
 }
 
-/// A key that is there already: how it is passed, and how much text was left where it was first defined.
-#[derive(Clone, Copy)]
-struct Passed<'a> {
-    way: Way,
-    key: &'a str,
-    first: usize,
-}
-
-impl Passed<'_> {
-    /// Returns the fault of what takes no more.
-    #[cold]
-    fn defined_again(self, alloc: Global, second: usize) -> Fault
-        ensures { IsPassed self.entry second result }
-    {
-        match String::from_str(alloc, self.key) {
-            Ok(key) => Fault::DefinedAgain {
-                key,
-                first: self.first,
-                second,
-            },
-            Err(_) => Fault::Memory,
-        }
+/// Returns the fault of a key that takes no more.
+#[cold]
+fn defined_again(key: &String, first: usize, second: usize) -> Fault
+    ensures { IsPassed (string_bytes key.now) first second result }
+{
+    match key.clone() {
+        Ok(key) => Fault::DefinedAgain { key, first, second },
+        Err(_) => Fault::Memory,
     }
 }
 
@@ -72,13 +58,7 @@ pub(crate) fn define_at(
         return at_key(alloc, keys, index, entry);
     };
     match find(keys, index, key.as_str()) {
-        Some(at) => {
-            let (name, draft, first) = mem::replace(&mut keys[at], nothing(alloc));
-            let key = key.as_str();
-            let draft = pass(alloc, Passed { way, key, first }, draft, rest, entry)?;
-            keys[at] = (name, draft, first);
-            Ok(())
-        }
+        Some(at) => pass(alloc, way, &mut keys[at], rest, entry),
         None => {
             let left = entry.left;
             let mut inner = Vec::new(alloc);
@@ -90,38 +70,39 @@ pub(crate) fn define_at(
     }
 }
 
-/// Returns a value after an entry is defined in it, at the end of a route.
+/// Defines an entry in the value of a key, at the end of a route.
 #[cycle(define_at)]
 fn pass(
     alloc: Global,
-    passed: Passed<'_>,
-    draft: Draft,
+    way: Way,
+    member: &mut (String, Draft, usize),
     route: Route<'_>,
     entry: Entry,
-) -> Result<Draft, Fault>
-    ensures value { ParsesTo draft_view result (spec.passed passed.entry.way (along_route route.entry entry) (draft_view draft)) }
-    ensures firsts { IfOk result (λ after. AddsFirsts (whole_of route.entry entry) entry.left (keys_in (Some (draft_view draft)))
-        (draft_firsts draft) (draft_firsts after)) }
-    ensures again { IfErr result (λ fault. IsPassed passed.entry entry.left fault
-        ⊎ IsAgain (whole_of route.entry entry) entry.left (draft_firsts draft) fault) }
+) -> Result<(), Fault>
+    ensures same_key { IsSameKey member.old member.new }
+    ensures value { ParsesTo (λ _. draft_view member.new.1) result (spec.passed way (along_route route.entry entry) (draft_view member.old.1)) }
+    ensures firsts { IfOk result (λ _. AddsFirsts (whole_of route.entry entry) entry.left (keys_in (Some (draft_view member.old.1)))
+        (draft_firsts member.old.1) (draft_firsts member.new.1)) }
+    ensures again { IfErr result (λ fault. IsPassed (string_bytes member.old.0) member.old.2 entry.left fault
+        ⊎ IsAgain (whole_of route.entry entry) entry.left (draft_firsts member.old.1) fault) }
 {
+    let (key, draft, first) = member;
     match draft {
-        Draft::Table(origin, mut inner, mut index) => {
-            let Some(origin) = passed.way.origin_after(origin) else {
-                return Err(passed.defined_again(alloc, entry.left));
-            };
-            define_at(alloc, &mut inner, &mut index, route, entry)?;
-            Ok(Draft::Table(origin, inner, index))
-        }
-        Draft::Tables(done, mut last, mut index) => {
-            if let Way::Dots = passed.way {
-                return Err(passed.defined_again(alloc, entry.left));
+        Draft::Table(origin, inner, index) => {
+            if let Some(after) = way.origin_after(*origin) {
+                *origin = after;
+                return define_at(alloc, inner, index, route, entry);
             }
-            define_at(alloc, &mut last, &mut index, route, entry)?;
-            Ok(Draft::Tables(done, last, index))
         }
-        Draft::Value(_) => Err(passed.defined_again(alloc, entry.left)),
+        Draft::Tables(_, last, index) => {
+            match way {
+                Way::Header => return define_at(alloc, last, index, route, entry),
+                Way::Dots => {}
+            }
+        }
+        Draft::Value(_) => {}
     }
+    Err(defined_again(key, *first, entry.left))
 }
 
 fn at_key(alloc: Global, keys: &mut Keys, index: &mut Index, entry: Entry) -> Result<(), Fault>
@@ -133,35 +114,36 @@ fn at_key(alloc: Global, keys: &mut Keys, index: &mut Index, entry: Entry) -> Re
 {
     let Entry { key, what, left } = entry;
     match find(keys, index, key.as_str()) {
-        Some(at) => {
-            let (name, draft, first) = mem::replace(&mut keys[at], nothing(alloc));
-            let Some(draft) = redefine(alloc, what, draft)? else {
-                let way = Way::Dots;
-                let key = key.as_str();
-                return Err(Passed { way, key, first }.defined_again(alloc, left));
-            };
-            keys[at] = (name, draft, first);
-            Ok(())
-        }
+        Some(at) => redefine(alloc, &what, &mut keys[at], left),
         None => append(keys, index, key, new_draft(alloc, what), left),
     }
 }
 
-/// Returns a value that a header defines once more; `None` where it can't.
-fn redefine(alloc: Global, what: Definition, draft: Draft) -> Result<Option<Draft>, AllocError>
-    ensures value { IfOk result (λ new. spec.redefine (definition_view what) (draft_view draft) ≡ option_map draft_view new) }
-    ensures firsts { IfOk result (λ new. IfSome new (λ after. (draft_firsts after ≡ draft_firsts draft) ⊎ (draft_firsts after ≡ no_firsts))) }
+/// Defines a key once more, as only a header can.
+fn redefine(
+    alloc: Global,
+    what: &Definition,
+    member: &mut (String, Draft, usize),
+    left: usize,
+) -> Result<(), Fault>
+    ensures same_key { IsSameKey member.old member.new }
+    ensures value { ParsesTo (λ _. draft_view member.new.1) result (spec.redefine (definition_view what.now) (draft_view member.old.1)) }
+    ensures firsts { IfOk result (λ _. (draft_firsts member.new.1 ≡ draft_firsts member.old.1) ⊎ (draft_firsts member.new.1 ≡ no_firsts)) }
+    ensures again { IfErr result (IsPassed (string_bytes member.old.0) member.old.2 left) }
 {
+    let (key, draft, first) = member;
     match (what, draft) {
-        (Definition::Table, Draft::Table(Origin::Implicit, inner, index)) => {
-            Ok(Some(Draft::Table(Origin::Header, inner, index)))
+        (Definition::Table, Draft::Table(origin @ Origin::Implicit, _, _)) => {
+            *origin = Origin::Header;
+            Ok(())
         }
-        (Definition::Tables, Draft::Tables(mut done, last, index)) => {
-            let last = finish(alloc, last, &index)?;
-            done.push(Node::Table(Origin::Closed, last))?;
-            Ok(Some(Draft::Tables(done, Vec::new(alloc), BTreeMap::new(alloc))))
+        (Definition::Tables, Draft::Tables(done, last, index)) => {
+            let nodes = finish(alloc, mem::replace(last, Vec::new(alloc)), index)?;
+            done.push(Node::Table(Origin::Closed, nodes))?;
+            *index = BTreeMap::new(alloc);
+            Ok(())
         }
-        _ => Ok(None),
+        _ => Err(defined_again(key, *first, left)),
     }
 }
 
@@ -177,9 +159,4 @@ fn new_draft(alloc: Global, what: Definition) -> Draft
             Draft::Tables(Vec::new(alloc), Vec::new(alloc), BTreeMap::new(alloc))
         }
     }
-}
-
-/// Returns what stands where a value was moved out, to be changed and put back.
-fn nothing(alloc: Global) -> (String, Draft, usize) {
-    (String::new(alloc), Draft::Value(Node::NotANumber), 0)
 }
