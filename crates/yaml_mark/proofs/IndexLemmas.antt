@@ -9,13 +9,14 @@ use Rattle.std.proofs.lemmas.List.Folds.{list_any-append, list_all-append, list_
 use Rattle.std.proofs.lemmas.List.{length-take-le, take_all, length-drop, drop-append-le}
 use Rattle.std.proofs.Math.Seq.{drop-length}
 use Rattle.std.proofs.lemmas.Str.{IsCharBoundary-from_take}
+use Rattle.std.proofs.Common.{Box}
 use Rattle.std.proofs.lemmas.Bool.{le-leb}
 use Rattle.std.proofs.lemmas.Bool.Decides.{Decides-eqb}
 use Rattle.std.specs.BTreeMap.{get_by_text}
 use Rattle.std.specs.List.{slice_range}
 use Rattle.std.specs.BTreeSet.{contains_text}
 use Rattle.yaml_base.specs.declared.directives.yaml_tag_directive_t.{yaml_tag_directive_t}
-use Rattle.yaml_mark.specs.Index.{Finds, earlier, fits_by, has_handle, has_prefix, is_prefix_length}
+use Rattle.yaml_mark.specs.Index.{Finds, IsIndexed, earlier, fits_by, has_handle, has_prefix, is_prefix_length}
 use Rattle.yaml_mark.specs.Spelled.{begins_and_is_shorter}
 use Rattle.yaml_mark.specs.declared.index.Index.{Index}
 use Rattle.yaml_mark.proofs.TagLemmas.{first_place, position-first}
@@ -294,6 +295,13 @@ module _ {A : Type 0} where
     subst (λ (l : List (yaml_tag_directive_t A)). Finds new l) (sym (drop-append-le n list (d ∷ []) long))
         (adds (drop n list) (omega (arith, at, is, long, length-drop n list)) finds),
   )
+
+-- there is an index
+pub indexed : {A : Type 0} (index : Option (Box (Index A) A)) (list : List (yaml_tag_directive_t A)) (box : Box (Index A) A) (inside : Index A) → IsIndexed 8 index list
+    → index ≡ Some box → inside ≡ box.value → (8 ≤ length list) × Finds inside (drop 8 list)
+indexed {A} index list box inside h is same =
+    let found = subst (λ (o : Option (Box (Index A) A)). IsIndexed 8 o list) is h in
+    (found.0, subst (λ (i : Index A). Finds i (drop 8 list)) (sym same) found.1)
 
 pub drop_all : {X : Type 0} (n : ℕ) (xs : List X) → n ≡ length xs → drop n xs ≡ []
 drop_all n xs h = ap (λ m. drop m xs) h ∙ drop-length xs

@@ -1,20 +1,11 @@
 use Rattle.yaml_base.proofs.Common.{◌≤◌}
 use Rattle.yaml_base.specs.declared.directives.yaml_tag_directive_t.{yaml_tag_directive_t}
 use Rattle.yaml_mark.proofs.Common.{Bool, List, Option, Some, None, ℕ, sym, ◌≡◌, arith, length, drop, subst, string_bytes}
-use Rattle.yaml_mark.proofs.IndexLemmas.{first_ahead, first_behind, position_within}
+use Rattle.yaml_mark.proofs.IndexLemmas.{first_ahead, first_behind, indexed, position_within}
 use Rattle.yaml_mark.proofs.directives.first_prefix.Goals as goal
-use Rattle.yaml_mark.specs.Index.{Finds, IsIndexed}
+use Rattle.yaml_mark.specs.Index.{IsIndexed}
 use Rattle.yaml_mark.specs.Spelled.{begins_and_is_shorter}
-use Rattle.yaml_mark.specs.declared.index.Index.{Index}
 use Rattle.std.proofs.lemmas.List.{length-drop}
-use Rattle.std.proofs.Common.{Box}
-
--- there is an index
-indexed : {A : Type 0} (index : Option (Box (Index A) A)) (list : List (yaml_tag_directive_t A)) (box : Box (Index A) A) (inside : Index A) → IsIndexed 8 index list
-    → index ≡ Some box → inside ≡ box.value → (8 ≤ length list) × Finds inside (drop 8 list)
-indexed {A} index list box inside h is same =
-    let found = subst (λ (o : Option (Box (Index A) A)). IsIndexed 8 o list) is h in
-    (found.0, subst (λ (i : Index A). Finds i (drop 8 list)) (sym same) found.1)
 
 abbrev extends : {A : Type 0} → List ℕ → yaml_tag_directive_t A → Bool
 extends tag d = begins_and_is_shorter (string_bytes d.prefix) tag
