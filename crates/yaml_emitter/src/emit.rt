@@ -40,6 +40,7 @@ pub fn yaml_emitter_emit<A: Allocator + Copy>(
     ensures output { emitter.new.has_output ≡ true }
 {
     emitter.started = true;
+    // (a refused event is dropped by name: that is one call, where a scope's end has one for each of its texts)
     if let Some(error) = emitter.machine.error() {
         drop(event);
         return Err(error);
@@ -49,9 +50,7 @@ pub fn yaml_emitter_emit<A: Allocator + Copy>(
         return Err(error);
     }
     if needs_no_waiting(&emitter.queue, &event) {
-        let answer = emitter.machine.give(&event);
-        drop(event);
-        return answer;
+        return emitter.machine.give(&event);
     }
     emitter.queue.push_reserved(event);
     Ok(())

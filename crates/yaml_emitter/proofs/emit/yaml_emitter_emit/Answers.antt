@@ -40,8 +40,8 @@ returns-in-Err g c =
       output = emitted.moves.set.has_output ∙ c.requires;
     }
 
-pub give-answer-requires-clause-no_error : goal.give-answer-requires-clause-no_error
-give-answer-requires-clause-no_error g c =
+pub give-requires-clause-no_error : goal.give-requires-clause-no_error
+give-requires-clause-no_error g c =
     let before : State = state_of c.emitter.inside in
     let event = seen_event c.args.event in
     let settled : State = state_of c.emitter-2.inside in
@@ -76,9 +76,9 @@ returns-then-needs_no_waiting g c =
     let output : c.emitter-2.inside.has_output ≡ true = h.set.has_output ∙ has_output_inside c.emitter.inside c.emitter.view_is c.requires in
     let alone = passes seen_event c.emitter-2.inside.queue.items event (sym c.needs_no_waiting.ensures ∙ c.if-needs_no_waiting.true) in
     let emitted =
-    subst (λ (s : State). EmitsEvent s event c.give-answer.result (with_machine settled settled.held c.give-answer.new.self)) c.emitter.view_is
-    (emits_alone event before settled c.give-answer.new.self c.give-answer.result (seen_scalars c.args.event) (sym c.error.ensures ∙ c.in_default.is)
-    h alone.0 alone.1 c.give-answer.ensures) in
+    subst (λ (s : State). EmitsEvent s event c.give.result (with_machine settled settled.held c.give.new.self)) c.emitter.view_is
+    (emits_alone event before settled c.give.new.self c.give.result (seen_scalars c.args.event) (sym c.error.ensures ∙ c.in_default.is)
+    h alone.0 alone.1 c.give.ensures) in
     record {
       moves = emitted.moves;
       promised = emitted.promised;
@@ -146,6 +146,6 @@ invariant_of-emitter-2 g c =
 pub write_waiting-requires-clause-no_error : goal.write_waiting-requires-clause-no_error
 write_waiting-requires-clause-no_error g c = sym c.error.ensures ∙ c.in_default.is
 
-pub give-answer-requires-clause-ready : goal.give-answer-requires-clause-ready
-give-answer-requires-clause-ready g c =
+pub give-requires-clause-ready : goal.give-requires-clause-ready
+give-requires-clause-ready g c =
     (passes seen_event c.emitter-2.inside.queue.items (seen_event c.args.event) (sym c.needs_no_waiting.ensures ∙ c.if-needs_no_waiting.true)).1
