@@ -5,7 +5,7 @@ use Rattle.std.proofs.Common.{Result, Ok, Err}
 use Rattle.std.proofs.lemmas.Result.{IfOk-weaker, IfErr-weaker}
 use Rattle.std.specs.Result.{IfOk, IfErr, IsErrAnd}
 use Rattle.std.proofs.lemmas.Slice.Eq.{bytes_eq-Decides}
-use Rattle.toml_ordered.specs.declared.drafts.Draft.{Draft as CodeDraft, Table as DraftTable, Tables as DraftTables, Value as DraftValue}
+use Rattle.toml_ordered.specs.declared.drafts.Draft.{Table as DraftTable, Tables as DraftTables, Value as DraftValue}
 use Rattle.toml_ordered.specs.declared.drafts.Draft.{the_lemmas}
 use Rattle.toml_ordered.specs.declared.fault.Fault.{Fault}
 use Rattle.toml_ordered.specs.declared.fault.Fault.TheVariants as fault
@@ -14,7 +14,7 @@ use Rattle.toml_ordered.specs.declared.tree.Origin.{Origin}
 use Rattle.toml_ordered.proofs.DraftKeys.{Draft, Places}
 use Rattle.toml_ordered.specs.Data.{TomlNode, TomlNodes, no_nodes}
 use Rattle.toml_ordered.specs.Drafts.{HasKey}
-use Rattle.toml_ordered.specs.Firsts.{Firsts, no_firsts, HasFirst, draft_firsts, keys_firsts, keys_in, keys_at, PassesKey, IsNewKey, AddsFirsts, IfAgain}
+use Rattle.toml_ordered.specs.Firsts.{Firsts, no_firsts, HasFirst, draft_firsts, keys_firsts, keys_in, keys_at, PassesKey, IsNewKey, AddsFirsts}
 use Rattle.toml_ordered.specs.Firsts.{IsAgain}
 use Rattle.toml_ordered.specs.Reading.{IsPassed, IsSameKey}
 use Rattle.toml_ordered.specs.Tables.{get_node, steps_along}

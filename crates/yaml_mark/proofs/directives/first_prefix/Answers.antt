@@ -1,6 +1,6 @@
 use Rattle.yaml_base.proofs.Common.{◌≤◌}
 use Rattle.yaml_base.specs.declared.directives.yaml_tag_directive_t.{yaml_tag_directive_t}
-use Rattle.yaml_mark.proofs.Common.{Bool, List, Option, Some, None, ℕ, sym, ◌≡◌, arith, length, drop, subst, string_bytes}
+use Rattle.yaml_mark.proofs.Common.{Bool, List, Some, None, ℕ, arith, length, drop, subst, string_bytes}
 use Rattle.yaml_mark.proofs.IndexLemmas.{first_ahead, first_behind, indexed, position_within}
 use Rattle.yaml_mark.proofs.directives.first_prefix.Goals as goal
 use Rattle.yaml_mark.specs.Index.{IsIndexed}

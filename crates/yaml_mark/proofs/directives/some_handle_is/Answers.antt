@@ -1,7 +1,7 @@
-use Rattle.yaml_mark.proofs.Common.{Bool, ◌||◌, ap, sym, ◌∙◌, drop, list_any, subst}
+use Rattle.yaml_mark.proofs.Common.{Bool, ◌||◌, ap, sym, ◌∙◌, drop, list_any}
 use Rattle.yaml_mark.proofs.IndexLemmas.{any_split, indexed}
 use Rattle.yaml_mark.proofs.directives.some_handle_is.Goals as goal
-use Rattle.yaml_mark.specs.Index.{IsIndexed, has_handle}
+use Rattle.yaml_mark.specs.Index.{has_handle}
 
 pub returns-then-scan_handles : goal.returns-then-scan_handles
 returns-then-scan_handles g c =

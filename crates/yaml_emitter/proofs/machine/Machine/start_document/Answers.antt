@@ -1,4 +1,3 @@
-use Rattle.yaml_emitter.proofs.Common.{arith, common_steps, rules}
 use Rattle.yaml_emitter.proofs.Common.{Ok, at_node, option_map, option_and_then, map, ap, subst, sym, ◌∙◌, DocumentStart, document_start, seen_version}
 use Rattle.yaml_emitter.proofs.Common.{seen_directive, version_fault, directives_fault, some_handle_breaks, machine_state, Processed, MachineState}
 use Rattle.yaml_emitter.proofs.{events_done.ProcessedBy.processed_exit, pieces.WritingNames.sound_handles, pieces.WritingNames.sound_in_force}
