@@ -173,6 +173,12 @@ pub fails_so : {A : Type 0} (r : Result A Fault) (e : Fault) (Q P : Fault → Ty
 fails_so (Ok a) e Q P failed same holds = tt
 fails_so (Err y) e Q P failed same holds = subst P (sym (same y failed)) holds
 
+-- none was defined before in an empty table
+pub again_nothing : (whole all : Path) (here : ℕ) (old : Firsts) (found : Fault) → IsAgain whole here no_firsts found → IsAgain all here old found
+again_nothing whole all here old fault.Memory again = tt
+again_nothing whole all here old (fault.NotToml left) again = tt
+again_nothing whole all here old (fault.DefinedAgain key first second) again = absurd again.2
+
 -- the key itself, which stands at the beginning of the whole path
 pub again_here : (k : List ℕ) (rest : Path) (here : ℕ) (at : ℕ) (es : List Draft) (e : Draft) (found : Fault) → HasKey k at es
     → get_or es at e ≡ e → IsPassed (string_bytes e.0) e.2 here found → IsAgain (k ∷ rest) here (keys_firsts es) found

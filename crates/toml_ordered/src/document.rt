@@ -1,5 +1,6 @@
 //! Documents, expression by expression.
 ghost use Rattle.std.specs.Prelude.{◌≡◌, ◌≤◌, ◌++◌, IfErr, IfOk, length};
+ghost use Rattle.toml_parser.specs.Lexical.{first};
 ghost use Rattle.toml_parser.specs.Reading.{key_view, path_view};
 ghost use Rattle.toml.specs.Parse.{header_key, skip_bom};
 ghost use Rattle.toml_ordered.specs.Data.{entries_view, node_view};
@@ -97,13 +98,15 @@ impl Document {
             what,
             left,
         };
-        define_at(
+        if let Err(fault) = define_at(
             alloc,
             &mut self.root.keys,
             &mut self.root.index,
             route,
             entry,
-        )?;
+        ) {
+            return Err(fault);
+        }
         path.push(last)?;
         self.section = path;
         Ok(())
@@ -160,7 +163,10 @@ fn line(alloc: Global, s: &str) -> Result<((Key, Definition), &str), Fault>
     ensures shorter { Shortens s.now result }
     ensures conflict { IfErr result (λ fault. IfAgain fault (PairsConflict s.now)) }
 {
-    let (expression, rest) = expression(alloc, s)?;
+    let (expression, rest) = match expression(alloc, s) {
+        Ok(read) => read,
+        Err(fault) => return Err(fault),
+    };
     let end = skip_ws(rest);
     if end.is_empty() || matches!(first(end), b'#' | b'\n' | b'\r') {
         Ok((expression, rest))
@@ -175,19 +181,41 @@ fn expression(alloc: Global, s: &str) -> Result<((Key, Definition), &str), Fault
     ensures shorter { Shortens s.now result }
     ensures conflict { IfErr result (λ fault. IfAgain fault (PairsConflict s.now)) }
 {
-    if first(s) == b'[' && byte_at(s, 1) == b'[' {
-        let (key, rest) = header_key(alloc, skip(s, 2))?;
-        if first(rest) != b']' {
-            return Err(not_toml(rest));
+    if first(s) == b'[' {
+        return header(alloc, s);
+    }
+    let (key, at_value) = match key_and_equals(alloc, s) {
+        Ok(read) => read,
+        Err(fault) => return Err(fault),
+    };
+    match value(alloc, at_value, RECURSION_LIMIT) {
+        Ok((node, rest)) => Ok(((key, Definition::Value(node)), rest)),
+        Err(fault) => Err(fault),
+    }
+}
+
+/// Reads a header.
+fn header(alloc: Global, s: &str) -> Result<((Key, Definition), &str), Fault>
+    requires { first s.now ≡ 91 }
+    ensures value { ParsesPrefixTo expression_view result (spec.expression s.now) }
+    ensures shorter { Shortens s.now result }
+    ensures once { IfErr result (λ fault. IfAgain fault (λ _ _ _. ⊥)) }
+{
+    if byte_at(s, 1) != b'[' {
+        return match header_key(alloc, skip(s, 1)) {
+            Ok((key, rest)) => Ok(((key, Definition::Table), rest)),
+            Err(fault) => Err(fault),
+        };
+    }
+    match header_key(alloc, skip(s, 2)) {
+        Ok((key, rest)) => {
+            if first(rest) == b']' {
+                Ok(((key, Definition::Tables), skip(rest, 1)))
+            } else {
+                Err(not_toml(rest))
+            }
         }
-        Ok(((key, Definition::Tables), skip(rest, 1)))
-    } else if first(s) == b'[' {
-        let (key, rest) = header_key(alloc, skip(s, 1))?;
-        Ok(((key, Definition::Table), rest))
-    } else {
-        let (key, at_value) = key_and_equals(alloc, s)?;
-        let (node, rest) = value(alloc, at_value, RECURSION_LIMIT)?;
-        Ok(((key, Definition::Value(node)), rest))
+        Err(fault) => Err(fault),
     }
 }
 

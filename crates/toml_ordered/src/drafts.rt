@@ -91,17 +91,16 @@ pub(crate) fn append(
         (Some (append (keys_view keys.old.items index.old) (string_bytes key) (draft_view draft))) }
 {
     let at = keys.len();
-    note(index, key.clone()?, at)?;
+    note(index, &key, at)?;
     keys.push((key, draft, left))?;
     Ok(())
 }
 
 /// Notes the place of a key.
-fn note(index: &mut Index, key: String, at: usize) -> Result<(), Fault>
-    ensures noted { OnOk result ((k : List ℕ) → get_by_text index.new k ≡ update bytes_eq (get_by_text index.old) (string_bytes key) (Some at) k) }
-    ensures failed { IfErr result IsMemory }
+fn note(index: &mut Index, key: &String, at: usize) -> Result<(), AllocError>
+    ensures { OnOk result ((k : List ℕ) → get_by_text index.new k ≡ update bytes_eq (get_by_text index.old) (string_bytes key.now) (Some at) k) }
 {
-    index.insert(key, at)?;
+    index.insert(key.clone()?, at)?;
     Ok(())
 }
 
@@ -126,7 +125,10 @@ pub(crate) fn finish(alloc: Global, keys: Keys, index: &Index) -> Result<Nodes, 
         let place = at;
         at += 1;
         if is_place(index, key.as_str(), place) {
-            let node = complete(alloc, draft)?;
+            let node = match complete(alloc, draft) {
+                Ok(node) => node,
+                Err(refused) => return Err(refused),
+            };
             nodes.push((key, node, left))?;
         }
     }
@@ -141,12 +143,16 @@ fn complete(alloc: Global, draft: Draft) -> Result<Node, AllocError>
     match draft {
         Draft::Value(node) => seal(node),
         Draft::Table(origin, keys, index) => {
-            let nodes = finish(alloc, keys, &index)?;
-            Ok(Node::Table(origin, nodes))
+            match finish(alloc, keys, &index) {
+                Ok(nodes) => Ok(Node::Table(origin, nodes)),
+                Err(refused) => Err(refused),
+            }
         }
         Draft::Tables(done, last, index) => {
-            let nodes = finish(alloc, last, &index)?;
-            Ok(Node::Tables(done, nodes))
+            match finish(alloc, last, &index) {
+                Ok(nodes) => Ok(Node::Tables(done, nodes)),
+                Err(refused) => Err(refused),
+            }
         }
     }
 }

@@ -1,9 +1,11 @@
 //! The rules by which keys and headers define tables.
 ghost use Rattle.std.specs.Prelude.{◌≡◌, ◌⊎◌, [], ◌∷◌, IfErr, IfOk, Some, string_bytes};
+ghost use Rattle.toml_ordered.specs.Data.{items_view, push_item, table};
 ghost use Rattle.toml_ordered.specs.Drafts.{draft_view, keys_view};
 ghost use Rattle.toml_ordered.specs.Firsts.{AddsFirsts, IsAgain, draft_firsts, keys_firsts, keys_in, no_firsts};
 ghost use Rattle.toml_ordered.specs.Reading.{ParsesTo, IsPassed, IsSameKey, along_route, definition_view, whole_of};
 ghost use Rattle.toml_ordered.specs.Tables as spec;
+ghost use Rattle.toml_ordered.specs.declared.tree.Origin.TheVariants.{Closed};
 
 use crate::drafts::{Draft, Index, Keys, append, find, finish};
 use crate::fault::Fault;
@@ -63,7 +65,9 @@ pub(crate) fn define_at(
             let left = entry.left;
             let mut inner = Vec::new(alloc);
             let mut places = BTreeMap::new(alloc);
-            define_at(alloc, &mut inner, &mut places, rest, entry)?;
+            if let Err(fault) = define_at(alloc, &mut inner, &mut places, rest, entry) {
+                return Err(fault);
+            }
             let table = Draft::Table(way.origin(), inner, places);
             append(keys, index, key.clone()?, table, left)
         }
@@ -138,13 +142,26 @@ fn redefine(
             Ok(())
         }
         (Definition::Tables, Draft::Tables(done, last, index)) => {
-            let nodes = finish(alloc, mem::replace(last, Vec::new(alloc)), index)?;
-            done.push(Node::Table(Origin::Closed, nodes))?;
-            *index = BTreeMap::new(alloc);
-            Ok(())
+            Ok(begin_table(alloc, done, last, index)?)
         }
         _ => Err(defined_again(key, *first, left)),
     }
+}
+
+/// Closes the last table of an array, and begins another behind it.
+fn begin_table(
+    alloc: Global,
+    done: &mut Vec<Node>,
+    last: &mut Keys,
+    index: &mut Index,
+) -> Result<(), AllocError>
+    ensures done { IfOk result (λ _. items_view done.new.items ≡ push_item (items_view done.old.items) (table Closed (keys_view last.old.items index.old))) }
+    ensures last { IfOk result (λ _. last.new.items ≡ []) }
+{
+    let nodes = finish(alloc, mem::replace(last, Vec::new(alloc)), index)?;
+    done.push(Node::Table(Origin::Closed, nodes))?;
+    *index = BTreeMap::new(alloc);
+    Ok(())
 }
 
 /// Returns what a key holds that was not there.

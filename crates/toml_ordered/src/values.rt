@@ -34,11 +34,15 @@ pub(crate) fn value(alloc: Global, s: &str, depth: usize) -> Result<(Node, &str)
         return Err(not_toml(s));
     }
     if byte == b'[' {
-        let (items, rest) = array(alloc, skip(s, 1), depth - 1)?;
-        Ok((Node::Array(items), rest))
+        match array(alloc, skip(s, 1), depth - 1) {
+            Ok((items, rest)) => Ok((Node::Array(items), rest)),
+            Err(fault) => Err(fault),
+        }
     } else {
-        let (members, rest) = braces(alloc, skip(s, 1), depth - 1)?;
-        Ok((Node::Table(Origin::Closed, members), rest))
+        match braces(alloc, skip(s, 1), depth - 1) {
+            Ok((members, rest)) => Ok((Node::Table(Origin::Closed, members), rest)),
+            Err(fault) => Err(fault),
+        }
     }
 }
 
@@ -56,9 +60,15 @@ fn array(alloc: Global, s: &str, depth: usize) -> Result<(Vec<Node>, &str), Faul
         if first(start) == b']' {
             return Ok((found, skip(start, 1)));
         }
-        let (item, after) = value(alloc, start, depth)?;
+        let (item, after) = match value(alloc, start, depth) {
+            Ok(read) => read,
+            Err(fault) => return Err(fault),
+        };
         found.push(item)?;
-        rest = past_element(after, b']')?;
+        match past_element(after, b']') {
+            Ok(next) => rest = next,
+            Err(fault) => return Err(fault),
+        }
     }
 }
 
@@ -76,10 +86,21 @@ fn braces(alloc: Global, s: &str, depth: usize) -> Result<(Nodes, &str), Fault>
         if first(start) == b'}' {
             return Ok((found.finish(alloc)?, skip(start, 1)));
         }
-        let (key, at_value) = key_and_equals(alloc, start)?;
-        let (member, after) = value(alloc, at_value, depth)?;
-        put(alloc, &mut found, key, member, start.len())?;
-        rest = past_element(after, b'}')?;
+        let (key, at_value) = match key_and_equals(alloc, start) {
+            Ok(read) => read,
+            Err(fault) => return Err(fault),
+        };
+        let (member, after) = match value(alloc, at_value, depth) {
+            Ok(read) => read,
+            Err(fault) => return Err(fault),
+        };
+        if let Err(fault) = put(alloc, &mut found, key, member, start.len()) {
+            return Err(fault);
+        }
+        match past_element(after, b'}') {
+            Ok(next) => rest = next,
+            Err(fault) => return Err(fault),
+        }
     }
 }
 
@@ -201,5 +222,8 @@ fn plain_word(alloc: Global, word: &[u8]) -> Result<String, AllocError>
         .filter(|byte| *byte != b'_')
         .collect(alloc)?;
     // A word is ASCII.
-    String::from_utf8(bytes).map_err(|_| AllocError)
+    match String::from_utf8(bytes) {
+        Ok(plain) => Ok(plain),
+        Err(_) => Err(AllocError),
+    }
 }

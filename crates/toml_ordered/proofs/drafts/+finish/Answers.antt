@@ -23,8 +23,8 @@ finish-complete-requires c c' =
     let size = turn_size l.yielded _ _ _ _ c'.in-Some.ensures.steps.0 l.invariant.0 in
     (omega (arith, c'.decreases, size), tt)
 
-pub finish-keys-preserved-in-Continue-branch-3 : goal.finish-keys-preserved-in-Continue-branch-3
-finish-keys-preserved-in-Continue-branch-3 c c' =
+pub finish-keys-preserved-in-Continue-branch-2 : goal.finish-keys-preserved-in-Continue-branch-2
+finish-keys-preserved-in-Continue-branch-2 c c' =
     let l = c'.keys in
     let e : Draft = (c'.in-Some.key, c'.in-Some.draft, c'.in-Some.left) in
     let k = string_bytes e.0 in
@@ -32,11 +32,11 @@ finish-keys-preserved-in-Continue-branch-3 c c' =
     let steps : into_iter_items l.key-iterator ≡ e ∷ into_iter_items c'.next.new.self = c'.in-Some.ensures.steps.0 in
     let live : is_place (get_by_text index k) l.at ≡ true =
     ap (λ (l : List ℕ). is_place (get_by_text index l) c'.keys.at) (sym c'.as_str.ensures.value) ∙ sym c'.is_place.ensures ∙ c'.if-is_place.true in
-    let node = c'.in_ok-node.node in (
+    let node = c'.in-Ok.node in (
       turn_whole l.yielded _ _ _ e steps l.invariant.0,
       omega (arith, l.invariant.1, length_push l.yielded e),
       ap entries_view c'.in_ok-push.ensures.items ∙ append-view l.nodes.items (e.0, node, e.2)
-          ∙ ap₂ (λ (ns : TomlNodes) (x : TomlNode). append ns k x) l.invariant.2 c'.in_ok-node.ensures
+          ∙ ap₂ (λ (ns : TomlNodes) (x : TomlNode). append ns k x) l.invariant.2 c'.in-Ok.ensures
           ∙ sym (keys_view-kept index l.yielded e l.at l.invariant.1 live),
       let was = l.invariant.3 in
           let gone = c'.in-Some.ensures.steps.1 in

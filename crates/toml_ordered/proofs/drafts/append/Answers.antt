@@ -12,11 +12,9 @@ returns-clause-value c =
     let es = c.args.keys.now.items in
     let before = c.args.index.now in
     let after = c.note.new.index in
-    let same : string_bytes c.in_ok-clone.field-0 ≡ string_bytes c.args.key = grind (arith, common_steps) in
     let count : c.len-at.result ≡ length es = grind (arith, common_steps) in
     let noted : (k : List ℕ) → get_by_text after k ≡ update bytes_eq (get_by_text before) (string_bytes c.args.key) (Some (length es)) k = λ k.
-    c.in_ok-note.ensures.noted k
-    ∙ ap (λ (l : List ℕ). update bytes_eq (get_by_text before) l (Some c.len-at.result) k) same
+    c.in_ok-note.ensures k
     ∙ ap (λ (n : ℕ). update bytes_eq (get_by_text before) (string_bytes c.args.key) (Some n) k) count in
     ap (λ (ns : TomlNodes). Some ns) (sym (appended before after es (c.args.key, c.args.draft, c.args.left) c.requires noted))
     ∙ ap (λ (ds : List Draft). Some (keys_view ds after)) (sym c.in_ok-push.ensures.items)

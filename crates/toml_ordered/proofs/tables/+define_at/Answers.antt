@@ -4,8 +4,8 @@ use Rattle.std.proofs.lemmas.Result.{IfOk-weaker, IfErr-weaker}
 use borrow.Enum.Total.{values_d}
 use Rattle.toml_ordered.proofs.DraftKeys.{found_here, written_here, draft_view-Table, draft_view-Tables, table_is, tables_is, passes_table, passes_tables}
 use Rattle.toml_ordered.proofs.DraftKeys.{refuses_table, refuses_tables, refuses_value}
-use Rattle.toml_ordered.proofs.FirstKeys.{adds_along, adds_missing, adds_same, again_along, draft_firsts-Table, draft_firsts-Tables}
-use Rattle.toml_ordered.proofs.Turns.{along_end, along_there, along_new, along_new_refused, gives_err}
+use Rattle.toml_ordered.proofs.FirstKeys.{adds_along, adds_missing, adds_same, again_along, again_nothing, draft_firsts-Table, draft_firsts-Tables}
+use Rattle.toml_ordered.proofs.Turns.{along_end, along_there, along_new, along_new_refused}
 use Rattle.toml_ordered.specs.Data.{TomlNode, no_nodes, table}
 use Rattle.toml_ordered.specs.contracts.drafts.Draft.{enum}
 use Rattle.toml_ordered.specs.declared.drafts.Draft.{Draft as CodeDraft, Table as DraftTable}
@@ -24,17 +24,32 @@ define_at-returns-in_default-clause-value c c' =
     let here : along_route c'.args.route c'.args.entry ns ≡ edit ns = ap (λ (steps : List (Way × List ℕ)). along steps edit ns) c'.in_default.ensures ∙ along_end edit ns in
     rw here c'.at_key.ensures.value
 
-pub define_at-returns-in_err-define_at-in-None-clause-value : goal.define_at-returns-in_err-define_at-in-None-clause-value
-define_at-returns-in_err-define_at-in-None-clause-value c c' =
+pub define_at-returns-in_default-clause-firsts : goal.define_at-returns-in_default-clause-firsts
+define_at-returns-in_default-clause-firsts c c' =
+    let whole : whole_of c'.args.route c'.args.entry ≡ string_bytes c'.args.entry.key ∷ [] =
+    ap (λ (steps : List (Way × List ℕ)). map (λ step. step.1) steps ++ string_bytes c'.args.entry.key ∷ []) c'.in_default.ensures in
+    rw whole c'.at_key.ensures.firsts
+
+pub define_at-returns-in_default-clause-again : goal.define_at-returns-in_default-clause-again
+define_at-returns-in_default-clause-again c c' =
+    let whole : whole_of c'.args.route c'.args.entry ≡ string_bytes c'.args.entry.key ∷ [] =
+    ap (λ (steps : List (Way × List ℕ)). map (λ step. step.1) steps ++ string_bytes c'.args.entry.key ∷ []) c'.in_default.ensures in
+    rw whole c'.at_key.ensures.again
+
+pub define_at-returns-in-Err-clause-again : goal.define_at-returns-in-Err-clause-again
+define_at-returns-in-Err-clause-again c c' =
+    again_nothing (whole_of c'.in-Some.rest c'.args.entry) (whole_of c'.args.route c'.args.entry) c'.args.entry.left
+    (keys_firsts c'.args.keys.now.items) c'.in-Err.fault (rw c'.new-inner.ensures.items at c'.in-Err.ensures.again)
+
+pub define_at-returns-in-Err-clause-value : goal.define_at-returns-in-Err-clause-value
+define_at-returns-in-Err-clause-value c c' refused =
     let edit : Edit = at_key (string_bytes c'.args.entry.key) (definition_view c'.args.entry.what) in
     let k = string_bytes c'.in-Some.key.now in
     let ns = keys_view c'.args.keys.now.items c'.args.index.now in
     let none = rw c'.as_str.ensures.value at c'.in-None.ensures.found in
-    gives_err _ c'.from_residual.result _ c'.in_err-define_at-in-None.field-0.0 _ c'.from_residual.ensures.1
-    (λ y p. p) λ refused.
     ap (λ (steps : List (Way × List ℕ)). along steps edit ns) c'.in-Some.ensures
     ∙ along_new_refused c'.in-Some.way k (steps_of c'.in-Some.rest) edit ns none
-    (rw c'.new-inner.ensures.items at (c'.in_err-define_at-in-None.ensures.value refused))
+    (rw c'.new-inner.ensures.items at (c'.in-Err.ensures.value refused))
 
 pub define_at-returns-in_ok-clone-in-None-clause-value : goal.define_at-returns-in_ok-clone-in-None-clause-value
 define_at-returns-in_ok-clone-in-None-clause-value c c' =
@@ -43,7 +58,7 @@ define_at-returns-in_ok-clone-in-None-clause-value c c' =
     let ns = keys_view c'.args.keys.now.items c'.args.index.now in
     let none = rw c'.as_str.ensures.value at c'.in-None.ensures.found in
     let inner = keys_view c'.define_at.new.keys.items c'.define_at.new.index in
-    let within : along (steps_of c'.in-Some.rest) edit (keys_view [] c'.new-places.result) ≡ Some inner = rw c'.new-inner.ensures.items at c'.in_ok-define_at-in-None.ensures.value in
+    let within : along (steps_of c'.in-Some.rest) edit (keys_view [] c'.new-places.result) ≡ Some inner = rw c'.new-inner.ensures.items at c'.in_default-define_at.ensures.value in
     let same : string_bytes c'.in_ok-clone-in-None.field-0 ≡ k = grind (arith, common_steps) in
     let whole : along_route c'.args.route c'.args.entry ns ≡ Some (append ns k (table (made_by c'.in-Some.way) inner)) =
     ap (λ (steps : List (Way × List ℕ)). along steps edit ns) c'.in-Some.ensures
@@ -60,7 +75,7 @@ define_at-returns-in_ok-clone-in-None-clause-firsts c c' =
     let none = rw c'.as_str.ensures.value at c'.in-None.ensures.found in
     let inner = c'.define_at.new.keys in
     let table = DraftTable c'.origin.result inner c'.define_at.new.index in
-    let within : AddsFirsts rest left no_nodes no_firsts (keys_firsts inner.items) = rw c'.new-inner.ensures.items at c'.in_ok-define_at-in-None.ensures.firsts in
+    let within : AddsFirsts rest left no_nodes no_firsts (keys_firsts inner.items) = rw c'.new-inner.ensures.items at c'.in_default-define_at.ensures.firsts in
     let within_table : AddsFirsts rest left no_nodes no_firsts (draft_firsts table) = rw (draft_firsts-Table c'.origin.result inner c'.define_at.new.index) within in
     let same : string_bytes c'.in_ok-clone-in-None.field-0 ≡ k = grind (arith, common_steps) in
     let whole : whole_of c'.args.route c'.args.entry ≡ k ∷ rest =

@@ -1,8 +1,9 @@
-use Rattle.std.proofs.Common.{Some, Vec, Global, sym, ap, ap₂, ◌∙◌}
+use Rattle.std.proofs.Common.{Some, Vec, Global, inr, sym, ap, ap₂, ◌∙◌}
 use Rattle.toml_ordered.proofs.DraftKeys.{Draft, Places, draft_view-Tables}
-use Rattle.toml_ordered.proofs.Trees.{items_view-push, node_view-Table}
+use Rattle.toml_ordered.proofs.FirstKeys.{draft_firsts-Tables}
 use Rattle.toml_ordered.specs.Data.{TomlNode, Items, TomlNodes, table, tables, push_item, items_view}
 use Rattle.toml_ordered.specs.Drafts.{draft_view, keys_view}
+use Rattle.toml_ordered.specs.Firsts.{keys_firsts}
 use Rattle.toml_ordered.specs.Reading.{definition_view}
 use Rattle.toml_ordered.specs.Tables.{array_table, redefine}
 use Rattle.toml_ordered.specs.declared.tree.Origin.TheVariants.{Closed}
@@ -15,20 +16,23 @@ Keys = Vec Draft Global
 abbrev Nodes : Type 0
 Nodes = Vec CodeNode Global
 
-pub returns-in_ok-push-in-Tables-Tables-clause-value : goal.returns-in_ok-push-in-Tables-Tables-clause-value
-returns-in_ok-push-in-Tables-Tables-clause-value c =
+pub returns-in_ok-begin_table-in-Tables-Tables-clause-value : goal.returns-in_ok-begin_table-in-Tables-Tables-clause-value
+returns-in_ok-begin_table-in-Tables-Tables-clause-value c =
     let both = c.in-Tables-Tables in
-    let nodes = c.in_ok-nodes-in-Tables-Tables.nodes in
-    let moved = c.replace.ensures.value ∙ both.last-is in
+    let begun = c.in_ok-begin_table-in-Tables-Tables.ensures in
+    let new = c.begin_table.new in
     ap (λ what. redefine (definition_view what) (draft_view c.args.member.now.1)) both.is-0
     ∙ ap (λ x. redefine array_table (draft_view x)) both.is-1
     ∙ ap (redefine array_table) (draft_view-Tables both.done both.last both.index)
     ∙ ap (λ (x : TomlNode). Some x)
-    (sym (draft_view-Tables c.push.new.self c.replace.new.dest c.new-in-Tables-Tables.result
+    (sym (draft_view-Tables new.done new.last new.index
     ∙ ap₂ (λ (xs : Items) (ns : TomlNodes). tables xs ns)
-    (ap items_view c.in_ok-push-in-Tables-Tables.ensures.items ∙ items_view-push _ _
+    (begun.done
     ∙ ap₂ (λ (done : Nodes) (x : TomlNode). push_item (items_view done.items) x) both.done-is
-    (node_view-Table Closed nodes
-    ∙ ap (table Closed) (c.in_ok-nodes-in-Tables-Tables.ensures ∙ ap₂ (λ (ks : Keys) (index : Places). keys_view ks.items index) moved both.index-is)))
-    (ap (λ (ks : Keys). keys_view ks.items c.new-in-Tables-Tables.result) c.replace.ensures.after
-    ∙ ap (λ es. keys_view es c.new-in-Tables-Tables.result) c.new.ensures.items)))
+    (ap (table Closed) (ap₂ (λ (ks : Keys) (index : Places). keys_view ks.items index) both.last-is both.index-is)))
+    (ap (λ es. keys_view es new.index) begun.last)))
+
+pub returns-in_ok-begin_table-in-Tables-Tables-clause-firsts : goal.returns-in_ok-begin_table-in-Tables-Tables-clause-firsts
+returns-in_ok-begin_table-in-Tables-Tables-clause-firsts c =
+    let new = c.begin_table.new in
+    inr (draft_firsts-Tables new.done new.last new.index ∙ ap keys_firsts c.in_ok-begin_table-in-Tables-Tables.ensures.last)

@@ -2,23 +2,21 @@ use Rattle.std.proofs.Common.{◌≡◌, ℕ, [], ◌∷◌, ◌++◌, List, map
 use Rattle.std.proofs.lemmas.Grind.{common_steps}
 use Rattle.std.proofs.lemmas.List.{append-nil}
 use Rattle.toml_parser.specs.Reading.{path_view}
-use Rattle.toml_ordered.proofs.FirstKeys.{fails_so, path_steps}
+use Rattle.toml_ordered.proofs.FirstKeys.{path_steps}
 use Rattle.toml_ordered.specs.Drafts.{table_view}
 use Rattle.toml_ordered.specs.Firsts.{AddsFirsts, IsAgain, keys_firsts}
 use Rattle.toml_ordered.specs.Tables.{steps_along}
 use Rattle.toml_ordered.proofs.document.Document.define_header.Goals as goal
 
-pub returns-in_err-define_at-clause-again : goal.returns-in_err-define_at-clause-again
-returns-in_err-define_at-clause-again c =
+pub returns-in-Err-clause-again : goal.returns-in-Err-clause-again
+returns-in-Err-clause-again c =
     let header = path_view c.deref.result.now in
     let same : string_bytes c.in_ok-clone.field-0 ≡ string_bytes c.args.key.last = grind (arith, common_steps) in
     let whole : map (λ step. step.1) (steps_along header []) ++ string_bytes c.in_ok-clone.field-0 ∷ []
     ≡ path_view c.args.key.path.items ++ string_bytes c.args.key.last ∷ [] =
     ap (λ (path : List (List ℕ)). path ++ string_bytes c.in_ok-clone.field-0 ∷ []) (path_steps header [] ∙ append-nil header ∙ ap path_view c.deref.ensures.value)
     ∙ ap (λ (last : List ℕ). path_view c.args.key.path.items ++ last ∷ []) same in
-    fails_so c.from_residual-in_err-define_at.result c.in_err-define_at.field-0.0 _ _ c.from_residual-in_err-define_at.ensures.1 (λ y p. p)
-    (subst (λ (path : List (List ℕ)). IsAgain path c.args.left (keys_firsts c.args.self.now.root.keys.items) c.in_err-define_at.field-0.0) whole
-    c.in_err-define_at.ensures.again)
+    subst (λ (path : List (List ℕ)). IsAgain path c.args.left (keys_firsts c.args.self.now.root.keys.items) c.in-Err.fault) whole c.in-Err.ensures.again
 
 pub returns-clause-firsts : goal.returns-clause-firsts
 returns-clause-firsts c =
@@ -29,4 +27,4 @@ returns-clause-firsts c =
     ap (λ (path : List (List ℕ)). path ++ string_bytes c.in_ok-clone.field-0 ∷ []) (path_steps header [] ∙ append-nil header ∙ ap path_view c.deref.ensures.value)
     ∙ ap (λ (last : List ℕ). path_view c.args.key.path.items ++ last ∷ []) same in
     subst (λ (path : List (List ℕ)). AddsFirsts path c.args.left (table_view c.args.self.now.root) (keys_firsts c.args.self.now.root.keys.items)
-    (keys_firsts c.define_at.new.keys.items)) whole c.in_ok-define_at.ensures.firsts
+    (keys_firsts c.define_at.new.keys.items)) whole c.in_default.ensures.firsts
