@@ -1,9 +1,9 @@
 -- Plain and single-quoted texts are tidy: their lines after the first stand at their indentation, and no space stands before a
 -- break; a plain text has no blank and no break at its edges.
-use Rattle.yaml_scalar.proofs.Common.{arith, ℕ, ◌≤◌, if◌then◌else◌, ◌==◌, Option, Bool, false, not, true, ◌&&◌, ◌||◌, [], ◌++◌, ◌∷◌, refl, ◌≡◌, eqb-true}
+use Rattle.yaml_scalar.proofs.Common.{ℕ, ◌≤◌, if◌then◌else◌, ◌==◌, Option, Bool, false, not, true, ◌&&◌, ◌||◌, [], ◌++◌, ◌∷◌, refl, ◌≡◌, eqb-true}
 use Rattle.yaml_scalar.proofs.Common.{true≢false, append-nil, append_assoc, ap, subst, sym, ◌∙◌, and_parts, and_from, or_parts, or_from, not-true, false≢true}
 use Rattle.yaml_scalar.proofs.Common.{Text, line_feed, space, tab, is_space, is_blank, is_break, Cursor, render_text, is_past_width, is_read_break}
-use Rattle.yaml_scalar.proofs.Common.{is_read_white}
+use Rattle.yaml_scalar.proofs.Common.{and-true, is_read_white}
 use Rattle.yaml_scalar.proofs.Common.{begins_with_break, Charset, somewhere, begins_with, is_empty, is_special, begins_unlike_plain, bars_plain}
 use Rattle.yaml_scalar.proofs.Common.{bars_single_quoted, allows_plain, allows_single_quoted, Kind, spaces, breaks, others, kind_of, is_same_kind, indentation}
 use Rattle.yaml_scalar.proofs.Common.{plain_body, quotes_doubled, single_quote, single_quoted_body, begins_kind, step_text, render_steps}
@@ -98,7 +98,12 @@ module _ (charset : Charset) (count indent : ℕ) (enough : count ≤ indent) (c
   unbroken_end false = refl
 
   lines_end : (before : Kind) → LinesEven before [] (ending_quote closed)
-  lines_end before = grind (arith, even_end, ink_end, unbroken_end, false≢true)
+  lines_end before = record {
+    begins_unindented = even_end closed;
+    ink = λ h. ink_end closed h;
+    unbroken = λ e k. unbroken_end closed;
+    broken = λ e k. absurd (false≢true k);
+  }
 
   -- a fold in place of a space
   space_folded : (before : Kind) (rest text : Text) → is_same_kind before spaces ≡ false → next_ink closed rest ≡ true → LinesEven spaces rest text
@@ -113,24 +118,41 @@ module _ (charset : Charset) (count indent : ℕ) (enough : count ≤ indent) (c
   -- a space that stays
   space_kept : (before : Kind) (rest text : Text) → begins_kind breaks rest ≡ false → LinesEven spaces rest text
       → LinesEven before (space ∷ rest) (space ∷ text)
-  space_kept before rest text next ih = grind (arith, even_space, false≢true, space_unbroken)
+  space_kept before rest text next ih = record {
+    begins_unindented = even_space charset.breaks12 count text (ih.unbroken refl next) ih.begins_unindented;
+    ink = λ e. absurd (false≢true e);
+    unbroken = λ e k. space_unbroken charset.breaks12;
+    broken = λ e k. absurd (false≢true k);
+  }
 
   -- what is known behind a break
   break_begins : (before : Kind) (c : ℕ) (rest text : Text) → kind_of c ≡ breaks → is_read_break charset.breaks12 c ≡ true
       → IsEven charset.breaks12 count (c ∷ text) → LinesEven before (c ∷ rest) (c ∷ text)
-  break_begins before c rest text k brk even = grind (arith, false≢true, true≢false)
+  break_begins before c rest text k brk even = record {
+    begins_unindented = even;
+    ink = λ e. absurd (false≢true (ap (is_same_kind others) (sym k) ∙ e));
+    unbroken = λ e none. absurd (true≢false (ap (is_same_kind breaks) (sym k) ∙ none));
+    broken = λ e b. brk;
+  }
 
   -- a break, and LF before it where it is doubled
   break_doubled : (twice : Bool) (before : Kind) (c : ℕ) (rest text : Text) → kind_of c ≡ breaks → is_read_break charset.breaks12 c ≡ true
       → LinesEven before (c ∷ rest) (c ∷ text) → LinesEven before (c ∷ rest) ((if twice then line_feed ∷ [] else []) ++ (c ∷ text))
   break_doubled false before c rest text k brk h = h
-  break_doubled true before c rest text k brk h = grind (arith, even_break, deep_break, false≢true, true≢false)
+  break_doubled true before c rest text k brk h = record {
+    begins_unindented = even_break charset.breaks12 count line_feed (c ∷ text) refl (deep_break charset.breaks12 count (c ∷ text) brk) h.begins_unindented;
+    ink = λ e. absurd (false≢true (ap (is_same_kind others) (sym k) ∙ e));
+    unbroken = λ e none. absurd (true≢false (ap (is_same_kind breaks) (sym k) ∙ none));
+    broken = λ e b. refl;
+  }
 
   -- a break that goes on, or the indentation behind it
   break_line : (goes_on : Bool) (before : Kind) (c : ℕ) (rest text : Text) → kind_of c ≡ breaks → is_read_break charset.breaks12 c ≡ true
       → begins_kind breaks rest ≡ goes_on → (goes_on ≡ false → next_ink closed rest ≡ true) → LinesEven breaks rest text
       → LinesEven before (c ∷ rest) (c ∷ ((if goes_on then [] else indentation indent) ++ text))
-  break_line true before c rest text k brk e next ih = grind (arith, break_begins, even_break, deep_break)
+  break_line true before c rest text k brk e next ih =
+      break_begins before c rest text k brk
+      (even_break charset.breaks12 count c text brk (deep_break charset.breaks12 count text (ih.broken refl e)) ih.begins_unindented)
   break_line false before c rest text k brk e next ih =
       break_begins before c rest (indentation indent ++ text) k brk
       (even_line charset.breaks12 count indent c text enough brk (ih.ink (next refl)) ih.begins_unindented)
@@ -148,7 +170,11 @@ module _ (charset : Charset) (count indent : ℕ) (enough : count ≤ indent) (c
 
   -- a character that isn't special and neither a space nor a break is ink
   ink_of : (c : ℕ) → is_special charset c ≡ false → kind_of c ≡ others → Ink charset.breaks12 c
-  ink_of c clean k = grind (arith, others_no_space, special_tab, ordinary, others_only)
+  ink_of c clean k = record {
+    no_space = others_no_space (is_space c) (is_break c) k;
+    no_tab = special_tab charset c clean;
+    no_break = (ordinary charset c clean).same_break ∙ others_only (is_space c) (is_break c) k;
+  }
 
   -- how each character of a value is written
   record InksEach (written : Text → Text) : Type 0 where
@@ -212,10 +238,18 @@ module _ (charset : Charset) (count indent : ℕ) (enough : count ≤ indent) (c
 -- Single quotes.
 
 doubled_inks : (breaks12 : Bool) (c : ℕ) → Ink breaks12 c → AllInk breaks12 (quotes_doubled (c ∷ []))
-doubled_inks breaks12 c ink = grind (arith, quote_ink)
+doubled_inks breaks12 c ink = by (c == 39)
+  where
+    by : (quoted : Bool) → AllInk breaks12 ((if quoted then 39 ∷ 39 ∷ [] else c ∷ []) ++ [])
+    by true = (quote_ink breaks12, (quote_ink breaks12, tt))
+    by false = (ink, tt)
 
 doubled_begins : (breaks12 : Bool) (c : ℕ) (text : Text) → Ink breaks12 c → BeginsInk breaks12 (quotes_doubled (c ∷ []) ++ text)
-doubled_begins breaks12 c text ink = grind (arith, quote_ink)
+doubled_begins breaks12 c text ink = by (c == 39)
+  where
+    by : (quoted : Bool) → BeginsInk breaks12 (((if quoted then 39 ∷ 39 ∷ [] else c ∷ []) ++ []) ++ text)
+    by true = quote_ink breaks12
+    by false = ink
 
 ends_always : (value : Text) → ends_closed true value ≡ true
 ends_always [] = refl
@@ -267,7 +301,13 @@ record EndsInk (breaks12 : Bool) (text : Text) : Type 0 where
   pub ends : ends_white breaks12 text ≡ false
 
 ends_after : (breaks12 : Bool) (prefix text : Text) (c : ℕ) (rest : Text) → prefix ≡ c ∷ rest → EndsInk breaks12 text → EndsInk breaks12 (prefix ++ text)
-ends_after breaks12 prefix text c rest e h = grind (arith, ends_append)
+ends_after breaks12 prefix text c rest e h = record {
+  first = c;
+  more = rest ++ text;
+  is = ap (λ (t : Text). t ++ text) e;
+  ends = ap (λ (t : Text). ends_white breaks12 (prefix ++ t)) h.is ∙ ends_append breaks12 prefix h.first h.more
+      ∙ ap (ends_white breaks12) (sym h.is) ∙ h.ends;
+}
 
 -- a step of plain text holds a character
 step_some : (folds : Bool) (indent : ℕ) (before kind : Kind) (c : ℕ) (rest : Text)
@@ -296,7 +336,7 @@ plain_white charset flow c rest h s =
 
 -- the last character of plain text is no space
 plain_last : (charset : Charset) (flow : Bool) (c : ℕ) → bars_plain charset flow c [] ≡ false → is_space c ≡ false
-plain_last charset flow c h = grind (arith, or_parts)
+plain_last charset flow c h = sym (and-true (is_space c)) ∙ (or_parts _ _ (or_parts _ _ (or_parts _ _ h).0).0).1
 
 kind_others : (s b : Bool) → s ≡ false → b ≡ false → (if s then spaces else if b then breaks else others) ≡ others
 kind_others true b e f = absurd (true≢false e)
@@ -342,4 +382,6 @@ lines_edges charset flow limit indent (c ∷ rest) cursor h begins =
 -- a plain body has no blank and no break at its edges
 pub plain_edges : (charset : Charset) (flow : Bool) (limit : Option ℕ) (indent : ℕ) (value : Text) (cursor : Cursor) → allows_plain charset flow value ≡ true
     → has_clean_edges charset.breaks12 (plain_body limit indent value cursor).text ≡ true
-plain_edges charset flow limit indent value cursor allowed = grind (arith, runs_by_steps, lines_edges, plain_bars, plain_begins)
+plain_edges charset flow limit indent value cursor allowed =
+    rw (runs_by_steps (λ text. text) itself_writes limit indent value cursor)
+    (lines_edges charset flow limit indent value cursor (plain_bars charset flow value allowed) (plain_begins charset flow value allowed))

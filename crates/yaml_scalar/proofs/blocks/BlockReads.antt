@@ -33,12 +33,20 @@ or-none false = refl
 
 -- a character that isn't special is ordinary
 pub ordinary : (charset : Charset) (c : ℕ) → is_special charset c ≡ false → Ordinary false charset.breaks12 c
-ordinary charset c h = record {
-  same_break = grind (arith, or_parts, not-false, other-than, same-break, or-none);
-  same_blank = λ none. ap (λ x. is_space c || x) (special_tab charset c h) ∙ or-none (is_space c);
-  no_return = grind (arith, or_parts, not-false, other-than);
-  no_next_line = grind (arith, or_parts, not-false, other-than);
-}
+ordinary charset c h =
+    let tests = or_parts _ _ h in
+    let printable : is_printable c ≡ true = not-false _ (or_parts _ _ tests.0).0 in
+    let no_return : (c == 13) ≡ false = other-than c 13 printable refl in
+    let no_next_line : (c == 0x85) ≡ false = other-than c 0x85 printable refl in
+    record {
+      same_break = same-break (c == line_feed) (c == 0x2028) (c == 0x2029) charset.breaks12
+          (λ on. sym (ap (λ b. b && (c == 0x2028 || c == 0x2029)) on) ∙ tests.1)
+          ∙ ap (λ b. c == line_feed || b || false || c == 0x2028 || c == 0x2029) (sym no_return)
+          ∙ ap (λ b. c == line_feed || c == 13 || b || c == 0x2028 || c == 0x2029) (sym no_next_line);
+      same_blank = λ none. ap (λ x. is_space c || x) (special_tab charset c h) ∙ or-none (is_space c);
+      no_return = no_return;
+      no_next_line = no_next_line;
+    }
 
 ordinary-somewhere : (charset : Charset) (value : Text) → somewhere (bars_block charset) value ≡ false → AllOrdinary false charset.breaks12 value
 ordinary-somewhere charset [] h = tt

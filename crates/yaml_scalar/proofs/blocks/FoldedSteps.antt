@@ -152,7 +152,18 @@ part-begun c ps e = rw e refl
 
 folded-more : (limit : Option ℕ) (indent c : ℕ) (rest : Text) → is_break c ≡ false → FoldedFrom limit indent rest → FoldedFrom limit indent (c ∷ rest)
 folded-more limit indent c rest e more =
-    grind (arith, folded-first, part-begun, from-step, content-step, fixed-inner, fold-step, folding-inner, folds-head)
+    let same = part-begun c (parts rest) e in
+    record {
+      start = folded-first limit indent c rest e more ∙ ap (λ (ps : List Part). indented indent (folded_parts limit indent false ps)) same;
+      inner = λ column.
+          from-step true limit indent Fixed Fixed c rest (spot column false) _ (content-step limit indent c rest column e) (rw e refl)
+          ∙ ap (λ (t : Text). c ∷ t) (more.inner (column + 1)) ∙ sym (fixed-inner limit indent c (parts rest)) ∙ ap (fixed_text limit indent) same;
+      bent = λ column.
+          let fold = folds limit column c rest in
+          from-step true limit indent Folding Folding c rest (spot column false) _ (fold-step limit indent c rest column fold e refl) (rw e refl)
+          ∙ ap (λ (t : Text). (if fold then line_feed ∷ replicate indent space else c ∷ []) ++ t) (more.bent (if fold then indent else column + 1))
+          ∙ sym (folding-inner limit indent column c (parts rest) fold (folds-head limit column c rest)) ∙ ap (folding_text limit indent column) same;
+    }
 
 folded-from : (limit : Option ℕ) (indent : ℕ) (text : Text) → FoldedFrom limit indent text
 folded-from limit indent [] = record { start = refl; inner = λ column. refl; bent = λ column. refl }

@@ -23,3 +23,6 @@ returns-in_err-write_hints-clause-open_ended g c =
 
 pub returns-clause-written : goal.returns-clause-written
 returns-clause-written g c = rw (to_z-of_z w32 c.args.best_indent c.ranges.best_indent) at c.in_ok-write_hints.ensures
+
+pub write_hints-requires-clause-ready : goal.write_hints-requires-clause-ready
+write_hints-requires-clause-ready g c = c.requires.ready

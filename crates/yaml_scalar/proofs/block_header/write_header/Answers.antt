@@ -1,5 +1,5 @@
-use Rattle.yaml_scalar.proofs.Common.{w32, to_z-of_z, render_hints, wrote_then, wrote_failed, wrote_as, wrote_exit, natural, is_folded}
-use Rattle.yaml_scalar.proofs.Common.{separated_header, header_end}
+use Rattle.yaml_scalar.proofs.Common.{pos, ℤ, ◌≤ℤ◌, subst, sym, w32, to_z-of_z, render_hints, wrote_then, wrote_failed, wrote_as, wrote_exit, natural}
+use Rattle.yaml_scalar.proofs.Common.{is_folded, separated_header, header_end}
 use Rattle.yaml_base.proofs.Common.{chars}
 use Rattle.yaml_scalar.proofs.blocks.BlockWrites.{header-steps}
 use Rattle.yaml_scalar.proofs.block_header.write_header.Goals as goal
@@ -31,3 +31,20 @@ returns g c =
     let hints = rw (to_z-of_z w32 c.args.best_indent c.ranges.best_indent) at c.in_ok-write_hints.ensures in
     wrote_as (separated_header (is_folded c.args.style) n value) (header-steps (is_folded c.args.style) n value c.args.pen.now.cursor)
     (wrote_then (wrote_then block_indicator hints) c.end_header.ensures)
+
+pub put_indicator-requires-clause-ready : goal.put_indicator-requires-clause-ready
+put_indicator-requires-clause-ready g c = c.requires.ready
+
+pub write_hints-requires-clause-ready : goal.write_hints-requires-clause-ready
+write_hints-requires-clause-ready g c = c.in_ok-put_indicator.ensures.written.ready
+
+pub write_hints-requires-clause-least : goal.write_hints-requires-clause-least
+write_hints-requires-clause-least g c =
+    subst (λ (n : ℤ). pos 2 ≤ℤ n) (sym (to_z-of_z w32 c.args.best_indent c.ranges.best_indent)) c.requires.least
+
+pub write_hints-requires-clause-most : goal.write_hints-requires-clause-most
+write_hints-requires-clause-most g c =
+    subst (λ (n : ℤ). n ≤ℤ pos 9) (sym (to_z-of_z w32 c.args.best_indent c.ranges.best_indent)) c.requires.most
+
+pub end_header-requires : goal.end_header-requires
+end_header-requires g c = c.in_ok-write_hints.ensures.ready

@@ -1,10 +1,10 @@
-use Rattle.yaml_scalar.proofs.Common.{ℕ, chars, IsUtf8, List, subst, sym, ◌∙◌, IsUtf8-drop, IsUtf8-past_char, chars_rest, Text, Cursor, Rendered, wrote_exit}
-use Rattle.yaml_scalar.proofs.Common.{natural, is_folded, place_after, lines_from, limit_of}
+use Rattle.yaml_scalar.proofs.Common.{ℕ, chars, IsUtf8, List, ap, subst, sym, ◌∙◌, IsUtf8-drop, IsUtf8-past_char, chars_rest, Text, Cursor, Rendered}
+use Rattle.yaml_scalar.proofs.Common.{wrote_exit, natural, is_folded, place_after, render_step, lines_from, limit_of}
 use Rattle.yaml_scalar.proofs.{WholeRuns.run_unbroken, blocks.BlockStays.stays_unbroken}
 use Rattle.yaml_scalar.proofs.{blocks.BlockStays.block_alone, blocks.BlockWrites.LinesLeft}
-use Rattle.yaml_pen.proofs.StillToWrite.{still_rest, still_failed, end_still}
+use Rattle.yaml_pen.proofs.StillToWrite.{still_all, still_rest, still_failed, still_same, end_still}
 use Rattle.yaml_scalar.proofs.RunsWritten.{character_still, run_more, run_failed}
-use Rattle.yaml_scalar.specs.declared.block_lines.Place.{Place}
+use Rattle.yaml_scalar.specs.declared.block_lines.{Place.Place, Place.TheVariants.LineStart}
 use Rattle.std.proofs.Common.{drop}
 use Rattle.yaml_scalar.proofs.Shorter.{shorter_left, shorter_dropped}
 use Rattle.yaml_scalar.proofs.block_lines.write_lines.Goals as goal
@@ -24,7 +24,9 @@ returns-in_err-write_step g c =
     let first = character_still (lines c.loop-character.place) c.in-Some.character _ _ rest c.loop-character.invariant.1 c.in-Some.ensures.steps.0
     c.as_str-rest.ensures c.loop-character.invariant.0 in
     wrote_exit c.from_residual.ensures
-    (still_failed (lines (place_after folded c.loop-character.place c.in-Some.character) (chars rest)) first c.in_err-write_step.ensures)
+    (still_failed {first = render_step (limit_of c.args.lines.width) (natural c.args.lines.indent) c.loop-character.place c.in-Some.character (chars rest)}
+    {whole = lines LineStart (chars c.args.value.now)}
+    (lines (place_after folded c.loop-character.place c.in-Some.character) (chars rest)) first c.in_err-write_step.ensures)
 
 pub returns-in_err-write_run : goal.returns-in_err-write_run
 returns-in_err-write_run g c =
@@ -77,3 +79,23 @@ loop-character-smaller g c =
     let place = c.run_after-run.result.length in
     shorter_left _ _ rest (drop place rest) _ c.in-Some.character c.in-Some.ensures.steps.0 c.as_str-rest.ensures (shorter_dropped place rest)
     (c.chars-characters-in-Some.ensures.rest ∙ c.split_at.ensures.back)
+
+pub loop-character-init : goal.loop-character-init
+loop-character-init g c =
+    let lines = c.args.lines in
+    let same = sym c.chars-characters.ensures.rest in (
+      still_same (lines_from (is_folded lines.style) (limit_of lines.width) (natural lines.indent) LineStart) (ap chars same) (still_all c.requires.ready),
+      subst IsUtf8 same c.utf8.value,
+    )
+
+pub write_step-requires-clause-ready : goal.write_step-requires-clause-ready
+write_step-requires-clause-ready g c = c.loop-character.invariant.0.ready
+
+pub write_step-requires-clause-not_negative : goal.write_step-requires-clause-not_negative
+write_step-requires-clause-not_negative g c = c.requires.not_negative
+
+pub write_run-requires-clause-ready : goal.write_run-requires-clause-ready
+write_run-requires-clause-ready g c = c.in_ok-write_step.ensures.ready
+
+pub write_nothing-requires : goal.write_nothing-requires
+write_nothing-requires g c = c.loop-character.invariant.0.ready

@@ -11,3 +11,12 @@ returns-in_err-write_batch-clause-written g c =
 
 pub returns-clause-written : goal.returns-clause-written
 returns-clause-written g c = wrote_batch c.fill_batch-next.ensures.batched refl refl c.in_ok-write_batch.ensures
+
+pub write_batch-requires-clause-ready : goal.write_batch-requires-clause-ready
+write_batch-requires-clause-ready g c = c.requires
+
+pub returns-clause-is_text : goal.returns-clause-is_text
+returns-clause-is_text g c = c.fill_batch-next.ensures.is_text
+
+pub returns-clause-shorter : goal.returns-clause-shorter
+returns-clause-shorter g c = c.fill_batch-next.ensures.shorter

@@ -1,6 +1,7 @@
-use Rattle.yaml_scalar.proofs.Common.{ℕ, chars, IsUtf8, Some, List, ap, subst, sym, IsUtf8-past_char, double_inside, wrote_exit, natural, limit_where}
+use Rattle.yaml_scalar.proofs.Common.{ℕ, chars, IsUtf8, None, Some, List, ap, subst, sym, IsUtf8-past_char, double_inside, wrote_exit, natural}
+use Rattle.yaml_scalar.proofs.Common.{double_character, limit_where}
 use Rattle.yaml_scalar.proofs.{BatchTexts.batched_left, BatchTexts.batched_failed, InsideSteps.stays_unbroken, InsideSteps.inside_after}
-use Rattle.yaml_pen.proofs.StillToWrite.{still_rest, still_failed, still_same, end_still}
+use Rattle.yaml_pen.proofs.StillToWrite.{still_all, still_rest, still_failed, still_same, end_still}
 use Rattle.yaml_scalar.proofs.{InsideSteps.inside_alone, WholeRuns.run_unbroken}
 use Rattle.yaml_scalar.proofs.RunsWritten.{character_still, run_more, run_failed}
 use Rattle.yaml_scalar.proofs.Shorter.{shorter_left, shorter_after_run}
@@ -59,7 +60,9 @@ returns-in_err-write_next g c =
     let first = character_still (double_inside quoting.unicode limit indent c.loop-c.before) c.in-Some.c _ _ rest so_far.is_text c.in-Some.ensures.steps.0
     c.as_str-rest.ensures so_far.still in
     wrote_exit c.from_residual.ensures
-    (still_failed (double_inside quoting.unicode limit indent (Some c.in-Some.c) (chars rest)) first c.in_err-write_next.ensures)
+    (still_failed {first = double_character quoting.unicode limit indent c.loop-c.before c.in-Some.c (chars rest)}
+    {whole = double_inside quoting.unicode limit indent None (chars c.args.value.now)}
+    (double_inside quoting.unicode limit indent (Some c.in-Some.c) (chars rest)) first c.in_err-write_next.ensures)
 
 pub returns-in_err-write_run : goal.returns-in_err-write_run
 returns-in_err-write_run g c =
@@ -87,3 +90,28 @@ loop-c-smaller g c =
     let rest = c.as_str-rest.result.now in
     let few = shorter_after_run c.run_after-run.result.length rest _ _ c.split_at.ensures.back c.in_ok-last.ensures.shorter in
     shorter_left _ _ rest _ _ c.in-Some.c c.in-Some.ensures.steps.0 c.as_str-rest.ensures few c.chars-chars-in-Some.ensures.rest
+
+pub loop-c-init : goal.loop-c-init
+loop-c-init g c =
+    let quoting = c.args.quoting in
+    let same = sym c.chars-chars.ensures.rest in
+    record {
+      is_text = subst IsUtf8 same c.utf8.value;
+      still = still_same (double_inside quoting.unicode (limit_where quoting.allow_breaks quoting.width) (natural quoting.indent) None) (ap chars same)
+          (still_all c.requires.ready);
+    }
+
+pub write_next-requires-clause-ready : goal.write_next-requires-clause-ready
+write_next-requires-clause-ready g c = c.loop-c.invariant.still.ready
+
+pub write_next-requires-clause-not_negative : goal.write_next-requires-clause-not_negative
+write_next-requires-clause-not_negative g c = c.requires.not_negative
+
+pub write_run-requires-clause-ready : goal.write_run-requires-clause-ready
+write_run-requires-clause-ready g c = c.in_ok-write_next.ensures.ready
+
+pub write_next_escapes-requires : goal.write_next_escapes-requires
+write_next_escapes-requires g c = c.in_ok-write_run.ensures.written.ready
+
+pub write_nothing-requires : goal.write_nothing-requires
+write_nothing-requires g c = c.loop-c.invariant.still.ready

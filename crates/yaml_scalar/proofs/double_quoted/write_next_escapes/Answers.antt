@@ -9,3 +9,18 @@ returns-in_err-write_nothing-clause-written g c =
 pub returns-in_ok-write_nothing-clause-written : goal.returns-in_ok-write_nothing-clause-written
 returns-in_ok-write_nothing-clause-written g c =
     wrote_batch (batched_none c.args.unicode c.args.before (chars c.args.text.now) [] refl) refl refl c.in_ok-write_nothing.ensures
+
+pub write_escapes-requires : goal.write_escapes-requires
+write_escapes-requires g c = c.requires
+
+pub write_nothing-requires : goal.write_nothing-requires
+write_nothing-requires g c = c.requires
+
+pub returns-then-begins_with_escape-clause-written : goal.returns-then-begins_with_escape-clause-written
+returns-then-begins_with_escape-clause-written g c = c.write_escapes.ensures.written
+
+pub returns-then-begins_with_escape-clause-is_text : goal.returns-then-begins_with_escape-clause-is_text
+returns-then-begins_with_escape-clause-is_text g c = c.write_escapes.ensures.is_text
+
+pub returns-then-begins_with_escape-clause-shorter : goal.returns-then-begins_with_escape-clause-shorter
+returns-then-begins_with_escape-clause-shorter g c = c.write_escapes.ensures.shorter

@@ -52,3 +52,9 @@ returns-clause-reads g c charset allowed column enclosing =
     at c.in_ok-write_folded.ensures in
     folded_back charset (chars c.args.value.now) allowed n best
     (indents c.args.indent c.args.best_indent c.requires.least c.requires.most c.requires.within) column enclosing (limit_of c.args.width) wrote
+
+pub write_folded-requires-clause-ready : goal.write_folded-requires-clause-ready
+write_folded-requires-clause-ready g c = c.requires.ready
+
+pub write_folded-requires-clause-some : goal.write_folded-requires-clause-some
+write_folded-requires-clause-some g c = c.requires.some

@@ -1,7 +1,7 @@
-use Rattle.yaml_scalar.proofs.Common.{ℕ, chars, IsUtf8, List, subst, sym, ◌∙◌, IsUtf8-drop, IsUtf8-past_char, chars_rest, Kind, kind_of, wrote_exit}
+use Rattle.yaml_scalar.proofs.Common.{ℕ, chars, IsUtf8, List, ap, subst, sym, ◌∙◌, IsUtf8-drop, IsUtf8-past_char, chars_rest, Kind, kind_of, wrote_exit}
 use Rattle.yaml_scalar.proofs.Common.{seen_kind, written_as, render_steps, limit_where}
 use Rattle.yaml_scalar.proofs.{LinesWritten.LinesLeft, StaysInLine.stays_unbroken, StaysInLine.lines_after, StaysInLine.line_stands, WholeRuns.run_unbroken}
-use Rattle.yaml_pen.proofs.StillToWrite.{still_rest, still_failed, end_still}
+use Rattle.yaml_pen.proofs.StillToWrite.{still_all, still_rest, still_failed, still_same, end_still}
 use Rattle.yaml_scalar.proofs.RunsWritten.{character_still, standing_more, standing_failed}
 use Rattle.std.proofs.Common.{drop}
 use Rattle.yaml_scalar.proofs.Shorter.{shorter_left, shorter_dropped}
@@ -77,3 +77,22 @@ loop-character-smaller g c =
     let place = c.run_after-run.result.length in
     shorter_left _ _ rest (drop place rest) _ c.in-Some.character c.in-Some.ensures.steps.0 c.as_str-rest.ensures (shorter_dropped place rest)
     (c.chars-characters-in-Some.ensures.rest ∙ c.split_at.ensures.back)
+
+pub loop-character-init : goal.loop-character-init
+loop-character-init g c =
+    let lines = c.args.lines in
+    let same = sym c.chars-characters.ensures.rest in
+    record {
+      is_text = subst IsUtf8 same c.utf8.value;
+      still = still_same (render_steps (written_as lines.quoted) (limit_where lines.allow_breaks lines.width) lines.indent (seen_kind c.args.start))
+          (ap chars same) (still_all c.requires);
+    }
+
+pub write_step-requires : goal.write_step-requires
+write_step-requires g c = c.loop-character.invariant.still.ready
+
+pub write_run-requires-clause-ready : goal.write_run-requires-clause-ready
+write_run-requires-clause-ready g c = c.in_ok-write_step.ensures.ready
+
+pub write_nothing-requires : goal.write_nothing-requires
+write_nothing-requires g c = c.loop-character.invariant.still.ready

@@ -40,3 +40,9 @@ returns-clause-reads g c charset allowed column enclosing =
     at c.in_ok-write_literal.ensures in
     literal_back charset (chars c.args.value.now) allowed n best
     (indents c.args.indent c.args.best_indent c.requires.least c.requires.most c.requires.within) column enclosing wrote
+
+pub write_literal-requires-clause-ready : goal.write_literal-requires-clause-ready
+write_literal-requires-clause-ready g c = c.requires.ready
+
+pub write_literal-requires-clause-some : goal.write_literal-requires-clause-some
+write_literal-requires-clause-some g c = c.requires.some
