@@ -1,11 +1,11 @@
 -- An event is refused exactly where no accepted list goes on with it.
 use Rattle.yaml_base.proofs.Common.{ℕ, ◌+◌, ◌<◌, ◌≤◌, count_by, is_none, option_and_then, Option, None, Some, nat_lt, length, Bool, cond, false, not, true}
 use Rattle.yaml_base.proofs.Common.{◌&&◌, List, [], ◌++◌, ◌∷◌, refl, ◌≡◌, lt-ltb, ltb-true, append-nil, append_assoc, ap, sym, ◌∙◌, arith, list_all-append}
-use Rattle.yaml_base.proofs.Common.{sum_by-append, list_all, option_or, Event, stream_end, document_end, sequence_start, sequence_end, mapping_start}
-use Rattle.yaml_base.proofs.Common.{mapping_end, Level, at_item, at_key, at_value, Partial, before_stream, and_from, and_parts}
-use Rattle.yaml_base.proofs.Common.{between_documents, within_document, after_root, after_stream, push, pushed, partial_of, empty_scalar, outer_missing}
-use Rattle.yaml_base.proofs.Common.{levels_missing, missing, missing_after, completion, some_if, name_or_tag_fault, content_fault, expected, place_fault}
-use Rattle.yaml_base.proofs.Common.{most_open, begins_collection, ends_collection, open_levels, depth_fault, refusal_at, refusal, is_sound, open_count}
+use Rattle.yaml_base.proofs.Common.{sum_by-append, list_all, option_or, Event, stream_end, document_end, sequence_end, mapping_end, Level, at_item, at_key}
+use Rattle.yaml_base.proofs.Common.{at_value, Partial, before_stream, and_from, and_parts, between_documents, within_document, after_root, after_stream, push}
+use Rattle.yaml_base.proofs.Common.{pushed, partial_of, empty_scalar, outer_missing, levels_missing, missing, missing_after, completion, some_if}
+use Rattle.yaml_base.proofs.Common.{name_or_tag_fault, content_fault, expected, place_fault, most_open, begins_collection, ends_collection, open_levels}
+use Rattle.yaml_base.proofs.Common.{depth_fault, refusal_at, refusal, is_sound, open_count}
 use Rattle.std.specs.Prelude.{flat_map}
 use Rattle.yaml_base.{proofs.NoFaults.neither, proofs.NoFaults.is_none_none, proofs.OpenCounts.open_count-levels, proofs.Pushes.partial_of_events}
 use Rattle.yaml_base.{proofs.Trees.stream_pushed, specs.Pieces.innermost_missing, specs.Refusal.BeginsAccepted, specs.Refusal.RefusedExactly}
@@ -146,14 +146,10 @@ is_some_value None h = cc
 is_some_value (Some q) h = (q, refl)
 
 has_room : (begins room : Bool) → begins && not room ≡ false → begins ≡ true → room ≡ true
-has_room true true h k = refl
-has_room true false h k = cc
-has_room false room h k = cc
+has_room begins room h h2 = grind (arith, nat_tests)
 
 room_if : (begins room : Bool) → (begins ≡ true → room ≡ true) → begins && not room ≡ false
-room_if true true h = refl
-room_if true false h = let no : false ≡ true = h refl in cc
-room_if false room h = refl
+room_if begins room h = grind (arith, nat_tests)
 
 pub pushed_next : (before : List Event) (event : Event) (p : Partial) → partial_of before ≡ Some p
     → partial_of (before ++ event ∷ []) ≡ option_and_then (λ next. Some next) (push p event)
@@ -204,9 +200,7 @@ next_stands canonical before event given accepted =
     }
 
 begins_no_end : (event : Event) → begins_collection event ≡ true → stops (event ∷ []) ≡ 0
-begins_no_end (sequence_start c) is = refl
-begins_no_end (mapping_start c) is = refl
-begins_no_end event is = cc
+begins_no_end event h = grind (arith, nat_tests)
 
 some_pushed : (o : Option Partial) (q : Partial) → option_and_then (λ next. Some next) o ≡ Some q → is_none o ≡ false
 some_pushed None q h = cc

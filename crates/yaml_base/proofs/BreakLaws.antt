@@ -2,7 +2,7 @@
 use Rattle.yaml_base.proofs.Common.{nat_tests, arith, ℕ, if◌then◌else◌, ◌==◌, Bool, false, not, true, ◌&&◌, ◌||◌, [], ◌++◌, ◌∷◌, refl, ◌≡◌, eqb-true, or_cases}
 use Rattle.yaml_base.proofs.Common.{and_parts, and_from, or_parts, or_left, or_right, not-true, Text, line_feed, carriage_return, next_line, space, is_break}
 use Rattle.yaml_base.proofs.Common.{break_text, with_breaks_written, with_line_breaks_read, is_rendered_text, is_indented_text, LineBreak, false≢true}
-use Rattle.yaml_base.proofs.Common.{carriage_return_break, line_feed_break, both_break}
+use Rattle.yaml_base.proofs.Common.{carriage_return_break}
 use Rattle.yaml_base.specs.LineBreaks.{line_breaks_read_after, begins_indented}
 
 -- a rendered text's prefix and rest are rendered
@@ -20,14 +20,7 @@ break-step : (setting : LineBreak) (after : Bool) (c : ℕ) (rest : Text) (b : B
     → (c == line_feed) ≡ b → (c == carriage_return) ≡ false → (c == next_line) ≡ false
     → ((next : Bool) → reads_after setting next ≡ true → line_breaks_read_after next (with_breaks_written setting rest) ≡ rest)
     → line_breaks_read_after after ((if b then break_text setting else c ∷ []) ++ with_breaks_written setting rest) ≡ c ∷ rest
-break-step carriage_return_break after c rest true k is not_cr not_nel ih = let e : c ≡ line_feed = eqb-true c _ is in rw (e, ih true refl)
-break-step line_feed_break false c rest true k is not_cr not_nel ih = let e : c ≡ line_feed = eqb-true c _ is in rw (e, ih false refl)
-break-step both_break false c rest true k is not_cr not_nel ih = let e : c ≡ line_feed = eqb-true c _ is in rw (e, ih false refl)
-break-step line_feed_break true c rest true k is not_cr not_nel ih = absurd (false≢true k)
-break-step both_break true c rest true k is not_cr not_nel ih = absurd (false≢true k)
-break-step carriage_return_break after c rest false k is not_cr not_nel ih = rw (is, not_cr, not_nel, ih false refl)
-break-step line_feed_break after c rest false k is not_cr not_nel ih = rw (is, not_cr, not_nel, ih false refl)
-break-step both_break after c rest false k is not_cr not_nel ih = rw (is, not_cr, not_nel, ih false refl)
+break-step setting after c rest b h h2 h3 h4 h5 = grind (arith, nat_tests, eqb-true, false≢true)
 
 break-read : (setting : LineBreak) (after : Bool) (text : Text) → reads_after setting after ≡ true → is_rendered_text text ≡ true
     → line_breaks_read_after after (with_breaks_written setting text) ≡ text
@@ -39,9 +32,7 @@ break-read setting after (c ∷ rest) k h =
 -- a rendered text is what its line breaks read as, however they are written
 pub breaks-round : (setting : LineBreak) (text : Text) → is_rendered_text text ≡ true
     → with_line_breaks_read (with_breaks_written setting text) ≡ text
-breaks-round carriage_return_break text h = break-read carriage_return_break false text refl h
-breaks-round line_feed_break text h = break-read line_feed_break false text refl h
-breaks-round both_break text h = break-read both_break false text refl h
+breaks-round setting text h = grind (arith, nat_tests, break-read)
 
 -- joined texts are rendered where both are
 pub rendered-append : (a b : Text) → is_rendered_text a ≡ true → is_rendered_text b ≡ true → is_rendered_text (a ++ b) ≡ true

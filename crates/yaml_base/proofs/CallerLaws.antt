@@ -5,12 +5,12 @@ use Rattle.yaml_base.proofs.Common.{plain, single_quoted, double_quoted, literal
 use Rattle.yaml_base.proofs.Common.{document_start, document_end, alias, scalar, sequence_start, sequence_end, mapping_start, mapping_end, scalar_tag}
 use Rattle.yaml_base.proofs.Common.{collection_tag, Stream, stream_events, tree_of, first_standing, layout, Piece, Standing, RenderedPiece, piece_without_body}
 use Rattle.yaml_base.proofs.Common.{render_properties, render_alias, render_separation, render_body, open_ended_after, style_asked_at, choice_of, body_at}
-use Rattle.yaml_base.proofs.Common.{is_written_in_flow}
-use Rattle.yaml_base.proofs.Common.{Brackets, square, curly, render_end, Role, as_root, as_item, as_key, as_value, Place, is_key, is_undented, deeper}
-use Rattle.yaml_base.proofs.Common.{is_simple_scalar, is_simple_collection, render_flow_place, render_place, settings_for, text_written, bytes_written}
-use Rattle.yaml_base.proofs.Common.{list_layout, Encoding, Effective, effective, Frame, Stage, at_stream, at_document, at_node, at_document_end, next_place}
-use Rattle.yaml_base.proofs.Common.{stage_after, Stepped, leaf_step, frame_opened, start_step, step, ends_next, Steps, then_steps, steps, begins_no_plain}
-use Rattle.yaml_base.proofs.Common.{holds_no_plain, read_plain, is_empty, allowed_by_quotes, allowed_by_blanks, Choice, is_literal, chosen}
+use Rattle.yaml_base.proofs.Common.{is_written_in_flow, Brackets, square, curly, render_end, Role, as_root, as_item, as_key, as_value, Place, is_key}
+use Rattle.yaml_base.proofs.Common.{is_undented, deeper, is_simple_scalar, is_simple_collection, render_flow_place, render_place, settings_for, text_written}
+use Rattle.yaml_base.proofs.Common.{bytes_written, list_layout, Encoding, Effective, effective, Frame, Stage, at_stream, at_document, at_node, at_document_end}
+use Rattle.yaml_base.proofs.Common.{next_place, stage_after, Stepped, leaf_step, frame_opened, start_step, step, ends_next, Steps, then_steps, steps}
+use Rattle.yaml_base.proofs.Common.{begins_no_plain, holds_no_plain, read_plain, is_empty, allowed_by_quotes, allowed_by_blanks, Choice, is_literal, chosen}
+use Rattle.yaml_base.proofs.Common.{nat_tests}
 use Rattle.std.proofs.lemmas.List.{take-take}
 use Rattle.yaml_base.{proofs.Decoding.decode-encode, proofs.StepLaws.stream_steps, proofs.Trees.tree_of-stream_events, specs.Decode.decode}
 use Rattle.yaml_base.{specs.Settings.escapes_separators, specs.Steps.is_first, specs.Steps.end_step, specs.Steps.node_step}
@@ -31,9 +31,7 @@ inside_here breaks12 flow [] c rest h = grind (arith, or_parts, then_false)
 inside_here breaks12 flow (x ∷ before) c rest h = inside_here breaks12 flow before c rest (or_parts _ _ h).1
 
 read_if : (a b : Bool) (read value : Text) → (if a || b then None else Some read) ≡ Some value → b ≡ false
-read_if true b read value h = cc
-read_if false true read value h = cc
-read_if false false read value h = refl
+read_if a b read value h = grind (arith, nat_tests)
 
 read_holds : (breaks12 flow : Bool) (c : ℕ) (rest value : Text) → read_plain breaks12 flow (c ∷ rest) ≡ Some value
     → holds_no_plain breaks12 flow (c ∷ rest) ≡ false

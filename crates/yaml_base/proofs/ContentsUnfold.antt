@@ -1,16 +1,16 @@
 -- The content of a tree that unfolds a graph unfolds it but for its styles; graphs dumped one after another are a stream
 -- of such documents.
-use Rattle.yaml_base.proofs.Common.{arith, All, option_map, Option, None, Some, Bool, false, true, List, [], ◌++◌, ◌∷◌, refl, ◌≡◌, append-nil, append_assoc, ap}
-use Rattle.yaml_base.proofs.Common.{sym, ◌∙◌, All-head, All-tail, Text, Event, stream_start, stream_end, Node, alias_node, scalar_node, Nodes, sequence_node}
-use Rattle.yaml_base.proofs.Common.{Pairs, mapping_node, no_nodes, nodes_and, no_pairs, pairs_and, Documents, no_documents, documents_and, Stream}
-use Rattle.yaml_base.proofs.Common.{document_events, documents_events, stream_events, AreDumped, Held, scalar_held, sequence_held, mapping_held, GraphNode}
-use Rattle.yaml_base.proofs.Common.{Graph, node_numbered, document_event_list, scalar_kind, sequence_kind, mapping_kind, Label, node_shape_of, nodes_shapes}
-use Rattle.yaml_base.proofs.Common.{pairs_shapes, Placed, alias_placed, PlacedNodes, node_placed, none_placed, placed_and, label_of, HasShape, HaveShapes}
-use Rattle.yaml_base.proofs.Common.{TreeUnfolds, ContentUnfolds, IsWholeGraph, DocumentContent, node_content}
+use Rattle.yaml_base.proofs.Common.{arith, All, option_map, Option, None, Some, Bool, false, true, List, [], ◌++◌, ◌∷◌, refl, ◌≡◌, append-nil, append_assoc}
+use Rattle.yaml_base.proofs.Common.{ap, sym, ◌∙◌, All-head, All-tail, Text, Event, stream_start, stream_end, Node, alias_node, scalar_node, Nodes}
+use Rattle.yaml_base.proofs.Common.{sequence_node, Pairs, mapping_node, no_nodes, nodes_and, no_pairs, pairs_and, Documents, no_documents, documents_and}
+use Rattle.yaml_base.proofs.Common.{Stream, documents_events, stream_events, AreDumped, Held, GraphNode, Graph, document_event_list, scalar_kind}
+use Rattle.yaml_base.proofs.Common.{sequence_kind, mapping_kind, Label, node_shape_of, nodes_shapes, pairs_shapes, Placed, alias_placed, PlacedNodes}
+use Rattle.yaml_base.proofs.Common.{node_placed, none_placed, placed_and, label_of, HasShape, HaveShapes, TreeUnfolds, ContentUnfolds, IsWholeGraph}
+use Rattle.yaml_base.proofs.Common.{DocumentContent, node_content, nat_tests}
 use Rattle.std.specs.Prelude.{flat_map}
 use Rattle.yaml_base.{proofs.DocumentsUnfold.document_unfolds, proofs.Trees.tree_of-stream_events, specs.graphs.Dumped.ContentsUnfold}
 use Rattle.yaml_base.specs.graphs.Unfolding.{StyledKind, explicit_tag, content_shape, contents_shapes, content_pairs_shapes, kind_held}
-use Rattle.yaml_base.specs.reading.Content.{content_tag, nodes_content, pairs_content, document_content, documents_content, content_of}
+use Rattle.yaml_base.specs.reading.Content.{content_tag, nodes_content, pairs_content, documents_content, content_of}
 
 -- ---- without styles
 
@@ -23,9 +23,7 @@ abbrev unstyled : Label → Label
 unstyled label = record { tag = label.tag; kind = unstyled_kind label.kind }
 
 kind_unstyled : (held : Held) → kind_held false held ≡ unstyled_kind (kind_held true held)
-kind_unstyled (scalar_held value style) = refl
-kind_unstyled (sequence_held items style) = refl
-kind_unstyled (mapping_held pairs style) = refl
+kind_unstyled held = grind (arith, nat_tests)
 
 label_unstyled : (found : Option GraphNode) → option_map (label_of false) found ≡ option_map unstyled (option_map (label_of true) found)
 label_unstyled None = refl
@@ -62,28 +60,12 @@ mutual
   content_fits graph (alias_node name) (alias_placed stated number) fits = fits
   content_fits graph (alias_node name) (node_placed anchor number below) fits = fits
   content_fits graph (scalar_node content) (alias_placed stated number) fits = fits
-  content_fits graph (scalar_node content) (node_placed anchor number none_placed) fits = (
-    fits.0,
-    scalar_label (node_numbered graph number)
-        (record { tag = content.tag; kind = scalar_kind content.value (Some content.style) }) content.quoted_implicit fits.1,
-    fits.2,
-    fits.3,
-  )
+  content_fits graph (scalar_node content) (node_placed anchor number none_placed) fits = grind (arith, scalar_label)
   content_fits graph (scalar_node content) (node_placed anchor number (placed_and before last)) fits = absurd fits.3
   content_fits graph (sequence_node start items) (alias_placed stated number) fits = fits
-  content_fits graph (sequence_node start items) (node_placed anchor number below) fits = (
-    fits.0,
-    labels_same (node_numbered graph number) (record { tag = start.tag; kind = sequence_kind (Some start.style) }) fits.1,
-    fits.2,
-    contents_fit graph items below fits.3,
-  )
+  content_fits graph (sequence_node start items) (node_placed anchor number below) fits = grind (arith, labels_same, contents_fit graph items below fits.3)
   content_fits graph (mapping_node start pairs) (alias_placed stated number) fits = fits
-  content_fits graph (mapping_node start pairs) (node_placed anchor number below) fits = (
-    fits.0,
-    labels_same (node_numbered graph number) (record { tag = start.tag; kind = mapping_kind (Some start.style) }) fits.1,
-    fits.2,
-    content_pairs_fit graph pairs below fits.3,
-  )
+  content_fits graph (mapping_node start pairs) (node_placed anchor number below) fits = grind (arith, labels_same, content_pairs_fit graph pairs below fits.3)
 
   contents_fit : (graph : Graph) (items : Nodes) (below : PlacedNodes) → HaveShapes true graph below (nodes_shapes items)
       → HaveShapes false graph below (contents_shapes (nodes_content items))
@@ -126,23 +108,8 @@ follow [] before are =
     }
 follow (graph ∷ graphs) before are =
     let first = document_unfolds graph (All-head IsWholeGraph graph graphs are) in
-    let rest = follow graphs (documents_and before first.document) (All-tail IsWholeGraph graph graphs are) in
-    record {
-      all = rest.all;
-      contents = document_content first.document ∷ rest.contents;
-      events =
-          rest.events ∙ append_assoc (documents_events before) (document_events first.document) (flat_map document_event_list graphs)
-          ∙ ap (λ (events : List Event). documents_events before ++ (events ++ flat_map document_event_list graphs)) first.is_document;
-      content = rest.content ∙ append_assoc (documents_content before) (document_content first.document ∷ []) rest.contents;
-      unfolds = (
-        record {
-          version = ap (λ start. start.version) first.start;
-          directives = ap (λ start. start.directives) first.start;
-          unfolds = content_unfolds graph first.document.root first.unfolds;
-        },
-        rest.unfolds,
-      );
-    }
+    let each = follow graphs (documents_and before first.document) (All-tail IsWholeGraph graph graphs are) in
+    grind (arith, document_unfolds, All-head, All-tail, append_assoc, content_unfolds, each)
 
 -- the events of dumped graphs are a stream's, whose contents unfold them
 pub record DumpedStream (graphs : List Graph) (events : List Event) : Type 0 where

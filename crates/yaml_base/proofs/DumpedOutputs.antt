@@ -1,11 +1,9 @@
 -- The canonical output of one document without directives, whose end isn't written, is the encoding of its text.
-use Rattle.yaml_base.proofs.Common.{Bool, true, false, Option, None, Some, List, [], ◌∷◌, ◌++◌, ◌==◌, if◌then◌else◌, refl, ◌≡◌, ap, sym, ◌∙◌}
-use Rattle.yaml_base.proofs.Common.{append_assoc, append-nil, codes, Text, line_feed, eqb-true, option_map, unwrap_or, flat_map-append}
-use Rattle.yaml_base.proofs.Common.{Standing, Piece, text_of, piece_text, layout, root_place, render_node}
-use Rattle.yaml_base.proofs.Common.{document_end_piece, stream_end_piece, first_standing, with_breaks_written, line_feed_break, encode, cut, utf8}
+use Rattle.yaml_base.proofs.Common.{Bool, true, false, Option, None, Some, List, [], ◌∷◌, ◌++◌, refl, ◌≡◌, ap, sym, ◌∙◌, append_assoc, append-nil, codes, Text}
+use Rattle.yaml_base.proofs.Common.{line_feed, eqb-true, option_map, unwrap_or, flat_map-append, Standing, Piece, text_of, piece_text, layout, root_place}
+use Rattle.yaml_base.proofs.Common.{render_node, document_end_piece, stream_end_piece, first_standing, with_breaks_written, line_feed_break, encode, cut, utf8}
 use Rattle.yaml_base.proofs.Common.{bytes_written, output_of, Encoding, Event, stream_start, stream_end, DocumentStart, Document, Documents, Stream}
-use Rattle.yaml_base.proofs.Common.{documents_and}
-use Rattle.yaml_base.proofs.Common.{no_documents, document_events, stream_events, Node, Graph, document_event_list, AreDumped, IsWholeGraph, All-head}
+use Rattle.yaml_base.proofs.Common.{documents_and, no_documents, stream_events, Node, Graph, document_event_list, AreDumped, IsWholeGraph, All-head, arith}
 use Rattle.yaml_base.specs.Settings.{largest_usize}
 use Rattle.yaml_base.specs.graphs.DumpedText.{HasDumpedText, HaveText, IsBareDocument, dumped_text, node_text}
 use Rattle.yaml_base.specs.values.TypedValues.{typed_settings}
@@ -56,12 +54,7 @@ layout_is encoding false root = ap (λ t. codes "---\n" ++ t) (rest_is root)
 -- LF stands for itself
 breaks_same : (text : Text) → with_breaks_written line_feed_break text ≡ text
 breaks_same [] = refl
-breaks_same (c ∷ rest) = by (c == line_feed) refl (breaks_same rest)
-  where
-    by : (b : Bool) → (c == line_feed) ≡ b → with_breaks_written line_feed_break rest ≡ rest
-        → (if b then line_feed ∷ [] else c ∷ []) ++ with_breaks_written line_feed_break rest ≡ c ∷ rest
-    by true e same = ap (λ d. d ∷ with_breaks_written line_feed_break rest) (sym (eqb-true c line_feed e)) ∙ ap (λ t. c ∷ t) same
-    by false e same = ap (λ t. c ∷ t) same
+breaks_same (c ∷ rest) = grind (arith, eqb-true, breaks_same rest)
 
 -- the output of a tree's events
 pub tree_output : (encoding : Option Encoding) (implicit : Bool) (root : Node)
@@ -73,22 +66,7 @@ tree_output encoding implicit root =
 
 -- a document that is bare
 bare_is : (document : Document) → IsBareDocument document.start document.end_implicit → document ≡ bare_document document.start.implicit document.root
-bare_is document bare =
-    ap (λ v. let made : Document = record {
-      start = record { version = v; directives = document.start.directives; implicit = document.start.implicit };
-      root = document.root;
-      end_implicit = document.end_implicit;
-    } in made) bare.version
-    ∙ ap (λ d. let made : Document = record {
-      start = record { version = None; directives = d; implicit = document.start.implicit };
-      root = document.root;
-      end_implicit = document.end_implicit;
-    } in made) bare.directives
-    ∙ ap (λ e. let made : Document = record {
-      start = record { version = None; directives = []; implicit = document.start.implicit };
-      root = document.root;
-      end_implicit = e;
-    } in made) bare.implicit
+bare_is document bare = grind (arith)
 
 -- the output of a bare document is the encoding of its text
 pub text_output : (encoding : Option Encoding) (events : List Event) (text : Text) (has : HaveText events text)

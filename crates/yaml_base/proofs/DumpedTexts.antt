@@ -1,13 +1,10 @@
 -- The layout of a tree of events, under the settings of canonical values, is its canonical text.
-use Rattle.yaml_base.proofs.Common.{ℕ, Bool, true, false, Option, None, Some, [], ◌∷◌, ◌++◌, refl, ◌≡◌, ap, subst, sym, ◌∙◌}
-use Rattle.yaml_base.proofs.Common.{append_assoc, append-nil, and-false, codes, Text, space}
-use Rattle.yaml_base.proofs.Common.{Cursor, Rendered, render_then, Standing, RenderedPieces, text_of, one_piece}
-use Rattle.yaml_base.proofs.Common.{then_pieces, Place, root_place, entry_place, Role, as_item, as_key, as_value, is_key, line_column, deeper}
-use Rattle.yaml_base.proofs.Common.{is_written_in_flow, has_no_nodes, has_no_pairs, render_node, render_nodes, render_pairs}
-use Rattle.yaml_base.proofs.Common.{is_simple, Brackets, square, curly, start_piece}
-use Rattle.yaml_base.proofs.Common.{is_undented, render_properties, opening_or_comma, flow_break, key_indicator}
-use Rattle.yaml_base.proofs.Common.{Collection}
-use Rattle.yaml_base.proofs.Common.{Node, alias_node, scalar_node, sequence_node, mapping_node, Nodes, no_nodes, nodes_and, Pairs, no_pairs, pairs_and}
+use Rattle.yaml_base.proofs.Common.{ℕ, Bool, true, false, Option, None, Some, [], ◌∷◌, ◌++◌, refl, ◌≡◌, ap, subst, sym, ◌∙◌, append_assoc, append-nil}
+use Rattle.yaml_base.proofs.Common.{and-false, codes, Text, Cursor, Rendered, render_then, Standing, RenderedPieces, text_of, one_piece, then_pieces, Place}
+use Rattle.yaml_base.proofs.Common.{root_place, entry_place, Role, as_item, as_key, as_value, is_key, line_column, deeper, is_written_in_flow, has_no_nodes}
+use Rattle.yaml_base.proofs.Common.{has_no_pairs, render_node, render_nodes, render_pairs, is_simple, Brackets, square, curly, start_piece, is_undented}
+use Rattle.yaml_base.proofs.Common.{render_properties, opening_or_comma, flow_break, key_indicator, Collection, Node, alias_node, scalar_node, sequence_node}
+use Rattle.yaml_base.proofs.Common.{mapping_node, Nodes, no_nodes, nodes_and, Pairs, no_pairs, pairs_and, arith, nat_tests}
 use Rattle.yaml_base.specs.Cursor.{space_if}
 use Rattle.yaml_base.specs.Indicators.{render_indicator, opening_bracket}
 use Rattle.yaml_base.specs.NodeLayout.{alias_piece, end_piece, render_collection, scalar_piece}
@@ -35,19 +32,7 @@ opening_is bracket cursor =
 -- brackets with nothing between them
 empty_writes : (brackets : Brackets) (column : Option ℕ) (from : Standing)
     → Writes (space_if true from.cursor ++ (brackets.opening ++ brackets.closing)) from.open_ended (one_piece (end_piece s brackets true true column from))
-empty_writes brackets column from =
-    let made = end_piece s brackets true true column from in
-    record {
-      is = assoc (space_if true from.cursor) brackets.opening brackets.closing;
-      column = made.standing.cursor.column;
-      stands = ap (λ b. let standing : Standing = record {
-        cursor = record { column = made.standing.cursor.column; whitespace = false; indention = b };
-        open_ended = from.open_ended;
-      } in standing) (and-false _);
-    }
-  where
-    assoc : (a b c : Text) → (((a ++ b) ++ c) ++ []) ++ [] ≡ a ++ (b ++ c)
-    assoc a b c = simp (append_assoc, append-nil)
+empty_writes brackets column from = grind (arith, and-false, append_assoc, append-nil)
 
 -- behind the last entry a comma, and the closing bracket on a line of its own
 closing_writes : (brackets : Brackets) (column : Option ℕ) (at open_ended : ℕ)
@@ -77,15 +62,12 @@ collection_writes brackets start place undented empty entries text standing goes
           ∙ ap (λ t. t ++ text_of end.pieces) (text_of-append (first.piece ∷ []) inner.pieces)
           ∙ append_assoc (text_of (first.piece ∷ [])) (text_of inner.pieces) (text_of end.pieces)
           ∙ ap (λ t. text_of (first.piece ∷ []) ++ t) (sym (text_of-append inner.pieces end.pieces) ∙ rest.is)
-          ∙ assoc before.text properties.text (space_if true properties.cursor) text
+          ∙ (simp (append_assoc, append-nil))
           ∙ ap (λ t. before.text ++ (t ++ text)) (properties_are start.anchor start.tag false before.cursor)
           ∙ ap (λ t. before.text ++ t) (append_assoc (space_if true before.cursor) (collection_properties start) text);
       column = rest.column;
       stands = rest.stands;
     }
-  where
-    assoc : (a b c d : Text) → (((a ++ b) ++ []) ++ []) ++ (c ++ d) ≡ a ++ ((b ++ c) ++ d)
-    assoc a b c d = simp (append_assoc, append-nil)
 
 -- ---- entries
 
@@ -94,20 +76,14 @@ item_first : (bracket : Text) (column : ℕ) (cursor : Cursor) (text : Text)
     → led (render_then (opening_or_comma bracket true cursor) (flow_break s (Some column))) text
     ≡ space_if true cursor ++ (bracket ++ (line_at column ++ text))
 item_first bracket column cursor text =
-    ap (λ r. led (render_then r (flow_break s (Some column))) text) (opening_is bracket cursor) ∙ assoc (space_if true cursor) bracket (line_at column) text
-  where
-    assoc : (a b c d : Text) → ((a ++ b) ++ c) ++ d ≡ a ++ (b ++ (c ++ d))
-    assoc a b c d = simp append_assoc
+    ap (λ r. led (render_then r (flow_break s (Some column))) text) (opening_is bracket cursor) ∙ simp append_assoc
 
 key_first : (column : ℕ) (cursor : Cursor) (text : Text)
     → led (render_then (render_then (opening_or_comma (codes "{") true cursor) (flow_break s (Some column))) (key_indicator false false)) text
     ≡ space_if true cursor ++ (codes "{" ++ (line_at column ++ (codes "? " ++ text)))
 key_first column cursor text =
     ap (λ r. led (render_then (render_then r (flow_break s (Some column))) (key_indicator false false)) text) (opening_is (codes "{") cursor)
-    ∙ assoc (space_if true cursor) (line_at column) text
-  where
-    assoc : (a b c : Text) → (((a ++ codes "{") ++ b) ++ codes "?") ++ (space ∷ c) ≡ a ++ (codes "{" ++ (b ++ (codes "? " ++ c)))
-    assoc a b c = simp append_assoc
+    ∙ simp append_assoc
 
 -- behind a node
 item_next : (column at open_ended : ℕ) (text : Text)
@@ -137,10 +113,7 @@ in_flow None start empty = refl
 in_flow (Some spot) start empty = refl
 
 no_key_is_simple : (key : Node) → is_simple true force key ≡ false
-no_key_is_simple (alias_node name) = refl
-no_key_is_simple (scalar_node content) = refl
-no_key_is_simple (sequence_node start items) = refl
-no_key_is_simple (mapping_node start pairs) = refl
+no_key_is_simple key = grind (arith, nat_tests)
 
 -- what stands between a collection's brackets but for the last comma, where there are entries
 abbrev WritesItems : ℕ → Nodes → Standing → RenderedPieces → Type 0
@@ -166,15 +139,9 @@ items_end : (items : Nodes) (column : Option ℕ) (from : Standing)
     (then_pieces (render_nodes items s force true (deeper 2 column) from) (λ after. one_piece (end_piece s square true (has_no_nodes items) column after)))
 items_end no_nodes column from entries = empty_writes square column from
 items_end (nodes_and items item) column from entries =
-    writes_text _ _
-    (assoc (space_if true from.cursor) (nodes_text (deeper 2 column) items) (line_at (deeper 2 column)) (node_text (deeper 2 column) item)
-    (line_at (line_column column)))
+    writes_text _ _ (simp append_assoc)
     (writes_then (render_nodes (nodes_and items item) s force true (deeper 2 column) from) (λ after. one_piece (end_piece s square true false column after))
     entries (closing_writes square column entries.column from.open_ended))
-  where
-    assoc : (a b c d e : Text)
-        → (a ++ (codes "[" ++ (b ++ (c ++ d)))) ++ (codes "," ++ (e ++ codes "]")) ≡ a ++ (codes "[" ++ ((b ++ (c ++ (d ++ codes ","))) ++ (e ++ codes "]")))
-    assoc a b c d e = simp append_assoc
 
 pairs_end : (pairs : Pairs) (column : Option ℕ) (from : Standing)
     → WritesPairs (deeper 2 column) pairs from (render_pairs pairs s force true (deeper 2 column) from)
@@ -185,17 +152,10 @@ pairs_end : (pairs : Pairs) (column : Option ℕ) (from : Standing)
     (then_pieces (render_pairs pairs s force true (deeper 2 column) from) (λ after. one_piece (end_piece s curly true (has_no_pairs pairs) column after)))
 pairs_end no_pairs column from entries = empty_writes curly column from
 pairs_end (pairs_and pairs key value) column from entries =
-    writes_text _ _
-    (assoc (space_if true from.cursor) (node_pairs_text (deeper 2 column) pairs) (line_at (deeper 2 column)) (node_text (deeper 2 column) key)
-    (node_text (deeper 2 column) value) (line_at (line_column column)))
+    writes_text _ _ (simp append_assoc)
     (writes_then (render_pairs (pairs_and pairs key value) s force true (deeper 2 column) from)
     (λ after. one_piece (end_piece s curly true false column after))
     entries (closing_writes curly column entries.column from.open_ended))
-  where
-    assoc : (a b c d e f : Text)
-        → (a ++ (codes "{" ++ (b ++ (c ++ (codes "? " ++ (d ++ (c ++ (codes ": " ++ e)))))))) ++ (codes "," ++ (f ++ codes "}"))
-        ≡ a ++ (codes "{" ++ ((b ++ (c ++ (codes "? " ++ (d ++ (c ++ (codes ": " ++ (e ++ codes ","))))))) ++ (f ++ codes "}")))
-    assoc a b c d e f = simp append_assoc
 
 -- a value behind its key
 value_behind : (key value : Node) (column open_ended : ℕ) {text : Text} (first : RenderedPieces) → (before : Writes text open_ended first)
@@ -255,12 +215,7 @@ mutual
       let behind : Writes (codes "," ++ (line_at column ++ node_text column item)) from.open_ended (last (standing_at entries.column from.open_ended)) =
       writes_text _ _ (item_next column entries.column from.open_ended (node_text column item))
       (node_writes item (Some (as_item false, column)) (standing_at entries.column from.open_ended)) in
-      writes_text _ _ (regroup (space_if true from.cursor) (nodes_text column items) (line_at column) (node_text column before) (node_text column item))
-      (writes_then (render_nodes (nodes_and items before) s force true column from) last entries behind)
-    where
-      regroup : (a b c d e : Text)
-          → (a ++ (codes "[" ++ (b ++ (c ++ d)))) ++ (codes "," ++ (c ++ e)) ≡ a ++ (codes "[" ++ ((b ++ (c ++ (d ++ codes ","))) ++ (c ++ e)))
-      regroup a b c d e = simp append_assoc
+      writes_text _ _ (simp append_assoc) (writes_then (render_nodes (nodes_and items before) s force true column from) last entries behind)
 
   pairs_write : (pairs : Pairs) (column : ℕ) (from : Standing) → WritesPairs column pairs from (render_pairs pairs s force true column from)
   pairs_write no_pairs column from = tt
@@ -269,13 +224,9 @@ mutual
       let of_key : Writes (space_if true from.cursor ++ (codes "{" ++ (line_at column ++ (codes "? " ++ node_text column key)))) from.open_ended
       (render_node key s force place from) =
       writes_text _ _ (key_first column from.cursor (node_text column key)) (node_writes key (Some (as_key true, column)) from) in
-      writes_text _ _ (regroup (space_if true from.cursor) (line_at column) (node_text column key) (node_text column value))
+      writes_text _ _ (simp append_assoc)
       (value_behind key value column from.open_ended (render_node key s force place from) of_key
       (λ at. node_writes value (Some (as_value false, column)) (standing_at at from.open_ended)))
-    where
-      regroup : (a b c d : Text)
-          → (a ++ (codes "{" ++ (b ++ (codes "? " ++ c)))) ++ (b ++ (codes ": " ++ d)) ≡ a ++ (codes "{" ++ (b ++ (codes "? " ++ (c ++ (b ++ (codes ": " ++ d))))))
-      regroup a b c d = simp append_assoc
   pairs_write (pairs_and (pairs_and pairs first second) key value) column from =
       let entries = pairs_write (pairs_and pairs first second) column from in
       let before = render_pairs (pairs_and pairs first second) s force true column from in

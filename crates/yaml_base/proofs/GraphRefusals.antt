@@ -100,9 +100,7 @@ alias_stands walk number name is = grind (arith, no_name_fault)
 
 only_tag : (tag : Text) (anchored : Option yaml_error_t) (error : yaml_error_t) → anchored ≡ None → option_or anchored (tag_fault tag) ≡ Some error
     → error ≡ TagEmpty
-only_tag [] None error none is = cc
-only_tag (c ∷ tag) None error none is = cc
-only_tag tag (Some other) error none is = cc
+only_tag tag anchored error h h2 = grind (arith, nat_tests)
 
 prefix_writable : (anchor : Option Text) (tag : Text) (held : Held) → option_and_then anchor_fault anchor ≡ None
     → IsWritable (opening_event_of anchor tag held)

@@ -12,17 +12,12 @@ use Rattle.yaml_base.specs.graphs.SeenNodes.{seen_number, seen_pair, seen_held, 
 -- a search from a place on finds what stands there
 pub found_at : {X : Type 0} (test : X → Bool) (items : List X) (i : ℕ) (d : X) → i < length items → test (get_or items i d) ≡ true
     → find test (drop i items) ≡ Some (get_or items i d)
-found_at test items i d within passes =
-    ap (find test) (drop-cons items i d within)
-    ∙ ap (λ (b : Bool). cond b (Some (get_or items i d)) (find test (drop (suc i) items))) passes
+found_at test items i d within passes = grind (arith, drop-cons)
 
 -- or goes on behind it
 pub passed_at : {X : Type 0} (test : X → Bool) (items : List X) (i : ℕ) (d : X) → i < length items → test (get_or items i d) ≡ false
     → find test (drop i items) ≡ find test (drop (i + 1) items)
-passed_at test items i d within fails =
-    ap (find test) (drop-cons items i d within)
-    ∙ ap (λ (b : Bool). cond b (Some (get_or items i d)) (find test (drop (suc i) items))) fails
-    ∙ ap (λ (n : ℕ). find test (drop n items)) (sym (add-one i))
+passed_at test items i d within fails = grind (arith, drop-cons, add-one)
 
 -- or finds nothing at the end
 pub none_left : {X : Type 0} (test : X → Bool) (items : List X) (i : ℕ) → length items ≤ i → find test (drop i items) ≡ None
@@ -31,16 +26,11 @@ none_left test items i end = ap (find test) (drop_all i items end)
 -- the same of pairs, a key before its value
 pair_at : (pairs : List yaml_node_pair_t) (i : ℕ) (d : yaml_node_pair_t) → i < length pairs
     → numbers_of_pairs (drop i pairs) ≡ (get_or pairs i d).key ∷ (get_or pairs i d).value ∷ numbers_of_pairs (drop (i + 1) pairs)
-pair_at pairs i d within =
-    ap numbers_of_pairs (drop-cons pairs i d within)
-    ∙ ap (λ (n : ℕ). (get_or pairs i d).key ∷ (get_or pairs i d).value ∷ numbers_of_pairs (drop n pairs)) (sym (add-one i))
+pair_at pairs i d within = grind (arith, drop-cons, add-one)
 
 pub key_outside : (count i : ℕ) (pairs : List yaml_node_pair_t) (d : yaml_node_pair_t) → i < length pairs → names_node count (get_or pairs i d).key ≡ false
     → first_outside count (numbers_of_pairs (drop i pairs)) ≡ Some (get_or pairs i d).key
-key_outside count i pairs d within outside =
-    let pair = get_or pairs i d in
-    ap (first_outside count) (pair_at pairs i d within)
-    ∙ ap (λ (b : Bool). cond (not b) (Some pair.key) (first_outside count (pair.value ∷ numbers_of_pairs (drop (i + 1) pairs)))) outside
+key_outside count i pairs d within outside = grind (arith, pair_at)
 
 pub value_outside : (count i : ℕ) (pairs : List yaml_node_pair_t) (d : yaml_node_pair_t) → i < length pairs → names_node count (get_or pairs i d).key ≡ true
     → names_node count (get_or pairs i d).value ≡ false → first_outside count (numbers_of_pairs (drop i pairs)) ≡ Some (get_or pairs i d).value
@@ -115,10 +105,7 @@ nodes_within count [] none = refl
 nodes_within count (node ∷ nodes) none =
     let both = both_none (first_outside count (numbers_of node.contents)) (first_outside count (all_numbers nodes))
     (sym (find-append (λ number. not (names_node count number)) (numbers_of node.contents) (all_numbers nodes)) ∙ none) in
-    let here : list_all (within_count count) (numbers_held (seen_held node.contents)) ≡ true = ap (list_all (within_count count)) (held_seen node.contents)
-    ∙ all_within count (numbers_of node.contents) both.0 in
-    ap (λ (b : Bool). b && list_all (λ other. list_all (within_count count) (numbers_held other.held)) (map seen_node nodes)) here
-    ∙ nodes_within count nodes both.1
+    grind (arith, both_none, find-append, within_count, held_seen, all_within, nodes_within count nodes both.1)
 
 pub whole_graph : {A : Type 0} (version : Option yaml_version_directive_t) (directives : List (yaml_tag_directive_t A)) (nodes : List (yaml_node_t A))
     (start_implicit end_implicit : Bool)

@@ -1,10 +1,8 @@
 -- One piece for each event; and written pieces are final: every continuation begins with them.
-use Rattle.yaml_base.proofs.Common.{arith, suc, unwrap_or, option_map, option_and_then, Option, None, Some, length, take, Bool, false, true, ◌&&◌, List, []}
-use Rattle.yaml_base.proofs.Common.{◌++◌, ◌∷◌, refl, ◌≡◌, ap, sym, ◌∙◌, Event, stream_start, stream_end, document_start, document_end, alias, scalar}
-use Rattle.yaml_base.proofs.Common.{sequence_start, sequence_end, mapping_start, mapping_end, Stream, stream_events, Partial, within_document, after_stream}
-use Rattle.yaml_base.proofs.Common.{push, pushed, partial_of, finished, first_standing, layout, Standing, missing, completion, list_layout}
-use Rattle.yaml_base.proofs.Common.{first_ends_collection, last_closes_at_once, begins_collection, ends_collection, Effective, Stage, at_stream, at_document}
-use Rattle.yaml_base.proofs.Common.{at_node, at_document_end, step, ends_next, Steps, then_steps, steps}
+use Rattle.yaml_base.proofs.Common.{arith, suc, unwrap_or, option_map, option_and_then, Option, Some, length, take, Bool, false, true, ◌&&◌, List, [], ◌++◌}
+use Rattle.yaml_base.proofs.Common.{◌∷◌, refl, ◌≡◌, ap, sym, ◌∙◌, Event, Stream, stream_events, Partial, after_stream, push, pushed, partial_of, finished}
+use Rattle.yaml_base.proofs.Common.{first_standing, layout, Standing, missing, completion, list_layout, first_ends_collection, last_closes_at_once}
+use Rattle.yaml_base.proofs.Common.{begins_collection, ends_collection, Effective, Stage, at_stream, step, ends_next, Steps, then_steps, steps, nat_tests}
 use Rattle.std.proofs.lemmas.List.{length-take-le, take_at}
 use Rattle.yaml_base.{proofs.Pushes.partial_of_events, proofs.StepLaws.stream_steps, proofs.Trees.stream_pushed, specs.Layout.OnePieceEach}
 use Rattle.yaml_base.{specs.Pieces.last_begins_collection, specs.Pieces.PiecesStand, specs.Steps.joined_steps}
@@ -32,10 +30,7 @@ pub steps-append : (a b : List Event) (s : Effective) (follows : Bool) (stage : 
 steps-append [] b s follows stage standing = refl
 steps-append (event ∷ a) b s follows stage standing =
     let stepped = step s stage event (ends_next a (ends_next b follows)) standing in
-    ap (λ empty. then_steps (step s stage event empty standing) (steps s follows (a ++ b))) (ends_next-append a b follows)
-    ∙ ap (λ (after : Steps). let made : Steps = record { pieces = stepped.rendered.piece ∷ after.pieces; standing = after.standing; stage = after.stage } in
-    made)
-    (steps-append a b s follows stepped.stage stepped.rendered.standing)
+    grind (arith, ends_next-append, steps-append a b s follows stepped.stage stepped.rendered.standing)
 
 -- The first pieces are those of the prefix.
 pub prefix_pieces : (a b : List Event) (s : Effective) (follows : Bool) (stage : Stage) (standing : Standing)
@@ -45,17 +40,7 @@ prefix_pieces a b s follows stage standing = grind (arith, steps-append, take_at
 -- What follows matters to a collection's start alone.
 pub step_same : (event : Event) (stage : Stage) (s : Effective) (f g : Bool) (standing : Standing) → begins_collection event ≡ false
     → step s stage event f standing ≡ step s stage event g standing
-step_same (sequence_start c) stage s f g standing other = cc
-step_same (mapping_start c) stage s f g standing other = cc
-step_same (stream_start e) at_stream s f g standing other = refl
-step_same (document_start d) (at_document first) s f g standing other = refl
-step_same stream_end (at_document first) s f g standing other = refl
-step_same (alias name) (at_node d frames) s f g standing other = refl
-step_same (scalar content) (at_node d frames) s f g standing other = refl
-step_same sequence_end (at_node d frames) s f g standing other = refl
-step_same mapping_end (at_node d frames) s f g standing other = refl
-step_same (document_end implicit) at_document_end s f g standing other = refl
-step_same event stage s f g standing other = refl
+step_same event stage s f g standing h = grind (arith, nat_tests)
 
 pub steps_same : (events : List Event) (s : Effective) (f g : Bool) (stage : Stage) (standing : Standing) → last_begins_collection events ≡ false
     → steps s f events stage standing ≡ steps s g events stage standing
@@ -94,21 +79,14 @@ prefix_layout prefix rest t s whole other = grind (arith, list_layout_steps, pre
 
 -- A completion doesn't at once close a collection.
 start_not_closed : (event : Event) (p q : Partial) → push p event ≡ Some q → begins_collection event && first_ends_collection (missing q) ≡ false
-start_not_closed (sequence_start c) (within_document e d s levels) q given = grind (arith)
-start_not_closed (mapping_start c) (within_document e d s levels) q given = grind (arith)
-start_not_closed (sequence_start c) p q given = cc
-start_not_closed (mapping_start c) p q given = cc
-start_not_closed event p q given = refl
+start_not_closed event p q h = grind (arith, nat_tests)
 
 abbrev NotClosed : List Event → Partial → Partial → Type 0
 NotClosed events p q = pushed p events ≡ Some q → last_closes_at_once events (missing q) ≡ false
 
 not_closed_next : (event : Event) (rest : List Event) (p q : Partial) (made : Option Partial) → push p event ≡ made
     → option_and_then (λ r. pushed r rest) made ≡ Some q → ((r : Partial) → NotClosed rest r q) → last_closes_at_once (event ∷ rest) (missing q) ≡ false
-not_closed_next event rest p q None is given others = cc
-not_closed_next event [] p q (Some r) is given others =
-    let same : r ≡ q = cc in start_not_closed event p q (is ∙ ap (λ x. Some x) same)
-not_closed_next event (next ∷ rest) p q (Some r) is given others = others r given
+not_closed_next event rest p q made h h2 h3 = grind (arith, nat_tests, start_not_closed)
 
 completion_not_closed : (events : List Event) (p q : Partial) → NotClosed events p q
 completion_not_closed [] p q given = refl

@@ -1,6 +1,6 @@
 -- As a list grows, its steps go on from where they left off, over what was held back and what came.
-use Rattle.yaml_base.proofs.Common.{suc, zero, ℕ, ◌+◌, ◌≤◌, if◌then◌else◌, Some, drop, length, take, Bool, false, true, List, [], ◌++◌, ◌∷◌, refl, ◌≡◌, ap}
-use Rattle.yaml_base.proofs.Common.{sym, ◌∙◌, arith, Event, Partial, partial_of, completion, list_layout, is_ready, written, Effective}
+use Rattle.yaml_base.proofs.Common.{suc, zero, ℕ, ◌+◌, ◌≤◌, if◌then◌else◌, Some, drop, length, take, Bool, List, [], ◌++◌, ◌∷◌, refl, ◌≡◌, ap, sym, ◌∙◌, arith}
+use Rattle.yaml_base.proofs.Common.{Event, Partial, partial_of, completion, list_layout, is_ready, written, Effective, nat_tests}
 use Rattle.yaml_base.{proofs.PieceLaws.begun_pieces, proofs.QueueLaws.written_within, proofs.ReadyLaws.ready_stays, specs.Pieces.pieces}
 use Rattle.yaml_base.{specs.Ready.held_back, specs.Steps.progress}
 
@@ -8,9 +8,7 @@ use Rattle.yaml_base.{specs.Ready.held_back, specs.Steps.progress}
 more_written : (event : Event) (rest more : List Event) (b : Bool) → is_ready event rest ≡ b
     → written (rest ++ more) ≡ written rest + written (drop (written rest) rest ++ more)
     → written (event ∷ (rest ++ more)) ≡ (if b then suc (written rest) else 0) + written (drop (if b then suc (written rest) else 0) (event ∷ rest) ++ more)
-more_written event rest more true is others =
-    ap (λ b. if b then suc (written (rest ++ more)) else 0) (ready_stays event rest more is) ∙ omega (arith, others)
-more_written event rest more false is others = omega arith
+more_written event rest more b h h2 = grind (arith, nat_tests, ready_stays)
 
 pub written-append : (events more : List Event) → written (events ++ more) ≡ written events + written (held_back events ++ more)
 written-append [] more = omega arith

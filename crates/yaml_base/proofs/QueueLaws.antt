@@ -41,14 +41,10 @@ held_is_short event rest waits = grind (arith, middle_false)
 
 -- A collection that the ready events begin last isn't closed by what is held, nor by what may come.
 pub no_end_held : (event : Event) (rest : List Event) → is_ready event rest ≡ false → ends_collection event ≡ false
-no_end_held sequence_end rest waits = cc
-no_end_held mapping_end rest waits = cc
-no_end_held event rest waits = refl
+no_end_held event rest h = grind (arith, nat_tests)
 
 no_start_alone : (event : Event) → is_ready event [] ≡ true → begins_collection event ≡ false
-no_start_alone (sequence_start c) ready = cc
-no_start_alone (mapping_start c) ready = cc
-no_start_alone event ready = refl
+no_start_alone event h = grind (arith, nat_tests)
 
 abbrev OpenAt : List Event → List Event → ℕ → Type 0
 OpenAt events more k = last_closes_at_once (take k events) (drop k events ++ more) ≡ false
@@ -105,9 +101,7 @@ mutual
 
   pairs_balanced : (pairs : Pairs) → Balanced (pairs_events pairs)
   pairs_balanced no_pairs = record { counts = refl }
-  pairs_balanced (pairs_and pairs key value) =
-      balanced_both (pairs_events pairs) (node_events key ++ node_events value) (pairs_balanced pairs)
-      (balanced_both (node_events key) (node_events value) (node_balanced key) (node_balanced value))
+  pairs_balanced (pairs_and pairs key value) = grind (arith, balanced_both, node_balanced key, node_balanced value, pairs_balanced pairs)
 
 document_balanced : (x : Document) → Balanced (document_events x)
 document_balanced x = balanced_around (document_start x.start) (document_end x.end_implicit) (node_events x.root) refl refl refl refl (node_balanced x.root)

@@ -1,6 +1,6 @@
 -- Ready events stay ready as a list grows.
 use Rattle.yaml_base.proofs.Common.{suc, ℕ, ◌≤◌, if◌then◌else◌, ◌==◌, nat_lt, length, Bool, false, true, ◌||◌, List, [], map, ◌++◌, ◌∷◌, refl, ◌≡◌}
-use Rattle.yaml_base.proofs.Common.{length-append, ap, sym, ◌∙◌, arith, nat_tests, list_any, Event, awaited, is_balanced, nonempty_prefixes, is_ready, written}
+use Rattle.yaml_base.proofs.Common.{length-append, ap, sym, ◌∙◌, arith, nat_tests, list_any, Event, awaited, is_balanced, nonempty_prefixes, is_ready}
 use Rattle.yaml_base.specs.Ready.{ReadyStays}
 
 pub any_map : (p : List Event → Bool) (f : List Event → List Event) (xs : List (List Event)) → list_any p (map f xs) ≡ list_any (λ x. p (f x)) xs
@@ -43,6 +43,4 @@ counted now later m n h k = grind (arith, nat_tests)
 
 pub written_grows : ReadyStays
 written_grows [] more = omega arith
-written_grows (event ∷ rest) more =
-    counted (is_ready event rest) (is_ready event (rest ++ more)) (written rest) (written (rest ++ more))
-    (ready_stays event rest more) (written_grows rest more)
+written_grows (event ∷ rest) more = grind (arith, counted, ready_stays, written_grows rest more)

@@ -1,11 +1,11 @@
 -- Isomorphic graphs are dumped as events that differ in styles alone, so in canonical mode as the same bytes.
-use Rattle.yaml_base.proofs.Common.{All, unwrap_or, option_map, bytes_eq, Option, None, Some, length, false, true, List}
-use Rattle.yaml_base.proofs.Common.{[], map, ◌++◌, ◌∷◌, refl, ◌≡◌, inl, inr, ap, sym, ◌∙◌, arith, map-append, All-head, All-tail, Text, any_style}
-use Rattle.yaml_base.proofs.Common.{any_layout, DocumentStart, Event, stream_start, stream_end, document_start, document_end, alias, scalar, sequence_start}
-use Rattle.yaml_base.proofs.Common.{sequence_end, mapping_start, mapping_end, encoding_asked, output_of, Encoding, Settings, AreDumped, label_at, Isomorphic}
-use Rattle.yaml_base.proofs.Common.{Held, scalar_held, sequence_held, mapping_held, GraphNode, Graph, node_numbered, Step, enters, leaves, meets_again}
-use Rattle.yaml_base.proofs.Common.{anchor_of, string_tag, sequence_tag, mapping_tag, opening_event_of, opening_events, closing_event_of, closing_events}
-use Rattle.yaml_base.proofs.Common.{step_events, document_event_list, scalar_kind, sequence_kind, mapping_kind, Label, label_of, IsReached, IsWholeGraph}
+use Rattle.yaml_base.proofs.Common.{All, unwrap_or, option_map, bytes_eq, Option, None, Some, length, false, true, List, [], map, ◌++◌, ◌∷◌, refl, ◌≡◌, inl}
+use Rattle.yaml_base.proofs.Common.{inr, ap, sym, ◌∙◌, arith, map-append, All-head, All-tail, Text, any_style, any_layout, DocumentStart, Event, stream_start}
+use Rattle.yaml_base.proofs.Common.{stream_end, document_start, document_end, alias, scalar, sequence_start, sequence_end, mapping_start, mapping_end}
+use Rattle.yaml_base.proofs.Common.{encoding_asked, output_of, Encoding, Settings, AreDumped, label_at, Isomorphic, Held, GraphNode, Graph, node_numbered}
+use Rattle.yaml_base.proofs.Common.{Step, enters, leaves, meets_again, anchor_of, string_tag, sequence_tag, mapping_tag, opening_event_of, opening_events}
+use Rattle.yaml_base.proofs.Common.{closing_event_of, closing_events, step_events, document_event_list, scalar_kind, sequence_kind, mapping_kind, Label}
+use Rattle.yaml_base.proofs.Common.{label_of, IsReached, IsWholeGraph, nat_tests}
 use Rattle.std.specs.Prelude.{flat_map}
 use Rattle.yaml_base.{proofs.ContentsUnfold.dumped_stream, proofs.Unstyled.unstyled, proofs.Unstyled.outputs_same, specs.graphs.Isomorphic.IsWrittenAlike}
 use Rattle.yaml_base.{specs.graphs.Isomorphic.AreWrittenAlike, specs.graphs.Meetings.graph_steps, specs.graphs.Unfolding.StyledKind}
@@ -29,9 +29,7 @@ prefix_by anchor (Some label) = scan_first_byte anchor (unwrap_or label.tag []) 
 
 held_begins : (anchor : Option Text) (tag : Text) (held : Held)
     → map unstyled (opening_event_of anchor tag held ∷ []) ≡ prefix_by anchor (Some (label_of false (record { tag = tag; held = held })))
-held_begins anchor tag (scalar_held value style) = refl
-held_begins anchor tag (sequence_held items style) = refl
-held_begins anchor tag (mapping_held pairs style) = refl
+held_begins anchor tag held = grind (arith, nat_tests)
 
 begins_by : (anchor : Option Text) (found : Option GraphNode)
     → map unstyled (opening_events anchor found) ≡ prefix_by anchor (option_map (label_of false) found)
@@ -48,9 +46,7 @@ ending_by None = []
 ending_by (Some label) = ended_by label.kind
 
 held_ends : (tag : Text) (held : Held) → map unstyled (closing_event_of held) ≡ ending_by (Some (label_of false (record { tag = tag; held = held })))
-held_ends tag (scalar_held value style) = refl
-held_ends tag (sequence_held items style) = refl
-held_ends tag (mapping_held pairs style) = refl
+held_ends tag held = grind (arith, nat_tests)
 
 ends_by : (found : Option GraphNode) → map unstyled (closing_events found) ≡ ending_by (option_map (label_of false) found)
 ends_by None = refl

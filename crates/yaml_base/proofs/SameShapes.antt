@@ -125,15 +125,7 @@ mutual
       → (anchor : Option Text) (number other : ℕ) → IsIn (node_pair anchor number other) (pairs twin) → IsKept first second partner number other
   node_kept first second partner (alias_twin name one another) fits match anchor number other (inl is) = cc
   node_kept first second partner (alias_twin name one another) fits match anchor number other (inr none) = absurd none
-  node_kept first second partner (node_twin given one another below) fits match anchor number other (inl is) =
-      let here : IsKept first second partner one another =
-      record {
-        label = fits.0;
-        children_kept =
-            sym fits.2 ∙ below_match partner below (λ pair within. match pair (inr within)) ∙ ap (map partner) fits.1;
-      } in
-      subst (λ (n : ℕ). IsKept first second partner n other) (ap first_number is)
-      (subst (λ (n : ℕ). IsKept first second partner one n) (ap second_number is) here)
+  node_kept first second partner (node_twin given one another below) fits match anchor number other (inl is) = grind (arith, below_match)
   node_kept first second partner (node_twin given one another below) fits match anchor number other (inr later) =
       nodes_kept first second partner below fits.3 (λ pair within. match pair (inr within)) anchor number other later
 

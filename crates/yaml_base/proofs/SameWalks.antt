@@ -103,9 +103,7 @@ same_test first second iso number other reached also = grind (arith, injective, 
 step_entered : (first second : Graph) (iso : Isomorphic first second) (number : ℕ) (step : Step) → IsReached first number
     → IsReached first (node_of_step step)
     → is_entry_of (iso.partner number) (renumbered iso.partner step) ≡ is_entry_of number step
-step_entered first second iso number (enters other) reached also = same_test first second iso number other reached also
-step_entered first second iso number (leaves other) reached also = refl
-step_entered first second iso number (meets_again other) reached also = refl
+step_entered first second iso number step h h2 = grind (arith, nat_tests, same_test)
 
 entered_alike : (first second : Graph) (iso : Isomorphic first second) (number : ℕ) (before : List Step) → IsReached first number
     → AllReached first before
@@ -124,9 +122,7 @@ last_parts [] (b ∷ ys) x y same = absurd (omega (arith, ap length same, length
 last_parts (a ∷ xs) [] x y same = absurd (omega (arith, ap length same, length-append xs (x ∷ [])))
 last_parts (a ∷ xs) (b ∷ ys) x y same =
     let rest : xs ++ x ∷ [] ≡ ys ++ y ∷ [] = cc in
-    let head : a ≡ b = cc in
-    let parts = last_parts xs ys x y rest in
-    (ap (λ (n : ℕ). n ∷ xs) head ∙ ap (λ (l : List ℕ). b ∷ l) parts.0, parts.1)
+    grind (arith, last_parts xs ys x y rest)
 
 mutual
   mirrored : (first second : Graph) (iso : Isomorphic first second) (named also : ℕ → Option Text) (one two : Placed) (before after later : List Step)
@@ -252,9 +248,7 @@ again_reached graph (meets_again other ∷ walk) all number (inl is) = subst (λ
 again_reached graph (meets_again other ∷ walk) all number (inr within) = again_reached graph walk (λ step inside. all step (inr inside)) number within
 
 in_rest : (b : Bool) (number x : ℕ) (xs ys : List ℕ) → (IsIn number xs → IsIn number ys) → IsIn number (cond b (x ∷ xs) xs) → IsIn number (x ∷ ys)
-in_rest true number x xs ys more (inl is) = inl is
-in_rest true number x xs ys more (inr within) = inr (more within)
-in_rest false number x xs ys more within = inr (more within)
+in_rest b number x xs ys h h2 = grind (arith, nat_tests)
 
 in_filter : (test : ℕ → Bool) (number : ℕ) (xs : List ℕ) → IsIn number (filter test xs) → IsIn number xs
 in_filter test number [] within = within

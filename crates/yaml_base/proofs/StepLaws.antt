@@ -1,13 +1,11 @@
 -- The pieces of a list, event by event, are those of its tree's layout.
-use Rattle.yaml_base.proofs.Common.{arith, ℕ, Bool, false, true, List, [], ◌++◌, ◌∷◌, refl, ◌≡◌, append-nil, append_assoc, ap, sym, ◌∙◌, TagDirective, Event}
-use Rattle.yaml_base.proofs.Common.{sequence_start, sequence_end, mapping_start, mapping_end, Node, alias_node, scalar_node, Nodes, sequence_node, Pairs}
-use Rattle.yaml_base.proofs.Common.{mapping_node, no_nodes, nodes_and, no_pairs, pairs_and, Document, Documents, no_documents, documents_and, Stream}
-use Rattle.yaml_base.proofs.Common.{node_events, nodes_events, pairs_events, document_events, documents_events, stream_events, render_document}
-use Rattle.yaml_base.proofs.Common.{has_no_documents, render_documents, first_standing, layout, Standing, RenderedPieces, one_piece, then_pieces, start_piece}
-use Rattle.yaml_base.proofs.Common.{is_written_in_flow, square, curly, entry_place, render_node, render_nodes, render_pairs, Role, as_item, as_key, as_value}
-use Rattle.yaml_base.proofs.Common.{is_undented, entries_column, has_no_nodes, has_no_pairs, is_simple, is_simple_at, Effective, Frame, at_stream, at_document}
-use Rattle.yaml_base.proofs.Common.{at_node, next_place, stage_after, step, ends_next, Steps, then_steps, steps}
-use Rattle.yaml_base.specs.Layout.{end_piece}
+use Rattle.yaml_base.proofs.Common.{arith, ℕ, Bool, false, true, List, ◌++◌, ◌∷◌, refl, ◌≡◌, append-nil, append_assoc, ap, ◌∙◌, TagDirective, Event}
+use Rattle.yaml_base.proofs.Common.{sequence_end, mapping_end, Node, alias_node, scalar_node, Nodes, sequence_node, Pairs, mapping_node, no_nodes, nodes_and}
+use Rattle.yaml_base.proofs.Common.{no_pairs, pairs_and, Document, Documents, no_documents, documents_and, Stream, node_events, nodes_events, pairs_events}
+use Rattle.yaml_base.proofs.Common.{document_events, documents_events, stream_events, render_document, has_no_documents, render_documents, first_standing}
+use Rattle.yaml_base.proofs.Common.{layout, Standing, RenderedPieces, then_pieces, start_piece, is_written_in_flow, entry_place, render_node, render_nodes}
+use Rattle.yaml_base.proofs.Common.{render_pairs, Role, as_item, as_key, as_value, is_undented, entries_column, has_no_nodes, has_no_pairs, is_simple}
+use Rattle.yaml_base.proofs.Common.{is_simple_at, Effective, Frame, at_stream, at_document, at_node, next_place, stage_after, ends_next, Steps, steps}
 
 -- pieces of a tree, and then steps from where they leave off
 abbrev after_pieces : RenderedPieces → (Standing → Steps) → Steps
@@ -41,10 +39,8 @@ nodes_begin (nodes_and items last) rest follows opens =
 pairs_begin : (pairs : Pairs) (rest : List Event) (follows : Bool) → ends_next rest follows ≡ false → ends_next (pairs_events pairs ++ rest) follows ≡ false
 pairs_begin no_pairs rest follows opens = opens
 pairs_begin (pairs_and pairs key value) rest follows opens =
-    ap (λ events. ends_next events follows)
-    (append_assoc (pairs_events pairs) (node_events key ++ node_events value) rest
-    ∙ ap (λ after. pairs_events pairs ++ after) (append_assoc (node_events key) (node_events value) rest))
-    ∙ pairs_begin pairs (node_events key ++ (node_events value ++ rest)) follows (node_begins key (node_events value ++ rest) follows)
+    let each = pairs_begin pairs (node_events key ++ (node_events value ++ rest)) follows (node_begins key (node_events value ++ rest) follows) in
+    grind (arith, append_assoc, node_begins, each)
 
 -- A collection's end follows its start at once exactly where it is empty.
 sequence_ends : (items : Nodes) (rest : List Event) (follows : Bool) → ends_next (nodes_events items ++ sequence_end ∷ rest) follows ≡ has_no_nodes items
@@ -73,18 +69,8 @@ mutual
       let in_flow = is_written_in_flow s place c empty in
       let start = start_piece s d place simple c standing in
       let column = entries_column in_flow (is_undented s place.role) s.indent place.column start.standing.cursor in
-      let entries = render_nodes items s d in_flow column in
-      let end : Standing → RenderedPieces = (λ after. one_piece (end_piece s square in_flow empty place.column after)) in
-      let next = steps s follows rest (stage_after d frames simple) in
-      ap (λ events. steps s follows (sequence_start c ∷ events) (at_node d frames) standing) (append_assoc (nodes_events items) (sequence_end ∷ []) rest)
-      ∙ ap (λ ends. then_steps (step s (at_node d frames) (sequence_start c) ends standing) (steps s follows (nodes_events items ++ sequence_end ∷ rest)))
-      (sequence_ends items rest follows)
-      ∙ after_pieces-same (one_piece start)
-      (steps s follows (nodes_events items ++ sequence_end ∷ rest) (at_node d (frame_at in_flow (as_item true) column simple ∷ frames)))
-      (λ after. after_pieces (entries after) (λ last. after_pieces (end last) next))
-      (nodes_steps items s follows (sequence_end ∷ rest) d in_flow column simple frames start.standing)
-      ∙ sym (after_pieces-then_pieces (then_pieces (one_piece start) entries) end next
-      ∙ after_pieces-then_pieces (one_piece start) entries (λ last. after_pieces (end last) next))
+      let each = nodes_steps items s follows (sequence_end ∷ rest) d in_flow column simple frames start.standing in
+      grind (arith, append_assoc, sequence_ends, after_pieces-same, after_pieces-then_pieces, each)
   node_steps (mapping_node c pairs) s follows rest d frames standing =
       let place = next_place frames in
       let empty = has_no_pairs pairs in
@@ -92,18 +78,8 @@ mutual
       let in_flow = is_written_in_flow s place c empty in
       let start = start_piece s d place simple c standing in
       let column = entries_column in_flow false s.indent place.column start.standing.cursor in
-      let entries = render_pairs pairs s d in_flow column in
-      let end : Standing → RenderedPieces = (λ after. one_piece (end_piece s curly in_flow empty place.column after)) in
-      let next = steps s follows rest (stage_after d frames simple) in
-      ap (λ events. steps s follows (mapping_start c ∷ events) (at_node d frames) standing) (append_assoc (pairs_events pairs) (mapping_end ∷ []) rest)
-      ∙ ap (λ ends. then_steps (step s (at_node d frames) (mapping_start c) ends standing) (steps s follows (pairs_events pairs ++ mapping_end ∷ rest)))
-      (mapping_ends pairs rest follows)
-      ∙ after_pieces-same (one_piece start)
-      (steps s follows (pairs_events pairs ++ mapping_end ∷ rest) (at_node d (frame_at in_flow (as_key true) column simple ∷ frames)))
-      (λ after. after_pieces (entries after) (λ last. after_pieces (end last) next))
-      (pairs_steps pairs s follows (mapping_end ∷ rest) d in_flow column simple frames start.standing)
-      ∙ sym (after_pieces-then_pieces (then_pieces (one_piece start) entries) end next
-      ∙ after_pieces-then_pieces (one_piece start) entries (λ last. after_pieces (end last) next))
+      let each = pairs_steps pairs s follows (mapping_end ∷ rest) d in_flow column simple frames start.standing in
+      grind (arith, append_assoc, mapping_ends, after_pieces-same, after_pieces-then_pieces, each)
 
   pub nodes_steps : (items : Nodes) (s : Effective) (follows : Bool) (rest : List Event) (d : List TagDirective) (in_flow : Bool) (column : ℕ) (simple : Bool)
       (frames : List Frame) (standing : Standing)
@@ -112,16 +88,10 @@ mutual
       (steps s follows rest (at_node d (frame_at in_flow (as_item (has_no_nodes items)) column simple ∷ frames)))
   nodes_steps no_nodes s follows rest d in_flow column simple frames standing = refl
   nodes_steps (nodes_and items last) s follows rest d in_flow column simple frames standing =
-      let place = entry_place in_flow (as_item (has_no_nodes items)) column in
       let before = render_nodes items s d in_flow column standing in
-      let next = steps s follows rest (at_node d (frame_at in_flow (as_item false) column simple ∷ frames)) in
-      ap (λ events. steps s follows events (at_node d (frame_at in_flow (as_item true) column simple ∷ frames)) standing)
-      (append_assoc (nodes_events items) (node_events last) rest)
-      ∙ nodes_steps items s follows (node_events last ++ rest) d in_flow column simple frames standing
-      ∙ after_pieces-same before (steps s follows (node_events last ++ rest)
-      (at_node d (frame_at in_flow (as_item (has_no_nodes items)) column simple ∷ frames))) (λ after. after_pieces (render_node last s d place after) next)
-      (node_steps last s follows rest d (frame_at in_flow (as_item (has_no_nodes items)) column simple ∷ frames) before.standing)
-      ∙ sym (after_pieces-then_pieces before (render_node last s d place) next)
+      let each = node_steps last s follows rest d (frame_at in_flow (as_item (has_no_nodes items)) column simple ∷ frames) before.standing in
+      let one = nodes_steps items s follows (node_events last ++ rest) d in_flow column simple frames standing in
+      grind (arith, append_assoc, after_pieces-same, after_pieces-then_pieces, each, one)
 
   pub pairs_steps : (pairs : Pairs) (s : Effective) (follows : Bool) (rest : List Event) (d : List TagDirective) (in_flow : Bool) (column : ℕ) (simple : Bool)
       (frames : List Frame) (standing : Standing)
@@ -132,23 +102,14 @@ mutual
   pairs_steps (pairs_and pairs last_key last_value) s follows rest d in_flow column simple frames standing =
       let key_place = entry_place in_flow (as_key (has_no_pairs pairs)) column in
       let key_simple = is_simple s.canonical d last_key in
-      let value_place = entry_place in_flow (as_value key_simple) column in
       let before = render_pairs pairs s d in_flow column standing in
       let keyed = then_pieces before (render_node last_key s d key_place) in
       let at_the_key = frame_at in_flow (as_key (has_no_pairs pairs)) column simple ∷ frames in
       let at_the_value = frame_at in_flow (as_value key_simple) column simple ∷ frames in
-      let next = steps s follows rest (at_node d (frame_at in_flow (as_key false) column simple ∷ frames)) in
-      ap (λ events. steps s follows events (at_node d (frame_at in_flow (as_key true) column simple ∷ frames)) standing)
-      (append_assoc (pairs_events pairs) (node_events last_key ++ node_events last_value) rest
-      ∙ ap (λ after. pairs_events pairs ++ after) (append_assoc (node_events last_key) (node_events last_value) rest))
-      ∙ pairs_steps pairs s follows (node_events last_key ++ (node_events last_value ++ rest)) d in_flow column simple frames standing
-      ∙ after_pieces-same before (steps s follows (node_events last_key ++ (node_events last_value ++ rest)) (at_node d at_the_key))
-      (λ after. after_pieces (render_node last_key s d key_place after) (steps s follows (node_events last_value ++ rest) (at_node d at_the_value)))
-      (node_steps last_key s follows (node_events last_value ++ rest) d at_the_key before.standing)
-      ∙ sym (after_pieces-then_pieces before (render_node last_key s d key_place) (steps s follows (node_events last_value ++ rest) (at_node d at_the_value)))
-      ∙ after_pieces-same keyed (steps s follows (node_events last_value ++ rest) (at_node d at_the_value))
-      (λ after. after_pieces (render_node last_value s d value_place after) next) (node_steps last_value s follows rest d at_the_value keyed.standing)
-      ∙ sym (after_pieces-then_pieces keyed (render_node last_value s d value_place) next)
+      let each = node_steps last_key s follows (node_events last_value ++ rest) d at_the_key before.standing in
+      let one = node_steps last_value s follows rest d at_the_value keyed.standing in
+      let other = pairs_steps pairs s follows (node_events last_key ++ (node_events last_value ++ rest)) d in_flow column simple frames standing in
+      grind (arith, append_assoc, after_pieces-same, after_pieces-then_pieces, each, one, other)
 
 pub document_steps : (x : Document) (s : Effective) (first follows : Bool) (rest : List Event) (standing : Standing)
     → steps s follows (document_events x ++ rest) (at_document first) standing

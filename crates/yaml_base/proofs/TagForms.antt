@@ -1,13 +1,13 @@
 -- The forms of handles and tags: what they consist of, and how a tag is spelled by the directives in force.
 use Rattle.yaml_base.proofs.Common.{nat_tests, arith, ℕ, ◌==◌, option_map, bytes_eq, Option, None, Some, codes, Bool, cond, false, not, true, List, [], ◌++◌}
 use Rattle.yaml_base.proofs.Common.{◌∷◌, ◌⊎◌, refl, ◌≡◌, eqb-true, append_assoc, inr, ap, sym, ◌∙◌, and_parts, or_parts, not-false, bytes_eq-Decides, list_all}
-use Rattle.yaml_base.proofs.Common.{scalars, Text, is_alpha, TagDirective, exclamation_mark, handle_fault, directive_fault, gives_handle, next_directive_fault}
+use Rattle.yaml_base.proofs.Common.{scalars, Text, is_alpha, TagDirective, exclamation_mark, handle_fault, gives_handle, next_directive_fault}
 use Rattle.yaml_base.proofs.Common.{directives_fault_after, directives_fault, directives_in_force, Spelling, shorthand, verbatim, spelling, prefix_among}
 use Rattle.yaml_base.proofs.Common.{directives_assumed, without_closing_angle}
 use lib.Utf8.{scalar}
 use Rattle.yaml_base.{proofs.NoFaults.neither, proofs.NoFaults.not_given, specs.declared.errors.yaml_error_t.yaml_error_t}
 use Rattle.yaml_base.specs.Tags.{last_from, without_last, behind, spelling_by}
-use Rattle.yaml_base.specs.declared.errors.yaml_error_t.TheVariants.{DuplicateDirective, TagHandleAlphabet, TagHandleEnd, TagHandleStart}
+use Rattle.yaml_base.specs.declared.errors.yaml_error_t.TheVariants.{TagHandleAlphabet, TagHandleEnd, TagHandleStart}
 
 -- Ends of tags
 
@@ -141,16 +141,8 @@ all_found : (own before rest : List TagDirective) → own ≡ before ++ rest →
 all_found own before [] e h = tt
 all_found own before (directive ∷ rest) e h =
     let both = neither (next_directive_fault before directive) (directives_fault_after (before ++ directive ∷ []) rest) h in
-    let parts = neither (directive_fault directive) (cond {A = Option yaml_error_t} (gives_handle directive.handle before) (Some DuplicateDirective) None)
-    both.0 in
-    let whole : own ++ directives_assumed ≡ before ++ (directive ∷ (rest ++ directives_assumed)) =
-    ap (λ x. x ++ directives_assumed) e ∙ append_assoc before (directive ∷ rest) directives_assumed
-    in (
-      (neither _ _ parts.0).0,
-      ap (λ x. prefix_among x directive.handle) whole
-          ∙ found_after before directive (rest ++ directives_assumed) (not_given _ DuplicateDirective parts.1),
-      all_found own (before ++ directive ∷ []) rest (e ∙ sym (append_assoc before (directive ∷ []) rest)) both.1,
-    )
+    let each = all_found own (before ++ directive ∷ []) rest (e ∙ sym (append_assoc before (directive ∷ []) rest)) both.1 in
+    grind (arith, neither, append_assoc, found_after, not_given, each)
 
 abbrev primary : TagDirective
 primary = record { handle = codes "!"; prefix = codes "!" }

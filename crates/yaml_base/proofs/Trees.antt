@@ -11,32 +11,24 @@ mutual
       → pushed (within_document e d s levels) (node_events node ++ rest) ≡ pushed (with_node e d s levels node) rest
   node_pushed (alias_node name) e d s levels rest = refl
   node_pushed (scalar_node content) e d s levels rest = refl
-  node_pushed (sequence_node c items) e d s levels rest =
-      ap (pushed (within_document e d s (at_item c no_nodes ∷ levels))) (append_assoc (nodes_events items) (sequence_end ∷ []) rest)
-      ∙ nodes_pushed items c e d s levels (sequence_end ∷ rest)
-  node_pushed (mapping_node c pairs) e d s levels rest =
-      ap (pushed (within_document e d s (at_key c no_pairs ∷ levels))) (append_assoc (pairs_events pairs) (mapping_end ∷ []) rest)
-      ∙ pairs_pushed pairs c e d s levels (mapping_end ∷ rest)
+  node_pushed (sequence_node c items) e d s levels rest = grind (arith, append_assoc, nodes_pushed items c e d s levels (sequence_end ∷ rest))
+  node_pushed (mapping_node c pairs) e d s levels rest = grind (arith, append_assoc, pairs_pushed pairs c e d s levels (mapping_end ∷ rest))
 
   pub nodes_pushed : (items : Nodes) (c : Collection) (e : Option Encoding) (d : Documents) (s : DocumentStart) (levels : List Level) (rest : List Event)
       → pushed (within_document e d s (at_item c no_nodes ∷ levels)) (nodes_events items ++ rest)
       ≡ pushed (within_document e d s (at_item c items ∷ levels)) rest
   nodes_pushed no_nodes c e d s levels rest = refl
   nodes_pushed (nodes_and items item) c e d s levels rest =
-      ap (pushed (within_document e d s (at_item c no_nodes ∷ levels))) (append_assoc (nodes_events items) (node_events item) rest)
-      ∙ nodes_pushed items c e d s levels (node_events item ++ rest)
-      ∙ node_pushed item e d s (at_item c items ∷ levels) rest
+      grind (arith, append_assoc, node_pushed item e d s (at_item c items ∷ levels) rest, nodes_pushed items c e d s levels (node_events item ++ rest))
 
   pub pairs_pushed : (pairs : Pairs) (c : Collection) (e : Option Encoding) (d : Documents) (s : DocumentStart) (levels : List Level) (rest : List Event)
       → pushed (within_document e d s (at_key c no_pairs ∷ levels)) (pairs_events pairs ++ rest) ≡ pushed (within_document e d s (at_key c pairs ∷ levels)) rest
   pairs_pushed no_pairs c e d s levels rest = refl
   pairs_pushed (pairs_and pairs key value) c e d s levels rest =
-      ap (pushed (within_document e d s (at_key c no_pairs ∷ levels)))
-      (append_assoc (pairs_events pairs) (node_events key ++ node_events value) rest
-      ∙ ap (λ after. pairs_events pairs ++ after) (append_assoc (node_events key) (node_events value) rest))
-      ∙ pairs_pushed pairs c e d s levels (node_events key ++ (node_events value ++ rest))
-      ∙ node_pushed key e d s (at_key c pairs ∷ levels) (node_events value ++ rest)
-      ∙ node_pushed value e d s (at_value c pairs key ∷ levels) rest
+      let each = node_pushed key e d s (at_key c pairs ∷ levels) (node_events value ++ rest) in
+      let one = node_pushed value e d s (at_value c pairs key ∷ levels) rest in
+      let other = pairs_pushed pairs c e d s levels (node_events key ++ (node_events value ++ rest)) in
+      grind (arith, append_assoc, each, one, other)
 
 -- A document's, and several documents'.
 pub document_pushed : (x : Document) (e : Option Encoding) (d : Documents) (rest : List Event)

@@ -124,17 +124,10 @@ mutual
   pairs_at_events graph walk none_placed fit even = refl
   pairs_at_events graph walk (placed_and none_placed last) fit even = cc
   pairs_at_events graph walk (placed_and (placed_and before key) value) fit even =
-      ap (λ (events : List Event). events ++ (node_events (node_at graph key) ++ node_events (node_at graph value)))
-      (pairs_at_events graph walk before fit.0.0 even)
-      ∙ ap (λ (events : List Event). flat_map (step_events graph walk) (below_steps before) ++ (events ++ node_events (node_at graph value)))
-      (node_at_events graph walk key fit.0.1)
-      ∙ ap (λ (events : List Event). flat_map (step_events graph walk) (below_steps before) ++ (flat_map (step_events graph walk) (placed_steps key) ++ events))
-      (node_at_events graph walk value fit.1)
-      ∙ sym (append_assoc (flat_map (step_events graph walk) (below_steps before)) (flat_map (step_events graph walk) (placed_steps key))
-      (flat_map (step_events graph walk) (placed_steps value)))
-      ∙ ap (λ (events : List Event). events ++ flat_map (step_events graph walk) (placed_steps value))
-      (sym (flat_map-append (step_events graph walk) (below_steps before) (placed_steps key)))
-      ∙ sym (flat_map-append (step_events graph walk) (below_steps before ++ placed_steps key) (placed_steps value))
+      let each = node_at_events graph walk key fit.0.1 in
+      let one = node_at_events graph walk value fit.1 in
+      let other = pairs_at_events graph walk before fit.0.0 even in
+      grind (arith, append_assoc, flat_map-append, each, one, other)
 
 -- ---- its shape
 

@@ -1,10 +1,10 @@
 -- The tree of a walk: an alias where a node is met again, a node with those below it where it is entered.
 use Rattle.yaml_base.proofs.Common.{suc, zero, ℕ, ◌+◌, ◌<◌, ◌≤◌, ⊤, ◌==◌, Contains, unwrap_or, Option, None, Some, nat_le, length, Bool, cond, false, true}
-use Rattle.yaml_base.proofs.Common.{◌&&◌, ◌||◌, List, [], ◌++◌, ◌∷◌, refl, ◌≡◌, eq-eqb, eqb-true, leb-true, append-nil, append_assoc, inl, inr, ap, subst}
-use Rattle.yaml_base.proofs.Common.{sym, ◌∙◌, arith, or-true, or_cases, cases_eq, filter_map-append, list_any-append, filter_map, list_all, list_any, Text}
+use Rattle.yaml_base.proofs.Common.{◌&&◌, ◌||◌, List, [], ◌++◌, ◌∷◌, refl, ◌≡◌, eq-eqb, eqb-true, leb-true, append-nil, append_assoc, inl, inr, ap, subst, sym}
+use Rattle.yaml_base.proofs.Common.{◌∙◌, arith, or-true, or_cases, cases_eq, filter_map-append, list_any-append, filter_map, list_all, list_any, Text}
 use Rattle.yaml_base.proofs.Common.{GraphNode, Graph, node_numbered, numbers_held, numbers_in, children, is_whole, Step, enters, leaves, meets_again}
 use Rattle.yaml_base.proofs.Common.{is_entry_of, steps_from, Placed, alias_placed, PlacedNodes, node_placed, none_placed, placed_and, number_at, numbers_at}
-use Rattle.yaml_base.proofs.Common.{Occurrence, alias_occurrence, node_occurrence, occurrences, occurrences_below, and_parts}
+use Rattle.yaml_base.proofs.Common.{Occurrence, alias_occurrence, node_occurrence, occurrences, occurrences_below, and_parts, nat_tests}
 use Rattle.std.{proofs.lemmas.List.Elements.Contains-append_cases, specs.List.fold, specs.List.slice_get}
 use Rattle.yaml_base.proofs.UnfoldSteps.{from_node, none_added, is_meeting_of, still_any}
 
@@ -82,9 +82,7 @@ none_entered zero = refl
 none_entered (suc count) = omega (arith, none_entered count)
 
 no_more : (before after now : Bool) → now ≡ (before || after) → cond now 0 1 ≤ cond before 0 1
-no_more true after now is = let entered : now ≡ true = is in omega (arith, ap {B = ℕ} (λ (b : Bool). cond b 0 1) entered)
-no_more false after true is = omega arith
-no_more false after false is = omega arith
+no_more before after now h = grind (arith, nat_tests)
 
 -- more steps leave no more of them
 unentered_grown : (count : ℕ) (walk more : List Step) → unentered count (walk ++ more) ≤ unentered count walk
@@ -149,14 +147,9 @@ all_walk named graph step room each (number ∷ numbers) before from earlier is 
     let grown : unentered (length graph.nodes) (step from number) ≤ unentered (length graph.nodes) from =
     subst (λ (steps : List Step). unentered (length graph.nodes) steps ≤ unentered (length graph.nodes) from) (sym one.adds)
     (unentered_grown (length graph.nodes) from (placed_steps one.placed)) in
-    let more = all_walk named graph step room each numbers before (step from number) (placed_and earlier one.placed) now (fit, one.fits)
-    (rest_names (length graph.nodes) number numbers names) (omega (arith, grown, less)) in
-    record {
-      placed = more.placed;
-      roots = more.roots ∙ append_assoc (numbers_at earlier) (number_at one.placed ∷ []) numbers ∙ ap (λ (n : ℕ). numbers_at earlier ++ n ∷ numbers) one.root;
-      fit = more.fit;
-      adds = more.adds;
-    }
+    let other = all_walk named graph step room each numbers before (step from number) (placed_and earlier one.placed) now (fit, one.fits) (rest_names (length
+    graph.nodes) number numbers names) (omega (arith, grown, less)) in
+    grind (arith, first_names, append_assoc, unentered, unentered_grown, rest_names, other)
 
 -- the entry, what follows and the end belong together
 regrouped : (before below : List Step) (entry end : Step) → ((before ++ entry ∷ []) ++ below) ++ end ∷ [] ≡ before ++ (entry ∷ (below ++ end ∷ []))
@@ -266,12 +259,7 @@ mutual
   pub places_are : (named : ℕ → Option Text) (graph : Graph) (placed : Placed) → Fits named graph placed
       → occurrences placed ≡ filter_map (place_of named) (placed_steps placed)
   places_are named graph (alias_placed name number) fits = ap (λ (stated : Text). alias_occurrence stated number ∷ []) fits
-  places_are named graph (node_placed anchor number below) fits =
-      ap (λ (stated : Option Text). node_occurrence stated number ∷ occurrences_below below) fits.0
-      ∙ ap (λ (rest : List Occurrence). node_occurrence (named number) number ∷ rest)
-      (places_below_are named graph below fits.3
-      ∙ sym (append-nil (filter_map (place_of named) (below_steps below)))
-      ∙ sym (filter_map-append (place_of named) (below_steps below) (leaves number ∷ [])))
+  places_are named graph (node_placed anchor number below) fits = grind (arith, append-nil, filter_map-append, places_below_are named graph below fits.3)
 
   places_below_are : (named : ℕ → Option Text) (graph : Graph) (below : PlacedNodes) → AllFit named graph below
       → occurrences_below below ≡ filter_map (place_of named) (below_steps below)

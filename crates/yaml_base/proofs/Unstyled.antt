@@ -1,12 +1,11 @@
 -- In canonical mode no layout goes by the styles of events, nor by whether a document's start is implicit.
 use Rattle.yaml_base.proofs.Common.{arith, ◌==◌, Option, Bool, false, not, true, ◌&&◌, ◌||◌, List, [], map, ◌∷◌, refl, ◌≡◌, ap, sym, ◌∙◌, render_then, cut}
-use Rattle.yaml_base.proofs.Common.{ScalarStyle, any_style, any_layout, TagDirective, DocumentStart, Scalar, Collection, Event, stream_start, stream_end}
-use Rattle.yaml_base.proofs.Common.{document_start, document_end, alias, scalar, sequence_start, sequence_end, mapping_start, mapping_end, Stream}
-use Rattle.yaml_base.proofs.Common.{stream_events, render_if, render_closing_marker, render_version, render_tag_directives, has_directives, is_explicit}
-use Rattle.yaml_base.proofs.Common.{render_document_marker, first_standing, layout, Piece, Standing, piece_without_body, Role, encoding_asked, settings_for}
-use Rattle.yaml_base.proofs.Common.{bytes_written, output_of, list_layout, ends_collection, Encoding, Settings, Effective, effective, Frame, Stage, at_stream}
-use Rattle.yaml_base.proofs.Common.{at_document, at_node, Stepped, start_step, step, ends_next, Steps, then_steps, steps, directives_in_force, Allowances}
-use Rattle.yaml_base.proofs.Common.{chosen, or_left, or_right}
+use Rattle.yaml_base.proofs.Common.{ScalarStyle, any_style, any_layout, TagDirective, DocumentStart, Scalar, Collection, Event, document_start, scalar}
+use Rattle.yaml_base.proofs.Common.{sequence_start, mapping_start, Stream, stream_events, render_if, render_closing_marker, render_version}
+use Rattle.yaml_base.proofs.Common.{render_tag_directives, has_directives, is_explicit, render_document_marker, first_standing, layout, Piece, Standing}
+use Rattle.yaml_base.proofs.Common.{piece_without_body, Role, encoding_asked, settings_for, bytes_written, output_of, list_layout, ends_collection, Encoding}
+use Rattle.yaml_base.proofs.Common.{Settings, Effective, effective, Frame, Stage, at_stream, at_document, at_node, Stepped, start_step, step, ends_next, Steps}
+use Rattle.yaml_base.proofs.Common.{steps, directives_in_force, Allowances, chosen, or_left, or_right, nat_tests}
 use Rattle.yaml_base.proofs.{StepLaws.stream_steps, Trees.tree_of-stream_events}
 
 -- an event of no style; a document's start is implicit
@@ -35,10 +34,7 @@ scalar_unstyled s on directives frames content empty standing = grind (arith, ch
 -- ---- collections
 
 in_flow_canonical : (a b c d e : Bool) → b ≡ true → (a || b || c || d) ≡ (a || b || e || d)
-in_flow_canonical true true c d e on = refl
-in_flow_canonical false true c d e on = refl
-in_flow_canonical true false c d e on = cc
-in_flow_canonical false false c d e on = cc
+in_flow_canonical a b c d e h = grind (arith, nat_tests)
 
 start_unstyled : (s : Effective) → s.canonical ≡ true → (directives : List TagDirective) (frames : List Frame) (undented simple empty : Bool) (role : Role)
     (start : Collection) (standing : Standing)
@@ -80,20 +76,7 @@ document_unstyled s on first empty start standing =
 
 step_unstyled : (s : Effective) → s.canonical ≡ true → (stage : Stage) (event : Event) (empty : Bool) (standing : Standing)
     → step s stage (unstyled event) empty standing ≡ step s stage event empty standing
-step_unstyled s on (at_node directives frames) (scalar content) empty standing = scalar_unstyled s on directives frames content empty standing
-step_unstyled s on (at_node directives frames) (sequence_start start) empty standing = grind (arith, start_unstyled)
-step_unstyled s on (at_node directives frames) (mapping_start start) empty standing = grind (arith, start_unstyled)
-step_unstyled s on (at_document first) (document_start start) empty standing = document_unstyled s on first empty start standing
-step_unstyled s on stage (document_start start) empty standing = refl
-step_unstyled s on stage (scalar content) empty standing = refl
-step_unstyled s on stage (sequence_start start) empty standing = refl
-step_unstyled s on stage (mapping_start start) empty standing = refl
-step_unstyled s on stage (stream_start encoding) empty standing = refl
-step_unstyled s on stage stream_end empty standing = refl
-step_unstyled s on stage (document_end implicit) empty standing = refl
-step_unstyled s on stage (alias name) empty standing = refl
-step_unstyled s on stage sequence_end empty standing = refl
-step_unstyled s on stage mapping_end empty standing = refl
+step_unstyled s h stage event empty standing = grind (arith, nat_tests, scalar_unstyled, start_unstyled, document_unstyled)
 
 still_ends : (event : Event) → ends_collection (unstyled event) ≡ ends_collection event
 still_ends event = grind (arith)
@@ -107,11 +90,7 @@ steps_unstyled : (events : List Event) (s : Effective) → s.canonical ≡ true 
 steps_unstyled [] s on follows stage standing = refl
 steps_unstyled (event ∷ rest) s on follows stage standing =
     let stepped = step s stage event (ends_next rest follows) standing in
-    ap (λ (empty : Bool). then_steps (step s stage (unstyled event) empty standing) (steps s follows (map unstyled rest))) (next_ends rest follows)
-    ∙ ap (λ (made : Stepped). then_steps made (steps s follows (map unstyled rest))) (step_unstyled s on stage event (ends_next rest follows) standing)
-    ∙ ap (λ (after : Steps). let made : Steps = record { pieces = stepped.rendered.piece ∷ after.pieces; standing = after.standing; stage = after.stage } in
-    made)
-    (steps_unstyled rest s on follows stepped.stage stepped.rendered.standing)
+    grind (arith, next_ends, step_unstyled, steps_unstyled rest s on follows stepped.stage stepped.rendered.standing)
 
 -- streams that differ in styles alone
 pub layouts_same : (s : Effective) → s.canonical ≡ true → (one two : Stream) → map unstyled (stream_events one) ≡ map unstyled (stream_events two)
@@ -127,9 +106,7 @@ list_is : (s : Effective) (stream : Stream) (events : List Event) → stream_eve
 list_is s stream events is = grind (arith, tree_of-stream_events)
 
 asked_unstyled : (events : List Event) → encoding_asked (map unstyled events) ≡ encoding_asked events
-asked_unstyled [] = refl
-asked_unstyled (stream_start encoding ∷ rest) = refl
-asked_unstyled (event ∷ rest) = refl
+asked_unstyled events = grind (arith, nat_tests)
 
 -- their output is the same
 pub outputs_same : (given : Settings) → given.canonical ≡ true → (first second : List Event) (one two : Stream) → stream_events one ≡ first

@@ -29,25 +29,14 @@ list_is : (items : TypedValues) (column : ℕ) → ItemsAre (column + 2) items
 list_is no_values column are = refl
 list_is (values_and items item) column are =
     ap (λ t. codes "!!seq" ++ (t ++ (codes "," ++ (line_at column ++ codes "]")))) are
-    ∙ assoc (nodes_text (column + 2) (value_nodes items)) (line_at (column + 2)) (node_text (column + 2) (value_node item)) (line_at column)
-  where
-    assoc : (a b c d : Text)
-        → codes "!!seq" ++ ((codes " [" ++ (a ++ (b ++ c))) ++ (codes "," ++ (d ++ codes "]")))
-        ≡ codes "!!seq " ++ (codes "[" ++ ((a ++ (b ++ (c ++ codes ","))) ++ (d ++ codes "]")))
-    assoc a b c d = simp append_assoc
+    ∙ simp append_assoc
 
 map_is : (pairs : TypedPairs) (column : ℕ) → PairsAre (column + 2) pairs
     → value_text column (map_value pairs) ≡ node_text column (value_node (map_value pairs))
 map_is no_value_pairs column are = refl
 map_is (value_pairs_and pairs key value) column are =
     ap (λ t. codes "!!map" ++ (t ++ (codes "," ++ (line_at column ++ codes "}")))) are
-    ∙ assoc (node_pairs_text (column + 2) (value_pairs pairs)) (line_at (column + 2)) (node_text (column + 2) (value_node key))
-    (node_text (column + 2) (value_node value)) (line_at column)
-  where
-    assoc : (a b c d e : Text)
-        → codes "!!map" ++ ((codes " {" ++ (a ++ (b ++ (codes "? " ++ (c ++ (b ++ (codes ": " ++ d))))))) ++ (codes "," ++ (e ++ codes "}")))
-        ≡ codes "!!map " ++ (codes "{" ++ ((a ++ (b ++ (codes "? " ++ (c ++ (b ++ (codes ": " ++ (d ++ codes ","))))))) ++ (e ++ codes "}")))
-    assoc a b c d e = simp append_assoc
+    ∙ simp append_assoc
 
 mutual
   value_is : (value : TypedValue) (column : ℕ) → value_text column value ≡ node_text column (value_node value)
@@ -63,37 +52,16 @@ mutual
   items_are (values_and no_values item) column = ap (λ t. codes " [" ++ (line_at column ++ t)) (value_is item column)
   items_are (values_and (values_and items before) item) column =
       ap (λ t. t ++ (codes "," ++ (line_at column ++ value_text column item))) (items_are (values_and items before) column)
-      ∙ ap
-      (λ t. (codes " [" ++ (nodes_text column (value_nodes items) ++ (line_at column ++ node_text column (value_node before)))) ++ (codes "," ++ (line_at column ++ t)))
-      (value_is item column)
-      ∙ regroup (nodes_text column (value_nodes items)) (line_at column) (node_text column (value_node before)) (node_text column (value_node item))
-    where
-      regroup : (a b c d : Text)
-          → (codes " [" ++ (a ++ (b ++ c))) ++ (codes "," ++ (b ++ d)) ≡ codes " [" ++ ((a ++ (b ++ (c ++ codes ","))) ++ (b ++ d))
-      regroup a b c d = simp append_assoc
+      ∙ simp (append_assoc, value_is item column)
 
   pairs_are : (pairs : TypedPairs) (column : ℕ) → PairsAre column pairs
   pairs_are no_value_pairs column = tt
-  pairs_are (value_pairs_and no_value_pairs key value) column =
-      ap (λ t. codes " {" ++ (line_at column ++ (codes "? " ++ (t ++ (line_at column ++ (codes ": " ++ value_text column value)))))) (value_is key column)
-      ∙ ap (λ t. codes " {" ++ (line_at column ++ (codes "? " ++ (node_text column (value_node key) ++ (line_at column ++ (codes ": " ++ t))))))
-      (value_is value column)
+  pairs_are (value_pairs_and no_value_pairs key value) column = simp (value_is key column, value_is value column)
   pairs_are (value_pairs_and (value_pairs_and pairs first second) key value) column =
-      let before = codes " {" ++ (node_pairs_text column (value_pairs pairs) ++ pair_text column first second) in
       ap
       (λ t. t ++ (codes "," ++ (line_at column ++ (codes "? " ++ (value_text column key ++ (line_at column ++ (codes ": " ++ value_text column value)))))))
       (pairs_are (value_pairs_and pairs first second) column)
-      ∙ ap (λ t. before ++ (codes "," ++ (line_at column ++ (codes "? " ++ (t ++ (line_at column ++ (codes ": " ++ value_text column value)))))))
-      (value_is key column)
-      ∙ ap (λ t. before ++ (codes "," ++ (line_at column ++ (codes "? " ++ (node_text column (value_node key) ++ (line_at column ++ (codes ": " ++ t)))))))
-      (value_is value column)
-      ∙ regroup (node_pairs_text column (value_pairs pairs)) (line_at column) (node_text column (value_node first)) (node_text column (value_node second))
-      (pair_text column key value)
-    where
-      regroup : (a b c d e : Text)
-          → (codes " {" ++ (a ++ (b ++ (codes "? " ++ (c ++ (b ++ (codes ": " ++ d))))))) ++ (codes "," ++ e)
-          ≡ codes " {" ++ ((a ++ (b ++ (codes "? " ++ (c ++ (b ++ (codes ": " ++ (d ++ codes ","))))))) ++ e)
-      regroup a b c d e = simp append_assoc
+      ∙ simp (append_assoc, value_is key column, value_is value column)
 
 -- a value's document is that of its tree
 pub document_is : (value : TypedValue) → document_text value ≡ dumped_text (value_node value)

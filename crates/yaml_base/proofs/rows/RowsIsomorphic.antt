@@ -1,7 +1,7 @@
 -- Graphs that are isomorphic, and graphs that aren't.
-use Rattle.yaml_base.proofs.Common.{suc, zero, ℕ, slice_index, Contains, None, codes, true, List, [], map, ◌∷◌, ◌⊎◌, refl, ◌≡◌, inl, inr, ap, subst, sym, ◌∙◌}
-use Rattle.yaml_base.proofs.Common.{arith, Text, any_style, block, label_at, Isomorphic, scalar_held, sequence_held, GraphNode, Graph, children, string_tag}
-use Rattle.yaml_base.proofs.Common.{sequence_tag, IsReached, first_reached, child_reached}
+use Rattle.yaml_base.proofs.Common.{suc, zero, ℕ, slice_index, Contains, None, codes, true, List, [], map, ◌∷◌, ◌⊎◌, refl, ◌≡◌, inl, ap, sym, ◌∙◌, arith, Text}
+use Rattle.yaml_base.proofs.Common.{any_style, block, label_at, Isomorphic, scalar_held, sequence_held, GraphNode, Graph, children, string_tag, sequence_tag}
+use Rattle.yaml_base.proofs.Common.{IsReached, first_reached, child_reached, nat_tests}
 
 abbrev text : Text → GraphNode
 text value = record { tag = string_tag; held = scalar_held value any_style }
@@ -28,43 +28,25 @@ exchanged (suc (suc (suc zero))) = 2
 exchanged (suc (suc (suc (suc number)))) = 0
 
 held_by_one : (child : ℕ) → Contains (2 ∷ 3 ∷ 2 ∷ []) child → (child ≡ 2) ⊎ (child ≡ 3)
-held_by_one child (zero, below, is) = inl (sym is)
-held_by_one child (suc zero, below, is) = inr (sym is)
-held_by_one child (suc (suc zero), below, is) = inl (sym is)
-held_by_one child (suc (suc (suc k)), below, is) = absurd (omega (arith, below))
+held_by_one child h = grind (arith, nat_tests)
 
 held_by_two : (child : ℕ) → Contains (3 ∷ 2 ∷ 3 ∷ []) child → (child ≡ 2) ⊎ (child ≡ 3)
-held_by_two child (zero, below, is) = inr (sym is)
-held_by_two child (suc zero, below, is) = inl (sym is)
-held_by_two child (suc (suc zero), below, is) = inr (sym is)
-held_by_two child (suc (suc (suc k)), below, is) = absurd (omega (arith, below))
+held_by_two child h = grind (arith, nat_tests)
 
 held_by_none : (child : ℕ) → Contains [] child → ⊥
 held_by_none child (k, below, is) = omega (arith, below)
 
 reached_in_one : {number : ℕ} → IsReached one number → (number ≡ 1) ⊎ ((number ≡ 2) ⊎ (number ≡ 3))
 reached_in_one first_reached = inl refl
-reached_in_one (child_reached {number = parent} {child = child} r held) =
-    elim (reached_in_one r) as (λ _. (child ≡ 1) ⊎ ((child ≡ 2) ⊎ (child ≡ 3))) [
-      | inl e ↦ inr (held_by_one child (subst (λ n. Contains (children one n) child) e held))
-      | inr (inl e) ↦ absurd (held_by_none child (subst (λ n. Contains (children one n) child) e held))
-      | inr (inr e) ↦ absurd (held_by_none child (subst (λ n. Contains (children one n) child) e held))
-    ]
+reached_in_one (child_reached {number = parent} {child = child} r held) = grind (arith, held_by_one, held_by_none, reached_in_one r)
 
 reached_in_two : {number : ℕ} → IsReached two number → (number ≡ 1) ⊎ ((number ≡ 2) ⊎ (number ≡ 3))
 reached_in_two first_reached = inl refl
-reached_in_two (child_reached {number = parent} {child = child} r held) =
-    elim (reached_in_two r) as (λ _. (child ≡ 1) ⊎ ((child ≡ 2) ⊎ (child ≡ 3))) [
-      | inl e ↦ inr (held_by_two child (subst (λ n. Contains (children two n) child) e held))
-      | inr (inl e) ↦ absurd (held_by_none child (subst (λ n. Contains (children two n) child) e held))
-      | inr (inr e) ↦ absurd (held_by_none child (subst (λ n. Contains (children two n) child) e held))
-    ]
+reached_in_two (child_reached {number = parent} {child = child} r held) = grind (arith, held_by_two, held_by_none, reached_in_two r)
 
 -- what holds of the first three numbers holds of those that are reached
 by_cases : (P : ℕ → Type 0) → P 1 → P 2 → P 3 → (number : ℕ) → (number ≡ 1) ⊎ ((number ≡ 2) ⊎ (number ≡ 3)) → P number
-by_cases P first second third number (inl is) = subst P (sym is) first
-by_cases P first second third number (inr (inl is)) = subst P (sym is) second
-by_cases P first second third number (inr (inr is)) = subst P (sym is) third
+by_cases P h h2 h3 number h4 = grind (arith, nat_tests)
 
 exchange : Isomorphic one two
 exchange =

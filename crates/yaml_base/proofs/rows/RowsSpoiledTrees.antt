@@ -1,11 +1,11 @@
 -- Trees that don't unfold their graphs: an alias before its node, children exchanged, a style changed, an alias of a node
 -- without an anchor, a node written twice.
-use Rattle.yaml_base.proofs.Common.{suc, zero, ℕ, slice_index, Contains, count_by, option_map, Option, None, Some, codes, Bool, false, true, List, [], ◌∷◌}
-use Rattle.yaml_base.proofs.Common.{refl, ◌≡◌, ap, subst, sym, ◌∙◌, arith, Text, ScalarStyle, any_style, double_quoted, block, Node, alias_node, scalar_node}
-use Rattle.yaml_base.proofs.Common.{sequence_node, no_nodes, nodes_and, scalar_held, sequence_held, GraphNode, Graph, node_numbered, children, string_tag}
-use Rattle.yaml_base.proofs.Common.{sequence_tag, scalar_kind, sequence_kind, mapping_kind, Label, node_shape_of, Placed, alias_placed, node_placed}
-use Rattle.yaml_base.proofs.Common.{none_placed, placed_and, number_at, label_of, HasShape, Occurrence, alias_occurrence, node_occurrence, occurrences}
-use Rattle.yaml_base.proofs.Common.{has_anchor, is_occurrence_of, NameTheirNodes, IsReached, first_reached, child_reached, TreeUnfolds}
+use Rattle.yaml_base.proofs.Common.{suc, zero, ℕ, Contains, count_by, option_map, Option, None, Some, codes, Bool, false, true, List, [], ◌∷◌, refl, ◌≡◌, ap}
+use Rattle.yaml_base.proofs.Common.{subst, sym, ◌∙◌, arith, Text, ScalarStyle, any_style, double_quoted, block, Node, alias_node, scalar_node, sequence_node}
+use Rattle.yaml_base.proofs.Common.{no_nodes, nodes_and, scalar_held, sequence_held, GraphNode, Graph, node_numbered, children, string_tag, sequence_tag}
+use Rattle.yaml_base.proofs.Common.{scalar_kind, sequence_kind, mapping_kind, Label, node_shape_of, Placed, node_placed, none_placed, number_at, label_of}
+use Rattle.yaml_base.proofs.Common.{HasShape, Occurrence, alias_occurrence, node_occurrence, occurrences, has_anchor, is_occurrence_of, NameTheirNodes}
+use Rattle.yaml_base.proofs.Common.{IsReached, first_reached, child_reached, TreeUnfolds, nat_tests}
 use Rattle.yaml_base.specs.graphs.Unfolding.{StyledKind}
 
 abbrev string_of : Text → GraphNode
@@ -44,10 +44,7 @@ not_before anchor number other name none (zero, within, is) = let both : None �
 not_before anchor number other name none (suc k, within, is) = omega (arith, within)
 
 alias_first_fails : (p : Placed) → HasShape true shared p (node_shape_of alias_first) → NameTheirNodes (occurrences p) [] (occurrences p) → ⊥
-alias_first_fails (node_placed anchor number (placed_and (placed_and none_placed (alias_placed name first)) (node_placed given second none_placed))) fits
-    named =
-    not_before anchor number first name fits.0 named.1.0.1
-alias_first_fails p fits named = absurd assumption
+alias_first_fails p h h2 = grind (arith, nat_tests, not_before)
 
 alias_first_refused : TreeUnfolds shared alias_first → ⊥
 alias_first_refused u = alias_first_fails u.placed u.fits u.named
@@ -71,17 +68,10 @@ value_stated (Some label) = value_in label.kind
 
 first_differs : (number first second : ℕ) → number ≡ 1 → first ∷ second ∷ [] ≡ children two_strings number
     → value_stated (option_map (label_of true) (node_numbered two_strings first)) ≡ codes "b" → ⊥
-first_differs number first second root numbers stated =
-    let at_root : first ∷ second ∷ [] ≡ 2 ∷ 3 ∷ [] = subst (λ n. first ∷ second ∷ [] ≡ children two_strings n) root numbers in
-    let first_meets : first ≡ 2 = ap (λ xs. slice_index xs 0) at_root in
-    let is : codes "a" ≡ codes "b" = subst (λ n. value_stated (option_map (label_of true) (node_numbered two_strings n)) ≡ codes "b") first_meets stated in
-    omega (arith, ap (λ text. slice_index text 0) is)
+first_differs number first second root numbers stated = grind (arith)
 
 exchanged_fails : (p : Placed) → number_at p ≡ 1 → HasShape true two_strings p (node_shape_of exchanged) → ⊥
-exchanged_fails (node_placed anchor number (placed_and (placed_and none_placed (node_placed given first none_placed)) (node_placed other second none_placed)))
-    root fits =
-    first_differs number first second root fits.2 (ap value_stated fits.3.0.1.1)
-exchanged_fails p root fits = absurd assumption
+exchanged_fails p h h2 = grind (arith, nat_tests, first_differs)
 
 exchanged_refused : TreeUnfolds two_strings exchanged → ⊥
 exchanged_refused u = exchanged_fails u.placed u.root u.fits
@@ -130,21 +120,10 @@ without_anchor = a_sequence_of_one (a_sequence None (a_string None (codes "a") a
 
 none_carries : (a b c : Option Text) (w x y z : ℕ) (name : Text) → a ≡ None → b ≡ None → c ≡ None
     → count_by (has_anchor name) (node_occurrence a w ∷ node_occurrence b x ∷ node_occurrence c y ∷ alias_occurrence name z ∷ []) ≡ 1 → ⊥
-none_carries a b c w x y z name is_a is_b is_c counted =
-    let one = subst (λ o. count_by (has_anchor name) (node_occurrence o w ∷ node_occurrence b x ∷ node_occurrence c y ∷ alias_occurrence name z ∷ []) ≡ 1) is_a
-    counted in
-    let two = subst (λ o. count_by (has_anchor name)
-    (node_occurrence None w ∷ node_occurrence o x ∷ node_occurrence c y ∷ alias_occurrence name z ∷ []) ≡ 1) is_b
-    one in
-    let three : 0 ≡ 1 = subst (λ o. count_by (has_anchor name) (node_occurrence None w ∷ node_occurrence None x ∷ node_occurrence o y ∷
-    alias_occurrence name z ∷ []) ≡ 1) is_c two in
-    omega (arith, three)
+none_carries a b c w x y z name is_a is_b is_c counted = grind (arith)
 
 without_anchor_fails : (p : Placed) → HasShape true shared_below p (node_shape_of without_anchor) → NameTheirNodes (occurrences p) [] (occurrences p) → ⊥
-without_anchor_fails (node_placed a w
-    (placed_and none_placed (node_placed b x (placed_and (placed_and none_placed (node_placed c y none_placed)) (alias_placed name z))))) fits named =
-    none_carries a b c w x y z name fits.0 fits.3.1.0 fits.3.1.3.0.1.0 named.1.1.1.0.0
-without_anchor_fails p fits named = absurd assumption
+without_anchor_fails p h h2 = grind (arith, nat_tests, none_carries)
 
 without_anchor_refused : TreeUnfolds shared_below without_anchor → ⊥
 without_anchor_refused u = without_anchor_fails u.placed u.fits u.named
@@ -159,21 +138,11 @@ second_reached = child_reached first_reached (0, omega arith, refl)
 
 counted_twice : (a b c : Option Text) (number first second : ℕ) → number ≡ 1 → first ∷ second ∷ [] ≡ children shared number
     → count_by (is_occurrence_of 2) (node_occurrence a number ∷ node_occurrence b first ∷ node_occurrence c second ∷ []) ≡ 1 → ⊥
-counted_twice a b c number first second root numbers once =
-    let at_root : first ∷ second ∷ [] ≡ 2 ∷ 2 ∷ [] = subst (λ n. first ∷ second ∷ [] ≡ children shared n) root numbers in
-    let one = subst (λ n. count_by (is_occurrence_of 2) (node_occurrence a n ∷ node_occurrence b first ∷ node_occurrence c second ∷ []) ≡ 1) root once in
-    let two = subst (λ n. count_by (is_occurrence_of 2) (node_occurrence a 1 ∷ node_occurrence b n ∷ node_occurrence c second ∷ []) ≡ 1)
-    (ap (λ xs. slice_index xs 0) at_root) one in
-    let three : 2 ≡ 1 = subst (λ n. count_by (is_occurrence_of 2) (node_occurrence a 1 ∷ node_occurrence b 2 ∷ node_occurrence c n ∷ []) ≡ 1)
-    (ap (λ xs. slice_index xs 1) at_root) two in
-    omega (arith, three)
+counted_twice a b c number first second root numbers once = grind (arith)
 
 written_twice_fails : (p : Placed) → number_at p ≡ 1 → HasShape true shared p (node_shape_of written_twice) → count_by (is_occurrence_of 2) (occurrences p) ≡ 1
     → ⊥
-written_twice_fails (node_placed a number (placed_and (placed_and none_placed (node_placed b first none_placed)) (node_placed c second none_placed))) root fits
-    once =
-    counted_twice a b c number first second root fits.2 once
-written_twice_fails p root fits once = absurd assumption
+written_twice_fails p h h2 h3 = grind (arith, nat_tests, counted_twice)
 
 written_twice_refused : TreeUnfolds shared written_twice → ⊥
 written_twice_refused u = written_twice_fails u.placed u.root u.fits (u.once 2 second_reached)

@@ -1,10 +1,10 @@
 -- Trees that unfold a graph, and trees that don't.
-use Rattle.yaml_base.proofs.Common.{suc, zero, ℕ, slice_index, Contains, count_by, None, Some, codes, true, [], ◌∷◌, ◌⊎◌, refl, ◌≡◌, inl, inr, ap, subst}
-use Rattle.yaml_base.proofs.Common.{arith, nat_tests, any_style, block, Node, alias_node, scalar_node, sequence_node, mapping_node, no_nodes, nodes_and}
-use Rattle.yaml_base.proofs.Common.{no_pairs, pairs_and, document_events, scalar_held, sequence_held, mapping_held, Graph, children, string_tag, sequence_tag}
-use Rattle.yaml_base.proofs.Common.{mapping_tag, document_event_list, node_shape_of, Placed, alias_placed, node_placed, none_placed, placed_and, number_at}
-use Rattle.yaml_base.proofs.Common.{HasShape, alias_occurrence, node_occurrence, occurrences, is_occurrence_of, IsReached, first_reached, child_reached}
-use Rattle.yaml_base.proofs.Common.{TreeUnfolds, ContentUnfolds, node_content}
+use Rattle.yaml_base.proofs.Common.{suc, zero, ℕ, Contains, count_by, None, Some, codes, true, [], ◌∷◌, ◌⊎◌, refl, ◌≡◌, inl, inr, arith, nat_tests, any_style}
+use Rattle.yaml_base.proofs.Common.{block, Node, alias_node, scalar_node, sequence_node, mapping_node, no_nodes, nodes_and, no_pairs, pairs_and}
+use Rattle.yaml_base.proofs.Common.{document_events, scalar_held, sequence_held, mapping_held, Graph, children, string_tag, sequence_tag, mapping_tag}
+use Rattle.yaml_base.proofs.Common.{document_event_list, node_shape_of, Placed, alias_placed, node_placed, none_placed, placed_and, number_at, HasShape}
+use Rattle.yaml_base.proofs.Common.{alias_occurrence, node_occurrence, occurrences, is_occurrence_of, IsReached, first_reached, child_reached, TreeUnfolds}
+use Rattle.yaml_base.proofs.Common.{ContentUnfolds, node_content}
 use Rattle.yaml_base.specs.graphs.Meetings.{decimal_digits}
 
 -- a mapping whose one key is a string, and whose value is the mapping
@@ -32,20 +32,14 @@ its_events = refl
 
 -- only nodes 1 and 2 are reached
 held_by_one : (child : ℕ) → Contains (2 ∷ 1 ∷ []) child → (child ≡ 1) ⊎ (child ≡ 2)
-held_by_one child (zero, below, e) = inr (omega (arith, e))
-held_by_one child (suc zero, below, e) = inl (omega (arith, e))
-held_by_one child (suc (suc k), below, e) = absurd (omega (arith, below))
+held_by_one child h = grind (arith, nat_tests)
 
 held_by_none : (child : ℕ) → Contains [] child → ⊥
 held_by_none child (k, below, e) = omega (arith, below)
 
 reached : {number : ℕ} → IsReached graph number → (number ≡ 1) ⊎ (number ≡ 2)
 reached first_reached = inl refl
-reached (child_reached {number = parent} {child = child} r held) =
-    elim (reached r) as (λ _. (child ≡ 1) ⊎ (child ≡ 2)) [
-      | inl e ↦ held_by_one child (subst (λ n. Contains (children graph n) child) e held)
-      | inr e ↦ absurd (held_by_none child (subst (λ n. Contains (children graph n) child) e held))
-    ]
+reached (child_reached {number = parent} {child = child} r held) = grind (arith, held_by_one, held_by_none, reached r)
 
 abbrev placed_tree : Placed
 placed_tree = node_placed (Some (codes "id001")) 1 (placed_and (placed_and none_placed (node_placed None 2 none_placed)) (alias_placed (codes "id001") 1))
@@ -116,30 +110,11 @@ third_reached = child_reached first_reached (1, omega arith, refl)
 third_missing : (number first second : ℕ) → number ≡ 1 → first ∷ second ∷ [] ≡ children two_equal number
     → count_by (is_occurrence_of 3) (node_occurrence None number ∷ node_occurrence (Some (codes "id001")) first ∷ alias_occurrence
     (codes "id001") second ∷ []) ≡ 1 → ⊥
-third_missing number first second root numbers once =
-    let at_root : first ∷ second ∷ [] ≡ 2 ∷ 3 ∷ [] = subst (λ n. first ∷ second ∷ [] ≡ children two_equal n) root numbers in
-    let first_meets : first ≡ 2 = ap (λ xs. slice_index xs 0) at_root in
-    let counted : count_by (is_occurrence_of 3) (node_occurrence None 1 ∷ node_occurrence (Some (codes "id001")) 2 ∷ alias_occurrence
-    (codes "id001") second ∷ []) ≡ 1 =
-    subst (λ m. count_by (is_occurrence_of 3) (node_occurrence None 1 ∷ node_occurrence (Some (codes "id001")) m ∷ alias_occurrence
-    (codes "id001") second ∷ []) ≡ 1) first_meets
-    (subst (λ n. count_by (is_occurrence_of 3) (node_occurrence None n ∷ node_occurrence (Some (codes "id001")) first ∷ alias_occurrence
-    (codes "id001") second ∷ []) ≡ 1) root
-    once) in
-    omega (arith, counted)
+third_missing number first second root numbers once = grind (arith)
 
 refuted : (p : Placed) → number_at p ≡ 1 → HasShape true two_equal p (node_shape_of one_for_two)
     → ((number : ℕ) → IsReached two_equal number → count_by (is_occurrence_of number) (occurrences p) ≡ 1) → ⊥
-refuted (alias_placed name number) root fits once = fits
-refuted (node_placed anchor number none_placed) root fits once = fits.3
-refuted (node_placed anchor number (placed_and none_placed last)) root fits once = fits.3.0
-refuted (node_placed anchor number (placed_and (placed_and (placed_and all more) item) last)) root fits once = fits.3.0.0
-refuted (node_placed anchor number (placed_and (placed_and none_placed (alias_placed name item)) last)) root fits once = fits.3.0.1
-refuted (node_placed anchor number (placed_and (placed_and none_placed (node_placed given item (placed_and all more))) last)) root fits once = fits.3.0.1.3
-refuted (node_placed anchor number (placed_and (placed_and none_placed (node_placed given item none_placed)) (node_placed other last below))) root fits
-    once = fits.3.1
-refuted (node_placed anchor number (placed_and (placed_and none_placed (node_placed given item none_placed)) (alias_placed name last))) root fits once =
-    third_missing number item last root fits.2 (once 3 third_reached)
+refuted p h h2 h3 = grind (arith, nat_tests, third_missing, third_reached)
 
 one_for_two_refused : TreeUnfolds two_equal one_for_two → ⊥
 one_for_two_refused u = refuted u.placed u.root u.fits u.once

@@ -1,10 +1,10 @@
 -- The text of a document by itself: its directives, its marker, its root and its end, as one text in place of pieces.
 use Rattle.yaml_base.proofs.Common.{arith, if◌then◌else◌, ◌==◌, Option, None, Some, codes, Bool, false, not, true, ◌&&◌, ◌||◌, List, [], ◌++◌, ◌∷◌, refl, ◌≡◌}
-use Rattle.yaml_base.proofs.Common.{append-nil, append_assoc, ap, subst, sym, ◌∙◌, flat_map-append, Text, line_feed, Cursor, Rendered, new_line, Version}
-use Rattle.yaml_base.proofs.Common.{TagDirective, DocumentStart, Document, render_if, render_closing_marker, render_version, render_tag_directives}
-use Rattle.yaml_base.proofs.Common.{has_directives, is_explicit, render_document_marker, render_document_start, document_start_piece, document_end_piece}
-use Rattle.yaml_base.proofs.Common.{root_place, render_document, Piece, piece_text, text_of, Standing, RenderedPiece, RenderedPieces, one_piece, render_node}
-use Rattle.yaml_base.proofs.Common.{Effective, directives_in_force}
+use Rattle.yaml_base.proofs.Common.{append-nil, append_assoc, ap, subst, sym, ◌∙◌, flat_map-append, Text, line_feed, Cursor, Rendered, Version, TagDirective}
+use Rattle.yaml_base.proofs.Common.{DocumentStart, Document, render_if, render_closing_marker, render_version, render_tag_directives, has_directives}
+use Rattle.yaml_base.proofs.Common.{is_explicit, render_document_marker, render_document_start, document_start_piece, document_end_piece, root_place}
+use Rattle.yaml_base.proofs.Common.{render_document, Piece, piece_text, text_of, Standing, RenderedPiece, RenderedPieces, one_piece, render_node, Effective}
+use Rattle.yaml_base.proofs.Common.{directives_in_force, nat_tests}
 use Rattle.yaml_base.proofs.stream_documents.{StreamDocumentReads.dots_if, StreamRootAdded.text_with_marker}
 use Rattle.yaml_base.proofs.stream_documents.StreamRootsStand.{root_cursor, render_root, heading_text}
 use Rattle.yaml_base.proofs.stream_lines.StreamClosed.{closing, closed, Settled, new_line_closes, margin_cursor}
@@ -37,10 +37,7 @@ dots_rendered false = refl
 
 marker_rendered : (explicit canonical : Bool) → render_if explicit (render_document_marker canonical) (margin_cursor 0)
     ≡ record { text = marker_text explicit canonical; cursor = root_cursor (explicit && not canonical) }
-marker_rendered true true = refl
-marker_rendered true false = refl
-marker_rendered false true = refl
-marker_rendered false false = refl
+marker_rendered explicit canonical = grind (arith, nat_tests)
 
 -- a document's start is rendered so
 pub start_rendered : (s : Effective) (first : Bool) (start : DocumentStart) (standing : Standing) → standing.cursor ≡ margin_cursor 0
@@ -56,9 +53,7 @@ start_rendered s first start standing at = grind (arith, dots_rendered, directiv
 -- an end, on a new line
 end_text : (implicit : Bool) (standing : Standing) → Settled standing.cursor
     → text_of (one_piece (document_end_piece implicit standing)).pieces ≡ closing standing.cursor ++ dots_if (not implicit)
-end_text true standing settled =
-    append-nil ((new_line 0 standing.cursor).text ++ []) ∙ append-nil (new_line 0 standing.cursor).text ∙ new_line_closes 0 standing.cursor settled
-end_text false standing settled = grind (arith, append-nil, new_line_closes)
+end_text implicit standing h = grind (arith, nat_tests, append-nil, new_line_closes)
 
 pub end_cursor : (implicit : Bool) (standing : Standing) → (document_end_piece implicit standing).standing.cursor ≡ margin_cursor 0
 end_cursor true standing = refl

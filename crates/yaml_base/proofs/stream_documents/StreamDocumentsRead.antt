@@ -1,8 +1,7 @@
 -- The documents of a stream, one after another: each that stands is one document more, and the stream may end after them.
-use Rattle.yaml_base.proofs.Common.{arith, not-false}
-use Rattle.yaml_base.proofs.Common.{ℕ, ◌≤◌, Bool, false, not, true, ◌&&◌, ◌||◌, List, [], ◌++◌, refl, ◌≡◌, append-nil, append_assoc, ap}
-use Rattle.yaml_base.proofs.Common.{subst, sym, ◌∙◌, or_parts, Text, DocumentStart, Node, alias_node, scalar_node, sequence_node, mapping_node}
-use Rattle.yaml_base.proofs.Common.{Document, has_directives, is_explicit, Effective, is_written_as_nothing, DocumentTree}
+use Rattle.yaml_base.proofs.Common.{arith, not-false, ℕ, ◌≤◌, Bool, false, not, true, ◌&&◌, ◌||◌, List, [], ◌++◌, refl, ◌≡◌, append-nil, append_assoc, ap}
+use Rattle.yaml_base.proofs.Common.{subst, sym, ◌∙◌, or_parts, Text, DocumentStart, Node, Document, has_directives, is_explicit, Effective}
+use Rattle.yaml_base.proofs.Common.{is_written_as_nothing, DocumentTree, nat_tests}
 use Rattle.yaml_base.{proofs.stream_lines.StreamClosed.closed, proofs.stream_nodes.StreamFits.size, specs.streams.StreamDocuments.after_root}
 use Rattle.yaml_base.proofs.stream_documents.{StreamDocumentTexts.before_root, StreamDocumentTexts.root_part, StreamDocumentTexts.document_text}
 use Rattle.yaml_base.proofs.stream_documents.{StreamRootAdded.with_document, StreamRootAdded.added_with_marker, StreamRootAdded.markerless_added}
@@ -14,18 +13,13 @@ use Rattle.yaml_base.proofs.stream_documents.StreamRootsStand.{render_root, Root
 
 -- in canonical mode each root is written
 something_canonical : (canonical : Bool) (n : Node) → canonical ≡ true → is_written_as_nothing canonical n ≡ false
-something_canonical canonical (alias_node name) h = refl
-something_canonical canonical (scalar_node content) h = grind (arith)
-something_canonical canonical (sequence_node start items) h = refl
-something_canonical canonical (mapping_node start pairs) h = refl
+something_canonical canonical n h = grind (arith, nat_tests)
 
 -- the end of a document, behind its root
 ended_more : (breaks12 : Bool) (depth : ℕ) (text : Text) (documents : List DocumentTree) (implicit : Bool)
     → WalkProgress breaks12 depth text (record { documents = documents; place = after_root })
     → Awaits breaks12 depth (text ++ dots_if (not implicit)) documents (not implicit)
-ended_more breaks12 depth text documents true so =
-    subst (λ t. WalkProgress breaks12 depth t (record { documents = documents; place = after_root })) (sym (append-nil text)) so
-ended_more breaks12 depth text documents false so = awaits_ended breaks12 depth text documents so
+ended_more breaks12 depth text documents implicit h = grind (arith, nat_tests, append-nil, awaits_ended)
 
 -- a document with its marker
 explicit_more : (s : Effective) (depth : ℕ) (text : Text) (documents : List DocumentTree) (document : Document) (ended : Bool) → 2 ≤ s.indent

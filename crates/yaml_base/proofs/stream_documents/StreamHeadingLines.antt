@@ -1,13 +1,11 @@
 -- The lines of a document's directives: each begins with `%`, and they are read as its version and its directives.
-use Rattle.yaml_base.proofs.Common.{if◌then◌else◌, option_and_then, Option, None, Some, Bool, true, List, [], ◌++◌, ◌∷◌, refl, ◌≡◌}
-use Rattle.yaml_base.proofs.Common.{int_eq, append-nil, append_assoc, ap, sym, ◌∙◌, arith, list_all, Text, line_feed}
-use Rattle.yaml_base.proofs.Common.{Rendered, first_cursor, render_then, Version, TagDirective, DocumentStart}
-use Rattle.yaml_base.proofs.Common.{render_version, render_tag_directives, directive_scalars, Effective}
-use Rattle.yaml_base.proofs.Common.{version_fault, handle_fault, prefix_fault, directive_fault, gives_handle, next_directive_fault, directives_fault_after}
-use Rattle.yaml_base.proofs.Common.{directives_fault, heading_read, begins_with_percent, Line, lines_of, text_of_lines}
+use Rattle.yaml_base.proofs.Common.{if◌then◌else◌, option_and_then, Option, None, Some, Bool, true, List, [], ◌++◌, ◌∷◌, refl, ◌≡◌, int_eq, append-nil}
+use Rattle.yaml_base.proofs.Common.{append_assoc, ap, sym, ◌∙◌, arith, list_all, Text, line_feed, Rendered, first_cursor, render_then, Version, TagDirective}
+use Rattle.yaml_base.proofs.Common.{DocumentStart, render_version, render_tag_directives, directive_scalars, Effective, version_fault, handle_fault}
+use Rattle.yaml_base.proofs.Common.{next_directive_fault, directives_fault_after, directives_fault, heading_read, begins_with_percent, Line, lines_of}
+use Rattle.yaml_base.proofs.Common.{text_of_lines}
 use Rattle.yaml_base.{proofs.NoFaults.neither, proofs.PercentLaws.prefix_stands, proofs.TagForms.handle_form, proofs.TagWords.handle_ends_no_word}
 use Rattle.yaml_base.{proofs.stream_documents.StreamSoFar.Percents}
-use Rattle.yaml_base.{specs.declared.errors.yaml_error_t.TheVariants.DuplicateDirective}
 use Rattle.yaml_base.proofs.stream_documents.StreamRootsStand.{heading_text, HeadingStands}
 use Rattle.yaml_base.proofs.stream_lines.StreamClosed.{character_line, lines_broken, closed_behind}
 use Rattle.yaml_base.proofs.stream_lines.StreamLineLaws.{is_closed, OneLine, one_line_both}
@@ -50,9 +48,7 @@ tags_whole : (breaks12 portable : Bool) (before directives : List TagDirective) 
 tags_whole breaks12 portable before [] sound = tt
 tags_whole breaks12 portable before (directive ∷ rest) sound =
     let both = neither (next_directive_fault before directive) (directives_fault_after (before ++ directive ∷ []) rest) sound in
-    let own = neither (directive_fault directive) (if gives_handle directive.handle before then Some DuplicateDirective else None) both.0 in
-    let parts = neither (handle_fault directive.handle) (prefix_fault directive.prefix) own.0 in
-    (directive_whole breaks12 portable directive parts.0, refl, tags_whole breaks12 portable (before ++ directive ∷ []) rest both.1)
+    grind (arith, neither, directive_whole, tags_whole breaks12 portable (before ++ directive ∷ []) rest both.1)
 
 version_whole : (breaks12 : Bool) (version : Option Version) → WholeLines breaks12 (version_lines version)
 version_whole breaks12 None = tt

@@ -1,14 +1,13 @@
 -- The law of whole streams, where each document stands and the layout's text is printable and read from its bytes.
-use Rattle.yaml_base.proofs.Common.{◌≤◌, is_some, unwrap_or, option_map, Option, None, Some, negsuc, pos, ℤ, Bool, false, not, true, ◌&&◌, List, [], ◌++◌, ◌∷◌}
-use Rattle.yaml_base.proofs.Common.{refl, ◌≡◌, leb-true, true≢false, ap, sym, ◌∙◌, arith, and_parts, and_from, false≢true, list_all, list_any}
-use Rattle.yaml_base.proofs.Common.{Scalar, Event, stream_start, stream_end, document_start, document_end, scalar, sequence_start, sequence_end, mapping_start}
-use Rattle.yaml_base.proofs.Common.{mapping_end, scalar_tag, Node, alias_node, scalar_node, Nodes, sequence_node, Pairs, mapping_node, no_nodes, nodes_and}
-use Rattle.yaml_base.proofs.Common.{no_pairs, pairs_and, Document, Documents, no_documents, documents_and, Stream, node_events, nodes_events, pairs_events}
-use Rattle.yaml_base.proofs.Common.{documents_events, stream_events, tree_of, layout, Piece, text_of, with_breaks_written, bytes_written, list_layout, is_sound}
-use Rattle.yaml_base.proofs.Common.{IsAccepted, Encoding, Settings, Effective, effective_indent, effective, loses_document, document_has_flow_indicator}
-use Rattle.yaml_base.proofs.Common.{all_read_alike, reads_alike, characters_read, lacks_tag_and_flags, DocumentTree, document_agrees, documents_in_order}
-use Rattle.yaml_base.proofs.Common.{agrees, not-true}
-use Rattle.yaml_base.proofs.Common.{documents_of, stream_trees}
+use Rattle.yaml_base.proofs.Common.{◌≤◌, is_some, unwrap_or, option_map, Option, Some, ℤ, Bool, false, not, true, List, [], ◌++◌, ◌∷◌, refl, ◌≡◌, leb-true}
+use Rattle.yaml_base.proofs.Common.{true≢false, ap, sym, ◌∙◌, arith, and_parts, and_from, false≢true, list_all, list_any, Scalar, Event, stream_start}
+use Rattle.yaml_base.proofs.Common.{stream_end, document_start, document_end, scalar, sequence_start, sequence_end, mapping_start, mapping_end, scalar_tag}
+use Rattle.yaml_base.proofs.Common.{Node, alias_node, scalar_node, Nodes, sequence_node, Pairs, mapping_node, no_nodes, nodes_and, no_pairs, pairs_and}
+use Rattle.yaml_base.proofs.Common.{Document, Documents, no_documents, documents_and, Stream, node_events, nodes_events, pairs_events, documents_events}
+use Rattle.yaml_base.proofs.Common.{stream_events, tree_of, layout, Piece, text_of, with_breaks_written, bytes_written, list_layout, is_sound, IsAccepted}
+use Rattle.yaml_base.proofs.Common.{Encoding, Settings, Effective, effective_indent, effective, loses_document, document_has_flow_indicator, all_read_alike}
+use Rattle.yaml_base.proofs.Common.{reads_alike, characters_read, lacks_tag_and_flags, DocumentTree, document_agrees, documents_in_order, agrees, not-true}
+use Rattle.yaml_base.proofs.Common.{documents_of, stream_trees, nat_tests}
 use Rattle.yaml_base.{proofs.Trees.tree_of-stream_events, proofs.stream_lines.StreamBytes.trees_of_bytes, proofs.stream_lines.StreamBytes.is_shown}
 use Rattle.yaml_base.{specs.streams.StreamContent.documents_agree}
 use Rattle.yaml_base.proofs.stream_documents.StreamRootsStand.{DocumentsStand}
@@ -52,9 +51,7 @@ mutual
   sound_pairs (pairs_and pairs key value) canonical h =
       let parts = all_of_both (is_sound canonical) (pairs_events pairs) (node_events key ++ node_events value) h in
       let both = all_of_both (is_sound canonical) (node_events key) (node_events value) parts.1 in
-      and_from (pairs_are_tagged canonical pairs && node_is_tagged canonical key) (node_is_tagged canonical value)
-      (and_from (pairs_are_tagged canonical pairs) (node_is_tagged canonical key) (sound_pairs pairs canonical parts.0) (sound_node key canonical both.0))
-      (sound_node value canonical both.1)
+      grind (arith, all_of_both, and_from, sound_node key canonical both.0, sound_node value canonical both.1, sound_pairs pairs canonical parts.0)
 
 -- so has each of each document
 abbrev IsTaggedRoot : Bool → Document → Type 0
@@ -103,9 +100,7 @@ trees_agree s (documents_and before document) tagged =
 
 -- an indent is at least 2
 pub indent_deep : (indent : Option ℤ) → 2 ≤ effective_indent indent
-indent_deep None = omega arith
-indent_deep (Some (negsuc n)) = omega arith
-indent_deep (Some (pos n)) = grind (arith, leb-true)
+indent_deep indent = grind (arith, nat_tests, leb-true)
 
 -- no document is lost where all is read alike
 first_written : (s : Effective) (documents : List Document) → (s.portable ≡ false → loses_document s.canonical documents ≡ false) → FirstWritten s documents

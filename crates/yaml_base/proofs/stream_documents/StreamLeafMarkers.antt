@@ -1,11 +1,10 @@
 -- No line of a leaf at the root after its first is a document's marker.
 use Rattle.yaml_base.proofs.Common.{ℕ, ◌≤◌, if◌then◌else◌, ◌==◌, Option, None, Some, Bool, false, not, true, ◌&&◌, ◌||◌, List, [], ◌++◌, ◌∷◌, refl, ◌≡◌}
 use Rattle.yaml_base.proofs.Common.{eqb-true, append-nil, append_assoc, ap, ◌∙◌, arith, and_parts, and_from, false≢true, list_all, Text, line_feed, and-false}
-use Rattle.yaml_base.proofs.Common.{is_tidy_character, Cursor, Rendered, ScalarStyle, plain, TagDirective}
-use Rattle.yaml_base.proofs.Common.{Scalar, scalar_tag, collection_tag, Node, alias_node, scalar_node, sequence_node, mapping_node}
-use Rattle.yaml_base.proofs.Common.{root_place, render_properties, render_alias, render_separation, render_body, choice_of, Brackets}
-use Rattle.yaml_base.proofs.Common.{square, curly, empty_or_comma, render_end, deeper, has_no_nodes, has_no_pairs, Effective, has_deep_lines}
-use Rattle.yaml_base.proofs.Common.{is_tidy_style, is_empty, marker_of, lines_of, name_read, is_break, list_any}
+use Rattle.yaml_base.proofs.Common.{is_tidy_character, Cursor, Rendered, ScalarStyle, plain, TagDirective, Scalar, scalar_tag, collection_tag, Node}
+use Rattle.yaml_base.proofs.Common.{alias_node, scalar_node, sequence_node, mapping_node, root_place, render_properties, render_alias, render_separation}
+use Rattle.yaml_base.proofs.Common.{render_body, choice_of, Brackets, square, curly, empty_or_comma, render_end, deeper, has_no_nodes, has_no_pairs, Effective}
+use Rattle.yaml_base.proofs.Common.{has_deep_lines, is_tidy_style, is_empty, marker_of, lines_of, name_read, is_break, list_any, nat_tests}
 use Rattle.yaml_base.proofs.{stream_documents.StreamRootsStand.is_leaf, stream_lines.StreamLineLaws.OneLine}
 use Rattle.yaml_base.proofs.{stream_lines.StreamLineLaws.one_line_both, stream_nodes.StreamOwnWords.deep_more, stream_nodes.StreamProperties.IsNamed}
 use Rattle.yaml_base.proofs.stream_lines.StreamSections.{is_markerless, AllMarkerless}
@@ -66,9 +65,8 @@ bracket_below breaks12 closing one h = grind (arith, and_from, after_line_of, un
 end_markerless : (s : Effective) (brackets : Brackets) (empty : Bool) (cursor : Cursor)
     → list_any is_break brackets.opening ≡ false → list_any is_break brackets.closing ≡ false
     → begins_closing brackets.closing ≡ true → Markerless s.breaks12 (render_end s brackets true empty None cursor).text
-end_markerless s brackets true cursor opening closing h = grind (arith, markerless_text, deep_markerless, indicator_deep, after_line_of, unbroken_line)
-end_markerless s brackets false cursor opening closing h =
-    grind (arith, after_line_of, deep_markerless, indicator_deep, unbroken_line, markerless_text, bracket_below, spaces_line)
+end_markerless s brackets empty cursor h h2 h3 =
+    grind (arith, nat_tests, markerless_text, deep_markerless, indicator_deep, after_line_of, unbroken_line, bracket_below, spaces_line)
 
 -- Lines after the first
 

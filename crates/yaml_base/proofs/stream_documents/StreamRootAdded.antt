@@ -1,10 +1,9 @@
 -- A root behind `---`, or one without it at a stream's start, is one document more of the stream.
-use Rattle.yaml_base.proofs.Common.{arith}
-use Rattle.yaml_base.proofs.Common.{ℕ, ◌≤◌, if◌then◌else◌, Option, None, Some, codes, Bool, false, not, true, ◌||◌, List, [], ◌++◌, ◌∷◌, refl}
-use Rattle.yaml_base.proofs.Common.{◌≡◌, ap, sym, ◌∙◌, and_from, false≢true, list_all, Text, line_feed, Document, has_directives, root_place}
-use Rattle.yaml_base.proofs.Common.{Effective, Tree, DocumentTree, begins_with_marker, start_marker, end_marker, no_exclamation, marker_of, Heading}
-use Rattle.yaml_base.proofs.Common.{stands_at_margin, root_below, with_read_document, section_by_kind, directive_lines, document_lines, prefix_kind}
-use Rattle.yaml_base.proofs.Common.{lines_before_marker_read, Line, lines_of, is_spaces, without_blank_lines, node_read, Rules}
+use Rattle.yaml_base.proofs.Common.{arith, ℕ, ◌≤◌, if◌then◌else◌, Option, None, Some, codes, Bool, false, not, true, ◌||◌, List, [], ◌++◌, ◌∷◌, refl, ◌≡◌, ap}
+use Rattle.yaml_base.proofs.Common.{sym, ◌∙◌, and_from, false≢true, list_all, Text, line_feed, Document, has_directives, root_place, Effective, Tree}
+use Rattle.yaml_base.proofs.Common.{DocumentTree, begins_with_marker, start_marker, end_marker, no_exclamation, marker_of, Heading, stands_at_margin}
+use Rattle.yaml_base.proofs.Common.{root_below, with_read_document, section_by_kind, document_lines, prefix_kind, lines_before_marker_read, Line, lines_of}
+use Rattle.yaml_base.proofs.Common.{is_spaces, without_blank_lines, node_read, Rules, nat_tests}
 use Rattle.yaml_base.{proofs.stream_nodes.StreamAgrees.document_tree, specs.streams.StreamDocuments.after_root}
 use Rattle.yaml_base.proofs.stream_documents.{StreamDocumentReads.Headed, StreamDocumentReads.heading_parsed, StreamDocumentReads.nothing_parsed}
 use Rattle.yaml_base.proofs.stream_documents.{StreamRootLines.begins_shown, StreamRootLines.stands_below, StreamRootLines.Stood, StreamRootStood.root_tree}
@@ -115,9 +114,7 @@ added_with_marker false = below_marker_added
 prefix_document : (lines : List Line) (depth : ℕ) (rules : Rules) (here : Bool) (column : Option ℕ) (tree : Tree)
     → node_read depth rules here column lines ≡ Some tree
     → begins_shown lines ≡ true → prefix_kind lines ≡ document_lines
-prefix_document [] depth rules here column tree reads shown = absurd (false≢true shown)
-prefix_document (line ∷ rest) depth rules here column tree reads shown =
-    ap (λ x. if x then directive_lines else document_lines) (read_no_percent line rest depth rules here column tree reads)
+prefix_document lines depth rules here column tree h h2 = grind (arith, nat_tests, false≢true, read_no_percent)
 
 -- a root at the stream's start
 pub markerless_added : (s : Effective) (depth : ℕ) (document : Document) → has_directives document.start ≡ false

@@ -1,9 +1,9 @@
 -- A node is no deeper than its text is long, and one.
 use Rattle.yaml_base.proofs.Common.{suc, ℕ, ◌+◌, ◌≤◌, Some, codes, length, Bool, false, true, List, [], ◌++◌, refl, ◌≡◌, length-append, append_assoc, ap, ◌∙◌}
 use Rattle.yaml_base.proofs.Common.{arith, false≢true, Text, Cursor, Rendered, render_then, new_line, space_if, indicator, TagDirective, Collection, Node}
-use Rattle.yaml_base.proofs.Common.{alias_node, scalar_node, Nodes, sequence_node, Pairs, mapping_node, no_nodes, nodes_and, no_pairs, pairs_and, square, curly}
-use Rattle.yaml_base.proofs.Common.{render_end, entry_place, Role, as_item, as_key, as_value, Place, is_undented, entries_column, has_no_nodes, has_no_pairs}
-use Rattle.yaml_base.proofs.Common.{is_simple, opening_or_comma, render_place, Effective, Tree, Rules}
+use Rattle.yaml_base.proofs.Common.{alias_node, scalar_node, Nodes, sequence_node, Pairs, mapping_node, no_nodes, nodes_and, no_pairs, pairs_and, entry_place}
+use Rattle.yaml_base.proofs.Common.{Role, as_item, as_key, as_value, Place, is_undented, entries_column, has_no_nodes, has_no_pairs, is_simple}
+use Rattle.yaml_base.proofs.Common.{opening_or_comma, render_place, Effective, Tree, Rules, nat_tests}
 use Rattle.yaml_base.proofs.{stream_lines.StreamClosed.indicator_cursor, stream_nodes.StreamAgrees.node_tree, stream_nodes.StreamItems.item_place}
 use Rattle.yaml_base.proofs.stream_nodes.StreamFits.{size, items_size, pairs_size}
 use Rattle.yaml_base.proofs.stream_nodes.StreamNodesFit.{EitherType, render_begun, Leaves, ItemLeaves, PairLeaves}
@@ -64,17 +64,11 @@ mutual
   flow_node (sequence_node start items) s directives role column cursor =
       let begun = render_begun s directives start cursor in
       let e = entries_column true (is_undented s role) s.indent (Some column) begun.cursor in
-      let entries = items_own items s directives true e begun.cursor in
-      let within = length_within begun.text entries.text (render_end s square true (has_no_nodes items) (Some column) entries.cursor).text in
-      let each = flow_items items s directives e begun.cursor in
-      omega arith
+      grind (arith, length_within, flow_items items s directives e begun.cursor)
   flow_node (mapping_node start pairs) s directives role column cursor =
       let begun = render_begun s directives start cursor in
       let e = entries_column true false s.indent (Some column) begun.cursor in
-      let entries = pairs_own pairs s directives true e begun.cursor in
-      let within = length_within begun.text entries.text (render_end s curly true (has_no_pairs pairs) (Some column) entries.cursor).text in
-      let each = flow_pairs pairs s directives e begun.cursor in
-      omega arith
+      grind (arith, length_within, flow_pairs pairs s directives e begun.cursor)
 
   pub flow_items : (items : Nodes) (s : Effective) (directives : List TagDirective) (e : ℕ) (cursor : Cursor)
       → items_size items ≤ length (items_own items s directives true e cursor).text
@@ -83,12 +77,9 @@ mutual
       let before = items_own items s directives true e cursor in
       let place = entry_place true (as_item (has_no_nodes items)) e in
       let symbols = render_place s place false before.cursor in
-      let own = node_own last s directives place symbols.cursor in
-      let sum = length_indicators before.text symbols.text own.text in
-      let each = flow_items items s directives e cursor in
-      let one = flow_node last s directives (as_item (has_no_nodes items)) e symbols.cursor in
-      let symbol = item_indicator s (has_no_nodes items) e before.cursor in
-      omega arith
+      let each = flow_node last s directives (as_item (has_no_nodes items)) e symbols.cursor in
+      let one = flow_items items s directives e cursor in
+      grind (arith, length_indicators, item_indicator, each, one)
 
   pub flow_pairs : (pairs : Pairs) (s : Effective) (directives : List TagDirective) (e : ℕ) (cursor : Cursor)
       → pairs_size pairs ≤ length (pairs_own pairs s directives true e cursor).text
@@ -101,27 +92,16 @@ mutual
       let key_indicators = render_place s key_place simple before.cursor in
       let key_own = node_own key s directives key_place key_indicators.cursor in
       let value_indicators = render_place s value_place false key_own.cursor in
-      let value_own = node_own value s directives value_place value_indicators.cursor in
-      let sum = pair_length before.text key_indicators.text key_own.text value_indicators.text value_own.text in
-      let each = flow_pairs pairs s directives e cursor in
-      let one = flow_node key s directives (as_key (has_no_pairs pairs)) e key_indicators.cursor in
-      let other = flow_node value s directives (as_value simple) e value_indicators.cursor in
-      let key_indicator = flow_key_indicator s (has_no_pairs pairs) simple e before.cursor in
-      let value_indicator = flow_value_indicator s simple e key_own.cursor in
-      omega arith
+      let each = flow_node key s directives (as_key (has_no_pairs pairs)) e key_indicators.cursor in
+      let one = flow_node value s directives (as_value simple) e value_indicators.cursor in
+      let other = flow_pairs pairs s directives e cursor in
+      grind (arith, pair_length, flow_key_indicator, flow_value_indicator, each, one, other)
 
 -- In blocks
 
 -- a simple key holds no node
 simple_size : (canonical : Bool) (directives : List TagDirective) (n : Node) → is_simple canonical directives n ≡ true → size n ≡ 1
-simple_size canonical directives (alias_node name) h = refl
-simple_size canonical directives (scalar_node content) h = refl
-simple_size canonical directives (sequence_node start no_nodes) h = refl
-simple_size true directives (sequence_node start (nodes_and items last)) h = absurd (false≢true h)
-simple_size false directives (sequence_node start (nodes_and items last)) h = absurd (false≢true h)
-simple_size canonical directives (mapping_node start no_pairs) h = refl
-simple_size true directives (mapping_node start (pairs_and pairs key value)) h = absurd (false≢true h)
-simple_size false directives (mapping_node start (pairs_and pairs key value)) h = absurd (false≢true h)
+simple_size canonical directives n h = grind (arith, nat_tests, false≢true)
 
 -- an indicator on a new line
 line_indicator : (column : ℕ) (symbol : Text) (cursor : Cursor) → 1 ≤ length symbol
@@ -211,14 +191,9 @@ mutual
       → items_size items ≤ length (items_own items s directives false e cursor).text
   block_items no_nodes rules s directives e cursor leaves = omega arith
   block_items (nodes_and items last) rules s directives e cursor leaves =
-      let before = items_own items s directives false e cursor in
-      let symbols = render_then (new_line e before.cursor) (indicator (codes "-") true false true) in
-      let own = node_own last s directives (item_place items e) (indicator_cursor e) in
-      let sum = length_indicators before.text symbols.text own.text in
-      let each = block_items items rules s directives e cursor leaves.0 in
-      let one = block_node last rules s directives (item_place items e) (indicator_cursor e) leaves.1 in
-      let symbol = line_indicator e (codes "-") before.cursor (omega arith) in
-      omega arith
+      let each = block_node last rules s directives (item_place items e) (indicator_cursor e) leaves.1 in
+      let one = block_items items rules s directives e cursor leaves.0 in
+      grind (arith, length_indicators, line_indicator, each, one)
 
   block_pairs : (pairs : Pairs) (rules : Rules) (s : Effective) (directives : List TagDirective) (e : ℕ) (cursor : Cursor)
       → PairLeaves pairs rules s directives e

@@ -1,13 +1,12 @@
 -- Each line of a collection in flow after its first is deeper than the column around.
 use Rattle.yaml_base.proofs.Common.{suc, ℕ, ◌≤◌, if◌then◌else◌, Option, None, Some, codes, Bool, false, true, ◌&&◌, List, [], ◌++◌, ◌∷◌, refl, ◌≡◌, ap, ◌∙◌}
 use Rattle.yaml_base.proofs.Common.{arith, and_parts, false≢true, list_all, list_any, Text, is_tidy_character, Cursor, Rendered, render_nothing, render_then}
-use Rattle.yaml_base.proofs.Common.{new_line, space_if, indicator, ScalarStyle, any_style, plain, single_quoted, double_quoted, literal, folded, TagDirective}
-use Rattle.yaml_base.proofs.Common.{Scalar, Collection, scalar_tag, collection_tag, Node, alias_node, scalar_node, Nodes, sequence_node, Pairs, mapping_node}
-use Rattle.yaml_base.proofs.Common.{no_nodes, nodes_and, no_pairs, pairs_and, render_properties, render_alias, render_separation, render_body, choice_of}
-use Rattle.yaml_base.proofs.Common.{is_written_in_flow, Brackets, square, curly, empty_or_comma, render_end, entry_place, Role, as_root, as_item, as_key}
-use Rattle.yaml_base.proofs.Common.{as_value, Place, is_key, line_column, deeper, has_no_nodes, has_no_pairs, is_simple}
-use Rattle.yaml_base.proofs.Common.{is_simple_at, flow_break, opening_or_comma, render_flow_place, render_place, is_read_break, Effective}
-use Rattle.yaml_base.proofs.Common.{has_deep_lines, ends_white, has_clean_edges, is_tidy_style, is_tidy, double_inside, render_quote, name_read, is_break}
+use Rattle.yaml_base.proofs.Common.{new_line, space_if, indicator, ScalarStyle, TagDirective, Scalar, Collection, scalar_tag, collection_tag, Node, alias_node}
+use Rattle.yaml_base.proofs.Common.{scalar_node, Nodes, sequence_node, Pairs, mapping_node, no_nodes, nodes_and, no_pairs, pairs_and, render_properties}
+use Rattle.yaml_base.proofs.Common.{render_alias, render_separation, render_body, choice_of, is_written_in_flow, Brackets, square, curly, empty_or_comma}
+use Rattle.yaml_base.proofs.Common.{render_end, entry_place, Role, as_item, as_key, as_value, Place, is_key, line_column, deeper, has_no_nodes, has_no_pairs}
+use Rattle.yaml_base.proofs.Common.{is_simple, is_simple_at, flow_break, opening_or_comma, render_flow_place, render_place, is_read_break, Effective}
+use Rattle.yaml_base.proofs.Common.{has_deep_lines, ends_white, has_clean_edges, is_tidy_style, is_tidy, name_read, is_break, nat_tests}
 use Rattle.yaml_base.proofs.{stream_flow.StreamPropertyWords.lead, stream_lines.StreamClosed.spaces_line, stream_lines.StreamLineLaws.OneLine}
 use Rattle.yaml_base.proofs.{stream_lines.StreamLineLaws.one_line_both, stream_lines.StreamTidyLaws.deep_lines_fewer, stream_nodes.StreamAliasFits.name_line}
 use Rattle.yaml_base.proofs.{stream_nodes.StreamBegun.lead_line, stream_nodes.StreamLeads.lead_rendered, stream_nodes.StreamLeads.tag_is_written}
@@ -43,13 +42,7 @@ clean_shown breaks12 (c ∷ t) h = grind (arith, and_parts, false≢true)
 body_shown : (s : Effective) (style : ScalarStyle) (limit : Option ℕ) (indent : ℕ) (value : Text) (cursor : Cursor) → is_flow_style style ≡ true
     → is_tidy_style style s.breaks12 (render_body style s limit indent value cursor).text ≡ true
     → ends_white s.breaks12 (render_body style s limit indent value cursor).text ≡ false
-body_shown s plain limit indent value cursor flow tidy = grind (arith, clean_shown, and_parts)
-body_shown s single_quoted limit indent value cursor flow tidy = grind (arith, ends_as_last, break_line s.breaks12 0x27 refl)
-body_shown s double_quoted limit indent value cursor flow tidy =
-    ends_as_last s.breaks12 (0x22 ∷ (double_inside s.unicode limit indent None value (render_quote cursor).cursor).text) 0x22 ∙ break_line s.breaks12 0x22 refl
-body_shown s any_style limit indent value cursor flow tidy = absurd (false≢true tidy)
-body_shown s literal limit indent value cursor flow tidy = absurd (false≢true flow)
-body_shown s folded limit indent value cursor flow tidy = absurd (false≢true flow)
+body_shown s style limit indent value cursor h h2 = grind (arith, nat_tests, clean_shown, and_parts, ends_as_last, break_line, false≢true)
 
 -- the lines of such a body are deep
 body_deep : (s : Effective) (style : ScalarStyle) (limit : Option ℕ) (count indent column : ℕ) (value : Text) (cursor : Cursor) → count ≤ suc column
@@ -68,9 +61,7 @@ body_deep s style limit count indent column value cursor le flow tidy =
 pub indicator_deep : (breaks12 : Bool) (count : ℕ) (symbol : Text) (need white indented : Bool) (cursor : Cursor)
     → list_any is_break symbol ≡ false
     → Deep breaks12 count (indicator symbol need white indented cursor).text
-indicator_deep breaks12 count symbol need white indented cursor one =
-    deep_line breaks12 count (space_if need cursor ++ symbol)
-    (one_line_both breaks12 (space_if need cursor) symbol (space_line breaks12 need cursor) (unbroken_line breaks12 symbol one))
+indicator_deep breaks12 count symbol need white indented cursor one = grind (arith, deep_line, one_line_both, space_line, unbroken_line)
 
 -- a new line where one is too long
 break_deep : (s : Effective) (count column : ℕ) (cursor : Cursor) → count ≤ column → Deep s.breaks12 count (flow_break s (Some column) cursor).text
@@ -92,11 +83,7 @@ begin_deep s count column bracket false cursor le one =
 -- the indicators of a place in flow
 place_deep : (s : Effective) (count column : ℕ) (role : Role) (simple : Bool) (cursor : Cursor) → count ≤ column
     → Deep s.breaks12 count (render_flow_place s role simple (Some column) cursor).text
-place_deep s count column as_root simple cursor le = refl
-place_deep s count column (as_item first) simple cursor le = begin_deep s count column (codes "[") first cursor le refl
-place_deep s count column (as_key first) simple cursor le = grind (arith, deep_both, begin_deep, indicator_deep)
-place_deep s count column (as_value true) simple cursor le = indicator_deep s.breaks12 count (codes ":") false false false cursor refl
-place_deep s count column (as_value false) simple cursor le = grind (arith, deep_both, break_deep, indicator_deep)
+place_deep s count column role simple cursor h = grind (arith, nat_tests, begin_deep, deep_both, indicator_deep, break_deep)
 
 -- the end of a collection at a column
 end_deep : (s : Effective) (count : ℕ) (brackets : Brackets) (empty : Bool) (column : Option ℕ) (cursor : Cursor)

@@ -1,10 +1,8 @@
 -- A line that begins with the bracket of a collection in flow, after its properties, holds no simple key, so it begins no mapping
 -- in a block.
-use Rattle.yaml_base.proofs.Common.{nat_tests, arith, ℕ, if◌then◌else◌, ◌==◌, Option, None, Bool, false}
-use Rattle.yaml_base.proofs.Common.{true, [], ◌++◌, ◌∷◌, refl, ◌≡◌, append_assoc, ap, ◌∙◌, and_parts, false≢true, Text, plain}
-use Rattle.yaml_base.proofs.Common.{read_plain, ParsedTag, begins_with_indicator}
-use Rattle.yaml_base.proofs.Common.{key_of_text, begins_text, kind_of_node, Rules, Properties}
-use Rattle.yaml_base.proofs.Common.{scalar_of_style, empty_sequence, empty_mapping, a_scalar, word_by_kind, word_after, subst, sym}
+use Rattle.yaml_base.proofs.Common.{nat_tests, arith, ℕ, if◌then◌else◌, ◌==◌, Option, None, Bool, false, true, [], ◌++◌, ◌∷◌, refl, ◌≡◌, append_assoc, ap, ◌∙◌}
+use Rattle.yaml_base.proofs.Common.{and_parts, false≢true, Text, plain, read_plain, ParsedTag, begins_with_indicator, key_of_text, begins_text, kind_of_node}
+use Rattle.yaml_base.proofs.Common.{Rules, Properties, scalar_of_style, empty_sequence, empty_mapping, a_scalar, word_by_kind, word_after}
 use Rattle.yaml_base.proofs.{stream_flow.StreamPropertyWords.lead, stream_nodes.StreamOwnTexts.own_kind, stream_nodes.StreamProperties.begins_content}
 use Rattle.yaml_base.proofs.stream_flow.StreamFlowWords.{opens_inside, Given}
 use Rattle.yaml_base.proofs.{stream_keys.StreamKeys.none_parsed, stream_keys.StreamKeyReads.lead_no_text}
@@ -69,11 +67,9 @@ bracket_nowhere : (rules : Rules) (anchor tag : Option Text) (parsed : Option Pa
     → Given rules anchor tag parsed → keeps_open (b ++ t) ≡ true
     → KeyNowhere rules (lead anchor tag ++ (opening q ∷ b)) t
 bracket_nowhere rules anchor tag parsed q b [] given h = tt
-bracket_nowhere rules anchor tag parsed q b (x ∷ t) given h = (
-  λ e. no_key_text rules anchor tag parsed q b given (keeps_prefix b (x ∷ t) h),
-  subst (λ u. KeyNowhere rules u t) (sym (append_assoc (lead anchor tag) (opening q ∷ b) (x ∷ [])))
-      (bracket_nowhere rules anchor tag parsed q (b ++ (x ∷ [])) t given (ap keeps_open (append_assoc b (x ∷ []) t) ∙ h)),
-)
+bracket_nowhere rules anchor tag parsed q b (x ∷ t) given h =
+    let each = bracket_nowhere rules anchor tag parsed q (b ++ (x ∷ [])) t given (ap keeps_open (append_assoc b (x ∷ []) t) ∙ h) in
+    grind (arith, no_key_text, keeps_prefix, append_assoc, each)
 
 -- Kinds
 

@@ -1,11 +1,10 @@
 -- The entries of a collection in flow, one after another, where each of its nodes is read in flow.
-use Rattle.yaml_base.proofs.Common.{ℕ, ◌==◌, Option, None, Bool, false, true, ◌||◌, List, [], ◌++◌, ◌∷◌, refl, ◌≡◌, append_assoc, ap, sym, ◌∙◌}
-use Rattle.yaml_base.proofs.Common.{and_parts, Text, line_feed, space, Cursor, Rendered, space_if, as_value, flow_break, key_indicator}
-use Rattle.yaml_base.proofs.Common.{render_flow_place, Effective, Tree, Trees, TreePairs, trees_and, tree_pairs_and, no_key, key_due, key_held, OpenFlow}
-use Rattle.yaml_base.proofs.Common.{in_sequence, in_mapping, entry_awaited, node_awaited, comma_awaited, within}
-use Rattle.yaml_base.proofs.Common.{level_opened, Rules, is_flow_indicator, class_of}
-use Rattle.yaml_base.proofs.stream_flow.{StreamFlowWords.opens_inside, StreamPlainWords.ends_by, StreamPlainWords.ends_word, StreamTakes.TakesBytes}
-use Rattle.yaml_base.proofs.stream_flow.{StreamTakes.takes_both, StreamWhites.line_feed_class}
+use Rattle.yaml_base.proofs.Common.{ℕ, ◌==◌, Option, None, Bool, false, true, ◌||◌, List, [], ◌++◌, ◌∷◌, refl, ◌≡◌, append_assoc, ap, sym, ◌∙◌, and_parts}
+use Rattle.yaml_base.proofs.Common.{Text, line_feed, space, Cursor, Rendered, space_if, as_value, flow_break, key_indicator, render_flow_place, Effective}
+use Rattle.yaml_base.proofs.Common.{Tree, Trees, TreePairs, trees_and, tree_pairs_and, no_key, key_due, key_held, OpenFlow, in_sequence, in_mapping}
+use Rattle.yaml_base.proofs.Common.{entry_awaited, node_awaited, comma_awaited, within, level_opened, Rules, is_flow_indicator, class_of, arith}
+use Rattle.yaml_base.proofs.stream_flow.{StreamFlowWords.opens_inside, StreamPlainWords.ends_word, StreamTakes.TakesBytes, StreamTakes.takes_both}
+use Rattle.yaml_base.proofs.stream_flow.{StreamWhites.line_feed_class}
 use Rattle.yaml_base.proofs.stream_flow.StreamFlowTakes.{FlowNode, FlowEntries, opens_more, white_opens}
 use Rattle.yaml_base.proofs.stream_flow.StreamPasses.{passes_both, passes_then, takes_text, passes_comma, passes_colon, passes_late_colon, passes_question}
 use Rattle.yaml_base.proofs.stream_flow.StreamPasses.{passes_node_space, is_white_text, passes_entry_white, passes_colon_white, flow_break_white, space_white}
@@ -47,10 +46,7 @@ white_indicator_ends : (breaks12 : Bool) (white : Text) (c : ℕ) (text : Text) 
 white_indicator_ends breaks12 [] c text h class rest k = indicator_ends breaks12 c text class rest k
 white_indicator_ends breaks12 (d ∷ white) c text h class rest k =
     let parts = and_parts (d == space || d == line_feed) (is_white_text white) h in
-    white_either (λ d. ends_word breaks12 ((d ∷ (white ++ (c ∷ text))) ++ rest) ≡ ends_word breaks12 ((white ++ (c ∷ text)) ++ rest)) d
-    (ap (λ w. ends_by w (ends_word breaks12 ((white ++ (c ∷ text)) ++ rest))) (class_fixed breaks12 space refl))
-    (ap (λ w. ends_by w (ends_word breaks12 ((white ++ (c ∷ text)) ++ rest))) (line_feed_class breaks12)) parts.0
-    ∙ white_indicator_ends breaks12 white c text parts.1 class rest k
+    grind (arith, and_parts, white_either, class_fixed, line_feed_class, white_indicator_ends breaks12 white c text parts.1 class rest k)
 
 -- the level of a mapping after a pair
 abbrev after_pair : Option Text → Option Text → TreePairs → Tree → Tree → OpenFlow

@@ -26,9 +26,6 @@ pub passes_then : {rules : Rules} {from through to : FlowReading} {a b : Text} �
 passes_then one two = grind (arith, append_assoc)
 
 -- equal texts take the reader to equal places
-pub passes_text : {rules : Rules} {from to : FlowReading} {a b : Text} → a ≡ b → Passes rules from b to → Passes rules from a to
-passes_text e one = grind (arith)
-
 pub takes_text : {rules : Rules} {from to : FlowReading} {a b : Text} → a ≡ b → TakesBytes rules from b to → TakesBytes rules from a to
 takes_text e one = grind (arith)
 

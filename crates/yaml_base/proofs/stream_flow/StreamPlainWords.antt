@@ -1,11 +1,11 @@
 -- Plain text is one word among the tokens of flow, before white space and a flow indicator.
-use Rattle.yaml_base.proofs.Common.{nat_tests, arith, ℕ, ◌==◌, Some, codes, Bool, false, not, true, ◌&&◌, ◌||◌, List, [], map, ◌++◌, ◌∷◌}
-use Rattle.yaml_base.proofs.Common.{refl, ◌≡◌, true≢false, append-nil, append_assoc, ap, ◌∙◌, and_parts, or_parts, false≢true, map-append, list_all, Text}
-use Rattle.yaml_base.proofs.Common.{is_among, is_read_white, begins_white, begins_with_hash, holds_no_plain, read_plain}
-use Rattle.yaml_base.proofs.Common.{ends_white, has_clean_edges, FlowToken, word, free, FlowStep, FlowClass, is_white_blank, is_white_break, is_flow_indicator}
-use Rattle.yaml_base.proofs.Common.{begins_bracket, class_of, begun_token, flow_tokens, not-true}
+use Rattle.yaml_base.proofs.Common.{nat_tests, arith, ℕ, ◌==◌, Some, codes, Bool, false, not, true, ◌&&◌, ◌||◌, List, [], map, ◌++◌, ◌∷◌, refl, ◌≡◌}
+use Rattle.yaml_base.proofs.Common.{true≢false, append-nil, append_assoc, ap, ◌∙◌, and_parts, or_parts, false≢true, map-append, list_all, Text, is_among}
+use Rattle.yaml_base.proofs.Common.{is_read_white, begins_white, begins_with_hash, holds_no_plain, read_plain, ends_white, has_clean_edges, FlowToken, word}
+use Rattle.yaml_base.proofs.Common.{free, FlowStep, FlowClass, is_white_blank, is_white_break, is_flow_indicator, begins_bracket, class_of, flow_tokens}
+use Rattle.yaml_base.proofs.Common.{not-true}
 use Rattle.yaml_base.proofs.{stream_flow.StreamWords.GivesWord}
-use Rattle.yaml_base.specs.streams.StreamTokens.{in_plain, white_of_class, white_token, plain_step}
+use Rattle.yaml_base.specs.streams.StreamTokens.{in_plain, white_token, plain_step}
 use Rattle.yaml_base.proofs.stream_keys.StreamPlainKeys.{reads_plain}
 
 -- a character of a class ends a word, where white space does if what follows it does
@@ -29,32 +29,7 @@ white_tokens breaks12 white = map (white_token breaks12) white
 plain_ends : (breaks12 : Bool) (text white rest : Text) → ends_word breaks12 rest ≡ true
     → flow_tokens breaks12 (in_plain text white) rest ≡ word text ∷ (white_tokens breaks12 white ++ flow_tokens breaks12 free rest)
 plain_ends breaks12 text white [] h = absurd (false≢true h)
-plain_ends breaks12 text white (c ∷ rest) h = by (class_of breaks12 c) refl h (plain_ends breaks12 text (white ++ (c ∷ [])) rest)
-  where
-    one_more : (class : FlowClass) (token : FlowToken) → class_of breaks12 c ≡ class → white_of_class class ≡ token
-        → white_tokens breaks12 (white ++ (c ∷ [])) ++ flow_tokens breaks12 free rest ≡ white_tokens breaks12 white ++ (token ∷ flow_tokens breaks12 free rest)
-    one_more class token e same =
-        ap (λ t. t ++ flow_tokens breaks12 free rest) (map-append (white_token breaks12) white (c ∷ []))
-        ∙ append_assoc (white_tokens breaks12 white) (white_token breaks12 c ∷ []) (flow_tokens breaks12 free rest)
-        ∙ ap (λ t. white_tokens breaks12 white ++ (t ∷ flow_tokens breaks12 free rest)) (ap white_of_class e ∙ same)
-
-    by : (class : FlowClass) → class_of breaks12 c ≡ class → ends_by class (ends_word breaks12 rest) ≡ true
-        → (ends_word breaks12 rest ≡ true
-        → flow_tokens breaks12 (in_plain text (white ++ (c ∷ []))) rest
-        ≡ word text ∷ (white_tokens breaks12 (white ++ (c ∷ [])) ++ flow_tokens breaks12 free rest))
-        → (let here : FlowStep = plain_step class breaks12 text white c in here.tokens ++ flow_tokens breaks12 here.place rest)
-        ≡ word text ∷ (white_tokens breaks12 white ++ (let here : FlowStep = begun_token class [] c in here.tokens ++ flow_tokens breaks12 here.place rest))
-    by is_white_blank e h ih = ih h ∙ ap (λ t. word text ∷ t) (one_more is_white_blank (white_of_class is_white_blank) e refl)
-    by is_white_break e h ih = ih h ∙ ap (λ t. word text ∷ t) (one_more is_white_break (white_of_class is_white_break) e refl)
-    by is_flow_indicator e h ih =
-        ap (λ t. word text ∷ t)
-        (append_assoc (white_tokens breaks12 white) (begun_token is_flow_indicator [] c).tokens
-        (flow_tokens breaks12 (begun_token is_flow_indicator [] c).place rest))
-    by begins_bracket e h ih =
-        ap (λ t. word text ∷ t)
-        (append_assoc (white_tokens breaks12 white) (begun_token begins_bracket [] c).tokens
-        (flow_tokens breaks12 (begun_token begins_bracket [] c).place rest))
-    by class e h ih = absurd (false≢true h)
+plain_ends breaks12 text white (c ∷ rest) h = grind (arith, map-append, append_assoc, plain_ends breaks12 text (white ++ (c ∷ [])) rest)
 
 -- a class of characters that plain text goes on over
 abbrev pub stays_plain : FlowClass → Bool

@@ -39,10 +39,7 @@ rest_passes : (breaks12 : Bool) (before text rest : Text) → holds_white text �
 rest_passes breaks12 before [] rest h = ap (λ t. flow_tokens breaks12 (in_property t) rest) (sym (append-nil before))
 rest_passes breaks12 before (c ∷ text) rest h =
     let parts = or_parts (is_blank c || is_break c) (holds_white text) h in
-    ap (λ (here : FlowStep). here.tokens ++ flow_tokens breaks12 here.place (text ++ rest))
-    (property_passes (class_of breaks12 c) before c (not_white breaks12 c parts.0))
-    ∙ rest_passes breaks12 (before ++ (c ∷ [])) text rest parts.1
-    ∙ ap (λ t. flow_tokens breaks12 (in_property t) rest) (append_assoc before (c ∷ []) text)
+    grind (arith, or_parts, property_passes, not_white, append_assoc, rest_passes breaks12 (before ++ (c ∷ [])) text rest parts.1)
 
 -- where it begins, between tokens or after another
 begin_property : (breaks12 : Bool) (c : ℕ) (rest : Text) → class_of breaks12 c ≡ begins_property
@@ -97,9 +94,7 @@ begins_own _ = false
 begun_with : (breaks12 : Bool) (before : Text) (c : ℕ) (rest : Text) (class : FlowClass) → class_of breaks12 c ≡ class → begins_own class ≡ true
     → flow_tokens breaks12 (lead_place before) (c ∷ rest)
     ≡ (let here : FlowStep = begun_token class before c in here.tokens ++ flow_tokens breaks12 here.place rest)
-begun_with breaks12 [] c rest class e own =
-    ap (λ class. (let here : FlowStep = begun_token class [] c in here.tokens ++ flow_tokens breaks12 here.place rest)) e
-begun_with breaks12 (x ∷ before) c rest class e own = grind (arith, false≢true)
+begun_with breaks12 before c rest class h h2 = grind (arith, nat_tests, false≢true)
 
 -- a text is passed by the tokens, to where what follows it begins a word with it
 abbrev pub Leads : Bool → Text → Type 0

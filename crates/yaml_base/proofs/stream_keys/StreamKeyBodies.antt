@@ -1,13 +1,13 @@
 -- The body of a simple key: its value has no break and no fold stands in it, so that its text is the value's characters, each as
 -- its style writes it, on one line.
-use Rattle.yaml_base.proofs.Common.{suc, zero, ℕ, ◌/◌, if◌then◌else◌, ◌==◌, Option, None, Some, nat_le, Bool, false, not, true, ◌&&◌, ◌||◌, List, []}
-use Rattle.yaml_base.proofs.Common.{◌++◌, ◌∷◌, refl, ◌≡◌, eqb-true, append-nil, append_assoc, ap, sym, ◌∙◌, arith, and_parts, or_parts, agree_below_at}
-use Rattle.yaml_base.proofs.Common.{false≢true, nat_tests, flat_map, list_any, Text, space, is_space, is_break, hex_digits, Cursor, render_then, and-false}
-use Rattle.yaml_base.proofs.Common.{ScalarStyle, any_style, plain, single_quoted, double_quoted, literal, folded, render_body, Effective}
-use Rattle.yaml_base.proofs.Common.{short_escapes, letter_among, escape_after_backslash, escape_text, needs_escape, character_text, double_inside}
-use Rattle.yaml_base.proofs.Common.{render_quote, runs, render_runs, quotes_doubled, single_quote}
+use Rattle.yaml_base.proofs.Common.{suc, zero, ℕ, ◌/◌, if◌then◌else◌, ◌==◌, Option, None, Some, nat_le, Bool, false, not, true, ◌&&◌, ◌||◌, List, [], ◌++◌}
+use Rattle.yaml_base.proofs.Common.{◌∷◌, refl, ◌≡◌, eqb-true, append-nil, append_assoc, ap, sym, ◌∙◌, arith, and_parts, or_parts, agree_below_at, false≢true}
+use Rattle.yaml_base.proofs.Common.{nat_tests, flat_map, list_any, Text, space, is_space, is_break, hex_digits, Cursor, and-false, ScalarStyle, any_style}
+use Rattle.yaml_base.proofs.Common.{plain, single_quoted, double_quoted, literal, folded, render_body, Effective, short_escapes, letter_among}
+use Rattle.yaml_base.proofs.Common.{escape_after_backslash, escape_text, needs_escape, character_text, double_inside, render_quote, runs, render_runs}
+use Rattle.yaml_base.proofs.Common.{quotes_doubled, single_quote}
 use Rattle.yaml_base.{proofs.stream_flow.StreamFlowScalars.is_flow_style, specs.Cursor.render_text}
-use Rattle.yaml_base.specs.scalars.DoubleQuoted.{quote, ShortEscape, may_fold, double_fold}
+use Rattle.yaml_base.specs.scalars.DoubleQuoted.{quote, ShortEscape}
 use Rattle.yaml_base.specs.scalars.Plain.{Run, cons_run, run_text}
 
 -- Without folds
@@ -41,9 +41,7 @@ written_alone : (written : Text → Text) (one : ℕ → Text) (writes : Writes 
 written_alone written one writes indent [] h = sym writes.nothing
 written_alone written one writes indent (c ∷ value) h =
     let parts = or_parts (is_break c) (list_any is_break value) h in
-    run_joined written one writes indent c (runs value) parts.0
-    ∙ ap (λ t. one c ++ t) (written_alone written one writes indent value parts.1)
-    ∙ sym (writes.more c value)
+    grind (arith, or_parts, run_joined, written_alone written one writes indent value parts.1)
 
 runs_alone : (written : Text → Text) (one : ℕ → Text) (writes : Writes written one) (indent : ℕ) (value : Text) (cursor : Cursor)
     → list_any is_break value ≡ false → (render_runs written None indent true (runs value) cursor).text ≡ written value
@@ -66,9 +64,7 @@ double_alone : (unicode : Bool) (indent : ℕ) (before : Option ℕ) (value : Te
     → (double_inside unicode None indent before value cursor).text ≡ flat_map (character_text unicode) value
 double_alone unicode indent before [] cursor = refl
 double_alone unicode indent before (c ∷ value) cursor =
-    ap (λ x. (render_then (if x then double_fold indent value cursor else render_text (character_text unicode c) cursor)
-    (double_inside unicode None indent (Some c) value)).text) (and-false (is_space c && may_fold before value))
-    ∙ ap (λ t. character_text unicode c ++ t) (double_alone unicode indent (Some c) value (render_text (character_text unicode c) cursor).cursor)
+    grind (arith, and-false, double_alone unicode indent (Some c) value (render_text (character_text unicode c) cursor).cursor)
 
 -- the body of a simple key
 abbrev pub key_body : ScalarStyle → (unicode : Bool) → Text → Text
@@ -115,17 +111,7 @@ unbroken_letter : (table : List ShortEscape) (c : ℕ) → unbroken_letters tabl
 unbroken_letter [] c h letter e = cc
 unbroken_letter (entry ∷ more) c h letter e =
     let parts = and_parts (not (is_break entry.letter)) (unbroken_letters more) h in
-    by (c == entry.character) (no_break (is_break entry.letter) parts.0) (unbroken_letter more c parts.1 letter) e
-  where
-    no_break : (x : Bool) → not x ≡ true → (x || false) ≡ false
-    no_break true h = absurd (false≢true h)
-    no_break false h = refl
-
-    by : (b : Bool) → list_any is_break (entry.letter ∷ []) ≡ false
-        → (letter_among more c ≡ Some letter → list_any is_break (letter ∷ []) ≡ false)
-        → (if b then Some entry.letter else letter_among more c) ≡ Some letter → list_any is_break (letter ∷ []) ≡ false
-    by true here later e = let same : entry.letter ≡ letter = cc in rw (← same) here
-    by false here later e = later e
+    grind (arith, and_parts, false≢true, unbroken_letter more c parts.1 letter)
 
 -- nor are digits
 unbroken_digits : (count n : ℕ) → list_any is_break (hex_digits count n) ≡ false

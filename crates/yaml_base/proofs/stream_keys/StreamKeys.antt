@@ -28,17 +28,7 @@ key_found rules before [] after key clear read h =
     nothing_after [] = refl
     nothing_after (c ∷ t) = ap (λ s. c ∷ s) (nothing_after t)
 key_found rules before (c ∷ t) after key clear read h =
-    by (c == 0x3A && ends_indicator (t ++ (0x3A ∷ after))) clear.0
-    ∙ key_found rules (before ++ (c ∷ [])) t after key clear.1 (ap (key_of_text rules) (append_assoc before (c ∷ []) t) ∙ read) h
-    ∙ ap (λ s. found key s after) (append_assoc before (c ∷ []) t)
-  where
-    by : (x : Bool) → (x ≡ true → key_of_text rules before ≡ None)
-        → option_or (key_ends rules x before (t ++ (0x3A ∷ after))) (key_from rules (before ++ (c ∷ [])) (t ++ (0x3A ∷ after)))
-        ≡ key_from rules (before ++ (c ∷ [])) (t ++ (0x3A ∷ after))
-    by true none =
-        ap (λ x. option_or (option_map (λ k. record { key = k; length = length before; after = t ++ (0x3A ∷ after) }) x)
-        (key_from rules (before ++ (c ∷ [])) (t ++ (0x3A ∷ after)))) (none refl)
-    by false none = refl
+    grind (arith, append_assoc, key_found rules (before ++ (c ∷ [])) t after key clear.1 (ap (key_of_text rules) (append_assoc before (c ∷ []) t) ∙ read) h)
 
 -- nothing is said of no value
 pub none_parsed : (properties : Properties) (standing : Stood) (x : Bool) → ◌≡◌ {A = Option Tree} (scalar_parsed properties standing (if x then None else None)) None

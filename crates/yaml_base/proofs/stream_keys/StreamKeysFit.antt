@@ -1,12 +1,10 @@
 -- Simple keys in flow: the text of each is on one line and isn't too long.
-use Rattle.yaml_base.proofs.Common.{suc, ℕ, ◌+◌, ◌≤◌, None, Some, length, Bool, false, not, true, ◌&&◌, List, [], ◌++◌}
-use Rattle.yaml_base.proofs.Common.{◌∷◌, refl, ◌≡◌, le-leb, leb-true, length-append, append-nil, append_assoc, ap, subst, sym, ◌∙◌, arith, and_parts}
-use Rattle.yaml_base.proofs.Common.{and_from, false≢true, length-le-encodes, list_any, Text, space, is_break, Cursor, space_if, ScalarStyle}
-use Rattle.yaml_base.proofs.Common.{TagDirective, Scalar, Collection, scalar_tag, collection_tag, alias_node}
-use Rattle.yaml_base.proofs.Common.{scalar_node, sequence_node, mapping_node, no_nodes, nodes_and, no_pairs, pairs_and, render_properties, render_alias}
-use Rattle.yaml_base.proofs.Common.{render_separation, render_body, choice_of, entry_place, Role, is_key, deeper, byte_count, name_count}
-use Rattle.yaml_base.proofs.Common.{tag_count, is_short, is_simple, most_key_bytes, Effective, Allowances}
-use Rattle.yaml_base.proofs.Common.{fitting_style, fits_plain, requested_style, style_asked_at, allowed_under, is_empty, is_some, and-false, ◌||◌, Tree}
+use Rattle.yaml_base.proofs.Common.{suc, ℕ, ◌+◌, ◌≤◌, None, Some, length, Bool, false, not, true, ◌&&◌, List, [], ◌++◌, ◌∷◌, refl, ◌≡◌, le-leb, leb-true}
+use Rattle.yaml_base.proofs.Common.{length-append, append-nil, append_assoc, ap, subst, sym, ◌∙◌, arith, and_parts, and_from, false≢true, length-le-encodes}
+use Rattle.yaml_base.proofs.Common.{list_any, Text, space, is_break, Cursor, space_if, ScalarStyle, TagDirective, Scalar, Collection, scalar_tag}
+use Rattle.yaml_base.proofs.Common.{collection_tag, alias_node, scalar_node, sequence_node, mapping_node, no_nodes, nodes_and, no_pairs, pairs_and}
+use Rattle.yaml_base.proofs.Common.{render_properties, render_alias, render_separation, render_body, choice_of, entry_place, Role, is_key, deeper, byte_count}
+use Rattle.yaml_base.proofs.Common.{name_count, tag_count, is_short, is_simple, most_key_bytes, Effective, Allowances, fitting_style, and-false, Tree}
 use Rattle.yaml_base.proofs.Common.{longest_key, is_key_text, name_read}
 use Rattle.std.proofs.lemmas.List.{append_cancel_left, append_cancel_right}
 use Rattle.yaml_base.{proofs.stream_keys.StreamKeyLengths.body_length, proofs.stream_keys.StreamKeyLengths.lead_length}
@@ -37,12 +35,7 @@ style_of_key allowed fits block asked h = grind (arith)
 -- the style of a simple key
 pub key_style : (s : Effective) (in_flow : Bool) (role : Role) (column : ℕ) (content : Scalar)
     → is_flow_style (choice_of s (entry_place in_flow role column) true content).style ≡ true
-key_style s in_flow role column content =
-    let allowed = allowed_under s content in
-    style_of_key allowed (fits_plain allowed (is_empty content.value) (is_some (scalar_tag s.canonical content)) content.plain_implicit in_flow true)
-    (allowed.block && not in_flow && false)
-    (requested_style (s.canonical || (true && allowed.multiline)) (style_asked_at s (entry_place in_flow role column) content))
-    (and-false (allowed.block && not in_flow))
+key_style s in_flow role column content = grind (arith, style_of_key, and-false)
 
 -- Scalars
 

@@ -1,8 +1,8 @@
 -- A plain simple key is found where its text ends, before the `:` that follows it.
 use Rattle.yaml_base.proofs.Common.{arith, nat_tests, ℕ, if◌then◌else◌, ◌==◌, None, Some, codes, Bool, false, true, ◌&&◌, ◌||◌, [], map, ◌++◌, ◌∷◌, refl, ◌≡◌}
-use Rattle.yaml_base.proofs.Common.{eqb-true, true≢false, ap, sym, ◌∙◌, and_parts, or_parts, false≢true, Text, is_among, space, plain, unit_of, folding_read}
-use Rattle.yaml_base.proofs.Common.{is_read_white, begins_white, begins_no_plain, begins_with_hash, holds_no_plain, read_plain, is_tidy, ends_indicator, Rules}
-use Rattle.yaml_base.proofs.Common.{style_of_first_character, a_scalar, kind_of_word}
+use Rattle.yaml_base.proofs.Common.{eqb-true, true≢false, and_parts, or_parts, false≢true, Text, is_among, space, plain, unit_of, folding_read, is_read_white}
+use Rattle.yaml_base.proofs.Common.{begins_white, begins_no_plain, begins_with_hash, holds_no_plain, read_plain, is_tidy, Rules, style_of_first_character}
+use Rattle.yaml_base.proofs.Common.{a_scalar, kind_of_word}
 use Rattle.yaml_base.proofs.{stream_keys.StreamKeys.NoKey, stream_lines.StreamCuts.none_not_some}
 
 -- a character outside a set is none of the set's
@@ -40,18 +40,7 @@ plain_no_key rules before [] after h = tt
 plain_no_key rules before (c ∷ t) after h =
     let parts = or_parts ((c == 58 && begins_white rules.breaks12 t) || (is_read_white rules.breaks12 c && begins_with_hash t) || false)
     (holds_no_plain rules.breaks12 false t) h in
-    let symbol = or_parts ((c == 58 && begins_white rules.breaks12 t) || (is_read_white rules.breaks12 c && begins_with_hash t)) false parts.0 in
-    let colon = or_parts (c == 58 && begins_white rules.breaks12 t) (is_read_white rules.breaks12 c && begins_with_hash t) symbol.0 in (
-      (λ e. absurd (no_end t (and_parts (c == 0x3A) (ends_indicator (t ++ (0x3A ∷ after))) e).0
-          (and_parts (c == 0x3A) (ends_indicator (t ++ (0x3A ∷ after))) e).1 colon.0)),
-      plain_no_key rules (before ++ (c ∷ [])) t after parts.1,
-    )
-  where
-    no_end : (t : Text) → (c == 0x3A) ≡ true → ends_indicator (t ++ (0x3A ∷ after)) ≡ true → (c == 58 && begins_white rules.breaks12 t) ≡ false → ⊥
-    no_end [] e k colon = false≢true k
-    no_end (d ∷ t) e k colon =
-        true≢false
-        (ap (is_read_white rules.breaks12) (sym (eqb-true d space k)) ∙ ap (λ x. x && is_read_white rules.breaks12 d) (sym e) ∙ colon)
+    grind (arith, or_parts, and_parts, false≢true, true≢false, eqb-true, plain_no_key rules (before ++ (c ∷ [])) t after parts.1)
 
 -- what reads as plain begins so and holds no such indicator
 pub reads_plain : (breaks12 flow : Bool) (c : ℕ) (t v : Text) → read_plain breaks12 flow (c ∷ t) ≡ Some v

@@ -25,7 +25,7 @@ use Rattle.yaml_base.proofs.stream_keys.StreamKeysFit.{simple_collection}
 use Rattle.yaml_base.proofs.stream_nodes.StreamStands.{tag_written, tag_meant, TagStands, NamesStand, BodyStands}
 use Rattle.yaml_base.proofs.stream_nodes.StreamTexts.{scalar_own}
 use Rattle.yaml_base.proofs.stream_nodes.StreamAgrees.{plain_fits}
-use Rattle.yaml_base.proofs.Common.{word_after, option_map, is_break, list_any, is_among, codes, no_trees, no_tree_pairs, sequence_tree, mapping_tree}
+use Rattle.yaml_base.proofs.Common.{word_after, is_break, list_any, is_among, codes}
 use Rattle.yaml_base.proofs.stream_flow.StreamFlowWords.{tag_of_collection}
 use Rattle.yaml_base.proofs.stream_keys.StreamNoKeys.{nowhere_clear}
 
@@ -184,18 +184,10 @@ simple_keys_fit s own directives (scalar_node content) pairs e h names body =
     (λ stands. scalar_key_placed s own directives content pairs e (simple_scalar s.canonical directives content h) names stands)
     body
 simple_keys_fit s own directives (sequence_node start no_nodes) pairs e h names bodies =
-    let tag = collection_tag s.canonical start in
-    rw (empty_in_flow s (key_place pairs e) start)
-    (empty_key_fits s own directives start 0x5B 0x5D (sequence_tree start.anchor tag no_trees) (margin_cursor e) names.0 names.1
-    (simple_collection s.canonical true (name_count start.anchor + tag_count directives tag) h).1 refl refl refl refl refl refl refl
-    (ap (option_map (λ tag. sequence_tree start.anchor tag no_trees)) (tag_of_collection tag)) refl)
+    grind (arith, empty_in_flow, empty_key_fits, simple_collection, tag_of_collection)
 simple_keys_fit s own directives (sequence_node start (nodes_and items last)) pairs e h names bodies =
     absurd (false≢true (simple_collection s.canonical false 0 h).0)
 simple_keys_fit s own directives (mapping_node start no_pairs) pairs e h names bodies =
-    let tag = collection_tag s.canonical start in
-    rw (empty_in_flow s (key_place pairs e) start)
-    (empty_key_fits s own directives start 0x7B 0x7D (mapping_tree start.anchor tag no_tree_pairs) (margin_cursor e) names.0 names.1
-    (simple_collection s.canonical true (name_count start.anchor + tag_count directives tag) h).1 refl refl refl refl refl refl refl
-    (ap (option_map (λ tag. mapping_tree start.anchor tag no_tree_pairs)) (tag_of_collection tag)) refl)
+    grind (arith, empty_in_flow, empty_key_fits, simple_collection, tag_of_collection)
 simple_keys_fit s own directives (mapping_node start (pairs_and before key value)) pairs e h names bodies =
     absurd (false≢true (simple_collection s.canonical false 0 h).0)

@@ -1,11 +1,11 @@
 -- Texts after each of whose breaks something stands: another break, or spaces enough to stand deeper than a column.
-use Rattle.yaml_base.proofs.Common.{nat_tests, suc, zero, ℕ, ◌≤◌, ◌==◌, Bool, false, not, true, ◌&&◌, ◌||◌, List, [], ◌++◌, ◌∷◌, refl, ◌≡◌, ap, ◌∙◌, arith}
-use Rattle.yaml_base.proofs.Common.{and_parts, and_from, or_parts, false≢true, list_all, list_any, Text, line_feed, space, is_blank, Cursor, new_line, space_if}
-use Rattle.yaml_base.proofs.Common.{is_read_break, is_read_white, begins_with_spaces, begins_with_blank_line, begins_with_deep_line, has_deep_lines, ends_white}
-use Rattle.yaml_base.proofs.Common.{Line, prepend_character, lines_of, belongs_to_entry, spaces}
+use Rattle.yaml_base.proofs.Common.{nat_tests, suc, zero, ℕ, ◌≤◌, ◌==◌, Bool, false, not, true, ◌&&◌, ◌||◌, [], ◌++◌, ◌∷◌, refl, ◌≡◌, ap, ◌∙◌, arith}
+use Rattle.yaml_base.proofs.Common.{and_parts, and_from, or_parts, false≢true, list_all, list_any, Text, line_feed, space, is_blank, Cursor, new_line}
+use Rattle.yaml_base.proofs.Common.{space_if, is_read_break, is_read_white, begins_with_spaces, begins_with_deep_line, has_deep_lines, ends_white, lines_of}
+use Rattle.yaml_base.proofs.Common.{belongs_to_entry, spaces}
 use Rattle.yaml_base.{proofs.stream_lines.StreamInside.AllInside, proofs.stream_lines.StreamLineLaws.OneLine, specs.reading.TidyText.begins_with_break}
 use Rattle.yaml_base.proofs.stream_lines.StreamClosed.{spaces_line}
-use Rattle.yaml_base.proofs.stream_lines.StreamTidyLaws.{first_text, lines_after_first, after_extended, spaces_inside}
+use Rattle.yaml_base.proofs.stream_lines.StreamTidyLaws.{first_text, lines_after_first, spaces_inside}
 
 -- what stands after each break of a text passes a test
 abbrev pub after_breaks : Bool → (Text → Bool) → Text → Bool
@@ -36,12 +36,7 @@ pub after_both : (breaks12 : Bool) (test : Text → Bool) → Keeps test → (a 
 after_both breaks12 test keeps [] b h k = k
 after_both breaks12 test keeps (c ∷ a) b h k =
     let parts = and_parts (not (is_read_break breaks12 c) || test a) (after_breaks breaks12 test a) h in
-    and_from (not (is_read_break breaks12 c) || test (a ++ b)) (after_breaks breaks12 test (a ++ b)) (by (is_read_break breaks12 c) parts.0)
-    (after_both breaks12 test keeps a b parts.1 k)
-  where
-    by : (x : Bool) → (not x || test a) ≡ true → (not x || test (a ++ b)) ≡ true
-    by true h = keeps a b h
-    by false h = refl
+    grind (arith, and_parts, and_from, after_both breaks12 test keeps a b parts.1 k)
 
 -- what passes a test after each break passes a weaker one there
 pub after_weaker : (breaks12 : Bool) (test other : Text → Bool) → Implies test other → (t : Text) → after_breaks breaks12 test t ≡ true
@@ -49,12 +44,7 @@ pub after_weaker : (breaks12 : Bool) (test other : Text → Bool) → Implies te
 after_weaker breaks12 test other weaker [] h = refl
 after_weaker breaks12 test other weaker (c ∷ t) h =
     let parts = and_parts (not (is_read_break breaks12 c) || test t) (after_breaks breaks12 test t) h in
-    and_from (not (is_read_break breaks12 c) || other t) (after_breaks breaks12 other t) (by (is_read_break breaks12 c) parts.0)
-    (after_weaker breaks12 test other weaker t parts.1)
-  where
-    by : (x : Bool) → (not x || test t) ≡ true → (not x || other t) ≡ true
-    by true h = weaker t h
-    by false h = refl
+    grind (arith, and_parts, and_from, after_weaker breaks12 test other weaker t parts.1)
 
 -- a text without a break
 pub after_line_of : (breaks12 : Bool) (test : Text → Bool) (t : Text) → OneLine breaks12 t → after_breaks breaks12 test t ≡ true
@@ -108,17 +98,7 @@ deep_tidy breaks12 count (c ∷ []) h e =
     ap (λ x. (not x || begins_deep breaks12 count []) && true) (or_parts (is_blank c) (is_read_break breaks12 c) e).1
 deep_tidy breaks12 count (c ∷ d ∷ t) h e =
     let parts = and_parts (not (is_read_break breaks12 c) || begins_with_deep_line breaks12 count (d ∷ t)) (has_deep_lines breaks12 count (d ∷ t)) h in
-    and_from (not (is_read_break breaks12 c) || begins_deep breaks12 count (d ∷ t)) (after_breaks breaks12 (begins_deep breaks12 count) (d ∷ t))
-    (by (is_read_break breaks12 c) parts.0) (deep_tidy breaks12 count (d ∷ t) parts.1 e)
-  where
-    line : (y : Bool) → (y || (begins_with_spaces count (d ∷ t) && not (begins_with_blank_line breaks12 (d ∷ t)))) ≡ true
-        → (y || begins_with_spaces count (d ∷ t)) ≡ true
-    line true h = refl
-    line false h = (and_parts (begins_with_spaces count (d ∷ t)) (not (begins_with_blank_line breaks12 (d ∷ t))) h).0
-
-    by : (x : Bool) → (not x || begins_with_deep_line breaks12 count (d ∷ t)) ≡ true → (not x || begins_deep breaks12 count (d ∷ t)) ≡ true
-    by true h = line (is_read_break breaks12 d) h
-    by false h = refl
+    grind (arith, and_parts, and_from, deep_tidy breaks12 count (d ∷ t) parts.1 e)
 
 -- a text ends as its last character
 pub ends_as_last : (breaks12 : Bool) (t : Text) (c : ℕ) → ends_white breaks12 (t ++ (c ∷ [])) ≡ is_read_white breaks12 c
@@ -147,19 +127,7 @@ pub lines_pass : (breaks12 : Bool) (test line_test : Text → Bool)
 lines_pass breaks12 test line_test first [] h = refl
 lines_pass breaks12 test line_test first (c ∷ t) h =
     let parts = and_parts (not (is_read_break breaks12 c) || test t) (after_breaks breaks12 test t) h in
-    by (is_read_break breaks12 c) parts.0 (lines_pass breaks12 test line_test first t parts.1)
-  where
-    all : (lines : List Line) → line_test (first_text lines) ≡ true → list_all (λ line. line_test line.text) (lines_after_first lines) ≡ true
-        → list_all (λ line. line_test line.text) lines ≡ true
-    all [] h k = refl
-    all (line ∷ rest) h k = and_from (line_test line.text) (list_all (λ line. line_test line.text) rest) h k
-
-    by : (x : Bool) → (not x || test t) ≡ true
-        → list_all (λ line. line_test line.text) (lines_after_first (lines_of breaks12 (t ++ (line_feed ∷ [])))) ≡ true
-        → list_all (λ line. line_test line.text) (lines_after_first (prepend_character x c (lines_of breaks12 (t ++ (line_feed ∷ []))))) ≡ true
-    by true h all_after = all (lines_of breaks12 (t ++ (line_feed ∷ []))) (first t h) all_after
-    by false h all_after =
-        ap (list_all (λ line. line_test line.text)) (after_extended c (lines_of breaks12 (t ++ (line_feed ∷ [])))) ∙ all_after
+    grind (arith, and_parts, and_from, lines_pass breaks12 test line_test first t parts.1)
 
 -- so many spaces after a break begin a line inside the column before them
 pub deep_first : (breaks12 : Bool) (column : ℕ) (u : Text) → begins_deep breaks12 (suc column) u ≡ true

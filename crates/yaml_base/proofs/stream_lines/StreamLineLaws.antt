@@ -1,7 +1,6 @@
 -- The lines of texts one after another.
 use Rattle.yaml_base.proofs.Common.{nat_tests, arith, ℕ, Bool, false, true, ◌||◌, List, [], ◌++◌, ◌∷◌, refl, ◌≡◌, ap, sym, ◌∙◌, or_parts, or_from, list_any}
-use Rattle.yaml_base.proofs.Common.{Text, is_blank, space, tab, ◌==◌}
-use Rattle.yaml_base.proofs.Common.{is_read_break, is_read_white, is_space_or_break, Line, prepend_character, lines_of, text_of_lines, is_break}
+use Rattle.yaml_base.proofs.Common.{Text, is_read_break, is_read_white, is_space_or_break, Line, prepend_character, lines_of, text_of_lines, is_break}
 use Rattle.yaml_base.proofs.AllPass.{fewer_pass}
 
 -- a text is empty, or its last character is a break
@@ -12,9 +11,7 @@ is_closed breaks12 (c ∷ d ∷ rest) = is_closed breaks12 (d ∷ rest)
 
 -- what isn't white is no space and no break
 pub not_white : (breaks12 : Bool) (c : ℕ) → is_read_white breaks12 c ≡ false → is_space_or_break breaks12 c ≡ false
-not_white breaks12 c h =
-    let parts = or_parts (is_blank c) (is_read_break breaks12 c) h in
-    or_from (c == space) (is_read_break breaks12 c) (or_parts (c == space) (c == tab) parts.0).0 parts.1
+not_white breaks12 c h = grind (arith, or_parts, or_from)
 
 -- a text without a break
 abbrev pub OneLine : Bool → Text → Type 0

@@ -1,8 +1,7 @@
 -- No line of a block collection at the root is a document's marker.
-use Rattle.yaml_base.proofs.Common.{ℕ, Bool, false, true, List, [], ◌++◌, ◌∷◌, refl, ◌≡◌, eqb-true, ap, ◌∙◌, arith, and_parts}
-use Rattle.yaml_base.proofs.Common.{and_from, false≢true, list_all, Text, space, Rendered, TagDirective, Node, Nodes, Pairs, no_pairs, pairs_and, entry_place}
-use Rattle.yaml_base.proofs.Common.{Role, as_key, as_value, has_no_pairs, Effective, Tree, marker_of, Line, lines_of, ends_indicator}
-use Rattle.yaml_base.proofs.Common.{belongs_to_entry, spaces, Rules}
+use Rattle.yaml_base.proofs.Common.{ℕ, Bool, false, true, List, [], ◌++◌, ◌∷◌, refl, ◌≡◌, eqb-true, ap, ◌∙◌, arith, and_parts, and_from, false≢true, list_all}
+use Rattle.yaml_base.proofs.Common.{Text, space, Rendered, TagDirective, Node, Nodes, Pairs, no_pairs, pairs_and, entry_place, Role, as_key, as_value}
+use Rattle.yaml_base.proofs.Common.{has_no_pairs, Effective, Tree, marker_of, Line, lines_of, ends_indicator, belongs_to_entry, spaces, Rules, nat_tests}
 use Rattle.yaml_base.proofs.stream_lines.{StreamClosed.closed, StreamClosed.indicator_cursor, StreamInside.AllInside, StreamLineLaws.OneLine}
 use Rattle.yaml_base.proofs.stream_lines.{StreamSections.is_markerless, StreamSections.AllMarkerless}
 use Rattle.yaml_base.proofs.stream_nodes.{StreamAgrees.node_tree, StreamFits.size, StreamFits.Fits, StreamFits.indicated_lines, StreamItems.items_text}
@@ -15,9 +14,7 @@ use Rattle.yaml_base.proofs.AllPass.{all_pass}
 
 -- a line that begins with a space is no marker
 space_markerless : (t : Text) → is_markerless (marker_of (space ∷ t)) ≡ true
-space_markerless [] = refl
-space_markerless (b ∷ []) = refl
-space_markerless (b ∷ c ∷ t) = refl
+space_markerless t = grind (arith, nat_tests)
 
 -- nor is one that begins with a `-` and what an indicator opens
 dash_markerless : (t : Text) → ends_indicator t ≡ true → is_markerless (marker_of (0x2D ∷ t)) ≡ true
@@ -26,15 +23,11 @@ dash_markerless (b ∷ t) h = grind (arith, eqb-true)
 
 -- nor one that begins with `?`
 question_markerless : (t : Text) → is_markerless (marker_of (0x3F ∷ t)) ≡ true
-question_markerless [] = refl
-question_markerless (b ∷ []) = refl
-question_markerless (b ∷ c ∷ t) = refl
+question_markerless t = grind (arith, nat_tests)
 
 -- nor one that begins with `:`
 colon_markerless : (t : Text) → is_markerless (marker_of (0x3A ∷ t)) ≡ true
-colon_markerless [] = refl
-colon_markerless (b ∷ []) = refl
-colon_markerless (b ∷ c ∷ t) = refl
+colon_markerless t = grind (arith, nat_tests)
 
 -- a line inside column 0 is no marker
 pub inside_markerless : (s : Bool) (t : Text) → belongs_to_entry s 0 t ≡ true → is_markerless (marker_of t) ≡ true

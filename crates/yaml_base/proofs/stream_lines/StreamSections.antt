@@ -1,7 +1,7 @@
 -- Lines that are these sections of a stream, whatever sections follow them.
-use Rattle.yaml_base.proofs.Common.{arith, Bool, false, true, List, [], ◌++◌, ◌∷◌, refl, ◌≡◌, true≢false, append-nil, ap, and_parts, false≢true, list_all}
-use Rattle.yaml_base.proofs.Common.{start_marker, end_marker, no_exclamation, marker_of, Section, sections_of, Line}
-use Rattle.yaml_base.specs.streams.StreamDocuments.{MarkerKind, prepend_section}
+use Rattle.yaml_base.proofs.Common.{arith, Bool, false, true, List, [], ◌++◌, ◌∷◌, refl, ◌≡◌, true≢false, append-nil, and_parts, false≢true, list_all}
+use Rattle.yaml_base.proofs.Common.{end_marker, no_exclamation, marker_of, Section, sections_of, Line}
+use Rattle.yaml_base.specs.streams.StreamDocuments.{MarkerKind}
 
 -- a line is no marker
 abbrev pub is_markerless : MarkerKind → Bool
@@ -18,15 +18,7 @@ pub markerless_before : (body lines : List Line) → AllMarkerless body
 markerless_before [] lines h = refl
 markerless_before (line ∷ body) lines h =
     let parts = and_parts (is_markerless (marker_of line.text)) (list_all (λ line. is_markerless (marker_of line.text)) body) h in
-    by (marker_of line.text) parts.0 (markerless_before body lines parts.1)
-  where
-    by : (marker : MarkerKind) → is_markerless marker ≡ true
-        → sections_of (body ++ lines) ≡ record { before = body ++ (sections_of lines).before; sections = (sections_of lines).sections }
-        → prepend_section marker line (sections_of (body ++ lines))
-        ≡ record { before = line ∷ (body ++ (sections_of lines).before); sections = (sections_of lines).sections }
-    by no_exclamation u h = ap (prepend_section no_exclamation line) h
-    by start_marker u h = absurd (false≢true u)
-    by end_marker u h = absurd (false≢true u)
+    grind (arith, and_parts, false≢true, end_marker, markerless_before body lines parts.1)
 
 -- lines that are these sections
 pub record Marks (lines : List Line) (sections : List Section) : Type 0 where

@@ -1,15 +1,12 @@
 -- The trees that a layout's nodes are to be read as, and that they agree with the events.
-use Rattle.yaml_base.proofs.Common.{arith, if◌then◌else◌, is_some, bytes_eq, Option, None, Some, Bool, false, not, true, ◌&&◌, ◌||◌, List, [], ◌∷◌, refl, ◌≡◌}
-use Rattle.yaml_base.proofs.Common.{ap, ◌∙◌, and_parts, and_from, false≢true, Decides-int_eq, Text, ScalarStyle}
-use Rattle.yaml_base.proofs.Common.{Version, TagDirective, Scalar, scalar_tag, collection_tag, Node, alias_node}
-use Rattle.yaml_base.proofs.Common.{scalar_node, Nodes, sequence_node, Pairs, mapping_node, no_nodes, nodes_and, no_pairs, pairs_and, Document, root_place}
-use Rattle.yaml_base.proofs.Common.{allowed_under, style_asked_at, choice_of, is_written_in_flow, entry_place, as_item, as_key, as_value, Place, has_no_nodes}
-use Rattle.yaml_base.proofs.Common.{has_no_pairs}
-use Rattle.yaml_base.proofs.Common.{is_simple, is_simple_at, Effective, directives_in_force, Allowances, is_empty, Choice, lacks_tag_and_flags}
-use Rattle.yaml_base.proofs.Common.{is_plain, requested_style, fitting_style, fits_plain, Stood, stood_plain, stood_quoted, stood_bare, Tagging}
-use Rattle.yaml_base.proofs.Common.{with_tag, without_tag, Tree, alias_tree, scalar_tree, Trees, sequence_tree, TreePairs, mapping_tree, no_trees, trees_and}
-use Rattle.yaml_base.proofs.Common.{no_tree_pairs, tree_pairs_and, DocumentTree, document_agrees}
-use Rattle.std.specs.Ordering.{int_eq}
+use Rattle.yaml_base.proofs.Common.{arith, if◌then◌else◌, is_some, Option, None, Some, Bool, false, not, true, ◌&&◌, ◌||◌, List, [], ◌∷◌, refl, ◌≡◌, ap, ◌∙◌}
+use Rattle.yaml_base.proofs.Common.{and_parts, and_from, false≢true, Decides-int_eq, Text, ScalarStyle, Version, TagDirective, Scalar, scalar_tag}
+use Rattle.yaml_base.proofs.Common.{collection_tag, Node, alias_node, scalar_node, Nodes, sequence_node, Pairs, mapping_node, no_nodes, nodes_and, no_pairs}
+use Rattle.yaml_base.proofs.Common.{pairs_and, Document, root_place, allowed_under, style_asked_at, choice_of, is_written_in_flow, entry_place, as_item}
+use Rattle.yaml_base.proofs.Common.{as_key, as_value, Place, has_no_nodes, has_no_pairs, is_simple, is_simple_at, Effective, directives_in_force, Allowances}
+use Rattle.yaml_base.proofs.Common.{is_empty, Choice, lacks_tag_and_flags, is_plain, requested_style, fitting_style, fits_plain, Stood, stood_plain}
+use Rattle.yaml_base.proofs.Common.{stood_quoted, stood_bare, Tagging, with_tag, without_tag, Tree, alias_tree, scalar_tree, Trees, sequence_tree, TreePairs}
+use Rattle.yaml_base.proofs.Common.{mapping_tree, no_trees, trees_and, no_tree_pairs, tree_pairs_and, DocumentTree, document_agrees, nat_tests}
 use Rattle.yaml_base.specs.streams.StreamContent.{may_stand, is_same_text, tagging_agrees, tree_agrees, trees_agree, tree_pairs_agree, is_same_version}
 use Rattle.yaml_base.specs.streams.StreamContent.{are_same_directives}
 use Rattle.yaml_base.proofs.TagForms.{same_text}
@@ -125,26 +122,13 @@ mutual
   pub node_agrees : (n : Node) (s : Effective) (directives : List TagDirective) (place : Place) → node_is_tagged s.canonical n ≡ true
       → tree_agrees s.canonical n (node_tree n s directives place) ≡ true
   node_agrees (alias_node name) s directives place h = same_text name
-  node_agrees (scalar_node content) s directives place h =
-      let simple = is_simple_at place s.canonical directives (scalar_node content) in
-      let tag = scalar_tag s.canonical content in
-      let tagging = tagging_in tag (choice_of s place simple content) in
-      and_from (is_same_text content.anchor content.anchor && tagging_agrees content tag tagging) (bytes_eq content.value content.value)
-      (and_from (is_same_text content.anchor content.anchor) (tagging_agrees content tag tagging) (same_option content.anchor)
-      (tagging_is s place simple content tag refl h))
-      (same_text content.value)
+  node_agrees (scalar_node content) s directives place h = grind (arith, and_from, same_option, tagging_is, same_text)
   node_agrees (sequence_node start items) s directives place h =
       let in_flow = is_written_in_flow s place start (has_no_nodes items) in
-      let tag = collection_tag s.canonical start in
-      and_from (is_same_text start.anchor start.anchor && is_same_text tag tag) (trees_agree s.canonical items (nodes_tree items s directives in_flow))
-      (and_from (is_same_text start.anchor start.anchor) (is_same_text tag tag) (same_option start.anchor) (same_option tag))
-      (nodes_agree items s directives in_flow h)
+      grind (arith, and_from, trees_agree, same_option, nodes_agree items s directives in_flow h)
   node_agrees (mapping_node start pairs) s directives place h =
       let in_flow = is_written_in_flow s place start (has_no_pairs pairs) in
-      let tag = collection_tag s.canonical start in
-      and_from (is_same_text start.anchor start.anchor && is_same_text tag tag) (tree_pairs_agree s.canonical pairs (pairs_tree pairs s directives in_flow))
-      (and_from (is_same_text start.anchor start.anchor) (is_same_text tag tag) (same_option start.anchor) (same_option tag))
-      (pairs_agree pairs s directives in_flow h)
+      grind (arith, and_from, same_option, pairs_agree pairs s directives in_flow h)
 
   pub nodes_agree : (items : Nodes) (s : Effective) (directives : List TagDirective) (in_flow : Bool) → nodes_are_tagged s.canonical items ≡ true
       → trees_agree s.canonical items (nodes_tree items s directives in_flow) ≡ true
@@ -163,18 +147,13 @@ mutual
       let before = and_parts (pairs_are_tagged s.canonical pairs) (node_is_tagged s.canonical key) parts.0 in
       let key_place = entry_place in_flow (as_key (has_no_pairs pairs)) 0 in
       let value_place = entry_place in_flow (as_value (is_simple s.canonical directives key)) 0 in
-      and_from (tree_pairs_agree s.canonical pairs (pairs_tree pairs s directives in_flow)
-      && tree_agrees s.canonical key (node_tree key s directives key_place))
-      (tree_agrees s.canonical value (node_tree value s directives value_place))
-      (and_from (tree_pairs_agree s.canonical pairs (pairs_tree pairs s directives in_flow))
-      (tree_agrees s.canonical key (node_tree key s directives key_place))
-      (pairs_agree pairs s directives in_flow before.0) (node_agrees key s directives key_place before.1))
-      (node_agrees value s directives value_place parts.1)
+      let each = node_agrees key s directives key_place before.1 in
+      let one = node_agrees value s directives value_place parts.1 in
+      let other = pairs_agree pairs s directives in_flow before.0 in
+      grind (arith, and_parts, and_from, each, one, other)
 
 same_version : (version : Option Version) → is_same_version version version ≡ true
-same_version None = refl
-same_version (Some v) = and_from (int_eq v.major v.major) (int_eq v.minor v.minor) ((Decides-int_eq v.major v.major).1 refl)
-    ((Decides-int_eq v.minor v.minor).1 refl)
+same_version version = grind (arith, nat_tests, and_from, Decides-int_eq)
 
 same_directives : (directives : List TagDirective) → are_same_directives directives directives ≡ true
 same_directives [] = refl

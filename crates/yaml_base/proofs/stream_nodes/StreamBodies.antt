@@ -1,13 +1,12 @@
 -- What holds of each body in the layout of a list holds of the bodies of each document's root, from its own cursor on.
-use Rattle.yaml_base.proofs.Common.{suc, ◌&&◌, sym, read_in_style, is_tidy_character, has_deep_lines, is_tidy_style}
-use Rattle.yaml_base.proofs.Common.{ℕ, unwrap_or, option_map, Option, None, Some, slice_index_or, Bool, false, true, List, [], ◌++◌, ◌∷◌, ◌≡◌, ap, subst}
-use Rattle.yaml_base.proofs.Common.{◌∙◌, and_parts, All-head, All-tail, list_all, TagDirective, collection_tag, Node, alias_node, scalar_node, Nodes}
-use Rattle.yaml_base.proofs.Common.{sequence_node, Pairs, mapping_node, no_nodes, nodes_and, no_pairs, pairs_and, Documents, no_documents, documents_and}
-use Rattle.yaml_base.proofs.Common.{Stream, stream_events, render_document_start, document_start_piece, root_place, render_document, has_no_documents}
+use Rattle.yaml_base.proofs.Common.{ℕ, unwrap_or, option_map, Option, None, Some, slice_index_or, Bool, false, true, List, [], ◌++◌, ◌∷◌, ◌≡◌, ap, subst, ◌∙◌}
+use Rattle.yaml_base.proofs.Common.{and_parts, All-head, All-tail, list_all, TagDirective, collection_tag, Node, alias_node, scalar_node, Nodes, sequence_node}
+use Rattle.yaml_base.proofs.Common.{Pairs, mapping_node, no_nodes, nodes_and, no_pairs, pairs_and, Documents, no_documents, documents_and, Stream}
+use Rattle.yaml_base.proofs.Common.{stream_events, render_document_start, document_start_piece, root_place, render_document, has_no_documents}
 use Rattle.yaml_base.proofs.Common.{render_documents, first_standing, layout, Body, Piece, bodies_of, Standing, render_properties, is_written_in_flow}
 use Rattle.yaml_base.proofs.Common.{entry_place, render_node, render_nodes, render_pairs, as_item, as_key, as_value, Place, is_undented, entries_column}
 use Rattle.yaml_base.proofs.Common.{has_no_nodes, has_no_pairs, is_simple, is_simple_at, render_place, has_scalar_values, MeaningIsKept, list_layout}
-use Rattle.yaml_base.proofs.Common.{IsAccepted, Encoding, Settings, Effective, effective, directives_in_force, BodyIsTidy, BodiesAreTidy}
+use Rattle.yaml_base.proofs.Common.{IsAccepted, Encoding, Settings, Effective, effective, directives_in_force, BodyIsTidy, BodiesAreTidy, arith}
 use Rattle.std.specs.List.{All}
 use Rattle.yaml_base.{proofs.BreakLaws.breaks-round, proofs.Trees.tree_of-stream_events, specs.Meaning.BodyReads, specs.Meaning.BodyMeans}
 use Rattle.yaml_base.proofs.stream_lines.StreamBytes.{tidy_rendered}
@@ -133,15 +132,7 @@ stream_bodies P stream s all =
 
 -- a tidy body that reads as its value, as it is written, stands
 body_stands : (s : Effective) (body : Body) → BodyIsTidy s body → BodyReads s body → BodyStands s body
-body_stands s body tidy reads =
-    let shown = list_all (is_tidy_character body.style) body.text in
-    let deep = has_deep_lines s.breaks12 (suc (unwrap_or body.column 0)) body.text in
-    let parts = and_parts (shown && deep) (is_tidy_style body.style s.breaks12 body.text) tidy in
-    let rendered = tidy_rendered body.style body.text (and_parts shown deep parts.0).0 in
-    record {
-      tidy = tidy;
-      reads = ap (read_in_style body.style s.breaks12 body.in_flow body.column) (sym (breaks-round s.line_break body.text rendered)) ∙ reads;
-    }
+body_stands s body tidy reads = grind (arith, and_parts, tidy_rendered, breaks-round)
 
 -- so bodies that are tidy and keep their meaning all stand
 pub bodies_stand : (s : Effective) (bodies : List Body) → All (BodyIsTidy s) bodies → All (BodyMeans s) bodies → All (BodyStands s) bodies

@@ -128,12 +128,7 @@ pub items_read_back : (rules : Rules) (s : Effective) (directives : List TagDire
 items_read_back rules s directives no_nodes e fit depth deep rest = refl
 items_read_back rules s directives (nodes_and items last) e fit depth deep rest =
     let one = lines_of rules.breaks12 (spaces e ++ (0x2D ∷ item_text items last s directives e)) in
-    ap (fold (λ before entry. with_item before (item_read (node_read depth rules) e entry)) (Some no_trees))
-    (append_assoc (item_entries rules.breaks12 items s directives e) (one ∷ []) rest)
-    ∙ items_read_back rules s directives items e fit.0 depth (omega arith) (one ∷ rest)
-    ∙ ap (λ x. fold (λ before entry. with_item before (item_read (node_read depth rules) e entry))
-    (with_item (Some (nodes_tree items s directives false)) x) rest)
-    (item_reads rules s directives items last e fit.1 depth (omega arith))
+    grind (arith, append_assoc, item_reads, items_read_back rules s directives items e fit.0 depth (omega arith) (one ∷ rest))
 
 -- regrouped: an indicator, what it opens, and the break after it
 pub regrouped : (a n o c : Text) (symbol : ℕ) → ((a ++ ((n ++ (symbol ∷ [])) ++ o)) ++ c) ≡ a ++ (n ++ (symbol ∷ (o ++ c)))

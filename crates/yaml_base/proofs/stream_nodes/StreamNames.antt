@@ -6,14 +6,14 @@ use Rattle.yaml_base.proofs.Common.{collection_tag, Node, alias_node, scalar_nod
 use Rattle.yaml_base.proofs.Common.{pairs_and, Document, Stream, node_events, nodes_events, pairs_events, document_events, documents_events, stream_events}
 use Rattle.yaml_base.proofs.Common.{tree_of, directive_scalars, has_scalar_texts, name_or_tag_fault, content_fault, is_sound, IsAccepted, Settings}
 use Rattle.yaml_base.proofs.Common.{loses_document, document_has_flow_indicator, reads_alike, name_fault, anchor_fault, tag_fault, version_fault}
-use Rattle.yaml_base.proofs.Common.{directives_fault, directives_in_force, documents_in_order, name_read}
+use Rattle.yaml_base.proofs.Common.{directives_fault, directives_in_force, documents_in_order, name_read, nat_tests}
 use Rattle.yaml_base.{proofs.Trees.tree_of-stream_events, proofs.stream_nodes.StreamProperties.IsNamed, proofs.stream_nodes.StreamTags.written_tag}
 use Rattle.yaml_base.{specs.Meaning.option_scalars, specs.Refusal.properties_fault, specs.declared.errors.yaml_error_t.yaml_error_t}
 use Rattle.yaml_base.proofs.NoFaults.{neither, is_none_none}
 use Rattle.yaml_base.proofs.stream_documents.StreamEachDocument.{AllDocuments, all_of_both, each_document, documents_given}
 use Rattle.yaml_base.proofs.stream_nodes.StreamStands.{TagStands, NamesStand, AllNamesStand, PairsNamesStand}
 use Rattle.yaml_base.specs.StreamLaw.{tag_has_flow_indicator, node_has_flow_indicator, nodes_have_flow_indicator, pairs_have_flow_indicator}
-use Rattle.yaml_base.specs.declared.errors.yaml_error_t.TheVariants.{AliasAlphabet, AliasEmpty, AnchorAlphabet, AnchorEmpty}
+use Rattle.yaml_base.specs.declared.errors.yaml_error_t.TheVariants.{AliasAlphabet, AliasEmpty}
 
 -- Events
 
@@ -45,9 +45,7 @@ name_reads if_empty if_other (c ∷ rest) h = grind (arith)
 
 -- so is an anchor
 anchor_named : (anchor tag : Option Text) → properties_fault anchor tag ≡ None → IsNamed anchor
-anchor_named None tag h = tt
-anchor_named (Some name) tag h =
-    name_reads AnchorEmpty AnchorAlphabet name (neither (anchor_fault name) (option_and_then tag_fault tag) h).0
+anchor_named anchor tag h = grind (arith, nat_tests, name_reads, neither)
 
 -- Tags
 

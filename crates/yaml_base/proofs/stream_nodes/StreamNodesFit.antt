@@ -1,10 +1,10 @@
 -- The central law: a node in a block fits where its leaves, its simple keys and the properties of its collections do.
 use Rattle.yaml_base.proofs.Common.{suc, zero, ℕ, ◌+◌, ◌-◌, ◌<◌, ◌≤◌, if◌then◌else◌, ◌==◌, Option, None, Some, nat_lt, Bool, false, not, true, ◌&&◌, ◌||◌}
-use Rattle.yaml_base.proofs.Common.{List, ◌∷◌, refl, ◌≡◌, eqb-true, le-ltb, true≢false, ap, subst, sym, ◌∙◌, arith, or_parts, false≢true, Text}
-use Rattle.yaml_base.proofs.Common.{line_feed, Cursor, Rendered, TagDirective, Collection, collection_tag, Node, alias_node, scalar_node, Nodes}
-use Rattle.yaml_base.proofs.Common.{sequence_node, Pairs, mapping_node, no_nodes, nodes_and, no_pairs, pairs_and, render_properties, asks_flow}
-use Rattle.yaml_base.proofs.Common.{is_written_in_flow, Brackets, square, curly, Role, Place, is_undented, entries_column, has_no_nodes, has_no_pairs}
-use Rattle.yaml_base.proofs.Common.{is_simple, Effective, Tree, sequence_tree, mapping_tree, spaces, Rules}
+use Rattle.yaml_base.proofs.Common.{List, ◌∷◌, refl, ◌≡◌, eqb-true, le-ltb, true≢false, ap, sym, ◌∙◌, arith, or_parts, false≢true, Text, line_feed, Cursor}
+use Rattle.yaml_base.proofs.Common.{Rendered, TagDirective, Collection, collection_tag, Node, alias_node, scalar_node, Nodes, sequence_node, Pairs}
+use Rattle.yaml_base.proofs.Common.{mapping_node, no_nodes, nodes_and, no_pairs, pairs_and, render_properties, asks_flow, is_written_in_flow, Brackets, square}
+use Rattle.yaml_base.proofs.Common.{curly, Role, Place, is_undented, entries_column, has_no_nodes, has_no_pairs, is_simple, Effective, Tree, sequence_tree}
+use Rattle.yaml_base.proofs.Common.{mapping_tree, spaces, Rules}
 use Rattle.yaml_base.proofs.stream_lines.StreamClosed.{Settled, new_line_closes, indicator_cursor, rank}
 use Rattle.yaml_base.proofs.stream_nodes.{StreamAgrees.node_tree, StreamAgrees.nodes_tree, StreamAgrees.pairs_tree, StreamCentral.items_block}
 use Rattle.yaml_base.proofs.stream_nodes.{StreamCentral.pairs_block, StreamPairReads.colon_ends, StreamPairReads.pairs_settled, StreamPairReads.pairs_lay}
@@ -156,10 +156,7 @@ collection_fits : {Read : Type 0} (rules : Rules) (s : Effective) (place : Place
     × Entries rules (entries_column false undented s.indent place.column begun.cursor) place begun
     (own false (entries_column false undented s.indent place.column begun.cursor) begun.cursor) text)
     → Fits rules (suc size) (collection_own s brackets x undented empty place.column begun (own x)) (make x anchor tag) place cursor
-collection_fits rules s place cursor brackets undented empty begun size text own make anchor tag in_flow true h leaf each =
-    fits_deeper rules 1 (suc size) (collection_own s brackets true undented empty place.column begun (own true)) (make true anchor tag) place cursor
-    (omega arith)
-    (subst (λ x. Fits rules 1 (collection_own s brackets x undented empty place.column begun (own x)) (make x anchor tag) place cursor) h leaf)
+collection_fits rules s place cursor brackets undented empty begun size text own make anchor tag in_flow true h leaf each = grind (arith, fits_deeper)
 collection_fits rules s place cursor brackets undented empty begun size text own make anchor tag in_flow false h read each =
     let e : ℕ = entries_column false undented s.indent place.column begun.cursor in
     let parts = each h read in

@@ -113,9 +113,7 @@ keyed_begins rules text after tree key h =
 
 -- a place in a column is within those around
 within_less : (q : Bool) (d e : ℕ) (x : Bool) → d + rank q ≤ e → d + rank (q && x) ≤ e
-within_less true d e true h = h
-within_less true d e false h = omega arith
-within_less false d e x h = h
+within_less q d e x h = grind (arith, nat_tests)
 
 -- the lines after the first of what an indicator opens are inside the column, where the node fits there
 pub rest_inside : (rules : Rules) (n : ℕ) (own : Rendered) (tree : Tree) (role : Role) (cursor : Cursor) (e : ℕ)

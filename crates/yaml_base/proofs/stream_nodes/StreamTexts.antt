@@ -99,21 +99,8 @@ collection_parts symbols begun entries own ending all = (
 mutual
   pub node_joined : (n : Node) (s : Effective) (directives : List TagDirective) (place : Place) (standing : Standing)
       → Joined (render_node n s directives place standing) (node_placed n s directives place standing.cursor)
-  node_joined (alias_node name) s directives place standing =
-      let simple = is_simple_at place s.canonical directives (alias_node name) in
-      let symbols = render_place s place simple standing.cursor in (
-        append-nil ((symbols.text ++ (render_alias name simple symbols.cursor).text) ++ [])
-            ∙ append-nil (symbols.text ++ (render_alias name simple symbols.cursor).text),
-        refl,
-      )
-  node_joined (scalar_node content) s directives place standing =
-      let simple = is_simple_at place s.canonical directives (scalar_node content) in
-      let choice = choice_of s place simple content in
-      let symbols = render_place s place simple standing.cursor in
-      let properties = render_properties s.portable directives content.anchor (scalar_tag s.canonical content) choice.bare symbols.cursor in
-      let separation = render_separation choice.style place.in_flow content.value properties.cursor in
-      let body = render_body choice.style s (if simple then None else s.width) (deeper s.indent place.column) content.value separation.cursor in
-      (assoc_three symbols.text properties.text separation.text body.text, refl)
+  node_joined (alias_node name) s directives place standing = grind (arith, append-nil)
+  node_joined (scalar_node content) s directives place standing = grind (arith, assoc_three)
   node_joined (sequence_node start items) s directives place standing =
       let in_flow = is_written_in_flow s place start (has_no_nodes items) in
       let simple = is_simple_at place s.canonical directives (sequence_node start items) in
