@@ -3,17 +3,21 @@ use Rattle.yaml_json.proofs.Common.{◌≡◌, ◌⊎◌, ◌∷◌, ◌++◌, [
 use Rattle.yaml_json.proofs.Common.{append-nil, append_assoc}
 use Rattle.yaml_json.proofs.Common.{Event, State, WriterState, GaveEvent, WroteEvent, IsBare, end_event, with_collection, EndsInnermost}
 use Rattle.yaml_json.proofs.Common.{AddsEvents, StandsTaken}
-use Rattle.yaml_json.proofs.WroteLemmas.{adds_then, ended, none_more, same_last}
+use Rattle.yaml_json.proofs.WroteLemmas.{adds_then, ended, none_more, on_ok, same_last, wrote_event}
+use Rattle.yaml_writer.proofs.Taken.{gives_ok, gives_err}
+use Rattle.toml_ordered.specs.Data.{TomlNode}
 use Rattle.yaml_pen.{proofs.Composing.grows_itself, proofs.Composing.grows_then, proofs.Writing.none_from_result, specs.Wrote.Grows}
 use Rattle.yaml_emitter.proofs.Common.{some_from_result}
 use Rattle.yaml_base.specs.declared.errors.{yaml_error_t.yaml_error_t, yaml_error_t.TheVariants.Memory}
 use Rattle.yaml_base.specs.declared.kinds.CollectionKind.{CollectionKind}
 use Rattle.yaml_json.specs.Failing.{HasErrorSaid}
-use Rattle.yaml_json.proofs.Common.{ap₂, Text, scalar, plain, is_none, is_some, ◌||◌}
+use Rattle.yaml_json.proofs.Common.{ap₂, Text, Scalar, scalar, plain, is_none, is_some, ◌||◌}
 use Rattle.yaml_writer.specs.Times.{Moment, timestamp_text}
-use Rattle.yaml_writer.specs.Writing.{tag_or_default, timestamp_event, timestamp_tag}
-use Rattle.yaml_toml.specs.Events.{moment_content}
-use Rattle.yaml_toml.specs.Walk.{Answers, KeptAfterStop, SoundAfterStop, stop_error, IsStopOf, IsOwnMemory, Moved}
+use Rattle.yaml_writer.specs.Writing.{Gives, tag_or_default, timestamp_event, timestamp_tag}
+use Rattle.yaml_toml.specs.Depth.{toml_nesting}
+use Rattle.yaml_toml.specs.Events.{moment_content, toml_events}
+use Rattle.yaml_toml.specs.Walk.{Answers, GivesScalar, HasNumbers, node_size, KeptAfterStop, SoundAfterStop, stop_error, IsStopOf, IsOwnMemory, Moved}
+use Rattle.yaml_toml.specs.WalkSteps.{WroteScalar}
 use Rattle.yaml_toml.specs.declared.walk.Stop.{Stop}
 
 -- nothing changed
@@ -167,3 +171,30 @@ timestamp_is writer moment bare =
 pub on_both : {A E : Type 0} (P Q : Type 0) (answer : Result A E) → OnOk answer P → OnOk answer Q → OnOk answer (P × Q)
 on_both P Q (Ok value) one other = (one, other)
 on_both P Q (Err error) one other = tt
+
+-- ---- scalars
+
+-- a call that gives the event of a scalar
+pub gives_scalar : (before after : WriterState) (event : Event) (content : Scalar) (answer : Result (Unit {0}) yaml_error_t) → event ≡ scalar content
+    → Gives before event answer after → GivesScalar before content answer after
+gives_scalar before after event content answer is gives =
+    let gave = gives_ok before after event answer gives in
+    record {
+      written = on_ok answer (wrote_event before after event (scalar content) is) gave;
+      kept = answers_event before after before refl event (scalar content) is answer gave (gives_err before after event answer gives);
+    }
+
+-- or for which there was no memory
+pub scalar_memory : (before : WriterState) (content : Scalar) → GivesScalar before content (Err Memory) before
+scalar_memory before content = record {
+  written = tt;
+  kept = record { grows = grows_itself before.emitter.page; sound = unchanged before; failed = inl (refl, refl) };
+}
+
+-- the value that it is
+pub wrote_scalar : (before after : WriterState) (x y : TomlNode) (content : Scalar) (answer : Result (Unit {0}) yaml_error_t) → x ≡ y
+    → ((in_flow : Bool) → scalar content ∷ [] ≡ toml_events before.canonical in_flow y) → 1 ≡ node_size y → 0 ≡ toml_nesting y
+    → OnOk answer (HasNumbers y) → GivesScalar before content answer after → WroteScalar x before answer after
+wrote_scalar before after x y content answer seen events size nesting numbers gives =
+    subst (λ (z : TomlNode). WroteScalar z before answer after) (sym seen)
+    (record { content = content; events = events; size = size; nesting = nesting; numbers = numbers; gives = gives })

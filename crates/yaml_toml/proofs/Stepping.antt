@@ -2,8 +2,7 @@
 use Rattle.yaml_json.proofs.Common.{◌≡◌, ℕ, suc, length, ◌+◌, ◌<◌, ◌≤◌, arith, ◌∷◌, ◌++◌, [], List, Bool, Result, Ok, Err, OnOk, refl, ap, subst, sym, ◌∙◌}
 use Rattle.yaml_json.proofs.Common.{append_assoc, Event, Scalar, scalar, WriterState, WroteEvent, start_event, end_event}
 use Rattle.std.specs.Prelude.{◌↔◌, max, pred}
-use Rattle.toml_ordered.specs.Data as toml
-use Rattle.toml_ordered.specs.Data.{TomlNode, items_view, entries_view, node_view}
+use Rattle.toml_ordered.specs.Data.{TomlNode}
 use Rattle.toml_ordered.specs.declared.tree.Origin.{Origin}
 use Rattle.yaml_base.specs.declared.errors.yaml_error_t.{yaml_error_t}
 use Rattle.yaml_base.specs.declared.kinds.CollectionKind.{CollectionKind}
@@ -16,12 +15,12 @@ use Rattle.yaml_toml.specs.OpenCounts.{count_after}
 use Rattle.yaml_toml.specs.Walk.{Answers, GaveSome, HasNumbers, IsOwnMemory, IsStopOf, Moved, PendingHaveNumbers, RestHasNumbers, kinds_of, node_size, pending}
 use Rattle.yaml_toml.specs.Walk.{pending_size, rest_events, rest_kind, rest_size}
 use Rattle.yaml_toml.specs.WalkSteps.{Due, DueFits, DueHasNumbers, TomlStep, all_due, collection_due, due_size, events_due, kinds_around, rest_due, value_due}
-use Rattle.yaml_toml.specs.WalkSteps.{walk_at}
+use Rattle.yaml_toml.specs.WalkSteps.{WroteScalar, value_of_rest, walk_at}
 use Rattle.yaml_toml.specs.declared.settings.TomlSettings.{TomlSettings}
 use Rattle.yaml_toml.specs.declared.walk.Rest.{Rest}
 use Rattle.yaml_toml.specs.declared.walk.Rest.TheVariants as rest
 use Rattle.yaml_toml.specs.declared.walk.Stop.{Stop}
-use Rattle.yaml_toml.proofs.Answering.{kept_memory, kept_of, kept_then, ok_of}
+use Rattle.yaml_toml.proofs.Answering.{on_both, kept_memory, kept_of, kept_then, ok_of}
 use Rattle.yaml_toml.proofs.Fitting.{fits_end, fits_enter, fits_failed, fits_leaf, fits_memory, fits_next, fits_same}
 use Rattle.yaml_toml.proofs.Halting.{fewer_fit, halts_after, halts_at_once, halts_of, halts_same}
 use Rattle.yaml_toml.proofs.Pending.{kinds_length, kinds-push, numbers-push, pending-push, size-push, steps_after}
@@ -83,14 +82,8 @@ due_last depth canonical in_flow r empty whole opened kept is kind events number
       fits = fits_next depth opened kept empty is (suc (rest_nesting r)) (rest_nesting whole) nesting;
     }
 
--- the value that a collection is
-abbrev pub value_of : Origin → Rest → TomlNode
-value_of origin (rest.Items items) = toml.array (items_view items.now)
-value_of origin (rest.Tables done last) = toml.tables (items_view done.now) (entries_view last.now)
-value_of origin (rest.Members keys) = toml.table origin (entries_view keys.now)
-
 due_begun : (depth : ℕ) (canonical in_flow : Bool) (origin : Origin) (r : Rest) (opened : List Rest)
-    → SameDue [] depth canonical in_flow (collection_due r) opened (value_due (value_of origin r)) opened
+    → SameDue [] depth canonical in_flow (collection_due r) opened (value_due (value_of_rest origin r)) opened
 due_begun depth canonical in_flow origin (rest.Items items) opened =
     record { events = refl; kinds = refl; numbers = λ have. have; size = omega arith; fits = (λ fits. fits, λ fits. fits) }
 due_begun depth canonical in_flow origin (rest.Tables done last) opened =
@@ -142,21 +135,20 @@ module _ (settings : TomlSettings) (was : WriterState) where
         step_failed due opened after event more (Err error) stopped events room is answers
 
     -- of a scalar
-    pub step_scalar : (opened : List Rest) (x y : TomlNode) (content : Scalar) (answer : Result (Unit {0}) yaml_error_t) (result : Result (Unit {0}) Stop)
-        → x ≡ y → scalar content ∷ [] ≡ toml_events was.canonical settings.flow y → 1 ≡ node_size y → 0 ≡ toml_nesting y → IsStopOf answer result
-        → Answers was (scalar content) answer now → OnOk answer (HasNumbers y × WroteEvent was (scalar content) now)
-        → TomlStep settings (value_due x) (walk_at was opened) result (walk_at now opened)
-    step_scalar opened x y content answer result seen events size nesting is answers wrote =
+    pub step_scalar : (opened : List Rest) (x : TomlNode) (answer : Result (Unit {0}) yaml_error_t) (result : Result (Unit {0}) Stop) → IsStopOf answer result
+        → WroteScalar x was answer now → TomlStep settings (value_due x) (walk_at was opened) result (walk_at now opened)
+    step_scalar opened x answer result is wrote =
+        let content = wrote.content in
         let rest = pending was.canonical settings.flow opened in
-        let parts = ap (λ (es : List Event). es ++ rest) events in
-        subst (λ (z : TomlNode). TomlStep settings (value_due z) (walk_at was opened) result (walk_at now opened)) (sym seen)
-        (step_by (value_due y) opened opened (scalar content) rest answer result parts (λ fits. fits)
-        (subst (λ n. PendingFits settings.depth 0 opened ↔ NodeFits settings.depth n opened) nesting
-        (fits_leaf settings.depth opened)) is answers
-        (on_ok answer (λ have. steps_same settings.depth settings.flow was now (scalar content ∷ rest) (toml_events was.canonical settings.flow y ++ rest)
-        (kinds_of opened) (kinds_of opened) (HasNumbers y × PendingHaveNumbers opened) (HasNumbers y × PendingHaveNumbers opened) (1 + pending_size opened)
-        (node_size y + pending_size opened) opened parts refl (λ all. all) (omega (arith, size))
-        (steps_leaf settings.depth settings.flow was now content (HasNumbers y) opened have.0 have.1)) wrote))
+        let parts = ap (λ (es : List Event). es ++ rest) (wrote.events settings.flow) in
+        step_by (value_due x) opened opened (scalar content) rest answer result parts (λ fits. fits)
+        (subst (λ n. PendingFits settings.depth 0 opened ↔ NodeFits settings.depth n opened) wrote.nesting (fits_leaf settings.depth opened)) is
+        wrote.gives.kept
+        (on_ok answer (λ have. steps_same settings.depth settings.flow was now (scalar content ∷ rest) (toml_events was.canonical settings.flow x ++ rest)
+        (kinds_of opened) (kinds_of opened) (HasNumbers x × PendingHaveNumbers opened) (HasNumbers x × PendingHaveNumbers opened) (1 + pending_size opened)
+        (node_size x + pending_size opened) opened parts refl (λ all. all) (omega (arith, wrote.size))
+        (steps_leaf settings.depth settings.flow was now content (HasNumbers x) opened have.0 have.1))
+        (on_both (HasNumbers x) (WroteEvent was (scalar content) now) answer wrote.numbers wrote.gives.written))
 
     opened_fits : (kind : CollectionKind) (before : ℕ) → suc before ≤ settings.depth → count_after (start_event settings.flow kind) before ≤ settings.depth
     opened_fits Sequence before room = room
@@ -222,12 +214,12 @@ module _ (settings : TomlSettings) (was : WriterState) where
     }
 
     -- a collection is a value
-    pub step_begun : (origin : Origin) (r : Rest) (x : TomlNode) (opened after : List Rest) (result : Result (Unit {0}) Stop) → x ≡ value_of origin r
+    pub step_begun : (origin : Origin) (r : Rest) (x : TomlNode) (opened after : List Rest) (result : Result (Unit {0}) Stop) → x ≡ value_of_rest origin r
         → TomlStep settings (collection_due r) (walk_at was opened) result (walk_at now after)
         → TomlStep settings (value_due x) (walk_at was opened) result (walk_at now after)
     step_begun origin r x opened after result seen step =
         subst (λ (z : TomlNode). TomlStep settings (value_due z) (walk_at was opened) result (walk_at now after)) (sym seen)
-        (step_same (collection_due r) (value_due (value_of origin r)) opened opened after result
+        (step_same (collection_due r) (value_due (value_of_rest origin r)) opened opened after result
         (due_begun settings.depth was.canonical settings.flow origin r opened) step)
 
     same_events : (between : WriterState) (content : Scalar) (part : Due) (kept : List Rest) → between.canonical ≡ was.canonical

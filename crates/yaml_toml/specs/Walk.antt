@@ -1,5 +1,5 @@
 -- What a writer is given of a document, and what is left of it.
-use Rattle.std.specs.Prelude.{◌≡◌, ℕ, ℤ, ◌<◌, ◌+◌, ◌^◌, Bool, Option, None, Some, Result, Ok, Err, List, [], ◌∷◌, ◌++◌, map, String, length, ◌≤◌, IfErr}
+use Rattle.std.specs.Prelude.{◌≡◌, ℕ, ℤ, ◌<◌, ◌+◌, ◌^◌, Bool, Option, None, Some, Result, Ok, Err, List, [], ◌∷◌, ◌++◌, map, String, length, ◌≤◌, IfErr, OnOk}
 use Rattle.std.specs.declared.alloc.Global.{Global}
 use Rattle.std.specs.Int.Signed.{mag}
 use Rattle.toml_ordered.specs.Data.{TomlNode, integer, decimal, array, table, tables, Items, no_items, item, TomlNodes, no_nodes, node, items_view}
@@ -9,7 +9,7 @@ use Rattle.toml_parser.specs.declared.scalar.Scalar.{Scalar}
 use Rattle.toml_ordered.specs.Grammar.{ordered_document, scalar_node}
 use Rattle.toml_ordered.specs.declared.tree.Node.{Node as CodeNode}
 use Rattle.toml_ordered.specs.declared.tree.Origin.TheVariants.{Header}
-use Rattle.yaml_base.specs.Event.{Event, sequence_end, mapping_start, mapping_end}
+use Rattle.yaml_base.specs.Event.{Event, Scalar as Content, scalar, sequence_end, mapping_start, mapping_end}
 use Rattle.yaml_base.specs.declared.errors.yaml_error_t.{yaml_error_t}
 use Rattle.yaml_base.specs.declared.errors.yaml_error_t.TheVariants.{Memory}
 use Rattle.yaml_pen.specs.Wrote.{Grows}
@@ -18,7 +18,7 @@ use Rattle.yaml_base.specs.declared.kinds.CollectionKind.TheVariants.{Mapping, S
 use Rattle.yaml_base.specs.Prefix.{IsPrefix}
 use Rattle.yaml_json.specs.Failing.{FailedGiving, HasErrorSaid, StaysSound}
 use Rattle.yaml_writer.specs.Contents.{collection_in}
-use Rattle.yaml_json.specs.Wrote.{IsBare, WasGiven}
+use Rattle.yaml_json.specs.Wrote.{IsBare, WasGiven, WroteEvent}
 use Rattle.yaml_writer.specs.NumberParts.{IsNumber, number_in}
 use Rattle.yaml_writer.specs.Writing.{AddsEvents, WriterState}
 use Rattle.yaml_toml.specs.Events.{toml_events, toml_items_events, keys_events, json_word}
@@ -169,6 +169,11 @@ pub record Answers (was : WriterState) (event : Event) (result : Result (Unit {0
   pub grows : Grows was.emitter.page now.emitter.page
   pub sound : StaysSoundAfterToml was result now
   pub failed : IfErr result (λ error. FailedGiving was event error now)
+
+-- the event of a scalar was given, or there was an error
+pub record GivesScalar (was : WriterState) (content : Content) (result : Result (Unit {0}) yaml_error_t) (now : WriterState) : Type 0 where
+  pub written : OnOk result (WroteEvent was (scalar content) now)
+  pub kept : Answers was (scalar content) result now
 
 abbrev pub stop_error : Stop → Option yaml_error_t
 stop_error stop.TooDeep = None

@@ -1,8 +1,10 @@
 -- What the calls of a walk over a document do, by their results.
-use Rattle.std.specs.Prelude.{ℕ, suc, ◌+◌, Bool, Result, Ok, Err, List, [], ◌∷◌, ◌++◌}
-use Rattle.toml_ordered.specs.Data.{TomlNode, TomlNodes, table}
+use Rattle.std.specs.Prelude.{◌≡◌, ℕ, suc, ◌+◌, Bool, Option, None, Some, OnOk, Result, Ok, Err, List, [], ◌∷◌, ◌++◌}
+use Rattle.toml_ordered.specs.Data.{TomlNode, TomlNodes, array, table, tables, items_view, entries_view}
+use Rattle.toml_ordered.specs.declared.tree.Origin.{Origin}
 use Rattle.toml_ordered.specs.declared.tree.Origin.TheVariants.{Header}
-use Rattle.yaml_base.specs.Event.{Event}
+use Rattle.yaml_base.specs.Event.{Event, Scalar, scalar}
+use Rattle.yaml_base.specs.declared.errors.yaml_error_t.{yaml_error_t}
 use Rattle.yaml_base.specs.declared.kinds.CollectionKind.{CollectionKind}
 use Rattle.yaml_json.specs.Wrote.{WasGiven, start_event}
 use Rattle.yaml_writer.specs.Writing.{WriterState}
@@ -10,10 +12,12 @@ use Rattle.yaml_toml.specs.Depth.{toml_nesting}
 use Rattle.yaml_toml.specs.Events.{toml_events}
 use Rattle.yaml_toml.specs.Failing.{GaveFirst}
 use Rattle.yaml_toml.specs.Fitting.{FitsAfter, NestsAfter, NodeFits, RestFits, rest_nesting}
-use Rattle.yaml_toml.specs.Walk.{GaveSome, HasNumbers, KeptAfterStop, KeysHaveNumbers, PendingHaveNumbers, RestHasNumbers, StepsStop, kinds_of, node_size}
+use Rattle.yaml_toml.specs.Walk.{GaveSome, GivesScalar, HasNumbers}
+use Rattle.yaml_toml.specs.Walk.{KeptAfterStop, KeysHaveNumbers, PendingHaveNumbers, RestHasNumbers, StepsStop, kinds_of, node_size}
 use Rattle.yaml_toml.specs.Walk.{pending, pending_size, rest_events, rest_kind, rest_size}
 use Rattle.yaml_toml.specs.declared.settings.TomlSettings.{TomlSettings}
 use Rattle.yaml_toml.specs.declared.walk.Rest.{Rest}
+use Rattle.yaml_toml.specs.declared.walk.Rest.TheVariants as rest
 use Rattle.yaml_toml.specs.declared.walk.Stop.{Stop}
 
 -- where a walk is: the writer, and what is left of the collections that are open
@@ -61,6 +65,35 @@ DueFits depth (rest_due r) opened = RestFits depth (rest_nesting r) opened
 -- the events of it and of what is left of the others
 abbrev pub all_due : (in_flow : Bool) → Due → TomlWalk → List Event
 all_due in_flow due walk = events_due walk.writer.canonical in_flow due ++ pending walk.writer.canonical in_flow walk.opened
+
+-- ---- what a value is
+
+-- the value that a collection is
+abbrev pub value_of_rest : Origin → Rest → TomlNode
+value_of_rest origin (rest.Items items) = array (items_view items.now)
+value_of_rest origin (rest.Tables done last) = tables (items_view done.now) (entries_view last.now)
+value_of_rest origin (rest.Members keys) = table origin (entries_view keys.now)
+
+-- it is neither an array nor a table
+abbrev pub IsNoCollection : TomlNode → Type 0
+IsNoCollection (array items) = ⊥
+IsNoCollection (table origin keys) = ⊥
+IsNoCollection (tables done last) = ⊥
+IsNoCollection _ = Unit {0}
+
+-- what is to be written of it behind its start; nothing, where it is a scalar
+abbrev pub IsRestOf : TomlNode → Option Rest → Type 0
+IsRestOf x None = IsNoCollection x
+IsRestOf x (Some r) = (origin : Origin) × (x ≡ value_of_rest origin r)
+
+-- a scalar's event was given, or there was an error
+pub record WroteScalar (x : TomlNode) (was : WriterState) (result : Result (Unit {0}) yaml_error_t) (now : WriterState) : Type 0 where
+  pub content : Scalar
+  pub events : (in_flow : Bool) → scalar content ∷ [] ≡ toml_events was.canonical in_flow x
+  pub size : 1 ≡ node_size x
+  pub nesting : 0 ≡ toml_nesting x
+  pub numbers : OnOk result (HasNumbers x)
+  pub gives : GivesScalar was content result now
 
 -- ---- a call
 

@@ -1,28 +1,40 @@
 //! Scalars of TOML, given to a writer.
 ghost use Rattle.std.specs.Prelude.{◌≡◌, OnOk, chars, option_map};
-ghost use Rattle.toml_datetime.specs.Text.{datetime_text};
-ghost use Rattle.yaml_base.specs.Event.{scalar};
-ghost use Rattle.yaml_writer.specs.Contents.{bool_content, number_content, text_content};
-ghost use Rattle.yaml_json.specs.Wrote.{IsBare, WroteEvent};
-ghost use Rattle.yaml_toml.specs.Events.{date_content, decimal_content, integer_content, json_word, special_content};
-ghost use Rattle.yaml_toml.specs.Walk.{Answers, IsJsonWord};
+ghost use Rattle.toml_ordered.specs.Data.{node_view};
+ghost use Rattle.yaml_writer.specs.Contents.{text_content};
+ghost use Rattle.yaml_json.specs.Wrote.{IsBare};
+ghost use Rattle.yaml_toml.specs.Events.{date_content, decimal_content, infinite, json_word};
+ghost use Rattle.yaml_toml.specs.Walk.{GivesScalar, IsJsonWord};
+ghost use Rattle.yaml_toml.specs.WalkSteps.{IsNoCollection, WroteScalar};
 ghost use Rattle.yaml_writer.specs.SeenTimes.{seen_timestamp};
 ghost use Rattle.yaml_writer.specs.TomlDates.{moment_of};
 
 use std::alloc::{Allocator, Global};
 use toml_datetime::Datetime;
+use toml_ordered::Node;
 use toml_parser::text::{first, skip};
-use yaml_writer::{Number, SpecialFloat, Timestamp, Writer, number_of, yaml_error_t};
+use yaml_writer::{SpecialFloat, Timestamp, Writer, number_of, yaml_error_t};
 
-pub(crate) fn write_bool<A: Allocator + Copy>(
+/// Writes a value that is neither an array nor a table.
+pub(crate) fn write_scalar<A: Allocator + Copy>(
+    alloc: Global,
     writer: &mut Writer<A>,
-    flag: bool,
+    node: &Node,
 ) -> Result<(), yaml_error_t>
-    requires { IsBare writer.old }
-    ensures written { OnOk result (WroteEvent writer.old (scalar (bool_content writer.old.canonical flag)) writer.new) }
-    ensures kept { Answers writer.old (scalar (bool_content writer.old.canonical flag)) result writer.new }
+    requires bare { IsBare writer.old }
+    requires scalar { IsNoCollection (node_view node.now) }
+    ensures { WroteScalar (node_view node.now) writer.old result writer.new }
 {
-    writer.bool(flag)
+    match node {
+        Node::Text(text) => write_text(writer, text.as_str()),
+        Node::Integer(integer) => writer.int(*integer),
+        Node::Decimal(word) => write_decimal(writer, word.as_str()),
+        Node::Infinity { negative } => writer.special_float(infinity(*negative)),
+        Node::NotANumber => writer.special_float(SpecialFloat::NotANumber),
+        Node::Boolean(flag) => writer.bool(*flag),
+        Node::Datetime(datetime) => write_datetime(alloc, writer, datetime),
+        Node::Array(_) | Node::Table(..) | Node::Tables(..) => unreachable!(),
+    }
 }
 
 pub(crate) fn write_text<A: Allocator + Copy>(
@@ -30,32 +42,19 @@ pub(crate) fn write_text<A: Allocator + Copy>(
     text: &str,
 ) -> Result<(), yaml_error_t>
     requires { IsBare writer.old }
-    ensures written { OnOk result (WroteEvent writer.old (scalar (text_content (chars text.now))) writer.new) }
-    ensures kept { Answers writer.old (scalar (text_content (chars text.now))) result writer.new }
+    ensures { GivesScalar writer.old (text_content (chars text.now)) result writer.new }
 {
     writer.text(text)
 }
 
-pub(crate) fn write_integer<A: Allocator + Copy>(
-    writer: &mut Writer<A>,
-    integer: i64,
-) -> Result<(), yaml_error_t>
-    requires { IsBare writer.old }
-    ensures written { OnOk result (WroteEvent writer.old (scalar (integer_content writer.old.canonical integer)) writer.new) }
-    ensures kept { Answers writer.old (scalar (integer_content writer.old.canonical integer)) result writer.new }
+fn infinity(negative: bool) -> SpecialFloat
+    ensures { result ≡ infinite negative }
 {
-    writer.int(integer)
-}
-
-pub(crate) fn write_special<A: Allocator + Copy>(
-    writer: &mut Writer<A>,
-    value: SpecialFloat,
-) -> Result<(), yaml_error_t>
-    requires { IsBare writer.old }
-    ensures written { OnOk result (WroteEvent writer.old (scalar (special_content writer.old.canonical value)) writer.new) }
-    ensures kept { Answers writer.old (scalar (special_content writer.old.canonical value)) result writer.new }
-{
-    writer.special_float(value)
+    if negative {
+        SpecialFloat::NegativeInfinity
+    } else {
+        SpecialFloat::Infinity
+    }
 }
 
 /// Returns a decimal as JSON spells numbers.
@@ -69,29 +68,17 @@ fn past_plus(word: &str) -> &str
     }
 }
 
-fn write_number<A: Allocator + Copy>(
-    writer: &mut Writer<A>,
-    number: &Number<'_>,
-) -> Result<(), yaml_error_t>
-    requires { IsBare writer.old }
-    ensures written { OnOk result (WroteEvent writer.old (scalar (number_content writer.old.canonical number.now)) writer.new) }
-    ensures kept { Answers writer.old (scalar (number_content writer.old.canonical number.now)) result writer.new }
-{
-    writer.number(number)
-}
-
 /// Writes a float that is a number, by its characters.
-pub(crate) fn write_decimal<A: Allocator + Copy>(
+fn write_decimal<A: Allocator + Copy>(
     writer: &mut Writer<A>,
     word: &str,
 ) -> Result<(), yaml_error_t>
     requires { IsBare writer.old }
-    ensures written { OnOk result (WroteEvent writer.old (scalar (decimal_content writer.old.canonical word.now)) writer.new) }
     ensures number { OnOk result (IsJsonWord word.now) }
-    ensures kept { Answers writer.old (scalar (decimal_content writer.old.canonical word.now)) result writer.new }
+    ensures gives { GivesScalar writer.old (decimal_content writer.old.canonical word.now) result writer.new }
 {
     match number_of(past_plus(word)) {
-        Some(number) => write_number(writer, &number),
+        Some(number) => writer.number(&number),
         // The characters of a float are a number of JSON, so this isn't reached.
         None => Err(yaml_error_t::Memory),
     }
@@ -105,14 +92,13 @@ fn timestamp_of(datetime: &Datetime) -> Option<Timestamp>
 }
 
 /// Writes a date or a time: a timestamp, where YAML 1.1 has it, else a text.
-pub(crate) fn write_datetime<A: Allocator + Copy>(
+fn write_datetime<A: Allocator + Copy>(
     alloc: Global,
     writer: &mut Writer<A>,
     datetime: &Datetime,
 ) -> Result<(), yaml_error_t>
     requires { IsBare writer.old }
-    ensures written { OnOk result (WroteEvent writer.old (scalar (date_content writer.old.canonical datetime.now (moment_of datetime.now))) writer.new) }
-    ensures kept { Answers writer.old (scalar (date_content writer.old.canonical datetime.now (moment_of datetime.now))) result writer.new }
+    ensures { GivesScalar writer.old (date_content writer.old.canonical datetime.now (moment_of datetime.now)) result writer.new }
 {
     match timestamp_of(datetime) {
         Some(timestamp) => writer.timestamp(&timestamp),

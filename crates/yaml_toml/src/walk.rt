@@ -7,20 +7,17 @@ ghost use Rattle.yaml_base.specs.Seen.{seen_mapping_style, seen_sequence_style};
 ghost use Rattle.yaml_base.specs.declared.kinds.CollectionKind.{CollectionKind};
 ghost use Rattle.yaml_writer.specs.Contents.{style_of};
 ghost use Rattle.yaml_json.specs.Wrote.{IsBare, start_event};
-ghost use Rattle.yaml_toml.specs.Events.{infinite};
 ghost use Rattle.yaml_toml.specs.Walk.{Answers, HasInnermost, IsOwnMemory, IsStopOf, Moved, kinds_of, rest_kind};
-ghost use Rattle.yaml_toml.specs.WalkSteps.{RootStep, TomlStep, collection_due, rest_due, value_due, walk_at};
+ghost use Rattle.yaml_toml.specs.WalkSteps.{IsRestOf, RootStep, TomlStep, collection_due, rest_due, value_due, walk_at};
 ghost use Rattle.yaml_toml.specs.declared.walk.Rest.TheVariants as rests;
 ghost use Rattle.yaml_writer.specs.Writing.{end_event};
 
-use crate::scalars::{
-    write_bool, write_datetime, write_decimal, write_integer, write_special, write_text,
-};
+use crate::scalars::{write_scalar, write_text};
 use crate::settings::TomlSettings;
 use std::alloc::{Allocator, Global};
 use toml_ordered::{Node, Nodes};
 use yaml_writer::{
-    CollectionKind, SpecialFloat, Writer, YAML_BLOCK_MAPPING_STYLE, YAML_BLOCK_SEQUENCE_STYLE,
+    CollectionKind, Writer, YAML_BLOCK_MAPPING_STYLE, YAML_BLOCK_SEQUENCE_STYLE,
     YAML_FLOW_MAPPING_STYLE, YAML_FLOW_SEQUENCE_STYLE, yaml_error_t, yaml_mapping_style_t,
     yaml_sequence_style_t,
 };
@@ -159,30 +156,27 @@ fn write_node<'a, A: Allocator + Copy>(
     requires { IsBare writer.old }
     ensures { TomlStep settings.now (value_due (node_view node.now)) (walk_at writer.old opened.old.items) result (walk_at writer.new opened.new.items) }
 {
-    match node {
-        Node::Text(text) => stop_of(write_text(writer, text.as_str())),
-        Node::Integer(integer) => stop_of(write_integer(writer, *integer)),
-        Node::Decimal(word) => stop_of(write_decimal(writer, word.as_str())),
-        Node::Infinity { negative } => stop_of(write_special(writer, infinity(*negative))),
-        Node::NotANumber => stop_of(write_special(writer, SpecialFloat::NotANumber)),
-        Node::Boolean(flag) => stop_of(write_bool(writer, *flag)),
-        Node::Datetime(datetime) => stop_of(write_datetime(alloc, writer, datetime)),
-        Node::Array(items) => enter(writer, opened, Rest::Items(items.as_slice()), settings),
-        Node::Table(_, keys) => enter(writer, opened, Rest::Members(keys.as_slice()), settings),
-        Node::Tables(done, last) => {
-            let rest = Rest::Tables(done.as_slice(), last.as_slice());
-            enter(writer, opened, rest, settings)
-        }
+    match rest_of(node) {
+        Some(rest) => enter(writer, opened, rest, settings),
+        None => stop_of(write_scalar(alloc, writer, node)),
     }
 }
 
-fn infinity(negative: bool) -> SpecialFloat
-    ensures { result ≡ infinite negative }
+/// Returns what is to be written of an array or a table behind its start.
+fn rest_of(node: &Node) -> Option<Rest<'_>>
+    ensures { IsRestOf (node_view node.now) result }
 {
-    if negative {
-        SpecialFloat::NegativeInfinity
-    } else {
-        SpecialFloat::Infinity
+    match node {
+        Node::Array(items) => Some(Rest::Items(items.as_slice())),
+        Node::Table(_, keys) => Some(Rest::Members(keys.as_slice())),
+        Node::Tables(done, last) => Some(Rest::Tables(done.as_slice(), last.as_slice())),
+        Node::Text(_)
+        | Node::Integer(_)
+        | Node::Decimal(_)
+        | Node::Infinity { .. }
+        | Node::NotANumber
+        | Node::Boolean(_)
+        | Node::Datetime(_) => None,
     }
 }
 

@@ -6,7 +6,7 @@ use Rattle.toml_ordered.specs.declared.tree.Node.{Node as CodeNode}
 use Rattle.toml_ordered.specs.declared.tree.Origin.TheVariants.{Header}
 use Rattle.yaml_toml.specs.Events.{toml_events}
 use Rattle.yaml_toml.specs.Walk.{KeysHaveNumbers, pending_size, rest_size}
-use Rattle.yaml_toml.specs.WalkSteps.{TomlStep, collection_due, value_due, walk_at}
+use Rattle.yaml_toml.specs.WalkSteps.{TomlStep, collection_due, value_due, value_of_rest, walk_at}
 use Rattle.yaml_toml.specs.declared.settings.TomlSettings.{TomlSettings}
 use Rattle.yaml_toml.specs.declared.walk.Rest.{Rest}
 use Rattle.yaml_toml.specs.declared.walk.Rest.TheVariants as rest
@@ -15,7 +15,7 @@ use Rattle.yaml_toml.proofs.Answering.{kept_then}
 use Rattle.yaml_toml.proofs.Pending.{size-push}
 use Rattle.yaml_toml.proofs.Fitting.{DocumentFits, nests_on, nests_stopped}
 use Rattle.yaml_toml.proofs.Running.{Running, innermost, runs_first, runs_on, runs_out, runs_stopped, stopped_first}
-use Rattle.yaml_toml.proofs.Stepping.{step_begun, value_of}
+use Rattle.yaml_toml.proofs.Stepping.{step_begun}
 use Rattle.yaml_toml.proofs.walk.write_root.Goals as goal
 
 abbrev Entry : Type 0
@@ -23,7 +23,7 @@ Entry = String Global × CodeNode × ℕ
 
 -- the root table is begun
 first_step : (settings : TomlSettings) (start now : WriterState) (root : TomlNodes) (r : Rest) (opened after : List Rest) (result : Result (Unit {0}) Stop)
-    → opened ≡ [] → table Header root ≡ value_of Header r → TomlStep settings (collection_due r) (walk_at start opened) result (walk_at now after)
+    → opened ≡ [] → table Header root ≡ value_of_rest Header r → TomlStep settings (collection_due r) (walk_at start opened) result (walk_at now after)
     → TomlStep settings (value_due (table Header root)) (walk_at start []) result (walk_at now after)
 first_step settings start now root r opened after result none seen step =
     step_begun settings start now Header r (table Header root) [] after result seen
