@@ -12,7 +12,7 @@ use Rattle.yaml_base.specs.values.TypedValues.{nesting, values_nesting, value_pa
 use Rattle.yaml_json_value.specs.Typed.{typed_value, typed_items, typed_members}
 
 max_below : (a b d : ℕ) → a ≤ d → b ≤ d → max a b ≤ d
-max_below a b d first second = grind (arith, first, second)
+max_below a b d first second = omega (arith, first, second)
 
 left_below : (a b d : ℕ) → max a b ≤ d → a ≤ d
 left_below a b d below = omega (arith, below, le-max_left a b)

@@ -1,15 +1,16 @@
 -- A token's answer, from where the walk stands after it.
 use Rattle.yaml_base.proofs.Common.{List, [], ◌∷◌, ◌++◌, refl, ◌≡◌, ap, subst, sym, ◌∙◌, Option, None, Some, ℕ}
-use Rattle.std.specs.Prelude.{Result, Ok, Err, option_map}
+use Rattle.std.specs.Prelude.{Result, Ok, Err, Vec, option_map}
 use Rattle.json.specs.Token.{Token}
 use Rattle.yaml_base.specs.values.TypedValues.{TypedValue}
 use Rattle.yaml_value.specs.declared.value.Value.{Value}
-use Rattle.yaml_json_value.specs.Standing.{OpenCollection, ValueStanding, give, take_token, within, with_value}
+use Rattle.yaml_json_value.specs.Standing.{OpenCollection, ValueStanding, end_list, end_map, give, name_member, take_token, within, with_value}
 use Rattle.yaml_json_value.specs.Typed.{IsIntegerToken}
 use Rattle.yaml_json_value.specs.Walked.{HasMore, IsIntegerIn, IsText, StandsAt, Taken, seen_open, seen_all_open}
 use Rattle.yaml_json_value.specs.declared.error.Stop.{Stop}
 use Rattle.yaml_json_value.specs.declared.error.Stop.TheVariants as stop
 use Rattle.yaml_json_value.specs.declared.levels.Level.{Level}
+use Rattle.yaml_json_value.specs.declared.levels.Level.TheVariants as code
 use Rattle.yaml_json_value.proofs.SeenLevels.{popped}
 
 pub taken_as : {A : Type 0} (token : Token) (before : List OpenCollection) (levels : List (Level A)) (due : Option ValueStanding)
@@ -69,3 +70,23 @@ entered level old new answer is items =
 pub not_entered : {A : Type 0} (due : Option ValueStanding) (levels : List (Level A)) (answer : Result (Option (Value A)) Stop) → answer ≡ Err stop.Memory
     → StandsAt due levels answer
 not_entered due levels answer is = subst (λ (r : Result (Option (Value _)) Stop). StandsAt due levels r) (sym is) tt
+
+-- ---- a level that is none of the kind that is asked for
+
+pub no_list : {A : Type 0} (level : Level A) (outer : List OpenCollection) → ((items : Vec (Value A) A) → level ≡ code.Items items → ⊥)
+    → end_list (seen_open level ∷ outer) ≡ None
+no_list (code.Items items) outer other = absurd (other items refl)
+no_list (code.Members members) outer other = refl
+no_list (code.MembersAndName members name) outer other = refl
+
+pub no_map : {A : Type 0} (level : Level A) (outer : List OpenCollection) → ((members : Vec (Value A × Value A) A) → level ≡ code.Members members → ⊥)
+    → end_map (seen_open level ∷ outer) ≡ None
+no_map (code.Items items) outer other = refl
+no_map (code.Members members) outer other = absurd (other members refl)
+no_map (code.MembersAndName members name) outer other = refl
+
+pub no_name : {A : Type 0} (level : Level A) (outer : List OpenCollection) (name : TypedValue)
+    → ((members : Vec (Value A × Value A) A) → level ≡ code.Members members → ⊥) → name_member (seen_open level ∷ outer) name ≡ None
+no_name (code.Items items) outer name other = refl
+no_name (code.Members members) outer name other = absurd (other members refl)
+no_name (code.MembersAndName members due) outer name other = refl

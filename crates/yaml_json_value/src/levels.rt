@@ -94,19 +94,6 @@ pub(crate) fn settle<A: Allocator>(
     }
 }
 
-fn end_list_at<A: Allocator>(
-    levels: &mut Vec<Level<A>, A>,
-    level: Level<A>,
-) -> Result<Option<Value<A>>, Stop>
-    ensures { StandsAt (end_list (seen_open level ∷ seen_all_open levels.old.items)) levels.new.items result }
-{
-    match level {
-        Level::Items(items) => settle(levels, Value::List(items)),
-        Level::Members(_) => Err(Stop::Misplaced),
-        Level::MembersAndName(_, _) => Err(Stop::Misplaced),
-    }
-}
-
 /// Ends the innermost list.
 pub(crate) fn leave_list<A: Allocator>(
     levels: &mut Vec<Level<A>, A>,
@@ -114,21 +101,11 @@ pub(crate) fn leave_list<A: Allocator>(
     ensures { StandsAt (end_list (seen_all_open levels.old.items)) levels.new.items result }
 {
     match levels.pop() {
-        Some(level) => end_list_at(levels, level),
+        Some(level) => match level {
+            Level::Items(items) => settle(levels, Value::List(items)),
+            _ => Err(Stop::Misplaced),
+        },
         None => Err(Stop::Misplaced),
-    }
-}
-
-fn end_map_at<A: Allocator>(
-    levels: &mut Vec<Level<A>, A>,
-    level: Level<A>,
-) -> Result<Option<Value<A>>, Stop>
-    ensures { StandsAt (end_map (seen_open level ∷ seen_all_open levels.old.items)) levels.new.items result }
-{
-    match level {
-        Level::Members(members) => settle(levels, Value::Map(members)),
-        Level::Items(_) => Err(Stop::Misplaced),
-        Level::MembersAndName(_, _) => Err(Stop::Misplaced),
     }
 }
 
@@ -139,22 +116,11 @@ pub(crate) fn leave_map<A: Allocator>(
     ensures { StandsAt (end_map (seen_all_open levels.old.items)) levels.new.items result }
 {
     match levels.pop() {
-        Some(level) => end_map_at(levels, level),
+        Some(level) => match level {
+            Level::Members(members) => settle(levels, Value::Map(members)),
+            _ => Err(Stop::Misplaced),
+        },
         None => Err(Stop::Misplaced),
-    }
-}
-
-fn name_at<A: Allocator>(
-    levels: &mut Vec<Level<A>, A>,
-    level: Level<A>,
-    name: Value<A>,
-) -> Result<Option<Value<A>>, Stop>
-    ensures { StandsAt (name_member (seen_open level ∷ seen_all_open levels.old.items) (seen_value name)) levels.new.items result }
-{
-    match level {
-        Level::Members(members) => enter(levels, Level::MembersAndName(members, name)),
-        Level::Items(_) => Err(Stop::Misplaced),
-        Level::MembersAndName(_, _) => Err(Stop::Misplaced),
     }
 }
 
@@ -166,7 +132,10 @@ pub(crate) fn give_name<A: Allocator>(
     ensures { StandsAt (name_member (seen_all_open levels.old.items) (seen_value name)) levels.new.items result }
 {
     match levels.pop() {
-        Some(level) => name_at(levels, level, name),
+        Some(level) => match level {
+            Level::Members(members) => enter(levels, Level::MembersAndName(members, name)),
+            _ => Err(Stop::Misplaced),
+        },
         None => Err(Stop::Misplaced),
     }
 }

@@ -10,8 +10,10 @@ use std::alloc::{AllocError, Allocator};
 fn is_spelled<A: Allocator + Copy>(alloc: A, number: i64, digits: &str) -> Result<bool, AllocError>
     ensures { IfOk result (λ same. Decides same (digits.now ≡ signed_decimal number)) }
 {
-    let spelled = format!(in alloc; "{number}")?;
-    Ok(digits == spelled.as_str())
+    match format!(in alloc; "{number}") {
+        Ok(spelled) => Ok(digits == spelled.as_str()),
+        Err(error) => Err(error),
+    }
 }
 
 /// Returns the integer of 64 bits whose decimal digits these are.

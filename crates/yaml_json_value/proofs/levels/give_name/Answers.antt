@@ -1,14 +1,28 @@
-use Rattle.std.proofs.Common.{List, ap, arith}
+use Rattle.std.proofs.Common.{◌∷◌, Err, List, ap, arith, subst, sym}
 use Rattle.yaml_value.specs.SeenValues.{seen_value}
 use Rattle.yaml_json_value.specs.Standing.{OpenCollection, name_member}
+use Rattle.yaml_json_value.specs.Walked.{StandsAt, seen_open, seen_all_open}
+use Rattle.yaml_json_value.specs.declared.error.Stop.TheVariants as stop
+use Rattle.yaml_json_value.specs.declared.levels.Level.{Level}
 use Rattle.yaml_json_value.proofs.SeenLevels.{no_levels}
-use Rattle.yaml_json_value.proofs.Taking.{on_innermost}
+use Rattle.yaml_json_value.proofs.Taking.{no_name, on_innermost}
 use Rattle.yaml_json_value.proofs.levels.give_name.Goals as goal
 
-pub returns-in-Some : goal.returns-in-Some
-returns-in-Some g c =
-    on_innermost (λ (levels : List OpenCollection). name_member levels (seen_value c.args.name)) c.args.levels.now.items c.pop.new.self.items
-    c.name_at.new.levels.items c.in-Some.level c.name_at.result c.in-Some.ensures.items c.name_at.ensures
+pub returns-in-Members : goal.returns-in-Members
+returns-in-Members g c =
+    let name = seen_value c.args.name in
+    let outer = seen_all_open c.pop.new.self.items in
+    let later = c.enter.new.levels.items in
+    on_innermost (λ (levels : List OpenCollection). name_member levels name) c.args.levels.now.items c.pop.new.self.items later c.in-Some.level
+    c.enter.result c.in-Some.ensures.items
+    (subst (λ (level : Level _). StandsAt (name_member (seen_open level ∷ outer) name) later c.enter.result) (sym c.in-Members.is) c.enter.ensures)
+
+pub returns-in_default : goal.returns-in_default
+returns-in_default g c =
+    let name = seen_value c.args.name in
+    let new = c.pop.new.self.items in
+    on_innermost (λ (levels : List OpenCollection). name_member levels name) c.args.levels.now.items new new c.in-Some.level (Err stop.Misplaced)
+    c.in-Some.ensures.items (no_name c.in-Some.level (seen_all_open new) name c.in_default.not-Members)
 
 pub returns-in-None : goal.returns-in-None
 returns-in-None g c =
