@@ -75,20 +75,6 @@ fn contents<A: Allocator + Copy>(rt: &impl Abort, alloc: A, given: &Given) -> ya
     }
 }
 
-/// Adds a node.
-fn add<A: Allocator + Copy>(
-    rt: &impl Abort,
-    alloc: A,
-    nodes: &mut Vec<yaml_node_t<A>, A>,
-    given: &Given,
-) {
-    let node = yaml_node_t {
-        tag: owned(rt, alloc, node_tag(given)),
-        contents: contents(rt, alloc, given),
-    };
-    nodes.push(node).expect(rt, "no memory");
-}
-
 pub(super) fn nodes<A: Allocator + Copy>(
     rt: &impl Abort,
     alloc: A,
@@ -96,17 +82,18 @@ pub(super) fn nodes<A: Allocator + Copy>(
 ) -> Vec<yaml_node_t<A>, A> {
     let mut nodes = Vec::with_capacity(alloc, given.len()).expect(rt, "no memory");
     for each in given {
-        add(rt, alloc, &mut nodes, each);
+        let node = yaml_node_t {
+            tag: owned(rt, alloc, node_tag(each)),
+            contents: contents(rt, alloc, each),
+        };
+        nodes.push(node).expect(rt, "no memory");
     }
     nodes
 }
 
 /// Returns a document of these nodes, without marks and directives.
-fn document<A: Allocator + Copy>(
-    rt: &impl Abort,
-    alloc: A,
-    nodes: Vec<yaml_node_t<A>, A>,
-) -> yaml_document_t<A> {
+fn document<A: Allocator + Copy>(rt: &impl Abort, alloc: A, given: &[Given]) -> yaml_document_t<A> {
+    let nodes = nodes(rt, alloc, given);
     assert!(rt; nodes.len() <= 2_000_000);
     yaml_document_t::from_nodes(None, Vec::new(alloc), nodes, true, true).expect(
         rt,

@@ -1,4 +1,6 @@
 //! Emitters from outside, step by step: outputs that are taken, deep collections, growths that are refused.
+ghost use Rattle.std.specs.Prelude.{◌≡◌, false};
+
 mod borrowed;
 pub(super) mod depth;
 mod early;
@@ -39,6 +41,36 @@ pub(super) const UNSET: Settings = Settings {
     limit: usize::MAX,
 };
 
+// What is on or off.
+fn set_flags<A: Allocator>(emitter: &mut yaml_emitter_t<A>, settings: &Settings)
+    requires { emitter.old.started ≡ false }
+    ensures { emitter.new.started ≡ false }
+{
+    yaml_emitter_set_canonical(emitter, settings.canonical);
+    yaml_emitter_set_unicode(emitter, settings.unicode);
+    yaml_emitter_set_line_breaks_1_2(emitter, settings.line_breaks_1_2);
+    yaml_emitter_set_portable(emitter, settings.portable);
+    yaml_emitter_set_indented_sequences(emitter, settings.indented_sequences);
+    yaml_emitter_set_literal_blanks(emitter, settings.literal_blanks);
+}
+
+// How lines begin and end, and the quotes.
+fn set_lines<A: Allocator>(emitter: &mut yaml_emitter_t<A>, settings: &Settings)
+    requires { emitter.old.started ≡ false }
+{
+    yaml_emitter_set_quotes(emitter, settings.quotes);
+    yaml_emitter_set_break(emitter, settings.line_break);
+    match (settings.indent, settings.width) {
+        (None, None) => {}
+        (Some(indent), None) => yaml_emitter_set_indent(emitter, indent),
+        (None, Some(width)) => yaml_emitter_set_width(emitter, width),
+        (Some(indent), Some(width)) => {
+            yaml_emitter_set_indent(emitter, indent);
+            yaml_emitter_set_width(emitter, width);
+        }
+    }
+}
+
 /// Makes an emitter before its stream, each setting made by a call of its own.
 pub(super) fn begun<A: Allocator + Copy>(
     alloc: A,
@@ -47,23 +79,8 @@ pub(super) fn begun<A: Allocator + Copy>(
     let mut emitter = yaml_emitter_initialize(alloc)?;
     yaml_emitter_set_output_string(&mut emitter, settings.limit);
     yaml_emitter_set_encoding(&mut emitter, settings.encoding);
-    yaml_emitter_set_canonical(&mut emitter, settings.canonical);
-    yaml_emitter_set_unicode(&mut emitter, settings.unicode);
-    yaml_emitter_set_quotes(&mut emitter, settings.quotes);
-    yaml_emitter_set_break(&mut emitter, settings.line_break);
-    yaml_emitter_set_line_breaks_1_2(&mut emitter, settings.line_breaks_1_2);
-    yaml_emitter_set_portable(&mut emitter, settings.portable);
-    yaml_emitter_set_indented_sequences(&mut emitter, settings.indented_sequences);
-    yaml_emitter_set_literal_blanks(&mut emitter, settings.literal_blanks);
-    match (settings.indent, settings.width) {
-        (None, None) => {}
-        (Some(indent), None) => yaml_emitter_set_indent(&mut emitter, indent),
-        (None, Some(width)) => yaml_emitter_set_width(&mut emitter, width),
-        (Some(indent), Some(width)) => {
-            yaml_emitter_set_indent(&mut emitter, indent);
-            yaml_emitter_set_width(&mut emitter, width);
-        }
-    }
+    set_flags(&mut emitter, settings);
+    set_lines(&mut emitter, settings);
     Ok(emitter)
 }
 
@@ -98,22 +115,36 @@ pub(super) fn flush_if_known<A: Allocator + Copy>(
     Ok(())
 }
 
+// A call answers the error, which is kept; nothing waits, and no more than so many bytes were flushed.
+fn check_stopped<A: Allocator>(
+    rt: &impl Abort,
+    emitter: &yaml_emitter_t<A>,
+    answer: Answer,
+    (error, length): (yaml_error_t, usize),
+) {
+    let got = (
+        answer,
+        emitter.error(),
+        emitter.held(),
+        emitter.output().len(),
+    );
+    equal(rt, &got, &(Err(error), Some(error), 0, length));
+}
+
 /// Checks that after an error each call answers it, an event and a flush; nothing waits, and nothing more is flushed.
 pub(super) fn check_failed<A: Allocator + Copy>(
     rt: &impl Abort,
     emitter: &mut yaml_emitter_t<A>,
     error: yaml_error_t,
 ) {
-    let kept = (Some(error), 0);
-    equal(rt, &(emitter.error(), emitter.held()), &kept);
     let length = emitter.output().len();
+    check_stopped(rt, emitter, Err(error), (error, length));
     let answer = give(rt, emitter, YAML_STREAM_END_EVENT);
-    equal(rt, &(answer, emitter.output().len()), &(Err(error), length));
+    check_stopped(rt, emitter, answer, (error, length));
     if emitter.encoding_known() {
         let answer = flush_if_known(rt, emitter);
-        equal(rt, &(answer, emitter.output().len()), &(Err(error), length));
+        check_stopped(rt, emitter, answer, (error, length));
     }
-    equal(rt, &(emitter.error(), emitter.held()), &kept);
 }
 
 /// Checks that a call answers so; the call in which a growth was refused, and each after it, that there is no memory.

@@ -1,7 +1,7 @@
 //! Names, versions, directives, and where a tag is cut.
 mod spelled;
 
-use super::{directives, equal};
+use super::{directives, equal, equal_at};
 use std::alloc::{Allocator, Global};
 use std::process::Abort;
 use yaml_base::{yaml_error_t, yaml_tag_directive_t, yaml_version_directive_t};
@@ -16,14 +16,23 @@ fn directive(rt: &impl Abort, alloc: Global, line: &str) -> yaml_tag_directive_t
 
 const DEFAULTS: &str = r#"+DOC 1 - "!" "!" "!!" "tag:yaml.org,2002:""#;
 
+// Adds the directives of a line, and whether they are defaults.
+fn append_all(
+    rt: &impl Abort,
+    alloc: Global,
+    added: &mut Directives<Global>,
+    (line, as_default): (&str, bool),
+) {
+    for given in &directives(rt, alloc, line) {
+        equal(rt, &added.append(given, as_default), &Ok(()));
+    }
+}
+
 // The directives in force in a document whose start is this line.
 fn in_force(rt: &impl Abort, alloc: Global, own: &str) -> Directives<Global> {
     let mut in_force = Directives::new(alloc);
-    for (line, as_default) in [(own, false), (DEFAULTS, true)] {
-        for given in &directives(rt, alloc, line) {
-            equal(rt, &in_force.append(given, as_default), &Ok(()));
-        }
-    }
+    append_all(rt, alloc, &mut in_force, (own, false));
+    append_all(rt, alloc, &mut in_force, (DEFAULTS, true));
     in_force
 }
 
@@ -34,9 +43,8 @@ fn check_all<A: Allocator>(
     wanted: &[yaml_tag_directive_t<A>],
 ) {
     equal(rt, &directives.len(), &wanted.len());
-    equal(rt, &directives.get(wanted.len()).is_none(), &true);
-    for (number, directive) in wanted.iter().enumerate() {
-        equal(rt, &directives.get(number), &Some(directive));
+    for number in 0..wanted.len().saturating_add(1) {
+        equal(rt, &directives.get(number), &wanted.get(number));
     }
 }
 
@@ -129,20 +137,25 @@ fn directives_are_refused_in_order(rt: HostRuntime) {
 /// A directive's line, and whether it is a default; what is said of it, and how many are then in force.
 type Given<'a> = (&'a str, bool, Answer, usize);
 
-// Directives are added, and so many are in force after each; in the end those of the start of a document.
-fn check_handles(
-    rt: &impl Abort,
-    alloc: Global,
-    added: &mut Directives<Global>,
-    rows: &[Given],
-    start: &str,
-) {
+// Directives are added, and so many are in force after each.
+fn check_given(rt: &impl Abort, alloc: Global, added: &mut Directives<Global>, rows: &[Given]) {
     for (line, as_default, answer, count) in rows {
         let given = directive(rt, alloc, line);
         let got = added.append(&given, *as_default);
         equal(rt, &(got, added.len()), &(*answer, *count));
     }
+}
+
+// In force are those of the start of a document.
+fn check_start(rt: &impl Abort, alloc: Global, added: &Directives<Global>, start: &str) {
     check_all(rt, added, directives(rt, alloc, start).as_slice());
+}
+
+// All are dropped, and then one is given alone.
+fn check_alone(rt: &impl Abort, alloc: Global, added: &mut Directives<Global>, line: &str) {
+    added.clear();
+    check_given(rt, alloc, added, &[(line, false, Ok(()), 1)]);
+    check_start(rt, alloc, added, line);
 }
 
 const TWICE: Answer = Err(yaml_error_t::DuplicateDirective);
@@ -162,11 +175,11 @@ const SECOND: &str = r#"+DOC 1 - "!!" "b""#;
 // All are dropped, and then the second is given alone.
 #[test]
 fn a_handle_is_given_once(rt: HostRuntime) {
-    let mut added = Directives::new(rt.alloc());
-    check_handles(&rt, rt.alloc(), &mut added, GIVEN, IN_FORCE);
-    added.clear();
-    let rows = &[(SECOND, false, Ok(()), 1)];
-    check_handles(&rt, rt.alloc(), &mut added, rows, SECOND);
+    let alloc = rt.alloc();
+    let mut added = Directives::new(alloc);
+    check_given(&rt, alloc, &mut added, GIVEN);
+    check_start(&rt, alloc, &added, IN_FORCE);
+    check_alone(&rt, alloc, &mut added, SECOND);
 }
 
 /// A tag, the number of its directive, and the length of that one's prefix.
@@ -183,11 +196,7 @@ fn check_cuts(rt: &impl Abort, directives: &Directives<Global>, rows: &[Cut]) {
             directive: *directive,
             prefix_length: *prefix_length,
         };
-        equal(
-            rt,
-            &(*tag, analyze_tag(tag, directives)),
-            &(*tag, Ok(wanted)),
-        );
+        equal_at(rt, tag, &analyze_tag(tag, directives), &Ok(wanted));
     }
 }
 
@@ -256,39 +265,30 @@ const GIVEN_AGAIN: &[Given] = &[
 // All are dropped, and then one of the many is given alone.
 #[test]
 fn a_handle_is_given_once_among_many(rt: HostRuntime) {
-    let mut added = Directives::new(rt.alloc());
-    for given in &directives(&rt, rt.alloc(), MANY) {
-        equal(&rt, &added.append(given, false), &Ok(()));
-    }
-    for (line, as_default, answer, count) in GIVEN_AGAIN {
-        let given = directive(&rt, rt.alloc(), line);
-        let got = added.append(&given, *as_default);
-        equal(&rt, &(got, added.len()), &(*answer, *count));
-    }
-    added.clear();
-    let again = r#"+DOC 1 - "!8!" "t:a""#;
-    let rows = &[(again, false, Ok(()), 1)];
-    check_handles(&rt, rt.alloc(), &mut added, rows, again);
+    let alloc = rt.alloc();
+    let mut added = Directives::new(alloc);
+    append_all(&rt, alloc, &mut added, (MANY, false));
+    check_given(&rt, alloc, &mut added, GIVEN_AGAIN);
+    check_alone(&rt, alloc, &mut added, r#"+DOC 1 - "!8!" "t:a""#);
 }
 
 type Heap = Refusing<Global>;
 
 // Adds a directive. Where a growth is refused, the answer is `Memory` and the list is as before; the directive is then added again.
-fn check_added<'a>(
+fn check_added<A: Allocator + Copy>(
     rt: &impl Abort,
-    heap: &'a Heap,
-    directives: &mut Directives<&'a Heap>,
-    given: &yaml_tag_directive_t<&'a Heap>,
+    heap: &Heap,
+    directives: &mut Directives<A>,
+    given: &yaml_tag_directive_t<A>,
 ) {
     let (before, left) = (directives.len(), heap.left());
-    let answer = directives.append(given, false);
+    let mut answer = directives.append(given, false);
     if left != 0 && heap.left() == 0 {
-        let memory = Err(yaml_error_t::Memory);
-        equal(rt, &(answer, directives.len()), &(memory, before));
-        equal(rt, &directives.append(given, false), &Ok(()));
-    } else {
-        equal(rt, &answer, &Ok(()));
+        let refused = (Err(yaml_error_t::Memory), before);
+        equal(rt, &(answer, directives.len()), &refused);
+        answer = directives.append(given, false);
     }
+    equal(rt, &answer, &Ok(()));
 }
 
 /// The last two are more than are compared one after another.
@@ -296,20 +296,30 @@ const ADDED: &str =
     r#"+DOC 1 - "!first!" "p" "!second-of-them!" "tag:a-long-prefix.example,2000:" "!3!" "q" "!4!" "r" "!5!" "s" "!6!" "t" "!7!" "u" "!8!" "v" "!9!" "w" "!10!" "xx""#;
 
 // Directives are added with this growth refused.
-fn add_refused(rt: &impl Abort, heap: &Heap, number: usize) {
-    let given = directives(rt, heap, ADDED);
-    let mut added = Directives::new(heap);
+fn add_refused<A: Allocator + Copy>(
+    rt: &impl Abort,
+    heap: &Heap,
+    added: &mut Directives<A>,
+    given: &[yaml_tag_directive_t<A>],
+    number: usize,
+) {
     heap.refuse(number);
-    for directive in &given {
-        check_added(rt, heap, &mut added, directive);
+    for directive in given {
+        check_added(rt, heap, added, directive);
     }
-    check_all(rt, &added, given.as_slice());
+    check_all(rt, added, given);
+}
+
+fn make_and_add<A: Allocator + Copy>(rt: &impl Abort, heap: &Heap, alloc: A, number: usize) {
+    let given = directives(rt, alloc, ADDED);
+    let mut added = Directives::new(alloc);
+    add_refused(rt, heap, &mut added, given.as_slice(), number);
 }
 
 // Answers whether there is that growth.
 fn is_refused(rt: &impl Abort, alloc: Global, number: usize) -> bool {
     let heap = Refusing::new(alloc);
-    add_refused(rt, &heap, number);
+    make_and_add(rt, &heap, &heap, number);
     heap.left() == 0
 }
 

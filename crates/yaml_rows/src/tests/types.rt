@@ -3,7 +3,6 @@ mod documents;
 
 use super::{check_words, equal};
 use std::alloc::Global;
-use std::process::Abort;
 use yaml_base::*;
 
 #[test]
@@ -14,12 +13,6 @@ fn the_default_event_is_the_end_of_a_stream(rt: HostRuntime) {
 
 /// An error, its kind, what is wrong, and its words.
 type Refusal<'a> = (yaml_error_t, yaml_error_type_t, &'a str, &'a str);
-
-fn check_refusal(rt: &impl Abort, alloc: Global, row: &Refusal) {
-    let got = (row.0, row.0.kind(), row.0.problem());
-    equal(rt, &got, &(row.0, row.1, row.2));
-    check_words(rt, alloc, &row.0, row.3);
-}
 
 const NO_NODE: &str = "expected SCALAR, SEQUENCE-START, MAPPING-START, or ALIAS";
 
@@ -57,8 +50,10 @@ const REFUSALS: &[Refusal] = &[
 
 #[test]
 fn refusals_have_their_words(rt: HostRuntime) {
-    for row in REFUSALS {
-        check_refusal(&rt, rt.alloc(), row);
+    for (error, kind, problem, words) in REFUSALS {
+        let got = (*error, error.kind(), error.problem());
+        equal(&rt, &got, &(*error, *kind, *problem));
+        check_words(&rt, rt.alloc(), error, words);
     }
 }
 

@@ -1,6 +1,6 @@
 //! Documents composed of events, and lists of events that no document has.
 use super::Given::{Mapping, Sequence, Text};
-use super::{Given, document, nodes};
+use super::{Given, document};
 use crate::tests::{check_words, equal, event_of};
 use std::alloc::Global;
 use std::process::Abort;
@@ -78,7 +78,7 @@ const HOLDS_ITSELF: (&[&str], &[Given]) = (
 
 fn check_composed(rt: &impl Abort, alloc: Global, lines: &[&str], given: &[Given]) {
     let events = events_of_lines(rt, alloc, lines);
-    let wanted = document(rt, alloc, nodes(rt, alloc, given));
+    let wanted = document(rt, alloc, given);
     let composed = document_of_events(alloc, events.as_slice()).expect(rt, "a document");
     equal(rt, &composed, &wanted);
 }

@@ -1,6 +1,7 @@
 //! Documents as events: tables of graphs, with the events worked out by hand.
 use super::Given::{Flow, Mapping, Quoted, Sequence, Text};
-use super::{Given, add, document, marked_document, nodes};
+use super::large::{numbers, sequences};
+use super::{Given, document, marked_document};
 use crate::tests::{equal, event_of};
 use std::alloc::Global;
 use std::process::Abort;
@@ -20,8 +21,9 @@ fn check_events(rt: &impl Abort, alloc: Global, graph: &yaml_document_t<Global>,
     let events = events_of(rt, alloc, graph);
     let script = read_script(alloc, lines.as_bytes()).expect(rt, "lines");
     equal(rt, &events.len(), &script.events.len());
-    for (event, wanted) in events.iter().zip(script.events.as_slice()) {
-        equal(rt, event, &wanted.event);
+    for place in 0..events.len() {
+        let wanted = script.events.get(place).expect(rt, "an event");
+        equal(rt, &events.get(place), &Some(&wanted.event));
     }
 }
 
@@ -73,7 +75,7 @@ const GRAPHS: &[(&[Given], &str)] = &[
 #[test]
 fn nodes_are_met_from_the_root_in_their_order(rt: HostRuntime) {
     for (given, lines) in GRAPHS {
-        let graph = document(&rt, rt.alloc(), nodes(&rt, rt.alloc(), given));
+        let graph = document(&rt, rt.alloc(), given);
         check_events(&rt, rt.alloc(), &graph, lines);
     }
 }
@@ -98,16 +100,6 @@ fn tags_styles_and_directives_are_copied(rt: HostRuntime) {
     check_events(&rt, rt.alloc(), &tagged, TAGGED_EVENTS);
 }
 
-/// Returns a text in sequences, each the one item of the one before: so many nodes.
-fn in_each_other(rt: &impl Abort, alloc: Global, count: i32) -> yaml_document_t<Global> {
-    let mut nodes = Vec::new(alloc);
-    for number in 2..=count {
-        add(rt, alloc, &mut nodes, &Sequence(&[number]));
-    }
-    add(rt, alloc, &mut nodes, &Text("a"));
-    document(rt, alloc, nodes)
-}
-
 /// Places, from 0 on, each with its event's line: the text behind 99,999 starts, the last of as many ends, and the document's end.
 const DEEP: &[(usize, &str)] = &[
     (100_000, r#"=VAL any 1 1 - "tag:yaml.org,2002:str" "a""#),
@@ -115,7 +107,9 @@ const DEEP: &[(usize, &str)] = &[
     (200_000, "-DOC 1"),
 ];
 
-fn check_deep(rt: &impl Abort, alloc: Global, events: &[yaml_event_t<Global>]) {
+// A text in sequences, each the one item of the one before.
+fn check_deep(rt: &impl Abort, alloc: Global, given: &[Given]) {
+    let events = events_of(rt, alloc, &document(rt, alloc, given));
     equal(rt, &events.len(), &200_001);
     for (place, line) in DEEP {
         let wanted = event_of(rt, alloc, line);
@@ -125,7 +119,8 @@ fn check_deep(rt: &impl Abort, alloc: Global, events: &[yaml_event_t<Global>]) {
 
 #[test]
 fn nodes_may_lie_a_hundred_thousand_deep(rt: HostRuntime) {
-    let graph = in_each_other(&rt, rt.alloc(), 100_000);
-    let events = events_of(&rt, rt.alloc(), &graph);
-    check_deep(&rt, rt.alloc(), events.as_slice());
+    let alloc = rt.alloc();
+    let numbers = numbers(&rt, alloc, 100_000, 1);
+    let given = sequences(&rt, alloc, numbers.as_slice(), 1, (Text("a"), 1));
+    check_deep(&rt, alloc, given.as_slice());
 }

@@ -2,7 +2,7 @@
 use super::Given::{Sequence, Text};
 use super::events::events_of;
 use super::steps::Step::{Close, Dump, Output};
-use super::{Given, document, nodes};
+use super::{Given, document};
 use crate::tests::emitters::UNSET;
 use crate::tests::emitters::depth::dashes;
 use crate::tests::emitters::steps::{check_growths, check_steps};
@@ -13,25 +13,23 @@ use std::process::Abort;
 use yaml_base::yaml_error_t;
 use yaml_emitter::Settings;
 
-/// Returns sequences of so many of these numbers each.
-fn sequences<'a>(
+/// Returns sequences of so many of these numbers each, and a node behind them, so often.
+pub(super) fn sequences<'a>(
     rt: &impl Abort,
     alloc: Global,
     numbers: &'a [i32],
     size: usize,
+    (last, count): (Given<'a>, usize),
 ) -> Vec<Given<'a>> {
     assert!(rt; size != 0);
     let mut given = Vec::new(alloc);
     for items in numbers.chunks(size) {
         given.push(Sequence(items)).expect(rt, "no memory");
     }
-    given
-}
-
-fn add_texts<'a>(rt: &impl Abort, given: &mut Vec<Given<'a>>, text: &'a str, count: usize) {
     for _ in 0..count {
-        given.push(Text(text)).expect(rt, "no memory");
+        given.push(last).expect(rt, "no memory");
     }
+    given
 }
 
 /// Adds a line of an item, which is an anchor or an alias and what follows it.
@@ -72,21 +70,25 @@ fn check_text<'a>(rt: &impl Abort, alloc: Global, given: &'a [Given<'a>], text: 
     check_steps(rt, alloc, &UNSET, &steps);
 }
 
+// A document of these nodes has so many events.
+fn check_count(rt: &impl Abort, alloc: Global, given: &[Given], count: usize) {
+    let events = events_of(rt, alloc, &document(rt, alloc, given));
+    equal(rt, &events.len(), &count);
+}
+
 // Of forty sequences: 80 starts and ends, the text once, an alias for each second meeting, and the document's own two.
 #[test]
 fn shared_nodes_in_each_other_are_written_once(rt: HostRuntime) {
     let alloc = rt.alloc();
     let pairs = numbers(&rt, alloc, 41, 2);
-    let mut given = sequences(&rt, alloc, pairs.as_slice(), 2);
-    add_texts(&rt, &mut given, "a", 1);
-    let graph = document(&rt, alloc, nodes(&rt, alloc, given.as_slice()));
-    equal(&rt, &events_of(&rt, alloc, &graph).len(), &123);
+    let given = sequences(&rt, alloc, pairs.as_slice(), 2, (Text("a"), 1));
+    check_count(&rt, alloc, given.as_slice(), 123);
     let text = nested_text(&rt, alloc);
     check_text(&rt, alloc, given.as_slice(), text.as_str());
 }
 
 /// Returns the numbers from 2 to the last, each so many times.
-fn numbers(rt: &impl Abort, alloc: Global, last: i32, times: usize) -> Vec<i32> {
+pub(super) fn numbers(rt: &impl Abort, alloc: Global, last: i32, times: usize) -> Vec<i32> {
     let mut numbers = Vec::new(alloc);
     for number in 2..=last {
         for _ in 0..times {
@@ -120,8 +122,7 @@ fn shared_text(rt: &impl Abort, alloc: Global, count: usize) -> String {
 
 // One sequence holds so many texts, each twice.
 fn check_shared(rt: &impl Abort, alloc: Global, doubled: &[i32], count: usize) {
-    let mut given = sequences(rt, alloc, doubled, doubled.len());
-    add_texts(rt, &mut given, "x", count);
+    let given = sequences(rt, alloc, doubled, doubled.len(), (Text("x"), count));
     let text = shared_text(rt, alloc, count);
     check_text(rt, alloc, given.as_slice(), text.as_str());
 }
@@ -138,8 +139,7 @@ fn shared_texts_are_written_once(rt: HostRuntime) {
 fn forty_nodes_in_each_other_are_written(rt: HostRuntime) {
     let alloc = rt.alloc();
     let numbers = numbers(&rt, alloc, 40, 1);
-    let mut given = sequences(&rt, alloc, numbers.as_slice(), 1);
-    add_texts(&rt, &mut given, "a", 1);
+    let given = sequences(&rt, alloc, numbers.as_slice(), 1, (Text("a"), 1));
     let indicators = repeated(&rt, alloc, "- ", 39);
     let text = joined(&rt, alloc, &[indicators.as_str(), "a\n"]);
     check_text(&rt, alloc, given.as_slice(), text.as_str());
@@ -154,8 +154,7 @@ const ENDLESS: Settings = Settings {
 // growth of its own.
 fn check_too_many(rt: &impl Abort, alloc: Global, growths: Range<usize>) {
     let numbers = numbers(rt, alloc, 1_000_001, 1);
-    let mut given = sequences(rt, alloc, numbers.as_slice(), 1);
-    given.push(Sequence(&[])).expect(rt, "no memory");
+    let given = sequences(rt, alloc, numbers.as_slice(), 1, (Sequence(&[]), 1));
     let flushed = dashes(rt, alloc);
     let steps = [
         Dump(given.as_slice(), Err(yaml_error_t::TooDeep)),

@@ -1,5 +1,5 @@
 //! Calls on one emitter, and what is then so, as tables write them; also with each growth refused in turn.
-use super::{Given, close, document, dump, nodes};
+use super::{Given, close, document, dump};
 use crate::tests::emitters::steps::{Taken, check_steps};
 use crate::tests::emitters::{Answer, check_answer, give};
 use crate::tests::{equal, same};
@@ -39,13 +39,6 @@ fn open<A: Allocator + Copy>(rt: &impl Abort, emitter: &mut yaml_emitter_t<A>) -
     yaml_emitter_open(emitter)
 }
 
-fn start<A: Allocator + Copy>(rt: &impl Abort, emitter: &mut yaml_emitter_t<A>) -> Answer {
-    let event = YAML_STREAM_START_EVENT {
-        encoding: YAML_ANY_ENCODING,
-    };
-    give(rt, emitter, event)
-}
-
 /// Returns a document of these nodes, of which no growth is refused.
 fn granted<A: Allocator + Copy>(
     rt: &impl Abort,
@@ -55,7 +48,7 @@ fn granted<A: Allocator + Copy>(
 ) -> yaml_document_t<A> {
     let number = heap.left();
     heap.refuse(0);
-    let document = document(rt, alloc, nodes(rt, alloc, given));
+    let document = document(rt, alloc, given);
     heap.refuse(number);
     document
 }
@@ -77,6 +70,43 @@ fn dump_again<A: Allocator + Copy>(
     dump(rt, alloc, emitter, granted(rt, heap, alloc, given))
 }
 
+// Makes the call of a step. Returns how it is answered, and how it is to be; nothing where the step is no call.
+fn answers<A: Allocator + Copy>(
+    rt: &impl Abort,
+    heap: &Refusing<Global>,
+    alloc: A,
+    emitter: &mut yaml_emitter_t<A>,
+    step: &Step,
+) -> Option<(Answer, Answer)> {
+    match step {
+        Step::Open(answer) => Some((open(rt, emitter), *answer)),
+        Step::Start(answer) => {
+            let start = YAML_STREAM_START_EVENT {
+                encoding: YAML_ANY_ENCODING,
+            };
+            Some((give(rt, emitter, start), *answer))
+        }
+        Step::End(answer) => Some((give(rt, emitter, YAML_STREAM_END_EVENT), *answer)),
+        Step::Dump(given, answer) => {
+            Some((dump_again(rt, heap, alloc, emitter, given), *answer))
+        }
+        Step::Close(answer) => Some((close(rt, emitter), *answer)),
+        _ => None,
+    }
+}
+
+// What stands is so, and no event waits.
+fn check_standing<A: Allocator>(rt: &impl Abort, emitter: &yaml_emitter_t<A>, step: &Step) {
+    match step {
+        Step::Opened(is_opened) => equal(rt, &emitter.is_opened(), is_opened),
+        Step::Closed(is_closed) => equal(rt, &emitter.is_closed(), is_closed),
+        Step::Output(bytes) => same(rt, emitter.output(), bytes),
+        Step::Error(error) => equal(rt, &emitter.error(), error),
+        _ => {}
+    }
+    equal(rt, &emitter.held(), &0);
+}
+
 impl Taken for Step<'_> {
     // No event waits after any step.
     fn take<A: Allocator + Copy>(
@@ -86,27 +116,10 @@ impl Taken for Step<'_> {
         alloc: A,
         emitter: &mut yaml_emitter_t<A>,
     ) {
-        match self {
-            Step::Open(answer) => check_answer(rt, heap, open(rt, emitter), *answer),
-            Step::Start(answer) => check_answer(rt, heap, start(rt, emitter), *answer),
-            Step::End(answer) => {
-                check_answer(rt, heap, give(rt, emitter, YAML_STREAM_END_EVENT), *answer)
-            }
-            Step::Dump(given, answer) => {
-                check_answer(
-                    rt,
-                    heap,
-                    dump_again(rt, heap, alloc, emitter, given),
-                    *answer,
-                )
-            }
-            Step::Close(answer) => check_answer(rt, heap, close(rt, emitter), *answer),
-            Step::Opened(is_opened) => equal(rt, &emitter.is_opened(), is_opened),
-            Step::Closed(is_closed) => equal(rt, &emitter.is_closed(), is_closed),
-            Step::Output(bytes) => same(rt, emitter.output(), bytes),
-            Step::Error(error) => equal(rt, &emitter.error(), error),
+        if let Some((answer, wanted)) = answers(rt, heap, alloc, emitter, self) {
+            check_answer(rt, heap, answer, wanted);
         }
-        equal(rt, &emitter.held(), &0);
+        check_standing(rt, emitter, self);
     }
 
     fn output(&self) -> Option<&[u8]> {

@@ -1,13 +1,13 @@
 //! Documents dumped with their types, and typed events: texts and flags worked out by hand.
 use super::Given::{Flow, Mapping, Quoted, Sequence, Tagged, Text};
-use super::{Given, close, document, dump_typed, nodes};
-use crate::tests::emitters::{UNSET, made};
+use super::{Given, close, document, dump_typed};
+use crate::tests::emitters::{Answer, UNSET, made};
 use crate::tests::{equal, event_of, same};
 use std::alloc::Global;
 use std::process::Abort;
 use yaml_base::yaml_node_pair_t;
 use yaml_dump::typed_event;
-use yaml_emitter::Settings;
+use yaml_emitter::{Settings, yaml_emitter_t};
 
 const NULL: &str = "tag:yaml.org,2002:null";
 
@@ -107,14 +107,22 @@ const IN_FULL: Settings = Settings {
     ..UNSET
 };
 
-fn check(rt: &impl Abort, alloc: Global, settings: &Settings, rows: &[Row]) {
-    for row in rows {
-        let mut emitter = made(rt, alloc, settings);
-        let document = document(rt, alloc, nodes(rt, alloc, row.0));
-        equal(rt, &dump_typed(rt, alloc, &mut emitter, document), &Ok(()));
-        equal(rt, &close(rt, &mut emitter), &Ok(()));
-        same(rt, emitter.output(), row.1.as_bytes());
-    }
+// A dump of these nodes and a close are answered so.
+fn dump_and_close(
+    rt: &impl Abort,
+    alloc: Global,
+    emitter: &mut yaml_emitter_t<Global>,
+    given: &[Given],
+) -> [Answer; 2] {
+    let document = document(rt, alloc, given);
+    [dump_typed(rt, alloc, emitter, document), close(rt, emitter)]
+}
+
+fn check(rt: &impl Abort, alloc: Global, settings: &Settings, row: &Row) {
+    let mut emitter = made(rt, alloc, settings);
+    let answers = dump_and_close(rt, alloc, &mut emitter, row.0);
+    equal(rt, &answers, &[Ok(()); 2]);
+    same(rt, emitter.output(), row.1.as_bytes());
 }
 
 /// Rows under settings.
@@ -128,7 +136,9 @@ const TABLES: &[(&Settings, &[Row])] = &[
 #[test]
 fn a_typed_dump_keeps_the_type_of_each_scalar(rt: HostRuntime) {
     for (settings, rows) in TABLES {
-        check(&rt, rt.alloc(), settings, rows);
+        for row in *rows {
+            check(&rt, rt.alloc(), settings, row);
+        }
     }
 }
 

@@ -247,14 +247,24 @@ fn check_lines<A: Allocator + Copy>(
     same(rt, emitter.output(), row.3.as_bytes());
 }
 
+fn check_row<A: Allocator + Copy>(
+    rt: &impl Abort,
+    heap: &Refusing<Global>,
+    alloc: A,
+    row: &Row,
+    way: Way,
+) {
+    let mut emitter = made(rt, alloc, row.0);
+    check_lines(rt, heap, alloc, &mut emitter, (row, way));
+}
+
 #[test]
 fn borrowed_scalars_stand_as_their_events_do(rt: HostRuntime) {
     let heap = Refusing::new(rt.alloc());
     for (rows, ways) in TABLES {
         for row in *rows {
             for way in *ways {
-                let mut emitter = made(&rt, &heap, row.0);
-                check_lines(&rt, &heap, &heap, &mut emitter, (row, *way));
+                check_row(&rt, &heap, &heap, row, *way);
             }
         }
     }

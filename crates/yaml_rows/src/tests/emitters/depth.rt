@@ -25,7 +25,8 @@ pub(crate) fn dashes(rt: &impl Abort, alloc: Global) -> String {
 // Two more may wait; the next makes the collection ready that is one too many.
 #[test]
 fn a_million_collections_may_be_open(rt: HostRuntime) {
-    let flushed = dashes(&rt, rt.alloc());
+    let alloc = rt.alloc();
+    let flushed = dashes(&rt, alloc);
     let steps = [
         Emit("+STR any"),
         Emit("+DOC 1 -"),
@@ -36,7 +37,7 @@ fn a_million_collections_may_be_open(rt: HostRuntime) {
         Output(flushed.as_str().as_bytes()),
         Failed(yaml_error_t::TooDeep),
     ];
-    check_steps(&rt, rt.alloc(), ENDLESS, &steps);
+    check_steps(&rt, alloc, ENDLESS, &steps);
 }
 
 /// Returns a million brackets that open, as many that close, and the line's end.
@@ -48,7 +49,8 @@ pub(crate) fn brackets(rt: &impl Abort, alloc: Global) -> String {
 
 #[test]
 fn a_million_brackets_are_closed(rt: HostRuntime) {
-    let text = brackets(&rt, rt.alloc());
+    let alloc = rt.alloc();
+    let text = brackets(&rt, alloc);
     let steps = [
         Emit("+STR any"),
         Emit("+DOC 1 -"),
@@ -61,5 +63,5 @@ fn a_million_brackets_are_closed(rt: HostRuntime) {
         Emit("-STR"),
         Held(0),
     ];
-    check_steps(&rt, rt.alloc(), ENDLESS, &steps);
+    check_steps(&rt, alloc, ENDLESS, &steps);
 }

@@ -2,6 +2,7 @@
 use super::{UNSET, begun, give, made};
 use crate::tests::{equal, event_of};
 use linked_list_allocator::LocalHeap;
+use std::alloc::Allocator;
 use std::process::Abort;
 use yaml_base::yaml_error_t;
 use yaml_emitter::{yaml_emitter_delete, yaml_emitter_t};
@@ -9,11 +10,7 @@ use yaml_emitter::{yaml_emitter_delete, yaml_emitter_t};
 const SHORT: &[&str] = &["+STR any", "+DOC 1 -", r#"=VAL any 1 1 - - "a""#];
 
 // The heap has room for one emitter, and not for two.
-fn check_full<'a>(
-    rt: &impl Abort,
-    heap: &'a LocalHeap,
-    emitter: &mut yaml_emitter_t<&'a LocalHeap>,
-) {
+fn check_full<A: Allocator + Copy>(rt: &impl Abort, heap: A, emitter: &mut yaml_emitter_t<A>) {
     for line in SHORT {
         let answer = give(rt, emitter, event_of(rt, heap, line));
         equal(rt, &answer, &Ok(()));
@@ -21,7 +18,7 @@ fn check_full<'a>(
     equal(rt, &begun(heap, &UNSET).err(), &Some(yaml_error_t::Memory));
 }
 
-fn fill_and_delete(rt: &impl Abort, heap: &LocalHeap) {
+fn fill_and_delete<A: Allocator + Copy>(rt: &impl Abort, heap: A) {
     let mut emitter = made(rt, heap, &UNSET);
     check_full(rt, heap, &mut emitter);
     yaml_emitter_delete(emitter);

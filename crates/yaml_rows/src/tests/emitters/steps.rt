@@ -120,27 +120,14 @@ fn emit_until_refused<A: Allocator + Copy>(
     }
 }
 
-fn take_step<A: Allocator + Copy>(
-    rt: &impl Abort,
-    heap: &Refusing<Global>,
-    alloc: A,
-    emitter: &mut yaml_emitter_t<A>,
-    step: &Step,
-) {
+// What stands is so.
+fn check_standing<A: Allocator>(rt: &impl Abort, emitter: &yaml_emitter_t<A>, step: &Step) {
     match step {
-        Step::Emit(line) => emit_one(rt, heap, alloc, emitter, (line, Ok(()))),
-        Step::Repeat(line, times, held) => {
-            emit_until_refused(rt, heap, alloc, emitter, (line, *times, *held))
-        }
-        Step::Refused(line, error) => { emit_one(rt, heap, alloc, emitter, (line, Err(*error))) }
-        Step::Flush(answer) => check_answer(rt, heap, flush_if_known(rt, emitter), *answer),
-        Step::Take(bytes) => check_taken(rt, emitter, bytes),
-        Step::Consume(bytes) => check_consumed(rt, emitter, bytes),
         Step::Output(bytes) => same(rt, emitter.output(), bytes),
         Step::Held(held) => equal(rt, &emitter.held(), held),
         Step::Known(is_known) => equal(rt, &emitter.encoding_known(), is_known),
         Step::Started(is_started) => equal(rt, &emitter.is_started(), is_started),
-        Step::Failed(error) => check_failed(rt, emitter, *error),
+        _ => {}
     }
 }
 
@@ -152,7 +139,20 @@ impl Taken for Step<'_> {
         alloc: A,
         emitter: &mut yaml_emitter_t<A>,
     ) {
-        take_step(rt, heap, alloc, emitter, self);
+        match self {
+            Step::Emit(line) => emit_one(rt, heap, alloc, emitter, (line, Ok(()))),
+            Step::Repeat(line, times, held) => {
+                emit_until_refused(rt, heap, alloc, emitter, (line, *times, *held))
+            }
+            Step::Refused(line, error) => {
+                emit_one(rt, heap, alloc, emitter, (line, Err(*error)))
+            }
+            Step::Flush(answer) => check_answer(rt, heap, flush_if_known(rt, emitter), *answer),
+            Step::Take(bytes) => check_taken(rt, emitter, bytes),
+            Step::Consume(bytes) => check_consumed(rt, emitter, bytes),
+            Step::Failed(error) => check_failed(rt, emitter, *error),
+            _ => check_standing(rt, emitter, self),
+        }
     }
 
     fn output(&self) -> Option<&[u8]> {
@@ -191,7 +191,21 @@ fn take_steps<A: Allocator + Copy, S: Taken>(
     }
 }
 
-// On an emitter of their own the steps are taken with this growth refused. Answers whether there is that growth.
+// On an emitter of their own the steps are taken.
+fn make_and_take<A: Allocator + Copy, S: Taken>(
+    rt: &impl Abort,
+    heap: &Refusing<Global>,
+    alloc: A,
+    settings: &Settings,
+    steps: &[S],
+) {
+    match begun(alloc, settings) {
+        Ok(mut emitter) => take_steps(rt, heap, alloc, &mut emitter, steps),
+        Err(error) => check_answer(rt, heap, Err(error), Ok(())),
+    }
+}
+
+// The steps are taken with this growth refused. Answers whether there is that growth.
 fn is_refused<S: Taken>(
     rt: &impl Abort,
     alloc: Global,
@@ -201,10 +215,7 @@ fn is_refused<S: Taken>(
 ) -> bool {
     let heap = Refusing::new(alloc);
     heap.refuse(number);
-    match begun(&heap, settings) {
-        Ok(mut emitter) => take_steps(rt, &heap, &heap, &mut emitter, steps),
-        Err(error) => check_answer(rt, &heap, Err(error), Ok(())),
-    }
+    make_and_take(rt, &heap, &heap, settings, steps);
     // It was refused; or no growth was refused before another dump, from which on so many are left.
     heap.left() == 0 || heap.left() > number
 }

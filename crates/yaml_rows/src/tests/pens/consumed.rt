@@ -37,15 +37,23 @@ fn consume<A: Allocator>(rt: &impl Abort, pen: &mut Pen<A>)
     same(rt, pen.output(), b"");
 }
 
+// Three letters, of which two are consumed and one is taken.
+fn check_three<A: Allocator + Copy>(rt: &impl Abort, pen: &mut Pen<A>)
+    requires { IsReady pen.old }
+    ensures { IsReady pen.new }
+{
+    consume(rt, pen);
+    check_letter(rt, pen, b'a', Ok(()), b"a");
+    check_letter(rt, pen, b'b', Ok(()), b"ab");
+    consume(rt, pen);
+    check_letter(rt, pen, b'c', Ok(()), b"c");
+    same(rt, pen.take_output().as_slice(), b"c");
+}
+
 #[test]
 fn what_is_consumed_is_taken(rt: HostRuntime) {
     let mut pen = made(&rt, rt.alloc(), 4, YAML_UTF8_ENCODING);
-    consume(&rt, &mut pen);
-    check_letter(&rt, &mut pen, b'a', Ok(()), b"a");
-    check_letter(&rt, &mut pen, b'b', Ok(()), b"ab");
-    consume(&rt, &mut pen);
-    check_letter(&rt, &mut pen, b'c', Ok(()), b"c");
-    same(&rt, pen.take_output().as_slice(), b"c");
+    check_three(&rt, &mut pen);
     check_letter(&rt, &mut pen, b'd', Ok(()), b"d");
     // The limit counts all four.
     check_letter(&rt, &mut pen, b'e', Err(yaml_error_t::WriteError), b"d");
@@ -66,14 +74,18 @@ fn consume_letters<A: Allocator>(rt: &impl Abort, pen: &mut Pen<A>)
     consume(rt, pen);
 }
 
+fn consume_parts<A: Allocator + Copy>(rt: &impl Abort, alloc: A) {
+    let mut pen = made(rt, alloc, usize::MAX, YAML_UTF8_ENCODING);
+    consume_letters(rt, &mut pen);
+    consume_letters(rt, &mut pen);
+    consume_letters(rt, &mut pen);
+}
+
 // The pen's own growth and that of the first part are all.
 #[test]
 fn parts_are_consumed_in_the_room_of_one(rt: HostRuntime) {
     let heap = Refusing::new(rt.alloc());
     heap.refuse(3);
-    let mut pen = made(&rt, &heap, usize::MAX, YAML_UTF8_ENCODING);
-    consume_letters(&rt, &mut pen);
-    consume_letters(&rt, &mut pen);
-    consume_letters(&rt, &mut pen);
+    consume_parts(&rt, &heap);
     equal(&rt, &heap.left(), &1);
 }

@@ -49,11 +49,15 @@ fn check_text<A: Allocator>(rt: &impl Abort, alloc: Global, pen: &mut Pen<A>, ro
     check_bytes(rt, pen.output(), 0, row.3, row.1);
 }
 
+fn check_pen<A: Allocator + Copy>(rt: &impl Abort, alloc: Global, heap: A, row: &Row) {
+    let mut pen = made(rt, heap, usize::MAX, YAML_UTF8_ENCODING);
+    check_text(rt, alloc, &mut pen, row);
+}
+
 fn check_growth(rt: &impl Abort, alloc: Global, row: &Row) {
     let heap = Refusing::new(alloc);
     heap.refuse(row.2);
-    let mut pen = made(rt, &heap, usize::MAX, YAML_UTF8_ENCODING);
-    check_text(rt, alloc, &mut pen, row);
+    check_pen(rt, alloc, &heap, row);
     equal(rt, &heap.left(), &usize::from(row.3 == WHOLE));
 }
 

@@ -9,7 +9,7 @@ use std::process::Abort;
 use yaml_base::yaml_error_t;
 use yaml_emitter::yaml_emitter_t;
 use yaml_test_allocator::Refusing;
-use yaml_tool::{NumberedEvent, read_script, run_answer_t};
+use yaml_tool::{NumberedEvent, Script, read_script, run_answer_t};
 
 /// An output below this size is flushed at ends and by the caller alone.
 const BUFFER_SIZE: usize = 16_384;
@@ -108,13 +108,13 @@ fn add(rt: &impl Abort, walk: &mut Walk, kind: Kind) -> bool {
     held(walk.given.as_slice()) > waiting
 }
 
-// An event that is only kept asks for no growth.
+// An event that is only kept asks for no growth. Answers what the event is.
 fn check_emit<A: Allocator + Copy>(
     rt: &impl Abort,
     walk: &mut Walk,
     emitter: &mut yaml_emitter_t<A>,
     numbered: NumberedEvent<A>,
-) {
+) -> Kind {
     let kind = kind_of(&numbered.event);
     let is_kept = add(rt, walk, kind);
     let wanted = emit_answer(&walk.row, numbered.line, kind);
@@ -124,29 +124,31 @@ fn check_emit<A: Allocator + Copy>(
         equal_at(rt, walk.name, &walk.heap.left(), &left);
     }
     check_answer(rt, walk, answer, wanted, emitter.held());
+    kind
 }
 
-// An event, and a flush after it where the row has one.
-fn check_event<A: Allocator + Copy>(
+// What was flushed by an event of this line, and a flush after it where the row has one.
+fn check_flushes<A: Allocator + Copy>(
     rt: &impl Abort,
     walk: &mut Walk,
     emitter: &mut yaml_emitter_t<A>,
-    numbered: NumberedEvent<A>,
+    line: u64,
+    kind: Kind,
 ) {
-    let line = numbered.line;
-    let ends = matches!(kind_of(&numbered.event), Kind::FlushingEnd);
-    let flushes = walk.row.flushes.is_after(line);
-    check_emit(rt, walk, emitter, numbered);
+    let ends = matches!(kind, Kind::FlushingEnd);
     if ends {
         walk.flushes = walk.flushes.saturating_add(1);
     }
     if ends || walk.row.output.len() < BUFFER_SIZE {
         check_output(rt, walk, emitter.output());
     }
-    if flushes && !ends {
+    if !walk.row.flushes.is_after(line) {
+        return;
+    }
+    if !ends {
         walk.flushes = walk.flushes.saturating_add(1);
     }
-    if flushes && emitter.encoding_known() {
+    if emitter.encoding_known() {
         check_flush(rt, walk, emitter, flush_answer(&walk.row, line));
     }
 }
@@ -159,7 +161,9 @@ fn check_events<A: Allocator + Copy>(
     events: Vec<NumberedEvent<A>, A>,
 ) {
     for numbered in events {
-        check_event(rt, walk, emitter, numbered);
+        let line = numbered.line;
+        let kind = check_emit(rt, walk, emitter, numbered);
+        check_flushes(rt, walk, emitter, line, kind);
     }
     walk.flushes = usize::MAX;
     if emitter.encoding_known() {
@@ -170,27 +174,43 @@ fn check_events<A: Allocator + Copy>(
     }
 }
 
-/// Makes the calls of a row, with this growth refused.
-fn call_refused(rt: &impl Abort, alloc: Global, heap: &Refusing<Global>, row: &Row, number: usize) {
-    let script = read_script(heap, row.script.as_bytes()).expect(rt, "a script");
-    let mut walk = Walk {
-        row: *row,
-        name: row.script.get(..NAME_LENGTH).unwrap_or(row.script),
-        heap,
-        given: Vec::new(alloc),
-        flushes: 0,
-    };
-    heap.refuse(number);
-    match begun(heap, &script.settings) {
-        Ok(mut emitter) => check_events(rt, &mut walk, &mut emitter, script.events),
-        Err(error) => equal(rt, &(heap.left(), error), &(0, yaml_error_t::Memory)),
+// An emitter of its own takes a script.
+fn check_script<A: Allocator + Copy>(
+    rt: &impl Abort,
+    walk: &mut Walk,
+    alloc: A,
+    script: Script<A>,
+) {
+    match begun(alloc, &script.settings) {
+        Ok(mut emitter) => check_events(rt, walk, &mut emitter, script.events),
+        Err(error) => equal(rt, &(walk.heap.left(), error), &(0, yaml_error_t::Memory)),
     }
+}
+
+/// Makes the calls of a row, with this growth refused.
+fn call_refused<A: Allocator + Copy>(
+    rt: &impl Abort,
+    heap: &Refusing<Global>,
+    alloc: A,
+    walk: &mut Walk,
+    number: usize,
+) {
+    let script = read_script(alloc, walk.row.script.as_bytes()).expect(rt, "a script");
+    heap.refuse(number);
+    check_script(rt, walk, alloc, script);
 }
 
 /// Answers whether there is that growth.
 pub(super) fn is_refused(rt: &impl Abort, alloc: Global, row: &Row, number: usize) -> bool {
     let heap = Refusing::new(alloc);
-    call_refused(rt, alloc, &heap, row, number);
+    let mut walk = Walk {
+        row: *row,
+        name: row.script.get(..NAME_LENGTH).unwrap_or(row.script),
+        heap: &heap,
+        given: Vec::new(alloc),
+        flushes: 0,
+    };
+    call_refused(rt, &heap, &heap, &mut walk, number);
     heap.left() == 0
 }
 

@@ -21,23 +21,25 @@ fn check_once(rt: &impl Abort, alloc: Global, row: &Row) {
 // Behind the collection that is one too many two may wait. The next one, in this line, makes it ready.
 #[test]
 fn a_million_collections_may_be_open(rt: HostRuntime) {
-    let opened = repeated(&rt, rt.alloc(), "+SEQ block 1 - -\n", MOST + 3);
-    let script = joined(&rt, rt.alloc(), &[START, opened.as_str()]);
-    let flushed = dashes(&rt, rt.alloc());
+    let alloc = rt.alloc();
+    let opened = repeated(&rt, alloc, "+SEQ block 1 - -\n", MOST + 3);
+    let script = joined(&rt, alloc, &[START, opened.as_str()]);
+    let flushed = dashes(&rt, alloc);
     let row = Row {
         answer: run_answer_t::Refused(1_000_006, yaml_error_t::TooDeep),
         ..Row::done(script.as_str(), flushed.as_str().as_bytes())
     };
-    check_once(&rt, rt.alloc(), &row);
+    check_once(&rt, alloc, &row);
 }
 
 #[test]
 fn a_million_brackets_are_closed(rt: HostRuntime) {
-    let opened = repeated(&rt, rt.alloc(), "+SEQ flow 1 - -\n", MOST);
-    let closed = repeated(&rt, rt.alloc(), "-SEQ\n", MOST);
+    let alloc = rt.alloc();
+    let opened = repeated(&rt, alloc, "+SEQ flow 1 - -\n", MOST);
+    let closed = repeated(&rt, alloc, "-SEQ\n", MOST);
     let parts = [START, opened.as_str(), closed.as_str(), "-DOC 1\n-STR"];
-    let script = joined(&rt, rt.alloc(), &parts);
-    let text = brackets(&rt, rt.alloc());
-    let row = Row::done(script.as_str(), text.as_str().as_bytes());
-    check_once(&rt, rt.alloc(), &row);
+    let script = joined(&rt, alloc, &parts);
+    let text = brackets(&rt, alloc);
+    let row = Row::done(script.as_str(), text.as_bytes());
+    check_once(&rt, alloc, &row);
 }

@@ -52,12 +52,17 @@ fn check_style(rt: &impl Abort, alloc: Global, value: &str, style: &str, text: &
     check_script(rt, alloc, ENDLESS, row.as_str());
 }
 
+/// Returns a text up to the first `;`, that up to the second, and what follows it.
+fn cut_twice<'a>(rt: &impl Abort, row: &'a str) -> (&'a str, &'a str, &'a str) {
+    let (first, rest) = cut(rt, row);
+    let (second, rest) = cut(rt, rest);
+    (first, second, rest)
+}
+
 // What can't be plain is between single quotes.
 fn check_value(rt: &impl Abort, alloc: Global, row: &str) {
-    let (value, texts) = cut(rt, row);
-    let (single, texts) = cut(rt, texts);
-    let (double, blocks) = cut(rt, texts);
-    let (literal, folded) = cut(rt, blocks);
+    let (value, single, texts) = cut_twice(rt, row);
+    let (double, literal, folded) = cut_twice(rt, texts);
     let single = allowed(single, double);
     let plain = if PLAIN.contains(&value) {
         value

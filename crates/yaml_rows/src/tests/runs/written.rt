@@ -33,23 +33,30 @@ fn push(rt: &impl Abort, text: &mut String, part: &str) {
     text.push_str(part).expect(rt, "no memory");
 }
 
-// A line of a row. The ends of documents and of streams flush.
-fn add(rt: &impl Abort, alloc: Global, beginning: &mut Beginning, line: &str) {
-    let line = meant(rt, alloc, line);
-    let (line, ready) = line
-        .as_str()
-        .split_once(" |")
-        .unwrap_or((line.as_str(), ""));
+/// Returns whether there is a flush after a line. The ends of documents and of streams flush.
+fn is_flushed(flushes: Flushes, line: &str) -> bool {
+    matches!(flushes, Flushes::Each) || line.starts_with("-DOC") || line.starts_with("-STR")
+}
+
+// A line of a script, and what is then ready.
+fn add_line(rt: &impl Abort, beginning: &mut Beginning, line: &str, ready: &str) {
     if !beginning.script.is_empty() {
         push(rt, &mut beginning.script, "\n");
     }
     push(rt, &mut beginning.script, line);
     push(rt, &mut beginning.output, ready);
-    let ends = line.starts_with("-DOC") || line.starts_with("-STR");
-    if ends || matches!(beginning.flushes, Flushes::Each) {
+    if is_flushed(beginning.flushes, line) {
         let length = beginning.output.len();
         beginning.lengths.push(length).expect(rt, "no memory");
     }
+}
+
+// A line of a row.
+fn add(rt: &impl Abort, alloc: Global, beginning: &mut Beginning, line: &str) {
+    let line = meant(rt, alloc, line);
+    let line = line.as_str();
+    let (line, ready) = line.split_once(" |").unwrap_or((line, ""));
+    add_line(rt, beginning, line, ready);
 }
 
 fn check(rt: &impl Abort, alloc: Global, beginning: &Beginning) {

@@ -3,7 +3,7 @@ ghost use Rattle.yaml_pen.specs.Page.{IsReady};
 
 use super::{Layout, begun_within, write_in};
 use crate::tests::pens::check_flushed;
-use crate::tests::{equal, same};
+use crate::tests::{equal, equal_at, same};
 use std::alloc::Global;
 use std::process::Abort;
 use yaml_base::{
@@ -23,23 +23,37 @@ const NARROW: &Layout = &Layout {
     width: 2,
 };
 
+const REFUSED: Result<i32, yaml_error_t> = Err(yaml_error_t::WriteError);
+
+/// A value for each style, and nothing.
+const VALUES: &[(yaml_scalar_style_t, &str)] = &[
+    (YAML_PLAIN_SCALAR_STYLE, "bar"),
+    (YAML_PLAIN_SCALAR_STYLE, ""),
+    (YAML_SINGLE_QUOTED_SCALAR_STYLE, "c"),
+    (YAML_DOUBLE_QUOTED_SCALAR_STYLE, "c"),
+    (YAML_LITERAL_SCALAR_STYLE, "\na b"),
+    (YAML_FOLDED_SCALAR_STYLE, "\na b"),
+];
+
+// Each writer is refused.
+fn check_writers(rt: &impl Abort, pen: &mut Pen<Global>)
+    requires { IsReady pen.old }
+    ensures { IsReady pen.new }
+{
+    'values: for value in VALUES {
+        let answer = write_in(pen, NARROW, value.0, value.1);
+        equal_at(rt, value.1, &answer, &REFUSED);
+    }
+}
+
 // The flush is refused and writes this, and then each writer is refused.
 fn check_stopped(rt: &impl Abort, pen: &mut Pen<Global>, cut: &[u8])
     requires { IsReady pen.old }
 {
-    let refused = Err(yaml_error_t::WriteError);
-    equal(rt, &pen.flush(), &refused);
+    equal(rt, &pen.flush(), &Err(yaml_error_t::WriteError));
     same(rt, pen.output(), cut);
-    let stopped = [
-        write_in(pen, NARROW, YAML_PLAIN_SCALAR_STYLE, "bar").err(),
-        write_in(pen, NARROW, YAML_PLAIN_SCALAR_STYLE, "").err(),
-        write_in(pen, NARROW, YAML_SINGLE_QUOTED_SCALAR_STYLE, "c").err(),
-        write_in(pen, NARROW, YAML_DOUBLE_QUOTED_SCALAR_STYLE, "c").err(),
-        write_in(pen, NARROW, YAML_LITERAL_SCALAR_STYLE, "\na b").err(),
-        write_in(pen, NARROW, YAML_FOLDED_SCALAR_STYLE, "\na b").err(),
-        write_block_scalar_hints(pen, "a\n", 2).err(),
-    ];
-    equal(rt, &stopped, &[Some(yaml_error_t::WriteError); 7]);
+    check_writers(rt, pen);
+    equal(rt, &write_block_scalar_hints(pen, "a\n", 2), &REFUSED);
     same(rt, pen.output(), cut);
 }
 

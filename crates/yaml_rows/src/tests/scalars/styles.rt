@@ -1,6 +1,5 @@
 //! Styles that are known from outside, from the value to the choice.
 use crate::tests::{equal, equal_at};
-use std::process::Abort;
 use yaml_base::{
     YAML_ANY_SCALAR_STYLE, YAML_DOUBLE_QUOTED_SCALAR_STYLE, YAML_FOLDED_SCALAR_STYLE,
     YAML_LITERAL_SCALAR_STYLE, YAML_PLAIN_SCALAR_STYLE, YAML_SINGLE_QUOTED_SCALAR_STYLE,
@@ -11,20 +10,6 @@ use yaml_scalar::{analyze_scalar, select_scalar_style};
 /// A value, whether unicode and the line breaks of YAML 1.2 are on; whether it has several lines; what may hold it:
 /// plain in flow, plain in block, single quotes, a block.
 type Analysis<'a> = (&'a str, bool, bool, bool, bool, bool, bool, bool);
-
-fn check_analysis(rt: &impl Abort, row: &Analysis) {
-    let (value, unicode, breaks12, multiline, flow, block, single, lines) = *row;
-    let data = analyze_scalar(value, unicode, breaks12);
-    let got = [
-        data.multiline,
-        data.flow_plain_allowed,
-        data.block_plain_allowed,
-        data.single_quoted_allowed,
-        data.block_allowed,
-    ];
-    let wanted = [multiline, flow, block, single, lines];
-    equal_at(rt, value, &got, &wanted);
-}
 
 const ANALYSES: &[Analysis] = &[
     ("foo", false, false, false, true, true, true, true),
@@ -46,7 +31,17 @@ const ANALYSES: &[Analysis] = &[
 #[test]
 fn values_are_analysed(rt: HostRuntime) {
     for row in ANALYSES {
-        check_analysis(&rt, row);
+        let (value, unicode, breaks12, multiline, flow, block, single, lines) = *row;
+        let data = analyze_scalar(value, unicode, breaks12);
+        let got = [
+            data.multiline,
+            data.flow_plain_allowed,
+            data.block_plain_allowed,
+            data.single_quoted_allowed,
+            data.block_allowed,
+        ];
+        let wanted = [multiline, flow, block, single, lines];
+        equal_at(&rt, value, &got, &wanted);
     }
 }
 
