@@ -49,9 +49,15 @@ fn bytes_are_handed_on_while_a_value_is_written(rt: HostRuntime) {
     equal(&rt, &(is_custom, sink.taken.len() >= 60_000), &(true, true));
 }
 
-/// Gives a value to a writer, and returns whether that is done. (Tests need none of the clauses of the call.)
-fn is_given<T: Serialize>(alloc: Global, writer: &mut Writer<Global>, value: &T) -> bool {
-    write(alloc, writer, value).is_ok()
+/// Gives a value to a writer, which is done or not. (Tests need none of the clauses of the call.)
+fn check_given<T: Serialize>(
+    rt: &impl Abort,
+    alloc: Global,
+    writer: &mut Writer<Global>,
+    value: &T,
+    is_done: &bool,
+) {
+    equal(rt, &write(alloc, writer, value).is_ok(), is_done);
 }
 
 /// Begins a sequence whose first item has a tag.
@@ -64,13 +70,12 @@ fn begin_tagged(writer: &mut Writer<Global>) -> Result<(), yaml_error_t> {
 fn give_nodes(rt: &impl Abort, alloc: Global, writer: &mut Writer<Global>) {
     equal(rt, &begin_tagged(writer), &Ok(()));
     let server = alpha(alloc).expect(rt, "no memory");
-    let server = is_given(alloc, writer, &server);
-    let limits = is_given(alloc, writer, &LIMITS);
-    let text = is_given(alloc, writer, &"no");
+    check_given(rt, alloc, writer, &server, &true);
+    check_given(rt, alloc, writer, &LIMITS, &true);
+    check_given(rt, alloc, writer, &"no", &true);
     let ends = (writer.end(), writer.next_document());
-    let point = is_given(alloc, writer, &Point(1, -2));
-    equal(rt, &[server, limits, text, point], &[true; 4]);
     equal(rt, &ends, &(Ok(()), Ok(())));
+    check_given(rt, alloc, writer, &Point(1, -2), &true);
 }
 
 #[test]
@@ -86,18 +91,10 @@ fn a_value_is_a_node_of_a_writer(rt: HostRuntime) {
 /// Checks that a value ends only what it began.
 fn give_ends(rt: &impl Abort, alloc: Global, writer: &mut Writer<Global>) {
     equal(rt, &begin_tagged(writer), &Ok(()));
-    let ender = is_given(alloc, writer, &ByHand::End);
-    let none = is_given(alloc, writer, &ByHand::Values(0, None));
-    let number = is_given(alloc, writer, &1u8);
-    equal(rt, &(ender, none, number), &(false, false, true));
+    check_given(rt, alloc, writer, &ByHand::End, &false);
+    check_given(rt, alloc, writer, &ByHand::Values(0, None), &false);
+    check_given(rt, alloc, writer, &1u8, &true);
     equal(rt, &writer.end(), &Ok(()));
-}
-
-/// Checks that an error that a value ignores comes back.
-fn give_deaf(rt: &impl Abort, alloc: Global, writer: &mut Writer<Global>) {
-    let is_given = is_given(alloc, writer, &ByHand::Deaf);
-    let error = Some(yaml_error_t::ExpectedDocumentEnd);
-    equal(rt, &(is_given, writer.error()), &(false, error));
 }
 
 #[test]
@@ -106,5 +103,7 @@ fn a_value_ends_only_what_it_began(rt: HostRuntime) {
     give_ends(&rt, rt.alloc(), &mut ended);
     answers(&rt, finished(ended), &Ok("---\n- !server 1\n"));
     let mut refused = writer(&rt, rt.alloc(), value_settings());
-    give_deaf(&rt, rt.alloc(), &mut refused);
+    check_given(&rt, rt.alloc(), &mut refused, &ByHand::Deaf, &false);
+    let error = Some(yaml_error_t::ExpectedDocumentEnd);
+    equal(&rt, &refused.error(), &error);
 }

@@ -36,15 +36,19 @@ fn is_another(row: &Row) -> bool {
 fn check_spelling(rt: &impl Abort, alloc: Global, row: &Row) {
     let spelling = spelling(rt, alloc, row.0);
     let is_changed = matches!(spelling, Some(Spelling::Changed(_)));
-    equal(rt, &(row.0, is_changed), &(row.0, is_another(row)));
     let wanted = match row.1 {
         Some((text, _)) => Some(text),
         None => None,
     };
-    match &spelling {
-        Some(found) => equal(rt, &(row.0, Some(found.as_str())), &(row.0, wanted)),
-        None => equal(rt, &(row.0, None), &(row.0, wanted)),
-    }
+    let found = match &spelling {
+        Some(found) => Some(found.as_str()),
+        None => None,
+    };
+    equal(
+        rt,
+        &(row.0, is_changed, found),
+        &(row.0, is_another(row), wanted),
+    );
 }
 
 const NUMBERS: &[Row] = &[

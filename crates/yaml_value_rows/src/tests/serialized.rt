@@ -155,35 +155,51 @@ fn give_numbers<S: Serializer>(out: &mut S, count: u32) -> Result<(), S::Error> 
     Ok(())
 }
 
+/// Gives the name of a variant with data, and no data.
+fn give_name<S: Serializer>(out: &mut S) -> Result<(), S::Error> {
+    out.begin_map(Some(1))?;
+    out.variant_key("Named", Case::AsIs)?;
+    out.end_map()
+}
+
+/// Gives so many values, and then a complaint or none.
+fn give_values<S: Serializer>(
+    out: &mut S,
+    count: u32,
+    complaint: &Option<&'static str>,
+) -> Result<(), S::Error> {
+    give_numbers(out, count)?;
+    match complaint {
+        Some(complaint) => Err(out.custom(complaint)),
+        None => Ok(()),
+    }
+}
+
+/// Gives so many lines of a sequence, and then a complaint.
+fn give_lines<S: Serializer>(out: &mut S, count: u32) -> Result<(), S::Error> {
+    out.begin_seq(None)?;
+    give_numbers(out, count)?;
+    Err(out.custom("not today"))
+}
+
+/// Gives two values, and ignores how the second is answered.
+fn give_deaf<S: Serializer>(out: &mut S) -> Result<(), S::Error> {
+    out.unit()?;
+    let _ignored = out.unit();
+    Ok(())
+}
+
 impl Described for ByHand<'_> {}
 
 impl Serialize for ByHand<'_> {
     fn serialize<S: Serializer>(&self, out: &mut S) -> Result<(), S::Error> {
         match self {
             ByHand::Raw(bytes) => out.bytes(bytes),
-            ByHand::Name => {
-                out.begin_map(Some(1))?;
-                out.variant_key("Named", Case::AsIs)?;
-                out.end_map()
-            }
-            ByHand::Values(count, complaint) => {
-                give_numbers(out, *count)?;
-                match complaint {
-                    Some(complaint) => Err(out.custom(complaint)),
-                    None => Ok(()),
-                }
-            }
-            ByHand::Lines(count) => {
-                out.begin_seq(None)?;
-                give_numbers(out, *count)?;
-                Err(out.custom("not today"))
-            }
+            ByHand::Name => give_name(out),
+            ByHand::Values(count, complaint) => give_values(out, *count, complaint),
+            ByHand::Lines(count) => give_lines(out, *count),
             ByHand::End => out.end_seq(),
-            ByHand::Deaf => {
-                out.unit()?;
-                let _ignored = out.unit();
-                Ok(())
-            }
+            ByHand::Deaf => give_deaf(out),
         }
     }
 }

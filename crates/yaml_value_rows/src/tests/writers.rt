@@ -85,6 +85,31 @@ fn give_timestamp(
 /// Gives a call of a writer; an error for what is none.
 fn give(writer: &mut Writer<Global>, call: &Call) -> Result<(), yaml_error_t> {
     match call {
+        Call::Text(text) => writer.text(text),
+        Call::Styled(style, text) => writer.text_styled(*style, text),
+        Call::Number(text) => give_number(writer, text),
+        Call::Date(year, month, day) => {
+            give_timestamp(writer, Date::new(*year, *month, *day), None)
+        }
+        Call::Time(hour, minute, second) => give_timestamp(
+            writer,
+            Date::new(2001, 12, 14),
+            Time::new(*hour, *minute, *second, 0, None),
+        ),
+        Call::Null => writer.null(),
+        Call::Bool(value) => writer.bool(*value),
+        Call::Int(value) => writer.int(*value),
+        Call::Unsigned(value) => writer.unsigned(*value),
+        Call::Float(value) => writer.float(*value),
+        Call::Single(value) => writer.single(*value),
+        Call::Bytes(value) => writer.bytes(value),
+        _ => give_part(writer, call),
+    }
+}
+
+/// Gives a call that is no scalar; an error for what is none.
+fn give_part(writer: &mut Writer<Global>, call: &Call) -> Result<(), yaml_error_t> {
+    match call {
         Call::Sequence => writer.begin_sequence(YAML_BLOCK_SEQUENCE_STYLE),
         Call::Flow => writer.begin_sequence(YAML_FLOW_SEQUENCE_STYLE),
         Call::Mapping => writer.begin_mapping(YAML_BLOCK_MAPPING_STYLE),
@@ -94,30 +119,34 @@ fn give(writer: &mut Writer<Global>, call: &Call) -> Result<(), yaml_error_t> {
         Call::Anchored(name) => writer.anchored(name),
         Call::Tagged(tag) => writer.tagged(tag),
         Call::Alias(name) => writer.alias(name),
-        Call::Null => writer.null(),
-        Call::Bool(value) => writer.bool(*value),
-        Call::Int(value) => writer.int(*value),
-        Call::Unsigned(value) => writer.unsigned(*value),
-        Call::Text(text) => writer.text(text),
-        Call::Styled(style, text) => writer.text_styled(*style, text),
-        Call::Number(text) => give_number(writer, text),
-        Call::Float(value) => writer.float(*value),
-        Call::Single(value) => writer.single(*value),
-        Call::Bytes(value) => writer.bytes(value),
-        Call::Date(year, month, day) => {
-            give_timestamp(writer, Date::new(*year, *month, *day), None)
-        }
-        Call::Time(hour, minute, second) => give_timestamp(
-            writer,
-            Date::new(2001, 12, 14),
-            Time::new(*hour, *minute, *second, 0, None),
-        ),
         _ => Err(yaml_error_t::ExpectedNothing),
     }
 }
 
 /// A call, with its place: the name of its table, and its number in it.
 type Placed<'a> = (&'static str, usize, &'a Call);
+
+/// Begins another stream, and returns the writer of the one before.
+fn ended(
+    rt: &impl Abort,
+    alloc: Global,
+    settings: Settings,
+    writer: &mut Writer<Global>,
+) -> Writer<Global> {
+    replace(writer, tests::writer(rt, alloc, settings))
+}
+
+/// Checks that the call of this place gives this.
+fn check_given(
+    rt: &impl Abort,
+    writer: &mut Writer<Global>,
+    place: (&'static str, usize),
+    call: &Call,
+    wanted: Result<(), yaml_error_t>,
+) {
+    let answer = give(writer, call);
+    equal(rt, &(place.0, place.1, answer), &(place.0, place.1, wanted));
+}
 
 /// Checks that the call gives what it should.
 fn check_call(
@@ -129,22 +158,18 @@ fn check_call(
 ) {
     match row.2 {
         Call::Finish(wanted) => {
-            let ended = replace(writer, tests::writer(rt, alloc, settings));
+            let ended = ended(rt, alloc, settings, writer);
             answers(rt, finished(ended), wanted);
         }
         Call::FinishAfterEnd(text) => {
-            let ended = replace(writer, tests::writer(rt, alloc, settings));
+            let ended = ended(rt, alloc, settings, writer);
             answers(rt, ended.finish_after(DocumentEnd::Explicit), &Ok(text));
         }
         Call::Taken(text) => same(rt, writer.take_output().as_slice(), text),
         Call::Refused(call, error) => {
-            let answer = give(writer, call);
-            equal(rt, &(row.0, row.1, answer), &(row.0, row.1, Err(*error)));
+            check_given(rt, writer, (row.0, row.1), call, Err(*error));
         }
-        call => {
-            let answer = give(writer, call);
-            equal(rt, &(row.0, row.1, answer), &(row.0, row.1, Ok(())));
-        }
+        call => check_given(rt, writer, (row.0, row.1), call, Ok(())),
     }
 }
 

@@ -73,17 +73,18 @@ fn document_of(
 }
 
 /// Dumps two documents into one stream; the second has no nodes, which closes the stream.
-fn two_dumps(
+fn dump_both(
     alloc: Global,
+    emitter: &mut yaml_emitter_t<Global>,
     first: yaml_document_t<Global>,
     empty: yaml_document_t<Global>,
-) -> Result<Vec<u8>, yaml_error_t> {
-    let mut emitter = yaml_emitter_initialize(alloc)?;
-    yaml_emitter_set_output_string(&mut emitter, usize::MAX);
-    yaml_emitter_open(&mut emitter)?;
-    yaml_emitter_dump(alloc, &mut emitter, first)?;
-    yaml_emitter_dump(alloc, &mut emitter, empty)?;
-    Vec::from_slice(alloc, emitter.output()).map_err(|_| yaml_error_t::Memory)
+) -> Result<(), yaml_error_t>
+    requires output { emitter.old.has_output ≡ true }
+    requires not_opened { emitter.old.opened ≡ false }
+{
+    yaml_emitter_open(emitter)?;
+    yaml_emitter_dump(alloc, emitter, first)?;
+    yaml_emitter_dump(alloc, emitter, empty)
 }
 
 /// Gives the nodes of a document without its directives, in a stream whose start was emitted as an event.
@@ -137,16 +138,18 @@ fn named(rt: &impl Abort, alloc: Global) -> yaml_document_t<Global> {
     document.expect(rt, "each number names a node")
 }
 
+/// Checks that the document of a mapping of one text to another is written so.
+fn check_written(rt: &impl Abort, alloc: Global, texts: &[&str], expected: &str) {
+    let document = mapping(rt, alloc, 3, texts).expect(rt, "each number names a node");
+    equal(rt, &document.node_count(), &3);
+    answers(rt, yaml_of(alloc, document, 100), &Ok(expected));
+}
+
 #[test]
 fn a_document_is_written_where_each_number_names_a_node(rt: HostRuntime) {
-    let alloc = rt.alloc();
-    let document = named(&rt, alloc);
-    equal(&rt, &document.node_count(), &3);
-    answers(&rt, yaml_of(alloc, document, 100), &Ok("name: beta\n"));
-    let document = mapping(&rt, alloc, 3, &["country", "no"]);
-    let document = document.expect(&rt, "each number names a node");
-    answers(&rt, yaml_of(alloc, document, 100), &Ok("country: 'no'\n"));
-    let refused = mapping(&rt, alloc, 4, &["name", "beta"]).err();
+    check_written(&rt, rt.alloc(), &["name", "beta"], "name: beta\n");
+    check_written(&rt, rt.alloc(), &["country", "no"], "country: 'no'\n");
+    let refused = mapping(&rt, rt.alloc(), 4, &["name", "beta"]).err();
     equal(&rt, &refused, &Some(NodeNumber(4)));
 }
 
@@ -171,28 +174,35 @@ fn a_sequence_has_a_node_twice(rt: HostRuntime) {
     answers(&rt, bytes, &Ok("both: [&id001 beta, *id001]\n"));
 }
 
+/// Returns a document of a mapping that is its own value.
+fn circle(rt: &impl Abort, alloc: Global) -> yaml_document_t<Global> {
+    mapping(rt, alloc, 1, &["me"]).expect(rt, "each number names a node")
+}
+
 /// Dumps two documents: the first is a mapping that is its own value, and the second is empty.
 fn check_circle(
     rt: &impl Abort,
     alloc: Global,
-    circle: yaml_document_t<Global>,
+    emitter: &mut yaml_emitter_t<Global>,
     empty: yaml_document_t<Global>,
-) {
-    let events = document_events(alloc, &circle).expect(rt, "no memory");
-    equal(rt, &(events.len(), empty.is_empty()), &(6, true));
-    drop(events);
-    let bytes = two_dumps(alloc, circle, empty);
-    answers(rt, bytes, &Ok("&id001\nme: *id001\n"));
+)
+    requires output { emitter.old.has_output ≡ true }
+    requires not_opened { emitter.old.opened ≡ false }
+{
+    equal(rt, &empty.is_empty(), &true);
+    let answer = dump_both(alloc, emitter, circle(rt, alloc), empty);
+    equal(rt, &answer, &Ok(()));
+    same(rt, emitter.output(), "&id001\nme: *id001\n");
 }
 
 #[test]
 fn a_node_met_twice_has_an_anchor(rt: HostRuntime) {
-    let alloc = rt.alloc();
-    let circle = mapping(&rt, alloc, 1, &["me"]);
-    let circle = circle.expect(&rt, "each number names a node");
-    let empty = document_of(alloc, Vec::new(alloc));
+    let events = document_events(rt.alloc(), &circle(&rt, rt.alloc()));
+    equal(&rt, &events.expect(&rt, "no memory").len(), &6);
+    let empty = document_of(rt.alloc(), Vec::new(rt.alloc()));
+    let mut emitter = emitter_with_output(&rt, rt.alloc());
     let empty = empty.expect(&rt, "there are no numbers");
-    check_circle(&rt, alloc, circle, empty);
+    check_circle(&rt, rt.alloc(), &mut emitter, empty);
 }
 
 /// Checks that a document's nodes follow the start of a stream.

@@ -48,20 +48,31 @@ fn hosts_are_written(rt: HostRuntime) {
     equal(&rt, &yaml.as_str(), &expected);
 }
 
-/// Sends JSON values as the documents of a stream, each handed on to a sink as it ends.
+/// Gives JSON values as documents, each handed on to a sink as the next begins.
+fn give_each<W: Write>(
+    alloc: Global,
+    writer: &mut Writer<Global>,
+    values: &[serde_json::Value],
+    sink: &mut W,
+) -> Result<(), yaml_serde::Error> {
+    for (index, value) in values.iter().enumerate() {
+        if index > 0 {
+            writer.next_document()?;
+            writer.send(sink)?;
+        }
+        yaml_serde::write(alloc, writer, value)?;
+    }
+    Ok(())
+}
+
+/// Sends JSON values as the documents of a stream.
 fn send_each<W: Write>(
     alloc: Global,
     values: &[serde_json::Value],
     sink: &mut W,
 ) -> Result<(), yaml_serde::Error> {
     let mut writer = Writer::new(alloc, value_settings())?;
-    for (index, value) in values.iter().enumerate() {
-        if index > 0 {
-            writer.next_document()?;
-            writer.send(sink)?;
-        }
-        yaml_serde::write(alloc, &mut writer, value)?;
-    }
+    give_each(alloc, &mut writer, values, sink)?;
     let rest = writer.finish()?;
     sink.write_all(rest.as_slice())?;
     Ok(())

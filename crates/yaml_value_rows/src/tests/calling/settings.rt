@@ -1,4 +1,6 @@
 //! Emitters, made and set.
+ghost use Rattle.std.specs.Prelude.{◌≡◌, false};
+
 use crate::tests::equal;
 use std::alloc::Global;
 use std::process::Abort;
@@ -22,20 +24,35 @@ fn emitter_of(alloc: Global, limit: usize) -> Result<yaml_emitter_t<Global>, yam
     yaml_emitter_t::with_settings(alloc, settings)
 }
 
+/// Sets how texts are written.
+fn set_texts(emitter: &mut yaml_emitter_t<Global>)
+    requires { emitter.old.started ≡ false }
+    ensures { emitter.new.started ≡ false }
+{
+    yaml_emitter_set_canonical(emitter, false);
+    yaml_emitter_set_unicode(emitter, true);
+    yaml_emitter_set_quotes(emitter, Quotes::Double);
+    yaml_emitter_set_portable(emitter, true);
+}
+
+/// Sets how lines are laid out.
+fn set_lines(emitter: &mut yaml_emitter_t<Global>)
+    requires { emitter.old.started ≡ false }
+{
+    yaml_emitter_set_indent(emitter, 4);
+    yaml_emitter_set_width(emitter, 120);
+    yaml_emitter_set_break(emitter, YAML_CRLN_BREAK);
+    yaml_emitter_set_line_breaks_1_2(emitter, true);
+    yaml_emitter_set_indented_sequences(emitter, true);
+}
+
 /// Makes an emitter with every setting set, for a stream of at most `limit` bytes.
 fn emitter_set(alloc: Global, limit: usize) -> Result<yaml_emitter_t<Global>, yaml_error_t> {
     let mut emitter = yaml_emitter_initialize(alloc)?;
     yaml_emitter_set_output_string(&mut emitter, limit);
     yaml_emitter_set_encoding(&mut emitter, YAML_UTF16LE_ENCODING);
-    yaml_emitter_set_canonical(&mut emitter, false);
-    yaml_emitter_set_unicode(&mut emitter, true);
-    yaml_emitter_set_quotes(&mut emitter, Quotes::Double);
-    yaml_emitter_set_indent(&mut emitter, 4);
-    yaml_emitter_set_width(&mut emitter, 120);
-    yaml_emitter_set_break(&mut emitter, YAML_CRLN_BREAK);
-    yaml_emitter_set_line_breaks_1_2(&mut emitter, true);
-    yaml_emitter_set_portable(&mut emitter, true);
-    yaml_emitter_set_indented_sequences(&mut emitter, true);
+    set_texts(&mut emitter);
+    set_lines(&mut emitter);
     Ok(emitter)
 }
 
