@@ -1,4 +1,4 @@
-//! Canonical bytes read as typed values, and as documents.
+//! Canonical bytes read as typed values, and as documents; TOML that is read in order, and written as YAML.
 mod callers;
 mod calling;
 mod depths;
@@ -9,6 +9,7 @@ mod random;
 mod refused;
 mod spoiled;
 mod taken;
+mod toml;
 
 use std::alloc::{Allocator, Global};
 use std::fmt::Debug;

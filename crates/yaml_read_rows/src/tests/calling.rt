@@ -1,4 +1,6 @@
 //! The examples of the documents.
 mod documents;
+mod ordered;
 mod store;
+mod toml;
 mod typed;

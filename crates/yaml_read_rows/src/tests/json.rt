@@ -58,12 +58,17 @@ fn other_numbers_are_refused(rt: HostRuntime) {
     }
 }
 
-#[test]
-fn what_is_no_json_is_refused_first(rt: HostRuntime) {
-    let place = match canonical(&rt, rt.alloc(), "[0.5, nul]") {
+/// Returns the line and the column at which a text is no JSON.
+fn place(rt: &impl Abort, alloc: Global, text: &str) -> Option<(usize, usize)> {
+    match canonical(rt, alloc, text) {
         Err(ValueError::Json(JsonError::NotJson { line, column, .. })) => Some((line, column)),
         _ => None,
-    };
+    }
+}
+
+#[test]
+fn what_is_no_json_is_refused_first(rt: HostRuntime) {
+    let place = place(&rt, rt.alloc(), "[0.5, nul]");
     equal(&rt, &place, &Some((1, 7)));
     let again = JsonError::DuplicateName {
         line: 1,

@@ -6,10 +6,12 @@ use std::process::Abort;
 use yaml_read::ReadError;
 use yaml_test_allocator::Refusing;
 
-/// Reads with this growth refused, and returns whether there is one: then `Memory` is returned, and else a value.
-fn is_reported(rt: &impl Abort, heap: &Refusing<Global>, bytes: &[u8], number: usize) -> bool {
-    heap.refuse(number);
-    let answer = read(heap, bytes).err();
+/// Returns whether there was a growth to be refused: then `Memory` was the answer, and else none was.
+pub(super) fn is_reported(
+    rt: &impl Abort,
+    heap: &Refusing<Global>,
+    answer: Option<ReadError>,
+) -> bool {
     let is_met = heap.left() == 0;
     heap.refuse(0);
     let wanted = if is_met {
@@ -24,7 +26,8 @@ fn is_reported(rt: &impl Abort, heap: &Refusing<Global>, bytes: &[u8], number: u
 /// Refuses each growth in turn, and reads the bytes after each.
 fn check_row(rt: &impl Abort, heap: &Refusing<Global>, bytes: &[u8]) {
     for number in 1..usize::MAX {
-        if !is_reported(rt, heap, bytes, number) {
+        heap.refuse(number);
+        if !is_reported(rt, heap, read(heap, bytes).err()) {
             break;
         }
         equal(rt, &read(heap, bytes).err(), &None);

@@ -9,11 +9,21 @@ fn stored_nodes(alloc: Global, bytes: &[u8]) -> Result<i32, ReadError> {
     Ok(document.node_count())
 }
 
+/// Bytes, and how many nodes their document has.
+const STORED: &[(&[u8], Result<i32, ReadError>)] = &[
+    (
+        b"---\n!!seq [\n  &id001 !!str \"a\",\n  *id001,\n]\n",
+        Ok(2),
+    ),
+    (
+        b"---\n!!seq [\n  &id001 !!str \"a\",\n]\n",
+        Err(ReadError::NotNumbered),
+    ),
+];
+
 #[test]
 fn an_alias_is_no_node(rt: HostRuntime) {
-    let shared = b"---\n!!seq [\n  &id001 !!str \"a\",\n  *id001,\n]\n";
-    equal(&rt, &stored_nodes(rt.alloc(), shared), &Ok(2));
-    let unnamed = b"---\n!!seq [\n  &id001 !!str \"a\",\n]\n";
-    let refused = stored_nodes(rt.alloc(), unnamed);
-    equal(&rt, &refused, &Err(ReadError::NotNumbered));
+    for (bytes, wanted) in STORED {
+        equal(&rt, &stored_nodes(rt.alloc(), bytes), wanted);
+    }
 }

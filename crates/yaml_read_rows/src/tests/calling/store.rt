@@ -1,6 +1,7 @@
 //! A store of sealed values, as the documents show it.
 use crate::tests::equal;
 use std::alloc::Global;
+use std::process::Abort;
 use yaml_caller::{Entry, OpenError, open, seal};
 use yaml_read::{ReadError, Value};
 use yaml_value::yaml_error_t;
@@ -39,25 +40,35 @@ fn what_was_sealed_is_opened(rt: HostRuntime) {
     equal(&rt, &opened_integer(rt.alloc(), &entry), &Ok(Some(7)));
 }
 
+/// Checks that an entry of these bytes isn't opened.
+fn check_refused(
+    rt: &impl Abort,
+    alloc: Global,
+    bytes: &[u8],
+    digest: [u8; 32],
+    wanted: OpenError,
+) {
+    let bytes = Vec::from_slice(alloc, bytes).expect(rt, "no memory");
+    let opened = opened_integer(alloc, &Entry { bytes, digest });
+    equal(rt, &opened, &Err(wanted));
+}
+
+/// Bytes, and the digest of others.
+const CHANGED: &[(&[u8], [u8; 32])] = &[
+    (b"---\n!!int \"7\"\n", DIGEST_OF_07),
+    (b"---\n!!int \"8\"\n", DIGEST_OF_7),
+];
+
 #[test]
 fn what_was_changed_is_refused(rt: HostRuntime) {
-    let mut entry = sealed_integer(rt.alloc(), 7).expect(&rt, "no memory");
-    entry.digest = DIGEST_OF_07;
-    let opened = opened_integer(rt.alloc(), &entry);
-    equal(&rt, &opened, &Err(OpenError::DigestDiffers));
-    entry.bytes = Vec::from_slice(rt.alloc(), b"---\n!!int \"8\"\n").expect(&rt, "no memory");
-    entry.digest = DIGEST_OF_7;
-    let opened = opened_integer(rt.alloc(), &entry);
-    equal(&rt, &opened, &Err(OpenError::DigestDiffers));
+    for (bytes, digest) in CHANGED {
+        check_refused(&rt, rt.alloc(), bytes, *digest, OpenError::DigestDiffers);
+    }
 }
 
 #[test]
 fn what_isnt_canonical_is_refused_under_its_digest(rt: HostRuntime) {
-    let entry = Entry {
-        bytes: Vec::from_slice(rt.alloc(), b"---\n!!int \"07\"\n").expect(&rt, "no memory"),
-        digest: DIGEST_OF_07,
-    };
-    let place = ReadError::NotCanonical { line: 2, column: 7 };
-    let opened = opened_integer(rt.alloc(), &entry);
-    equal(&rt, &opened, &Err(OpenError::NotRead(place)));
+    let wanted = OpenError::NotRead(ReadError::NotCanonical { line: 2, column: 7 });
+    let bytes = b"---\n!!int \"07\"\n";
+    check_refused(&rt, rt.alloc(), bytes, DIGEST_OF_07, wanted);
 }

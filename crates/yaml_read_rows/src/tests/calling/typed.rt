@@ -11,16 +11,19 @@ fn stored_integer(alloc: Global, bytes: &[u8]) -> Result<Option<i64>, ReadError>
     }
 }
 
+/// Bytes, and the integer that they hold.
+const STORED: &[(&[u8], Result<Option<i64>, ReadError>)] = &[
+    (b"---\n!!int \"7\"\n", Ok(Some(7))),
+    (b"---\n!!str \"7\"\n", Ok(None)),
+    (
+        b"---\n!!int \"07\"\n",
+        Err(ReadError::NotCanonical { line: 2, column: 7 }),
+    ),
+];
+
 #[test]
 fn an_integer_has_one_spelling(rt: HostRuntime) {
-    let seven = stored_integer(rt.alloc(), b"---\n!!int \"7\"\n");
-    equal(&rt, &seven, &Ok(Some(7)));
-    let text = stored_integer(rt.alloc(), b"---\n!!str \"7\"\n");
-    equal(&rt, &text, &Ok(None));
-    let padded = stored_integer(rt.alloc(), b"---\n!!int \"07\"\n");
-    equal(
-        &rt,
-        &padded,
-        &Err(ReadError::NotCanonical { line: 2, column: 7 }),
-    );
+    for (bytes, wanted) in STORED {
+        equal(&rt, &stored_integer(rt.alloc(), bytes), wanted);
+    }
 }

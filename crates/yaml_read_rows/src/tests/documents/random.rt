@@ -23,14 +23,17 @@ const TAGS: &[&str] = &[
     "tag:example.org,2026:é%<>",
 ];
 
+/// Returns one of the tags.
+fn tag_of(random: &mut Random) -> &'static str {
+    match TAGS.get(random.small(TAGS.len())) {
+        Some(tag) => *tag,
+        None => "x",
+    }
+}
+
 /// Returns one of the tags, with a random text behind it or not.
 fn random_tag(rt: &impl Abort, alloc: Global, random: &mut Random) -> String {
-    let begins = TAGS
-        .iter()
-        .nth(random.small(TAGS.len()))
-        .copied()
-        .unwrap_or("x");
-    let mut tag = String::from_str(alloc, begins).expect(rt, "no memory");
+    let mut tag = String::from_str(alloc, tag_of(random)).expect(rt, "no memory");
     if random.below(3) == 0 {
         let more = random_text(rt, alloc, random);
         tag.push_str(more.as_str()).expect(rt, "no memory");
@@ -47,9 +50,8 @@ fn random_number(random: &mut Random, count: u64) -> i32 {
 fn random_items(rt: &impl Abort, alloc: Global, random: &mut Random, count: u64) -> Vec<i32> {
     let mut items = Vec::new(alloc);
     for _ in 0..random.below(4) {
-        items
-            .push(random_number(random, count))
-            .expect(rt, "no memory");
+        let item = random_number(random, count);
+        items.push(item).expect(rt, "no memory");
     }
     items
 }
@@ -114,14 +116,23 @@ fn check_spoiled(rt: &impl Abort, alloc: Global, random: &mut Random, bytes: &[u
     }
 }
 
+/// Checks that the bytes of a dump are read.
+fn check_read(rt: &impl Abort, alloc: Global, bytes: &[u8]) {
+    let answer = read_and_dumped(rt, alloc, bytes);
+    equal(rt, &(bytes, answer), &(bytes, None));
+}
+
+fn check_random(rt: &impl Abort, alloc: Global, random: &mut Random) {
+    let document = random_document(rt, alloc, random);
+    let bytes = dumped(alloc, document).expect(rt, "not dumped");
+    check_read(rt, alloc, bytes.as_slice());
+    check_spoiled(rt, alloc, random, bytes.as_slice());
+}
+
 #[test]
 fn random_documents_are_read_back(rt: HostRuntime) {
     let mut random = Random { state: 12 };
     for _ in 0..300 {
-        let document = random_document(&rt, rt.alloc(), &mut random);
-        let bytes = dumped(rt.alloc(), document).expect(&rt, "not dumped");
-        let answer = read_and_dumped(&rt, rt.alloc(), bytes.as_slice());
-        equal(&rt, &(bytes.as_slice(), answer), &(bytes.as_slice(), None));
-        check_spoiled(&rt, rt.alloc(), &mut random, bytes.as_slice());
+        check_random(&rt, rt.alloc(), &mut random);
     }
 }

@@ -69,19 +69,28 @@ pub(super) const TAKEN: &[(&[Given<'static>], &str)] = &[
     ),
 ];
 
-/// Checks that a document is dumped as a text, which is read as this document, and is dumped as this text again.
-fn check_taken(rt: &impl Abort, alloc: Global, given: &[Given], text: &str) {
-    let bytes = dumped(alloc, given_document(rt, alloc, given)).expect(rt, "not dumped");
-    equal(rt, &bytes.as_slice(), &text.as_bytes());
-    let read = document_of(alloc, text.as_bytes()).expect(rt, "not read");
+/// Returns the bytes of the dump of the document of a row.
+fn dumped_row(rt: &impl Abort, alloc: Global, given: &[Given]) -> Vec<u8> {
+    dumped(alloc, given_document(rt, alloc, given)).expect(rt, "not dumped")
+}
+
+/// Checks that these bytes are read as the document of a row.
+fn check_read(rt: &impl Abort, alloc: Global, bytes: &[u8], given: &[Given]) {
+    let read = document_of(alloc, bytes).expect(rt, "not read");
     equal(rt, &read, &given_document(rt, alloc, given));
-    equal(rt, &read_and_dumped(rt, alloc, text.as_bytes()), &None);
+}
+
+/// Checks that a document is dumped as a text, which is read as this document, and is dumped as this text again.
+fn check_taken(rt: &impl Abort, alloc: Global, given: &[Given], bytes: &[u8]) {
+    equal(rt, &dumped_row(rt, alloc, given).as_slice(), &bytes);
+    check_read(rt, alloc, bytes, given);
+    equal(rt, &read_and_dumped(rt, alloc, bytes), &None);
 }
 
 #[test]
 fn what_was_dumped_is_read(rt: HostRuntime) {
     for (given, text) in TAKEN {
-        check_taken(&rt, rt.alloc(), given, text);
+        check_taken(&rt, rt.alloc(), given, text.as_bytes());
     }
 }
 
@@ -98,9 +107,6 @@ const OTHERWISE: (&[Given<'static>], &[Given<'static>]) = (
 
 #[test]
 fn nodes_are_numbered_as_they_begin(rt: HostRuntime) {
-    let alloc = rt.alloc();
-    let document = given_document(&rt, alloc, OTHERWISE.0);
-    let bytes = dumped(alloc, document).expect(&rt, "not dumped");
-    let read = document_of(alloc, bytes.as_slice()).expect(&rt, "not read");
-    equal(&rt, &read, &given_document(&rt, alloc, OTHERWISE.1));
+    let bytes = dumped_row(&rt, rt.alloc(), OTHERWISE.0);
+    check_read(&rt, rt.alloc(), bytes.as_slice(), OTHERWISE.1);
 }

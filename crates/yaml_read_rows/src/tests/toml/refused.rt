@@ -1,5 +1,6 @@
 //! What is refused, and where. Each place was worked out by hand.
-use super::{equal, read};
+use super::read;
+use crate::tests::equal;
 use std::alloc::Global;
 use std::process::Abort;
 use toml_ordered::{Fault, Nodes, read_document};
@@ -60,17 +61,19 @@ const DEFINED_AGAIN: &[(&str, &str, usize, usize)] = &[
     ("t = {a = {b = 1}, a.c = 2}\n", "a", 5, 18),
 ];
 
-fn refused_at(rt: &impl Abort, text: &str, wanted: usize, found: Result<String, usize>) {
-    match found {
-        Ok(document) => equal(rt, &(text, document.as_str()), &(text, "refused")),
-        Err(offset) => equal(rt, &(text, offset), &(text, wanted)),
+/// Returns the offset at which a text is refused; nothing, where it is read.
+fn refused_at(rt: &impl Abort, alloc: Global, text: &str) -> Option<usize> {
+    match read(rt, alloc, text) {
+        Ok(_) => None,
+        Err(offset) => Some(offset),
     }
 }
 
 #[test]
 fn texts_that_are_no_toml(rt: HostRuntime) {
     for (text, offset) in NOT_TOML {
-        refused_at(&rt, text, *offset, read(&rt, rt.alloc(), text));
+        let refused = refused_at(&rt, rt.alloc(), text);
+        equal(&rt, &(*text, refused), &(*text, Some(*offset)));
     }
 }
 
@@ -87,12 +90,10 @@ fn conflict(text: &str, read: Result<Nodes, Fault>) -> Option<(String, usize, us
 }
 
 fn conflicts_so(rt: &impl Abort, alloc: Global, text: &str, wanted: (&str, usize, usize)) {
-    let (key, first, second) = conflict(text, read_document(alloc, text)).unwrap_or((
-        String::new(alloc),
-        usize::MAX,
-        usize::MAX,
-    ));
-    equal(rt, &(text, (key.as_str(), first, second)), &(text, wanted));
+    match conflict(text, read_document(alloc, text)) {
+        Some((key, first, second)) => equal(rt, &(key.as_str(), first, second), &wanted),
+        None => equal(rt, &("", 0, 0), &wanted),
+    }
 }
 
 #[test]
@@ -102,25 +103,28 @@ fn keys_that_are_defined_twice(rt: HostRuntime) {
     }
 }
 
+fn push_times(rt: &impl Abort, text: &mut String, count: usize, character: char) {
+    for _ in 0..count {
+        text.push(character).expect(rt, "no memory");
+    }
+}
+
 /// Returns so many arrays, each in the one before.
 fn nested(rt: &impl Abort, alloc: Global, count: usize) -> String {
     let mut text = String::from_str(alloc, "a = ").expect(rt, "no memory");
-    for _ in 0..count {
-        text.push('[').expect(rt, "no memory");
-    }
-    for _ in 0..count {
-        text.push(']').expect(rt, "no memory");
-    }
+    push_times(rt, &mut text, count, '[');
+    push_times(rt, &mut text, count, ']');
     text
 }
 
+/// How many arrays nest, and where they are refused.
+const NESTED: &[(usize, Option<usize>)] = &[(80, None), (81, Some(84)), (100_000, Some(84))];
+
 #[test]
 fn arrays_nest_80_deep(rt: HostRuntime) {
-    let alloc = rt.alloc();
-    let deepest = nested(&rt, alloc, 80);
-    equal(&rt, &read(&rt, alloc, deepest.as_str()).is_ok(), &true);
-    let deeper = nested(&rt, alloc, 81);
-    refused_at(&rt, "81", 84, read(&rt, alloc, deeper.as_str()));
-    let many = nested(&rt, alloc, 100_000);
-    refused_at(&rt, "100,000", 84, read(&rt, alloc, many.as_str()));
+    for (count, wanted) in NESTED {
+        let text = nested(&rt, rt.alloc(), *count);
+        let refused = refused_at(&rt, rt.alloc(), text.as_str());
+        equal(&rt, &(*count, refused), &(*count, *wanted));
+    }
 }

@@ -1,5 +1,5 @@
 //! TOML, read in order.
-use super::super::equal;
+use crate::tests::equal;
 use std::alloc::Global;
 use toml_ordered::{Fault, read_document};
 

@@ -1,5 +1,5 @@
 //! TOML, written as YAML.
-use super::super::equal;
+use crate::tests::equal;
 use std::alloc::Global;
 use yaml_toml::{TomlError, TomlSettings, yaml_from_toml};
 

@@ -1,5 +1,0 @@
-//! Tests of TOML that is read in order. There is nothing else here.
-#![tactic(auto)]
-
-#[cfg(test)]
-mod tests;

@@ -1,3 +1,0 @@
-//! The examples of the documents.
-mod ordered;
-mod toml;
