@@ -1,25 +1,24 @@
 -- The texts of several files, sent one after another.
-use Rattle.std.proofs.Common.{ℕ, Option, List, [], ◌∷◌, ◌++◌, map, flat_map, Bool, ◌≡◌, refl, ap, subst, sym, ◌∙◌, append-nil, append_assoc, Some}
+use Rattle.std.proofs.Common.{ℕ, Option, List, [], ◌∷◌, ◌++◌, map, flat_map, Bool, ◌≡◌, ap, subst, sym, ◌∙◌, append-nil, append_assoc}
 use Rattle.yaml_base.proofs.Common.{flat_map-append, map-append, Event}
-use Rattle.std.proofs.Common.{Bor, ◌+◌, ◌<◌, arith, length, take, slice_index_or as get_or, Result, Ok, Err, OnOk, IfSome, codes}
-use Rattle.std.proofs.lemmas.List.{map_push, take_more}
 use Rattle.std.specs.Io.KnownBytes.{Appends}
 use Rattle.json.specs.Json.{Json}
+use Rattle.yaml_pen.specs.Page.{output_left}
 use Rattle.yaml_emitter.specs.Given.{seen_settings}
 use Rattle.yaml_writer.specs.Writing.{StandsTaken, WriterState, opening}
 use Rattle.yaml_json.specs.Failing.{between}
 use Rattle.yaml_json.specs.JsonEvents.{json_events}
 use Rattle.yaml_json.specs.Refused.{HaveNamesOnce}
-use Rattle.yaml_json.specs.SendingCalls.{SendsTexts}
-use Rattle.yaml_json.specs.Sent.{BeginsNext, WroteTaking}
+use Rattle.yaml_json.specs.Sent.{WroteTaking}
 use Rattle.yaml_json.specs.Texts.{texts_in}
-use Rattle.yaml_json.specs.Wrote.{AreJson, IsBare, parts_events}
-use Rattle.yaml_json.specs.declared.error.StreamError.{StreamError}
+use Rattle.yaml_json.specs.Wrote.{AreJson, parts_events}
 use Rattle.yaml_json.specs.declared.settings.JsonSettings.{JsonSettings}
-use Rattle.yaml_json.proofs.GivenAndTaken.{appends_then, taking_then}
+use Rattle.yaml_json.proofs.GivenAndTaken.{appends_then, begun_taken, taking_then}
 use Rattle.yaml_json.proofs.TextsInTurn.{some_text}
-use Rattle.json2yaml.specs.Conversions.{IsYamlOfJsonFiles, SendsBehind, SentFile, SentJsonFiles, WroteLast}
-use Rattle.yaml_program.specs.Conversions.{AreBytesOf, WroteStream, names_read}
+use Rattle.json2yaml.specs.Conversions.{IsYamlOfJsonFiles, SentFile}
+use Rattle.yaml_program.specs.Conversions.{WroteStream}
+use Rattle.yaml_program.specs.Streams.{BeganDocument, SentStream}
+use Rattle.yaml_program.proofs.FilesInTurn.{each_sent}
 
 -- ---- texts behind others
 
@@ -46,22 +45,20 @@ both_events canonical in_flow first (second ∷ rest) next more =
     (ap (λ (events : List Event). events ++ last) (append_assoc between later between) ∙ append_assoc between (later ++ between) last
     ∙ ap (λ (events : List Event). between ++ events) (both_events canonical in_flow second rest next more))
 
--- ---- what the calls say
+-- ---- files behind others
 
--- what is known of a reader's bytes is known of a file's
-pub file_known : (settings : JsonSettings) (answer : Result (Unit {0}) StreamError) (known ahead left : Option (List ℕ)) (was now : WriterState)
-    (before after : Option (List ℕ)) → IfSome known (λ bytes. ahead ≡ Some bytes) → SendsTexts settings ahead left was before answer now after
-    → OnOk answer ((file : List ℕ) → known ≡ Some file → SentFile settings file was before now after)
-file_known settings (Err error) known ahead left was now before after opened sends = tt
-file_known settings (Ok done) known ahead left was now before after opened sends = λ file is.
-    let at : ahead ≡ Some file = subst (λ (k : Option (List ℕ)). IfSome k (λ bytes. ahead ≡ Some bytes)) is opened in
-    subst (λ (bytes : Option (List ℕ)). IfSome bytes (λ text. SentFile settings text was before now after)) at sends.sent
-
--- no anchor and no tag is left
-pub file_bare : (settings : JsonSettings) (answer : Result (Unit {0}) StreamError) (ahead left : Option (List ℕ)) (was now : WriterState)
-    (before after : Option (List ℕ)) → SendsTexts settings ahead left was before answer now after → OnOk answer (IsBare now)
-file_bare settings (Err error) ahead left was now before after sends = tt
-file_bare settings (Ok done) ahead left was now before after sends = sends.bare
+-- the texts of these files, one at least, are JSON nested at most `depth` deep, with each name once in its object where that is asked
+-- for; their events were given, a document each, and the sink was given the bytes that were taken
+pub record SentJsonFiles (settings : JsonSettings) (files : List (List ℕ)) (was : WriterState) (before : Option (List ℕ)) (now : WriterState)
+    (after : Option (List ℕ)) : Type 0 where
+  pub first : List ℕ × Json
+  pub rest : List (List ℕ × Json)
+  pub cut : map (λ part. part.0) (first ∷ rest) ≡ flat_map texts_in files
+  pub each : AreJson settings.depth (first ∷ rest)
+  pub names : HaveNamesOnce settings.unique_names (flat_map texts_in files)
+  pub handed : List ℕ
+  pub sends : Appends before after handed
+  pub wrote : WroteTaking was (parts_events was.canonical settings.flow (first ∷ rest)) handed now
 
 module _ (settings : JsonSettings) where
   -- a file
@@ -83,16 +80,18 @@ module _ (settings : JsonSettings) where
         wrote = wrote;
       }
 
-  pub file_sent : (file : List ℕ) (was now : WriterState) (before after : Option (List ℕ)) → SentFile settings file was before now after
+  file_sent : (file : List ℕ) (was now : WriterState) (before after : Option (List ℕ)) → SentFile settings file was before now after
       → SentJsonFiles settings (file ∷ []) was before now after
   file_sent file was now before after sent =
       one_file file was now before after sent.parts sent.cut sent.each sent.names sent.handed sent.sends sent.wrote
 
   -- and another
-  pub next_sent : (files : List (List ℕ)) (file : List ℕ) (was middle begun now : WriterState) (start held holds after : Option (List ℕ))
-      → SentJsonFiles settings files was start middle held → BeginsNext middle held begun holds → SentFile settings file begun holds now after
+  next_sent : (files : List (List ℕ)) (file : List ℕ) (was middle begun now : WriterState) (start held holds after : Option (List ℕ))
+      → SentJsonFiles settings files was start middle held → BeganDocument middle held begun holds → SentFile settings file begun holds now after
       → SentJsonFiles settings (files ++ file ∷ []) was start now after
-  next_sent files file was middle begun now start held holds after sent begins one =
+  next_sent files file was middle begun now start held holds after sent began one =
+      let begins = begun_taken middle began.begun begun (output_left began.begun.emitter.page) held holds sent.wrote.bare began.passed began.takes
+      began.kept began.sends in
       let other = file_sent file begun now holds after one in
       let parts = sent.first ∷ sent.rest in
       let more = other.first ∷ other.rest in
@@ -119,92 +118,21 @@ module _ (settings : JsonSettings) where
             (subst (λ (canonical : Bool). WroteTaking begun (parts_events canonical settings.flow more) other.handed now) same other.wrote));
       }
 
-  -- ---- files in turn
-
-  pub behind_none : (writer : WriterState) (held : Option (List ℕ)) (bytes_of : List ℕ → Option (List ℕ)) (more : List (List ℕ)) → AreBytesOf bytes_of [] more
-      → SendsBehind settings more writer held writer held
-  behind_none writer held bytes_of [] are files was start sent =
-      subst (λ (all : List (List ℕ)). SentJsonFiles settings all was start writer held) (sym (append-nil files)) sent
-  behind_none writer held bytes_of (file ∷ more) are files was start sent = absurd are
-
-  -- the last of them
-  cut_last : (bytes_of : List ℕ → Option (List ℕ)) (names : List (List ℕ)) (name : List ℕ) (more : List (List ℕ))
-      → AreBytesOf bytes_of (names ++ name ∷ []) more
-      → (front : List (List ℕ)) × (last : List ℕ) × (more ≡ front ++ last ∷ []) × AreBytesOf bytes_of names front × (bytes_of name ≡ Some last)
-  cut_last bytes_of [] name [] are = absurd are
-  cut_last bytes_of [] name (file ∷ []) are = ([], file, refl, tt, are.0)
-  cut_last bytes_of [] name (file ∷ next ∷ more) are = absurd are.1
-  cut_last bytes_of (one ∷ names) name [] are = absurd are
-  cut_last bytes_of (one ∷ names) name (file ∷ more) are =
-      let (front, last, is, others, known) = cut_last bytes_of names name more are.1 in
-      (file ∷ front, last, ap (λ (files : List (List ℕ)). file ∷ files) is, (are.0, others), known)
-
-  pub one_more_behind : (bytes_of : List ℕ → Option (List ℕ)) (names : List (List ℕ)) (name : List ℕ) (first writer begun now : WriterState)
-      (held holds later after : Option (List ℕ))
-      → ((more : List (List ℕ)) → AreBytesOf bytes_of names more → SendsBehind settings more first held writer holds)
-      → BeginsNext writer holds begun later → ((file : List ℕ) → bytes_of name ≡ Some file → SentFile settings file begun later now after)
-      → (more : List (List ℕ)) → AreBytesOf bytes_of (names ++ name ∷ []) more → SendsBehind settings more first held now after
-  one_more_behind bytes_of names name first writer begun now held holds later after behind begins one more are files was start sent =
-      let (front, last, is, others, known) = cut_last bytes_of names name more are in
-      subst (λ (all : List (List ℕ)). SentJsonFiles settings all was start now after)
-      (append_assoc files front (last ∷ []) ∙ ap (λ (rest : List (List ℕ)). files ++ rest) (sym is))
-      (next_sent (files ++ front) last was writer begun now start holds later after (behind front others files was start sent) begins (one last known))
-
-  -- the next name of a list
-  pub next_behind : (bytes_of : List ℕ → Option (List ℕ)) (names : List (Bor (List ℕ))) (index : ℕ) (name : Bor (List ℕ)) (first writer begun now : WriterState)
-      (held holds later after : Option (List ℕ)) → index < length names
-      → ((more : List (List ℕ)) → AreBytesOf bytes_of (map (λ n. n.now) (take index names)) more → SendsBehind settings more first held writer holds)
-      → BeginsNext writer holds begun later
-      → ((file : List ℕ) → bytes_of (get_or names index name).now ≡ Some file → SentFile settings file begun later now after)
-      → (more : List (List ℕ)) → AreBytesOf bytes_of (map (λ n. n.now) (take (index + 1) names)) more → SendsBehind settings more first held now after
-  next_behind bytes_of names index name first writer begun now held holds later after within behind begins one more are =
-      let taken : map (λ n. n.now) (take (index + 1) names) ≡ map (λ n. n.now) (take index names) ++ (get_or names index name).now ∷ [] =
-      ap (map (λ (n : Bor (List ℕ)). n.now)) (take_more names index name within)
-      ∙ map_push (λ (n : Bor (List ℕ)). n.now) (take index names) (get_or names index name) in
-      one_more_behind bytes_of (map (λ n. n.now) (take index names)) (get_or names index name).now first writer begun now held holds later after behind begins
-      one more (subst (λ (all : List (List ℕ)). AreBytesOf bytes_of all more) taken are)
-
-  -- ---- all that is read
-
-  -- standard input
-  pub stream_sent : (bytes_of : List ℕ → Option (List ℕ)) (names : List (Bor (List ℕ))) (was now : WriterState) (before after : Option (List ℕ))
-      → length names ≡ 0 → ((file : List ℕ) → bytes_of (codes "-") ≡ Some file → SentFile settings file was before now after)
-      → (files : List (List ℕ)) → AreBytesOf bytes_of (names_read (map (λ n. n.now) names)) files → SentJsonFiles settings files was before now after
-  stream_sent bytes_of [] was now before after none one [] are = absurd are
-  stream_sent bytes_of [] was now before after none one (file ∷ []) are = file_sent file was now before after (one file are.0)
-  stream_sent bytes_of [] was now before after none one (file ∷ next ∷ more) are = absurd are.1
-  stream_sent bytes_of (name ∷ names) was now before after none one files are = absurd (omega arith)
-
-  -- the files that are named
-  named_from : (bytes_of : List ℕ → Option (List ℕ)) (name : List ℕ) (others : List (List ℕ)) (was middle now : WriterState)
-      (start held after : Option (List ℕ)) → ((file : List ℕ) → bytes_of name ≡ Some file → SentFile settings file was start middle held)
-      → ((more : List (List ℕ)) → AreBytesOf bytes_of others more → SendsBehind settings more middle held now after)
-      → (files : List (List ℕ)) → AreBytesOf bytes_of (names_read (name ∷ others)) files → SentJsonFiles settings files was start now after
-  named_from bytes_of name others was middle now start held after one behind [] are = absurd are
-  named_from bytes_of name others was middle now start held after one behind (file ∷ more) are =
-      behind more are.1 (file ∷ []) was start (file_sent file was middle start held (one file are.0))
-
-  pub named_sent : (bytes_of : List ℕ → Option (List ℕ)) (names : List (Bor (List ℕ))) (name : Bor (List ℕ)) (others : List (Bor (List ℕ)))
-      (was middle now : WriterState) (start held after : Option (List ℕ)) → names ≡ name ∷ others
-      → ((file : List ℕ) → bytes_of name.now ≡ Some file → SentFile settings file was start middle held)
-      → ((more : List (List ℕ)) → AreBytesOf bytes_of (map (λ n. n.now) others) more → SendsBehind settings more middle held now after)
-      → (files : List (List ℕ)) → AreBytesOf bytes_of (names_read (map (λ n. n.now) names)) files → SentJsonFiles settings files was start now after
-  named_sent bytes_of names name others was middle now start held after is one behind files are =
-      named_from bytes_of name.now (map (λ n. n.now) others) was middle now start held after one behind files
-      (subst (λ (all : List (Bor (List ℕ))). AreBytesOf bytes_of (names_read (map (λ n. n.now) all)) files) is are)
-
-  -- ---- all of them
-
-  pub all_wrote : (files : List (List ℕ)) (was now : WriterState) (before middle after : Option (List ℕ))
-      → StandsTaken (seen_settings settings.writer) opening [] was.emitter → was.canonical ≡ settings.writer.canonical
-      → SentJsonFiles settings files was before now middle → WroteLast now.emitter middle after → WroteStream (IsYamlOfJsonFiles settings) files before after
-  all_wrote files was now before middle after stands canonical sent (bytes, sends, finishes) =
+  -- and all
+  pub all_wrote : (files : List (List ℕ)) (before after : Option (List ℕ)) → SentStream (SentFile settings) settings.writer files before after
+      → WroteStream (IsYamlOfJsonFiles settings) files before after
+  all_wrote files before after whole =
       let given = seen_settings settings.writer in
+      let was = whole.first in
+      let sent = each_sent (SentFile settings) (λ all now holds. SentJsonFiles settings all was before now holds)
+      (λ some file middle begun now held holds later. next_sent some file was middle begun now before held holds later) files was whole.last before
+      whole.held (λ file now holds. file_sent file was now before holds) whole.documents in
       let parts = sent.first ∷ sent.rest in
-      let stood = subst (λ (c : Bool). StandsTaken given (opening ++ parts_events c settings.flow parts) sent.handed now.emitter) canonical
-      (sent.wrote.adds given opening [] stands) in (
+      let (bytes, sends, finishes) = whole.rest in
+      let stood = subst (λ (c : Bool). StandsTaken given (opening ++ parts_events c settings.flow parts) sent.handed whole.last.emitter) whole.canonical
+      (sent.wrote.adds given opening [] whole.stands) in (
         sent.handed ++ bytes,
-        appends_then before middle after sent.handed bytes sent.sends sends,
+        appends_then before whole.held after sent.handed bytes sent.sends sends,
         record {
           parts = parts;
           cut = sent.cut;

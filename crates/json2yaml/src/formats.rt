@@ -3,12 +3,10 @@ ghost use Rattle.std.specs.Prelude.{codes};
 ghost use Rattle.json2yaml.specs.Conversions.{IsYamlOfJsonFiles};
 ghost use Rattle.yaml_program.specs.Bounds.{is_allowed};
 
-use crate::failures::failure_of;
-use crate::sending::send_all;
 use crate::words;
 use std::io::Write;
 use yaml_json::JsonSettings;
-use yaml_program::{CommonSettings, Failure, Format, Sources, Wording};
+use yaml_program::{CommonSettings, Failure, Format, Sources, Wording, send_stream};
 
 /// JSON texts, which are written by these settings.
 #[derive(Clone, Copy)]
@@ -51,9 +49,6 @@ impl Format for JsonFormat {
         names: &[&'a str],
         sink: &mut W,
     ) -> Result<(), (Option<&'a str>, Failure)> {
-        match send_all(sources, names, &self.settings, sink) {
-            Ok(()) => Ok(()),
-            Err((name, error)) => Err((name, failure_of(error))),
-        }
+        send_stream(self, self.settings.writer, sources, names, sink)
     }
 }

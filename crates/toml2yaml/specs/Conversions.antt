@@ -1,20 +1,18 @@
 -- What the options ask for, and what is sent on of several files of TOML.
-use Rattle.std.specs.Prelude.{◌≡◌, ℕ, Option, Some, List, [], ◌∷◌, ◌++◌, codes, map, Bool, IsUtf8}
-use Rattle.std.specs.Io.KnownBytes.{Appends}
+use Rattle.std.specs.Prelude.{◌≡◌, ℕ, Some, List, [], ◌∷◌, ◌++◌, codes, map, Bool, IsUtf8}
 use Rattle.clap.specs.declared.parser.matches.ArgMatches.{ArgMatches}
 use Rattle.toml_ordered.specs.Data.{TomlNodes, table}
 use Rattle.toml_ordered.specs.Grammar.{ordered_document}
 use Rattle.toml_ordered.specs.declared.tree.Origin.TheVariants.{Header}
 use Rattle.yaml_base.specs.Event.{Event}
 use Rattle.yaml_emitter.specs.Given.{seen_settings}
-use Rattle.yaml_emitter.specs.State.{State}
-use Rattle.yaml_writer.specs.Writing.{Finishes, IsStream, WriterState, closing, opening}
+use Rattle.yaml_writer.specs.Writing.{IsStream, WriterState, closing, opening}
 use Rattle.yaml_json.specs.Failing.{between}
-use Rattle.yaml_json.specs.Sent.{WroteTaking}
 use Rattle.yaml_toml.specs.Events.{toml_events}
 use Rattle.yaml_toml.specs.Walk.{WroteToml}
 use Rattle.yaml_toml.specs.declared.settings.TomlSettings.{TomlSettings}
 use Rattle.yaml_program.specs.Options.{AreWriterSettings, IsCountOf, IsOn, value_of}
+use Rattle.yaml_program.specs.Streams.{Sending}
 
 -- the settings are those that the options ask for
 pub record AreTomlSettings (matches : ArgMatches) (settings : TomlSettings) : Type 0 where
@@ -43,27 +41,9 @@ toml_parts_events canonical in_flow (part ∷ next ∷ rest) =
 abbrev pub WroteFile : (in_flow : Bool) → List ℕ → WriterState → WriterState → Type 0
 WroteFile in_flow file was now = IsUtf8 file × WroteToml in_flow file was now
 
--- these files, one at least, are documents of TOML; their events were given, a document each, and the sink was given the bytes that were
--- taken
-pub record SentTomlFiles (settings : TomlSettings) (files : List (List ℕ)) (was : WriterState) (before : Option (List ℕ)) (now : WriterState)
-    (after : Option (List ℕ)) : Type 0 where
-  pub first : List ℕ × TomlNodes
-  pub rest : List (List ℕ × TomlNodes)
-  pub are : map (λ part. part.0) (first ∷ rest) ≡ files
-  pub each : AreToml (first ∷ rest)
-  pub handed : List ℕ
-  pub sends : Appends before after handed
-  pub wrote : WroteTaking was (toml_parts_events was.canonical settings.flow (first ∷ rest)) handed now
-
--- the stream was finished, and the sink was given the rest of it
-abbrev pub WroteLastToml : State → Option (List ℕ) → Option (List ℕ) → Type 0
-WroteLastToml emitter before after = (bytes : List ℕ) × Appends before after bytes × Finishes emitter bytes
-
--- whichever files were sent, these are sent behind them
-abbrev pub SendsTomlBehind : TomlSettings → List (List ℕ) → WriterState → Option (List ℕ) → WriterState → Option (List ℕ) → Type 0
-SendsTomlBehind settings more before held after holds =
-    (files : List (List ℕ)) (was : WriterState) (start : Option (List ℕ)) → SentTomlFiles settings files was start before held
-    → SentTomlFiles settings (files ++ more) was start after holds
+-- and nothing was sent on of it yet
+abbrev pub SentFile : (in_flow : Bool) → Sending
+SentFile in_flow file was before now after = WroteFile in_flow file was now × (after ≡ before)
 
 -- the bytes are the stream of these files, a document each, under these settings
 pub record IsYamlOfTomlFiles (settings : TomlSettings) (files : List (List ℕ)) (bytes : List ℕ) : Type 0 where

@@ -3,10 +3,9 @@ ghost use Rattle.std.specs.Prelude.{codes};
 ghost use Rattle.toml2yaml.specs.Conversions.{IsYamlOfTomlFiles};
 ghost use Rattle.yaml_program.specs.Bounds.{is_allowed};
 
-use crate::sending::send_all;
 use crate::words;
 use std::io::Write;
-use yaml_program::{CommonSettings, Failure, Format, Sources, Wording};
+use yaml_program::{CommonSettings, Failure, Format, Sources, Wording, send_stream};
 use yaml_toml::TomlSettings;
 
 /// TOML documents, which are written by these settings.
@@ -49,6 +48,6 @@ impl Format for TomlFormat {
         names: &[&'a str],
         sink: &mut W,
     ) -> Result<(), (Option<&'a str>, Failure)> {
-        send_all(sources, names, &self.settings, sink)
+        send_stream(self, self.settings.writer, sources, names, sink)
     }
 }

@@ -1,3 +1,4 @@
 mod Doing
 mod Headings
 mod Portable
+pub mod FilesInTurn

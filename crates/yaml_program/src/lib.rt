@@ -1,5 +1,5 @@
 //! Programs that write files of texts as YAML, whatever the texts are: their options, the files that they read and write, their messages
-//! and statuses. A program brings its format (`Format`), and what it is called (`Wording`).
+//! and statuses. A program brings its format (`Format`), how it sends one file (`SendsFile`), and what it is called (`Wording`).
 #![tactic(auto)]
 
 mod arguments;
@@ -14,6 +14,7 @@ mod output;
 mod program;
 mod sending;
 mod sources;
+mod streams;
 mod version;
 mod words;
 
@@ -25,5 +26,6 @@ pub use faults::{Failure, Messages, NO_MEMORY, Reason};
 pub use formats::Format;
 pub use program::{refuse_arguments, serve};
 pub use sources::{STREAM, Sources, read_file};
+pub use streams::{SendsFile, send_stream};
 pub use version::VERSION;
 pub use words::Wording;

@@ -1,0 +1,17 @@
+use Rattle.std.proofs.Common.{ℕ, Option, List, Some, IfSome, ◌≡◌, subst}
+use Rattle.yaml_json.proofs.WroteLemmas.{bare_awaits_none}
+use Rattle.json2yaml.specs.Conversions.{SentFile}
+use Rattle.json2yaml.proofs.sending.JsonFormatSendsFile.send_file.Goals as goal
+
+pub returns-in-Ok-send_json_texts-clause-free : goal.returns-in-Ok-send_json_texts-clause-free
+returns-in-Ok-send_json_texts-clause-free g c = bare_awaits_none c.send_json_texts.new.writer c.in-Ok-send_json_texts.ensures.bare
+
+pub returns-in-Ok-send_json_texts-clause-sent : goal.returns-in-Ok-send_json_texts-clause-sent
+returns-in-Ok-send_json_texts-clause-sent g c = λ file is.
+    subst
+    (λ (bytes : Option (List ℕ)).
+    IfSome bytes
+    (λ text. SentFile c.args.self.now.settings text c.args.writer.now (g.W.Write.contents c.args.sink.now) c.send_json_texts.new.writer
+    (g.W.Write.contents c.send_json_texts.new.sink)))
+    (subst (λ (known : Option (List ℕ)). IfSome known (λ bytes. g.S.Reader.Read.remaining c.in-Ok.reader ≡ Some bytes)) is c.in-Ok.ensures.known)
+    c.in-Ok-send_json_texts.ensures.sent

@@ -1,0 +1,139 @@
+//! What is sent on of some files: their YAML, one after another, as one stream.
+ghost use Rattle.std.specs.Prelude.{◌≡◌, ℕ, List, Some, OnOk, false, map};
+ghost use Rattle.yaml_writer.specs.Writing.{awaits_node};
+ghost use Rattle.yaml_program.specs.Conversions.{AreBytesOf, OfNames};
+ghost use Rattle.yaml_program.specs.Streams.{BeganDocument, Sending, SentBehind, SentFiles, SentStream, WroteLast};
+
+use crate::faults::Failure;
+use crate::sources::{STREAM, Sources};
+use std::alloc::Global;
+use std::io::Write;
+use yaml_writer::{Settings, Writer};
+
+/// What gives the YAML of a file to a writer.
+pub trait SendsFile {
+    // What is sent on of a file.
+    ghost sent: { Self → Sending };
+
+    /// Sends on the YAML of a file, or of standard input for its name, but for the last document, which is left to the writer.
+    ///
+    /// # Errors
+    ///
+    /// Why it failed.
+    fn send_file<S: Sources + AllocGlobal, W: Write>(
+        &self,
+        sources: &S,
+        name: &str,
+        writer: &mut Writer<Global>,
+        sink: &mut W,
+    ) -> Result<(), Failure>
+        requires { awaits_node writer.old ≡ false }
+        ensures free { OnOk result (awaits_node writer.new ≡ false) }
+        ensures sent { OnOk result ((file : List ℕ) → S.bytes_of sources.now name.now ≡ Some file
+            → sent self.now file writer.old (W.contents sink.old) writer.new (W.contents sink.new)) };
+}
+
+/// Begins the next document of a writer, and sends on those before it.
+fn begin_next<W: Write>(writer: &mut Writer<Global>, sink: &mut W) -> Result<(), Failure>
+    requires { awaits_node writer.old ≡ false }
+    ensures free { OnOk result (awaits_node writer.new ≡ false) }
+    ensures begun { OnOk result (BeganDocument writer.old (W.contents sink.old) writer.new (W.contents sink.new)) }
+{
+    if let Err(error) = writer.next_document() {
+        return Err(Failure::Unwritten(error));
+    }
+    match writer.send(sink) {
+        Ok(()) => Ok(()),
+        Err(error) => Err(Failure::WriteFailed(error)),
+    }
+}
+
+/// Sends on the YAML of some files, each after those that were sent, but for the last document, which is left to the writer. Returns the
+/// file at which it failed, and why.
+fn send_others<'a, F: SendsFile, S: Sources + AllocGlobal, W: Write>(
+    format: &F,
+    sources: &S,
+    names: &[&'a str],
+    writer: &mut Writer<Global>,
+    sink: &mut W,
+) -> Result<(), (Option<&'a str>, Failure)>
+    requires { awaits_node writer.old ≡ false }
+    ensures { OnOk result ((files : List (List ℕ)) → AreBytesOf (S.bytes_of sources.now) (map (λ name. name.now) names.now) files
+        → SentBehind (F.sent format.now) files writer.old (W.contents sink.old) writer.new (W.contents sink.new)) }
+{
+    for name in names {
+        if let Err(error) = begin_next(writer, sink) {
+            return Err((Some(*name), error));
+        }
+        if let Err(error) = format.send_file(sources, name, writer, sink) {
+            return Err((Some(*name), error));
+        }
+    }
+    Ok(())
+}
+
+/// Sends on the YAML of these files, or of standard input where there are none, but for the last document, which is left to the writer.
+/// Returns the file at which it failed, and why.
+fn send_documents<'a, F: SendsFile, S: Sources + AllocGlobal, W: Write>(
+    format: &F,
+    sources: &S,
+    names: &[&'a str],
+    writer: &mut Writer<Global>,
+    sink: &mut W,
+) -> Result<(), (Option<&'a str>, Failure)>
+    requires { awaits_node writer.old ≡ false }
+    ensures { OnOk result (OfNames (S.bytes_of sources.now) (map (λ name. name.now) names.now) (λ files.
+        SentFiles (F.sent format.now) files writer.old (W.contents sink.old) writer.new (W.contents sink.new))) }
+{
+    let Some((first, others)) = names.split_first() else {
+        return match format.send_file(sources, STREAM, writer, sink) {
+            Ok(()) => Ok(()),
+            Err(error) => Err((None, error)),
+        };
+    };
+    if let Err(error) = format.send_file(sources, first, writer, sink) {
+        return Err((Some(*first), error));
+    }
+    send_others(format, sources, others, writer, sink)
+}
+
+/// Ends the last document, and writes it.
+fn send_last<W: Write>(writer: Writer<Global>, sink: &mut W) -> Result<(), Failure>
+    ensures { OnOk result (WroteLast writer.emitter (W.contents sink.old) (W.contents sink.new)) }
+{
+    match writer.finish() {
+        Ok(bytes) => match sink.write_all(bytes.as_slice()) {
+            Ok(()) => Ok(()),
+            Err(error) => Err(Failure::WriteFailed(error)),
+        },
+        Err(error) => Err(Failure::Unwritten(error)),
+    }
+}
+
+/// Sends on the YAML of these files, or of standard input where there are none, as one stream, written by these settings.
+///
+/// # Errors
+///
+/// Why it failed, with the file at which it did.
+pub fn send_stream<'a, F: SendsFile, S: Sources + AllocGlobal, W: Write>(
+    format: &F,
+    settings: Settings,
+    sources: &S,
+    names: &[&'a str],
+    sink: &mut W,
+) -> Result<(), (Option<&'a str>, Failure)>
+    ensures { OnOk result (OfNames (S.bytes_of sources.now) (map (λ name. name.now) names.now) (λ files.
+        SentStream (F.sent format.now) settings files (W.contents sink.old) (W.contents sink.new))) }
+{
+    let mut writer = match Writer::new(sources.alloc(), settings) {
+        Ok(writer) => writer,
+        Err(error) => return Err((None, Failure::Unwritten(error))),
+    };
+    if let Err(stop) = send_documents(format, sources, names, &mut writer, sink) {
+        return Err(stop);
+    }
+    match send_last(writer, sink) {
+        Ok(()) => Ok(()),
+        Err(error) => Err((None, error)),
+    }
+}
