@@ -19,14 +19,6 @@ use yaml_base::{
 };
 use yaml_emitter::CollectionKind;
 
-/// Returns an event without any field.
-#[inline(always)]
-fn alone<A: Allocator>(event: yaml_event_t<A>, rest: Option<&str>) -> Option<yaml_event_t<A>>
-    ensures { option_map seen_event result ≡ option_and_then (notation.alone (seen_event event)) (later_fields rest.entry) }
-{
-    if is_end(rest) { Some(event) } else { None }
-}
-
 /// Parses what follows `+STR`: an encoding.
 fn stream_start_of<A: Allocator>(rest: Option<&str>) -> Option<yaml_event_t<A>>
     ensures { option_map seen_event result ≡ option_and_then notation.stream_start_of (later_fields rest.entry) }
@@ -301,14 +293,15 @@ pub fn event_of<A: Allocator + Copy>(
 {
     match name {
         EventName::StreamStart => Ok(stream_start_of(rest)),
-        EventName::StreamEnd => Ok(alone(yaml_event_t::YAML_STREAM_END_EVENT, rest)),
+        EventName::StreamEnd if is_end(rest) => Ok(Some(yaml_event_t::YAML_STREAM_END_EVENT)),
         EventName::DocumentStart => document_start_of(alloc, rest),
         EventName::DocumentEnd => Ok(document_end_of(rest)),
         EventName::Alias => alias_of(alloc, rest),
         EventName::Scalar => scalar_of(alloc, rest),
         EventName::SequenceStart => collection_start_of(alloc, CollectionKind::Sequence, rest),
-        EventName::SequenceEnd => Ok(alone(yaml_event_t::YAML_SEQUENCE_END_EVENT, rest)),
+        EventName::SequenceEnd if is_end(rest) => Ok(Some(yaml_event_t::YAML_SEQUENCE_END_EVENT)),
         EventName::MappingStart => collection_start_of(alloc, CollectionKind::Mapping, rest),
-        EventName::MappingEnd => Ok(alone(yaml_event_t::YAML_MAPPING_END_EVENT, rest)),
+        EventName::MappingEnd if is_end(rest) => Ok(Some(yaml_event_t::YAML_MAPPING_END_EVENT)),
+        EventName::StreamEnd | EventName::SequenceEnd | EventName::MappingEnd => Ok(None),
     }
 }
