@@ -9,7 +9,8 @@ use Rattle.yaml_c.specs.{Emission.HasAllRead, Emission.EmitsRecords, Emission.Fl
 use Rattle.yaml_c.specs.{declared.records.DirectiveRecord.DirectiveRecord, declared.records.EventRecord.EventRecord}
 use Rattle.yaml_c.specs.declared.events.Emission.TheVariants.{BadEvent, Done, NoMemory, NoRoom, Refused}
 use Rattle.yaml_emitter.{proofs.standing.KeptDocuments.documents_without_error, proofs.standing.KeptDocuments.documents_stay, specs.Promises.Promised}
-use Rattle.yaml_pen.specs.Wrote.{Grows}
+use Rattle.std.specs.Prelude.{Err}
+use Rattle.yaml_emitter.specs.Moves.{Moves}
 use Rattle.yaml_tool.{proofs.RunLemmas.ended_without, proofs.RunLemmas.flushed_last, specs.Runs.EmitsScript, specs.Runs.FlushFails, specs.Runs.EndsOnLine}
 use Rattle.yaml_tool.specs.declared.answers.run_answer_t.TheVariants as run
 
@@ -79,10 +80,9 @@ given_more arena directives records first before after i number last d event has
 pub refused_next : (arena : List ℕ) (directives : List DirectiveRecord) (records : List EventRecord) (first earlier state : State) (i number : ℕ)
     (last : Option ℕ) (d : EventRecord) (event : Event) (set : Settings) (error : yaml_error_t) (has : HasGiven arena directives records first i last earlier)
     → number ≡ i → i < length records → Some event ≡ event_recorded arena directives (get_or records i d) → earlier.error ≡ None
-    → StandsAfter set (events_in has.given) earlier → Promised set (events_in has.given) earlier → state.error ≡ Some error
-    → StandsAfter set (events_in has.given ++ event ∷ []) state → Promised set (events_in has.given ++ event ∷ []) state
-    → Grows earlier.page state.page → RefusesAt set (events_from 0 arena directives records) number error state
-refused_next arena directives records first earlier state i number last d event set error has same low is none stood promised failed stands kept grew =
+    → StandsAfter set (events_in has.given) earlier → Promised set (events_in has.given) earlier → Moves earlier (event ∷ []) (Err error) state
+    → Promised set (events_in has.given ++ event ∷ []) state → RefusesAt set (events_from 0 arena directives records) number error state
+refused_next arena directives records first earlier state i number last d event set error has same low is none stood promised moved kept =
     let later = events_from (i + 1) arena directives (drop (i + 1) records) in
     let parts = with_next (events_from 0 arena directives records) has.given (events_from i arena directives (drop i records))
     (numbered i event ∷ later) has.parts (read_next arena directives records i d event low is) in
@@ -95,13 +95,11 @@ refused_next arena directives records first earlier state i number last d event 
       earlier = earlier;
       stood = stood;
       no_error = none;
-      stands = stands;
+      moved = moved;
       promised = kept;
-      grew = grew;
       documents =
           documents_stay set (events_in has.given) earlier.page.output state.page.output
-          (documents_without_error set (events_in has.given) earlier promised none) grew.output;
-      failed = failed;
+          (documents_without_error set (events_in has.given) earlier promised none) moved.grows.output;
     })
 
 -- of the two ways to fail, the flush after all records

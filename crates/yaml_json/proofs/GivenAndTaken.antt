@@ -8,7 +8,7 @@ use Rattle.yaml_pen.proofs.Writing.{none_from_result}
 use Rattle.yaml_emitter.{proofs.Common.with_all_taken, proofs.standing.Taking.stands_taken, specs.State.State}
 use Rattle.yaml_base.specs.Sinks.{AppendsFirst}
 use Rattle.yaml_pen.specs.Page.{output_left}
-use Rattle.yaml_writer.{proofs.Common.TakesBytes, proofs.Taken.left_taken}
+use Rattle.yaml_writer.{proofs.Common.TakesBytes, proofs.Taken.left_taken, proofs.Taken.moves_add, proofs.Taken.moves_taken}
 use Rattle.yaml_base.specs.declared.errors.yaml_error_t.{yaml_error_t}
 use Rattle.std.specs.Prelude.{IsUtf8}
 use Rattle.yaml_json.proofs.Common.{Token, inl}
@@ -60,7 +60,7 @@ took_nothing writer bare =
 -- without a call that takes
 pub adds_none_taken : (before after : State) (events : List Event) → AddsEvents before events after → AddsTaking before events [] after
 adds_none_taken before after events adds = λ given all sent stands.
-    subst (λ (s : List ℕ). StandsTaken given (all ++ events) s after) (sym (append-nil sent)) (adds given all sent stands)
+    subst (λ (s : List ℕ). StandsTaken given (all ++ events) s after) (sym (append-nil sent)) (moves_taken adds given all sent stands)
 
 pub adds_taking_then : (before middle after : State) (first second : List Event) (one_bytes other_bytes : List ℕ)
     → AddsTaking before first one_bytes middle → AddsTaking middle second other_bytes after
@@ -92,7 +92,7 @@ pub took_none : (before after : WriterState) (events : List Event) → WasGiven 
 took_none before after events wrote =
     record {
       adds = λ given all sent stands.
-          subst (λ (s : List ℕ). StandsTaken given (all ++ events) s after.emitter) (sym (append-nil sent)) (wrote.adds given all sent stands);
+          subst (λ (s : List ℕ). StandsTaken given (all ++ events) s after.emitter) (sym (append-nil sent)) (moves_taken wrote.adds given all sent stands);
       canonical = wrote.canonical;
       levels = wrote.levels;
       bare = wrote.bare;
@@ -112,7 +112,7 @@ begun_taken before middle after bytes held holds bare passed takes kept sends =
       bytes = bytes;
       sends = sends;
       wrote = record {
-        adds = λ given all sent stands. takes given (all ++ between) sent (passed.adds given all sent stands);
+        adds = λ given all sent stands. takes given (all ++ between) sent (moves_taken passed.moves given all sent stands);
         canonical = ap (λ (w : WriterState). w.canonical) kept ∙ ap (λ (w : WriterState). w.canonical) passed.rest;
         levels = ap (λ (w : WriterState). w.levels) kept ∙ ap (λ (w : WriterState). w.levels) passed.rest;
         bare = (
@@ -121,7 +121,7 @@ begun_taken before middle after bytes held holds bare passed takes kept sends =
         );
       };
       whole = (
-        ap (λ (w : WriterState). w.emitter.error) kept ∙ none_from_result middle.emitter.error passed.answered,
+        ap (λ (w : WriterState). w.emitter.error) kept ∙ none_from_result middle.emitter.error passed.moves.answered,
         ap (λ (w : WriterState). w.emitter.page.taken) kept ∙ ap (λ (w : WriterState). length w.emitter.page.output) (sym kept),
       );
     }
@@ -133,18 +133,18 @@ begun_unsent before middle held holds passed sends =
     record {
       offered = output_left middle.emitter.page;
       sends = sends;
-      adds = passed.adds;
+      adds = moves_add passed.moves;
       then = with_all_taken middle.emitter;
       wrote = λ given all sent stands.
-          let stood = passed.adds given all sent stands in
+          let stood = moves_taken passed.moves given all sent stands in
           left_taken given (all ++ between) sent (output_left middle.emitter.page) middle.emitter (with_all_taken middle.emitter) stood refl refl
           (stands_taken given (all ++ between) middle.emitter stood.stands);
-      whole = (none_from_result middle.emitter.error passed.answered, refl);
+      whole = (none_from_result middle.emitter.error passed.moves.answered, refl);
     }
 
 -- the writer fails
 pub begun_not : (before after : WriterState) (error : yaml_error_t) → PassedEvents before between (Err error) after → FailedWith before between error after
-begun_not before after error passed = record { adds = passed.adds; is_error = inr (some_from_result after.emitter.error error passed.answered) }
+begun_not before after error passed = record { adds = moves_add passed.moves; is_error = inr (some_from_result after.emitter.error error passed.moves.answered) }
 
 -- the events of some texts, after each of which a document begins, and one more
 pub separated : (canonical in_flow : Bool) (parts : List (List ℕ × Json)) (last : List ℕ × Json)

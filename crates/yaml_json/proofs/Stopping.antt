@@ -6,11 +6,13 @@ use Rattle.yaml_json.specs.{Walk.ReadsNone, declared.values.Stop.Stop}
 use Rattle.yaml_json.proofs.Common.{Token, refl, ap, State}
 use Rattle.yaml_pen.{proofs.Composing.grows_itself, proofs.Composing.grows_then, proofs.Writing.none_from_result, specs.Wrote.Grows}
 use Rattle.yaml_json.specs.declared.values.Stop.TheVariants as stops
-use Rattle.yaml_json.proofs.Common.{FailedWith, FailedGiving, WriterState, end_event, with_collection, StandsTaken, GaveEvent, EndsInnermost}
+use Rattle.yaml_json.proofs.Common.{FailedWith, FailedGiving, WriterState, end_event, with_collection, GaveEvent, EndsInnermost}
 use Rattle.yaml_base.specs.declared.errors.{yaml_error_t.yaml_error_t, yaml_error_t.TheVariants.Memory, yaml_error_t.TheVariants.ExpectedDocumentEnd}
 use Rattle.yaml_json.proofs.WroteLemmas.{none_more, on_err, same_last}
 use Rattle.yaml_base.specs.declared.kinds.CollectionKind.{CollectionKind}
 use Rattle.yaml_writer.specs.Writing.{Failed}
+use Rattle.yaml_json.proofs.Common.{AddsEvents}
+use Rattle.yaml_writer.proofs.Taken.{moves_add}
 
 -- what follows of a value, where there is one
 pub if_some : {A : Type 0} {P Q : A → Type 0} (found : Option A) → ((value : A) → P value → Q value) → IfSome found P → IfSome found Q
@@ -77,7 +79,7 @@ answered_end before after (Err error) (Err stop) is (inl none) =
 answered_end before after (Err error) (Err stop) is (inr end) = (
   tt,
   never_by_text error stop is,
-  told (λ code. FailedAtEnd before code after) after error stop is (inr (some_from_result after.emitter.error error end.answered)) (inr end),
+  told (λ code. FailedAtEnd before code after) after error stop is (inr (some_from_result after.emitter.error error end.moves.answered)) (inr end),
 )
 
 -- ---- events
@@ -86,8 +88,8 @@ answered_end before after (Err error) (Err stop) is (inr end) = (
 pub event_failed : (before after : WriterState) (event same : Event) (error : yaml_error_t) → event ≡ same → Failed before event error after
     → FailedGiving before same error after
 event_failed before after event same error is (inl gave) = inr (record {
-  adds = λ given all sent stands. subst (λ (e : Event). StandsTaken given (all ++ e ∷ []) sent after.emitter) is (gave.adds given all sent stands);
-  is_error = inr gave.error_is;
+  adds = subst (λ (e : Event). AddsEvents before.emitter (e ∷ []) after.emitter) is (moves_add gave.moves);
+  is_error = inr (some_from_result after.emitter.error error gave.moves.answered);
 })
 event_failed before after event same error is (inr memory) = inl memory
 
@@ -98,17 +100,16 @@ end_failed outer kind before after error levels (inl none) = absurd (none_more o
 end_failed outer kind before after error levels (inr end) =
     let same = same_last end.outer outer end.kind kind (sym end.levels ∙ levels) in
     record {
-      adds = λ given all sent stands.
-          subst (λ (k : CollectionKind). StandsTaken given (all ++ end_event k ∷ []) sent after.emitter) same.1 (end.adds given all sent stands);
-      is_error = inr (some_from_result after.emitter.error error end.answered);
+      adds = subst (λ (k : CollectionKind). AddsEvents before.emitter (end_event k ∷ []) after.emitter) same.1 (moves_add end.moves);
+      is_error = inr (some_from_result after.emitter.error error end.moves.answered);
     }
 
 -- the start of a collection that failed
 pub start_failed : (kind : CollectionKind) (before after : WriterState) (event same : Event) (error : yaml_error_t) → event ≡ same
-    → GaveEvent (with_collection before kind) event (Some error) after ⊎ ((error ≡ Memory) × (after ≡ before)) → FailedGiving before same error after
+    → GaveEvent (with_collection before kind) event (Err error) after ⊎ ((error ≡ Memory) × (after ≡ before)) → FailedGiving before same error after
 start_failed kind before after event same error is (inl gave) = inr (record {
-  adds = λ given all sent stands. subst (λ (e : Event). StandsTaken given (all ++ e ∷ []) sent after.emitter) is (gave.adds given all sent stands);
-  is_error = inr gave.error_is;
+  adds = subst (λ (e : Event). AddsEvents before.emitter (e ∷ []) after.emitter) is (moves_add gave.moves);
+  is_error = inr (some_from_result after.emitter.error error gave.moves.answered);
 })
 start_failed kind before after event same error is (inr memory) = inl memory
 
@@ -177,23 +178,24 @@ module _ (before after : WriterState) where
   -- that gives an event
   pub kept_event : (first : WriterState) → first.emitter ≡ before.emitter → (event : Event) (answer : Result (Unit {0}) yaml_error_t)
       (result : Result (Unit {0}) Stop) → IsWritersAnswer answer result
-      → OnOk answer (GaveEvent first event None after)
-      → IfErr answer (λ error. GaveEvent first event (Some error) after ⊎ ((error ≡ Memory) × (after ≡ before))) → Kept before result after
+      → OnOk answer (GaveEvent first event (Ok tt) after)
+      → IfErr answer (λ error. GaveEvent first event (Err error) after ⊎ ((error ≡ Memory) × (after ≡ before))) → Kept before result after
   kept_event first is event (Ok done) (Ok same) answers gave failed =
-      record { grows = subst (λ (s : State). Grows s.page after.emitter.page) is gave.grows; sound = gave.error_is }
+      record { grows = subst (λ (s : State). Grows s.page after.emitter.page) is gave.moves.grows; sound = none_from_result after.emitter.error gave.moves.answered }
   kept_event first is event (Ok done) (Err stop) answers gave failed = absurd answers
   kept_event first is event (Err error) (Ok same) answers gave failed = absurd answers
   kept_event first is event (Err error) (Err stop) answers gave (inl given) =
-      kept_gave error stop answers (subst (λ (s : State). Grows s.page after.emitter.page) is given.grows) given.error_is
+      kept_gave error stop answers (subst (λ (s : State). Grows s.page after.emitter.page) is given.moves.grows)
+      (some_from_result after.emitter.error error given.moves.answered)
   kept_event first is event (Err error) (Err stop) answers gave (inr memory) = kept_still error stop answers memory.1
 
   -- that ends a collection
   pub kept_end : (answer : Result (Unit {0}) yaml_error_t) (result : Result (Unit {0}) Stop) → IsWritersAnswer answer result → EndsInnermost before answer after
       → Kept before result after
   kept_end (Ok done) (Ok same) answers (inl none) = absurd (not_both (Ok done) done ExpectedDocumentEnd refl none.1)
-  kept_end (Ok done) (Ok same) answers (inr end) = record { grows = end.grows; sound = none_from_result after.emitter.error end.answered }
+  kept_end (Ok done) (Ok same) answers (inr end) = record { grows = end.moves.grows; sound = none_from_result after.emitter.error end.moves.answered }
   kept_end (Ok done) (Err stop) answers ends = absurd answers
   kept_end (Err error) (Ok same) answers ends = absurd answers
   kept_end (Err error) (Err stop) answers (inl none) = kept_still error stop answers none.2
   kept_end (Err error) (Err stop) answers (inr end) =
-      kept_gave error stop answers end.grows (some_from_result after.emitter.error error end.answered)
+      kept_gave error stop answers end.moves.grows (some_from_result after.emitter.error error end.moves.answered)

@@ -2,7 +2,7 @@
 use Rattle.yaml_json.proofs.Common.{ℕ, ◌-◌, ◌<◌, length, take, Bool, List, [], ◌++◌, ◌∷◌, refl, ◌≡◌, append-nil, append_assoc, inl, inr, ap, subst, sym, ◌∙◌}
 use Rattle.yaml_json.proofs.Common.{arith, Token, Event, BeginsWithinDepth, FailedWith, FailedGiving, token_events, tokens_events, LeavesOpen, IsScalar, opener}
 use Rattle.yaml_json.proofs.Common.{closer, BeganValue, BeginFailed, BeganFirstValue, FirstFailed, IsBare, WroteEvent, start_event, IfSome, failure_of}
-use Rattle.yaml_json.proofs.Common.{WriterState, end_event, StandsTaken, AddsEvents, GaveEvent, with_collection, None, Ok, EndsInnermost}
+use Rattle.yaml_json.proofs.Common.{WriterState, end_event, AddsEvents, GaveEvent, with_collection, Ok, EndsInnermost}
 use Rattle.std.proofs.Math.Seq.{take-append_seam}
 use Rattle.yaml_base.specs.declared.errors.yaml_error_t.{yaml_error_t}
 use Rattle.yaml_base.specs.declared.errors.yaml_error_t.TheVariants.{Memory}
@@ -16,13 +16,14 @@ use Rattle.yaml_json.proofs.Walking.{longer, closed_stands, closes_value, value_
 use Rattle.yaml_json.specs.Walk.{ReadsNone, GaveTokens, GivesTaken, FailsGiving, WalkedOn, StepFailed}
 use Rattle.yaml_base.specs.declared.kinds.CollectionKind.{CollectionKind}
 use Rattle.yaml_base.specs.declared.kinds.CollectionKind.TheVariants.{Mapping, Sequence}
+use Rattle.yaml_writer.proofs.Taken.{adds_nothing, moves_add}
 
 -- ---- the writer
 
 pub stood_nothing : (in_flow : Bool) (was : WriterState) → IsBare was → GaveTokens in_flow was [] [] was
 stood_nothing in_flow was bare =
     record {
-      adds = λ given all sent stands. subst (λ (events : List Event). StandsTaken given events sent was.emitter) (sym (append-nil all)) stands;
+      adds = adds_nothing was.emitter;
       canonical = refl;
       levels_are = sym (append-nil was.levels);
       bare = bare;
@@ -58,12 +59,12 @@ opener_events Sequence canonical in_flow = refl
 opener_events Mapping canonical in_flow = refl
 
 pub gives_start : (in_flow : Bool) (levels : List CollectionKind) (before after : WriterState) (kind : CollectionKind)
-    → GaveEvent (with_collection before kind) (start_event in_flow kind) None after
+    → GaveEvent (with_collection before kind) (start_event in_flow kind) (Ok tt) after
     → GivesTaken in_flow levels before (opener kind ∷ []) (levels ++ kind ∷ []) after
 gives_start in_flow levels before after kind gave was so stood =
     record {
       adds = given_on in_flow was before after so (opener kind) (start_event in_flow kind) stood.adds (opener_events kind was.canonical in_flow)
-          gave.adds;
+          (moves_add gave.moves);
       canonical = gave.canonical ∙ stood.canonical;
       levels_are = gave.levels ∙ ap (λ (all : List CollectionKind). all ++ kind ∷ []) stood.levels_are ∙ append_assoc was.levels levels (kind ∷ []);
       bare = (gave.no_anchor, gave.no_tag);
@@ -137,7 +138,7 @@ module _ (depth : ℕ) (in_flow : Bool) (levels : List CollectionKind) (before a
 
   -- a collection begins
   pub opener_began : (opened : List CollectionKind) (kind : CollectionKind) → length levels < depth → opened ≡ levels ++ kind ∷ []
-      → GaveEvent (with_collection before kind) (start_event in_flow kind) None after → BeganValue depth in_flow (opener kind) levels before opened after
+      → GaveEvent (with_collection before kind) (start_event in_flow kind) (Ok tt) after → BeganValue depth in_flow (opener kind) levels before opened after
   opener_began opened kind fits is starts =
       record {
         begins = inr (kind, refl, fits, is);

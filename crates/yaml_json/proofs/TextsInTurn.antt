@@ -14,6 +14,7 @@ use Rattle.yaml_json.{proofs.WroteLemmas.adds_then, proofs.WroteLemmas.wrote_not
 use Rattle.yaml_json.{proofs.YamlOf.last_reads}
 use Rattle.yaml_json.{specs.Refused.HasNamesOnce, specs.Stopped.StopsInText, specs.Stopped.StopsInTexts, specs.Places.HasPlaceAfter, specs.Wrote.WroteTexts}
 use Rattle.yaml_json.{specs.declared.error.JsonError.JsonError}
+use Rattle.yaml_writer.proofs.Taken.{moves_add}
 
 -- the events of some texts, after each of which a document begins, and then those of one more, the last
 pub ends_with : (canonical in_flow : Bool) (parts : List (List ℕ × Json)) (last : List ℕ × Json)
@@ -105,7 +106,7 @@ next_begun : (before after : WriterState) (answer : Result (Unit {0}) yaml_error
     → WasGiven before between after
 next_begun before after answer bare passed =
     record {
-      adds = passed.adds;
+      adds = moves_add passed.moves;
       canonical = ap (λ (w : WriterState). w.canonical) passed.rest;
       levels = ap (λ (w : WriterState). w.levels) passed.rest;
       bare = (ap (λ (w : WriterState). w.anchor) passed.rest ∙ bare.0, ap (λ (w : WriterState). w.tag) passed.rest ∙ bare.1);
@@ -184,7 +185,7 @@ module _ (depth : ℕ) (in_flow unique : Bool) (text : List ℕ) (was : WriterSt
         place = (0, (tt, tt));
         adds = subst (λ (events : List Event). AddsEvents was.emitter events after.emitter) (started_more ∙ sym (append-nil all))
             (adds_then was.emitter now.emitter after.emitter before (events ++ between) so_far.wrote.adds
-            (adds_then now.emitter given.emitter after.emitter events between events_given.adds passed.adds));
+            (adds_then now.emitter given.emitter after.emitter events between events_given.adds (moves_add passed.moves)));
       }
 
   -- where nothing follows, all texts are given

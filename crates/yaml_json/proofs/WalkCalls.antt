@@ -4,7 +4,7 @@ use Rattle.yaml_json.proofs.Common.{sym, ◌∙◌, arith, chars, Event, scalar,
 use Rattle.yaml_json.proofs.Common.{emitter_error_of, FailedGiving, RefusesText, IsScalar, opener, closer, KeepsNamesAfter, BeganValue, BeginFailed}
 use Rattle.yaml_json.proofs.Common.{RefusesToken, Refuses}
 use Rattle.yaml_json.proofs.Common.{append-nil, subst, Some, NamesOnce, IsBare, WroteEvent, start_event, WriterState, text_event, with_collection}
-use Rattle.yaml_json.proofs.Common.{EndsInnermost, GaveEvent, None}
+use Rattle.yaml_json.proofs.Common.{EndsInnermost, GaveEvent}
 use Rattle.yaml_base.specs.declared.errors.yaml_error_t.{yaml_error_t}
 use Rattle.yaml_base.specs.declared.kinds.CollectionKind.{CollectionKind}
 use Rattle.yaml_base.specs.declared.kinds.CollectionKind.TheVariants.{Mapping, Sequence}
@@ -84,7 +84,7 @@ opener_step settings kind before after room opened fits names answer result answ
     let levels = before.nest.kinds.items in
     let ok = begins_ok kind before.writer after.writer event answer begins in
     let err = begins_err kind before.writer after.writer event answer begins in
-    let all = answered_at (GaveEvent (with_collection before.writer kind) event None after.writer) before.writer after.writer event answer result answers ok
+    let all = answered_at (GaveEvent (with_collection before.writer kind) event (Ok tt) after.writer) before.writer after.writer event answer result answers ok
     (on_err answer (λ error. start_failed kind before.writer after.writer event event error refl) err) in
     unrefused_step settings (opener kind) before after result
     (on_ok result (opener_began settings.depth settings.flow levels before.writer after.writer after.nest.kinds.items kind room opened) all.0) fits names

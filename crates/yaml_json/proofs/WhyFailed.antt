@@ -12,6 +12,7 @@ use Rattle.yaml_json.proofs.{Accepting.tree_of, TokenLemmas.value_spelled, Token
 use Rattle.yaml_json.specs.Failing.{JsonFailsBy, NestsPastMost, OverLimit}
 use Rattle.yaml_writer.proofs.WhyFailed.{fails_by, first_passes, overflowed_more, refused_deeper, refused_depth, unfinished_deeper, unfinished_depth}
 use Rattle.yaml_writer.specs.Unfinished.{IsUnfinished, PassesLimit}
+use Rattle.yaml_writer.proofs.Taken.{moves_taken}
 
 -- a text is one value
 same_json : (a b : Json) → ◌≡◌ {A = Option (Json × List Token)} (Some (a, [])) (Some (b, [])) → a ≡ b
@@ -106,7 +107,7 @@ module _ (given : Settings) (in_flow : Bool) (depth : ℕ) (text : List ℕ) whe
     pub text_failed : FailedInText depth in_flow text first error now → JsonFailsBy given in_flow depth text error
     text_failed (taken, (failed, begins)) =
         let stood = subst (λ (c : Bool). StandsTaken given (opening ++ tokens_events c in_flow taken) [] now.emitter) canonical
-        (failed.gave.adds given opening [] stands) in
+        (moves_taken failed.gave.adds given opening [] stands) in
         by_error failed.gave.is_error
         (λ is. failed_after taken failed.left failed.parts now.emitter stood.stands error is begins) where
           by_error : (error ≡ Memory) ⊎ (now.emitter.error ≡ Some error) → (now.emitter.error ≡ Some error → JsonFailsBy given in_flow depth text error)
@@ -118,7 +119,7 @@ module _ (given : Settings) (in_flow : Bool) (depth : ℕ) (text : List ℕ) whe
       stood : StandsAfter given (opening ++ json_events given.canonical in_flow wrote.json) now.emitter
       stood =
           (subst (λ (c : Bool). StandsTaken given (opening ++ json_events c in_flow wrote.json) [] now.emitter) canonical
-          (wrote.wrote.adds given opening [] stands)).stands
+          (moves_taken wrote.wrote.adds given opening [] stands)).stands
 
       whole : BeginsWithinDepth depth (tokens text)
       whole =

@@ -1,14 +1,16 @@
 -- What a writer was given, call by call.
-use Rattle.yaml_json.proofs.Common.{ℕ, is_none, IfErr, OnOk, Option, None, Result, Err, Ok, Bool, false, List, [], ◌++◌, ◌∷◌, refl, ◌≡◌, append-nil}
-use Rattle.yaml_json.proofs.Common.{append_assoc, inl, inr, ap, ap₂, subst, sym, ◌∙◌, Text, ScalarStyle, plain, Event, scalar, sequence_start, mapping_start}
+use Rattle.yaml_json.proofs.Common.{ℕ, is_none, IfErr, OnOk, Option, Result, Err, Ok, Bool, false, List, [], ◌++◌, ◌∷◌, refl, ◌≡◌}
+use Rattle.yaml_json.proofs.Common.{inl, inr, ap, ap₂, subst, sym, ◌∙◌, Text, ScalarStyle, plain, Event, scalar, sequence_start, mapping_start}
 use Rattle.yaml_json.proofs.Common.{JsonNumber, yaml_number, State, word_content, number_content, text_content, collection_in, IsBare, WasGiven, WroteEvent}
 use Rattle.yaml_json.proofs.Common.{start_event, number_found, number_in, IsNumber, WriterState, number_tag, number_event, text_style, text_event}
-use Rattle.yaml_json.proofs.Common.{mapping_event, sequence_event, end_event, with_collection, StandsTaken, AddsEvents, GaveEvent, EndsInnermost}
+use Rattle.yaml_json.proofs.Common.{mapping_event, sequence_event, end_event, with_collection, AddsEvents, GaveEvent, EndsInnermost}
 use Rattle.yaml_base.specs.Event.{CollectionStyle}
 use Rattle.yaml_writer.specs.Contents.{style_of}
 use Rattle.yaml_writer.proofs.Finishing.{nothing_awaited}
 use Rattle.yaml_writer.specs.Writing.{tag_or_default, word_event, awaits_node}
 use Rattle.yaml_base.specs.declared.kinds.CollectionKind.{CollectionKind}
+use Rattle.yaml_emitter.proofs.standing.Moving.{moves_then}
+use Rattle.yaml_writer.proofs.Taken.{adds_nothing, moves_add}
 
 -- no node is awaited
 pub bare_awaits_none : (writer : WriterState) → IsBare writer → awaits_node writer ≡ false
@@ -34,7 +36,7 @@ on_err (Err error) follows held = follows error held
 pub wrote_nothing : (writer : WriterState) → IsBare writer → WasGiven writer [] writer
 wrote_nothing writer bare =
     record {
-      adds = λ given all sent stands. subst (λ (events : List Event). StandsTaken given events sent writer.emitter) (sym (append-nil all)) stands;
+      adds = adds_nothing writer.emitter;
       canonical = refl;
       levels = refl;
       bare = bare;
@@ -43,9 +45,7 @@ wrote_nothing writer bare =
 -- some events, and then others
 pub adds_then : (before between after : State) (first second : List Event) → AddsEvents before first between → AddsEvents between second after
     → AddsEvents before (first ++ second) after
-adds_then before between after first second one other = λ given all sent stands.
-    subst (λ (events : List Event). StandsTaken given events sent after) (append_assoc all first second)
-    (other given (all ++ first) sent (one given all sent stands))
+adds_then before between after first second one other = moves_then one other
 
 pub wrote_then : (before between after : WriterState) (first second : List Event) → WasGiven before first between → WasGiven between second after
     → WasGiven before (first ++ second) after
@@ -62,10 +62,10 @@ pub wrote_same : (before after : WriterState) (events same : List Event) → eve
 wrote_same before after events same is = subst (λ (e : List Event). WasGiven before e after) is
 
 -- a call that gave one event
-pub wrote_event : (before after : WriterState) (event same : Event) → event ≡ same → GaveEvent before event None after → WroteEvent before same after
+pub wrote_event : (before after : WriterState) (event same : Event) → event ≡ same → GaveEvent before event (Ok tt) after → WroteEvent before same after
 wrote_event before after event same is gave =
     record {
-      adds = λ given all sent stands. subst (λ (e : Event). StandsTaken given (all ++ e ∷ []) sent after.emitter) is (gave.adds given all sent stands);
+      adds = subst (λ (e : Event). AddsEvents before.emitter (e ∷ []) after.emitter) is (moves_add gave.moves);
       canonical = gave.canonical;
       levels = gave.levels;
       bare = (gave.no_anchor, gave.no_tag);
@@ -135,8 +135,7 @@ pub ended : (outer : List CollectionKind) (kind : CollectionKind) (before after 
 ended outer kind before after levels bare (inl none) = absurd (none_more outer kind (sym levels ∙ none.0))
 ended outer kind before after levels bare (inr end) =
     let same = same_last end.outer outer end.kind kind (sym end.levels ∙ levels) in (
-      λ given all sent stands.
-          subst (λ (k : CollectionKind). StandsTaken given (all ++ end_event k ∷ []) sent after.emitter) same.1 (end.adds given all sent stands),
+      subst (λ (k : CollectionKind). AddsEvents before.emitter (end_event k ∷ []) after.emitter) same.1 (moves_add end.moves),
       ap (λ (w : WriterState). w.canonical) end.rest,
       ap (λ (w : WriterState). w.levels) end.rest ∙ same.0,
       (ap (λ (w : WriterState). w.anchor) end.rest ∙ bare.0, ap (λ (w : WriterState). w.tag) end.rest ∙ bare.1),
@@ -144,5 +143,5 @@ ended outer kind before after levels bare (inr end) =
 
 -- a collection was begun
 pub starts_with : (in_flow : Bool) (kind : CollectionKind) (before after : WriterState) (event : Event) → event ≡ start_event in_flow kind
-    → GaveEvent (with_collection before kind) event None after → GaveEvent (with_collection before kind) (start_event in_flow kind) None after
-starts_with in_flow kind before after event is = subst (λ (e : Event). GaveEvent (with_collection before kind) e None after) is
+    → GaveEvent (with_collection before kind) event (Ok tt) after → GaveEvent (with_collection before kind) (start_event in_flow kind) (Ok tt) after
+starts_with in_flow kind before after event is = subst (λ (e : Event). GaveEvent (with_collection before kind) e (Ok tt) after) is

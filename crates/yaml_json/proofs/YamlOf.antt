@@ -7,6 +7,7 @@ use Rattle.yaml_json.{proofs.JsonReads.HaveNumbers, proofs.JsonReads.reads_as_va
 use Rattle.yaml_json.proofs.JsonReads.{stream_whole, whole_by_either}
 use Rattle.yaml_json.{specs.Sent.AddsTaking, specs.Wrote.IsYamlOfTexts, specs.Wrote.IsYamlOf}
 use Rattle.yaml_writer.specs.Writing.{Finishes}
+use Rattle.yaml_writer.proofs.Taken.{moves_taken}
 
 -- each number of a value that was read is one
 text_has_numbers : (depth : ℕ) (text : List ℕ) (json : Json) → value depth (tokens text) ≡ Some (json, []) → HasNumbers json
@@ -25,7 +26,7 @@ pub yaml_of : (given : Settings) (in_flow : Bool) (depth : ℕ) (text bytes : Li
 yaml_of given in_flow depth text bytes first filled stands canonical wrote finishes =
     let events = opening ++ json_events given.canonical in_flow wrote.json in
     let stood = subst (λ (c : Bool). StandsTaken given (opening ++ json_events c in_flow wrote.json) [] filled.emitter) canonical
-    (wrote.wrote.adds given opening [] stands) in
+    (moves_taken wrote.wrote.adds given opening [] stands) in
     let stream = finishes given events [] stood in
     let numbers = text_has_numbers depth text wrote.json wrote.read in
     let texts = texts_closed events stood.stands.texts in
@@ -88,4 +89,4 @@ last_reads depth in_flow text was now parts last joined each wrote given sent by
     subst (λ (s : List ℕ). IsYamlOfTexts given in_flow depth text (s ++ bytes)) (append-nil sent)
     (sent_reads depth in_flow text was now [] parts last joined each
     (λ settings all before stood. subst (λ (s : List ℕ). StandsTaken settings (all ++ parts_events was.canonical in_flow (parts ++ last ∷ [])) s now.emitter)
-    (sym (append-nil before)) (wrote.adds settings all before stood)) given sent bytes stands canonical finishes)
+    (sym (append-nil before)) (moves_taken wrote.adds settings all before stood)) given sent bytes stands canonical finishes)

@@ -4,7 +4,7 @@ use Rattle.yaml_serde.proofs.Common.{Appends, All, ∥∥₁_map, Event, Setting
 use Rattle.yaml_serde.proofs.Common.{GivesEvents, WriterState, opening, closing, StandsTaken, TakesBytes, IsStream, Finishes}
 use Rattle.yaml_base.proofs.Common.{inl, inr, ◌⊎◌}
 use Rattle.yaml_base.proofs.Prefixes.{prefix_itself}
-use Rattle.yaml_writer.proofs.Common.{AddsEvent}
+use Rattle.yaml_writer.{proofs.Taken.moves_taken, specs.Writing.AddsEvents}
 use Rattle.std.{proofs.lemmas.List.Elements.All-nil, proofs.lemmas.List.Elements.All-cons, proofs.lemmas.List.Elements.All-append}
 use Rattle.std.specs.Prelude.{OnErr}
 use Rattle.std.specs.Result.{result_and}
@@ -30,15 +30,15 @@ gave_none start = record {
 }
 
 -- one call more
-pub gave_more : (start : State) (bytes : List ℕ) (before after : State) (event : Event) → IsWriterEvent event → AddsEvent before event after
-    → Grows before.page after.page → GaveEvents start bytes before → GaveEvents start bytes after
-gave_more start bytes before after event call adds grows gave = record {
+pub gave_more : (start : State) (bytes : List ℕ) (before after : State) (event : Event) → IsWriterEvent event → AddsEvents before (event ∷ []) after
+    → GaveEvents start bytes before → GaveEvents start bytes after
+gave_more start bytes before after event call adds gave = record {
   events = gave.events ++ event ∷ [];
   are = All-append IsWriterEvent gave.events (event ∷ []) gave.are (All-cons IsWriterEvent event [] call (All-nil IsWriterEvent));
   stands = λ given all sent stands.
       subst (λ (events : List Event). StandsTaken given events (sent ++ bytes) after) (append_assoc all gave.events (event ∷ []))
-      (adds given (all ++ gave.events) (sent ++ bytes) (gave.stands given all sent stands));
-  grows = grows_then gave.grows grows;
+      (moves_taken adds given (all ++ gave.events) (sent ++ bytes) (gave.stands given all sent stands));
+  grows = grows_then gave.grows adds.grows;
 }
 
 -- more bytes are taken

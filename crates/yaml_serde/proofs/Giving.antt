@@ -7,7 +7,8 @@ use mathlib.Core.Logic.{∥∥₁_elim}
 use Rattle.yaml_base.proofs.Common.{inl, inr, length-append, ◌⊎◌}
 use Rattle.yaml_base.proofs.Prefixes.{prefix_then}
 use Rattle.yaml_base.specs.Prefix.{IsPrefix}
-use Rattle.yaml_writer.proofs.Common.{end_event, AddsEvent, GaveEvent}
+use Rattle.yaml_writer.proofs.Common.{end_event, AddsEvents, GaveEvent}
+use Rattle.yaml_writer.proofs.Taken.{moves_add}
 use Rattle.std.{proofs.Math.Seq.drop-append_seam, proofs.Math.Seq.take-length, proofs.lemmas.List.length-take, proofs.lemmas.List.take-append-le}
 use Rattle.std.{proofs.Props.props}
 use Rattle.std.specs.{Prelude.IfErr, Prelude.drop}
@@ -129,9 +130,9 @@ module _ {W : Type 0} (contents : W → Option (List ℕ)) (outside : Outside) w
 
   -- an event more
   stands_more : (outlet : Outlet W) (base : ℕ) (before after : WriterState) (event : Event) → IsWriterEvent event
-      → AddsEvent before.emitter event after.emitter → Grows before.emitter.page after.emitter.page → after.canonical ≡ before.canonical
+      → AddsEvents before.emitter (event ∷ []) after.emitter → after.canonical ≡ before.canonical
       → take (length outside.start.levels) after.levels ≡ outside.start.levels → StandsIn outlet base before → StandsIn outlet base after
-  stands_more outlet base before after event call adds grows canonical above stands =
+  stands_more outlet base before after event call adds canonical above stands =
       record {
         given = ∥∥₁_map stands.given more;
         kept = stands.kept;
@@ -146,35 +147,35 @@ module _ {W : Type 0} (contents : W → Option (List ℕ)) (outside : Outside) w
         taken = given.taken;
         more = given.more;
         handed = given.handed;
-        gave = gave_more outside.start.emitter given.taken before.emitter after.emitter event call adds grows given.gave;
-        begins = λ any all sent stood. prefix_then (given.begins any all sent stood) grows.output;
+        gave = gave_more outside.start.emitter given.taken before.emitter after.emitter event call adds given.gave;
+        begins = λ any all sent stood. prefix_then (given.begins any all sent stood) adds.grows.output;
       }
 
-  gave_one : (outlet : Outlet W) (base : ℕ) (before inside after : WriterState) (event : Event) (error : Option yaml_error_t) → IsWriterEvent event
+  gave_one : (outlet : Outlet W) (base : ℕ) (before inside after : WriterState) (event : Event) (answer : Result (Unit {0}) yaml_error_t) → IsWriterEvent event
       → inside.emitter ≡ before.emitter → inside.canonical ≡ before.canonical → take (length outside.start.levels) inside.levels ≡ outside.start.levels
-      → GaveEvent inside event error after → StandsIn outlet base before → StandsIn outlet base after
-  gave_one outlet base before inside after event error call emitter canonical above gave =
-      stands_more outlet base before after event call (subst (λ (e : State). AddsEvent e event after.emitter) emitter gave.adds)
-      (subst (λ (e : State). Grows e.page after.emitter.page) emitter gave.grows) (gave.canonical ∙ canonical)
+      → GaveEvent inside event answer after → StandsIn outlet base before → StandsIn outlet base after
+  gave_one outlet base before inside after event answer call emitter canonical above gave =
+      stands_more outlet base before after event call (subst (λ (e : State). AddsEvents e (event ∷ []) after.emitter) emitter (moves_add gave.moves))
+      (gave.canonical ∙ canonical)
       (ap (take (length outside.start.levels)) gave.levels ∙ above)
 
   -- an event was given, or there was no memory for it
   pub stands_given : (answer : Result (Unit {0}) yaml_error_t) {outlet : Outlet W} {base : ℕ} {before after : WriterState} {event : Event}
       → IsWriterEvent event → Gives before event answer after → StandsIn outlet base before → StandsIn outlet base after
   stands_given (Ok done) {outlet} {base} {before} {after} {event} call gave stands =
-      gave_one outlet base before before after event None call refl refl stands.above gave stands
+      gave_one outlet base before before after event (Ok done) call refl refl stands.above gave stands
   stands_given (Err error) {outlet} {base} {before} {after} {event} call (inl failed) stands =
-      gave_one outlet base before before after event (Some error) call refl refl stands.above failed stands
+      gave_one outlet base before before after event (Err error) call refl refl stands.above failed stands
   stands_given (Err error) {outlet} {base} {before} {after} {event} call (inr none) stands = stands_same outlet base before after none.1 stands
 
   -- the start of a collection was given, or there was no memory for it
   pub stands_begun : (answer : Result (Unit {0}) yaml_error_t) (kind : CollectionKind) {outlet : Outlet W} {base : ℕ} {before after : WriterState}
       {event : Event} → IsWriterEvent event → Begins kind before event answer after → StandsIn outlet base before → StandsIn outlet base after
   stands_begun (Ok done) kind {outlet} {base} {before} {after} {event} call gave stands =
-      gave_one outlet base before (with_collection before kind) after event None call refl refl (open_more outside.start.levels before.levels kind stands.above)
+      gave_one outlet base before (with_collection before kind) after event (Ok done) call refl refl (open_more outside.start.levels before.levels kind stands.above)
       gave stands
   stands_begun (Err error) kind {outlet} {base} {before} {after} {event} call (inl failed) stands =
-      gave_one outlet base before (with_collection before kind) after event (Some error) call refl refl
+      gave_one outlet base before (with_collection before kind) after event (Err error) call refl refl
       (open_more outside.start.levels before.levels kind stands.above) failed stands
   stands_begun (Err error) kind {outlet} {base} {before} {after} {event} call (inr none) stands = stands_same outlet base before after none.1 stands
 
@@ -183,7 +184,7 @@ module _ {W : Type 0} (contents : W → Option (List ℕ)) (outside : Outside) w
       → EndsInnermost before answer after → StandsIn outlet base before → StandsIn outlet base after
   stands_end answer outlet base before after inner (inl none) stands = stands_same outlet base before after none.2 stands
   stands_end answer outlet base before after inner (inr ended) stands =
-      stands_more outlet base before after (end_event ended.kind) (end_call ended.kind) ended.adds ended.grows
+      stands_more outlet base before after (end_event ended.kind) (end_call ended.kind) (moves_add ended.moves)
       (ap (λ (w : WriterState). w.canonical) ended.rest)
       (ap (λ (w : WriterState). take (length outside.start.levels) w.levels) ended.rest
       ∙ open_less outside.start.levels ended.outer ended.kind (omega (arith, inner, stands.base_is, ap length ended.levels))

@@ -1,5 +1,5 @@
 -- What is handed on of a document's bytes.
-use Rattle.yaml_serde.proofs.Common.{ℕ, Option, None, true, false, List, ◌++◌, refl, ◌≡◌, append_assoc, ap, subst, sym, ◌∙◌}
+use Rattle.yaml_serde.proofs.Common.{ℕ, Option, true, false, List, ◌++◌, refl, ◌≡◌, append_assoc, ap, subst, sym, ◌∙◌}
 use Rattle.yaml_serde.proofs.Common.{Appends, Err, Ok, OnOk, Result, Event, Settings, State, Grows, is_kept, WriterState, StandsTaken}
 use Rattle.yaml_base.specs.Prefix.{IsPrefix}
 use Rattle.yaml_base.proofs.Prefixes.{prefix_itself}
@@ -82,7 +82,7 @@ taken_or_not contents Open old before new after hands = inr hands.writer
 
 -- an event was given, and some bytes were handed on
 pub gives_and_sends : {W : Type 0} (contents : W → Option (List ℕ)) (old new : Outlet W) (before given after : WriterState) (event : Event)
-    (called : Result (Unit {0}) yaml_error_t) (answer : Result (Unit {0}) Error) → (called ≡ Ok tt → GaveEvent before event None given)
+    (called : Result (Unit {0}) yaml_error_t) (answer : Result (Unit {0}) Error) → (called ≡ Ok tt → GaveEvent before event (Ok tt) given)
     → OnOk answer (called ≡ Ok tt) → (called ≡ Ok tt → HandsOn contents old.handing old given answer new after)
     → OnOk answer (GivesAndSends before event after)
 gives_and_sends contents old new before given after event called (Err error) gave ok hands = tt

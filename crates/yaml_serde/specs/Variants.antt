@@ -1,5 +1,5 @@
 -- How a variant with data begins.
-use Rattle.std.specs.Prelude.{◌≡◌, ◌⊎◌, ℕ, None, Some, List, ◌++◌, chars, codes}
+use Rattle.std.specs.Prelude.{◌≡◌, ◌⊎◌, ℕ, Some, Ok, List, ◌++◌, chars, codes}
 use Rattle.yaml_base.specs.Event.{Event, block}
 use Rattle.yaml_emitter.specs.State.{with_all_taken}
 use Rattle.yaml_base.specs.declared.kinds.CollectionKind.TheVariants.{Mapping}
@@ -10,7 +10,7 @@ use Rattle.yaml_serde.specs.declared.settings.Variants.TheVariants.{Tags, OneKey
 -- a writer was given this event without an error, and then all that it had flushed was taken, or nothing
 abbrev pub GivesAndSends : WriterState → Event → WriterState → Type 0
 GivesAndSends before event after =
-    (given : WriterState) × GaveEvent before event None given × ((after ≡ given) ⊎ (after ≡ record given { emitter = with_all_taken given.emitter }))
+    (given : WriterState) × GaveEvent before event (Ok tt) given × ((after ≡ given) ⊎ (after ≡ record given { emitter = with_all_taken given.emitter }))
 
 -- so with the start of a block mapping, which is open then
 abbrev pub GivesMapping : WriterState → WriterState → Type 0

@@ -2,9 +2,9 @@
 use Rattle.yaml_json.proofs.Common.{◌≡◌, ◌⊎◌, ◌∷◌, ◌++◌, [], List, Bool, Option, None, Some, Result, Ok, Err, IfErr, OnOk, inl, inr, refl, ap, subst, sym, ◌∙◌}
 use Rattle.yaml_json.proofs.Common.{append-nil, append_assoc}
 use Rattle.yaml_json.proofs.Common.{Event, State, WriterState, GaveEvent, WroteEvent, IsBare, end_event, with_collection, EndsInnermost}
-use Rattle.yaml_json.proofs.Common.{AddsEvents, StandsTaken}
+use Rattle.yaml_json.proofs.Common.{AddsEvents}
 use Rattle.yaml_json.proofs.WroteLemmas.{adds_then, ended, none_more, on_ok, same_last, wrote_event}
-use Rattle.yaml_writer.proofs.Taken.{gives_ok, gives_err}
+use Rattle.yaml_writer.proofs.Taken.{gives_ok, gives_err, moves_add}
 use Rattle.toml_ordered.specs.Data.{TomlNode}
 use Rattle.yaml_pen.{proofs.Composing.grows_itself, proofs.Composing.grows_then, proofs.Writing.none_from_result, specs.Wrote.Grows}
 use Rattle.yaml_emitter.proofs.Common.{some_from_result}
@@ -27,18 +27,24 @@ unchanged before = inl (refl, λ none. none)
 -- a call that gives an event
 module _ (before after first : WriterState) (same : first.emitter ≡ before.emitter) (event stated : Event) (is : event ≡ stated) where
   adds_stated : AddsEvents first.emitter (event ∷ []) after.emitter → AddsEvents before.emitter (stated ∷ []) after.emitter
-  adds_stated adds = λ given all sent stands. subst (λ (e : Event). StandsTaken given (all ++ e ∷ []) sent after.emitter) is
-      (adds given all sent (subst (λ (s : State). StandsTaken given all sent s) (sym same) stands))
+  adds_stated adds =
+      subst (λ (e : Event). AddsEvents before.emitter (e ∷ []) after.emitter) is (subst (λ (s : State). AddsEvents s (event ∷ []) after.emitter) same adds)
 
-  pub answers_event : (answer : Result (Unit {0}) yaml_error_t) → OnOk answer (GaveEvent first event None after)
-      → IfErr answer (λ error. GaveEvent first event (Some error) after ⊎ ((error ≡ Memory) × (after ≡ before))) → Answers before stated answer after
+  pub answers_event : (answer : Result (Unit {0}) yaml_error_t) → OnOk answer (GaveEvent first event (Ok tt) after)
+      → IfErr answer (λ error. GaveEvent first event (Err error) after ⊎ ((error ≡ Memory) × (after ≡ before))) → Answers before stated answer after
   answers_event (Ok done) gave failed =
-      record { grows = subst (λ (s : State). Grows s.page after.emitter.page) same gave.grows; sound = gave.error_is; failed = tt }
-  answers_event (Err error) gave (inl given) = record {
-    grows = subst (λ (s : State). Grows s.page after.emitter.page) same given.grows;
-    sound = inr given.error_is;
-    failed = inr (record { adds = adds_stated given.adds; is_error = inr given.error_is });
-  }
+      record {
+        grows = subst (λ (s : State). Grows s.page after.emitter.page) same gave.moves.grows;
+        sound = none_from_result after.emitter.error gave.moves.answered;
+        failed = tt;
+      }
+  answers_event (Err error) gave (inl given) =
+      let error_is = some_from_result after.emitter.error error given.moves.answered in
+      record {
+        grows = subst (λ (s : State). Grows s.page after.emitter.page) same given.moves.grows;
+        sound = inr error_is;
+        failed = inr (record { adds = adds_stated (moves_add given.moves); is_error = inr error_is });
+      }
   answers_event (Err error) gave (inr memory) =
       subst (λ (now : WriterState). Answers before stated (Err error) now) (sym memory.1)
       (record { grows = grows_itself before.emitter.page; sound = inl (memory.0, λ none. none); failed = inl (memory.0, refl) })
@@ -48,16 +54,15 @@ pub answers_end : (before after : WriterState) (answer : Result (Unit {0}) yaml_
     → before.levels ≡ outer ++ kind ∷ [] → EndsInnermost before answer after → Answers before (end_event kind) answer after
 answers_end before after answer outer kind levels (inl none) = absurd (none_more outer kind (sym levels ∙ none.0))
 answers_end before after (Ok done) outer kind levels (inr end) =
-    record { grows = end.grows; sound = none_from_result after.emitter.error end.answered; failed = tt }
+    record { grows = end.moves.grows; sound = none_from_result after.emitter.error end.moves.answered; failed = tt }
 answers_end before after (Err error) outer kind levels (inr end) =
     let same = same_last end.outer outer end.kind kind (sym end.levels ∙ levels) in
-    let error_is = some_from_result after.emitter.error error end.answered in
+    let error_is = some_from_result after.emitter.error error end.moves.answered in
     record {
-      grows = end.grows;
+      grows = end.moves.grows;
       sound = inr error_is;
       failed = inr (record {
-        adds = λ given all sent stands.
-            subst (λ (k : CollectionKind). StandsTaken given (all ++ end_event k ∷ []) sent after.emitter) same.1 (end.adds given all sent stands);
+        adds = subst (λ (k : CollectionKind). AddsEvents before.emitter (end_event k ∷ []) after.emitter) same.1 (moves_add end.moves);
         is_error = inr error_is;
       });
     }
@@ -109,9 +114,9 @@ moved_event before after event kinds wrote =
 
 -- the start of a collection
 pub moved_start : (before after : WriterState) (event same : Event) (kind : CollectionKind) → event ≡ same
-    → GaveEvent (with_collection before kind) event None after → Moved before (same ∷ []) [] (kind ∷ []) after
+    → GaveEvent (with_collection before kind) event (Ok tt) after → Moved before (same ∷ []) [] (kind ∷ []) after
 moved_start before after event same kind is gave = subst (λ (e : Event). Moved before (e ∷ []) [] (kind ∷ []) after) is (record {
-  adds = gave.adds;
+  adds = moves_add gave.moves;
   canonical = gave.canonical;
   levels = λ outer levels. gave.levels ∙ ap (λ (ks : List CollectionKind). ks ++ kind ∷ []) (levels ∙ append-nil outer);
   bare = (gave.no_anchor, gave.no_tag);

@@ -1,14 +1,15 @@
 -- What was given where a walk stops.
-use Rattle.yaml_json.proofs.Common.{◌≡◌, ℕ, suc, ◌≤◌, arith, ◌∷◌, [], List, Result, Ok, Err, inl, inr, refl, ap, subst, sym, append-nil}
+use Rattle.yaml_json.proofs.Common.{◌≡◌, ℕ, suc, ◌≤◌, arith, ◌∷◌, [], List, Result, Ok, Err, inl, inr, refl, ap, subst, sym}
 use Rattle.yaml_json.proofs.Common.{length}
 use Rattle.std.specs.Prelude.{OnErr, pred, zero}
-use Rattle.yaml_json.proofs.Common.{Event, Scalar, scalar, WriterState, WroteEvent, StandsTaken, FailedGiving}
+use Rattle.yaml_json.proofs.Common.{Event, Scalar, scalar, WriterState, WroteEvent, FailedGiving}
 use Rattle.yaml_json.proofs.WroteLemmas.{adds_then}
 use Rattle.yaml_base.specs.declared.errors.yaml_error_t.{yaml_error_t}
 use Rattle.yaml_base.specs.declared.kinds.CollectionKind.{CollectionKind}
 use Rattle.yaml_toml.specs.OpenCounts.{count_after}
 use Rattle.yaml_toml.specs.Walk.{Answers, IsStopOf, StepsStop}
 use Rattle.yaml_toml.specs.declared.walk.Stop.{Stop}
+use Rattle.yaml_writer.proofs.Taken.{adds_nothing}
 
 -- one that is open ends
 pub fewer_fit : (most n : ℕ) → n ≤ most → pred n ≤ most
@@ -21,7 +22,7 @@ module _ (most : ℕ) (was : WriterState) where
   halts_at_once due before = record {
     given = [];
     begins = record { rest = due; parts = refl };
-    adds = λ given all sent stands. subst (λ (events : List Event). StandsTaken given events sent was.emitter) (sym (append-nil all)) stands;
+    adds = adds_nothing was.emitter;
     few = λ fits. (length before, (fits, refl));
   }
 

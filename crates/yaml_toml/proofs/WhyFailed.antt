@@ -26,6 +26,7 @@ use Rattle.yaml_toml.specs.declared.error.TomlError.{TomlError}
 use Rattle.yaml_toml.specs.declared.error.TomlError.TheVariants as errors
 use Rattle.yaml_toml.proofs.Accepting.{document_shallow, stream_shallow, stream_sound, toml_accepted}
 use Rattle.yaml_toml.proofs.TomlTrees.{all_events, root_of, stream_flat, toml_stream}
+use Rattle.yaml_writer.proofs.Taken.{adds_nothing, moves_taken}
 
 -- what begins a stream opens nothing
 few_opened : (first : List Event) (depth : ℕ) → ((prefix rest : List Event) → prefix ++ rest ≡ first → open_count prefix ≤ depth) → (prefix rest : List Event)
@@ -141,7 +142,7 @@ gave_nothing depth due was = record {
   given = [];
   begins = record { rest = due; parts = refl };
   few = none_open;
-  adds = λ given all sent stands. subst (λ (events : List Event). StandsTaken given events sent was.emitter) (sym (append-nil all)) stands;
+  adds = adds_nothing was.emitter;
 }
   where
     none_open : (prefix rest : List Event) → prefix ++ rest ≡ [] → open_count prefix ≤ depth
@@ -179,7 +180,7 @@ module _ (given : Settings) (in_flow : Bool) (depth : ℕ) (text : List ℕ) (fi
   by_code code stops None none is = inl (stops.none none).1
   by_code code stops (Some root) read is =
       let gave = subst (λ (c : Bool). GaveFirst depth (toml_events c in_flow (root_of root)) first now) canonical (stops.first root read) in
-      failed_after given in_flow depth text root read gave.given gave.begins gave.few now.emitter (gave.adds given opening [] stands).stands code is
+      failed_after given in_flow depth text root read gave.given gave.begins gave.few now.emitter (moves_taken gave.adds given opening [] stands).stands code is
 
   said : (code : yaml_error_t) → StopsInDocument depth in_flow text first (errors.Emitter code) now → HasErrorSaid first (Some code) now
       → TomlFailsBy given in_flow depth text code
@@ -197,7 +198,7 @@ module _ (given : Settings) (in_flow : Bool) (depth : ℕ) (text : List ℕ) (fi
       → TomlFailsBy given in_flow depth text error
   finish_failed wrote nests error unfinished =
       let stood = subst (λ (c : Bool). StandsTaken given (opening ++ toml_events c in_flow (root_of wrote.root)) [] now.emitter) canonical
-      (wrote.wrote.adds given opening [] stands) in
+      (moves_taken wrote.wrote.adds given opening [] stands) in
       let fits = subst (λ (root : toml.TomlNodes). document_nesting root ≤ depth)
       (same_root nests.root wrote.root (sym nests.read ∙ wrote.read)) nests.within in
       unfinished_by given in_flow depth text wrote.root wrote.read fits now.emitter stood.stands error unfinished

@@ -14,6 +14,7 @@ use Rattle.yaml_toml.specs.Walk.{KeysHaveNumbers, WroteToml}
 use Rattle.yaml_toml.proofs.TomlTrees.{toml_node, root_of, toml_stream, all_events, stream_flat, portable_events}
 use Rattle.yaml_toml.proofs.TomlMeanings.{node_means, toml_by_11, toml_by_core}
 use Rattle.yaml_toml.specs.Means.{by_11, by_core}
+use Rattle.yaml_writer.proofs.Taken.{moves_taken}
 
 module _ (given : Settings) (in_flow : Bool) (keys : toml.TomlNodes) (bytes : List ℕ) (numbers : KeysHaveNumbers keys)
     (texts : list_all has_scalar_texts (all_events keys given.canonical in_flow) ≡ true)
@@ -58,7 +59,7 @@ pub yaml_of : (given : Settings) (in_flow : Bool) (text bytes : List ℕ) (first
 yaml_of given in_flow text bytes first filled stands canonical wrote finishes =
     let events = opening ++ toml_events given.canonical in_flow (root_of wrote.root) in
     let stood = subst (λ (c : Bool). StandsTaken given (opening ++ toml_events c in_flow (root_of wrote.root)) [] filled.emitter) canonical
-    (wrote.wrote.adds given opening [] stands) in
+    (moves_taken wrote.wrote.adds given opening [] stands) in
     let stream = finishes given events [] stood in
     let texts = texts_closed events stood.stands.texts in
     let whole = stream_whole given (events ++ closing) bytes stream in

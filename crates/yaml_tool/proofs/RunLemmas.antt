@@ -3,12 +3,14 @@ use Rattle.yaml_tool.proofs.Common.{ℕ, IfSome, Option, None, Some, List, [], m
 use Rattle.yaml_tool.proofs.Common.{seen_event, Settings, Numbered, Script, understood, script_of, IsFault, StandsAfter, State}
 use Rattle.yaml_tool.proofs.Common.{events_in, RefusesAt, LastLine, seen_numbered}
 use Rattle.yaml_base.proofs.Common.{inr}
+use Rattle.std.specs.Prelude.{Err}
 use Rattle.yaml_emitter.proofs.Common.{Promised}
 use Rattle.std.specs.Io.KnownBytes.{Keeps}
 use Rattle.yaml_base.specs.scripts.Script.{bad_line}
 use Rattle.yaml_base.specs.declared.errors.yaml_error_t.{yaml_error_t}
 use Rattle.yaml_emitter.{proofs.standing.KeptDocuments.documents_without_error, proofs.standing.KeptDocuments.documents_stay, specs.Promises.HasAllBytes}
-use Rattle.yaml_pen.specs.{Wrote.Grows}
+use Rattle.yaml_emitter.{proofs.standing.Moving.moved_nowhere, specs.Moves.Moves}
+use Rattle.yaml_pen.proofs.Writing.{none_from_result}
 use Rattle.yaml_tool.specs.Runs.{EmitsScript, Emits, AnswersEvents, AnswersScript, WritesNothing, EndsOnLine, FlushesLast}
 use Rattle.yaml_tool.specs.declared.{answers.run_answer_t.run_answer_t, scripts.NumberedEvent.NumberedEvent}
 use Rattle.yaml_tool.specs.declared.answers.run_answer_t.TheVariants.{BadLine, Done, NoMemory, ReadFailed, Refused, WriteFailed}
@@ -72,11 +74,10 @@ ends_more given next =
 pub refused_at : {A : Type 0} (set : Settings) (given : List (NumberedEvent A)) (next : NumberedEvent A) (rest left all : List (NumberedEvent A))
     (error : yaml_error_t) (earlier state : State)
     → given ++ left ≡ all → left ≡ next ∷ rest → earlier.error ≡ None → StandsAfter set (events_in (map seen_numbered given)) earlier
-    → Promised set (events_in (map seen_numbered given)) earlier → state.error ≡ Some error
-    → StandsAfter set (events_in (map seen_numbered given) ++ seen_event next.event ∷ []) state
-    → Promised set (events_in (map seen_numbered given) ++ seen_event next.event ∷ []) state → Grows earlier.page state.page
+    → Promised set (events_in (map seen_numbered given)) earlier → Moves earlier (seen_event next.event ∷ []) (Err error) state
+    → Promised set (events_in (map seen_numbered given) ++ seen_event next.event ∷ []) state
     → RefusesAt set (map seen_numbered all) next.line error state
-refused_at set given next rest left all error earlier state parts is none stood promised failed stands kept grew =
+refused_at set given next rest left all error earlier state parts is none stood promised moved kept =
     record {
       before = map seen_numbered given;
       event = seen_event next.event;
@@ -85,13 +86,11 @@ refused_at set given next rest left all error earlier state parts is none stood 
       earlier = earlier;
       stood = stood;
       no_error = none;
-      stands = stands;
+      moved = moved;
       promised = kept;
-      grew = grew;
       documents =
           documents_stay set (events_in (map seen_numbered given)) earlier.page.output state.page.output
-          (documents_without_error set (events_in (map seen_numbered given)) earlier promised none) grew.output;
-      failed = failed;
+          (documents_without_error set (events_in (map seen_numbered given)) earlier promised none) moved.grows.output;
     }
 
 -- the last flush
@@ -99,11 +98,12 @@ pub flushed_last : (set : Settings) (all : List Numbered) (line : ℕ) (answer :
     → Promised set (events_in all) before → before.error ≡ None → EndsOnLine all line
     → FlushesLast line before answer after → Emits set all answer after
 flushed_last set all line Done before after stood promised none ends h =
+    let stands = moved_nowhere h.0 set (events_in all) stood in
     record {
-      stands = (h.1 set (events_in all) stood).0;
-      promised = (h.1 set (events_in all) stood).1;
-      no_error = h.0;
-      flushed_whole = (h.1 set (events_in all) stood).2;
+      stands = stands.0;
+      promised = stands.1;
+      no_error = none_from_result after.error h.0.answered;
+      flushed_whole = h.1 set (events_in all) stood;
     }
 flushed_last set all line (Refused reported error) before after stood promised none ends h =
     inr
@@ -115,13 +115,12 @@ flushed_last set all line (Refused reported error) before after stood promised n
       earlier = before;
       stood = stood;
       no_error = none;
-      stands = (h.4 set (events_in all) stood).0;
-      promised = (h.4 set (events_in all) stood).1;
-      grew = h.2;
+      moved = h.1;
+      promised = (moved_nowhere h.1 set (events_in all) stood).1;
       documents =
-          documents_stay set (events_in all) before.page.output after.page.output (documents_without_error set (events_in all) before promised none) h.2.output;
-      unflushed = h.3;
-      failed = h.1;
+          documents_stay set (events_in all) before.page.output after.page.output (documents_without_error set (events_in all) before promised none)
+          h.1.grows.output;
+      unflushed = h.2;
     })
 flushed_last set all line (BadLine number) before after stood promised none ends h = h
 flushed_last set all line ReadFailed before after stood promised none ends h = h

@@ -1,5 +1,5 @@
 -- The result of a run: what it says of the script that was read and of what was written.
-use Rattle.std.specs.Prelude.{◌≡◌, ◌⊎◌, ℕ, ⊤, None, Some, Option, List, [], ◌∷◌, ◌++◌, map}
+use Rattle.std.specs.Prelude.{◌≡◌, ◌⊎◌, ℕ, ⊤, None, Some, Option, Ok, Err, List, [], ◌∷◌, ◌++◌, map}
 use Rattle.std.specs.Io.KnownBytes.{Appends, Keeps, IsAtEnd}
 use Rattle.yaml_base.specs.Settings.{Settings}
 use Rattle.yaml_base.specs.Event.{Event}
@@ -7,7 +7,7 @@ use Rattle.yaml_base.specs.scripts.Script.{Numbered, Script, bad_line, understoo
 use Rattle.yaml_base.specs.declared.errors.yaml_error_t.{yaml_error_t}
 use Rattle.yaml_base.specs.declared.errors.yaml_error_t.TheVariants.{Memory}
 use Rattle.yaml_base.specs.Sinks.{AppendsFirst}
-use Rattle.yaml_pen.specs.Wrote.{Grows}
+use Rattle.yaml_emitter.specs.Moves.{Moves}
 use Rattle.yaml_emitter.specs.State.{State}
 use Rattle.yaml_emitter.specs.StaysFlushed.{KeepsDocuments}
 use Rattle.yaml_emitter.specs.StandsAfter.{StandsAfter}
@@ -38,11 +38,9 @@ pub record RefusesAt (given : Settings) (all : List Numbered) (line : ℕ) (erro
   pub earlier : State
   pub stood : StandsAfter given (events_in before) earlier
   pub no_error : earlier.error ≡ None
-  pub stands : StandsAfter given (events_in before ++ event ∷ []) state
+  pub moved : Moves earlier (event ∷ []) (Err error) state
   pub promised : Promised given (events_in before ++ event ∷ []) state
-  pub grew : Grows earlier.page state.page
   pub documents : KeepsDocuments given (events_in before) state.page.output
-  pub failed : state.error ≡ Some error
 
 -- every event was taken without an error, and the flush after the last, of this line, answered this one; nothing is lost, all
 -- bytes of the documents that are complete are written, and where memory was refused the output is as it was
@@ -53,12 +51,10 @@ pub record FlushFails (given : Settings) (all : List Numbered) (line : ℕ) (err
   pub earlier : State
   pub stood : StandsAfter given (events_in all) earlier
   pub no_error : earlier.error ≡ None
-  pub stands : StandsAfter given (events_in all) state
+  pub moved : Moves earlier [] (Err error) state
   pub promised : Promised given (events_in all) state
-  pub grew : Grows earlier.page state.page
   pub documents : KeepsDocuments given (events_in all) state.page.output
   pub unflushed : error ≡ Memory → state.page.output ≡ earlier.page.output
-  pub failed : state.error ≡ Some error
 
 -- what an answer says of the emitter
 abbrev pub Emits : Settings → List Numbered → run_answer_t → State → Type 0
@@ -133,9 +129,7 @@ LastLine all (Some line) state = EndsOnLine all line
 -- what the last flush does, given the line of its call
 abbrev pub FlushesLast : ℕ → State → run_answer_t → State → Type 0
 FlushesLast line before Done after =
-    (after.error ≡ None) × ((given : Settings) (all : List Event) → StandsAfter given all before → StandsAfter given all after × Promised given all after
-    × HasAllBytes given all after)
+    Moves before [] (Ok tt) after × ((given : Settings) (all : List Event) → StandsAfter given all before → HasAllBytes given all after)
 FlushesLast line before (Refused reported error) after =
-    (reported ≡ line) × (after.error ≡ Some error) × Grows before.page after.page × (error ≡ Memory → after.page.output ≡ before.page.output)
-    × ((given : Settings) (all : List Event) → StandsAfter given all before → StandsAfter given all after × Promised given all after)
+    (reported ≡ line) × Moves before [] (Err error) after × (error ≡ Memory → after.page.output ≡ before.page.output)
 FlushesLast line before answer after = ⊥

@@ -3,7 +3,7 @@ use Rattle.yaml_writer.proofs.Common.{ℕ, ◌<◌, ◌≤◌, is_some, Option, 
 use Rattle.yaml_writer.proofs.Common.{ap, ap₂, subst, sym, ◌∙◌, arith, nil_from_length, Text, Event, stream_end, document_end, IsAccepted, Settings}
 use Rattle.yaml_writer.proofs.Common.{ends_last, IsRefusal, HasRoomAndMemory, Promised, StandsAfter, State, output_left, RefusesOne, IsUnfinishedBy}
 use Rattle.yaml_writer.proofs.Common.{WriterState}
-use Rattle.yaml_writer.proofs.Common.{plain_start, closing_by, StandsTaken}
+use Rattle.yaml_writer.proofs.Common.{closing_by, StandsTaken}
 use Rattle.yaml_emitter.proofs.Common.{RefusedAt, ends_stream}
 use Rattle.std.specs.Prelude.{unwrap_or, IsSome}
 use Rattle.yaml_base.specs.declared.errors.yaml_error_t.{yaml_error_t}
@@ -108,14 +108,6 @@ module _ (implicit : Bool) where
       refused_one : (given : Settings) (all : List Event) → Promised given (all ++ closing) after → IsRefusal error
           → RefusesOne given.canonical (all ++ closing) error
       refused_one given all promised refusal = refuses_one given (all ++ closing) error after (promised.refused error is refusal)
-
-  -- a document was ended and the next begun, one event after the other
-  pub next_stands : (given : Settings) (all : List Event) (sent : List ℕ) (start : Event) (state : State) → start ≡ plain_start
-      → StandsTaken given ((all ++ document_end implicit ∷ []) ++ start ∷ []) sent state
-      → StandsTaken given (all ++ document_end implicit ∷ plain_start ∷ []) sent state
-  next_stands given all sent start state is stands =
-      subst (λ (events : List Event). StandsTaken given events sent state)
-      (ap (λ event. (all ++ document_end implicit ∷ []) ++ event ∷ []) is ∙ append_assoc all (document_end implicit ∷ []) (plain_start ∷ [])) stands
 
   -- what was taken and what is left then are the stream
   pub rest_finished : (given : Settings) (all more : List Event) (sent : List ℕ) (state : State) → StandsTaken given more sent state

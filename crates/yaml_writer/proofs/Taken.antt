@@ -1,16 +1,19 @@
 -- What the calls of a writer come to for what its caller has taken, and what is left.
 use Rattle.yaml_writer.proofs.Common.{ℕ, IfErr, OnOk, Option, None, Some, Result, Err, Ok, drop, length, Bool, true, List, [], ◌++◌, ◌∷◌}
 use Rattle.yaml_writer.proofs.Common.{refl, ◌≡◌, ap, subst, sym, inr}
-use Rattle.yaml_writer.proofs.Common.{◌∙◌, prefix_then, Text, Event, Settings, some_from_result, StandsAfter, State, none_from_result, output_left}
-use Rattle.yaml_writer.proofs.Common.{result_of_error, Grows, WriterState, StandsTaken, AddsEvents, AddsEvent, PassedEvents, GaveEvent}
+use Rattle.yaml_writer.proofs.Common.{◌∙◌, prefix_then, Text, Event, Settings, StandsAfter, State, output_left}
+use Rattle.yaml_writer.proofs.Common.{Grows, WriterState, StandsTaken, AddsEvents, PassedEvents, GaveEvent}
 use Rattle.yaml_base.proofs.Common.{inl, ◌⊎◌}
 use Rattle.yaml_emitter.{proofs.Common.with_all_taken, proofs.Common.KeepsSet, specs.EmitsEvent.EmitsEvent, specs.EmitsEvent.EmitsScalar}
 use Rattle.yaml_emitter.specs.EmitsEvent.{CopyFailed, result_of_answer}
+use Rattle.yaml_emitter.specs.Moves.{Moves}
+use Rattle.yaml_base.proofs.Common.{append-nil}
+use Rattle.yaml_pen.proofs.Composing.{grows_itself}
 use Rattle.yaml_emitter.specs.declared.borrowed.ScalarAnswer.{ScalarAnswer}
 use Rattle.yaml_emitter.specs.declared.borrowed.ScalarAnswer.TheVariants.{Taken, NotTaken}
 use Rattle.yaml_base.{proofs.Prefixes.prefix_same, specs.declared.errors.yaml_error_t.yaml_error_t}
 use Rattle.yaml_writer.proofs.Common.{option_or}
-use Rattle.yaml_writer.specs.Writing.{Begins, Failed, Gave, Gives, tag_or_default, with_collection}
+use Rattle.yaml_writer.specs.Writing.{Begins, Failed, Gives, tag_or_default, with_collection}
 use Rattle.yaml_base.specs.declared.kinds.CollectionKind.{CollectionKind}
 use Rattle.yaml_base.specs.declared.errors.yaml_error_t.TheVariants.{Memory}
 
@@ -48,51 +51,61 @@ left_taken given all sent bytes before after was left now stands =
       begins = prefix_same (sent ++ bytes) after.page.output (whole ∙ sym (ap (λ (s : State). s.page.output) now));
     }
 
+-- an answer is the emitter's error
+pub moves_add : {before after : State} {events : List Event} {answer : Result (Unit {0}) yaml_error_t} → Moves before events answer after
+    → AddsEvents before events after
+moves_add {before} {after} {events} moves = subst (λ answer. Moves before events answer after) moves.answered moves
+
+-- no event is given
+pub adds_nothing : (state : State) → AddsEvents state [] state
+adds_nothing state =
+    record {
+      stands = λ given all stands. subst (λ (events : List Event). StandsAfter given events state) (sym (append-nil all)) stands;
+      grows = grows_itself state.page;
+      set = record { given = refl; started = refl; has_output = refl; opened = refl; closed = refl; taken = refl };
+      answered = refl;
+    }
+
+-- what was taken stays taken as events are given
+pub moves_taken : {before after : State} {events : List Event} {answer : Result (Unit {0}) yaml_error_t} → Moves before events answer after
+    → (given : Settings) (all : List Event) (sent : List ℕ) → StandsTaken given all sent before → StandsTaken given (all ++ events) sent after
+moves_taken moves given all sent stands =
+    record {
+      stands = moves.stands given all stands.stands;
+      taken = moves.set.taken ∙ stands.taken;
+      begins = prefix_then stands.begins moves.grows.output;
+    }
+
 -- Calls that pass events on
 
 pub passed : (inside before : WriterState) (events : List Event) (answer : Result (Unit {0}) yaml_error_t) (emitter : State) → inside ≡ before
-    → AddsEvents inside.emitter events emitter → Grows inside.emitter.page emitter.page → answer ≡ result_of_error emitter.error
-    → PassedEvents before events answer (record inside { emitter = emitter })
-passed inside before events answer emitter is adds grows answered =
-    subst (λ (writer : WriterState). PassedEvents writer events answer (record inside { emitter = emitter })) is
-    (record { adds = adds; grows = grows; answered = answered; rest = refl })
+    → Moves inside.emitter events answer emitter → PassedEvents before events answer (record inside { emitter = emitter })
+passed inside before events answer emitter is moves =
+    subst (λ (writer : WriterState). PassedEvents writer events answer (record inside { emitter = emitter })) is (record { moves = moves; rest = refl })
 
 -- Calls that give an event with the properties of the next node
 
-module _ (inside before : WriterState) (emitter : State) (anchor tag : Option Text) (given event : Event) (answer : Result (Unit {0}) yaml_error_t)
-    (view : inside ≡ before) (is : given ≡ event) (adds : AddsEvent inside.emitter given emitter)
-    (grows : Grows inside.emitter.page emitter.page) (answered : answer ≡ result_of_error emitter.error)
-    (no_anchor : anchor ≡ None) (no_tag : tag ≡ None) where
-  abbrev now : WriterState
-  now = record inside { emitter = emitter; anchor = anchor; tag = tag }
+pub gave_event : (inside before : WriterState) (emitter : State) (anchor tag : Option Text) (given event : Event)
+    (answer : Result (Unit {0}) yaml_error_t) → inside ≡ before → given ≡ event → Moves inside.emitter (given ∷ []) answer emitter → anchor ≡ None
+    → tag ≡ None → GaveEvent before event answer (record inside { emitter = emitter; anchor = anchor; tag = tag })
+gave_event inside before emitter anchor tag given event answer view is moves no_anchor no_tag =
+    record {
+      moves =
+          subst (λ (w : WriterState). Moves w.emitter (event ∷ []) answer emitter) view
+          (subst (λ (e : Event). Moves inside.emitter (e ∷ []) answer emitter) is moves);
+      canonical = ap (λ (w : WriterState). w.canonical) view;
+      levels = ap (λ (w : WriterState). w.levels) view;
+      no_anchor = no_anchor;
+      no_tag = no_tag;
+    }
 
-  gave : (error : Option yaml_error_t) → emitter.error ≡ error → GaveEvent before event error now
-  gave error error_is =
-      record {
-        adds = subst (λ (w : WriterState). AddsEvent w.emitter event emitter) view (subst (λ (e : Event). AddsEvent inside.emitter e emitter) is adds);
-        grows = subst (λ (w : WriterState). Grows w.emitter.page emitter.page) view grows;
-        error_is = error_is;
-        canonical = ap (λ (w : WriterState). w.canonical) view;
-        levels = ap (λ (w : WriterState). w.levels) view;
-        no_anchor = no_anchor;
-        no_tag = no_tag;
-      }
-
-  by : (returned : Result (Unit {0}) yaml_error_t) → returned ≡ result_of_error emitter.error → Gave before event returned now
-  by (Ok done) so = gave None (none_from_result emitter.error so)
-  by (Err error) so = gave (Some error) (some_from_result emitter.error error so)
-
-  -- where it was given, and where it failed
-  pub gave_returned : Gave before event answer now
-  gave_returned = by answer answered
-
-gives_gave : (before after : WriterState) (event : Event) (answer : Result (Unit {0}) yaml_error_t) → Gave before event answer after
+gives_gave : (before after : WriterState) (event : Event) (answer : Result (Unit {0}) yaml_error_t) → GaveEvent before event answer after
     → Gives before event answer after
 gives_gave before after event (Ok done) gave = gave
 gives_gave before after event (Err error) gave = inl gave
 
 pub begins_gave : (kind : CollectionKind) (before after : WriterState) (event : Event) (answer : Result (Unit {0}) yaml_error_t)
-    → Gave (with_collection before kind) event answer after → Begins kind before event answer after
+    → GaveEvent (with_collection before kind) event answer after → Begins kind before event answer after
 begins_gave kind before after event (Ok done) gave = gave
 begins_gave kind before after event (Err error) gave = inl gave
 
@@ -104,11 +117,7 @@ pub gave_taken : (inside before : WriterState) (emitter : State) (anchor tag : O
     → Gives before event answer (record inside { emitter = emitter; anchor = anchor; tag = tag })
 gave_taken inside before emitter anchor tag event answer view emits no_anchor no_tag =
     gives_gave before (record inside { emitter = emitter; anchor = anchor; tag = tag }) event answer
-    (gave_returned inside before emitter anchor tag event event answer view refl
-    (λ given all sent stands.
-    still_taken given all (all ++ event ∷ []) sent inside.emitter emitter stands emits.moves.set emits.moves.grows
-    (emits.moves.stands given all stands.stands))
-    emits.moves.grows emits.moves.answered no_anchor no_tag)
+    (gave_event inside before emitter anchor tag event event answer view refl emits.moves no_anchor no_tag)
 
 -- it didn't, since there was no memory to copy it
 pub gave_untaken : (inside before : WriterState) (emitter : State) (event : Event) → inside ≡ before → CopyFailed inside.emitter emitter
@@ -131,7 +140,7 @@ given_as before after answer is = subst (λ (e : Event). Gives before e answer a
 
 -- what a call gave, and why one failed
 pub gives_ok : (before after : WriterState) (event : Event) (answer : Result (Unit {0}) yaml_error_t) → Gives before event answer after
-    → OnOk answer (GaveEvent before event None after)
+    → OnOk answer (GaveEvent before event (Ok tt) after)
 gives_ok before after event (Ok done) gave = gave
 gives_ok before after event (Err error) gave = tt
 
@@ -142,13 +151,13 @@ gives_err before after event (Err error) failed = failed
 
 -- and so where it begins a collection
 pub begins_ok : (kind : CollectionKind) (before after : WriterState) (event : Event) (answer : Result (Unit {0}) yaml_error_t)
-    → Begins kind before event answer after → OnOk answer (GaveEvent (with_collection before kind) event None after)
+    → Begins kind before event answer after → OnOk answer (GaveEvent (with_collection before kind) event (Ok tt) after)
 begins_ok kind before after event (Ok done) gave = gave
 begins_ok kind before after event (Err error) gave = tt
 
 pub begins_err : (kind : CollectionKind) (before after : WriterState) (event : Event) (answer : Result (Unit {0}) yaml_error_t)
     → Begins kind before event answer after
-    → IfErr answer (λ error. GaveEvent (with_collection before kind) event (Some error) after ⊎ ((error ≡ Memory) × (after ≡ before)))
+    → IfErr answer (λ error. GaveEvent (with_collection before kind) event (Err error) after ⊎ ((error ≡ Memory) × (after ≡ before)))
 begins_err kind before after event (Ok done) gave = tt
 begins_err kind before after event (Err error) failed = failed
 

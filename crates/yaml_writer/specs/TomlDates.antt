@@ -1,5 +1,5 @@
 -- The dates and times of TOML that YAML 1.1 has as timestamps.
-use Rattle.std.specs.Prelude.{ℕ, ℤ, pos, negsuc, Bool, true, false, Option, None, Some, ◌/◌, ◌%◌, nat_lt, option_map, option_and_then, unwrap_or}
+use Rattle.std.specs.Prelude.{ℤ, pos, negsuc, Bool, true, false, Option, None, Some, ◌/◌, ◌%◌, nat_lt, option_map, option_and_then, unwrap_or}
 use Rattle.std.specs.Prelude.{if◌then◌else◌}
 use Rattle.toml_datetime.specs.Valid.{magnitude}
 use Rattle.toml_datetime.specs.declared.datetime.Date as toml_date
@@ -7,9 +7,8 @@ use Rattle.toml_datetime.specs.declared.datetime.Time as toml_time
 use Rattle.toml_datetime.specs.declared.datetime.Offset as toml_offset
 use Rattle.toml_datetime.specs.declared.datetime.Offset.TheVariants.{Z, Custom}
 use Rattle.toml_datetime.specs.declared.datetime.Datetime.{Datetime}
-use Rattle.yaml_base.specs.Options.{some_if}
 use Rattle.yaml_writer.specs.Dates.{CalendarDate, calendar_date, is_calendar_date}
-use Rattle.yaml_writer.specs.Times.{ClockOffset, ClockTime, Moment, clock_time, is_clock_offset, is_clock_reading}
+use Rattle.yaml_writer.specs.Times.{ClockOffset, ClockTime, Moment, clock_time, is_clock_reading}
 
 -- a date of the years 1 to 9999
 abbrev pub date_of : toml_date.Date → Option CalendarDate

@@ -17,7 +17,7 @@ use Rattle.yaml_base.specs.values.TypedValues.{null_tag, bool_tag, int_tag, bool
 use Rattle.yaml_base.specs.declared.errors.yaml_error_t.{yaml_error_t}
 use Rattle.yaml_base.specs.declared.errors.yaml_error_t.TheVariants.{ExpectedDocumentEnd, ExpectedNode, Memory}
 use Rattle.yaml_pen.specs.Page.{result_of_error}
-use Rattle.yaml_pen.specs.Wrote.{Grows}
+use Rattle.yaml_emitter.specs.Moves.{Moves}
 use Rattle.yaml_emitter.specs.State.{State}
 use Rattle.yaml_emitter.specs.StandsAfter.{StandsAfter}
 use Rattle.yaml_emitter.specs.Promises.{IsWritten}
@@ -177,33 +177,23 @@ pub record StandsTaken (given : Settings) (all : List Event) (sent : List ℕ) (
   pub taken : emitter.page.taken ≡ length sent
   pub begins : IsPrefix sent emitter.page.output
 
--- wherever the emitter stood, it stands after these events more; what was taken stays taken
+-- these events were given to the emitter, whatever its error is
 abbrev pub AddsEvents : State → List Event → State → Type 0
-AddsEvents before events after =
-    (given : Settings) (all : List Event) (sent : List ℕ) → StandsTaken given all sent before → StandsTaken given (all ++ events) sent after
-
--- wherever the emitter stood, it stands after this event more; what was taken stays taken
-abbrev pub AddsEvent : State → Event → State → Type 0
-AddsEvent before event after = AddsEvents before (event ∷ []) after
+AddsEvents before events after = Moves before events (result_of_error after.error) after
 
 -- wherever the emitter stood, it stands there still, and these bytes are taken more
 abbrev pub TakesBytes : State → List ℕ → State → Type 0
 TakesBytes before bytes after =
     (given : Settings) (all : List Event) (sent : List ℕ) → StandsTaken given all sent before → StandsTaken given all (sent ++ bytes) after
 
--- these events were given to the emitter, whose error is returned; its text and its output only grow, and nothing else changes
+-- these events were given to the emitter, and nothing else changes
 pub record PassedEvents (before : WriterState) (events : List Event) (answer : Result (Unit {0}) yaml_error_t) (after : WriterState) : Type 0 where
-  pub adds : AddsEvents before.emitter events after.emitter
-  pub grows : Grows before.emitter.page after.emitter.page
-  pub answered : answer ≡ result_of_error after.emitter.error
+  pub moves : Moves before.emitter events answer after.emitter
   pub rest : after ≡ record before { emitter = after.emitter }
 
--- the event was given to the emitter, which has this error, and whose text and output only grow; the next node has no
--- properties yet
-pub record GaveEvent (before : WriterState) (event : Event) (error : Option yaml_error_t) (after : WriterState) : Type 0 where
-  pub adds : AddsEvent before.emitter event after.emitter
-  pub grows : Grows before.emitter.page after.emitter.page
-  pub error_is : after.emitter.error ≡ error
+-- the event was given to the emitter; the next node has no properties yet
+pub record GaveEvent (before : WriterState) (event : Event) (answer : Result (Unit {0}) yaml_error_t) (after : WriterState) : Type 0 where
+  pub moves : Moves before.emitter (event ∷ []) answer after.emitter
   pub canonical : after.canonical ≡ before.canonical
   pub levels : after.levels ≡ before.levels
   pub no_anchor : after.anchor ≡ None
@@ -211,32 +201,25 @@ pub record GaveEvent (before : WriterState) (event : Event) (error : Option yaml
 
 -- the emitter failed, or there was no memory for the event, and nothing changed
 abbrev pub Failed : WriterState → Event → yaml_error_t → WriterState → Type 0
-Failed before event error after = GaveEvent before event (Some error) after ⊎ ((error ≡ Memory) × (after ≡ before))
-
--- the event was given to the emitter, whose error is returned
-abbrev pub Gave : WriterState → Event → Result (Unit {0}) yaml_error_t → WriterState → Type 0
-Gave before event (Ok _) after = GaveEvent before event None after
-Gave before event (Err error) after = GaveEvent before event (Some error) after
+Failed before event error after = GaveEvent before event (Err error) after ⊎ ((error ≡ Memory) × (after ≡ before))
 
 -- the event was given, or there was no memory for it, and nothing changed
 abbrev pub Gives : WriterState → Event → Result (Unit {0}) yaml_error_t → WriterState → Type 0
-Gives before event (Ok _) after = GaveEvent before event None after
+Gives before event (Ok done) after = GaveEvent before event (Ok done) after
 Gives before event (Err error) after = Failed before event error after
 
 -- so with the start of a collection of this kind, which is open then
 abbrev pub Begins : CollectionKind → WriterState → Event → Result (Unit {0}) yaml_error_t → WriterState → Type 0
-Begins kind before event (Ok _) after = GaveEvent (with_collection before kind) event None after
+Begins kind before event (Ok done) after = GaveEvent (with_collection before kind) event (Ok done) after
 Begins kind before event (Err error) after =
-    GaveEvent (with_collection before kind) event (Some error) after ⊎ ((error ≡ Memory) × (after ≡ before))
+    GaveEvent (with_collection before kind) event (Err error) after ⊎ ((error ≡ Memory) × (after ≡ before))
 
--- the innermost collection was ended; the emitter's text and output only grow
+-- the innermost collection was ended
 pub record EndedCollection (before : WriterState) (answer : Result (Unit {0}) yaml_error_t) (after : WriterState) : Type 0 where
   pub outer : List CollectionKind
   pub kind : CollectionKind
   pub levels : before.levels ≡ outer ++ kind ∷ []
-  pub adds : AddsEvent before.emitter (end_event kind) after.emitter
-  pub grows : Grows before.emitter.page after.emitter.page
-  pub answered : answer ≡ result_of_error after.emitter.error
+  pub moves : Moves before.emitter (end_event kind ∷ []) answer after.emitter
   pub rest : after ≡ record before { emitter = after.emitter; levels = outer }
 
 -- the innermost collection was ended, or none was open, and nothing changed

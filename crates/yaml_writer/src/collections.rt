@@ -1,7 +1,7 @@
 //! Collections of a writer.
 ghost use Rattle.std.specs.Prelude.{◌≡◌, IfErr, OnOk, true, false, length};
 ghost use Rattle.yaml_base.specs.Seen.{seen_mapping_style, seen_sequence_style};
-ghost use Rattle.yaml_writer.specs.Writing.{Begins, EndsInnermost, Gave, NodeExpected, awaits_node, mapping_event, sequence_event};
+ghost use Rattle.yaml_writer.specs.Writing.{Begins, EndsInnermost, GaveEvent, NodeExpected, awaits_node, mapping_event, sequence_event};
 ghost use Rattle.yaml_writer.specs.Writing.{collection_start_event, with_collection};
 ghost use Rattle.yaml_base.specs.declared.kinds.CollectionKind.TheVariants.{Mapping, Sequence};
 
@@ -83,7 +83,7 @@ impl<A: Allocator + Copy> Writer<A> {
 
     /// Gives the start of a collection to the emitter, with the properties of the next node.
     fn start(&mut self, start: CollectionStart) -> Result<(), yaml_error_t>
-        ensures { Gave self.old (collection_start_event self.old start) result self.new }
+        ensures { GaveEvent self.old (collection_start_event self.old start) result self.new }
     {
         let anchor = self.anchor.take();
         let tag = self.tag.take();

@@ -5,10 +5,10 @@ ghost use Rattle.yaml_base.specs.Event.{document_end};
 ghost use Rattle.yaml_base.specs.Seen.{seen_event, seen_scalar_style, seen_text};
 ghost use Rattle.yaml_base.specs.Settings.{Settings};
 ghost use Rattle.yaml_emitter.specs.BorrowedTexts.{seen_name, seen_scalar};
-ghost use Rattle.yaml_pen.specs.Page.{output_left, result_of_error};
-ghost use Rattle.yaml_pen.specs.Wrote.{Grows};
+ghost use Rattle.yaml_emitter.specs.Moves.{Moves};
+ghost use Rattle.yaml_pen.specs.Page.{output_left};
 ghost use Rattle.yaml_writer.specs.Unfinished.{IsUnfinishedBy};
-ghost use Rattle.yaml_writer.specs.Writing.{AddsEvent, AddsEvents, FinishesBy, StandsTaken, end_event, opening, plain_start as document_begins};
+ghost use Rattle.yaml_writer.specs.Writing.{FinishesBy, StandsTaken, end_event, opening, plain_start as document_begins};
 ghost use Rattle.yaml_writer.specs.Writing as writing;
 
 use crate::collections::CollectionStart;
@@ -42,9 +42,7 @@ pub(crate) fn give<A: Allocator + Copy>(
     event: yaml_event_t<A>,
 ) -> Result<(), yaml_error_t>
     requires output { emitter.old.has_output ≡ true }
-    ensures adds { AddsEvent emitter.old (seen_event event) emitter.new }
-    ensures grows { Grows emitter.old.page emitter.new.page }
-    ensures answered { result ≡ result_of_error emitter.new.error }
+    ensures moves { Moves emitter.old (seen_event event ∷ []) result emitter.new }
     ensures output { emitter.new.has_output ≡ true }
 {
     yaml_emitter_emit(emitter, event)
@@ -184,9 +182,7 @@ pub(crate) fn give_end<A: Allocator + Copy>(
     kind: CollectionKind,
 ) -> Result<(), yaml_error_t>
     requires output { emitter.old.has_output ≡ true }
-    ensures adds { AddsEvent emitter.old (end_event kind) emitter.new }
-    ensures grows { Grows emitter.old.page emitter.new.page }
-    ensures answered { result ≡ result_of_error emitter.new.error }
+    ensures moves { Moves emitter.old (end_event kind ∷ []) result emitter.new }
     ensures output { emitter.new.has_output ≡ true }
 {
     let event = match kind {
@@ -203,9 +199,7 @@ pub(crate) fn give_next<A: Allocator + Copy>(
     end: DocumentEnd,
 ) -> Result<(), yaml_error_t>
     requires output { emitter.old.has_output ≡ true }
-    ensures adds { AddsEvents emitter.old (document_end (writing.is_implicit end) ∷ document_begins ∷ []) emitter.new }
-    ensures grows { Grows emitter.old.page emitter.new.page }
-    ensures answered { result ≡ result_of_error emitter.new.error }
+    ensures moves { Moves emitter.old (document_end (writing.is_implicit end) ∷ document_begins ∷ []) result emitter.new }
     ensures output { emitter.new.has_output ≡ true }
 {
     let implicit = is_implicit(end);

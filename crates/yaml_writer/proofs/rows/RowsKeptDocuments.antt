@@ -1,5 +1,5 @@
 -- Worked rows: a writer keeps all bytes of the documents that it ended, whatever its later calls answer.
-use Rattle.yaml_writer.proofs.Common.{ℕ, Option, None, Result, codes, false, true, List, [], ◌++◌, ◌∷◌, refl, ◌≡◌, prefix_then, Event, document_end, Grows}
+use Rattle.yaml_writer.proofs.Common.{ℕ, None, Result, codes, false, true, List, [], ◌++◌, ◌∷◌, refl, ◌≡◌, prefix_then, Event, document_end, Grows}
 use Rattle.yaml_writer.proofs.Common.{WriterState, plain_start, StandsTaken, PassedEvents, GaveEvent}
 use Rattle.yaml_base.specs.{Prefix.IsPrefix, Settings.nothing_given, declared.errors.yaml_error_t.yaml_error_t}
 use Rattle.yaml_emitter.{proofs.standing.KeptDocuments.documents_without_error, proofs.standing.Promising.promised, specs.State.new_state}
@@ -27,14 +27,14 @@ module _ (later : List Event) (sent : List ℕ) (before : WriterState) (stood : 
       grows.output
 
   -- so no state whose output was emptied follows a call, whether it gave an event, and whatever its error is,
-  emptied_giving : (event : Event) (error : Option yaml_error_t) → GaveEvent before event error after → after.emitter.page.output ≡ [] → ⊥
-  emptied_giving event error h = not_empty after.emitter.page.output (stays h.grows)
+  emptied_giving : (event : Event) (answer : Result (Unit {0}) yaml_error_t) → GaveEvent before event answer after → after.emitter.page.output ≡ [] → ⊥
+  emptied_giving event answer h = not_empty after.emitter.page.output (stays h.moves.grows)
 
   -- or ended the document and began the next,
   emptied_passing : (events : List Event) (answer : Result (Unit {0}) yaml_error_t) → PassedEvents before events answer after
       → after.emitter.page.output ≡ [] → ⊥
-  emptied_passing events answer h = not_empty after.emitter.page.output (stays h.grows)
+  emptied_passing events answer h = not_empty after.emitter.page.output (stays h.moves.grows)
 
   -- or ended a collection
   emptied_ending : (answer : Result (Unit {0}) yaml_error_t) → EndedCollection before answer after → after.emitter.page.output ≡ [] → ⊥
-  emptied_ending answer h = not_empty after.emitter.page.output (stays h.grows)
+  emptied_ending answer h = not_empty after.emitter.page.output (stays h.moves.grows)

@@ -1,5 +1,5 @@
 -- Texts and their plain tags, and scalars with the flags that keep their tags, worked by hand.
-use Rattle.yaml_writer.proofs.Common.{codes, None, Some, Bool, false, true, refl, ◌≡◌, Option, Text, plain, float_tag, int_tag}
+use Rattle.yaml_writer.proofs.Common.{codes, None, Some, Bool, false, true, refl, ◌≡◌, Text, plain, float_tag, int_tag}
 use Rattle.yaml_base.specs.Event.{Scalar, ScalarStyle, any_style}
 use Rattle.yaml_base.specs.graphs.Meetings.{string_tag}
 use Rattle.yaml_base.specs.values.TypedValues.{null_tag, bool_tag}

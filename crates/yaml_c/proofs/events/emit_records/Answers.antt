@@ -4,7 +4,7 @@ use Rattle.yaml_c.proofs.EmissionLemmas.{bad_next, given_more, refused_next, end
 use Rattle.yaml_base.specs.scripts.Script.{Numbered}
 use Rattle.yaml_c.proofs.GivingLemmas.{took, took_bad, took_nothing}
 use Rattle.yaml_c.specs.declared.giving.Giving.TheVariants.{Emitted}
-use Rattle.yaml_pen.proofs.Writing.{none_from_result, some_from_result}
+use Rattle.yaml_pen.proofs.Writing.{none_from_result}
 use Rattle.yaml_c.proofs.events.emit_records.Goals as goal
 
 pub returns-in-Emitted-Err-clause-emits : goal.returns-in-Emitted-Err-clause-emits
@@ -21,8 +21,7 @@ returns-in-Emitted-Err-clause-emits g c given stands =
     (refused_next c.args.arena.now c.args.directives.now c.args.events.now c.args.emitter.now now.emitter after now.record-index now.number now.last _ event.0
     given error has now.invariant.4 c.loop-record-test.true (sym event.1) now.invariant.3
     stood (c.standing_is_promised.ensures given (events_in has.given) now.emitter stood)
-    (some_from_result after.error error emits.moves.answered) (emits.moves.stands given (events_in has.given) stood)
-    (emits.promised given (events_in has.given) stood) emits.moves.grows)
+    emits.moves (emits.promised given (events_in has.given) stood))
 
 pub loop-record-preserved : goal.loop-record-preserved
 loop-record-preserved g c =

@@ -1,7 +1,7 @@
 use Rattle.yaml_c.proofs.Common.{ℕ, ℤ, Bool, List, ◌≡◌, rules, subst, sym, w32, of_z, to_z, Settings, seen_settings}
 use Rattle.yaml_c.proofs.TomlLemmas.{right_toml}
 use Rattle.std.specs.Prelude.{IsUtf8}
-use Rattle.std.proofs.Common.{ap, refl}
+use Rattle.std.proofs.Common.{ap}
 use Rattle.yaml_c.specs.{Answers.CopiesToCaller, Answers.results_failed, Arena.is_on, declared.results.CallResult.CallResult}
 use Rattle.yaml_c.specs.TomlAnswers.{TomlAnswer, IsTomlAnswer, toml_answer_of, is_no_text, toml_results}
 use Rattle.yaml_c.proofs.toml_texts.yaml_from_toml.Goals as goal

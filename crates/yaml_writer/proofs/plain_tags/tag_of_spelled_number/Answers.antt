@@ -1,4 +1,4 @@
-use Rattle.yaml_writer.proofs.Common.{chars, if◌then◌else◌, option_map, None, Some, Option, sym, ◌∙◌, ap, JsonNumber, Text}
+use Rattle.yaml_writer.proofs.Common.{chars, if◌then◌else◌, option_map, None, Some, sym, ◌∙◌, ap, Text}
 use Rattle.yaml_writer.proofs.PlainTagLemmas.{none_spelled, number_spelled}
 use Rattle.yaml_writer.specs.Writing.{number_tag}
 use Rattle.yaml_writer.proofs.plain_tags.tag_of_spelled_number.Goals as goal

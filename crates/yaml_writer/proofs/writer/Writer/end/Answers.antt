@@ -1,4 +1,5 @@
-use Rattle.yaml_writer.proofs.Common.{rules, inr, subst, Grows, WriterState, end_event, AddsEvent}
+use Rattle.yaml_writer.proofs.Common.{[], ◌∷◌, rules, inr, subst, WriterState, end_event}
+use Rattle.yaml_emitter.specs.Moves.{Moves}
 use Rattle.yaml_writer.proofs.writer.Writer.end.Goals as goal
 
 pub returns-in-Some-clause-ended : goal.returns-in-Some-clause-ended
@@ -8,9 +9,8 @@ returns-in-Some-clause-ended g c none =
       outer = c.pop.new.self.items;
       kind = c.in-Some.kind;
       levels = search rules;
-      adds =
-          subst (λ (writer : WriterState). AddsEvent writer.emitter (end_event c.in-Some.kind) c.give_end.new.emitter) c.self.view_is c.give_end.ensures.adds;
-      grows = subst (λ (writer : WriterState). Grows writer.emitter.page c.give_end.new.emitter.page) c.self.view_is c.give_end.ensures.grows;
-      answered = c.give_end.ensures.answered;
+      moves =
+          subst (λ (writer : WriterState). Moves writer.emitter (end_event c.in-Some.kind ∷ []) c.give_end.result c.give_end.new.emitter) c.self.view_is
+          c.give_end.ensures.moves;
       rest = search rules;
     })

@@ -1,7 +1,7 @@
 use Rattle.yaml_writer.proofs.Common.{is_none, option_map, ◌≡◌, ◌∙◌, rules, ap, mapping_start, sequence_start, seen_mapping_style, seen_sequence_style}
 use Rattle.yaml_writer.proofs.Common.{seen_event, seen_text, writer_state_of}
 use Rattle.yaml_base.specs.Event.{Collection, CollectionStyle}
-use Rattle.yaml_writer.{proofs.Taken.gave_returned, specs.Writing.next_collection, specs.Writing.collection_start_event, specs.Writing.collection_start}
+use Rattle.yaml_writer.{proofs.Taken.gave_event, specs.Writing.next_collection, specs.Writing.collection_start_event, specs.Writing.collection_start}
 use Rattle.yaml_writer.specs.declared.collections.CollectionStart.{CollectionStart}
 use Rattle.yaml_writer.specs.declared.collections.CollectionStart.TheVariants.{Mapping, Sequence}
 use Rattle.yaml_writer.proofs.writer.Writer.start.Goals as goal
@@ -23,8 +23,7 @@ returns g c =
     } in
     let asked : (style : CollectionStyle) → given style ≡ next_collection c.args.self.now style = λ style. search rules in
     let event = collection_start_event c.args.self.now c.args.start in
-    gave_returned (writer_state_of c.self.inside) c.args.self.now c.give.new.emitter (option_map seen_text c.take-anchor.new.self)
+    gave_event (writer_state_of c.self.inside) c.args.self.now c.give.new.emitter (option_map seen_text c.take-anchor.new.self)
     (option_map seen_text c.take-tag.new.self) (seen_event c.collection_start.result) event c.give.result c.self.view_is
-    (c.collection_start.ensures ∙ same_start c.args.start given (next_collection c.args.self.now) asked) c.give.ensures.adds
-    c.give.ensures.grows c.give.ensures.answered
+    (c.collection_start.ensures ∙ same_start c.args.start given (next_collection c.args.self.now) asked) c.give.ensures.moves
     (ap (option_map seen_text) c.take-anchor.ensures.after) (ap (option_map seen_text) c.take-tag.ensures.after)
