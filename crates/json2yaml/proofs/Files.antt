@@ -15,7 +15,7 @@ use Rattle.yaml_json.specs.Wrote.{AreJson, parts_events}
 use Rattle.yaml_json.specs.declared.settings.JsonSettings.{JsonSettings}
 use Rattle.yaml_json.proofs.GivenAndTaken.{appends_then, begun_taken, taking_then}
 use Rattle.yaml_json.proofs.TextsInTurn.{some_text}
-use Rattle.json2yaml.specs.Conversions.{IsYamlOfJsonFiles, SentFile}
+use Rattle.json2yaml.specs.Conversions.{IsYamlOfJsonFiles, SentJsonFile}
 use Rattle.yaml_program.specs.Conversions.{WroteStream}
 use Rattle.yaml_program.specs.Streams.{BeganDocument, SentStream}
 use Rattle.yaml_program.proofs.FilesInTurn.{each_sent}
@@ -80,14 +80,14 @@ module _ (settings : JsonSettings) where
         wrote = wrote;
       }
 
-  file_sent : (file : List ℕ) (was now : WriterState) (before after : Option (List ℕ)) → SentFile settings file was before now after
+  file_sent : (file : List ℕ) (was now : WriterState) (before after : Option (List ℕ)) → SentJsonFile settings file was before now after
       → SentJsonFiles settings (file ∷ []) was before now after
   file_sent file was now before after sent =
       one_file file was now before after sent.parts sent.cut sent.each sent.names sent.handed sent.sends sent.wrote
 
   -- and another
   next_sent : (files : List (List ℕ)) (file : List ℕ) (was middle begun now : WriterState) (start held holds after : Option (List ℕ))
-      → SentJsonFiles settings files was start middle held → BeganDocument middle held begun holds → SentFile settings file begun holds now after
+      → SentJsonFiles settings files was start middle held → BeganDocument middle held begun holds → SentJsonFile settings file begun holds now after
       → SentJsonFiles settings (files ++ file ∷ []) was start now after
   next_sent files file was middle begun now start held holds after sent began one =
       let begins = begun_taken middle began.begun begun (output_left began.begun.emitter.page) held holds sent.wrote.bare began.passed began.takes
@@ -119,12 +119,12 @@ module _ (settings : JsonSettings) where
       }
 
   -- and all
-  pub all_wrote : (files : List (List ℕ)) (before after : Option (List ℕ)) → SentStream (SentFile settings) settings.writer files before after
+  pub all_wrote : (files : List (List ℕ)) (before after : Option (List ℕ)) → SentStream (SentJsonFile settings) settings.writer files before after
       → WroteStream (IsYamlOfJsonFiles settings) files before after
   all_wrote files before after whole =
       let given = seen_settings settings.writer in
       let was = whole.first in
-      let sent = each_sent (SentFile settings) (λ all now holds. SentJsonFiles settings all was before now holds)
+      let sent = each_sent (SentJsonFile settings) (λ all now holds. SentJsonFiles settings all was before now holds)
       (λ some file middle begun now held holds later. next_sent some file was middle begun now before held holds later) files was whole.last before
       whole.held (λ file now holds. file_sent file was now before holds) whole.documents in
       let parts = sent.first ∷ sent.rest in

@@ -22,8 +22,8 @@ pub record AreJsonSettings (matches : ArgMatches) (settings : JsonSettings) : Ty
 -- ---- what is sent on
 
 -- the texts of this file were sent
-abbrev pub SentFile : JsonSettings → Sending
-SentFile settings = SentTexts settings.depth settings.unique_names settings.flow
+abbrev pub SentJsonFile : JsonSettings → Sending
+SentJsonFile settings = SentTexts settings.depth settings.unique_names settings.flow
 
 -- the bytes are the stream of the texts of these files, a document each, under these settings
 pub record IsYamlOfJsonFiles (settings : JsonSettings) (files : List (List ℕ)) (bytes : List ℕ) : Type 0 where

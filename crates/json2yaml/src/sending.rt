@@ -1,5 +1,5 @@
 //! What is sent on of a file of JSON texts: their YAML, by the settings that are asked for.
-ghost use Rattle.json2yaml.specs.Conversions.{SentFile};
+ghost use Rattle.json2yaml.specs.Conversions.{SentJsonFile};
 
 use crate::failures::failure_of;
 use crate::formats::JsonFormat;
@@ -9,7 +9,7 @@ use yaml_json::{Writer, send_json_texts};
 use yaml_program::{Failure, SendsFile, Sources};
 
 impl SendsFile for JsonFormat {
-    ghost sent = { λ format. SentFile format.settings };
+    ghost sent = { λ format. SentJsonFile format.settings };
 
     fn send_file<S: Sources + AllocGlobal, W: Write>(
         &self,

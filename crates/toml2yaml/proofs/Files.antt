@@ -13,7 +13,7 @@ use Rattle.yaml_program.specs.Conversions.{WroteStream}
 use Rattle.yaml_program.specs.Streams.{BeganDocument, SentStream}
 use Rattle.yaml_program.proofs.FilesInTurn.{each_sent}
 use Rattle.yaml_toml.specs.declared.settings.TomlSettings.{TomlSettings}
-use Rattle.toml2yaml.specs.Conversions.{AreToml, IsYamlOfTomlFiles, SentFile, toml_parts_events, root_events}
+use Rattle.toml2yaml.specs.Conversions.{AreToml, IsYamlOfTomlFiles, SentTomlFile, toml_parts_events, root_events}
 
 -- ---- documents behind others
 
@@ -52,7 +52,7 @@ pub record SentTomlFiles (settings : TomlSettings) (files : List (List ℕ)) (wa
 
 module _ (settings : TomlSettings) where
   -- a file
-  file_sent : (file : List ℕ) (was now : WriterState) (held after : Option (List ℕ)) → SentFile settings.flow file was held now after
+  file_sent : (file : List ℕ) (was now : WriterState) (held after : Option (List ℕ)) → SentTomlFile settings.flow file was held now after
       → SentTomlFiles settings (file ∷ []) was held now after
   file_sent file was now held after ((utf8, wrote), same) =
       record {
@@ -68,7 +68,7 @@ module _ (settings : TomlSettings) where
   -- and another
   next_sent : (files : List (List ℕ)) (file : List ℕ) (was middle begun now : WriterState) (start held holds after : Option (List ℕ))
       → SentTomlFiles settings files was start middle held → BeganDocument middle held begun holds
-      → SentFile settings.flow file begun holds now after → SentTomlFiles settings (files ++ file ∷ []) was start now after
+      → SentTomlFile settings.flow file begun holds now after → SentTomlFiles settings (files ++ file ∷ []) was start now after
   next_sent files file was middle begun now start held holds after sent began ((utf8, one), stays) =
       let begins = begun_taken middle began.begun begun (output_left began.begun.emitter.page) held holds sent.wrote.bare began.passed began.takes
       began.kept began.sends in
@@ -95,12 +95,12 @@ module _ (settings : TomlSettings) where
       }
 
   -- and all
-  pub all_wrote : (files : List (List ℕ)) (before after : Option (List ℕ)) → SentStream (SentFile settings.flow) settings.writer files before after
+  pub all_wrote : (files : List (List ℕ)) (before after : Option (List ℕ)) → SentStream (SentTomlFile settings.flow) settings.writer files before after
       → WroteStream (IsYamlOfTomlFiles settings) files before after
   all_wrote files before after whole =
       let given = seen_settings settings.writer in
       let was = whole.first in
-      let sent = each_sent (SentFile settings.flow) (λ all now holds. SentTomlFiles settings all was before now holds)
+      let sent = each_sent (SentTomlFile settings.flow) (λ all now holds. SentTomlFiles settings all was before now holds)
       (λ some file middle begun now held holds later. next_sent some file was middle begun now before held holds later) files was whole.last before
       whole.held (λ file now holds. file_sent file was now before holds) whole.documents in
       let parts = sent.first ∷ sent.rest in

@@ -42,8 +42,8 @@ abbrev pub WroteFile : (in_flow : Bool) → List ℕ → WriterState → WriterS
 WroteFile in_flow file was now = IsUtf8 file × WroteToml in_flow file was now
 
 -- and nothing was sent on of it yet
-abbrev pub SentFile : (in_flow : Bool) → Sending
-SentFile in_flow file was before now after = WroteFile in_flow file was now × (after ≡ before)
+abbrev pub SentTomlFile : (in_flow : Bool) → Sending
+SentTomlFile in_flow file was before now after = WroteFile in_flow file was now × (after ≡ before)
 
 -- the bytes are the stream of these files, a document each, under these settings
 pub record IsYamlOfTomlFiles (settings : TomlSettings) (files : List (List ℕ)) (bytes : List ℕ) : Type 0 where

@@ -1,7 +1,7 @@
 //! What is sent on of a file of TOML: its YAML, by the settings that are asked for.
 ghost use Rattle.std.specs.Prelude.{◌≡◌, OnOk};
 ghost use Rattle.yaml_json.specs.Wrote.{IsBare};
-ghost use Rattle.toml2yaml.specs.Conversions.{SentFile, WroteFile};
+ghost use Rattle.toml2yaml.specs.Conversions.{SentTomlFile, WroteFile};
 
 use crate::failures::{failure_of, refused};
 use crate::formats::TomlFormat;
@@ -37,7 +37,7 @@ fn write_bytes(
 }
 
 impl SendsFile for TomlFormat {
-    ghost sent = { λ format. SentFile format.settings.flow };
+    ghost sent = { λ format. SentTomlFile format.settings.flow };
 
     fn send_file<S: Sources + AllocGlobal, W: Write>(
         &self,

@@ -6,7 +6,7 @@ use Rattle.yaml_tool.proofs.Common.{IsFree, IsCut, prefix_of, SkipsTo}
 use Rattle.std.specs.Prelude.{String}
 use Rattle.yaml_base.specs.scripts.Script.{quotation_mark, backslash, at_escape, at_brace, at_digits, goes_on, stands_for, ends, fails, numbered_step}
 use Rattle.yaml_base.specs.scripts.Script.{text_step}
-use Rattle.yaml_tool.{proofs.CharacterLemmas.passed_to, proofs.CutLemmas.neither, specs.Texts.ReadsOn}
+use Rattle.yaml_tool.{proofs.CharacterLemmas.passed_to, proofs.CutLemmas.neither, specs.Texts.ReadsPrefix}
 use Rattle.yaml_base.specs.scripts.Script as notation
 
 -- what a turn and the characters behind it are read as
@@ -84,7 +84,7 @@ nothing_before text None empty = refl
 nothing_before text (Some more) empty = ap (λ (prefix : List ℕ). Some (prefix ++ more)) (sym (ap chars empty ∙ chars-nil))
 
 -- characters other than a quotation mark and a backslash stand for themselves
-pub reads_prefix : (prefix behind : Text) → IsFree quotation_mark prefix → IsFree backslash prefix → ReadsOn (prefix ++ behind) prefix behind
+pub reads_prefix : (prefix behind : Text) → IsFree quotation_mark prefix → IsFree backslash prefix → ReadsPrefix (prefix ++ behind) prefix behind
 reads_prefix [] behind no_exclamation no_backslash = go (text_from at_character behind)
   where
     go : (read : Option Text) → read ≡ option_map (λ more. [] ++ more) read
@@ -113,14 +113,14 @@ reads_prefix (c ∷ prefix) behind no_exclamation no_backslash =
 
 -- so does what stands before the first of them
 pub reads_skipped : (text behind prefix : List ℕ) → IsUtf8 text → SkipsTo quotation_mark backslash text behind → prefix ≡ prefix_of text behind
-    → ReadsOn (chars text) (chars prefix) (chars behind)
+    → ReadsPrefix (chars text) (chars prefix) (chars behind)
 reads_skipped text behind prefix is skipped begins =
     ap (text_from at_character) (passed_to text behind skipped.ends is skipped.is_end).all
     ∙ reads_prefix (chars (prefix_of text behind)) (chars behind) skipped.free.0 skipped.free.1
     ∙ ap (λ (bytes : List ℕ). option_map (λ more. chars bytes ++ more) (text_from at_character (chars behind))) (sym begins)
 
 -- bytes that have grown by those of a prefix
-pub prefix_taken : (text grown prefix : List ℕ) (whole behind : Text) → IsUtf8 text → grown ≡ text ++ prefix → ReadsOn whole (chars prefix) behind
+pub prefix_taken : (text grown prefix : List ℕ) (whole behind : Text) → IsUtf8 text → grown ≡ text ++ prefix → ReadsPrefix whole (chars prefix) behind
     → option_map (λ more. chars text ++ more) (text_from at_character whole) ≡ option_map (λ more. chars grown ++ more) (text_from at_character behind)
 prefix_taken text grown prefix whole behind is grows reads = ap (option_map (λ more. chars text ++ more)) reads ∙ go (text_from at_character behind)
   where

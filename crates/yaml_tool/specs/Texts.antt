@@ -21,6 +21,6 @@ StepsTo (StandsFor character rest) read behind =
 StepsTo Fails read behind = read ≡ None
 
 -- a text reads as its prefix, which stands for itself, and then what stands behind it
-abbrev pub ReadsOn : Text → Text → Text → Type 0
-ReadsOn whole prefix behind =
+abbrev pub ReadsPrefix : Text → Text → Text → Type 0
+ReadsPrefix whole prefix behind =
     notation.text_from notation.at_character whole ≡ option_map (λ more. prefix ++ more) (notation.text_from notation.at_character behind)

@@ -3,7 +3,7 @@ ghost use Rattle.std.specs.Prelude.{◌≡◌, ◌≤◌, ◌++◌, length, IfOk
 ghost use Rattle.std.specs.Str.{chars, IsUtf8};
 ghost use Rattle.yaml_base.specs.scripts.Script as notation;
 ghost use Rattle.yaml_base.specs.Seen.{seen_text};
-ghost use Rattle.yaml_tool.specs.Texts.{step_of, ReadsOn, StepsTo};
+ghost use Rattle.yaml_tool.specs.Texts.{step_of, ReadsPrefix, StepsTo};
 
 use crate::characters::{cut_once, first_character, from_delimiter, prefix_before};
 use crate::numbers::parse_number;
@@ -84,7 +84,7 @@ fn next_step(behind: &str) -> TextStep<'_>
 
 /// Returns the longest prefix without quotation marks and backslashes, and the text after it.
 fn unescaped_prefix(text: &str) -> (&str, &str)
-    ensures reads { ReadsOn (chars text.now) (chars result.0.now) (chars result.1.now) }
+    ensures reads { ReadsPrefix (chars text.now) (chars result.0.now) (chars result.1.now) }
     ensures shorter { length result.1.now ≤ length text.now }
     ensures utf8 { IsUtf8 result.1.now }
 {

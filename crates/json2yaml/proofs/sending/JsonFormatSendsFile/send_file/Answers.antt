@@ -1,6 +1,6 @@
 use Rattle.std.proofs.Common.{ℕ, Option, List, Some, IfSome, ◌≡◌, subst}
 use Rattle.yaml_json.proofs.WroteLemmas.{bare_awaits_none}
-use Rattle.json2yaml.specs.Conversions.{SentFile}
+use Rattle.json2yaml.specs.Conversions.{SentJsonFile}
 use Rattle.json2yaml.proofs.sending.JsonFormatSendsFile.send_file.Goals as goal
 
 pub returns-in-Ok-send_json_texts-clause-free : goal.returns-in-Ok-send_json_texts-clause-free
@@ -11,7 +11,7 @@ returns-in-Ok-send_json_texts-clause-sent g c = λ file is.
     subst
     (λ (bytes : Option (List ℕ)).
     IfSome bytes
-    (λ text. SentFile c.args.self.now.settings text c.args.writer.now (g.W.Write.contents c.args.sink.now) c.send_json_texts.new.writer
+    (λ text. SentJsonFile c.args.self.now.settings text c.args.writer.now (g.W.Write.contents c.args.sink.now) c.send_json_texts.new.writer
     (g.W.Write.contents c.send_json_texts.new.sink)))
     (subst (λ (known : Option (List ℕ)). IfSome known (λ bytes. g.S.Reader.Read.remaining c.in-Ok.reader ≡ Some bytes)) is c.in-Ok.ensures.known)
     c.in-Ok-send_json_texts.ensures.sent
