@@ -1,5 +1,5 @@
 -- Rows as lists of cases, which one `refl` checks at once: what a function gives for each.
-use Rattle.yaml_base.proofs.Common.{Option, Some, List, map, ◌≡◌}
+use Rattle.yaml_base.proofs.Common.{is_none, Option, Some, Bool, List, list_all, map, ◌≡◌}
 
 -- an argument, and what it gives
 abbrev pub Gives : {A B : Type 0} → (A → B) → List (A × B) → Type 0
@@ -22,3 +22,7 @@ GivesOfThree {A} {B} {C} {D} give cases =
 abbrev pub GivesOfFive : {A B C D E F : Type 0} → (A → B → C → D → E → F) → List (A × B × C × D × E × F) → Type 0
 GivesOfFive {A} {B} {C} {D} {E} {F} give cases =
     map {A = A × B × C × D × E × F} (λ row. give row.0 row.1 row.2 row.3 row.4) cases ≡ map {A = A × B × C × D × E × F} (λ row. row.5) cases
+
+-- none of these texts is read
+abbrev pub reads_none : {A B : Type 0} → (A → Option B) → List A → Bool
+reads_none read texts = list_all (λ text. is_none (read text)) texts

@@ -2,23 +2,15 @@
 use Rattle.yaml_base.proofs.Common.{suc, zero, ℕ, slice_index, Contains, None, codes, true, List, [], map, ◌∷◌, ◌⊎◌, refl, ◌≡◌, inl, ap, sym, ◌∙◌, arith, Text}
 use Rattle.yaml_base.proofs.Common.{any_style, block, label_at, Isomorphic, scalar_held, sequence_held, GraphNode, Graph, children, string_tag, sequence_tag}
 use Rattle.yaml_base.proofs.Common.{IsReached, first_reached, child_reached, nat_tests}
-
-abbrev text : Text → GraphNode
-text value = record { tag = string_tag; held = scalar_held value any_style }
-
-abbrev sequence : List ℕ → GraphNode
-sequence items = record { tag = sequence_tag; held = sequence_held items block }
-
-abbrev graph_of : List GraphNode → Graph
-graph_of nodes = record { start = record { version = None; directives = []; implicit = true }; nodes = nodes; end_implicit = true }
+use Rattle.yaml_base.proofs.rows.{RowsMeetings.graph_of, RowsMeetings.sequence_of, RowsMeetings.string_of, RowsUnfolding.held_by_none}
 
 -- ---- two nodes change places, and no root reaches a fourth
 
 abbrev one : Graph
-one = graph_of (sequence (2 ∷ 3 ∷ 2 ∷ []) ∷ text (codes "a") ∷ text (codes "b") ∷ [])
+one = graph_of (sequence_of (2 ∷ 3 ∷ 2 ∷ []) ∷ string_of (codes "a") ∷ string_of (codes "b") ∷ [])
 
 abbrev two : Graph
-two = graph_of (sequence (3 ∷ 2 ∷ 3 ∷ []) ∷ text (codes "b") ∷ text (codes "a") ∷ text (codes "c") ∷ [])
+two = graph_of (sequence_of (3 ∷ 2 ∷ 3 ∷ []) ∷ string_of (codes "b") ∷ string_of (codes "a") ∷ string_of (codes "c") ∷ [])
 
 abbrev exchanged : ℕ → ℕ
 exchanged zero = 0
@@ -32,9 +24,6 @@ held_by_one child h = grind (arith, nat_tests)
 
 held_by_two : (child : ℕ) → Contains (3 ∷ 2 ∷ 3 ∷ []) child → (child ≡ 2) ⊎ (child ≡ 3)
 held_by_two child h = grind (arith, nat_tests)
-
-held_by_none : (child : ℕ) → Contains [] child → ⊥
-held_by_none child (k, below, is) = omega (arith, below)
 
 reached_in_one : {number : ℕ} → IsReached one number → (number ≡ 1) ⊎ ((number ≡ 2) ⊎ (number ≡ 3))
 reached_in_one first_reached = inl refl
@@ -64,10 +53,10 @@ exchange =
 -- ---- a node that is shared isn't two equal nodes
 
 abbrev shared : Graph
-shared = graph_of (sequence (2 ∷ 2 ∷ []) ∷ text (codes "a") ∷ [])
+shared = graph_of (sequence_of (2 ∷ 2 ∷ []) ∷ string_of (codes "a") ∷ [])
 
 abbrev two_equal : Graph
-two_equal = graph_of (sequence (2 ∷ 3 ∷ []) ∷ text (codes "a") ∷ text (codes "a") ∷ [])
+two_equal = graph_of (sequence_of (2 ∷ 3 ∷ []) ∷ string_of (codes "a") ∷ string_of (codes "a") ∷ [])
 
 shared_is_not_equal : Isomorphic shared two_equal → ⊥
 shared_is_not_equal iso =
@@ -89,10 +78,10 @@ equal_is_not_shared iso =
 -- ---- a sequence that holds itself isn't two sequences that hold each other
 
 abbrev holds_itself : Graph
-holds_itself = graph_of (sequence (1 ∷ []) ∷ [])
+holds_itself = graph_of (sequence_of (1 ∷ []) ∷ [])
 
 abbrev hold_each_other : Graph
-hold_each_other = graph_of (sequence (2 ∷ []) ∷ sequence (1 ∷ []) ∷ [])
+hold_each_other = graph_of (sequence_of (2 ∷ []) ∷ sequence_of (1 ∷ []) ∷ [])
 
 cycles_differ : Isomorphic holds_itself hold_each_other → ⊥
 cycles_differ iso =

@@ -3,7 +3,7 @@
 use Rattle.yaml_base.proofs.Common.{None, codes, false, true, [], ◌++◌, ◌∷◌, refl, ◌≡◌, Text, literal, folded, block, flow}
 use Rattle.yaml_base.proofs.Common.{Charset, allows_literal, Settings, is_tidy, agrees, stream_trees}
 use Rattle.std.specs.{Char.encode_utf8, Str.chars, Str.is_utf8}
-use Rattle.yaml_base.proofs.rows.Cases.{Gives}
+use Rattle.yaml_base.proofs.rows.Cases.{Gives, reads_none}
 use Rattle.yaml_base.proofs.rows.RowEvents.{plain_settings, canonical_settings, untagged, leaf, sequence, mapping, alone, rendered_under}
 use Rattle.yaml_base.proofs.rows.StreamTrees.{only, in_quotes, items}
 
@@ -98,34 +98,13 @@ unfolding chars is_utf8 encode_utf8
 read_back = (refl, refl, refl, refl, refl, refl)
 
 -- a tab anywhere else: in text of the other styles and after it, between words, in a header, in place of indentation, on a line alone
-refused_scalars : (stream_trees false (codes "a\tb\n") ≡ None)
-    × (stream_trees false (codes "a\t\n") ≡ None)
-    × (stream_trees false (codes "\ta\n") ≡ None)
-    × (stream_trees false (codes "'a\tb'\n") ≡ None)
-    × (stream_trees false (codes "\"a\tb\"\n") ≡ None)
-    × (stream_trees false (codes "\"a\"\t\n") ≡ None)
-    × (stream_trees false (codes ">\n  a\tb\n") ≡ None)
-    × (stream_trees false (codes "|\t\n  a\n") ≡ None)
-    × (stream_trees false (codes "|\n\ta\n") ≡ None)
-    × (stream_trees false (codes "|\n  a\n  \t\n  b\n") ≡ None)
+refused_scalars : reads_none (stream_trees false) (codes "a\tb\n" ∷ codes "a\t\n" ∷ codes "\ta\n" ∷ codes "'a\tb'\n" ∷ codes "\"a\tb\"\n" ∷ codes "\"a\"\t\n"
+    ∷ codes ">\n  a\tb\n" ∷ codes "|\t\n  a\n" ∷ codes "|\n\ta\n" ∷ codes "|\n  a\n  \t\n  b\n" ∷ []) ≡ true
 unfolding chars is_utf8 encode_utf8
-refused_scalars = (refl, refl, refl, refl, refl, refl, refl, refl, refl, refl)
+refused_scalars = refl
 
-refused_words : (stream_trees false (codes "a:\tb\n") ≡ None)
-    × (stream_trees false (codes "-\ta\n") ≡ None)
-    × (stream_trees false (codes "- \ta\n") ≡ None)
-    × (stream_trees false (codes "[a,\tb]\n") ≡ None)
-    × (stream_trees false (codes "[a]\t\n") ≡ None)
-    × (stream_trees false (codes "[a\t]\n") ≡ None)
-    × (stream_trees false (codes "{a:\tb}\n") ≡ None)
-    × (stream_trees false (codes "&a\tb\n") ≡ None)
-    × (stream_trees false (codes "!t\tb\n") ≡ None)
-    × (stream_trees false (codes "*a\t\n") ≡ None)
-    × (stream_trees false (codes "---\ta\n") ≡ None)
-    × (stream_trees false (codes "--- a\n...\t\n") ≡ None)
-    × (stream_trees false (codes "%YAML\t1.1\n--- a\n") ≡ None)
-    × (stream_trees false (codes "%TAG !e! x\t\n--- a\n") ≡ None)
-    × (stream_trees false (codes "a: b\n\t\nc: d\n") ≡ None)
-    × (stream_trees false (codes "\t\n") ≡ None)
+refused_words : reads_none (stream_trees false) (codes "a:\tb\n" ∷ codes "-\ta\n" ∷ codes "- \ta\n" ∷ codes "[a,\tb]\n" ∷ codes "[a]\t\n" ∷ codes "[a\t]\n"
+    ∷ codes "{a:\tb}\n" ∷ codes "&a\tb\n" ∷ codes "!t\tb\n" ∷ codes "*a\t\n" ∷ codes "---\ta\n" ∷ codes "--- a\n...\t\n" ∷ codes "%YAML\t1.1\n--- a\n"
+    ∷ codes "%TAG !e! x\t\n--- a\n" ∷ codes "a: b\n\t\nc: d\n" ∷ codes "\t\n" ∷ []) ≡ true
 unfolding chars is_utf8 encode_utf8
-refused_words = (refl, refl, refl, refl, refl, refl, refl, refl, refl, refl, refl, refl, refl, refl, refl, refl)
+refused_words = refl

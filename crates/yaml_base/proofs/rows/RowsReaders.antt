@@ -1,14 +1,10 @@
 -- What each reader makes of texts that no right writer writes: no value, or another one than was to be written.
-use Rattle.yaml_base.proofs.Common.{is_none, Option, None, Some, codes, Bool, false, true, List, [], ◌++◌, ◌∷◌, refl, ◌≡◌, list_all, Text, line_separator}
+use Rattle.yaml_base.proofs.Common.{Option, None, Some, codes, Bool, false, true, List, [], ◌++◌, ◌∷◌, refl, ◌≡◌, list_all, Text, line_separator}
 use Rattle.yaml_base.proofs.Common.{TagDirective, canonical_content, tagged, untagged, Content, scalar_content, sequence_content, mapping_content, no_contents}
 use Rattle.yaml_base.proofs.Common.{contents_and, no_content_pairs, content_pairs_and, DocumentContent, read_block, read_double, read_plain, read_single}
-use Rattle.yaml_base.proofs.rows.Cases.{Gives}
+use Rattle.yaml_base.proofs.rows.Cases.{Gives, reads_none}
 use Rattle.std.specs.{Char.encode_utf8, Str.chars, Str.is_utf8}
 use Rattle.yaml_base.specs.reading.Content.{ScalarTag}
-
--- a reader reads none of these texts
-abbrev reads_none : (Text → Option Text) → List Text → Bool
-reads_none read texts = list_all (λ text. is_none (read text)) texts
 
 -- ---- plain
 
@@ -105,7 +101,7 @@ abbrev a_scalar : ScalarTag → Text → Content
 a_scalar tag value = scalar_content None tag value
 
 -- a collection lacks its end, a key its sign, a value its sign; a name, a handle and a directive are cut short
-canonical_without_reading : list_all (λ text. is_none (canonical_content false text))
+canonical_without_reading : reads_none (canonical_content false)
     (codes "---\n[\n  \"a\",\n" ∷ codes "---\n{\n  \"a\"\n  : \"b\",\n}\n" ∷ codes "---\n{\n  ? \"a\"\n  \"b\",\n}\n"
     ∷ codes "---\n& \"a\"\n" ∷ codes "---\n!e \"a\"\n---\n!e! \"a\"\n" ∷ codes "%TAG !e!\n---\n\"a\"\n" ∷ codes "---\n[\"a\" \"b\",]\n" ∷ []) ≡ true
 unfolding chars is_utf8 encode_utf8

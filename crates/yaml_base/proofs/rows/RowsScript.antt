@@ -1,4 +1,5 @@
 -- Scripts computed: each row a script, and what it says.
+use Rattle.yaml_base.proofs.Common.{map, replicate}
 use Rattle.yaml_base.proofs.Common.{None, Some, codes, negsuc, pos, false, true, [], ◌++◌, ◌∷◌, refl, ◌≡◌, any_style, folded, any_layout, flow, stream_start}
 use Rattle.yaml_base.proofs.Common.{stream_end, document_start, document_end, alias, scalar, sequence_start, sequence_end, mapping_start, mapping_end}
 use Rattle.yaml_base.proofs.Common.{utf16_little, utf16_big, both_break}
@@ -80,24 +81,11 @@ unfolding chars is_utf8 encode_utf8
 raw_characters = refl
 
 -- scripts of one bad line
-bad_alone : (script_of (codes "+FOO") ≡ bad_line 1)
-    × (script_of (codes "+STR utf9") ≡ bad_line 1)
-    × (script_of (codes "=VAL any 1 1 - - \"a") ≡ bad_line 1)
-    × (script_of (codes "=VAL any 1 1 - - \"\\u{D800}\"") ≡ bad_line 1)
-    × (script_of (codes "+DOC 1 - \"!e!\"") ≡ bad_line 1)
-    × (script_of (codes "-STR ") ≡ bad_line 1)
-    × (script_of (codes "indent 2147483648") ≡ bad_line 1)
-    × (script_of (codes "limit 4294967296") ≡ bad_line 1)
-    × (script_of (codes "limit -0") ≡ bad_line 1)
-    × (script_of (codes "# c\r") ≡ bad_line 1)
-    × (script_of (codes "=ALI -") ≡ bad_line 1)
-    × (script_of (codes "=ALI \"a\"x") ≡ bad_line 1)
-    × (script_of (codes "=ALI \"\\u{0000041}\"") ≡ bad_line 1)
-    × (script_of (codes "+STR  any") ≡ bad_line 1)
-    × (script_of (0xFF ∷ []) ≡ bad_line 1)
-    × (script_of (0xEF ∷ 0xBB ∷ 0xBF ∷ codes "-STR") ≡ bad_line 1)
+bad_alone : map script_of (codes "+FOO" ∷ codes "+STR utf9" ∷ codes "=VAL any 1 1 - - \"a" ∷ codes "=VAL any 1 1 - - \"\\u{D800}\"" ∷ codes "+DOC 1 - \"!e!\""
+    ∷ codes "-STR " ∷ codes "indent 2147483648" ∷ codes "limit 4294967296" ∷ codes "limit -0" ∷ codes "# c\r" ∷ codes "=ALI -" ∷ codes "=ALI \"a\"x"
+    ∷ codes "=ALI \"\\u{0000041}\"" ∷ codes "+STR  any" ∷ (0xFF ∷ []) ∷ (0xEF ∷ 0xBB ∷ 0xBF ∷ codes "-STR") ∷ []) ≡ replicate 16 (bad_line 1)
 unfolding chars is_utf8 encode_utf8
-bad_alone = (refl, refl, refl, refl, refl, refl, refl, refl, refl, refl, refl, refl, refl, refl, refl, refl)
+bad_alone = refl
 
 -- the number of the first bad line
 bad_later : (script_of (codes "# c\n\nwidth 5\nwidth 5\n") ≡ bad_line 4)

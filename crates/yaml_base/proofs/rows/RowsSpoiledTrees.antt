@@ -7,23 +7,7 @@ use Rattle.yaml_base.proofs.Common.{scalar_kind, sequence_kind, mapping_kind, La
 use Rattle.yaml_base.proofs.Common.{HasShape, Occurrence, alias_occurrence, node_occurrence, occurrences, has_anchor, is_occurrence_of, NameTheirNodes}
 use Rattle.yaml_base.proofs.Common.{IsReached, first_reached, child_reached, TreeUnfolds, nat_tests}
 use Rattle.yaml_base.specs.graphs.Unfolding.{StyledKind}
-
-abbrev string_of : Text → GraphNode
-string_of value = record { tag = string_tag; held = scalar_held value any_style }
-
-abbrev sequence_of : List ℕ → GraphNode
-sequence_of items = record { tag = sequence_tag; held = sequence_held items block }
-
-abbrev graph_of : List GraphNode → Graph
-graph_of nodes = record { start = record { version = None; directives = []; implicit = true }; nodes = nodes; end_implicit = true }
-
-abbrev a_string : Option Text → Text → ScalarStyle → Node
-a_string anchor value style = scalar_node
-    (record { anchor = anchor; tag = Some string_tag; value = value; plain_implicit = true; quoted_implicit = true; style = style })
-
-abbrev a_sequence : Option Text → Node → Node → Node
-a_sequence anchor first second = sequence_node (record { anchor = anchor; tag = Some sequence_tag; implicit = true; style = block })
-    (nodes_and (nodes_and no_nodes first) second)
+use Rattle.yaml_base.proofs.rows.{RowsMeetings.graph_of, RowsMeetings.sequence_of, RowsMeetings.string_of, RowsUnfolding.a_sequence, RowsUnfolding.a_string}
 
 -- ---- an alias before its node
 

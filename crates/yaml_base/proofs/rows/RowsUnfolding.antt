@@ -5,25 +5,27 @@ use Rattle.yaml_base.proofs.Common.{document_events, scalar_held, sequence_held,
 use Rattle.yaml_base.proofs.Common.{document_event_list, node_shape_of, Placed, alias_placed, node_placed, none_placed, placed_and, number_at, HasShape}
 use Rattle.yaml_base.proofs.Common.{alias_occurrence, node_occurrence, occurrences, is_occurrence_of, IsReached, first_reached, child_reached, TreeUnfolds}
 use Rattle.yaml_base.proofs.Common.{ContentUnfolds, node_content}
+use Rattle.yaml_base.proofs.Common.{List, ℕ, Option, Text, ScalarStyle}
 use Rattle.yaml_base.specs.graphs.Meetings.{decimal_digits}
+use Rattle.yaml_base.proofs.rows.RowsMeetings.{graph_of, mapping_of, sequence_of, string_of}
 
 -- a mapping whose one key is a string, and whose value is the mapping
 abbrev graph : Graph
-graph =
-    record {
-      start = record { version = None; directives = []; implicit = true };
-      nodes =
-          record { tag = mapping_tag; held = mapping_held (record { key = 2; value = 1 } ∷ []) block }
-          ∷ record { tag = string_tag; held = scalar_held (codes "k") any_style } ∷ [];
-      end_implicit = true;
-    }
+graph = graph_of (mapping_of (record { key = 2; value = 1 } ∷ []) ∷ string_of (codes "k") ∷ [])
+
+-- a string, and a sequence of two items
+abbrev pub a_string : Option Text → Text → ScalarStyle → Node
+a_string anchor value style = scalar_node
+    (record { anchor = anchor; tag = Some string_tag; value = value; plain_implicit = true; quoted_implicit = true; style = style })
+
+abbrev pub a_sequence : Option Text → Node → Node → Node
+a_sequence anchor first second = sequence_node (record { anchor = anchor; tag = Some sequence_tag; implicit = true; style = block })
+    (nodes_and (nodes_and no_nodes first) second)
 
 abbrev tree : Node
 tree =
     mapping_node (record { anchor = Some (codes "id001"); tag = Some mapping_tag; implicit = true; style = block })
-    (pairs_and no_pairs
-    (scalar_node (record { anchor = None; tag = Some string_tag; value = codes "k"; plain_implicit = true; quoted_implicit = true; style = any_style }))
-    (alias_node (codes "id001")))
+    (pairs_and no_pairs (a_string None (codes "k") any_style) (alias_node (codes "id001")))
 
 -- its events are those of the document
 its_events : document_events (record { start = graph.start; root = tree; end_implicit = graph.end_implicit }) ≡ document_event_list graph
@@ -34,7 +36,7 @@ its_events = refl
 held_by_one : (child : ℕ) → Contains (2 ∷ 1 ∷ []) child → (child ≡ 1) ⊎ (child ≡ 2)
 held_by_one child h = grind (arith, nat_tests)
 
-held_by_none : (child : ℕ) → Contains [] child → ⊥
+pub held_by_none : (child : ℕ) → Contains [] child → ⊥
 held_by_none child (k, below, e) = omega (arith, below)
 
 reached : {number : ℕ} → IsReached graph number → (number ≡ 1) ⊎ (number ≡ 2)
@@ -65,43 +67,22 @@ unfolds =
     }
 
 content_unfolds : ContentUnfolds graph (node_content tree)
-content_unfolds =
-    record {
-      placed = placed_tree;
-      root = refl;
-      fits = (refl, refl, refl, ((tt, (refl, refl, refl, tt)), refl));
-      named = (tt, (tt, ((refl, (0, omega arith, refl)), tt)));
-      once = stands_once;
-      no_other = stands_nowhere;
-    }
+content_unfolds = record {
+  placed = placed_tree;
+  root = refl;
+  fits = (refl, refl, refl, ((tt, (refl, refl, refl, tt)), refl));
+  named = (tt, (tt, ((refl, (0, omega arith, refl)), tt)));
+  once = stands_once;
+  no_other = stands_nowhere;
+}
 
 -- ---- a tree that doesn't unfold its graph: the second of two equal nodes is written as an alias of the first
 
 abbrev two_equal : Graph
-two_equal =
-    record {
-      start = record { version = None; directives = []; implicit = true };
-      nodes =
-          record { tag = sequence_tag; held = sequence_held (2 ∷ 3 ∷ []) block }
-          ∷ record { tag = string_tag; held = scalar_held (codes "k") any_style }
-          ∷ record { tag = string_tag; held = scalar_held (codes "k") any_style } ∷ [];
-      end_implicit = true;
-    }
+two_equal = graph_of (sequence_of (2 ∷ 3 ∷ []) ∷ string_of (codes "k") ∷ string_of (codes "k") ∷ [])
 
 abbrev one_for_two : Node
-one_for_two =
-    sequence_node (record { anchor = None; tag = Some sequence_tag; implicit = true; style = block })
-    (nodes_and
-    (nodes_and no_nodes
-    (scalar_node (record {
-      anchor = Some (codes "id001");
-      tag = Some string_tag;
-      value = codes "k";
-      plain_implicit = true;
-      quoted_implicit = true;
-      style = any_style;
-    })))
-    (alias_node (codes "id001")))
+one_for_two = a_sequence None (a_string (Some (codes "id001")) (codes "k") any_style) (alias_node (codes "id001"))
 
 third_reached : IsReached two_equal 3
 third_reached = child_reached first_reached (1, omega arith, refl)
