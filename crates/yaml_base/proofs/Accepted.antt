@@ -179,15 +179,14 @@ next_stands canonical before event given accepted =
     let rest = option_or (place_fault p event) (option_or content (depth_fault p event)) in
     let names_none : names ≡ None = (neither names rest accepted).0 in
     let rest_none : rest ≡ None = (neither names rest accepted).1 in
-    let place_none : place_fault p event ≡ None = (neither (place_fault p event) (option_or content (depth_fault p event)) rest_none).0 in
-    let last_none : option_or content (depth_fault p event) ≡ None = (neither (place_fault p event) (option_or content (depth_fault p event)) rest_none).1 in
-    let content_none : content ≡ None = (neither content (depth_fault p event) last_none).0 in
-    let depth_none : depth_fault p event ≡ None = (neither content (depth_fault p event) last_none).1 in
+    let place_none : place_fault p event ≡ None = (neither _ _ rest_none).0 in
+    let last_none : option_or content (depth_fault p event) ≡ None = (neither _ _ rest_none).1 in
+    let content_none : content ≡ None = (neither content _ last_none).0 in
+    let depth_none : depth_fault p event ≡ None = (neither content _ last_none).1 in
     let sound_event : is_sound canonical event ≡ true = ap is_none (or_none names content names_none content_none) in
-    let pushes : (q : Partial) × (push p event ≡ Some q) = is_some_value (push p event) (no_fault (is_none (push p event)) (expected p) place_none) in
+    let pushes : (q : Partial) × (push p event ≡ Some q) = is_some_value _ (no_fault _ _ place_none) in
     let room : begins_collection event ≡ true → length (open_levels p) < most_open =
-    (λ begins. ltb-true (length (open_levels p)) most_open
-    (has_room (begins_collection event) (nat_lt (length (open_levels p)) most_open) (no_fault wrong_depth TooDeep depth_none) begins)) in
+    (λ begins. ltb-true _ _ (has_room _ _ (no_fault _ TooDeep depth_none) begins)) in
     let all : open_count before ≤ most_open = given.shallow before [] (append-nil before) in
     record {
       partial = pushes.0;
@@ -221,19 +220,16 @@ not_refused canonical before event given next =
     let sounds : list_all (is_sound canonical) before
     && list_all (is_sound canonical) (event ∷ []) ≡ true = sym (list_all-append (is_sound canonical) before (event ∷ [])) ∙ next.sound in
     let sound_event : is_sound canonical event
-    ≡ true = (and_parts (is_sound canonical event) true
-    (and_parts (list_all (is_sound canonical) before) (list_all (is_sound canonical) (event ∷ [])) sounds).1).0 in
-    let own_none : option_or names content ≡ None = is_none_none (option_or names content) sound_event in
+    ≡ true = (and_parts _ true (and_parts _ _ sounds).1).0 in
+    let own_none : option_or names content ≡ None = is_none_none _ sound_event in
     let stands_at : is_none (push p event)
-    ≡ false = some_pushed (push p event) next.partial (sym (pushed_next before event p given.is_partial) ∙ next.is_partial) in
+    ≡ false = some_pushed _ _ (sym (pushed_next before event p given.is_partial) ∙ next.is_partial) in
     let all : open_count (before ++ event ∷ []) ≤ most_open = next.shallow (before ++ event ∷ []) [] (append-nil (before ++ event ∷ [])) in
     let deep : begins_collection event && not room ≡ false =
-    room_if (begins_collection event) room
-    (λ begins. lt-ltb (length (open_levels p)) most_open
-    (room_left before event most_open (length (open_levels p)) (omega arith) (open_count-levels before p given.is_partial) all begins)) in
-    or_none names (option_or (place_fault p event) (option_or content (depth_fault p event))) (neither names content own_none).0
-    (or_none (place_fault p event) (option_or content (depth_fault p event)) (ap (λ b. some_if b (expected p)) stands_at)
-    (or_none content (depth_fault p event) (neither names content own_none).1 (ap (λ b. some_if b TooDeep) deep)))
+    room_if _ room
+    (λ begins. lt-ltb _ _ (room_left before event _ _ (omega arith) (open_count-levels before p given.is_partial) all begins)) in
+    or_none names _ (neither names content own_none).0 (or_none _ _ (ap (λ b. some_if b (expected p)) stands_at)
+    (or_none content _ (neither names content own_none).1 (ap (λ b. some_if b TooDeep) deep)))
 
 pub refused_exactly : RefusedExactly
 refused_exactly canonical before event begun =

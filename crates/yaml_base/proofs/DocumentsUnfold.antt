@@ -135,8 +135,7 @@ all_named walk before (enters number ∷ rest) follow names =
     let all = filter_map (place_of (anchor_of walk)) walk in (
       tt,
       subst (λ (earlier : List Occurrence). NameTheirNodes all earlier (filter_map (place_of (anchor_of walk)) rest))
-          (place_more (anchor_of walk) before (enters number))
-          (all_named walk (before ++ enters number ∷ []) rest follow.1 names),
+          (place_more (anchor_of walk) before (enters number)) (all_named walk (before ++ enters number ∷ []) rest follow.1 names),
     )
 all_named walk before (leaves number ∷ rest) follow names =
     let all = filter_map (place_of (anchor_of walk)) walk in
@@ -146,10 +145,9 @@ all_named walk before (leaves number ∷ rest) follow names =
 all_named walk before (meets_again number ∷ rest) follow names =
     let all = filter_map (place_of (anchor_of walk)) walk in
     let has_name = names number (ap (λ (b : Bool). b || list_any (is_again number) rest) ((Decides-eqb number number).1 refl)) in (
-      alias_named (anchor_of walk) before all number has_name.name has_name.is has_name.once follow.0,
+      alias_named _ before all number _ has_name.is has_name.once follow.0,
       subst (λ (earlier : List Occurrence). NameTheirNodes all earlier (filter_map (place_of (anchor_of walk)) rest))
-          (place_more (anchor_of walk) before (meets_again number))
-          (all_named walk (before ++ meets_again number ∷ []) rest follow.1
+          (place_more (anchor_of walk) before (meets_again number)) (all_named walk (before ++ meets_again number ∷ []) rest follow.1
           (λ other later. names other (ap (λ (b : Bool). number == other || b) later ∙ or-true (number == other)))),
     )
 

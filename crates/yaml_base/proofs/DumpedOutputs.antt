@@ -93,8 +93,7 @@ dump_output graph events dumped bare =
       text,
       record { events = has; unfolds = unfolded.unfolds },
       sym (ap (output_of typed_settings) parts)
-          ∙ text_output dumped.encoding (document_event_list graph) text has
-          (record {
+          ∙ text_output dumped.encoding _ text has (record {
             version = ap (λ (start : DocumentStart). start.version) unfolded.start ∙ bare.version;
             directives = ap (λ (start : DocumentStart). start.directives) unfolded.start ∙ bare.directives;
             implicit = unfolded.end_implicit ∙ bare.implicit;
@@ -105,6 +104,5 @@ dump_output graph events dumped bare =
 pub one_text : (events : List Event) (first second : Text) → HaveText events first → HaveText events second → first ≡ second
 one_text events first second one other =
     let streams : stream_alone None one.document ≡ stream_alone None other.document =
-    one_tree (stream_alone None one.document) (stream_alone None other.document)
-    (ap (λ (inside : List Event). stream_start None ∷ (inside ++ stream_end ∷ [])) (one.is_document ∙ sym other.is_document)) in
+    one_tree _ _ (ap (λ (inside : List Event). stream_start None ∷ (inside ++ stream_end ∷ [])) (one.is_document ∙ sym other.is_document)) in
     one.is_text ∙ ap (λ (stream : Stream). root_text stream.documents) streams ∙ sym other.is_text

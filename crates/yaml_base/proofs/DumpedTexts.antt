@@ -182,8 +182,7 @@ mutual
       let place = place_of spot in
       subst
       (λ simple. Writes (led (lead place standing) (scalar_properties content ++ in_quotes content.value)) standing.open_ended
-      (one_piece (scalar_piece s force place simple content standing)))
-      (sym (and-false (is_key place.role))) (scalar_writes content place standing)
+      (one_piece (scalar_piece s force place simple content standing))) (sym (and-false (is_key place.role))) (scalar_writes content place standing)
   node_writes (sequence_node start items) spot standing =
       let place = place_of spot in
       let goal = led (lead place standing) (node_text (line_column place.column) (sequence_node start items)) in
@@ -193,7 +192,7 @@ mutual
       (sym (and-false (is_key place.role)))
       (subst (λ flow. Writes goal standing.open_ended (render false flow)) (sym (in_flow spot start (has_no_nodes items)))
       (collection_writes square start place (is_undented s place.role) (has_no_nodes items) (render_nodes items s force true) _ standing
-      (λ from. items_end items place.column from (items_write items (deeper 2 place.column) from))))
+      (λ from. items_end items _ from (items_write items (deeper 2 place.column) from))))
   node_writes (mapping_node start pairs) spot standing =
       let place = place_of spot in
       let goal = led (lead place standing) (node_text (line_column place.column) (mapping_node start pairs)) in
@@ -203,7 +202,7 @@ mutual
       (sym (and-false (is_key place.role)))
       (subst (λ flow. Writes goal standing.open_ended (render false flow)) (sym (in_flow spot start (has_no_pairs pairs)))
       (collection_writes curly start place false (has_no_pairs pairs) (render_pairs pairs s force true) _ standing
-      (λ from. pairs_end pairs place.column from (pairs_write pairs (deeper 2 place.column) from))))
+      (λ from. pairs_end pairs _ from (pairs_write pairs (deeper 2 place.column) from))))
 
   items_write : (items : Nodes) (column : ℕ) (from : Standing) → WritesItems column items from (render_nodes items s force true column from)
   items_write no_nodes column from = tt
@@ -215,7 +214,7 @@ mutual
       let behind : Writes (codes "," ++ (line_at column ++ node_text column item)) from.open_ended (last (standing_at entries.column from.open_ended)) =
       writes_text _ _ (item_next column entries.column from.open_ended (node_text column item))
       (node_writes item (Some (as_item false, column)) (standing_at entries.column from.open_ended)) in
-      writes_text _ _ (simp append_assoc) (writes_then (render_nodes (nodes_and items before) s force true column from) last entries behind)
+      writes_text _ _ (simp append_assoc) (writes_then _ last entries behind)
 
   pairs_write : (pairs : Pairs) (column : ℕ) (from : Standing) → WritesPairs column pairs from (render_pairs pairs s force true column from)
   pairs_write no_pairs column from = tt
@@ -224,8 +223,7 @@ mutual
       let of_key : Writes (space_if true from.cursor ++ (codes "{" ++ (line_at column ++ (codes "? " ++ node_text column key)))) from.open_ended
       (render_node key s force place from) =
       writes_text _ _ (key_first column from.cursor (node_text column key)) (node_writes key (Some (as_key true, column)) from) in
-      writes_text _ _ (simp append_assoc)
-      (value_behind key value column from.open_ended (render_node key s force place from) of_key
+      writes_text _ _ (simp append_assoc) (value_behind key value column _ _ of_key
       (λ at. node_writes value (Some (as_value false, column)) (standing_at at from.open_ended)))
   pairs_write (pairs_and (pairs_and pairs first second) key value) column from =
       let entries = pairs_write (pairs_and pairs first second) column from in
@@ -235,10 +233,8 @@ mutual
       (middle (standing_at entries.column from.open_ended)) =
       writes_text _ _ (key_next column entries.column from.open_ended (node_text column key))
       (node_writes key (Some (as_key false, column)) (standing_at entries.column from.open_ended)) in
-      writes_text _ _
-      (regroup (space_if true from.cursor) (node_pairs_text column pairs) (line_at column) (node_text column first) (node_text column second)
-      (node_text column key) (node_text column value))
-      (value_behind key value column from.open_ended (then_pieces before middle) (writes_then before middle entries of_key)
+      writes_text _ _ (regroup (space_if true from.cursor) (node_pairs_text column pairs) (line_at column) (node_text column first) (node_text column second)
+      (node_text column key) (node_text column value)) (value_behind key value column _ _ (writes_then before middle entries of_key)
       (λ at. node_writes value (Some (as_value false, column)) (standing_at at from.open_ended)))
     where
       regroup : (a b c d e f g : Text)

@@ -43,14 +43,13 @@ pub refused_so : (stream : Stream) (prefix : List Event) (event : Event) (later 
     → (error ≡ TagEmpty) ⊎ (error ≡ TooDeep)
 refused_so stream prefix event later error parts writable refused =
     let whole : partial_of (prefix ++ event ∷ later) ≡ Some (after_stream stream) = ap partial_of parts ∙ stream_pushed stream in
-    let before = prefix_is_partial prefix (event ∷ later) (after_stream stream) whole in
+    let before = prefix_is_partial prefix _ _ whole in
     let after = prefix_is_partial (prefix ++ event ∷ []) later (after_stream stream) (ap partial_of (append_assoc prefix (event ∷ []) later) ∙ whole) in
     let at : refusal_at true before.0 event ≡ Some error =
     sym (ap (option_and_then (λ partial. refusal_at true partial event)) before.1) ∙ refused in
     let placed : place_fault before.0 event ≡ None =
-    stands (push before.0 event) after.0 (expected before.0) (sym (pushed_next prefix event before.0 before.1) ∙ after.1) in
-    elim (first_fault (name_or_tag_fault true event) (place_fault before.0 event) (content_fault true event) (depth_fault before.0 event) error placed
-    writable.content at) as (λ _. (error ≡ TagEmpty) ⊎ (error ≡ TooDeep)) [
+    stands _ after.0 (expected before.0) (sym (pushed_next prefix event before.0 before.1) ∙ after.1) in
+    elim (first_fault _ _ _ _ error placed writable.content at) as (λ _. (error ≡ TagEmpty) ⊎ (error ≡ TooDeep)) [
       | inl own ↦ inl (writable.named error own)
       | inr depth ↦ inr (only_depth _ error depth)
     ]
@@ -179,8 +178,7 @@ document_writable graph none no_directives = by (length graph.nodes == 0)
     all_writable =
         both_writable (document_start graph.start ∷ [])
         (flat_map (step_events graph (graph_steps graph)) (graph_steps graph) ++ document_end graph.end_implicit ∷ [])
-        (one_writable (document_start graph.start) (start_writable graph.start none no_directives))
-        (both_writable (flat_map (step_events graph (graph_steps graph)) (graph_steps graph)) (document_end graph.end_implicit ∷ [])
+        (one_writable _ (start_writable graph.start none no_directives)) (both_writable _ _
         (walk_writable graph (graph_steps graph) (graph_steps graph) (λ step within. within))
         (one_writable (document_end graph.end_implicit) (record { named = λ error is. cc; content = refl })))
 

@@ -134,8 +134,7 @@ begins_otherwise text = not (first_meets is_decimal (past_sign text))
 pub no_word : (table : List (Text × Resolved)) (negative : Bool) (c : ℕ) (rest : Text) → list_all (λ entry. begins_otherwise entry.0) table ≡ true
     → is_decimal c ≡ true → named table (minus negative ++ (c ∷ rest)) ≡ None
 no_word table negative c rest all h =
-    named_unlike begins_otherwise table (minus negative ++ (c ∷ rest)) all
-    (ap (λ text. not (first_meets is_decimal text)) (past_minus negative c rest h) ∙ ap not h)
+    named_unlike _ table _ all (ap (λ text. not (first_meets is_decimal text)) (past_minus negative c rest h) ∙ ap not h)
 
 pub no_word_of_core : (negative : Bool) (c : ℕ) (rest : Text) → is_decimal c ≡ true → named words_of_core (minus negative ++ (c ∷ rest)) ≡ None
 no_word_of_core negative c rest h = no_word words_of_core negative c rest refl h

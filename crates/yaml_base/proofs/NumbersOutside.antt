@@ -103,8 +103,7 @@ nodes_within : {A : Type 0} (count : ℕ) (nodes : List (yaml_node_t A)) → fir
     → list_all (λ node. list_all (within_count count) (numbers_held node.held)) (map seen_node nodes) ≡ true
 nodes_within count [] none = refl
 nodes_within count (node ∷ nodes) none =
-    let both = both_none (first_outside count (numbers_of node.contents)) (first_outside count (all_numbers nodes))
-    (sym (find-append (λ number. not (names_node count number)) (numbers_of node.contents) (all_numbers nodes)) ∙ none) in
+    let both = both_none _ _ (sym (find-append (λ number. not (names_node count number)) (numbers_of node.contents) (all_numbers nodes)) ∙ none) in
     grind (arith, both_none, find-append, within_count, held_seen, all_within, nodes_within count nodes both.1)
 
 pub whole_graph : {A : Type 0} (version : Option yaml_version_directive_t) (directives : List (yaml_tag_directive_t A)) (nodes : List (yaml_node_t A))

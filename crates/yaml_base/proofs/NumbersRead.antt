@@ -78,10 +78,8 @@ integer_by_11 negative c digits h whole =
 mantissa_11_read : (negative : Bool) (c : ℕ) (whole fraction : Text) → list_all is_decimal (c ∷ whole) ≡ true → list_all is_decimal fraction ≡ true
     → mantissa_11 negative ((c ∷ whole) ∷ fraction ∷ []) ≡ Some (decimal_of negative (c ∷ whole) fraction)
 mantissa_11_read negative c whole fraction h g =
-    ap (λ x. if x then decimal_of_digits negative (ungrouped (c ∷ whole)) (ungrouped fraction) else None)
-    (and_from (begins_grouped is_decimal (c ∷ whole)) (are_grouped 10 fraction)
-    (and_from (is_decimal c) (are_grouped 10 (c ∷ whole)) (and_parts (is_decimal c) (list_all is_decimal whole) h).0 (digits_grouped (c ∷ whole) h))
-    (digits_grouped fraction g))
+    ap (λ x. if x then decimal_of_digits negative (ungrouped (c ∷ whole)) (ungrouped fraction) else None) (and_from _ _
+    (and_from _ _ (and_parts _ _ h).0 (digits_grouped (c ∷ whole) h)) (digits_grouped fraction g))
     ∙ ap (λ t. decimal_of_digits negative t (ungrouped fraction)) (digits_ungrouped (c ∷ whole) h)
     ∙ ap (decimal_of_digits negative (c ∷ whole)) (digits_ungrouped fraction g)
     ∙ pointed_read negative c whole fraction h g
@@ -113,8 +111,7 @@ parts_read negative (c ∷ whole) fraction exponent h g e integer = by integer
   where
     digits : list_all is_decimal (c ∷ whole) ≡ true
     digits =
-        (and_parts (not (length (c ∷ whole) == 0)) (list_all is_decimal (c ∷ whole))
-        (and_parts (are_digits 10 (c ∷ whole)) (is_word (c ∷ whole) (codes "0") || not (c == 0x30)) h).0).1
+        (and_parts (not (length (c ∷ whole) == 0)) (list_all is_decimal (c ∷ whole)) (and_parts _ _ h).0).1
 
     by : (x : Bool) → ReadAs (minus negative ++ ((c ∷ whole) ++ (if x then [] else after_whole fraction exponent)))
         (if x then meant_integer (signed negative (digits_value 10 (c ∷ whole))) else scientific_of negative (c ∷ whole) fraction exponent)

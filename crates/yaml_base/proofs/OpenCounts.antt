@@ -44,21 +44,18 @@ mutual
   node_leaves (alias_node name) = record { counts = refl }
   node_leaves (scalar_node content) = record { counts = refl }
   node_leaves (sequence_node c items) =
-      ended sequence_end (sequence_start c ∷ nodes_events items) refl refl
-      (started (sequence_start c) (nodes_events items) 0 refl refl (nodes_leave items))
+      ended _ _ refl refl (started _ _ 0 refl refl (nodes_leave items))
   node_leaves (mapping_node c pairs) =
-      ended mapping_end (mapping_start c ∷ pairs_events pairs) refl refl
-      (started (mapping_start c) (pairs_events pairs) 0 refl refl (pairs_leave pairs))
+      ended _ _ refl refl (started _ _ 0 refl refl (pairs_leave pairs))
 
   nodes_leave : (items : Nodes) → Leaves (nodes_events items) 0
   nodes_leave no_nodes = record { counts = refl }
-  nodes_leave (nodes_and items last) = both (nodes_events items) (node_events last) 0 0 (nodes_leave items) (node_leaves last)
+  nodes_leave (nodes_and items last) = both _ _ 0 0 (nodes_leave items) (node_leaves last)
 
   pairs_leave : (pairs : Pairs) → Leaves (pairs_events pairs) 0
   pairs_leave no_pairs = record { counts = refl }
   pairs_leave (pairs_and pairs key value) =
-      both (pairs_events pairs) (node_events key ++ node_events value) 0 0 (pairs_leave pairs)
-      (both (node_events key) (node_events value) 0 0 (node_leaves key) (node_leaves value))
+      both _ _ 0 0 (pairs_leave pairs) (both _ _ 0 0 (node_leaves key) (node_leaves value))
 
 -- an event that is neither
 none_more : (event : Event) (rest : List Event) (n : ℕ) → begins_collection event ≡ false → ends_collection event ≡ false → Leaves rest n
@@ -75,11 +72,10 @@ documents_leave no_documents = record { counts = refl }
 documents_leave (documents_and d x) = both (documents_events d) (document_events x) 0 0 (documents_leave d) (document_leaves x)
 
 level_leaves : (level : Level) → Leaves (level_events level) 1
-level_leaves (at_item c items) = started (sequence_start c) (nodes_events items) 0 refl refl (nodes_leave items)
-level_leaves (at_key c pairs) = started (mapping_start c) (pairs_events pairs) 0 refl refl (pairs_leave pairs)
+level_leaves (at_item c items) = started _ _ 0 refl refl (nodes_leave items)
+level_leaves (at_key c pairs) = started _ _ 0 refl refl (pairs_leave pairs)
 level_leaves (at_value c pairs key) =
-    started (mapping_start c) (pairs_events pairs ++ node_events key) 0 refl refl
-    (both (pairs_events pairs) (node_events key) 0 0 (pairs_leave pairs) (node_leaves key))
+    started _ _ 0 refl refl (both _ _ 0 0 (pairs_leave pairs) (node_leaves key))
 
 levels_leave : (levels : List Level) → Leaves (levels_events levels) (length levels)
 levels_leave [] = record { counts = refl }
@@ -89,10 +85,8 @@ levels_leave (level ∷ outer) =
 
 begun_leaves : (e : Option Encoding) (d : Documents) (s : DocumentStart) (inside : List Event) (n : ℕ) → Leaves inside n → Leaves (begun_events e d s inside) n
 begun_leaves e d s inside n h =
-    let given = both (stream_start e ∷ (documents_events d ++ document_start s ∷ [])) inside 0 n
-    (none_more (stream_start e) (documents_events d ++ document_start s ∷ []) 0 refl refl
-    (both (documents_events d) (document_start s ∷ []) 0 0 (documents_leave d) (record { counts = refl })))
-    h in
+    let given = both _ inside 0 n (none_more (stream_start e) (documents_events d ++ document_start s ∷ []) 0 refl refl
+    (both _ _ 0 0 (documents_leave d) (record { counts = refl }))) h in
     record { counts = omega (arith, given.counts) }
 
 partial_leaves : (p : Partial) → Leaves (partial_events p) (length (open_levels p))

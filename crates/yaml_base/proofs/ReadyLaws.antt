@@ -15,10 +15,9 @@ either false b c more given = more given
 pub any_prefix : (a b : List Event) (p : List Event → Bool) → list_any p (nonempty_prefixes a) ≡ true → list_any p (nonempty_prefixes (a ++ b)) ≡ true
 any_prefix [] b p given = cc
 any_prefix (x ∷ a) b p given =
-    either (p (x ∷ [])) (list_any p (map (λ prefix. x ∷ prefix) (nonempty_prefixes a))) (list_any p (map (λ prefix. x ∷ prefix) (nonempty_prefixes (a ++ b))))
+    either _ _ _
     (λ some. any_map p (λ prefix. x ∷ prefix) (nonempty_prefixes (a ++ b))
-    ∙ any_prefix a b (λ prefix. p (x ∷ prefix)) (sym (any_map p (λ prefix. x ∷ prefix) (nonempty_prefixes a)) ∙ some))
-    given
+    ∙ any_prefix a b (λ prefix. p (x ∷ prefix)) (sym (any_map p (λ prefix. x ∷ prefix) (nonempty_prefixes a)) ∙ some)) given
 
 more_stand : (n : ℕ) (a b : List Event) → nat_lt n (length a) ≡ true → nat_lt n (length (a ++ b)) ≡ true
 more_stand n a b given = grind (arith, nat_tests, length-append a b)
@@ -28,15 +27,8 @@ either_of a b c d h k e = grind (arith, nat_tests)
 
 pub ready_stays : (event : Event) (rest more : List Event) → is_ready event rest ≡ true → is_ready event (rest ++ more) ≡ true
 ready_stays event rest more given =
-    either_of
-    (awaited event == 0 || nat_lt (awaited event) (length (event ∷ rest)))
-    (list_any is_balanced (nonempty_prefixes (event ∷ rest)))
-    (awaited event == 0 || nat_lt (awaited event) (length (event ∷ (rest ++ more))))
-    (list_any is_balanced (nonempty_prefixes (event ∷ (rest ++ more))))
-    (either (awaited event == 0) (nat_lt (awaited event) (length (event ∷ rest))) (nat_lt (awaited event) (length (event ∷ (rest ++ more))))
-    (more_stand (awaited event) (event ∷ rest) more))
-    (any_prefix (event ∷ rest) more is_balanced)
-    given
+    either_of _ _ _ (list_any is_balanced (nonempty_prefixes (event ∷ (rest ++ more)))) (either _ _ _ (more_stand (awaited event) (event ∷ rest) more))
+    (any_prefix (event ∷ rest) more is_balanced) given
 
 counted : (now later : Bool) (m n : ℕ) → (now ≡ true → later ≡ true) → m ≤ n → (if now then suc m else 0) ≤ (if later then suc n else 0)
 counted now later m n h k = grind (arith, nat_tests)

@@ -93,10 +93,9 @@ document_is graph is = grind (arith, map-append)
 within_alike : (first second : Graph) → IsWholeGraph first → IsWholeGraph second → Isomorphic first second
     → map unstyled (events_within second) ≡ map unstyled (events_within first)
 within_alike first second is also iso =
-    let walks = same_walks first second iso is.whole also.whole (some_nodes (length first.nodes) is.has_nodes)
-    (some_nodes (length second.nodes) also.has_nodes) in
+    let walks = same_walks first second iso is.whole also.whole (some_nodes _ is.has_nodes) (some_nodes _ also.has_nodes) in
     ap (λ (walk : List Step). map unstyled (flat_map (step_events second walk) walk)) walks.same
-    ∙ steps_alike first second iso (graph_steps first) (graph_steps first) walks.reached walks.reached
+    ∙ steps_alike first second iso _ _ walks.reached walks.reached
 
 start_alike : (first second : DocumentStart) → first.version ≡ second.version → first.directives ≡ second.directives
     → unstyled (document_start first) ≡ unstyled (document_start second)

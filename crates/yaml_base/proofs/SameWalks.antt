@@ -66,11 +66,10 @@ both_reached graph some others all more step within =
 mutual
   pub tree_reached : (named : ℕ → Option Text) (graph : Graph) (placed : Placed) → Fits named graph placed → IsReached graph (number_at placed)
       → AllReached graph (placed_steps placed)
-  tree_reached named graph (alias_placed name number) fits reached = one_reached graph (meets_again number) reached
+  tree_reached named graph (alias_placed name number) fits reached = one_reached graph _ reached
   tree_reached named graph (node_placed anchor number below) fits reached =
-      both_reached graph (enters number ∷ []) (below_steps below ++ leaves number ∷ []) (one_reached graph (enters number) reached)
-      (both_reached graph (below_steps below) (leaves number ∷ [])
-      (below_reached named graph below fits.3
+      both_reached graph (enters number ∷ []) (below_steps below ++ leaves number ∷ []) (one_reached graph _ reached)
+      (both_reached graph (below_steps below) (leaves number ∷ []) (below_reached named graph below fits.3
       (λ child within. child_reached reached (subst (λ (numbers : List ℕ). Contains numbers child) fits.2 within)))
       (one_reached graph (leaves number) reached))
 
@@ -81,8 +80,7 @@ mutual
       both_reached graph (below_steps before) (placed_steps last)
       (below_reached named graph before fit.0 (λ child within. reached child (Contains-append_left (numbers_at before) (number_at last ∷ []) child within)))
       (tree_reached named graph last fit.1
-      (reached (number_at last) (Contains-append_right (numbers_at before) (number_at last ∷ []) (number_at last) (0, omega arith, refl))))
-      step within
+      (reached (number_at last) (Contains-append_right (numbers_at before) (number_at last ∷ []) (number_at last) (0, omega arith, refl)))) step within
 
 -- ---- steps with the numbers of partners
 
@@ -151,8 +149,7 @@ mutual
       let within : map (renumbered partner) before ++ enters other ∷ [] ≡ map (renumbered partner) (before ++ enters number ∷ []) =
       ap (λ (n : ℕ). map (renumbered partner) before ++ enters n ∷ []) is ∙ sym (map-append (renumbered partner) before (enters number ∷ [])) in
       let inner =
-      mirrored_below first second iso named also below lower (before ++ enters number ∷ []) (leaves number ∷ after) (leaves other ∷ later) fits.3 matches.3
-      held
+      mirrored_below first second iso named also below lower _ _ _ fits.3 matches.3 held
       (λ child inside. child_reached reached (subst (λ (numbers : List ℕ). Contains numbers child) fits.2 inside))
       (both_reached first before (enters number ∷ []) all (one_reached first (enters number) reached))
       (subst (λ steps. AreStepsOf (before ++ enters number ∷ []) steps) (append_assoc (below_steps below) (leaves number ∷ []) after) turns.1)
@@ -174,8 +171,7 @@ mutual
   mirrored_below first second iso named also none_placed (placed_and earlier last) before after later fit match are reached all turns takes =
       absurd (omega (arith, ap length are, length-append (numbers_at earlier) (number_at last ∷ [])))
   mirrored_below first second iso named also (placed_and earlier last) none_placed before after later fit match are reached all turns takes =
-      absurd
-      (omega (
+      absurd (omega (
         arith,
         ap length are,
         length-map (numbers_at earlier ++ number_at last ∷ []) iso.partner,
@@ -183,8 +179,7 @@ mutual
       ))
   mirrored_below first second iso named also (placed_and earlier last) (placed_and sooner latter) before after later fit match are reached all turns takes =
       let partner = iso.partner in
-      let parts = last_parts (numbers_at sooner) (map partner (numbers_at earlier)) (number_at latter) (partner (number_at last))
-      (are ∙ map-append partner (numbers_at earlier) (number_at last ∷ [])) in
+      let parts = last_parts _ _ _ _ (are ∙ map-append partner (numbers_at earlier) (number_at last ∷ [])) in
       let reached_earlier = λ (child : ℕ) (within : Contains (numbers_at earlier) child).
       reached child (Contains-append_left (numbers_at earlier) (number_at last ∷ []) child within) in
       let turned = subst (λ steps. AreStepsOf before steps) (append_assoc (below_steps earlier) (placed_steps last) after) turns in
@@ -198,8 +193,7 @@ mutual
       mirrored first second iso named also last latter (before ++ below_steps earlier) after later fit.1 match.1 parts.1
       (reached (number_at last) (Contains-append_right (numbers_at earlier) (number_at last ∷ []) (number_at last) (0, omega arith, refl)))
       (both_reached first before (below_steps earlier) all (below_reached named first earlier fit.0 reached_earlier))
-      (later_turns before (below_steps earlier) (placed_steps last ++ after) turned)
-      (subst (λ steps. AreStepsOf steps (placed_steps latter ++ later)) within
+      (later_turns before (below_steps earlier) (placed_steps last ++ after) turned) (subst (λ steps. AreStepsOf steps (placed_steps latter ++ later)) within
       (later_turns (map (renumbered partner) before) (below_steps sooner) (placed_steps latter ++ later) taken)) in
       ap (λ steps. steps ++ placed_steps latter) inner
       ∙ ap (λ steps. map (renumbered partner) (below_steps earlier) ++ steps) now
@@ -308,6 +302,5 @@ pub anchors_alike : (first second : Graph) (iso : Isomorphic first second) (walk
 anchors_alike first second iso walk number all reached =
     ap (λ (shared : List ℕ). option_map (λ place. numbered_name (place + 1)) (position (λ other. other == iso.partner number) shared))
     (shared_alike first second iso walk all)
-    ∙ ap (option_map (λ (place : ℕ). numbered_name (place + 1)))
-    (position_alike first second iso number (shared_nodes walk) reached
-    (λ other within. again_reached first walk all other (in_firsts other (filter_map node_met_again walk) within)))
+    ∙ ap (option_map (λ (place : ℕ). numbered_name (place + 1))) (position_alike first second iso number _ reached
+    (λ other within. again_reached first walk all other (in_firsts other _ within)))

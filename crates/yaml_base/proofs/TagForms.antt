@@ -46,14 +46,13 @@ pub handle_form : (handle : Text) → handle_fault handle ≡ None → IsHandle 
 handle_form [] e = absurd (cc)
 handle_form (c ∷ []) e = grind (arith, handle_tests, eqb-true, not-false)
 handle_form (c ∷ d ∷ rest) e =
-    let tests = handle_tests (not (c == exclamation_mark)) (not (last_from c (d ∷ rest) == exclamation_mark)) (list_all is_alpha (without_last (d ∷ rest))) e in
+    let tests = handle_tests _ _ _ e in
     let first : c ≡ exclamation_mark = eqb-true _ _ (not-false _ tests.0) in
     let last : last_from c (d ∷ rest) ≡ exclamation_mark = eqb-true _ _ (not-false _ tests.1) in
     let whole =
     ap (λ x. c ∷ x) (prefix_and_last c d rest)
     ∙ ap (λ x. (c ∷ without_last (d ∷ rest)) ++ x ∷ []) last
-    ∙ ap (λ x. (x ∷ without_last (d ∷ rest)) ++ exclamation_mark ∷ []) first
-    in
+    ∙ ap (λ x. (x ∷ without_last (d ∷ rest)) ++ exclamation_mark ∷ []) first in
     inr (without_last (d ∷ rest), whole, tests.2)
 
 -- What follows a prefix
@@ -116,8 +115,7 @@ pub spelling_is : (P : Spelling → Type 0) (own directives : List TagDirective)
     → P (spelling directives tag)
 spelling_is P own [] tag found whole by = whole
 spelling_is P own (directive ∷ rest) tag found whole by =
-    spelled_step P own directive tag (spelling rest tag) (behind directive.prefix tag) refl found.0 found.1 by
-    (spelling_is P own rest tag found.2 whole by)
+    spelled_step P own _ tag _ _ refl found.0 found.1 by (spelling_is P own rest tag found.2 whole by)
 
 -- Directives in force are found
 
@@ -160,5 +158,4 @@ found-append own (x ∷ xs) ys f g = (f.0, f.1, found-append own xs ys f.2 g)
 
 pub in_force_found : (own : List TagDirective) → directives_fault own ≡ None → AreFound own (directives_in_force own)
 in_force_found own h =
-    found-append own own _ (all_found own [] own refl h)
-    (defaults_found_by own (gives_handle primary.handle own) (gives_handle secondary.handle own) refl refl)
+    found-append own own _ (all_found own [] own refl h) (defaults_found_by own _ _ refl refl)

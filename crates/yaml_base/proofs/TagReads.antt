@@ -97,7 +97,6 @@ pub written_tag_reads : (portable : Bool) (own : List TagDirective) (tag : Text)
 written_tag_reads portable own tag h k =
     let P : Spelling → Type 0 = λ s. tag_read own (spelled portable s) ≡ Some (name_parsed tag) in
     let IsText : Text → Type 0 = λ text. scalars text ≡ true in
-    spelling_is P own (directives_in_force own) tag (in_force_found own h) (verbatim_reads portable own tag k)
-    (λ handle prefix c suffix f g whole.
-    shorthand_reads portable own handle prefix c suffix f g (scalars_behind prefix (c ∷ suffix) (subst IsText (sym whole) k))
+    spelling_is P own _ tag (in_force_found own h) (verbatim_reads portable own tag k)
+    (λ handle prefix c suffix f g whole. shorthand_reads portable own handle prefix c suffix f g (scalars_behind prefix _ (subst IsText (sym whole) k))
     ∙ ap (λ x. Some (name_parsed x)) whole)

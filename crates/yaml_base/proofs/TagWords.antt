@@ -46,11 +46,8 @@ pub written_tag_ends_no_word : (portable : Bool) (own : List TagDirective) (tag 
     → list_any ends_word (spelled portable (spelling (directives_in_force own) tag)) ≡ false
 written_tag_ends_no_word portable own tag h =
     let P : Spelling → Type 0 = λ s. list_any ends_word (spelled portable s) ≡ false in
-    spelling_is P own (directives_in_force own) tag (in_force_found own h)
-    (any-append ends_word (percent_escaped tag) (0x3E ∷ []) (escaped_ends_no_word tag) refl)
-    (λ handle prefix c suffix f g whole.
-    any-append ends_word handle (suffix_escaped portable (c ∷ suffix)) (handle_ends_no_word handle (handle_form handle f))
-    (suffix_ends_no_word portable (c ∷ suffix)))
+    spelling_is P own _ tag (in_force_found own h) (any-append ends_word (percent_escaped tag) (0x3E ∷ []) (escaped_ends_no_word tag) refl)
+    (λ handle prefix c suffix f g whole. any-append _ handle _ (handle_ends_no_word handle (handle_form handle f)) (suffix_ends_no_word portable (c ∷ suffix)))
 
 two_at_least : (handle : Text) (d : ℕ) (more : Text) → handle_fault handle ≡ None → handle ++ (d ∷ more) ≡ exclamation_mark ∷ [] → ⊥
 two_at_least [] d more f e = cc

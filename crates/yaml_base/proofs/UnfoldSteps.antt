@@ -37,9 +37,8 @@ steps_keep graph P keeps (suc depth) before number reached p =
       | true ↦ λ is. keeps.met before number is p
       | false ↦ λ is.
           keeps.left (fold (steps_from depth graph) (before ++ enters number ∷ []) (children graph number)) number
-          (fold_keeps (IsReached graph) P (steps_from depth graph) (λ earlier child r q. steps_keep graph P keeps depth earlier child r q)
-          (children graph number)
-          (λ child within. child_reached reached within) (before ++ enters number ∷ []) (keeps.entered before number reached is p))
+          (fold_keeps _ P _ (λ earlier child r q. steps_keep graph P keeps depth earlier child r q) _
+          (λ child within. child_reached reached within) _ (keeps.entered before number reached is p))
     ]) refl
 
 -- ---- one more step

@@ -56,10 +56,9 @@ found : (count : ℕ) (nodes : List GraphNode) (place : ℕ) → list_all (λ no
     → (node : GraphNode) × (slice_get nodes place ≡ Some node) × (name_nodes count (numbers_held node.held) ≡ true)
 found count [] place all within = absurd (omega (arith, within))
 found count (node ∷ nodes) zero all within =
-    (node, refl, (and_parts (name_nodes count (numbers_held node.held)) (list_all (λ other. name_nodes count (numbers_held other.held)) nodes) all).0)
+    (node, refl, (and_parts _ _ all).0)
 found count (node ∷ nodes) (suc place) all within =
-    found count nodes place (and_parts (name_nodes count (numbers_held node.held)) (list_all (λ other. name_nodes count (numbers_held other.held)) nodes) all).1
-    (omega (arith, within))
+    found count nodes place (and_parts _ _ all).1 (omega (arith, within))
 
 -- a whole graph has the node of a number, and the numbers of its children name nodes
 numbered : (graph : Graph) (number : ℕ) → is_whole graph ≡ true → Names (length graph.nodes) number → HasNode graph number
@@ -207,8 +206,7 @@ numbers_met (placed_and before last) child within =
     (λ _. list_any (is_meeting_of child) (below_steps before ++ placed_steps last) ≡ true) [
       | inl earlier ↦ still_any (is_meeting_of child) (below_steps before) (placed_steps last) (numbers_met before child earlier)
       | inr now ↦
-          any_right (is_meeting_of child) (below_steps before) (placed_steps last)
-          (subst (λ (n : ℕ). list_any (is_meeting_of n) (placed_steps last) ≡ true) (only_one (number_at last) child now) (root_met last))
+          any_right _ (below_steps before) _ (subst (λ (n : ℕ). list_any (is_meeting_of n) (placed_steps last) ≡ true) (only_one _ child now) (root_met last))
     ]
 
 -- behind an entry, and before its end

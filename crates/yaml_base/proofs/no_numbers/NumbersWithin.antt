@@ -78,8 +78,7 @@ digits_outside text h = and_right (not (length text == 0)) _ (stronger in_number
 
 grouped_outside : (base : ℕ) → ((c : ℕ) → is_digit c base ≡ true → in_number c ≡ true) → (text : Text) → within text ≡ false → are_grouped base text ≡ false
 grouped_outside base stands text h =
-    stronger in_number (λ c. is_digit c base || is_underscore c)
-    (or_stands (λ c. is_digit c base) is_underscore stands (λ c e. same_stands 0x5F c refl e)) text h
+    stronger _ _ (or_stands _ _ stands (λ c e. same_stands 0x5F c refl e)) text h
 
 counted_outside : (least most : ℕ) (text : Text) → within text ≡ false → counted_digits least most text ≡ false
 counted_outside least most text h = and_right (is_between least most (length text)) _ (stronger in_number is_decimal digit_stands text h)
@@ -199,9 +198,7 @@ offset_outside parts h = grind (arith, nat_tests, counted_outside, and-true, two
 zone_outside : (text : Text) → within text ≡ false → is_zone text ≡ false
 zone_outside [] h = refl
 zone_outside (c ∷ rest) h =
-    or_from _ _
-    (rest_outside c rest (c == 0x5A) (length rest == 0) (λ e. same_stands 0x5A c refl e) (filled_outside rest) h)
-    (rest_outside c rest (is_plus_or_minus c) (is_offset (slice_split is_colon rest)) (sign_stands c)
+    or_from _ _ (rest_outside c rest _ _ (λ e. same_stands 0x5A c refl e) (filled_outside rest) h) (rest_outside c rest _ _ (sign_stands c)
     (λ e. offset_outside (slice_split is_colon rest) (parts_outside is_colon colon_stands rest e)) h)
 
 time_outside : (text : Text) → within text ≡ false → is_time text ≡ false
@@ -210,9 +207,7 @@ time_outside text h = grind (arith, and_right, or_from, filled_outside, zone_out
 after_date_outside : (text : Text) → within text ≡ false → is_time_after_date text ≡ false
 after_date_outside [] h = refl
 after_date_outside (c ∷ rest) h =
-    or_from _ _
-    (rest_outside c rest (c == 0x54 || c == 0x74) (is_time rest) (either_stands 0x54 0x74 c refl refl) (time_outside rest) h)
-    (rest_outside c rest (is_blank c) (is_time (past is_blank rest)) (blank_stands c)
+    or_from _ _ (rest_outside c rest _ _ (either_stands 0x54 0x74 c refl refl) (time_outside rest) h) (rest_outside c rest _ _ (blank_stands c)
     (λ e. time_outside (past is_blank rest) (past_outside is_blank blank_stands rest e)) h)
 
 timestamp_outside : (text : Text) → within text ≡ false → timestamp_11 text ≡ None

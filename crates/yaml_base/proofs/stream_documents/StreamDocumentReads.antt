@@ -34,9 +34,7 @@ pub awaits_ended : (breaks12 : Bool) (depth : ℕ) (text : Text) (documents : Li
     → Awaits breaks12 depth (text ++ dots) documents true
 awaits_ended breaks12 depth text documents so = λ lines parsed ends percents reads.
     subst (λ t. WalkProgress breaks12 depth t (record { documents = documents; place = after_heading parsed })) (sym (append_assoc text dots lines))
-    (one_more breaks12 depth text (dots ++ lines) (record { documents = documents; place = after_root })
-    (record { documents = documents; place = after_heading parsed })
-    (record { text = codes "..."; ending = line_feed ∷ [] }) (lines_of breaks12 lines) so (closed_both breaks12 dots lines refl ends)
+    (one_more breaks12 depth text _ _ _ _ _ so (closed_both breaks12 dots lines refl ends)
     (lines_broken breaks12 (codes "...") lines (unbroken_line breaks12 (codes "...") refl)) refl (percents_markerless (lines_of breaks12 lines) percents)
     (ap (λ ls. with_heading documents (heading_read ls)) (percents_shown (lines_of breaks12 lines) percents) ∙ ap (with_heading documents) reads))
 

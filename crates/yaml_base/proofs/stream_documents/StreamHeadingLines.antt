@@ -58,8 +58,7 @@ version_whole breaks12 (Some version) = grind (arith, int_eq)
 heading_whole : (breaks12 portable : Bool) (start : DocumentStart) → directives_fault start.directives ≡ None
     → WholeLines breaks12 (heading_lines portable start)
 heading_whole breaks12 portable start sound =
-    whole_both breaks12 (version_lines start.version) (tag_lines portable start.directives)
-    (version_whole breaks12 start.version) (tags_whole breaks12 portable [] start.directives sound)
+    whole_both breaks12 _ _ (version_whole breaks12 start.version) (tags_whole breaks12 portable [] _ sound)
 
 -- they are the first lines of what follows
 heading_first : (breaks12 portable : Bool) (start : DocumentStart) (rest : Text) → directives_fault start.directives ≡ None

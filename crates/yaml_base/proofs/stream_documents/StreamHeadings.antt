@@ -82,13 +82,11 @@ written_prefix portable c text = by ((portable && c == exclamation_mark) || is_t
     by : (kept : Bool) → (kept ≡ true → (c == exclamation_mark || is_uri_character c) ≡ true)
         → (d : ℕ) × (more : Text) × (character_written kept c ++ percent_escaped text ≡ d ∷ more)
         → may_be_prefix (character_written kept c ++ percent_escaped text) ≡ true
-    by true k begins = and_from (c == exclamation_mark || is_uri_character c) (list_all is_uri_character (percent_escaped text)) (k refl) rest
+    by true k begins = and_from _ _ (k refl) rest
     by false k begins =
         let whole : list_all is_uri_character (character_written false c ++ percent_escaped text) ≡ true =
         list_all-append is_uri_character (character_written false c) (percent_escaped text)
-        ∙ and_from (list_all is_uri_character (character_written false c)) (list_all is_uri_character (percent_escaped text))
-        (uri_text (character_written false c) (character_stands false c (λ e. absurd (false≢true e)))) rest
-        in
+        ∙ and_from _ _ (uri_text (character_written false c) (character_stands false c (λ e. absurd (false≢true e)))) rest in
         ap may_be_prefix begins.2 ∙ uri_prefix begins.0 begins.1 (ap (list_all is_uri_character) (sym begins.2) ∙ whole)
 
 -- a written prefix of at least one character is read as it was given

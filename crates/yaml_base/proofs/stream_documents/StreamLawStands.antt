@@ -30,14 +30,12 @@ after_first test event rest h = (and_parts (test event) (list_all test rest) h).
 mutual
   sound_node : (n : Node) (canonical : Bool) → list_all (is_sound canonical) (node_events n) ≡ true → node_is_tagged canonical n ≡ true
   sound_node (alias_node name) canonical h = refl
-  sound_node (scalar_node content) canonical h = sound_scalar canonical content (and_parts (is_sound canonical (scalar content)) true h).0
+  sound_node (scalar_node content) canonical h = sound_scalar _ content (and_parts _ true h).0
   sound_node (sequence_node start items) canonical h =
-      sound_nodes items canonical
-      (all_of_both (is_sound canonical) (nodes_events items) (sequence_end ∷ [])
+      sound_nodes items canonical (all_of_both (is_sound canonical) (nodes_events items) (sequence_end ∷ [])
       (after_first (is_sound canonical) (sequence_start start) (nodes_events items ++ (sequence_end ∷ [])) h)).0
   sound_node (mapping_node start pairs) canonical h =
-      sound_pairs pairs canonical
-      (all_of_both (is_sound canonical) (pairs_events pairs) (mapping_end ∷ [])
+      sound_pairs pairs canonical (all_of_both (is_sound canonical) (pairs_events pairs) (mapping_end ∷ [])
       (after_first (is_sound canonical) (mapping_start start) (pairs_events pairs ++ (mapping_end ∷ [])) h)).0
 
   sound_nodes : (items : Nodes) (canonical : Bool) → list_all (is_sound canonical) (nodes_events items) ≡ true → nodes_are_tagged canonical items ≡ true
@@ -79,13 +77,12 @@ documents_parts P (document ∷ rest) others h = let parts = documents_parts P r
 pub agree_more : (canonical : Bool) (some : List Document) (trees : List DocumentTree) (document : Document) (tree : DocumentTree)
     → documents_agree canonical some trees ≡ true
     → document_agrees canonical document tree ≡ true → documents_agree canonical (some ++ document ∷ []) (trees ++ tree ∷ []) ≡ true
-agree_more canonical [] [] document tree h k = and_from (document_agrees canonical document tree) true k refl
+agree_more canonical [] [] document tree h k = and_from _ true k refl
 agree_more canonical [] (other ∷ others) document tree h k = absurd (false≢true h)
 agree_more canonical (one ∷ rest) [] document tree h k = absurd (false≢true h)
 agree_more canonical (one ∷ rest) (other ∷ others) document tree h k =
-    let parts = and_parts (document_agrees canonical one other) (documents_agree canonical rest others) h in
-    and_from (document_agrees canonical one other) (documents_agree canonical (rest ++ document ∷ []) (others ++ tree ∷ [])) parts.0
-    (agree_more canonical rest others document tree parts.1 k)
+    let parts = and_parts _ _ h in
+    and_from _ _ parts.0 (agree_more canonical rest others document tree parts.1 k)
 
 -- the trees of documents agree with them
 trees_agree : (s : Effective) (documents : Documents) → AllDocuments (IsTaggedRoot s.canonical) (documents_in_order documents)

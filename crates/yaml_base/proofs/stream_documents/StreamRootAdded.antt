@@ -56,15 +56,13 @@ on_marker_added s depth text documents document headed fit deep stood =
     let line : Line = record { text = codes "---" ++ o.head; ending = o.ending } in
     let markers : marker_of (codes "---" ++ o.head) ≡ start_marker =
     ap (λ x. if x then start_marker else (if begins_with_marker 0x2E (codes "---" ++ o.head) then end_marker else no_exclamation)) o.symbol in
-    one_more s.breaks12 depth text (text_with_marker true s document) (record { documents = documents; place = headed.place })
-    (record { documents = with_document s documents document; place = after_root }) line o.rest headed.so_far
-    (closed_behind s.breaks12 (codes "--") 0x2D own (indicated_ends s.breaks12 0 0x2D own o fit.ends))
+    one_more _ depth text _ _ _ line o.rest headed.so_far
+    (closed_behind _ (codes "--") 0x2D own (indicated_ends _ 0 0x2D own o fit.ends))
     (lines_behind s.breaks12 (codes "---") own o.head o.ending o.rest (unbroken_line s.breaks12 (codes "---") refl) o.is)
     (ap is_markerless markers) (ap (λ ls. list_all (λ line. is_markerless (marker_of line.text)) (lines_after_first ls)) (sym o.is) ∙ stood.0)
     (ap (λ m. section_by_kind m depth s.breaks12 documents headed.place (record { marker = m; line = line; rest = o.rest })) markers
     ∙ headed.opens (record { marker = start_marker; line = line; rest = o.rest })
-    ∙ ap (with_read_document documents (heading_parsed document.start))
-    (root_with_marker_reads (rules_of s document) (size document.root) (render_root true s document) (root_tree s document) fit margin depth deep))
+    ∙ ap (with_read_document documents (heading_parsed document.start)) (root_with_marker_reads _ _ _ _ fit margin depth deep))
   where
     own : Text
     own = closed (render_root true s document)
@@ -87,10 +85,9 @@ below_marker_added s depth text documents document headed fit deep stood =
     let rules : Rules = rules_of s document in
     let lines : List Line = lines_of s.breaks12 own in
     let line : Line = record { text = codes "---"; ending = line_feed ∷ [] } in
-    one_more s.breaks12 depth text (text_with_marker false s document) (record { documents = documents; place = headed.place })
-    (record { documents = with_document s documents document; place = after_root }) line lines headed.so_far
+    one_more _ depth text _ _ _ line lines headed.so_far
     (closed_both s.breaks12 (codes "---" ++ (line_feed ∷ [])) own refl fit.ends)
-    (lines_broken s.breaks12 (codes "---") own (unbroken_line s.breaks12 (codes "---") refl)) refl
+    (lines_broken _ _ own (unbroken_line s.breaks12 (codes "---") refl)) refl
     (markerless_whole lines depth rules true None (root_tree s document) (fit.reads depth deep true 0 (λ h. (refl, refl))) stood.0)
     (headed.opens (record { marker = start_marker; line = line; rest = lines })
     ∙ ap (λ ls. with_read_document documents (heading_parsed document.start) (root_below depth rules ls)) (shown_whole lines stood.1)
@@ -127,10 +124,8 @@ markerless_added s depth document none fit deep stood =
     let rules : Rules = rules_of s document in
     let lines : List Line = lines_of s.breaks12 own in
     let reads : node_read depth rules true None lines ≡ Some (root_tree s document) = fit.reads depth deep true 0 (λ h. (refl, refl)) in
-    prefix_alone s.breaks12 depth own (record { documents = with_document s [] document; place = after_root }) fit.ends
-    (markerless_whole lines depth rules true None (root_tree s document) reads stood.0)
-    (ap (λ k. lines_before_marker_read k depth s.breaks12 lines) (prefix_document lines depth rules true None (root_tree s document) reads stood.1)
+    prefix_alone _ depth own _ fit.ends (markerless_whole lines depth rules true None _ reads stood.0)
+    (ap (λ k. lines_before_marker_read k depth s.breaks12 lines) (prefix_document lines depth rules true None _ reads stood.1)
     ∙ ap (λ (h : Heading). with_read_document [] h (root_below depth (record { breaks12 = s.breaks12; directives = h.directives }) lines))
     (nothing_parsed document.start none)
-    ∙ ap (with_read_document [] (heading_parsed document.start))
-    (root_reads rules (size document.root) (render_root false s document) (root_tree s document) fit (shown_margin lines stood.1) depth deep))
+    ∙ ap (with_read_document [] (heading_parsed document.start)) (root_reads rules _ _ _ fit (shown_margin lines stood.1) depth deep))

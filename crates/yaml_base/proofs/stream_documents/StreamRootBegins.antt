@@ -41,10 +41,9 @@ pub properties_begin : (s : Effective) (own directives : List TagDirective) (anc
     → (anchor ≡ None → tag ≡ None → ⊥) → Begins s.breaks12 cursor (render_properties s.portable directives anchor tag false cursor)
 properties_begin s own directives None None cursor stands some = absurd (some refl refl)
 properties_begin s own directives (Some name) None cursor stands some =
-    spaced_begins s.breaks12 cursor (render_properties s.portable directives (Some name) None false cursor) 0x26 name
-    (properties_whole s.portable directives (Some name) None cursor 0x26 name refl) refl (break_line s.breaks12 0x26 refl)
+    spaced_begins _ cursor _ 0x26 name (properties_whole s.portable directives (Some name) None cursor 0x26 name refl) refl (break_line s.breaks12 0x26 refl)
 properties_begin s own directives None (Some tag) cursor stands some =
-    spaced_begins s.breaks12 cursor (render_properties s.portable directives None (Some tag) false cursor) 0x21 stands.rest
+    spaced_begins _ cursor _ 0x21 _
     (properties_whole s.portable directives None (Some tag) cursor 0x21 stands.rest stands.begins) refl (break_line s.breaks12 0x21 refl)
 properties_begin s own directives (Some name) (Some tag) cursor stands some =
     let rest = name ++ (space ∷ spelled s.portable (spelling directives tag)) in
@@ -108,8 +107,7 @@ pub empty_begins : (s : Effective) (own directives : List TagDirective) (anchor 
 empty_begins s own directives anchor tag true plain limit indent [] cursor stands is empty h some = absurd (true≢false h)
 empty_begins s own directives anchor tag false plain limit indent [] cursor stands is empty h some =
     let begun = render_properties s.portable directives anchor tag false cursor in
-    begins_alike s.breaks12 cursor begun (render_styled s directives anchor tag false plain limit indent [] cursor)
-    (append-nil (begun.text ++ []) ∙ append-nil begun.text) (properties_begin s own directives anchor tag cursor stands some)
+    begins_alike _ cursor begun _ (append-nil (begun.text ++ []) ∙ append-nil begun.text) (properties_begin s own _ anchor tag cursor stands some)
 empty_begins s own directives anchor tag bare plain limit indent (c ∷ value) cursor stands is empty h some = absurd (false≢true empty)
 empty_begins s own directives anchor tag bare style limit indent value cursor stands is empty h some = absurd (false≢true is)
 
@@ -122,9 +120,8 @@ styled_begins s own directives anchor tag bare style limit indent value cursor n
     let properties = render_properties s.portable directives anchor tag bare cursor in
     let text = (render_body style s limit indent value (body_cursor s directives anchor tag bare style value cursor)).text in
     let before = lead anchor (tag_written s.portable directives tag bare) in
-    led_begins (rules_of s own) cursor (render_styled s directives anchor tag bare style limit indent value cursor) anchor
-    (tag_written s.portable directives tag bare) (tag_meant tag bare) h.head h.tail
-    (record { named = named; tagged = tag_is_written s.portable own directives tag bare stands }) h.shows h.goes_on
+    led_begins _ cursor _ anchor _ _ h.head h.tail
+    (record { named = named; tagged = tag_is_written _ own _ tag bare stands }) h.shows h.goes_on
     (ap (λ t. (properties.text ++ t) ++ text) (separation_text style value properties.cursor some)
     ∙ ap (λ t. t ++ text) (lead_rendered s.portable directives anchor tag bare cursor)
     ∙ append_assoc (space_if true cursor) before text

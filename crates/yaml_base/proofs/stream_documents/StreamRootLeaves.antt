@@ -38,11 +38,7 @@ scalar_begins s own directives cursor content names stands some = by (is_plain c
         → Begins s.breaks12 cursor (node_own (scalar_node content) s directives root_place cursor)
     by false h =
         let body = body_from s directives root_place content cursor in
-        styled_begins s own directives content.anchor tag choice.bare choice.style s.width (deeper s.indent None) content.value cursor names.0 names.1 h
-        (body_head s choice.style s.width (deeper s.indent None) None content.value
-        (body_cursor s directives content.anchor tag choice.bare choice.style content.value cursor) h
-        (and_parts (list_all (is_tidy_character choice.style) body.text && has_deep_lines s.breaks12 1 body.text) (is_tidy_style choice.style s.breaks12 body.text) stands.tidy).1
-        stands.reads)
+        styled_begins s own _ _ tag _ _ s.width _ _ cursor names.0 names.1 h (body_head s _ s.width _ None _ _ h (and_parts _ _ stands.tidy).1 stands.reads)
     by true h =
         let parts = and_parts (is_plain choice.style) (is_empty content.value) h in
         empty_begins s own directives content.anchor tag choice.bare choice.style s.width (deeper s.indent None) content.value cursor names.1 parts.0 parts.1

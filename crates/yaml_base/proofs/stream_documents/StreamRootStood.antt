@@ -94,14 +94,13 @@ scalar_stands rules n own anchor tagging value fit = subst (FirstStands true) (s
     texts at text = text_or_properties (begins_properties text) rules (node_read n rules) None at text
 
     whole : node_read (suc n) rules false None (line ∷ o.rest) ≡ Some (scalar_tree anchor tagging value)
-    whole = ap (node_read (suc n) rules false None) (sym (blanked_lines rules.breaks12 3 (closed own) o))
+    whole = ap (node_read (suc n) rules false None) (sym (blanked_lines _ 3 _ o))
         ∙ fit.reads (suc n) (omega arith) false 3 (λ h. absurd (false≢true h))
 
     by : (x : Bool) → is_spaces o.head ≡ x → (not x || stands_at_margin (without_blank_lines o.rest)) ≡ true
     by false e = refl
     by true e =
-        ap stands_at_margin
-        (nothing_left rules (node_read n rules) texts (without_blank_lines o.rest) anchor tagging value
+        ap stands_at_margin (nothing_left rules (node_read n rules) texts (without_blank_lines o.rest) anchor tagging value
         (sym (ap (λ x. node_at rules (node_read n rules) texts no_properties (false || x) (not x) (if x then without_blank_lines o.rest else line ∷ o.rest))
         e) ∙ whole))
 
@@ -111,8 +110,7 @@ nothing_stands : (n : Node) (given : List TagDirective) (s : Effective) (directi
     → FirstStands true (lines_of s.breaks12 (closed (node_own n s directives root_place marker_cursor)))
 nothing_stands (alias_node name) given s directives h leaves = absurd (false≢true h)
 nothing_stands (scalar_node content) given s directives h leaves =
-    scalar_stands (record { breaks12 = s.breaks12; directives = given }) 1 (node_own (scalar_node content) s directives root_place marker_cursor) _ _ _
-    leaves
+    scalar_stands _ 1 _ _ _ _ leaves
 nothing_stands (sequence_node start items) given s directives h leaves = absurd (false≢true h)
 nothing_stands (mapping_node start pairs) given s directives h leaves = absurd (false≢true h)
 

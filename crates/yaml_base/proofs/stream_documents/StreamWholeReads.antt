@@ -157,9 +157,8 @@ blank_markerless (c ∷ t) h = grind (arith, and_parts, eqb-true)
 blank_lines_markerless : (lines : List Line) → all_blank lines ≡ true → AllMarkerless lines
 blank_lines_markerless [] h = refl
 blank_lines_markerless (line ∷ rest) h =
-    let parts = and_parts (is_spaces line.text) (all_blank rest) h in
-    and_from (is_markerless (marker_of line.text)) (list_all (λ line. is_markerless (marker_of line.text)) rest) (blank_markerless line.text parts.0)
-    (blank_lines_markerless rest parts.1)
+    let parts = and_parts _ _ h in
+    and_from _ _ (blank_markerless line.text parts.0) (blank_lines_markerless rest parts.1)
 
 blank_no_text : (t : Text) → is_spaces t ≡ true → (begins_with_percent t ≡ false) × (ends_indicator t ≡ true)
 blank_no_text [] h = (refl, refl)

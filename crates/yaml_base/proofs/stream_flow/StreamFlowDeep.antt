@@ -50,10 +50,8 @@ body_deep : (s : Effective) (style : ScalarStyle) (limit : Option ℕ) (count in
     → Deep s.breaks12 count (render_body style s limit indent value cursor).text
 body_deep s style limit count indent column value cursor le flow tidy =
     let text = (render_body style s limit indent value cursor).text in
-    let parts = and_parts (list_all (is_tidy_character style) text && has_deep_lines s.breaks12 (suc column) text) (is_tidy_style style s.breaks12 text) tidy in
-    deep_tidy s.breaks12 count text
-    (deep_lines_fewer s.breaks12 count (suc column) text le (and_parts (list_all (is_tidy_character style) text) (has_deep_lines s.breaks12 (suc column) text) parts.0).1)
-    (body_shown s style limit indent value cursor flow parts.1)
+    let parts = and_parts _ _ tidy in
+    deep_tidy _ count text (deep_lines_fewer _ count _ text le (and_parts _ _ parts.0).1) (body_shown s style limit indent value cursor flow parts.1)
 
 -- Indicators
 
@@ -213,10 +211,8 @@ pub sequence_deep : (s : Effective) (own directives : List TagDirective) (count 
     → Deep s.breaks12 count (node_own (sequence_node start items) s directives place cursor).text
 sequence_deep s own directives count place cursor start items le ends in_flow names bodies =
     let begun = render_properties s.portable directives start.anchor (collection_tag s.canonical start) false cursor in
-    rw in_flow
-    (collection_deep s own directives count square start.anchor (collection_tag s.canonical start) (has_no_nodes items) place.column cursor
-    (items_own items s directives true (deeper s.indent place.column) begun.cursor) refl refl ends names.0 names.1
-    (items_deep items s own directives count (deeper s.indent place.column) begun.cursor le names.2 (rw in_flow at bodies)))
+    rw in_flow (collection_deep s own _ count square _ _ (has_no_nodes items) _ cursor _ refl refl ends names.0 names.1
+    (items_deep items s own _ count _ _ le names.2 (rw in_flow at bodies)))
 
 -- and such a mapping
 pub mapping_deep : (s : Effective) (own directives : List TagDirective) (count : ℕ) (place : Place) (cursor : Cursor) (start : Collection) (pairs : Pairs)
@@ -226,7 +222,5 @@ pub mapping_deep : (s : Effective) (own directives : List TagDirective) (count :
     → Deep s.breaks12 count (node_own (mapping_node start pairs) s directives place cursor).text
 mapping_deep s own directives count place cursor start pairs le ends in_flow names bodies =
     let begun = render_properties s.portable directives start.anchor (collection_tag s.canonical start) false cursor in
-    rw in_flow
-    (collection_deep s own directives count curly start.anchor (collection_tag s.canonical start) (has_no_pairs pairs) place.column cursor
-    (pairs_own pairs s directives true (deeper s.indent place.column) begun.cursor) refl refl ends names.0 names.1
-    (pairs_deep pairs s own directives count (deeper s.indent place.column) begun.cursor le names.2 (rw in_flow at bodies)))
+    rw in_flow (collection_deep s own _ count curly _ _ (has_no_pairs pairs) _ cursor _ refl refl ends names.0 names.1
+    (pairs_deep pairs s own _ count _ _ le names.2 (rw in_flow at bodies)))

@@ -90,8 +90,7 @@ flow_lines : (rules : Rules) (cursor : Cursor) (own : Rendered) (anchor tag give
     ≡ record { text = lead anchor tag ++ (of.bracket ∷ line.first); ending = line.ending } ∷ line.rest
 flow_lines rules cursor own anchor tag given_tag tree of one line =
     let text = (of.inside ++ (of.closing ∷ [])) ++ (line_feed ∷ []) in
-    lines_behind rules.breaks12 (lead anchor tag) (of.bracket ∷ text) (of.bracket ∷ line.first) line.ending line.rest one
-    (lines_behind rules.breaks12 (of.bracket ∷ []) text line.first line.ending line.rest of.brackets.one_line line.is)
+    lines_behind _ _ _ _ _ _ one (lines_behind rules.breaks12 (of.bracket ∷ []) text line.first line.ending line.rest of.brackets.one_line line.is)
 
 -- it reads on its lines, behind properties or without them
 text_reads : (rules : Rules) (cursor : Cursor) (own : Rendered) (anchor tag given_tag : Option Text) (tree : Tree)

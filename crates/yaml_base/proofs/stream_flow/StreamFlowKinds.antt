@@ -90,17 +90,11 @@ scalar_step s own directives fits role column cursor content names body =
     let text = (render_body choice.style s limit (deeper s.indent (Some column)) content.value separation.cursor).text in
     let whole = scalar_whole s.portable directives content.anchor tag choice.bare choice.style content.value cursor text in
     let flow = chosen_in_flow s role column simple content in
-    word_node (rules_of s own) simple cursor (node_own (scalar_node content) s directives place cursor)
-    (lead content.anchor (tag_written s.portable directives tag choice.bare) ++ text) (node_tree (scalar_node content) s directives (entry_place true role 0))
-    whole
-    (body_ended s choice.style limit (deeper s.indent (Some column)) content.value separation.cursor flow)
-    (body_flow_word s own content.anchor (tag_written s.portable directives tag choice.bare) tag choice.style choice.bare limit
-    (deeper s.indent (Some column)) column content.value separation.cursor
-    (record { named = names.0; tagged = tag_is_written s.portable own directives tag choice.bare names.1 })
-    flow (bare_not_plain (is_some tag) content.quoted_implicit (is_plain choice.style)) body.tidy body.reads)
-    refl
-    (λ h.
-    fits (scalar_node content) role column cursor (lead content.anchor (tag_written s.portable directives tag choice.bare) ++ text) h names body
+    word_node _ simple cursor _ _ _ whole (body_ended s _ limit (deeper s.indent (Some column)) content.value separation.cursor flow)
+    (body_flow_word s own _ _ tag _ _ limit _ column _ _
+    (record { named = names.0; tagged = tag_is_written _ own _ tag choice.bare names.1 })
+    flow (bare_not_plain _ _ (is_plain choice.style)) body.tidy body.reads) refl
+    (λ h. fits (scalar_node content) role column cursor (lead content.anchor (tag_written s.portable directives tag choice.bare) ++ text) h names body
     (whole ∙ ap (λ t. space_if true cursor ++ t) (sym (append-nil (lead content.anchor (tag_written s.portable directives tag choice.bare) ++ text)))))
 
 -- Collections
@@ -129,10 +123,9 @@ collection_node rules simple cursor properties entries ending bracket anchor tag
   content = lead anchor tag ++ (bracket ∷ (of.inside ++ ending.text));
   whole = collection_whole properties cursor (lead anchor tag) bracket of.inside entries.text ending.text e of.whole;
   ended = (end []).ended;
-  opens = lead_opens rules anchor tag (tag_meant given_tag false) (bracket ∷ (of.inside ++ ending.text)) given open_bracket;
+  opens = lead_opens rules anchor tag _ _ given open_bracket;
   takes = λ h levels open_level spaced.
-      takes_collection rules levels spaced bracket anchor tag given_tag (of.inside ++ ending.text) (with_tree levels tree) given open_level class
-      (opens_more of.inside ending.text of.opens)
+      takes_collection rules levels spaced bracket anchor tag _ _ _ given open_level class (opens_more of.inside ending.text of.opens)
       (takes_both (of.takes anchor given_tag levels) (end levels).takes (end levels).ends);
   key = λ h. absurd (true≢false (sym h ∙ other));
 }

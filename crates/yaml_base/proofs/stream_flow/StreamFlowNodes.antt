@@ -24,11 +24,8 @@ items_step s own directives no_nodes last column cursor take node =
     let gap = flow_break s (Some column) open_cursor in
     let rendered = node_own last s directives (entry_place true (as_item true) column) gap.cursor in
     let tree = node_tree last s directives (entry_place true (as_item true) 0) in
-    first_entry (rules_of s own) 0x5B cursor (items_own (nodes_and no_nodes last) s directives true column cursor) (gap.text ++ rendered.text)
-    (λ anchor tag. in_sequence anchor tag (nodes_tree (nodes_and no_nodes last) s directives true))
-    (ap (λ t. t ++ rendered.text) (append_assoc (space_if true cursor) (0x5B ∷ []) gap.text)
-    ∙ append_assoc (space_if true cursor) (0x5B ∷ gap.text) rendered.text)
-    node.ended
+    first_entry _ 0x5B cursor _ _ _ (ap (λ t. t ++ rendered.text) (append_assoc (space_if true cursor) (0x5B ∷ []) gap.text)
+    ∙ append_assoc (space_if true cursor) (0x5B ∷ gap.text) rendered.text) node.ended
     (λ anchor tag. item_entry (rules_of s own) s (Some column) open_cursor rendered tree node anchor tag no_trees)
 items_step s own directives (nodes_and items prev) last column cursor take node =
     let before = items_own (nodes_and items prev) s directives true column cursor in
@@ -37,11 +34,7 @@ items_step s own directives (nodes_and items prev) last column cursor take node 
     let rendered = node_own last s directives (entry_place true (as_item false) column) gap.cursor in
     let tree = node_tree last s directives (entry_place true (as_item false) 0) in
     let trees = nodes_tree (nodes_and items prev) s directives true in
-    next_entry (rules_of s own) 0x5B cursor before (items_own (nodes_and (nodes_and items prev) last) s directives true column cursor)
-    (gap.text ++ rendered.text)
-    (λ anchor tag. in_sequence anchor tag trees)
-    (λ anchor tag. in_sequence anchor tag (nodes_tree (nodes_and (nodes_and items prev) last) s directives true))
-    take refl node.ended
+    next_entry _ 0x5B cursor before _ _ _ _ take refl node.ended
     (λ anchor tag. item_entry (rules_of s own) s (Some column) comma_cursor rendered tree node anchor tag trees)
 
 -- a pair with its key's indicator, if it has one
@@ -54,12 +47,11 @@ pair_entry : (rules : Rules) (s : Effective) (column : Option ℕ) (simple : Boo
     ++ ((render_flow_place s (as_value simple) false column own.cursor).text ++ value.text))
     (in_mapping anchor tag pairs no_key) (in_mapping anchor tag (tree_pairs_and pairs key_tree value_tree) no_key)
 pair_entry rules s column false cursor own value key_tree value_tree key node anchor tag pairs =
-    long_pair_entry rules s column cursor own value key_tree value_tree key node anchor tag pairs
+    long_pair_entry rules s column cursor own value key_tree _ key node anchor tag pairs
 pair_entry rules s column true cursor own value key_tree value_tree key node anchor tag pairs =
     subst (λ t. FlowEntry rules ((t ++ own.text) ++ ((0x3A ∷ []) ++ value.text)) (in_mapping anchor tag pairs no_key)
-    (in_mapping anchor tag (tree_pairs_and pairs key_tree value_tree) no_key))
-    (sym (append-nil (flow_break s column cursor).text))
-    (simple_pair_entry rules s column cursor own value key_tree value_tree key node anchor tag pairs)
+    (in_mapping anchor tag (tree_pairs_and pairs key_tree value_tree) no_key)) (sym (append-nil (flow_break s column cursor).text))
+    (simple_pair_entry rules s column cursor own value key_tree _ key node anchor tag pairs)
 
 -- the text of the first pair
 first_pair : (blank : Text) (bracket : ℕ) (gap symbol key rest : Text)
@@ -88,14 +80,9 @@ pairs_step s own directives no_pairs key value column cursor take key_node value
     let key_rendered = node_own key s directives (entry_place true (as_key true) column) symbols.cursor in
     let value_indicators = render_flow_place s (as_value simple) false (Some column) key_rendered.cursor in
     let value_rendered = node_own value s directives (entry_place true (as_value simple) column) value_indicators.cursor in
-    first_entry (rules_of s own) 0x7B cursor (pairs_own (pairs_and no_pairs key value) s directives true column cursor)
-    (((gap.text ++ symbols.text) ++ key_rendered.text) ++ (value_indicators.text ++ value_rendered.text))
-    (λ anchor tag. in_mapping anchor tag (pairs_tree (pairs_and no_pairs key value) s directives true) no_key)
-    (first_pair (space_if true cursor) 0x7B gap.text symbols.text key_rendered.text (value_indicators.text ++ value_rendered.text))
-    value_node.ended
-    (λ anchor tag. pair_entry (rules_of s own) s (Some column) simple open_cursor key_rendered value_rendered
-    (node_tree key s directives (entry_place true (as_key true) 0)) (node_tree value s directives (entry_place true (as_value simple) 0))
-    key_node value_node anchor tag no_tree_pairs)
+    first_entry _ 0x7B cursor _ _ _
+    (first_pair (space_if true cursor) 0x7B gap.text symbols.text key_rendered.text (value_indicators.text ++ value_rendered.text)) value_node.ended
+    (λ anchor tag. pair_entry _ s _ simple _ _ _ _ _ key_node value_node anchor tag no_tree_pairs)
 pairs_step s own directives (pairs_and pairs prev_key prev_value) key value column cursor take key_node value_node =
     let simple = is_simple s.canonical directives key in
     let before = pairs_own (pairs_and pairs prev_key prev_value) s directives true column cursor in
@@ -106,16 +93,9 @@ pairs_step s own directives (pairs_and pairs prev_key prev_value) key value colu
     let value_indicators = render_flow_place s (as_value simple) false (Some column) key_rendered.cursor in
     let value_rendered = node_own value s directives (entry_place true (as_value simple) column) value_indicators.cursor in
     let trees = pairs_tree (pairs_and pairs prev_key prev_value) s directives true in
-    next_entry (rules_of s own) 0x7B cursor before (pairs_own (pairs_and (pairs_and pairs prev_key prev_value) key value) s directives true column cursor)
-    (((gap.text ++ symbols.text) ++ key_rendered.text) ++ (value_indicators.text ++ value_rendered.text))
-    (λ anchor tag. in_mapping anchor tag trees no_key)
-    (λ anchor tag. in_mapping anchor tag (pairs_tree (pairs_and (pairs_and pairs prev_key prev_value) key value) s directives true) no_key)
-    take
-    (append_assoc before.text (0x2C ∷ ((gap.text ++ symbols.text) ++ key_rendered.text)) (value_indicators.text ++ value_rendered.text))
-    value_node.ended
-    (λ anchor tag. pair_entry (rules_of s own) s (Some column) simple comma_cursor key_rendered value_rendered
-    (node_tree key s directives (entry_place true (as_key false) 0)) (node_tree value s directives (entry_place true (as_value simple) 0))
-    key_node value_node anchor tag trees)
+    next_entry _ 0x7B cursor before _ _ _ _ take
+    (append_assoc before.text (0x2C ∷ ((gap.text ++ symbols.text) ++ key_rendered.text)) (value_indicators.text ++ value_rendered.text)) value_node.ended
+    (λ anchor tag. pair_entry _ s _ simple _ _ _ _ _ key_node value_node anchor tag trees)
 
 -- Nodes
 

@@ -160,7 +160,6 @@ next_entry rules bracket cursor before own entry middle last entries whole ended
   ended = ended;
   opens = opens_more entries.inside (0x2C ∷ entry) entries.opens;
   takes = λ anchor tag levels.
-      takes_both (entries.takes anchor tag levels)
-      (passes_then (passes_comma rules (middle anchor tag ∷ levels)) ((one anchor tag).takes levels))
-      (indicator_ends rules.breaks12 0x2C entry (class_fixed rules.breaks12 0x2C refl));
+      takes_both (entries.takes anchor tag levels) (passes_then (passes_comma rules (middle anchor tag ∷ levels)) ((one anchor tag).takes levels))
+      (indicator_ends _ 0x2C entry (class_fixed rules.breaks12 0x2C refl));
 }

@@ -167,8 +167,7 @@ closing_rendered rules s level brackets closing tree column cursor e at_once_don
           let passed = passes_both (passes_comma rules (level ∷ []))
           (passes_entry_white rules (level ∷ []) line (new_line_white (line_column column) (indicator (codes ",") false false false cursor).cursor)) in
           takes_both takes
-          (record { takes = λ rest h. passed.passes rest })
-          (indicator_ends rules.breaks12 0x2C line (class_fixed rules.breaks12 0x2C refl));
+          (record { takes = λ rest h. passed.passes rest }) (indicator_ends _ 0x2C line (class_fixed rules.breaks12 0x2C refl));
       closes = after_comma;
     }
     by false = record {
@@ -321,9 +320,8 @@ pub sequence_reads : (s : Effective) (own directives : List TagDirective) → Ke
     (node_tree (sequence_node start items) s directives place)
 sequence_reads s own directives fits place cursor start items in_flow names bodies =
     let begun = render_properties s.portable directives start.anchor (collection_tag s.canonical start) false cursor in
-    rw in_flow
-    (sequence_content s own directives place.column (is_undented s place.role) cursor start items
-    (items_flow items s own directives fits (deeper s.indent place.column) begun.cursor names.2 (rw in_flow at bodies)))
+    rw in_flow (sequence_content s own directives place.column (is_undented s place.role) cursor start items
+    (items_flow items s own _ fits _ _ names.2 (rw in_flow at bodies)))
 
 -- and so is a mapping
 pub mapping_reads : (s : Effective) (own directives : List TagDirective) → KeysFit s own directives → (place : Place) (cursor : Cursor) (start : Collection)

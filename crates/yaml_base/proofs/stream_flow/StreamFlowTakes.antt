@@ -136,12 +136,10 @@ closes rules s levels to brackets bracket column cursor e ends at_once_taken aft
     by : (canonical : Bool) → FlowEnd rules (render_end (record s { canonical = canonical }) brackets true false column cursor) levels to
     by true = record {
       ended = record { white = refl; indention = refl };
-      ends = λ rest h. indicator_ends rules.breaks12 0x2C (line ++ brackets.closing) (class_fixed rules.breaks12 0x2C refl) rest h;
+      ends = λ rest h. indicator_ends _ 0x2C (line ++ brackets.closing) (class_fixed rules.breaks12 0x2C refl) rest h;
       takes =
-          takes_text (ap (λ t. (0x2C ∷ line) ++ t) e)
-          (passes_then (passes_both (passes_comma rules levels)
-          (passes_entry_white rules levels line (new_line_white (line_column column) (indicator (codes ",") false false false cursor).cursor)))
-          after_comma);
+          takes_text (ap (λ t. (0x2C ∷ line) ++ t) e) (passes_then (passes_both (passes_comma rules levels)
+          (passes_entry_white rules levels line (new_line_white (line_column column) (indicator (codes ",") false false false cursor).cursor))) after_comma);
     }
     by false = record {
       ended = record { white = refl; indention = and-false cursor.indention };
@@ -153,19 +151,13 @@ closes rules s levels to brackets bracket column cursor e ends at_once_taken aft
 pub sequence_ends : (rules : Rules) (s : Effective) (anchor tag : Option Text) (items : Trees) (levels : List OpenFlow) (column : Option ℕ) (cursor : Cursor)
     → FlowEnd rules (render_end s square true false column cursor) (in_sequence anchor tag items ∷ levels) (with_tree levels (sequence_tree anchor tag items))
 sequence_ends rules s anchor tag items levels column cursor =
-    closes rules s (in_sequence anchor tag items ∷ levels) (with_tree levels (sequence_tree anchor tag items)) square 0x5D column cursor refl
-    (indicator_ends rules.breaks12 0x5D [] (class_fixed rules.breaks12 0x5D refl))
-    (takes_sequence_end rules anchor tag items levels)
-    (takes_to rules (within (in_sequence anchor tag items ∷ levels) entry_awaited) (with_tree levels (sequence_tree anchor tag items))
-    (0x5D ∷ []) (symbol 0x5D ∷ []) (says_indicator rules.breaks12 0x5D (class_fixed rules.breaks12 0x5D refl)) refl)
+    closes rules s _ _ square 0x5D column cursor refl (indicator_ends _ 0x5D [] (class_fixed rules.breaks12 0x5D refl))
+    (takes_sequence_end rules anchor tag items levels) (takes_to rules _ _ _ _ (says_indicator _ 0x5D (class_fixed rules.breaks12 0x5D refl)) refl)
 
 -- and a mapping
 pub mapping_ends : (rules : Rules) (s : Effective) (anchor tag : Option Text) (pairs : TreePairs) (levels : List OpenFlow) (column : Option ℕ) (cursor : Cursor)
     → FlowEnd rules (render_end s curly true false column cursor) (in_mapping anchor tag pairs no_key ∷ levels)
     (with_tree levels (mapping_tree anchor tag pairs))
 mapping_ends rules s anchor tag pairs levels column cursor =
-    closes rules s (in_mapping anchor tag pairs no_key ∷ levels) (with_tree levels (mapping_tree anchor tag pairs)) curly 0x7D column cursor refl
-    (indicator_ends rules.breaks12 0x7D [] (class_fixed rules.breaks12 0x7D refl))
-    (takes_mapping_end rules anchor tag pairs levels)
-    (takes_to rules (within (in_mapping anchor tag pairs no_key ∷ levels) entry_awaited) (with_tree levels (mapping_tree anchor tag pairs))
-    (0x7D ∷ []) (symbol 0x7D ∷ []) (says_indicator rules.breaks12 0x7D (class_fixed rules.breaks12 0x7D refl)) refl)
+    closes rules s _ _ curly 0x7D column cursor refl (indicator_ends _ 0x7D [] (class_fixed rules.breaks12 0x7D refl))
+    (takes_mapping_end rules anchor tag pairs levels) (takes_to rules _ _ _ _ (says_indicator _ 0x7D (class_fixed rules.breaks12 0x7D refl)) refl)

@@ -89,9 +89,8 @@ white_passes : (rules : Rules) (reading : FlowReading) (text : Text) → flow_st
     → is_white_text text ≡ true → Passes rules reading text reading
 white_passes rules reading [] one two h = passes_nothing rules reading
 white_passes rules reading (c ∷ text) one two h =
-    let parts = and_parts (c == space || c == line_feed) (is_white_text text) h in
-    passes_both (white_passes_one rules reading reading c one two parts.0)
-    (white_passes rules reading text one two parts.1)
+    let parts = and_parts _ _ h in
+    passes_both (white_passes_one rules reading reading c one two parts.0) (white_passes rules reading text one two parts.1)
 
 -- white space before an entry
 pub passes_entry_white : (rules : Rules) (levels : List OpenFlow) (text : Text) → is_white_text text ≡ true

@@ -100,9 +100,8 @@ stays_at breaks12 c h = grind (arith, or_parts)
 pub plain_stays : (breaks12 : Bool) (t : Text) → holds_no_plain breaks12 true t ≡ false → all_stay breaks12 t ≡ true
 plain_stays breaks12 [] h = refl
 plain_stays breaks12 (c ∷ t) h =
-    let parts = or_parts ((c == 58 && begins_white breaks12 t) || (is_read_white breaks12 c && begins_with_hash t) || is_among (codes ",?:[]{}") c)
-    (holds_no_plain breaks12 true t) h in
-    let symbol = or_parts ((c == 58 && begins_white breaks12 t) || (is_read_white breaks12 c && begins_with_hash t)) (is_among (codes ",?:[]{}") c) parts.0 in
+    let parts = or_parts _ _ h in
+    let symbol = or_parts _ _ parts.0 in
     ap (λ x. x && all_stay breaks12 t) (stays_at breaks12 c symbol.1) ∙ plain_stays breaks12 t parts.1
 
 -- a character that isn't white is of no white class
@@ -120,7 +119,5 @@ pub plain_word : (breaks12 : Bool) (before : Text) (c : ℕ) (t rest v : Text) �
     → GivesWord breaks12 (in_plain (before ++ (c ∷ [])) []) (before ++ (c ∷ [])) t rest
 plain_word breaks12 before c t rest v read clean ends =
     let holds = (reads_plain breaks12 true c t v read).1 in
-    plain_text_word breaks12 before c t rest
-    (and_parts (stays_plain (class_of breaks12 c)) (all_stay breaks12 t) (plain_stays breaks12 (c ∷ t) holds)).1
-    (clean_shown breaks12 c t (not-true (ends_white breaks12 (c ∷ t)) (and_parts (not (is_read_white breaks12 c)) (not (ends_white breaks12 (c ∷ t))) clean).1))
-    ends
+    plain_text_word breaks12 before c t rest (and_parts _ _ (plain_stays breaks12 (c ∷ t) holds)).1
+    (clean_shown breaks12 c t (not-true (ends_white breaks12 (c ∷ t)) (and_parts _ _ clean).1)) ends

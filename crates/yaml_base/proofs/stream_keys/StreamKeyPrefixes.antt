@@ -62,10 +62,9 @@ plain_marker c t after symbol h k = grind (arith, nat_tests)
 -- what plain text begins with
 pub plain_prefix : (breaks12 : Bool) (c : ℕ) (t : Text) → begins_no_plain breaks12 (c ∷ t) ≡ false → Begins c → KeyPrefix (c ∷ t)
 plain_prefix breaks12 c t h b =
-    let outer = or_parts (begins_with_three 45 (c ∷ t) || begins_with_three 46 (c ∷ t) || is_among (codes "#,[]{}&*!|>'\"%@`") c)
-    (is_among (codes "?:-") c && begins_white breaks12 t) h in
-    let inner = or_parts (begins_with_three 45 (c ∷ t) || begins_with_three 46 (c ∷ t)) (is_among (codes "#,[]{}&*!|>'\"%@`") c) outer.0 in
-    let three = or_parts (begins_with_three 45 (c ∷ t)) (begins_with_three 46 (c ∷ t)) inner.0 in
+    let outer = or_parts _ _ h in
+    let inner = or_parts _ _ outer.0 in
+    let three = or_parts _ _ inner.0 in
     record {
       first = c;
       tail = t;
@@ -82,8 +81,7 @@ plain_prefix breaks12 c t h b =
         (plain_marker c t after 0x2D refl dash)
     by symbol member false e dash dot after =
         subst (λ n. begins_with_marker n ((c ∷ t) ++ (0x3A ∷ after)) ≡ false) (sym (eqb-true symbol 0x2E
-        (dotted (symbol == 0x2E) (ap (λ x. x || ((symbol == 0x2E) || false)) (sym e) ∙ member))))
-        (plain_marker c t after 0x2E refl dot)
+        (dotted (symbol == 0x2E) (ap (λ x. x || ((symbol == 0x2E) || false)) (sym e) ∙ member)))) (plain_marker c t after 0x2E refl dot)
       where
         dotted : (x : Bool) → (x || false) ≡ true → x ≡ true
         dotted true h = refl

@@ -119,13 +119,11 @@ scalar_fits s own directives content role column cursor text named stands simple
     let properties = render_properties s.portable directives content.anchor tag choice.bare cursor in
     let separation = render_separation choice.style true content.value properties.cursor in
     let body = (render_body choice.style s None (deeper s.indent (Some column)) content.value separation.cursor).text in
-    subst (KeyText s.breaks12)
-    (sym (cancelled cursor text (lead content.anchor (tag_written s.portable directives tag choice.bare) ++ body)
-    (scalar_own s directives place true content cursor).text e
+    subst (KeyText s.breaks12) (sym (cancelled cursor text _ _ e
     (scalar_whole s.portable directives content.anchor tag choice.bare choice.style content.value cursor body)))
     (subst (λ t. KeyText s.breaks12 (lead content.anchor (tag_written s.portable directives tag choice.bare) ++ t))
-    (sym (body_alone s choice.style (deeper s.indent (Some column)) content.value separation.cursor (key_style s true role column content) simple.whole))
-    (scalar_key_text s own directives content choice.style choice.bare named stands simple))
+    (sym (body_alone s _ (deeper s.indent (Some column)) _ separation.cursor (key_style s true role column content) simple.whole))
+    (scalar_key_text s own _ content choice.style choice.bare named stands simple))
 
 -- each simple key in flow
 pub keys_fit : (s : Effective) (own directives : List TagDirective) → KeysFit s own directives

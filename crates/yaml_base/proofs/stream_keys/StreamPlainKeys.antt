@@ -38,8 +38,7 @@ plain_style c t b = rw (b.single, b.double, b.literal, b.folded) refl
 pub plain_no_key : (rules : Rules) (before t after : Text) → holds_no_plain rules.breaks12 false t ≡ false → NoKey rules before t after
 plain_no_key rules before [] after h = tt
 plain_no_key rules before (c ∷ t) after h =
-    let parts = or_parts ((c == 58 && begins_white rules.breaks12 t) || (is_read_white rules.breaks12 c && begins_with_hash t) || false)
-    (holds_no_plain rules.breaks12 false t) h in
+    let parts = or_parts _ _ h in
     grind (arith, or_parts, and_parts, false≢true, true≢false, eqb-true, plain_no_key rules (before ++ (c ∷ [])) t after parts.1)
 
 -- what reads as plain begins so and holds no such indicator

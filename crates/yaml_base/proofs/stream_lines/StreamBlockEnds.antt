@@ -128,15 +128,13 @@ pub last_is_read : (charset : Charset) (value : Text) (end : EndsBreak value) �
     → is_read_break charset.breaks12 end.last ≡ true
 last_is_read charset value end allowed =
     let nowhere =
-    (or_parts (is_empty value || begins_with_blanks_alone value) (somewhere (bars_literal charset) value) (not-true _ allowed)).1 in
+    (or_parts _ _ (not-true _ allowed)).1 in
     let bars = nowhere_last (bars_literal charset) end.prefix end.last (ap (somewhere (bars_literal charset)) (sym end.is) ∙ nowhere) in
-    let but_tab = (or_parts (is_special_but_tab charset end.last) (is_break end.last && false) bars).0 in
+    let but_tab = (or_parts _ _ bars).0 in
     let special = ap (λ x. not x && is_special charset end.last) (sym (break_no_tab end.last end.breaks)) ∙ but_tab in
     let parts =
-    or_parts (not (is_printable end.last) || (not charset.unicode && not (is_ascii end.last)))
-    (charset.breaks12 && (end.last == line_separator || end.last == paragraph_separator)) special in
-    by charset.breaks12 end.last end.breaks
-    (not-false (is_printable end.last) (or_parts (not (is_printable end.last)) (not charset.unicode && not (is_ascii end.last)) parts.0).0) parts.1
+    or_parts _ _ special in
+    by charset.breaks12 end.last end.breaks (not-false (is_printable end.last) (or_parts _ _ parts.0).0) parts.1
   where
     by : (breaks12 : Bool) (b : ℕ) → is_break b ≡ true → is_printable b ≡ true → (breaks12 && (b == line_separator || b == paragraph_separator)) ≡ false
         → is_read_break breaks12 b ≡ true

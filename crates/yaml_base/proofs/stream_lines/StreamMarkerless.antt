@@ -67,17 +67,12 @@ pair_markerless true rules s directives pairs key value fit =
     let k = (simple_key pairs key s directives 0).text in
     let v = simple_value pairs key value s directives 0 in
     let o = fit.1.opens refl in
-    ap (λ ls. list_all (λ line. is_markerless (marker_of line.text)) ls)
-    (keyed_lines rules k (closed v) (node_tree key s directives (key_place pairs 0)) 0 fit.0 o)
-    ∙ and_from (is_markerless (marker_of (k ++ (0x3A ∷ o.head)))) (list_all (λ line. is_markerless (marker_of line.text)) o.rest)
-    (fit.0.markerless o.head o.symbol)
-    (all_markerless false o.rest
-    (rest_inside rules (size value) v (node_tree value s directives (value_place true 0)) (as_value true)
-    (colon_cursor (simple_key pairs key s directives 0).cursor) 0 fit.1 refl false 0 (omega arith)))
+    ap (λ ls. list_all (λ line. is_markerless (marker_of line.text)) ls) (keyed_lines rules k _ _ 0 fit.0 o)
+    ∙ and_from _ _ (fit.0.markerless o.head o.symbol) (all_markerless false o.rest (rest_inside rules _ v _ _ _ 0 fit.1 refl false 0 (omega arith)))
 pair_markerless false rules s directives pairs key value fit =
     let k = indicated_key pairs key s directives 0 in
     let v = indicated_value value s directives 0 in
-    ap (λ ls. list_all (λ line. is_markerless (marker_of line.text)) ls) (indicated_pair_lines rules s directives pairs key value 0 fit)
+    ap (λ ls. list_all (λ line. is_markerless (marker_of line.text)) ls) (indicated_pair_lines rules s _ pairs key value 0 fit)
     ∙ markerless_both (lines_of rules.breaks12 (spaces 0 ++ (0x3F ∷ closed k))) (lines_of rules.breaks12 (spaces 0 ++ (0x3A ∷ closed v)))
     (indicated_markerless rules (size key) k (node_tree key s directives (key_place pairs 0)) (as_key (has_no_pairs pairs)) 0x3F fit.0
     (unbroken_line rules.breaks12 (0x3F ∷ []) refl) question_markerless)

@@ -24,9 +24,8 @@ deep_line_fewer breaks12 m n t le h = grind (arith, and_parts, and_from, spaces_
 pub deep_lines_fewer : (breaks12 : Bool) (m n : ℕ) (t : Text) → m ≤ n → has_deep_lines breaks12 n t ≡ true → has_deep_lines breaks12 m t ≡ true
 deep_lines_fewer breaks12 m n [] le h = refl
 deep_lines_fewer breaks12 m n (c ∷ t) le h =
-    let parts = and_parts (not (is_read_break breaks12 c) || begins_with_deep_line breaks12 n t) (has_deep_lines breaks12 n t) h in
-    and_from (not (is_read_break breaks12 c) || begins_with_deep_line breaks12 m t) (has_deep_lines breaks12 m t)
-    (by (is_read_break breaks12 c) parts.0) (deep_lines_fewer breaks12 m n t le parts.1)
+    let parts = and_parts _ _ h in
+    and_from _ _ (by (is_read_break breaks12 c) parts.0) (deep_lines_fewer breaks12 m n t le parts.1)
   where
     by : (x : Bool) → (not x || begins_with_deep_line breaks12 n t) ≡ true → (not x || begins_with_deep_line breaks12 m t) ≡ true
     by true h = deep_line_fewer breaks12 m n t le h
@@ -40,8 +39,7 @@ tidy_at_root style breaks12 (Some column) text h =
     let parts = and_parts (list_all (is_tidy_character style) text && has_deep_lines breaks12 (suc column) text) (is_tidy_style style breaks12 text) h in
     let both = and_parts (list_all (is_tidy_character style) text) (has_deep_lines breaks12 (suc column) text) parts.0 in
     and_from (list_all (is_tidy_character style) text && has_deep_lines breaks12 1 text) (is_tidy_style style breaks12 text)
-    (and_from (list_all (is_tidy_character style) text) (has_deep_lines breaks12 1 text) both.0 (deep_lines_fewer breaks12 1 (suc column) text (omega arith) both.1))
-    parts.1
+    (and_from _ _ both.0 (deep_lines_fewer breaks12 1 (suc column) text (omega arith) both.1)) parts.1
 
 -- Lines
 

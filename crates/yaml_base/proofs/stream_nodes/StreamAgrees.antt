@@ -97,7 +97,7 @@ tagging_is : (s : Effective) (place : Place) (simple : Bool) (content : Scalar) 
 tagging_is s place simple content (Some tag) e flags = same_text tag
 tagging_is s place simple content None e flags =
     ap (λ t. may_stand content (standing_in (style t) (not (is_some t) && not content.quoted_implicit && not (is_plain (style t))))) e
-    ∙ stands content (style None) fits flags
+    ∙ stands content _ fits flags
   where
     allowed : Allowances
     allowed = allowed_under s content
@@ -113,9 +113,7 @@ tagging_is s place simple content None e flags =
     fits : is_plain (style None) ≡ true → content.plain_implicit ≡ true
     fits h =
         (and_parts ((if place.in_flow then allowed.flow_plain else allowed.block_plain) && not (is_empty content.value && (place.in_flow || simple)))
-        (false || content.plain_implicit)
-        (plain_fits allowed (fit None) (allowed.block && not place.in_flow && not simple)
-        (requested_style (s.canonical || (simple && allowed.multiline)) (style_asked_at s place content)) h)).1
+        (false || content.plain_implicit) (plain_fits allowed _ _ _ h)).1
 
 -- the tree of a node agrees with it
 mutual
@@ -134,17 +132,16 @@ mutual
       → trees_agree s.canonical items (nodes_tree items s directives in_flow) ≡ true
   nodes_agree no_nodes s directives in_flow h = refl
   nodes_agree (nodes_and items last) s directives in_flow h =
-      let parts = and_parts (nodes_are_tagged s.canonical items) (node_is_tagged s.canonical last) h in
+      let parts = and_parts _ _ h in
       let place = entry_place in_flow (as_item (has_no_nodes items)) 0 in
-      and_from (trees_agree s.canonical items (nodes_tree items s directives in_flow)) (tree_agrees s.canonical last (node_tree last s directives place))
-      (nodes_agree items s directives in_flow parts.0) (node_agrees last s directives place parts.1)
+      and_from _ _ (nodes_agree items s directives in_flow parts.0) (node_agrees last s directives place parts.1)
 
   pub pairs_agree : (pairs : Pairs) (s : Effective) (directives : List TagDirective) (in_flow : Bool) → pairs_are_tagged s.canonical pairs ≡ true
       → tree_pairs_agree s.canonical pairs (pairs_tree pairs s directives in_flow) ≡ true
   pairs_agree no_pairs s directives in_flow h = refl
   pairs_agree (pairs_and pairs key value) s directives in_flow h =
-      let parts = and_parts (pairs_are_tagged s.canonical pairs && node_is_tagged s.canonical key) (node_is_tagged s.canonical value) h in
-      let before = and_parts (pairs_are_tagged s.canonical pairs) (node_is_tagged s.canonical key) parts.0 in
+      let parts = and_parts _ _ h in
+      let before = and_parts _ _ parts.0 in
       let key_place = entry_place in_flow (as_key (has_no_pairs pairs)) 0 in
       let value_place = entry_place in_flow (as_value (is_simple s.canonical directives key)) 0 in
       let each = node_agrees key s directives key_place before.1 in

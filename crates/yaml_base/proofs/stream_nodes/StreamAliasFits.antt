@@ -99,9 +99,8 @@ named_fits : (rules : Rules) (n : ℕ) (t : Text) (place : Place) (cursor : Curs
 named_fits rules n t place cursor count name spaced some =
     let word = 0x2A ∷ n ∷ t in
     let same = alias_text n t cursor count spaced in
-    text_fits rules (render_alias (n ∷ t) false cursor) place cursor count (word ++ (line_feed ∷ [])) (alias_tree (n ∷ t))
-    (same ∙ append_assoc (spaces count) word (line_feed ∷ []))
-    (ap (is_closed rules.breaks12) same ∙ below_ends rules.breaks12 (spaces count ++ word) [] refl) (λ h. absurd (false≢true h)) some
+    text_fits rules _ place cursor count _ _ (same ∙ append_assoc (spaces count) word (line_feed ∷ []))
+    (ap (is_closed rules.breaks12) same ∙ below_ends _ (spaces count ++ word) [] refl) (λ h. absurd (false≢true h)) some
     (alias_reads rules place.column n t name)
 
 -- an alias that is no simple key fits

@@ -67,17 +67,14 @@ properties_begun : (s : Effective) (own directives : List TagDirective) (anchor 
     → Said (rules_of s own) anchor tag cursor (render_properties s.portable directives anchor tag false cursor)
 properties_begun s own directives anchor tag cursor c t named stands is shows dash question begins =
     let no_key : key_from (rules_of s own) [] (c ∷ t) ≡ None =
-    nowhere_alone (rules_of s own) [] (c ∷ t)
-    (subst (KeyNowhere (rules_of s own) []) is
-    (properties_nowhere (rules_of s own) anchor (tag_written s.portable directives tag false) (tag_meant tag false) named
-    (tag_is_written s.portable own directives tag false stands))) in
+    nowhere_alone _ [] (c ∷ t) (subst (KeyNowhere (rules_of s own) []) is (properties_nowhere _ anchor _ _ named (tag_is_written _ own _ tag false stands))) in
     let kind : kind_of_node (rules_of s own) (c ∷ t) ≡ begins_text =
     ap (λ x. if x && ends_indicator t then begins_sequence
     else (if (c == 0x3F && ends_indicator t) || is_some (key_of_line (rules_of s own) (c ∷ t)) then begins_mapping else begins_text)) dash
     ∙ ap (λ x. if (x && ends_indicator t) || is_some (key_of_line (rules_of s own) (c ∷ t)) then begins_mapping else begins_text) question
     ∙ ap (λ x. if is_some x then begins_mapping else begins_text) no_key in
     let written = tag_written s.portable directives tag false in
-    let tagged = tag_is_written s.portable own directives tag false stands in
+    let tagged = tag_is_written _ own _ tag false stands in
     let count = length (properties_text anchor written) + 0 in
     record {
       count = before_count cursor.whitespace;
@@ -107,11 +104,9 @@ begun_kind s own directives None None cursor named stands = unsaid refl refl ref
 begun_kind s own directives (Some name) None cursor named stands =
     is_parsed (properties_begun s own directives (Some name) None cursor 0x26 name named stands refl refl refl refl refl)
 begun_kind s own directives None (Some tag) cursor named stands =
-    is_parsed (properties_begun s own directives None (Some tag) cursor 0x21 stands.rest named stands stands.begins refl refl refl refl)
+    is_parsed (properties_begun s own _ None _ cursor 0x21 _ named stands stands.begins refl refl refl refl)
 begun_kind s own directives (Some name) (Some tag) cursor named stands =
-    is_parsed
-    (properties_begun s own directives (Some name) (Some tag) cursor 0x26 (name ++ (space ∷ spelled s.portable (spelling directives tag))) named stands
-    refl refl refl refl refl)
+    is_parsed (properties_begun s own _ _ _ cursor 0x26 _ named stands refl refl refl refl refl)
 
 -- the properties of a collection whose names stand
 pub begun_reads : (s : Effective) (own directives : List TagDirective) (start : Collection) (cursor : Cursor) → IsNamed start.anchor

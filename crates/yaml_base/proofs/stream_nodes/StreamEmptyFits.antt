@@ -71,9 +71,8 @@ parsed_fits_nothing rules place anchor tag cursor begun parsed =
     let word = parsed.head ∷ parsed.tail in
     let same : closed (emptied begun) ≡ (spaces parsed.count ++ word) ++ (line_feed ∷ []) =
     ap (λ t. t ++ (line_feed ∷ [])) (append-nil (begun.text ++ []) ∙ append-nil begun.text ∙ parsed.text) in
-    text_fits rules (emptied begun) place cursor parsed.count (word ++ (line_feed ∷ [])) (scalar_in anchor tag plain false [])
-    (same ∙ append_assoc (spaces parsed.count) word (line_feed ∷ []))
-    (ap (is_closed rules.breaks12) same ∙ below_ends rules.breaks12 (spaces parsed.count ++ word) [] refl) (λ h. absurd (false≢true h)) parsed.some
+    text_fits rules _ place cursor _ _ _ (same ∙ append_assoc (spaces parsed.count) word (line_feed ∷ []))
+    (ap (is_closed rules.breaks12) same ∙ below_ends _ (spaces parsed.count ++ word) [] refl) (λ h. absurd (false≢true h)) parsed.some
     (parsed_reads_nothing rules place.column anchor tag cursor begun parsed)
 
 -- an empty plain scalar fits

@@ -69,8 +69,7 @@ tree_anywhere (mapping_node start pairs) s directives in_flow role c d = refl
 pub indicated_lines : (breaks12 : Bool) (e c : ℕ) (t : Text) (o : Opens breaks12 t) → OneLine breaks12 (c ∷ [])
     → lines_of breaks12 (spaces e ++ (c ∷ t)) ≡ record { text = spaces e ++ (c ∷ o.head); ending = o.ending } ∷ o.rest
 indicated_lines breaks12 e c t o one =
-    lines_behind breaks12 (spaces e) (c ∷ t) (c ∷ o.head) o.ending o.rest (spaces_line breaks12 e)
-    (lines_behind breaks12 (c ∷ []) t o.head o.ending o.rest one o.is)
+    lines_behind breaks12 _ (c ∷ t) _ o.ending o.rest (spaces_line breaks12 e) (lines_behind breaks12 (c ∷ []) t o.head o.ending o.rest one o.is)
 
 -- the lines of the text alone, where the indicator is blanked
 pub blanked_lines : (breaks12 : Bool) (k : ℕ) (t : Text) (o : Opens breaks12 t) → lines_of breaks12 (spaces k ++ t) ≡ blanked k o.head o.ending ∷ o.rest

@@ -117,8 +117,8 @@ mutual
       (is_written_in_flow s place start (has_no_nodes items))
       (λ h. flows (sequence_node start items) role column cursor may h simple stands names bodies)
       (λ h. (
-        begun_reads s own directives start cursor names.0 names.1,
-        items_stand items s own directives scalars flows keys (no_canonical s start (has_no_nodes items) h) e begun.cursor names.2 (rw h at bodies),
+        begun_reads s own _ start cursor names.0 names.1,
+        items_stand items s own directives scalars flows keys (no_canonical s start _ h) e begun.cursor names.2 (rw h at bodies),
       ))
   leaves_stand (mapping_node start pairs) s own directives scalars flows keys role column cursor may simple stands names bodies =
       let place = block_place role column in
@@ -154,8 +154,7 @@ mutual
     pair_leaves s own directives keys pairs key value e (pairs_own pairs s directives false e cursor).cursor names.1
         (is_simple s.canonical directives key) refl (hold.1, hold.2)
         (λ h bodies. leaves_stand key s own directives scalars flows keys (as_key (has_no_pairs pairs)) (Some e) (indicator_cursor e)
-        (may_stand s (Some e) block) h
-        (refl, λ i. refl) names.1 bodies)
+        (may_stand s (Some e) block) h (refl, λ i. refl) names.1 bodies)
         (λ y at stands bodies. leaves_stand value s own directives scalars flows keys (as_value y) (Some e) at
         (may_stand s (Some e) block) refl stands names.2 bodies),
   )

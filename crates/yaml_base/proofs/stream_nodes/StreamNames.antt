@@ -26,10 +26,9 @@ pub all_good : (canonical : Bool) (events : List Event) → list_all (is_sound c
     → list_all (is_good canonical) events ≡ true
 all_good canonical [] h k = refl
 all_good canonical (event ∷ rest) h k =
-    let sound = and_parts (is_sound canonical event) (list_all (is_sound canonical) rest) h in
-    let texts = and_parts (has_scalar_texts event) (list_all has_scalar_texts rest) k in
-    and_from (is_good canonical event) (list_all (is_good canonical) rest)
-    (and_from (is_sound canonical event) (has_scalar_texts event) sound.0 texts.0) (all_good canonical rest sound.1 texts.1)
+    let sound = and_parts _ _ h in
+    let texts = and_parts _ _ k in
+    and_from _ _ (and_from _ _ sound.0 texts.0) (all_good canonical rest sound.1 texts.1)
 
 -- no fault of such an event is returned
 pub no_faults : (canonical : Bool) (event : Event) → is_good canonical event ≡ true

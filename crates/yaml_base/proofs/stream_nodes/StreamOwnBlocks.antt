@@ -85,10 +85,9 @@ own_block rules column l u v tidy read = record {
   no_item = grind (arith);
   no_key = grind (arith);
   keyless = λ anchor tag parsed given.
-      first_passes rules (lead anchor tag) (first_text (lines_of rules.breaks12 u)) (block_indicator l) (grind (arith))
-      (nowhere_alone rules (lead anchor tag ++ (block_indicator l ∷ [])) (first_text (lines_of rules.breaks12 u))
+      first_passes rules (lead anchor tag) (first_text (lines_of rules.breaks12 u)) (block_indicator l) (grind (arith)) (nowhere_alone rules _ _
       (header_nowhere rules l anchor tag parsed [] u given refl));
-  deeper = lines_deeper rules.breaks12 column (block_indicator l) u (indicators_go_on rules.breaks12 l)
+  deeper = lines_deeper _ column _ u (indicators_go_on rules.breaks12 l)
       (tidy_deep (block_style l) rules.breaks12 column (block_indicator l ∷ u) tidy);
   read = λ properties. grind (arith, nat_tests);
 }

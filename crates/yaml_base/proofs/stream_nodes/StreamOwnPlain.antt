@@ -29,24 +29,22 @@ plain_keyless rules before (c ∷ t) h = by (is_read_break rules.breaks12 c) ref
     parts : (((c == 58 && begins_white rules.breaks12 t) || (is_read_white rules.breaks12 c && begins_with_hash t) || false) ≡ false) ×
         (holds_no_plain rules.breaks12 false t ≡ false)
     parts =
-        or_parts ((c == 58 && begins_white rules.breaks12 t) || (is_read_white rules.breaks12 c && begins_with_hash t) || false)
-        (holds_no_plain rules.breaks12 false t) h
+        or_parts _ _ h
 
     colon : (c == 58 && begins_white rules.breaks12 t) ≡ false
     colon =
-        (or_parts (c == 58 && begins_white rules.breaks12 t) (is_read_white rules.breaks12 c && begins_with_hash t)
-        (or_parts ((c == 58 && begins_white rules.breaks12 t) || (is_read_white rules.breaks12 c && begins_with_hash t)) false parts.0).0).0
+        (or_parts _ _ (or_parts _ false parts.0).0).0
 
     no_end : (x : Bool) → (c == 0x3A) ≡ x → (y : Bool) → ends_indicator (first_text (lines_of rules.breaks12 (t ++ feed))) ≡ y → (x && y) ≡ false
     no_end false e y k = refl
     no_end true e false k = refl
-    no_end true e true k = absurd (true≢false (sym (ap (λ x. x && begins_white rules.breaks12 t) e ∙ ends_begins rules.breaks12 t k) ∙ colon))
+    no_end true e true k = absurd (true≢false (sym (ap (λ x. x && begins_white rules.breaks12 t) e ∙ ends_begins _ t k) ∙ colon))
 
     by : (x : Bool) → is_read_break rules.breaks12 c ≡ x → key_from rules (before ++ (c ∷ [])) (first_text (lines_of rules.breaks12 (t ++ feed))) ≡ None
         → key_from rules before (first_text (lines_of rules.breaks12 ((c ∷ t) ++ feed))) ≡ None
     by true e more = ap (λ x. key_from rules before (first_text (prepend_character x c (lines_of rules.breaks12 (t ++ feed))))) e
     by false e more =
-        ap (key_from rules before) (first_after rules.breaks12 c (t ++ feed) e)
+        ap (key_from rules before) (first_after _ c (t ++ feed) e)
         ∙ ap (λ x. option_or (key_ends rules x before (first_text (lines_of rules.breaks12 (t ++ feed))))
         (key_from rules (before ++ (c ∷ [])) (first_text (lines_of rules.breaks12 (t ++ feed)))))
         (no_end (c == 0x3A) refl (ends_indicator (first_text (lines_of rules.breaks12 (t ++ feed)))) refl)

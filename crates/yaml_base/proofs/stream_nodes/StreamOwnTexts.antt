@@ -109,11 +109,10 @@ parsed_reads rules reads column at anchor tag parsed c f ending rest given conte
         let count = length (properties_text anchor tag) + lead_spaces anchor tag in
         let properties : Properties = record { anchor = anchor; tag = parsed } in
         ap (λ t. after_properties rules reads column at ending rest (properties_read rules.directives t)) (lead_then anchor tag (c ∷ f))
-        ∙ ap (after_properties rules reads column at ending rest)
-        (properties_parsed rules.directives anchor tag parsed (lead_spaces anchor tag) (c ∷ f) given.named given.tagged content
+        ∙ ap (after_properties rules reads column at ending rest) (properties_parsed _ anchor tag parsed _ (c ∷ f) given.named given.tagged content
         (λ h. ap (λ x. ends_indicator (spaces (if x then 1 else 0) ++ (c ∷ f))) has))
         ∙ ap (λ t. node_lines rules reads (λ at. text_read rules column properties) properties false (record { text = t; ending = ending } ∷ rest))
-        (spaces_both at count (at + count) (c ∷ f) refl)
+        (spaces_both at count _ (c ∷ f) refl)
         ∙ behind_reads rules reads column properties (at + count) c f ending rest shown.0 kind
 
     by : (anchor tag : Option Text) (parsed : Option ParsedTag) → Given rules anchor tag parsed

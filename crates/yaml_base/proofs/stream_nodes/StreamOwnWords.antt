@@ -43,9 +43,8 @@ deep_line_more breaks12 n t h = grind (arith, nat_tests, and_parts, and_from, sp
 pub deep_more : (breaks12 : Bool) (n : ℕ) (t : Text) → has_deep_lines breaks12 n t ≡ true → has_deep_lines breaks12 n (t ++ feed) ≡ true
 deep_more breaks12 n [] h = refl
 deep_more breaks12 n (c ∷ t) h =
-    let parts = and_parts (not (is_read_break breaks12 c) || begins_with_deep_line breaks12 n t) (has_deep_lines breaks12 n t) h in
-    and_from (not (is_read_break breaks12 c) || begins_with_deep_line breaks12 n (t ++ feed)) (has_deep_lines breaks12 n (t ++ feed))
-    (by (is_read_break breaks12 c) parts.0) (deep_more breaks12 n t parts.1)
+    let parts = and_parts _ _ h in
+    and_from _ _ (by (is_read_break breaks12 c) parts.0) (deep_more breaks12 n t parts.1)
   where
     by : (x : Bool) → (not x || begins_with_deep_line breaks12 n t) ≡ true → (not x || begins_with_deep_line breaks12 n (t ++ feed)) ≡ true
     by true h = deep_line_more breaks12 n t h

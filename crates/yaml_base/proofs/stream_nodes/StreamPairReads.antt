@@ -61,13 +61,12 @@ keyed rules text key_tree n own tree role e cursor key fit w i depth deep pairs 
     let o = fit.opens w in
     let before : HeldPairs = record { pairs = pairs; key = None } in
     let line = text ++ (0x3A ∷ o.head) in
-    ap (entry_read rules (node_read depth rules) e (held pairs None)) (keyed_lines rules text (closed own) key_tree e key o)
+    ap (entry_read rules (node_read depth rules) e (held pairs None)) (keyed_lines rules text _ key_tree e key o)
     ∙ ap (entry_at rules (node_read depth rules) e o.ending o.rest before) (past_spaces e line)
     ∙ ap (λ k. entry_by_kind k rules (node_read depth rules) e o.ending o.rest before line) (key.simple o.head o.symbol)
     ∙ ap (option_and_then (λ (found : SimpleKey). simple_pair (node_read depth rules) e o.ending o.rest (with_key before (Some found.key)) (Some found)))
     (key.cut o.head o.symbol)
-    ∙ ap (λ ls. with_held_value pairs (Some key_tree) (node_read depth rules false (Some e) ls))
-    (sym (blanked_lines rules.breaks12 (suc (e + length text)) (closed own) o))
+    ∙ ap (λ ls. with_held_value pairs (Some key_tree) (node_read depth rules false (Some e) ls)) (sym (blanked_lines _ (suc (e + length text)) _ o))
     ∙ ap (with_held_value pairs (Some key_tree)) (fit.reads depth deep false (suc (e + length text)) (λ h. absurd (false≢true (sym i ∙ h))))
 
 -- no cursor stands in indentation behind the `:` of a simple key
@@ -83,18 +82,14 @@ pair_reads : (x : Bool) (rules : Rules) (s : Effective) (directives : List TagDi
     (held (tree_pairs_and before (node_tree key s directives (key_place pairs e)) (node_tree value s directives (value_place x e))) None) rest
 pair_reads true rules s directives pairs key value e fit depth deep_key deep_value before rest =
     let own = simple_key pairs key s directives e in
-    ap (λ h. fold (entry_read rules (node_read depth rules) e) h rest)
-    (keyed rules own.text (node_tree key s directives (key_place pairs e)) (size value) (simple_value pairs key value s directives e)
-    (node_tree value s directives (value_place true e))
-    (as_value true) e (colon_cursor own.cursor) fit.0 fit.1 refl (colon_ends own.cursor) depth deep_value before)
+    ap (λ h. fold (entry_read rules (node_read depth rules) e) h rest) (keyed rules own.text _ _ _ _
+    _ e _ fit.0 fit.1 refl (colon_ends own.cursor) depth deep_value before)
 pair_reads false rules s directives pairs key value e fit depth deep_key deep_value before rest =
     let k = node_tree key s directives (key_place pairs e) in
     ap (λ h. fold (entry_read rules (node_read depth rules) e)
     (entry_read rules (node_read depth rules) e h (lines_of rules.breaks12 (spaces e ++ (0x3A ∷ closed (indicated_value value s directives e))))) rest)
-    (question rules (size key) (indicated_key pairs key s directives e) k (as_key (has_no_pairs pairs)) e fit.0 depth deep_key before)
-    ∙ ap (λ h. fold (entry_read rules (node_read depth rules) e) h rest)
-    (colon rules (size value) (indicated_value value s directives e) (node_tree value s directives (value_place false e))
-    (as_value false) e fit.1 depth deep_value before k)
+    (question rules _ _ k _ e fit.0 depth deep_key before)
+    ∙ ap (λ h. fold (entry_read rules (node_read depth rules) e) h rest) (colon rules _ _ _ _ e fit.1 depth deep_value before k)
 
 -- the entries of a mapping read as its pairs, whatever entries follow
 pub pairs_read_back : (rules : Rules) (s : Effective) (directives : List TagDirective) (pairs : Pairs) (e : ℕ) → PairsFit rules s directives pairs e

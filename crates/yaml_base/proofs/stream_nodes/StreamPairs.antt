@@ -99,8 +99,7 @@ PairsFit rules s directives (pairs_and pairs key value) e =
 pub keyed_lines : (rules : Rules) (text t : Text) (tree : Tree) (e : ℕ) → KeyFits rules text tree → (o : Opens rules.breaks12 t)
     → lines_of rules.breaks12 (spaces e ++ (text ++ (0x3A ∷ t))) ≡ record { text = spaces e ++ (text ++ (0x3A ∷ o.head)); ending = o.ending } ∷ o.rest
 keyed_lines rules text t tree e key o =
-    lines_behind rules.breaks12 (spaces e) (text ++ (0x3A ∷ t)) (text ++ (0x3A ∷ o.head)) o.ending o.rest (spaces_line rules.breaks12 e)
-    (lines_behind rules.breaks12 text (0x3A ∷ t) (0x3A ∷ o.head) o.ending o.rest key.one_line
+    lines_behind _ _ _ _ o.ending o.rest (spaces_line rules.breaks12 e) (lines_behind _ text _ _ o.ending o.rest key.one_line
     (lines_behind rules.breaks12 (0x3A ∷ []) t o.head o.ending o.rest (unbroken_line rules.breaks12 (0x3A ∷ []) refl) o.is))
 
 -- a key begins an entry
@@ -108,8 +107,7 @@ keyed_begins : (rules : Rules) (text after : Text) (tree : Tree) → KeyFits rul
     → begins_entry false (text ++ (0x3A ∷ after)) ≡ true
 keyed_begins rules text after tree key h =
     ap (λ t. begins_entry false (t ++ (0x3A ∷ after))) key.is
-    ∙ and_from (not (key.first == space)) (not (begins_with_indicator 0x2D ((key.first ∷ key.tail) ++ (0x3A ∷ after)))) (ap not key.shows)
-    (ap not (ap (λ t. begins_with_indicator 0x2D (t ++ (0x3A ∷ after))) (sym key.is) ∙ key.no_dash after h))
+    ∙ and_from _ _ (ap not key.shows) (ap not (ap (λ t. begins_with_indicator 0x2D (t ++ (0x3A ∷ after))) (sym key.is) ∙ key.no_dash after h))
 
 -- a place in a column is within those around
 within_less : (q : Bool) (d e : ℕ) (x : Bool) → d + rank q ≤ e → d + rank (q && x) ≤ e
@@ -127,9 +125,8 @@ indicated_inside : (rules : Rules) (n : ℕ) (own : Rendered) (tree : Tree) (rol
     → OneLine rules.breaks12 (c ∷ []) → (q : Bool) (d : ℕ) → d < e → AllInside q d (lines_of rules.breaks12 (spaces e ++ (c ∷ closed own)))
 indicated_inside rules n own tree role cursor e c fit w one q d h =
     let o = fit.opens w in
-    ap (λ ls. list_all (λ line. belongs_to_entry q d line.text) ls) (indicated_lines rules.breaks12 e c (closed own) o one)
-    ∙ and_from (belongs_to_entry q d (spaces e ++ (c ∷ o.head))) (list_all (λ line. belongs_to_entry q d line.text) o.rest) (inside_deeper q d e (c ∷ o.head) h)
-    (rest_inside rules n own tree role cursor e fit w q d (grind (arith, nat_tests)))
+    ap (λ ls. list_all (λ line. belongs_to_entry q d line.text) ls) (indicated_lines _ e c _ o one)
+    ∙ and_from _ _ (inside_deeper q d e (c ∷ o.head) h) (rest_inside rules n own tree role cursor e fit w q d (grind (arith, nat_tests)))
 
 -- they are one entry of a mapping
 indicated_splits : (rules : Rules) (n : ℕ) (own : Rendered) (tree : Tree) (role : Role) (cursor : Cursor) (e c : ℕ)
@@ -138,8 +135,7 @@ indicated_splits : (rules : Rules) (n : ℕ) (own : Rendered) (tree : Tree) (rol
     → Splits false e (lines_of rules.breaks12 (spaces e ++ (c ∷ closed own))) (lines_of rules.breaks12 (spaces e ++ (c ∷ closed own)) ∷ [])
 indicated_splits rules n own tree role cursor e c fit w one begins =
     let o = fit.opens w in
-    subst (λ ls. Splits false e ls (ls ∷ [])) (sym (indicated_lines rules.breaks12 e c (closed own) o one))
-    (splits_one false e (record { text = spaces e ++ (c ∷ o.head); ending = o.ending }) o.rest (outside false e (c ∷ o.head) (begins o.head))
+    subst (λ ls. Splits false e ls (ls ∷ [])) (sym (indicated_lines _ e c _ o one)) (splits_one false e _ o.rest (outside false e _ (begins o.head))
     (rest_inside rules n own tree role cursor e fit w false e (omega arith)))
 
 -- One pair
@@ -171,19 +167,13 @@ pair_splits true rules s directives pairs key value e fit =
     let k = (simple_key pairs key s directives e).text in
     let tree = node_tree key s directives (key_place pairs e) in
     let o = fit.1.opens refl in
-    subst (λ ls. Splits false e ls (ls ∷ [])) (sym (keyed_lines rules k (closed (simple_value pairs key value s directives e)) tree e fit.0 o))
-    (splits_one false e (record { text = spaces e ++ (k ++ (0x3A ∷ o.head)); ending = o.ending }) o.rest
-    (outside false e (k ++ (0x3A ∷ o.head)) (keyed_begins rules k o.head tree fit.0 o.symbol))
-    (rest_inside rules (size value) (simple_value pairs key value s directives e) (node_tree value s directives (value_place true e)) (as_value true)
-    (colon_cursor (simple_key pairs key s directives e).cursor) e fit.1 refl false e (omega arith)))
+    subst (λ ls. Splits false e ls (ls ∷ [])) (sym (keyed_lines rules k _ tree e fit.0 o)) (splits_one false e _ o.rest
+    (outside false e _ (keyed_begins rules k o.head tree fit.0 o.symbol)) (rest_inside rules _ _ _ _ _ e fit.1 refl false e (omega arith)))
 pair_splits false rules s directives pairs key value e fit =
     let k = spaces e ++ (0x3F ∷ closed (indicated_key pairs key s directives e)) in
     let v = spaces e ++ (0x3A ∷ closed (indicated_value value s directives e)) in
-    subst (λ ls. Splits false e ls (lines_of rules.breaks12 k ∷ lines_of rules.breaks12 v ∷ []))
-    (sym (indicated_pair_lines rules s directives pairs key value e fit))
-    (splits_both false e (lines_of rules.breaks12 k) (lines_of rules.breaks12 v) (lines_of rules.breaks12 k ∷ []) (lines_of rules.breaks12 v ∷ [])
-    (indicated_splits rules (size key) (indicated_key pairs key s directives e) (node_tree key s directives (key_place pairs e)) (as_key (has_no_pairs pairs))
-    (indicator_cursor e) e 0x3F fit.0 refl (unbroken_line rules.breaks12 (0x3F ∷ []) refl) (λ t. refl))
+    subst (λ ls. Splits false e ls (lines_of rules.breaks12 k ∷ lines_of rules.breaks12 v ∷ [])) (sym (indicated_pair_lines rules s _ pairs key value e fit))
+    (splits_both false e _ _ _ _ (indicated_splits rules _ _ _ _ _ e 0x3F fit.0 refl (unbroken_line rules.breaks12 (0x3F ∷ []) refl) (λ t. refl))
     (indicated_splits rules (size value) (indicated_value value s directives e) (node_tree value s directives (value_place false e)) (as_value false)
     (indicator_cursor e) e 0x3A fit.1 refl (unbroken_line rules.breaks12 (0x3A ∷ []) refl) (λ t. refl)))
 
@@ -195,13 +185,10 @@ pair_inside true rules s directives pairs key value e fit q d h =
     let k = (simple_key pairs key s directives e).text in
     let tree = node_tree key s directives (key_place pairs e) in
     let o = fit.1.opens refl in
-    ap (λ ls. list_all (λ line. belongs_to_entry q d line.text) ls) (keyed_lines rules k (closed (simple_value pairs key value s directives e)) tree e fit.0 o)
-    ∙ and_from (belongs_to_entry q d (spaces e ++ (k ++ (0x3A ∷ o.head)))) (list_all (λ line. belongs_to_entry q d line.text) o.rest)
-    (inside_deeper q d e (k ++ (0x3A ∷ o.head)) h)
-    (rest_inside rules (size value) (simple_value pairs key value s directives e) (node_tree value s directives (value_place true e)) (as_value true)
-    (colon_cursor (simple_key pairs key s directives e).cursor) e fit.1 refl q d (grind (arith, nat_tests)))
+    ap (λ ls. list_all (λ line. belongs_to_entry q d line.text) ls) (keyed_lines rules k _ tree e fit.0 o)
+    ∙ and_from _ _ (inside_deeper q d e (k ++ (0x3A ∷ o.head)) h) (rest_inside rules _ _ _ _ _ e fit.1 refl q d (grind (arith, nat_tests)))
 pair_inside false rules s directives pairs key value e fit q d h =
-    ap (λ ls. list_all (λ line. belongs_to_entry q d line.text) ls) (indicated_pair_lines rules s directives pairs key value e fit)
+    ap (λ ls. list_all (λ line. belongs_to_entry q d line.text) ls) (indicated_pair_lines rules s _ pairs key value e fit)
     ∙ inside_both q d (lines_of rules.breaks12 (spaces e ++ (0x3F ∷ closed (indicated_key pairs key s directives e))))
     (lines_of rules.breaks12 (spaces e ++ (0x3A ∷ closed (indicated_value value s directives e))))
     (indicated_inside rules (size key) (indicated_key pairs key s directives e) (node_tree key s directives (key_place pairs e)) (as_key (has_no_pairs pairs))

@@ -41,18 +41,16 @@ flow_body : (s : Effective) (own : List TagDirective) (column : Option ℕ) (sty
     → read_in_style style s.breaks12 false column (render_body style s limit indent value cursor).text ≡ Some value
     → BodyFits (rules_of s own) column style value (render_body style s limit indent value cursor)
 flow_body s own column plain limit indent value cursor flow some tidy read =
-    broken_body (rules_of s own) column plain value (render_body plain s limit indent value cursor) refl
-    (by (render_body plain s limit indent value cursor).text value some tidy read)
+    broken_body _ column plain value _ refl (by (render_body plain s limit indent value cursor).text value some tidy read)
   where
     by : (text value : Text) → is_empty value ≡ false → is_tidy plain s.breaks12 column text ≡ true
         → read_in_style plain s.breaks12 false column text ≡ Some value
         → OwnText (rules_of s own) column (text ++ feed) plain value
     by [] [] some tidy read = absurd (true≢false some)
     by [] (c ∷ value) some tidy read = cc
-    by (c ∷ text) value some tidy read = own_plain (rules_of s own) column c text value tidy read
+    by (c ∷ text) value some tidy read = own_plain _ column c text value tidy read
 flow_body s own column single_quoted limit indent value cursor flow some tidy read =
-    broken_body (rules_of s own) column single_quoted value (render_body single_quoted s limit indent value cursor)
-    (body_ended s single_quoted limit indent value cursor refl).indention
+    broken_body _ column _ value _ (body_ended s single_quoted limit indent value cursor refl).indention
     (own_quoted (rules_of s own) column false (render_runs quotes_doubled limit indent true (runs value) (single_quote cursor).cursor).text value tidy read)
 flow_body s own column double_quoted limit indent value cursor flow some tidy read =
     broken_body (rules_of s own) column double_quoted value (render_body double_quoted s limit indent value cursor)
@@ -122,10 +120,9 @@ block_fits_body s own column l value lines cursor low high lines_end allowed tid
     by true h =
         let end = ending_breaks value h in
         block_kept s own column l value lines cursor h end (lines_end end) allowed
-        (subst (λ t. OwnText (rules_of s own) column t (block_style l) value) (sym same) (own_block (rules_of s own) column l rest value tidy_here read_here))
+        (subst (λ t. OwnText (rules_of s own) column t (block_style l) value) (sym same) (own_block _ column l rest value tidy_here read_here))
     by false h =
-        broken_body (rules_of s own) column (block_style l) value body h
-        (subst (λ t. OwnText (rules_of s own) column (t ++ feed) (block_style l) value) (sym same)
+        broken_body _ column _ value body h (subst (λ t. OwnText (rules_of s own) column (t ++ feed) (block_style l) value) (sym same)
         (own_block (rules_of s own) column l (rest ++ feed) value (block_tidy_more l s.breaks12 column (block_indicator l ∷ rest) tidy_here)
         (strip_more s.breaks12 column (block_indicator l) rest value (strips s.indent value (feed ++ lines) low high h) read_here)))
 
@@ -138,10 +135,9 @@ pub body_fits : (s : Effective) (own : List TagDirective) (column : Option ℕ) 
     → read_in_style style s.breaks12 false column (render_body style s limit indent value cursor).text ≡ Some value
     → BodyFits (rules_of s own) column style value (render_body style s limit indent value cursor)
 body_fits s own column literal limit indent value cursor low high allowed some tidy read =
-    block_fits_body s own column true value (indented indent (parts value)) cursor low high (literal_end indent value) (allowed refl) tidy read
+    block_fits_body s own column true value _ cursor low high (literal_end indent value) (allowed refl) tidy read
 body_fits s own column folded limit indent value cursor low high allowed some tidy read =
-    block_fits_body s own column false value (indented indent (folded_parts limit indent false (parts value))) cursor low high
-    (folded_lines_end limit indent value) (allowed refl) tidy read
+    block_fits_body s own column false value _ cursor low high (folded_lines_end limit indent value) (allowed refl) tidy read
 body_fits s own column style limit indent value cursor low high allowed some tidy read =
     flow_body s own column style limit indent value cursor refl some tidy read
 

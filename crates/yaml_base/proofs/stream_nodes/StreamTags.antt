@@ -43,10 +43,9 @@ suffix_has_no_flow_indicator false text h = by text (not-true (list_any is_flow_
 suffix_text : (text : Text) → list_all is_uri_character text ≡ true → list_any is_flow_indicator text ≡ false → list_all may_follow_handle text ≡ true
 suffix_text [] h k = refl
 suffix_text (c ∷ text) h k =
-    let parts = and_parts (is_uri_character c) (list_all is_uri_character text) h in
-    let none = or_parts (is_flow_indicator c) (list_any is_flow_indicator text) k in
-    and_from (may_follow_handle c) (list_all may_follow_handle text)
-    (and_from (is_uri_character c) (not (is_flow_indicator c)) parts.0 (ap not none.0)) (suffix_text text parts.1 none.1)
+    let parts = and_parts _ _ h in
+    let none = or_parts _ _ k in
+    and_from _ _ (and_from _ _ parts.0 (ap not none.0)) (suffix_text text parts.1 none.1)
 
 -- what is written after a handle may stand there
 pub suffix_reads : (portable : Bool) (text : Text) → (portable || not (list_any is_flow_indicator text)) ≡ true

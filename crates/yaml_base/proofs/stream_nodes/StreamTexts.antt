@@ -89,9 +89,7 @@ collection_parts : (symbols begun : Rendered) (entries : RenderedPieces) (own : 
 collection_parts symbols begun entries own ending all = (
   text_both (record { lead = symbols.text ++ begun.text; body = None } ∷ [] ++ entries.pieces)
       (record { lead = (ending entries.standing.cursor).text; body = None } ∷ [])
-      ∙ collection_joined symbols.text begun.text own.text (ending own.cursor).text ((symbols.text ++ begun.text) ++ []) (text_of entries.pieces)
-      (((ending entries.standing.cursor).text ++ []) ++ []) refl all.0
-      (append-nil ((ending entries.standing.cursor).text ++ []) ∙ ap (λ c. (ending c).text ++ []) all.1),
+      ∙ collection_joined _ _ own.text _ _ _ _ refl all.0 (append-nil ((ending entries.standing.cursor).text ++ []) ∙ ap (λ c. (ending c).text ++ []) all.1),
   ap (λ c. (ending c).cursor) all.1,
 )
 

@@ -21,8 +21,7 @@ loop-item-preserved c =
     let item = get_or c.args.items.now c.loop-item.item-index (pos 0) in
     let fits : FitsSigned w32 item = search (rules, c.well_formed) in
     c.loop-item.invariant
-    ∙ passed_at outside c.args.items.now c.loop-item.item-index (pos 0) (omega arith)
-    (ap outside (sym (to_z-of_z w32 item fits)) ∙ ap not (sym c.if-not-names_node.ensures))
+    ∙ passed_at outside _ c.loop-item.item-index (pos 0) (omega arith) (ap outside (sym (to_z-of_z w32 item fits)) ∙ ap not (sym c.if-not-names_node.ensures))
 
 pub returns : goal.returns
 returns c = sym (c.loop-item.invariant ∙ none_left (λ number. not (names_node c.args.count number)) c.args.items.now c.loop-item.item-index (omega arith))
