@@ -207,8 +207,7 @@ pub encodings_agree : EncodingsAgree
 encodings_agree given encoding events scalars =
     let s = settings_for given events in
     ap (λ (pieces : List Piece). decode (Some encoding) (encode (Some encoding) (text_written s pieces)))
-    (list_other s encoding given.limit s.breaks12 refl events)
-    ∙ decode-encode encoding (text_written s (list_layout s events)) scalars
+    (list_other s encoding given.limit s.breaks12 refl events) ∙ decode-encode _ _ scalars
 
 pub breaks_agree : BreaksAgree
 breaks_agree given breaks12 encoding events portable =

@@ -88,12 +88,11 @@ dump_output graph events dumped bare =
     let text = dumped_text document.root in
     let has : HaveText (document_event_list graph) text = record { document = document; is_document = unfolded.is_document; is_text = refl } in
     let parts : stream_start dumped.encoding ∷ (document_event_list graph ++ stream_end ∷ []) ≡ events =
-    ap (λ (inside : List Event). stream_start dumped.encoding ∷ (inside ++ stream_end ∷ [])) (sym (append-nil (document_event_list graph)))
-    ∙ dumped.parts in (
+    ap (λ (inside : List Event). stream_start dumped.encoding ∷ (inside ++ stream_end ∷ [])) (sym (append-nil (document_event_list graph))) ∙ dumped.parts in (
       text,
       record { events = has; unfolds = unfolded.unfolds },
       sym (ap (output_of typed_settings) parts)
-          ∙ text_output dumped.encoding _ text has (record {
+          ∙ text_output _ _ text has (record {
             version = ap (λ (start : DocumentStart). start.version) unfolded.start ∙ bare.version;
             directives = ap (λ (start : DocumentStart). start.directives) unfolded.start ∙ bare.directives;
             implicit = unfolded.end_implicit ∙ bare.implicit;

@@ -62,8 +62,7 @@ no_exponent digits h = uncut is_exponent_letter digit_no_exponent_letter digits 
 pub at_point : (whole fraction : Text) → list_all is_decimal whole ≡ true → list_all is_decimal fraction ≡ true
     → slice_split is_point (whole ++ (codes "." ++ fraction)) ≡ whole ∷ fraction ∷ []
 at_point whole fraction h g =
-    slice_split_at is_point whole 0x2E fraction (uncut_by is_decimal is_point digit_no_point whole h) refl
-    ∙ ap (λ parts. whole ∷ parts) (no_point fraction g)
+    slice_split_at is_point whole 0x2E fraction (uncut_by _ _ digit_no_point whole h) refl ∙ ap (λ parts. whole ∷ parts) (no_point _ g)
 
 -- the mantissa of a spelling
 abbrev pub mantissa_of : (whole fraction : Text) → Text

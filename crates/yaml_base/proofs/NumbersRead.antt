@@ -60,20 +60,18 @@ past_sign_11 : (negative : Bool) (c : ℕ) (whole rest : Text) (meant : Resolved
     → first_reading (numbers_11 negative ((c ∷ whole) ++ rest)) ≡ meant → resolved_by_11 (minus negative ++ ((c ∷ whole) ++ rest)) ≡ meant
 past_sign_11 negative c whole rest meant h g reads =
     let text : Text = minus negative ++ ((c ∷ whole) ++ rest) in
-    let digit : is_decimal c ≡ true = (and_parts (is_decimal c) (list_all is_decimal whole) h).0 in
-    passed (named words_of_11 text) (timestamp_11 text ∷ numbers_11 (is_negative text) (past_sign text)) (no_word_of_11 negative c (whole ++ rest) digit)
-    ∙ passed (timestamp_11 text) (numbers_11 (is_negative text) (past_sign text)) (no_timestamp negative (c ∷ whole) rest h g)
-    ∙ ap (λ t. first_reading (numbers_11 (is_negative text) t)) (past_minus negative c (whole ++ rest) digit)
-    ∙ ap (λ x. first_reading (numbers_11 x ((c ∷ whole) ++ rest))) (minus_read negative c (whole ++ rest) digit)
-    ∙ reads
+    let digit : is_decimal c ≡ true = (and_parts _ _ h).0 in
+    passed _ _ (no_word_of_11 _ c _ digit)
+    ∙ passed _ _ (no_timestamp negative (c ∷ whole) rest h g)
+    ∙ ap (λ t. first_reading (numbers_11 (is_negative text) t)) (past_minus _ c _ digit)
+    ∙ ap (λ x. first_reading (numbers_11 x ((c ∷ whole) ++ rest))) (minus_read _ c _ digit) ∙ reads
 
 -- an integer by 1.1
 integer_by_11 : (negative : Bool) (c : ℕ) (digits : Text) → list_all is_decimal (c ∷ digits) ≡ true → Whole c digits
     → resolved_by_11 (minus negative ++ (c ∷ digits)) ≡ meant_integer (signed negative (digits_value 10 (c ∷ digits)))
 integer_by_11 negative c digits h whole =
     ap (λ t. resolved_by_11 (minus negative ++ t)) (sym (append-nil (c ∷ digits)))
-    ∙ past_sign_11 negative c digits [] (meant_integer (signed negative (digits_value 10 (c ∷ digits)))) h refl
-    (ap (λ t. first_reading (numbers_11 negative t)) (append-nil (c ∷ digits)) ∙ integer_without_sign negative c digits h whole)
+    ∙ past_sign_11 _ c _ [] _ h refl (ap (λ t. first_reading (numbers_11 negative t)) (append-nil (c ∷ digits)) ∙ integer_without_sign _ c _ h whole)
 
 mantissa_11_read : (negative : Bool) (c : ℕ) (whole fraction : Text) → list_all is_decimal (c ∷ whole) ≡ true → list_all is_decimal fraction ≡ true
     → mantissa_11 negative ((c ∷ whole) ∷ fraction ∷ []) ≡ Some (decimal_of negative (c ∷ whole) fraction)
@@ -81,8 +79,7 @@ mantissa_11_read negative c whole fraction h g =
     ap (λ x. if x then decimal_of_digits negative (ungrouped (c ∷ whole)) (ungrouped fraction) else None) (and_from _ _
     (and_from _ _ (and_parts _ _ h).0 (digits_grouped (c ∷ whole) h)) (digits_grouped fraction g))
     ∙ ap (λ t. decimal_of_digits negative t (ungrouped fraction)) (digits_ungrouped (c ∷ whole) h)
-    ∙ ap (decimal_of_digits negative (c ∷ whole)) (digits_ungrouped fraction g)
-    ∙ pointed_read negative c whole fraction h g
+    ∙ ap (decimal_of_digits negative (c ∷ whole)) (digits_ungrouped _ g) ∙ pointed_read _ c whole _ h g
 
 float_11_read : (negative : Bool) (c : ℕ) (whole fraction : Text) (exponent : Option JsonExponent) → list_all is_decimal (c ∷ whole) ≡ true
     → list_all is_decimal fraction ≡ true → HasDigits exponent

@@ -24,9 +24,8 @@ forms_read : (bs : List ℕ) (rest : Text) → are_bytes bs ≡ true
     → form_bytes between_forms (flat_map byte_escaped bs ++ rest) ≡ bs ++ form_bytes between_forms rest
 forms_read [] rest h = refl
 forms_read (b ∷ bs) rest h =
-    let both = and_parts (nat_lt b 256) (are_bytes bs) h in
-    form_read b (flat_map byte_escaped bs ++ rest) (ltb-true _ _ both.0)
-    ∙ ap (λ x. b ∷ x) (forms_read bs rest both.1)
+    let both = and_parts _ _ h in
+    form_read b (flat_map byte_escaped bs ++ rest) (ltb-true _ _ both.0) ∙ ap (λ x. b ∷ x) (forms_read bs rest both.1)
 
 -- UTF-8 is bytes
 pub encode_is_bytes : (c : ℕ) → c < 0x110000 → are_bytes (encode c) ≡ true
@@ -50,9 +49,8 @@ text_read_by : (stands : ℕ → Bool) → ((c : ℕ) → stands c ≡ true → 
     → form_bytes between_forms (flat_map (λ c. character_written (stands c) c) text) ≡ encodes text
 text_read_by stands k [] h = refl
 text_read_by stands k (c ∷ text) h =
-    let both = and_parts (scalar c) (scalars text) h in
-    character_read (stands c) c (flat_map (λ d. character_written (stands d) d) text) (k c) both.0
-    ∙ ap (λ x. encode c ++ x) (text_read_by stands k text both.1)
+    let both = and_parts _ _ h in
+    character_read _ c _ (k c) both.0 ∙ ap (λ x. encode c ++ x) (text_read_by stands k text both.1)
 
 -- a written text reads as its bytes
 pub text_read : (text : Text) → scalars text ≡ true → form_bytes between_forms (percent_escaped text) ≡ encodes text
@@ -76,9 +74,8 @@ first_is_no_percent false c h = tag_character_is_no_percent c h
 prefix_read : (portable : Bool) (text : Text) → scalars text ≡ true → form_bytes between_forms (prefix_escaped portable text) ≡ encodes text
 prefix_read portable [] h = refl
 prefix_read portable (c ∷ text) h =
-    let both = and_parts (scalar c) (scalars text) h in
-    character_read ((portable && c == 0x21) || is_tag_character c) c (percent_escaped text) (first_is_no_percent portable c) both.0
-    ∙ ap (λ x. encode c ++ x) (text_read text both.1)
+    let both = and_parts _ _ h in
+    character_read _ c _ (first_is_no_percent _ c) both.0 ∙ ap (λ x. encode c ++ x) (text_read text both.1)
 
 -- what reads as the bytes of a text is decoded as the text
 decoded_by : (text written : Text) → scalars text ≡ true → form_bytes between_forms written ≡ encodes text → percent_read written ≡ Some text

@@ -69,8 +69,7 @@ pub list_layout_steps : (events : List Event) (t : Stream) (s : Effective) → p
     → list_layout s events ≡ (steps s false events at_stream first_standing).pieces
 list_layout_steps events t s whole =
     ap (λ o. unwrap_or (option_map (layout s) (option_and_then finished o)) []) whole
-    ∙ sym (stream_steps t s)
-    ∙ ap (λ all. (steps s false all at_stream first_standing).pieces) (partial_of_events events (after_stream t) whole)
+    ∙ sym (stream_steps t s) ∙ ap (λ all. (steps s false all at_stream first_standing).pieces) (partial_of_events _ _ whole)
 
 -- A prefix's pieces in any whole list that begins with it and doesn't at once close a collection that it begins last.
 pub prefix_layout : (prefix rest : List Event) (t : Stream) (s : Effective) → partial_of (prefix ++ rest) ≡ Some (after_stream t)
@@ -102,9 +101,7 @@ pub pieces_stand : PiecesStand
 pieces_stand s events rest k within accepted other =
     let prefix = take k events in
     let count : length prefix ≡ k = length-take-le k events within in
-    let whole : partial_of (prefix ++ rest) ≡ Some (after_stream accepted.stream) = ap partial_of (sym accepted.is_stream) ∙ stream_pushed accepted.stream in
+    let whole : partial_of (prefix ++ rest) ≡ Some (after_stream accepted.stream) = ap partial_of (sym accepted.is_stream) ∙ stream_pushed _ in
     let begins = prefix_is_partial prefix rest (after_stream accepted.stream) whole in
     ap (λ n. take n (list_layout s (prefix ++ rest))) (sym count)
-    ∙ prefix_layout prefix rest accepted.stream s whole other
-    ∙ sym (begun_pieces prefix begins.0 s begins.1)
-    ∙ ap (λ n. take n (list_layout s (completion prefix))) count
+    ∙ prefix_layout _ rest _ s whole other ∙ sym (begun_pieces prefix begins.0 s begins.1) ∙ ap (λ n. take n (list_layout s (completion prefix))) count

@@ -19,10 +19,9 @@ pub progress_pieces : (events : List Event) (p : Partial) (s : Effective) → pa
     → pieces s events (written events) ≡ (progress s events).pieces
 progress_pieces events p s begins =
     let prefix = take (written events) events in
-    ap (λ n. take n (list_layout s (completion prefix))) (sym (count (written events) events (written_within events)))
-    ∙ begun_pieces prefix p s begins
+    ap (λ n. take n (list_layout s (completion prefix))) (sym (count (written events) events (written_within _))) ∙ begun_pieces _ p s begins
   where
     count : (k : ℕ) (events : List Event) → k ≤ length events → length (take k events) ≡ k
-    count zero events h = refl
+    count zero _ h = refl
     count (suc k) [] h = absurd (omega arith)
     count (suc k) (x ∷ events) h = ap suc (count k events (omega arith))

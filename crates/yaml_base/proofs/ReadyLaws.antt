@@ -16,8 +16,7 @@ pub any_prefix : (a b : List Event) (p : List Event → Bool) → list_any p (no
 any_prefix [] b p given = cc
 any_prefix (x ∷ a) b p given =
     either _ _ _
-    (λ some. any_map p (λ prefix. x ∷ prefix) (nonempty_prefixes (a ++ b))
-    ∙ any_prefix a b (λ prefix. p (x ∷ prefix)) (sym (any_map p (λ prefix. x ∷ prefix) (nonempty_prefixes a)) ∙ some)) given
+    (λ some. any_map p _ _ ∙ any_prefix a b (λ prefix. p (x ∷ prefix)) (sym (any_map p _ _) ∙ some)) given
 
 more_stand : (n : ℕ) (a b : List Event) → nat_lt n (length a) ≡ true → nat_lt n (length (a ++ b)) ≡ true
 more_stand n a b given = grind (arith, nat_tests, length-append a b)

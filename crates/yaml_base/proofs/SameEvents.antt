@@ -59,13 +59,12 @@ step_alike : (first second : Graph) (iso : Isomorphic first second) (walk : List
     → map unstyled (step_events second (map (renumbered iso.partner) walk) (renumbered iso.partner step))
     ≡ map unstyled (step_events first walk step)
 step_alike first second iso walk (enters number) all reached =
-    begins_by (anchor_of (map (renumbered iso.partner) walk) (iso.partner number)) (node_numbered second (iso.partner number))
-    ∙ ap (λ (anchor : Option Text). prefix_by anchor (label_at second (iso.partner number))) (anchors_alike first second iso walk number all reached)
-    ∙ ap (prefix_by (anchor_of walk number)) (iso.labels number reached)
-    ∙ sym (begins_by (anchor_of walk number) (node_numbered first number))
+    begins_by _ _
+    ∙ ap (λ (anchor : Option Text). prefix_by anchor (label_at second (iso.partner number))) (anchors_alike first _ iso walk _ all reached)
+    ∙ ap (prefix_by (anchor_of walk number)) (iso.labels number reached) ∙ sym (begins_by _ _)
 step_alike first second iso walk (leaves number) all reached = grind (arith, ends_by)
 step_alike first second iso walk (meets_again number) all reached =
-    ap (λ (anchor : Option Text). alias (unwrap_or anchor []) ∷ []) (anchors_alike first second iso walk number all reached)
+    ap (λ (anchor : Option Text). alias (unwrap_or anchor []) ∷ []) (anchors_alike first _ iso walk _ all reached)
 
 steps_alike : (first second : Graph) (iso : Isomorphic first second) (walk part : List Step) → AllReached first walk → AllReached first part
     → map unstyled (flat_map (step_events second (map (renumbered iso.partner) walk)) (map (renumbered iso.partner) part))
@@ -75,8 +74,7 @@ steps_alike first second iso walk (step ∷ part) all reached =
     let other = map (renumbered iso.partner) walk in
     map-append unstyled (step_events second other (renumbered iso.partner step)) (flat_map (step_events second other) (map (renumbered iso.partner) part))
     ∙ ap (λ (events : List Event). events ++ map unstyled (flat_map (step_events second other) (map (renumbered iso.partner) part)))
-    (step_alike first second iso walk step all (reached step (inl refl)))
-    ∙ ap (λ (events : List Event). map unstyled (step_events first walk step) ++ events)
+    (step_alike first _ iso walk step all (reached step (inl refl))) ∙ ap (λ (events : List Event). map unstyled (step_events first walk step) ++ events)
     (steps_alike first second iso walk part all (λ one within. reached one (inr within)))
     ∙ sym (map-append unstyled (step_events first walk step) (flat_map (step_events first walk) part))
 

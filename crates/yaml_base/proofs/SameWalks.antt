@@ -69,18 +69,17 @@ mutual
   tree_reached named graph (alias_placed name number) fits reached = one_reached graph _ reached
   tree_reached named graph (node_placed anchor number below) fits reached =
       both_reached graph (enters number ∷ []) (below_steps below ++ leaves number ∷ []) (one_reached graph _ reached)
-      (both_reached graph (below_steps below) (leaves number ∷ []) (below_reached named graph below fits.3
-      (λ child within. child_reached reached (subst (λ (numbers : List ℕ). Contains numbers child) fits.2 within)))
-      (one_reached graph (leaves number) reached))
+      (both_reached graph _ _ (below_reached named graph below fits.3
+      (λ child within. child_reached reached (subst (λ (numbers : List ℕ). Contains numbers child) fits.2 within))) (one_reached graph _ reached))
 
   below_reached : (named : ℕ → Option Text) (graph : Graph) (below : PlacedNodes) → AllFit named graph below
       → ((child : ℕ) → Contains (numbers_at below) child → IsReached graph child) → AllReached graph (below_steps below)
   below_reached named graph none_placed fit reached step within = absurd within
   below_reached named graph (placed_and before last) fit reached step within =
-      both_reached graph (below_steps before) (placed_steps last)
+      both_reached graph _ _
       (below_reached named graph before fit.0 (λ child within. reached child (Contains-append_left (numbers_at before) (number_at last ∷ []) child within)))
       (tree_reached named graph last fit.1
-      (reached (number_at last) (Contains-append_right (numbers_at before) (number_at last ∷ []) (number_at last) (0, omega arith, refl)))) step within
+      (reached _ (Contains-append_right (numbers_at before) (number_at last ∷ []) (number_at last) (0, omega arith, refl)))) step within
 
 -- ---- steps with the numbers of partners
 
@@ -132,14 +131,12 @@ mutual
       ap (λ (n : ℕ). meets_again n ∷ []) is
   mirrored first second iso named also (alias_placed name number) (node_placed anchor other below) before after later fits matches is reached all turns takes =
       let entered : list_any (is_entry_of other) (map (renumbered iso.partner) before) ≡ true =
-      ap (λ (n : ℕ). list_any (is_entry_of n) (map (renumbered iso.partner) before)) is
-      ∙ entered_alike first second iso number before reached all ∙ turns.0 in
+      ap (λ (n : ℕ). list_any (is_entry_of n) (map (renumbered iso.partner) before)) is ∙ entered_alike first second iso number before reached all ∙ turns.0 in
       absurd (let no : true ≡ false = sym entered ∙ takes.0 in cc)
   mirrored first second iso named also (node_placed anchor number below)
       (alias_placed stated other) before after later fits matches is reached all turns takes =
       let entered : list_any (is_entry_of other) (map (renumbered iso.partner) before) ≡ false =
-      ap (λ (n : ℕ). list_any (is_entry_of n) (map (renumbered iso.partner) before)) is
-      ∙ entered_alike first second iso number before reached all ∙ turns.0 in
+      ap (λ (n : ℕ). list_any (is_entry_of n) (map (renumbered iso.partner) before)) is ∙ entered_alike first second iso number before reached all ∙ turns.0 in
       absurd (let no : true ≡ false = sym takes.0 ∙ entered in cc)
   mirrored first second iso named also (node_placed anchor number below) (node_placed stated other lower) before after later fits matches is reached all turns
       takes =
@@ -151,7 +148,7 @@ mutual
       let inner =
       mirrored_below first second iso named also below lower _ _ _ fits.3 matches.3 held
       (λ child inside. child_reached reached (subst (λ (numbers : List ℕ). Contains numbers child) fits.2 inside))
-      (both_reached first before (enters number ∷ []) all (one_reached first (enters number) reached))
+      (both_reached first _ _ all (one_reached first _ reached))
       (subst (λ steps. AreStepsOf (before ++ enters number ∷ []) steps) (append_assoc (below_steps below) (leaves number ∷ []) after) turns.1)
       (subst (λ steps. AreStepsOf steps (below_steps lower ++ leaves other ∷ later)) within
       (subst (λ steps. AreStepsOf (map (renumbered partner) before ++ enters other ∷ []) steps) (append_assoc (below_steps lower) (leaves other ∷ []) later)
@@ -270,23 +267,20 @@ firsts_alike first second iso (x ∷ xs) all =
     let partner = iso.partner in
     ap (λ (rest : List ℕ). partner x ∷ filter (λ other. not (other == partner x)) rest)
     (firsts_alike first second iso xs (λ number within. all number (inr within)))
-    ∙ ap (λ (rest : List ℕ). partner x ∷ rest)
-    (without_alike first second iso x (first_of_each xs) (all x (inl refl)) (λ number within. all number (inr (in_firsts number xs within))))
+    ∙ ap (λ (rest : List ℕ). partner x ∷ rest) (without_alike first _ iso x _ (all x (inl refl)) (λ number within. all number (inr (in_firsts _ xs within))))
 
 shared_alike : (first second : Graph) (iso : Isomorphic first second) (walk : List Step) → AllReached first walk
     → shared_nodes (map (renumbered iso.partner) walk) ≡ map iso.partner (shared_nodes walk)
 shared_alike first second iso walk all =
-    ap first_of_each (again_alike iso.partner walk)
-    ∙ firsts_alike first second iso (filter_map node_met_again walk) (again_reached first walk all)
+    ap first_of_each (again_alike _ walk) ∙ firsts_alike first _ iso _ (again_reached first walk all)
 
 place_alike : (first second : Graph) (iso : Isomorphic first second) (number : ℕ) (xs : List ℕ) → IsReached first number → NumbersReached first xs
     → position_or_len (λ other. other == iso.partner number) (map iso.partner xs) ≡ position_or_len (λ other. other == number) xs
 place_alike first second iso number [] reached all = refl
 place_alike first second iso number (x ∷ xs) reached all =
     ap (λ (b : Bool). cond (not b) (1 + position_or_len (λ other. other == iso.partner number) (map iso.partner xs)) 0)
-    (same_test first second iso x number (all x (inl refl)) reached)
-    ∙ ap (λ (n : ℕ). cond (not (x == number)) (1 + n) 0)
-    (place_alike first second iso number xs reached (λ other within. all other (inr within)))
+    (same_test first _ iso x _ (all x (inl refl)) reached)
+    ∙ ap (λ (n : ℕ). cond (not (x == number)) (1 + n) 0) (place_alike first second iso number xs reached (λ other within. all other (inr within)))
 
 position_alike : (first second : Graph) (iso : Isomorphic first second) (number : ℕ) (xs : List ℕ) → IsReached first number → NumbersReached first xs
     → position (λ other. other == iso.partner number) (map iso.partner xs) ≡ position (λ other. other == number) xs
@@ -301,6 +295,5 @@ pub anchors_alike : (first second : Graph) (iso : Isomorphic first second) (walk
     → anchor_of (map (renumbered iso.partner) walk) (iso.partner number) ≡ anchor_of walk number
 anchors_alike first second iso walk number all reached =
     ap (λ (shared : List ℕ). option_map (λ place. numbered_name (place + 1)) (position (λ other. other == iso.partner number) shared))
-    (shared_alike first second iso walk all)
-    ∙ ap (option_map (λ (place : ℕ). numbered_name (place + 1))) (position_alike first second iso number _ reached
+    (shared_alike first _ iso walk all) ∙ ap (option_map (λ (place : ℕ). numbered_name (place + 1))) (position_alike first _ iso _ _ reached
     (λ other within. again_reached first walk all other (in_firsts other _ within)))

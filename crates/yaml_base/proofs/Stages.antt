@@ -150,5 +150,4 @@ stage_refuses canonical p stage event h = grind (arith, stage_allowed, stage_exp
 pub stage_refusal_after : (canonical : Bool) (events : List Event) (event : Event) (p : Partial) (s : Effective) (follows : Bool) → partial_of events ≡ Some p
     → stage_refusal canonical (steps s follows events at_stream first_standing).stage event ≡ refusal canonical events event
 stage_refusal_after canonical events event p s follows given =
-    stage_refuses canonical p (steps s follows events at_stream first_standing).stage event (stage_stands events p s follows given)
-    ∙ sym (ap (λ o. option_and_then (λ q. refusal_at canonical q event) o) given)
+    stage_refuses _ p _ event (stage_stands events p s follows given) ∙ sym (ap (λ o. option_and_then (λ q. refusal_at canonical q event) o) given)

@@ -79,16 +79,15 @@ shorthand_reads : (portable : Bool) (own : List TagDirective) (handle prefix : T
     → tag_read own (handle ++ suffix_escaped portable (c ∷ suffix)) ≡ Some (name_parsed (prefix ++ (c ∷ suffix)))
 shorthand_reads portable own handle prefix c suffix f g h =
     let written = suffix_escaped portable (c ∷ suffix) in
-    let form = handle_form handle f in
-    let begins = suffix_begins portable c suffix in
+    let form = handle_form _ f in
+    let begins = suffix_begins _ c _ in
     let stands : list_all stands_written written ≡ true = suffix_stands portable (c ∷ suffix) in
     let P : Text → Type 0 = λ text. list_all stands_written text ≡ true in
     let Q : Text → Type 0 = λ text. tag_read own (handle ++ text) ≡ shorthand_read own (cut_after_exclamation (handle ++ text)) in
     let first = (and_parts (stands_written begins.0) (list_all stands_written begins.1) (subst P begins.2 stands)).0 in
     subst Q (sym begins.2) (handle_first own handle begins.0 begins.1 form first)
     ∙ ap (shorthand_read own) (cut_at_handle handle written form (stands_no_exclamation written stands))
-    ∙ ap (λ x. name_joined x (percent_read written)) g
-    ∙ ap (name_joined (Some prefix)) (decoded_suffix portable (c ∷ suffix) h)
+    ∙ ap (λ x. name_joined x (percent_read written)) g ∙ ap (name_joined (Some prefix)) (decoded_suffix portable (c ∷ suffix) h)
 
 -- Written tags
 

@@ -155,8 +155,7 @@ mutual
       → HasShape true graph placed (node_shape_of (node_at graph placed))
   node_at_shape named graph (alias_placed name number) fits = refl
   node_at_shape named graph (node_placed anchor number below) fits =
-      with_shape anchor graph number (node_numbered graph number) fits.1.node below refl fits.1.is fits.2 fits.2 (items_at_shapes named graph below fits.3)
-      (pairs_at_shapes named graph below fits.3)
+      with_shape _ graph _ _ _ below refl fits.1.is fits.2 fits.2 (items_at_shapes named graph below fits.3) (pairs_at_shapes named graph below fits.3)
 
   items_at_shapes : (named : ℕ → Option Text) (graph : Graph) (below : PlacedNodes) → AllFit named graph below
       → HaveShapes true graph below (nodes_shapes (items_at graph below))

@@ -44,8 +44,8 @@ mutual
   value_is (bool_value b) column = refl
   value_is (int_value n) column = refl
   value_is (text_value text) column = refl
-  value_is (list_value items) column = list_is items column (items_are items (column + 2))
-  value_is (map_value pairs) column = map_is pairs column (pairs_are pairs (column + 2))
+  value_is (list_value items) column = list_is items _ (items_are items (column + 2))
+  value_is (map_value pairs) column = map_is pairs _ (pairs_are pairs (column + 2))
 
   items_are : (items : TypedValues) (column : ℕ) → ItemsAre column items
   items_are no_values column = tt
@@ -60,8 +60,7 @@ mutual
   pairs_are (value_pairs_and (value_pairs_and pairs first second) key value) column =
       ap
       (λ t. t ++ (codes "," ++ (line_at column ++ (codes "? " ++ (value_text column key ++ (line_at column ++ (codes ": " ++ value_text column value)))))))
-      (pairs_are (value_pairs_and pairs first second) column)
-      ∙ simp (append_assoc, value_is key column, value_is value column)
+      (pairs_are (value_pairs_and pairs first second) column) ∙ simp (append_assoc, value_is key column, value_is value column)
 
 -- a value's document is that of its tree
 pub document_is : (value : TypedValue) → document_text value ≡ dumped_text (value_node value)

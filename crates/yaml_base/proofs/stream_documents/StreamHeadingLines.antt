@@ -104,10 +104,9 @@ whole_closed breaks12 (line ∷ rest) h = grind (arith, closed_behind, whole_clo
 heading_text_lines : (s : Effective) (start : DocumentStart) → directives_fault start.directives ≡ None
     → lines_of s.breaks12 (heading_text s start) ≡ heading_lines s.portable start
 heading_text_lines s start sound =
-    ap (λ (rendered : Rendered). lines_of s.breaks12 rendered.text) (heading_rendered s.portable start)
+    ap (λ (rendered : Rendered). lines_of s.breaks12 rendered.text) (heading_rendered _ start)
     ∙ ap (lines_of s.breaks12) (sym (append-nil (text_of_lines (heading_lines s.portable start))))
-    ∙ heading_first s.breaks12 s.portable start [] sound
-    ∙ append-nil (heading_lines s.portable start)
+    ∙ heading_first _ _ start [] sound ∙ append-nil (heading_lines s.portable start)
 
 -- it ends with a break, each of its lines begins with a `%`, and they are read as the version and the directives
 pub heading_stands : (s : Effective) (start : DocumentStart) → option_and_then version_fault start.version ≡ None

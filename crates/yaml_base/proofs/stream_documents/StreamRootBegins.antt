@@ -120,12 +120,11 @@ styled_begins s own directives anchor tag bare style limit indent value cursor n
     let properties = render_properties s.portable directives anchor tag bare cursor in
     let text = (render_body style s limit indent value (body_cursor s directives anchor tag bare style value cursor)).text in
     let before = lead anchor (tag_written s.portable directives tag bare) in
-    led_begins _ cursor _ anchor _ _ h.head h.tail
+    led_begins _ _ _ _ _ _ _ _
     (record { named = named; tagged = tag_is_written _ own _ tag bare stands }) h.shows h.goes_on
-    (ap (λ t. (properties.text ++ t) ++ text) (separation_text style value properties.cursor some)
-    ∙ ap (λ t. t ++ text) (lead_rendered s.portable directives anchor tag bare cursor)
-    ∙ append_assoc (space_if true cursor) before text
-    ∙ ap (λ t. space_if true cursor ++ (before ++ t)) h.is)
+    (ap (λ t. (properties.text ++ t) ++ text) (separation_text style value _ some)
+    ∙ ap (λ t. t ++ text) (lead_rendered _ _ _ tag bare _)
+    ∙ append_assoc (space_if true cursor) before text ∙ ap (λ t. space_if true cursor ++ (before ++ t)) h.is)
 
 -- plain is chosen only where it is asked for and fits
 pub plain_asked : (allowed : Allowances) (plain_fits block_fits : Bool) (asked : ScalarStyle)

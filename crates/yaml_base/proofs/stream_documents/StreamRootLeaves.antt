@@ -37,7 +37,6 @@ scalar_begins s own directives cursor content names stands some = by (is_plain c
     by : (x : Bool) → (is_plain choice.style && is_empty content.value) ≡ x
         → Begins s.breaks12 cursor (node_own (scalar_node content) s directives root_place cursor)
     by false h =
-        let body = body_from s directives root_place content cursor in
         styled_begins s own _ _ tag _ _ s.width _ _ cursor names.0 names.1 h (body_head s _ s.width _ None _ _ h (and_parts _ _ stands.tidy).1 stands.reads)
     by true h =
         let parts = and_parts (is_plain choice.style) (is_empty content.value) h in

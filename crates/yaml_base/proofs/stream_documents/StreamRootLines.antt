@@ -73,10 +73,9 @@ first_stands false k head t ending rest margin shows = ap not (shown_at k head t
 pub begins_stands : (breaks12 on_marker : Bool) (own : Rendered) → Begins breaks12 (root_cursor on_marker) own
     → FirstStands on_marker (lines_of breaks12 (closed own))
 begins_stands breaks12 on_marker own b =
-    let line = first_line breaks12 b.count b.head (b.tail ++ closing own.cursor) b.goes_on in
+    let line = first_line _ _ b.head (b.tail ++ closing own.cursor) b.goes_on in
     subst (FirstStands on_marker) (sym (ap (λ t. lines_of breaks12 (t ++ closing own.cursor)) b.text
-    ∙ ap (lines_of breaks12) (append_assoc (spaces b.count) (b.head ∷ b.tail) (closing own.cursor)) ∙ line.is))
-    (first_stands _ b.count b.head line.tail line.ending line.rest b.margin b.shows)
+    ∙ ap (lines_of breaks12) (append_assoc (spaces b.count) (b.head ∷ b.tail) (closing own.cursor)) ∙ line.is)) (first_stands _ _ _ _ _ _ b.margin b.shows)
 
 -- Collections in blocks
 

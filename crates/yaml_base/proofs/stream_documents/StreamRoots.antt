@@ -55,11 +55,10 @@ root_with_marker_reads rules n own tree fit margin depth deep = by (is_spaces o.
     o = fit.opens refl
 
     whole : node_read depth rules false None (blanked 3 o.head o.ending ∷ o.rest) ≡ Some tree
-    whole = ap (node_read depth rules false None) (sym (blanked_lines rules.breaks12 3 (closed own) o))
+    whole = ap (node_read depth rules false None) (sym (blanked_lines _ 3 _ o))
         ∙ fit.reads depth deep false 3 (λ h. absurd (false≢true h))
 
     by : (x : Bool) → is_spaces o.head ≡ x → root_after_marker x depth rules (blanked 3 o.head o.ending) o.rest ≡ Some tree
     by false e = whole
     by true e =
-        ap (λ x. if x then node_read depth rules true None (without_blank_lines o.rest) else None) (margin e)
-        ∙ below_blank depth rules (blanked 3 o.head o.ending) o.rest tree e whole
+        ap (λ x. if x then node_read depth rules true None (without_blank_lines o.rest) else None) (margin e) ∙ below_blank depth rules _ _ tree e whole

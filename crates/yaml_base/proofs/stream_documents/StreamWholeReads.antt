@@ -180,14 +180,13 @@ blank_read breaks12 depth lines documents blank reads =
         cc_some : {a b : List DocumentTree} → Some a ≡ Some b → a ≡ b
         cc_some h = cc
     by (line ∷ rest) blank reads =
-        let text = blank_no_text line.text (and_parts (is_spaces line.text) (all_blank rest) blank).0 in
+        let text = blank_no_text line.text (and_parts _ _ blank).0 in
         absurd (none_not_some
         (sym (ap (λ x. option_and_then documents_at_end
         (lines_before_marker_read (if x then directive_lines else document_lines) depth breaks12 (line ∷ rest))) text.0
         ∙ ap (λ x. option_and_then documents_at_end
         (with_read_document [] no_heading (if not x then node_read depth (record { breaks12 = breaks12; directives = [] }) true None (line ∷ rest) else None)))
-        text.1)
-        ∙ reads))
+        text.1) ∙ reads))
 
 -- Streams
 

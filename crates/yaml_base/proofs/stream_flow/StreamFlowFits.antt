@@ -99,7 +99,6 @@ text_reads : (rules : Rules) (cursor : Cursor) (own : Rendered) (anchor tag give
     → TextReads rules column (flow_text rules cursor own anchor tag given_tag tree of) tree
 text_reads rules cursor own anchor tag given_tag tree of column given line deeper =
     let parsed = tag_meant given_tag false in
-    let prefix = lead anchor tag ++ (of.bracket ∷ line.first) in
     let h = headed rules anchor tag parsed of.bracket line.first given (own_shows of.bracket of.brackets.content).0 in
     let none : Given rules None None None = record { named = tt; tagged = tt } in
     record {

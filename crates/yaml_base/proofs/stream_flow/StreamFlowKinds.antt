@@ -50,14 +50,13 @@ alias_step s own directives fits role column cursor name named false e = record 
   whole = append-nil ((space_if true cursor ++ (0x2A ∷ [])) ++ name) ∙ append_assoc (space_if true cursor) (0x2A ∷ []) name;
   ended = record { white = refl; indention = refl };
   opens = refl;
-  takes = λ h levels open_level spaced. takes_word (rules_of s own) levels spaced (0x2A ∷ name) (alias_tree name)
-      (alias_flow_word (rules_of s own) name named) open_level;
+  takes = λ h levels open_level spaced. takes_word _ _ _ _ _
+      (alias_flow_word _ name named) open_level;
   key = λ h. absurd (false≢true h);
 }
 alias_step s own directives fits role column cursor name named true e =
     let whole : (render_alias name true cursor).text ≡ space_if true cursor ++ ((0x2A ∷ name) ++ (space ∷ [])) =
-    ap (λ t. t ++ (space ∷ [])) (append_assoc (space_if true cursor) (0x2A ∷ []) name)
-    ∙ append_assoc (space_if true cursor) (0x2A ∷ name) (space ∷ []) in
+    ap (λ t. t ++ (space ∷ [])) (append_assoc (space_if true cursor) (0x2A ∷ []) name) ∙ append_assoc (space_if true cursor) (0x2A ∷ name) (space ∷ []) in
     record {
       content = (0x2A ∷ name) ++ (space ∷ []);
       whole = whole;

@@ -80,9 +80,8 @@ pairs_step s own directives no_pairs key value column cursor take key_node value
     let key_rendered = node_own key s directives (entry_place true (as_key true) column) symbols.cursor in
     let value_indicators = render_flow_place s (as_value simple) false (Some column) key_rendered.cursor in
     let value_rendered = node_own value s directives (entry_place true (as_value simple) column) value_indicators.cursor in
-    first_entry _ 0x7B cursor _ _ _
-    (first_pair (space_if true cursor) 0x7B gap.text symbols.text key_rendered.text (value_indicators.text ++ value_rendered.text)) value_node.ended
-    (λ anchor tag. pair_entry _ s _ simple _ _ _ _ _ key_node value_node anchor tag no_tree_pairs)
+    first_entry _ 0x7B _ _ _ _ (first_pair _ 0x7B _ _ _ _) value_node.ended
+    (λ anchor tag. pair_entry _ s _ _ _ _ _ _ _ key_node value_node _ tag _)
 pairs_step s own directives (pairs_and pairs prev_key prev_value) key value column cursor take key_node value_node =
     let simple = is_simple s.canonical directives key in
     let before = pairs_own (pairs_and pairs prev_key prev_value) s directives true column cursor in
@@ -93,9 +92,9 @@ pairs_step s own directives (pairs_and pairs prev_key prev_value) key value colu
     let value_indicators = render_flow_place s (as_value simple) false (Some column) key_rendered.cursor in
     let value_rendered = node_own value s directives (entry_place true (as_value simple) column) value_indicators.cursor in
     let trees = pairs_tree (pairs_and pairs prev_key prev_value) s directives true in
-    next_entry _ 0x7B cursor before _ _ _ _ take
+    next_entry _ 0x7B _ _ _ _ _ _ take
     (append_assoc before.text (0x2C ∷ ((gap.text ++ symbols.text) ++ key_rendered.text)) (value_indicators.text ++ value_rendered.text)) value_node.ended
-    (λ anchor tag. pair_entry _ s _ simple _ _ _ _ _ key_node value_node anchor tag trees)
+    (λ anchor tag. pair_entry _ s _ _ _ _ _ _ _ key_node value_node _ tag trees)
 
 -- Nodes
 

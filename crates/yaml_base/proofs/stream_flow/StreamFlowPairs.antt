@@ -155,11 +155,10 @@ pub next_entry : (rules : Rules) (bracket : ℕ) (cursor : Cursor) (before own :
 next_entry rules bracket cursor before own entry middle last entries whole ended one = record {
   inside = entries.inside ++ (0x2C ∷ entry);
   whole =
-      whole ∙ ap (λ t. t ++ (0x2C ∷ entry)) entries.whole
-      ∙ append_assoc (space_if true cursor) (bracket ∷ entries.inside) (0x2C ∷ entry);
+      whole ∙ ap (λ t. t ++ (0x2C ∷ entry)) entries.whole ∙ append_assoc (space_if true cursor) (bracket ∷ entries.inside) (0x2C ∷ entry);
   ended = ended;
   opens = opens_more entries.inside (0x2C ∷ entry) entries.opens;
   takes = λ anchor tag levels.
-      takes_both (entries.takes anchor tag levels) (passes_then (passes_comma rules (middle anchor tag ∷ levels)) ((one anchor tag).takes levels))
-      (indicator_ends _ 0x2C entry (class_fixed rules.breaks12 0x2C refl));
+      takes_both (entries.takes anchor tag levels) (passes_then (passes_comma rules _) ((one anchor tag).takes levels))
+      (indicator_ends _ 0x2C entry (class_fixed _ 0x2C refl));
 }

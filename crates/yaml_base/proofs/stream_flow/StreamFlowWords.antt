@@ -85,8 +85,7 @@ pub quoted_read : (rules : Rules) (flow double : Bool) (anchor tag : Option Text
     → word_after rules flow None (record { anchor = anchor; tag = tag_meant tag bare }) (quote_of double ∷ t)
     ≡ Some (scalar_in anchor tag (quoted_in double) bare v)
 quoted_read rules flow double anchor tag bare column t v tidy read =
-    quoted_after rules flow double None (record { anchor = anchor; tag = tag_meant tag bare }) t v
-    (tidy_at_root (quoted_in double) rules.breaks12 column (quote_of double ∷ t) tidy) read
+    quoted_after rules flow _ None _ t v (tidy_at_root (quoted_in double) rules.breaks12 column (quote_of double ∷ t) tidy) read
     ∙ ap (option_map (λ tagging. scalar_tree anchor tagging v)) (tagging_meant tag (quoted_in double) bare (λ h. grind (arith)))
 
 -- so it is a word
@@ -170,9 +169,8 @@ alias_flow_word rules (n ∷ name) h = record {
   says = record {
     says = λ rest ends.
         ap (λ class. (let here : FlowStep = begun_token class [] 0x2A in here.tokens ++ flow_tokens rules.breaks12 here.place ((n ∷ name) ++ rest)))
-        (class_fixed rules.breaks12 0x2A refl)
-        ∙ plain_text_word rules.breaks12 [] 0x2A (n ∷ name) rest (letters_stay rules.breaks12 (n ∷ name) (name_letters (n ∷ name) h))
-        (letters_shown rules.breaks12 n name (name_letters (n ∷ name) h)) ends;
+        (class_fixed _ 0x2A refl) ∙ plain_text_word _ [] 0x2A _ rest (letters_stay rules.breaks12 (n ∷ name) (name_letters _ h))
+        (letters_shown rules.breaks12 n name (name_letters _ h)) ends;
   };
   reads = alias_word rules true n name ∙ ap (option_map alias_tree) h;
   opens = refl;
@@ -189,22 +187,20 @@ tag_of_collection (Some tag) = refl
 pub empty_sequence_word : (rules : Rules) (anchor tag given_tag : Option Text) → Given rules anchor tag (tag_meant given_tag false)
     → FlowWord rules (lead anchor tag ++ (0x5B ∷ 0x5D ∷ [])) (sequence_tree anchor given_tag no_trees)
 empty_sequence_word rules anchor tag given_tag given = record {
-  says = says_empty_after rules.breaks12 (lead anchor tag) 0x5B 0x5D (given_leads rules anchor tag (tag_meant given_tag false) given)
-      (class_fixed rules.breaks12 0x5B refl) refl;
+  says = says_empty_after _ _ 0x5B 0x5D (given_leads rules _ tag _ given)
+      (class_fixed _ 0x5B refl) refl;
   reads =
-      given_reads rules true anchor tag (tag_meant given_tag false) (0x5B ∷ 0x5D ∷ []) given refl
-      ∙ ap (option_map (λ tag. sequence_tree anchor tag no_trees)) (tag_of_collection given_tag);
-  opens = lead_opens rules anchor tag (tag_meant given_tag false) (0x5B ∷ 0x5D ∷ []) given refl;
+      given_reads rules true _ tag _ _ given refl ∙ ap (option_map (λ tag. sequence_tree anchor tag no_trees)) (tag_of_collection _);
+  opens = lead_opens rules _ tag _ _ given refl;
 }
 
 -- `{}`
 pub empty_mapping_word : (rules : Rules) (anchor tag given_tag : Option Text) → Given rules anchor tag (tag_meant given_tag false)
     → FlowWord rules (lead anchor tag ++ (0x7B ∷ 0x7D ∷ [])) (mapping_tree anchor given_tag no_tree_pairs)
 empty_mapping_word rules anchor tag given_tag given = record {
-  says = says_empty_after rules.breaks12 (lead anchor tag) 0x7B 0x7D (given_leads rules anchor tag (tag_meant given_tag false) given)
-      (class_fixed rules.breaks12 0x7B refl) refl;
+  says = says_empty_after _ _ 0x7B 0x7D (given_leads rules _ tag _ given)
+      (class_fixed _ 0x7B refl) refl;
   reads =
-      given_reads rules true anchor tag (tag_meant given_tag false) (0x7B ∷ 0x7D ∷ []) given refl
-      ∙ ap (option_map (λ tag. mapping_tree anchor tag no_tree_pairs)) (tag_of_collection given_tag);
-  opens = lead_opens rules anchor tag (tag_meant given_tag false) (0x7B ∷ 0x7D ∷ []) given refl;
+      given_reads rules true _ tag _ _ given refl ∙ ap (option_map (λ tag. mapping_tree anchor tag no_tree_pairs)) (tag_of_collection _);
+  opens = lead_opens rules _ tag _ _ given refl;
 }

@@ -63,9 +63,9 @@ passes_one breaks12 c text white rest class h k = grind (arith, nat_tests, false
 pub plain_passes : (breaks12 : Bool) (c : ℕ) (t text white rest : Text) → all_stay breaks12 (c ∷ t) ≡ true → ends_shown breaks12 (c ∷ t) ≡ true
     → flow_tokens breaks12 (in_plain text white) ((c ∷ t) ++ rest) ≡ flow_tokens breaks12 (in_plain (text ++ (white ++ (c ∷ t))) []) rest
 plain_passes breaks12 c [] text white rest h k =
-    passes_one breaks12 c text white rest (class_of breaks12 c) (and_parts (stays_plain (class_of breaks12 c)) true h).0 k
+    passes_one _ c text white rest _ (and_parts _ true h).0 k
 plain_passes breaks12 c (d ∷ t) text white rest h k =
-    let parts = and_parts (stays_plain (class_of breaks12 c)) (all_stay breaks12 (d ∷ t)) h in
+    let parts = and_parts _ _ h in
     by (is_white_class (class_of breaks12 c)) (class_of breaks12 c) refl parts.0
     (λ text white. plain_passes breaks12 d t text white rest parts.1 k)
   where
@@ -76,8 +76,7 @@ plain_passes breaks12 c (d ∷ t) text white rest h k =
         ≡ flow_tokens breaks12 (in_plain (text ++ (white ++ (c ∷ d ∷ t))) []) rest
     by false class e h ih =
         passes_one breaks12 c text white ((d ∷ t) ++ rest) class h (ap not e)
-        ∙ ih (text ++ (white ++ (c ∷ []))) []
-        ∙ ap (λ s. flow_tokens breaks12 (in_plain s []) rest)
+        ∙ ih (text ++ (white ++ (c ∷ []))) [] ∙ ap (λ s. flow_tokens breaks12 (in_plain s []) rest)
         (append_assoc text (white ++ (c ∷ [])) (d ∷ t) ∙ ap (λ s. text ++ s) (append_assoc white (c ∷ []) (d ∷ t)))
     by true is_white_blank e h ih =
         ih text (white ++ (c ∷ [])) ∙ ap (λ s. flow_tokens breaks12 (in_plain (text ++ s) []) rest) (append_assoc white (c ∷ []) (d ∷ t))

@@ -113,13 +113,12 @@ pub says_quoted_after : (double breaks12 : Bool) (before t v : Text) → Leads b
     → Says breaks12 (before ++ (quote_of double ∷ t)) (word (before ++ (quote_of double ∷ t)) ∷ [])
 says_quoted_after true breaks12 before t v leads read = record {
   says = λ rest h.
-      begun_after breaks12 before 0x22 t rest begins_double leads (class_fixed breaks12 0x22 refl) refl
-      ∙ double_quoted_word breaks12 before t rest v read ∙ shifted breaks12 before 0x22 t rest;
+      begun_after _ _ 0x22 t rest _ leads (class_fixed _ 0x22 refl) refl ∙ double_quoted_word _ _ t rest v read ∙ shifted _ _ 0x22 t rest;
 }
 says_quoted_after false breaks12 before t v leads read = record {
   says = λ rest h.
-      begun_after breaks12 before 0x27 t rest begins_single leads (class_fixed breaks12 0x27 refl) refl
-      ∙ single_quoted_word breaks12 before t rest v read (ends_unquoted breaks12 rest h) ∙ shifted breaks12 before 0x27 t rest;
+      begun_after _ _ 0x27 t rest _ leads (class_fixed _ 0x27 refl) refl
+      ∙ single_quoted_word _ _ t rest v read (ends_unquoted _ rest h) ∙ shifted _ _ 0x27 t rest;
 }
 
 -- a plain one
@@ -128,8 +127,7 @@ pub says_plain_after : (breaks12 : Bool) (before : Text) (c : ℕ) (t v : Text) 
     → Says breaks12 (before ++ (c ∷ t)) (word (before ++ (c ∷ t)) ∷ [])
 says_plain_after breaks12 before c t v leads e read clean = record {
   says = λ rest h.
-      begun_after breaks12 before c t rest begins_plain leads e refl
-      ∙ plain_word breaks12 before c t rest v read clean h ∙ shifted breaks12 before c t rest;
+      begun_after _ _ c t rest _ leads e refl ∙ plain_word _ _ c t rest v read clean h ∙ shifted _ _ c t rest;
 }
 
 -- an empty collection

@@ -85,13 +85,12 @@ at_digits breaks12 c t more number ih ends before rest = by (digit_meaning c) re
         → Ends (quoted_from breaks12 place t)
         → GivesWord breaks12 (in_double before) before (c ∷ t) rest
     within place d e same ends =
-        passed breaks12 before c (t ++ rest) (no_digit c d 0x22 refl e) (no_digit c d 0x5C refl e)
-        ∙ ap (λ p. flow_tokens breaks12 p (t ++ rest)) (sym same)
-        ∙ ih place ends (before ++ (c ∷ [])) rest ∙ shifted breaks12 before c t rest
+        passed _ _ c _ (no_digit c d 0x22 refl e) (no_digit c d 0x5C refl e)
+        ∙ ap (λ p. flow_tokens breaks12 p (t ++ rest)) (sym same) ∙ ih place ends (before ++ (c ∷ [])) rest ∙ shifted _ _ c t rest
 
     number_ends : (b : Bool) (n : ℕ) → Ends (after_step (if b then gives (itself n) else has_no_reading) (λ next. quoted_from breaks12 next t) t)
         → Ends (quoted_from breaks12 between t)
-    number_ends true n ends = unit_ends (itself n) (quoted_from breaks12 between t) ends
+    number_ends true n ends = unit_ends _ _ ends
     number_ends false n ends = absurd ends
 
     by : (meaning : Option ℕ) → digit_meaning c ≡ meaning → (more : ℕ)
@@ -171,6 +170,5 @@ is_unquoted breaks12 (c ∷ d ∷ t) closes before rest h =
 pub single_quoted_word : (breaks12 : Bool) (before t rest v : Text) → read_single breaks12 (0x27 ∷ t) ≡ Some v → begins_unquoted rest ≡ true
     → GivesWord breaks12 (in_single (before ++ (0x27 ∷ []))) (before ++ (0x27 ∷ [])) t rest
 single_quoted_word breaks12 before t rest v read h =
-    is_unquoted breaks12 t
-    (λ none. none_not_some (sym (ap (option_map (λ t. folding_read (map (unit_of breaks12) t))) none) ∙ read))
-    (before ++ (0x27 ∷ [])) rest h
+    is_unquoted _ t
+    (λ none. none_not_some (sym (ap (option_map (λ t. folding_read (map (unit_of breaks12) t))) none) ∙ read)) (before ++ (0x27 ∷ [])) rest h

@@ -36,11 +36,8 @@ lead_key_text : (rules : Rules) (anchor tag : Option Text) (parsed : Option Pars
     → begins_content (c ∷ t) ≡ true → (c == 0x2A) ≡ false → word_after rules false None (record { anchor = anchor; tag = parsed }) (c ∷ t) ≡ read
     → key_of_text rules (lead anchor tag ++ (c ∷ t)) ≡ (if nat_le (length (lead anchor tag ++ (c ∷ t))) longest_key then read else None)
 lead_key_text rules anchor tag parsed c t read given own star e =
-    key_by_word rules _ read
-    (ap (option_and_then (λ tree. if is_alias tree then None else Some tree)) (given_reads rules false anchor tag parsed (c ∷ t) given own)
-    ∙ other_kept _
-    (content_other rules (record { anchor = anchor; tag = parsed }) c t star)
-    ∙ e) (lead_no_alias rules anchor tag parsed c t given own star)
+    key_by_word rules _ read (ap (option_and_then (λ tree. if is_alias tree then None else Some tree)) (given_reads rules false _ tag _ _ given own)
+    ∙ other_kept _ (content_other rules _ c t star) ∙ e) (lead_no_alias rules _ tag _ c t given own star)
 
 -- where it is none it is no key
 pub lead_no_text : (rules : Rules) (anchor tag : Option Text) (parsed : Option ParsedTag) (c : ℕ) (t : Text) → Given rules anchor tag parsed

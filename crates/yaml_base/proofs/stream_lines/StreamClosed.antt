@@ -76,9 +76,8 @@ pub lines_behind : (breaks12 : Bool) (a t head ending : Text) (rest : List Line)
     → lines_of breaks12 (a ++ t) ≡ record { text = a ++ head; ending = ending } ∷ rest
 lines_behind breaks12 [] t head ending rest one is = is
 lines_behind breaks12 (c ∷ a) t head ending rest one is =
-    let parts : (is_read_break breaks12 c ≡ false) × OneLine breaks12 a = or_parts (is_read_break breaks12 c) (list_any (is_read_break breaks12) a) one in
-    ap (λ x. prepend_character x c (lines_of breaks12 (a ++ t))) parts.0
-    ∙ ap (prepend_to_first_line c) (lines_behind breaks12 a t head ending rest parts.1 is)
+    let parts : (is_read_break breaks12 c ≡ false) × OneLine breaks12 a = or_parts _ _ one in
+    ap (λ x. prepend_character x c (lines_of breaks12 (a ++ t))) parts.0 ∙ ap (prepend_to_first_line c) (lines_behind breaks12 a t head ending rest parts.1 is)
 
 -- it moves no line but the first
 pub after_line : (breaks12 : Bool) (a t : Text) → OneLine breaks12 a
@@ -97,8 +96,7 @@ after_line breaks12 (c ∷ a) t one =
 pub lines_broken : (breaks12 : Bool) (a t : Text) → OneLine breaks12 a
     → lines_of breaks12 (a ++ (line_feed ∷ t)) ≡ record { text = a; ending = line_feed ∷ [] } ∷ lines_of breaks12 t
 lines_broken breaks12 a t one =
-    lines_behind breaks12 a (line_feed ∷ t) [] (line_feed ∷ []) (lines_of breaks12 t) one refl
-    ∙ ap (λ h. record { text = h; ending = line_feed ∷ [] } ∷ lines_of breaks12 t) (append-nil a)
+    lines_behind _ a _ [] _ _ one refl ∙ ap (λ h. record { text = h; ending = line_feed ∷ [] } ∷ lines_of breaks12 t) (append-nil a)
 
 -- Texts that end with a break
 

@@ -36,10 +36,9 @@ pub tidy_at_root : (style : ScalarStyle) (breaks12 : Bool) (column : Option ℕ)
     → is_tidy style breaks12 None text ≡ true
 tidy_at_root style breaks12 None text h = h
 tidy_at_root style breaks12 (Some column) text h =
-    let parts = and_parts (list_all (is_tidy_character style) text && has_deep_lines breaks12 (suc column) text) (is_tidy_style style breaks12 text) h in
-    let both = and_parts (list_all (is_tidy_character style) text) (has_deep_lines breaks12 (suc column) text) parts.0 in
-    and_from (list_all (is_tidy_character style) text && has_deep_lines breaks12 1 text) (is_tidy_style style breaks12 text)
-    (and_from _ _ both.0 (deep_lines_fewer breaks12 1 (suc column) text (omega arith) both.1)) parts.1
+    let parts = and_parts _ _ h in
+    let both = and_parts _ _ parts.0 in
+    and_from _ _ (and_from _ _ both.0 (deep_lines_fewer breaks12 1 (suc column) text (omega arith) both.1)) parts.1
 
 -- Lines
 
@@ -76,9 +75,8 @@ pub spaces_inside : (breaks12 : Bool) (column : ℕ) (t : Text) → begins_with_
 spaces_inside breaks12 column [] h = absurd (false≢true h)
 spaces_inside breaks12 zero (c ∷ t) h = grind (arith, and_parts, first_after_space)
 spaces_inside breaks12 (suc column) (c ∷ t) h =
-    let parts = and_parts (c == space) (begins_with_spaces (suc column) t) h in
-    ap (belongs_to_entry true (suc column)) (first_after_space breaks12 c t parts.0)
-    ∙ and_from (c == space) (belongs_to_entry true column (first_text (lines_of breaks12 t))) parts.0 (spaces_inside breaks12 column t parts.1)
+    let parts = and_parts _ _ h in
+    ap (belongs_to_entry true (suc column)) (first_after_space _ c t parts.0) ∙ and_from _ _ parts.0 (spaces_inside breaks12 column t parts.1)
 
 -- a deep line lies inside the column
 first_inside : (breaks12 : Bool) (column : ℕ) (t : Text) → begins_with_deep_line breaks12 (suc column) t ≡ true

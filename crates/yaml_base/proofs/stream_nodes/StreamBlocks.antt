@@ -68,8 +68,7 @@ block_on_line : (rules : Rules) (n e : ℕ) (text : Text) (make : Option Text �
 block_on_line rules n e text make block depth deep reads_text properties tag parsed =
     let lines = lines_of rules.breaks12 text in
     ap (λ ls. node_at rules (node_read depth rules) reads_text properties true (not (first_line_is_blank lines)) ls)
-    (opened_shows rules e lines block.kind block.opened).1
-    ∙ block.reads depth deep reads_text properties (not (first_line_is_blank lines)) tag parsed
+    (opened_shows rules e lines _ block.opened).1 ∙ block.reads depth deep reads_text properties (not (first_line_is_blank lines)) tag parsed
 
 -- Cursors
 
@@ -288,8 +287,7 @@ parsed_fits rules n e place cursor begun entries text make anchor tag block all 
     let prefix = spaces parsed.count ++ core in
     let one = one_line_both rules.breaks12 (spaces parsed.count) core (spaces_line rules.breaks12 parsed.count) parsed.one_line in
     let same : closed (block_own begun entries) ≡ prefix ++ (line_feed ∷ text)
-    = own_closed begun entries ∙ ap (λ t. begun.text ++ t) (below rules e begun.cursor entries text all.lays parsed.ends)
-    ∙ ap (λ t. t ++ (line_feed ∷ text)) parsed.text in
+    = own_closed begun entries ∙ ap (λ t. begun.text ++ t) (below rules e _ _ text all.lays parsed.ends) ∙ ap (λ t. t ++ (line_feed ∷ text)) parsed.text in
     record {
       settled = all.settled;
       ends = ap (is_closed rules.breaks12) same ∙ below_ends rules.breaks12 prefix text all.ends;

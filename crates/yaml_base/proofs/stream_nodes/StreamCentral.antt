@@ -24,8 +24,7 @@ items_open : (rules : Rules) (s : Effective) (directives : List TagDirective) (i
 items_open rules s directives no_nodes e fit h = absurd (true≢false h)
 items_open rules s directives (nodes_and no_nodes last) e fit h = grind (arith, indicated_lines, unbroken_line rules.breaks12 (0x2D ∷ []) refl)
 items_open rules s directives (nodes_and (nodes_and items one) last) e fit h =
-    subst (λ ls. Opened rules e ls begins_sequence) (sym (items_lines rules s directives (nodes_and items one) last e fit.0)) (opened_more rules e _
-    (lines_of rules.breaks12 (spaces e ++ (0x2D ∷ item_text (nodes_and items one) last s directives e)))
+    subst (λ ls. Opened rules e ls begins_sequence) (sym (items_lines rules s directives (nodes_and items one) last e fit.0)) (opened_more rules e _ _
     _ (items_open rules s directives (nodes_and items one) e fit.0 refl))
 
 -- a line with a key begins a mapping

@@ -112,12 +112,11 @@ item_reads : (rules : Rules) (s : Effective) (directives : List TagDirective) (i
     ≡ Some (node_tree last s directives (entry_place false (as_item (has_no_nodes items)) 0))
 item_reads rules s directives items last e fit depth deep =
     let o = fit.opens refl in
-    ap (item_read (node_read depth rules) e) (indicated_lines rules.breaks12 e 0x2D (item_text items last s directives e) o (unbroken_line rules.breaks12 (0x2D ∷ []) refl))
-    ∙ ap (item_by_indicator (node_read depth rules) e o.ending o.rest) (past_spaces e (0x2D ∷ o.head))
+    ap (item_read (node_read depth rules) e) (indicated_lines _ e 0x2D _ o (unbroken_line rules.breaks12 (0x2D ∷ []) refl))
+    ∙ ap (item_by_indicator (node_read depth rules) e o.ending o.rest) (past_spaces e _)
     ∙ ap (λ x. if x then node_read depth rules true (Some e) (blanked (suc e) o.head o.ending ∷ o.rest) else None) o.symbol
     ∙ ap (node_read depth rules true (Some e)) (sym (blanked_lines rules.breaks12 (suc e) (item_text items last s directives e) o))
-    ∙ fit.reads depth deep true (suc e) (λ h. (refl, omega arith))
-    ∙ ap Some (tree_anywhere last s directives false (as_item (has_no_nodes items)) e 0)
+    ∙ fit.reads depth deep true (suc e) (λ h. (refl, omega arith)) ∙ ap Some (tree_anywhere last s directives false (as_item (has_no_nodes items)) e 0)
 
 -- the entries of a sequence read as its trees, whatever entries follow
 pub items_read_back : (rules : Rules) (s : Effective) (directives : List TagDirective) (items : Nodes) (e : ℕ) → ItemsFit rules s directives items e

@@ -52,12 +52,11 @@ text_lines rules column text tree t (suc depth) deep here k =
     let line : Line = record { text = spaces k ++ (t.head ∷ t.first); ending = t.ending } in
     let by : ReadsText = λ at text. text_or_properties (begins_properties text) rules (node_read depth rules) column at text in
     let begun : Indented = record { column = k; text = t.head ∷ t.first } in
-    ap (node_read (suc depth) rules here column)
-    (lines_behind rules.breaks12 (spaces k) text (t.head ∷ t.first) t.ending t.rest (spaces_line rules.breaks12 k) t.is)
+    ap (node_read (suc depth) rules here column) (lines_behind rules.breaks12 (spaces k) text (t.head ∷ t.first) t.ending t.rest (spaces_line _ k) t.is)
     ∙ ap (λ x. node_at rules (node_read depth rules) by no_properties (here || x) (not x) (if x then without_blank_lines t.rest else line ∷ t.rest))
-    (not_blank k t.head t.first t.shows)
+    (not_blank k _ _ t.shows)
     ∙ ap (λ (i : Indented). node_by_kind (kind_of_node rules i.text) rules (node_read depth rules) by no_properties (here || false) true i t.ending t.rest
-    (line ∷ t.rest)) (indented_spaces k t.head t.first t.shows)
+    (line ∷ t.rest)) (indented_spaces k _ _ t.shows)
     ∙ ap (λ x. node_by_kind x rules (node_read depth rules) by no_properties (here || false) true begun t.ending t.rest (line ∷ t.rest)) t.kind
     ∙ t.read (node_read depth rules) k
 

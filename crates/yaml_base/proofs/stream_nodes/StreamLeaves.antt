@@ -112,9 +112,7 @@ mutual
       let place = block_place role column in
       let begun = render_begun s directives start cursor in
       let e = entries_column false (is_undented s role) s.indent column begun.cursor in
-      either_of (LeafFits (rules_of s own) s directives (sequence_node start items) place cursor)
-      (BegunReads (rules_of s own) s directives start cursor × ItemLeaves items (rules_of s own) s directives e)
-      (is_written_in_flow s place start (has_no_nodes items))
+      either_of _ _ _
       (λ h. flows (sequence_node start items) role column cursor may h simple stands names bodies)
       (λ h. (
         begun_reads s own _ start cursor names.0 names.1,

@@ -42,8 +42,7 @@ own_read rules column properties c t h deeper =
     let lines = lines_of rules.breaks12 t in
     let whole = (c ∷ first_text lines) ++ (first_ending lines ++ text_of_lines (lines_after_first lines)) in
     ap (λ x. if x then text_by_kind (kind_of_text (c ∷ [])) rules column properties whole else None) deeper
-    ∙ ap (text_by_kind (kind_of_text (c ∷ [])) rules column properties)
-    (sym (ap text_of_lines (lines_shown rules.breaks12 c t h)) ∙ text_of_lines_of rules.breaks12 (c ∷ t))
+    ∙ ap (text_by_kind (kind_of_text (c ∷ [])) rules column properties) (sym (ap text_of_lines (lines_shown _ c t h)) ∙ text_of_lines_of _ _)
 
 -- Keys
 
@@ -108,12 +107,11 @@ parsed_reads rules reads column at anchor tag parsed c f ending rest given conte
     behind anchor tag parsed given has =
         let count = length (properties_text anchor tag) + lead_spaces anchor tag in
         let properties : Properties = record { anchor = anchor; tag = parsed } in
-        ap (λ t. after_properties rules reads column at ending rest (properties_read rules.directives t)) (lead_then anchor tag (c ∷ f))
+        ap (λ t. after_properties rules reads column at ending rest (properties_read rules.directives t)) (lead_then _ tag _)
         ∙ ap (after_properties rules reads column at ending rest) (properties_parsed _ anchor tag parsed _ (c ∷ f) given.named given.tagged content
         (λ h. ap (λ x. ends_indicator (spaces (if x then 1 else 0) ++ (c ∷ f))) has))
         ∙ ap (λ t. node_lines rules reads (λ at. text_read rules column properties) properties false (record { text = t; ending = ending } ∷ rest))
-        (spaces_both at count _ (c ∷ f) refl)
-        ∙ behind_reads rules reads column properties (at + count) c f ending rest shown.0 kind
+        (spaces_both at count _ (c ∷ f) refl) ∙ behind_reads rules reads column properties (at + count) c f ending rest shown.0 kind
 
     by : (anchor tag : Option Text) (parsed : Option ParsedTag) → Given rules anchor tag parsed
         → text_or_properties (begins_properties (lead anchor tag ++ (c ∷ f))) rules reads column at (lead anchor tag ++ (c ∷ f)) ending rest
@@ -124,8 +122,7 @@ parsed_reads rules reads column at anchor tag parsed c f ending rest given conte
     by (Some name) (Some tag) parsed given = behind (Some name) (Some tag) parsed given refl
     by None (Some tag) (Some parsed) given =
         ap (λ t. text_or_properties (begins_properties ((t ++ (space ∷ [])) ++ (c ∷ f))) rules reads column at (lead None (Some tag) ++ (c ∷ f)) ending rest)
-        given.tagged.begins
-        ∙ behind None (Some tag) (Some parsed) given refl
+        given.tagged.begins ∙ behind None (Some tag) (Some parsed) given refl
     by None (Some tag) None given = absurd given.tagged
 
 -- the first character of a line that begins so
@@ -152,7 +149,6 @@ own_reads rules column text value style anchor tag given_tag bare own given mean
     let parsed = tag_meant given_tag bare in
     let lines = lines_of rules.breaks12 own.tail in
     let f = first_text lines in
-    let line = lead anchor tag ++ (own.head ∷ f) in
     let properties : Properties = record { anchor = anchor; tag = parsed } in
     let parts = and_parts (not (own.head == space)) (not (own.head == 0x26) && not (own.head == 0x21)) own.content in
     let h = headed rules anchor tag parsed own.head f given (not-true (own.head == space) parts.0) in

@@ -103,12 +103,11 @@ pairs_read_back rules s directives (pairs_and pairs key value) e fit depth deep 
     let before = pairs_tree pairs s directives false in
     ap (fold (entry_read rules (node_read depth rules) e) (Some no_pairs_held)) (append_assoc (pair_entries rules.breaks12 pairs s directives e) own rest)
     ∙ pairs_read_back rules s directives pairs e fit.0 depth (omega arith) (own ++ rest)
-    ∙ pair_reads x rules s directives pairs key value e fit.1 depth (omega arith) (omega arith) before rest
+    ∙ pair_reads x rules s _ pairs key value e fit.1 depth (omega arith) (omega arith) _ rest
     ∙ ap (λ k. fold (entry_read rules (node_read depth rules) e) (held (tree_pairs_and before k (node_tree value s directives (value_place x e))) None) rest)
-    (tree_anywhere key s directives false (as_key (has_no_pairs pairs)) e 0)
-    ∙ ap (λ v. fold (entry_read rules (node_read depth rules) e)
+    (tree_anywhere key s _ false _ e 0) ∙ ap (λ v. fold (entry_read rules (node_read depth rules) e)
     (held (tree_pairs_and before (node_tree key s directives (entry_place false (as_key (has_no_pairs pairs)) 0)) v) None) rest)
-    (tree_anywhere value s directives false (as_value x) e 0)
+    (tree_anywhere value s _ false _ e 0)
 
 -- Layout
 

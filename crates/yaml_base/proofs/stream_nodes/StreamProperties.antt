@@ -78,9 +78,8 @@ name_letters (c ∷ name) h = grind (arith, none_not_some)
 pub no_white_no_space : (text : Text) → holds_white text ≡ false → has_no_space text ≡ true
 no_white_no_space [] h = refl
 no_white_no_space (c ∷ text) h =
-    let parts = or_parts (is_blank c || is_break c) (holds_white text) h in
-    ap (λ x. not x && has_no_space text) (or_parts (c == space) (c == 0x9) (or_parts (is_blank c) (is_break c) parts.0).0).0
-    ∙ no_white_no_space text parts.1
+    let parts = or_parts _ _ h in
+    ap (λ x. not x && has_no_space text) (or_parts _ _ (or_parts _ _ parts.0).0).0 ∙ no_white_no_space text parts.1
 
 -- Spaces
 
@@ -155,16 +154,15 @@ pub properties_parsed : (directives : List TagDirective) (anchor tag : Option Te
     → properties_read directives (properties_text anchor tag ++ (spaces n ++ rest)) ≡ read_as anchor parsed (length (properties_text anchor tag) + n) rest
 properties_parsed directives None None None n rest named tagged own ends = grind (arith, no_anchor, content_indented, no_tag)
 properties_parsed directives (Some name) None None n rest named tagged own ends =
-    ap (then_tag directives) (with_anchor name (spaces n ++ rest) named (ends refl))
-    ∙ ap (λ t. let after : Indented = past_indentation t in tag_first directives (Some name) after.column after.text) (spaces_both (suc (length name)) n rest)
-    ∙ ap (λ (after : Indented). tag_first directives (Some name) after.column after.text) (content_indented (suc (length name) + n) rest own)
-    ∙ no_tag directives (Some name) (suc (length name) + n) rest own
+    ap (then_tag directives) (with_anchor name _ named (ends refl))
+    ∙ ap (λ t. let after : Indented = past_indentation t in tag_first directives (Some name) after.column after.text) (spaces_both _ n rest)
+    ∙ ap (λ (after : Indented). tag_first directives (Some name) after.column after.text) (content_indented _ rest own) ∙ no_tag _ _ _ rest own
 properties_parsed directives None (Some tag) (Some parsed) n rest named tagged own ends =
     ap (then_tag directives) (no_anchor_tag tagged.begins)
-    ∙ ap (λ (after : Indented). tag_first directives None after.column after.text) (tag_content directives 0 tag (spaces n ++ rest) parsed tagged)
-    ∙ with_tag directives None 0 tag (spaces n ++ rest) parsed tagged (ends refl)
+    ∙ ap (λ (after : Indented). tag_first directives None after.column after.text) (tag_content _ 0 tag _ _ tagged)
+    ∙ with_tag _ None 0 tag _ _ tagged (ends refl)
     ∙ ap (λ t. let made : Option PropertiesRead = Some (record { properties = record { anchor = None; tag = Some parsed }; text = t }) in made)
-    (spaces_both (0 + length tag) n rest ∙ (let e : (0 + length tag) + n ≡ length tag + n = omega arith in ap (λ k. spaces k ++ rest) e))
+    (spaces_both _ n rest ∙ (let e : (0 + length tag) + n ≡ length tag + n = omega arith in ap (λ k. spaces k ++ rest) e))
   where
     no_anchor_tag : {more : Text} → tag ≡ 0x21 ∷ more
         → anchor_first (tag ++ (spaces n ++ rest)) ≡ Some (record { properties = no_properties; text = tag ++ (spaces n ++ rest) })
@@ -172,10 +170,9 @@ properties_parsed directives None (Some tag) (Some parsed) n rest named tagged o
         ∙ ap (λ t. let made : Option PropertiesRead = Some (record { properties = no_properties; text = t ++ (spaces n ++ rest) }) in made) (sym e)
 properties_parsed directives (Some name) (Some tag) (Some parsed) n rest named tagged own ends =
     ap (λ t. then_tag directives (anchor_first (0x26 ∷ t))) (append_assoc name (space ∷ tag) (spaces n ++ rest))
-    ∙ ap (then_tag directives) (with_anchor name (space ∷ (tag ++ (spaces n ++ rest))) named refl)
+    ∙ ap (then_tag directives) (with_anchor name _ named refl)
     ∙ ap (λ t. let after : Indented = past_indentation t in tag_first directives (Some name) after.column after.text)
-    (space_after (suc (length name)) (tag ++ (spaces n ++ rest)))
-    ∙ ap (λ (after : Indented). tag_first directives (Some name) after.column after.text)
+    (space_after (suc (length name)) (tag ++ (spaces n ++ rest))) ∙ ap (λ (after : Indented). tag_first directives (Some name) after.column after.text)
     (tag_content directives (suc (suc (length name))) tag (spaces n ++ rest) parsed tagged)
     ∙ with_tag directives (Some name) (suc (suc (length name))) tag (spaces n ++ rest) parsed tagged (ends refl)
     ∙ ap (λ t. let made : Option PropertiesRead = Some (record { properties = record { anchor = Some name; tag = Some parsed }; text = t }) in made)

@@ -82,11 +82,9 @@ second_indicator handle c suffix (inr form) h = by form.0 form.1 form.2
 shorthand_as_read : (own : List TagDirective) (handle : Text) (c : ℕ) (suffix : Text) → IsHandle handle → list_all stands_written (c ∷ suffix) ≡ true
     → list_all may_follow_handle (c ∷ suffix) ≡ true → tag_parsed own (handle ++ (c ∷ suffix)) ≡ tag_read own (handle ++ (c ∷ suffix))
 shorthand_as_read own handle c suffix form stands h =
-    let second = second_indicator handle c suffix form (and_parts (stands_written c) (list_all stands_written suffix) stands).0 in
-    ap (tag_parsed own) second.2
-    ∙ by_handle own second.0 second.1 handle c suffix second.3
-    (ap cut_after_exclamation (sym second.2) ∙ cut_at_handle handle (c ∷ suffix) form (stands_no_exclamation (c ∷ suffix) stands)) h
-    ∙ ap (tag_read own) (sym second.2)
+    let second = second_indicator _ c _ form (and_parts _ _ stands).0 in
+    ap (tag_parsed own) second.2 ∙ by_handle own second.0 second.1 handle c suffix second.3
+    (ap cut_after_exclamation (sym second.2) ∙ cut_at_handle _ _ form (stands_no_exclamation (c ∷ suffix) stands)) h ∙ ap (tag_read own) (sym second.2)
 
 nothing_begins : {c : ℕ} {t : Text} → ◌≡◌ {A = Text} [] (c ∷ t) → ⊥
 nothing_begins e = cc

@@ -104,9 +104,9 @@ mutual
       let simple = is_simple_at place s.canonical directives (sequence_node start items) in
       let symbols = render_place s place simple standing.cursor in
       let begun = render_properties s.portable directives start.anchor (collection_tag s.canonical start) false symbols.cursor in
-      let column = entries_column in_flow (is_undented s place.role) s.indent place.column begun.cursor in
+      let column = entries_column in_flow _ _ _ begun.cursor in
       let before : Standing = record { cursor = begun.cursor; open_ended = standing.open_ended } in
-      let all = items_joined items s directives in_flow column before in
+      let all = items_joined items s directives in_flow _ before in
       collection_parts symbols begun (render_nodes items s directives in_flow column before) (items_own items s directives in_flow column begun.cursor)
       (render_end s square in_flow (has_no_nodes items) place.column) all
   node_joined (mapping_node start pairs) s directives place standing =
@@ -140,5 +140,4 @@ mutual
       joined_both (then_pieces before (render_node key s directives key_place)) (render_node value s directives value_place)
       (render_then own (node_placed key s directives key_place)) (node_placed value s directives value_place)
       (joined_both before (render_node key s directives key_place) own (node_placed key s directives key_place)
-      (pairs_joined pairs s directives in_flow column standing) (node_joined key s directives key_place))
-      (node_joined value s directives value_place)
+      (pairs_joined pairs s directives in_flow column standing) (node_joined key s directives key_place)) (node_joined value s directives value_place)

@@ -16,5 +16,4 @@ seen_at seen items place (Some item) is =
 
 pub returns : goal.returns
 returns g c =
-    seen_at seen_node c.as_slice.result.now c.args.place c.get.result c.get.ensures.lookup
-    ∙ ap (λ nodes. slice_get (map seen_node nodes) c.args.place) c.as_slice.ensures.value
+    seen_at _ _ _ _ c.get.ensures.lookup ∙ ap (λ nodes. slice_get (map seen_node nodes) c.args.place) c.as_slice.ensures.value
