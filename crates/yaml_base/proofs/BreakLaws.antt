@@ -1,6 +1,6 @@
 -- Reading line breaks undoes the writing of them; and lines stay indented as their breaks are written.
-use Rattle.yaml_base.proofs.Common.{nat_tests, arith, ℕ, if◌then◌else◌, ◌==◌, Bool, false, not, true, ◌&&◌, ◌||◌, [], ◌++◌, ◌∷◌, refl, ◌≡◌, eqb-true, or_cases}
-use Rattle.yaml_base.proofs.Common.{and_parts, and_from, or_parts, or_left, or_right, not-true, Text, line_feed, carriage_return, next_line, space, is_break}
+use Rattle.yaml_base.proofs.Common.{nat_tests, arith, ℕ, if◌then◌else◌, ◌==◌, Bool, false, not, true, ◌||◌, [], ◌++◌, ◌∷◌, refl, ◌≡◌, eqb-true, or_cases}
+use Rattle.yaml_base.proofs.Common.{and_parts, and_from, or_parts, or_left, or_right, not-true, Text, line_feed, carriage_return, next_line, is_break}
 use Rattle.yaml_base.proofs.Common.{break_text, with_breaks_written, with_line_breaks_read, is_rendered_text, is_indented_text, LineBreak, false≢true}
 use Rattle.yaml_base.proofs.Common.{carriage_return_break}
 use Rattle.yaml_base.specs.LineBreaks.{line_breaks_read_after, begins_indented}
@@ -46,16 +46,11 @@ pub break-begins : (c : ℕ) (rest : Text) → is_break c ≡ true → begins_in
 break-begins c [] h = h
 break-begins c (d ∷ rest) h = or_left _ _ h
 
--- a line that begins with two spaces keeps them
-spaces-begin : (setting : LineBreak) (a d : ℕ) (rest : Text) → (a == space && d == space) ≡ true
-    → begins_indented (a ∷ with_breaks_written setting (d ∷ rest)) ≡ true
-spaces-begin setting a d rest h = grind (arith, and_parts, eqb-true)
-
 -- a line's first character is kept
 kept-begins : (setting : LineBreak) (a : ℕ) (rest : Text) → begins_indented (a ∷ rest) ≡ true
     → begins_indented (a ∷ with_breaks_written setting rest) ≡ true
 kept-begins setting a [] h = h
-kept-begins setting a (d ∷ rest) h = grind (arith, or_cases, break-begins, spaces-begin)
+kept-begins setting a (d ∷ rest) h = grind (arith, or_cases, break-begins, and_parts, eqb-true)
 
 -- a line begins as before, or with a break
 first-begins : (setting : LineBreak) (a : ℕ) (rest : Text) (x : Bool) → begins_indented (a ∷ rest) ≡ true
@@ -67,16 +62,11 @@ begins-written : (setting : LineBreak) (rest : Text) → begins_indented rest �
 begins-written setting [] h = refl
 begins-written setting (a ∷ rest) h = first-begins setting a rest (a == line_feed) h
 
--- a break, as the setting writes it, before a line
-break-written : (setting : LineBreak) (text : Text) → begins_indented text ≡ true → is_indented_text text ≡ true
-    → is_indented_text (break_text setting ++ text) ≡ true
-break-written setting text h k = grind (arith, nat_tests, and_from, break-begins)
-
 character-written : (setting : LineBreak) (c : ℕ) (rest : Text) (x : Bool) → (c == line_feed) ≡ x
     → (not (is_break c) || begins_indented rest) ≡ true
     → is_indented_text (with_breaks_written setting rest) ≡ true
     → is_indented_text ((if x then break_text setting else c ∷ []) ++ with_breaks_written setting rest) ≡ true
-character-written setting c rest true is h ih = grind (arith, eqb-true, break-written, begins-written)
+character-written setting c rest true is h ih = grind (arith, nat_tests, eqb-true, and_from, break-begins, begins-written)
 character-written setting c rest false is h ih = grind (arith, or_cases, and_from, or_left, or_right, begins-written)
 
 -- an indented text stays so, however its line breaks are written

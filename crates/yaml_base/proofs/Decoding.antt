@@ -1,5 +1,5 @@
 -- The bytes of a text decode to the text.
-use Rattle.yaml_base.proofs.Common.{ℕ, ◌%◌, ◌*◌, ◌+◌, ◌-◌, ◌/◌, ◌<◌, ◌≤◌, Some, nat_le, nat_lt, encode_utf8, cond, false, true, ◌&&◌, List, [], ◌++◌, ◌∷◌}
+use Rattle.yaml_base.proofs.Common.{ℕ, ◌%◌, ◌*◌, ◌+◌, ◌-◌, ◌/◌, ◌<◌, Some, nat_le, nat_lt, encode_utf8, cond, false, true, ◌&&◌, List, [], ◌++◌, ◌∷◌}
 use Rattle.yaml_base.proofs.Common.{refl, ◌≡◌, le-leb, le-ltb, lt-ltb, inl, inr, ap, sym, ◌∙◌, arith, and_parts, chars-encodes, all_scalars, chars}
 use Rattle.yaml_base.proofs.Common.{encode_utf8_all, scalar_cases, Text, encode, Encoding, utf8, utf16_little, utf16_big}
 use Rattle.std.{proofs.lemmas.Bool.lt-leb, proofs.lemmas.Bool.cases_lt, specs.Char.IsScalar}
@@ -53,12 +53,8 @@ lone c (u ∷ us) s =
 below_end : (c : ℕ) → IsScalar c → c < 0x110000
 below_end c s = elim (scalar_cases c s) as (λ _. c < 0x110000) [ inl low ↦ omega arith | inr high ↦ omega arith ]
 
-pair : (c : ℕ) (units : List ℕ) → IsScalar c → 0x10000 ≤ c
-    → text_of_units ((0xD800 + (c - 0x10000) / 0x400) ∷ (0xDC00 + (c - 0x10000) % 0x400) ∷ units) ≡ c ∷ text_of_units units
-pair c units s above = grind (arith, below_end, le-leb, lt-ltb)
-
 text_of_units-utf16_units : (c : ℕ) (units : List ℕ) → IsScalar c → text_of_units (utf16_units c ++ units) ≡ c ∷ text_of_units units
-text_of_units-utf16_units c units s = grind (arith, cases_lt, lt-ltb, lone, le-ltb, pair)
+text_of_units-utf16_units c units s = grind (arith, cases_lt, lt-ltb, lone, le-ltb, below_end, le-leb)
 
 text_of_units-units_of : (text : Text) → all_scalars text ≡ true → text_of_units (units_of text) ≡ text
 text_of_units-units_of [] s = refl

@@ -1,11 +1,11 @@
 -- What scalars and aliases write under the settings of canonical values.
 use Rattle.yaml_base.proofs.Common.{ℕ, Bool, true, false, not, ◌&&◌, Option, None, Some, List, [], ◌∷◌, ◌++◌, refl, ◌≡◌, subst, sym, append_assoc, append-nil}
-use Rattle.yaml_base.proofs.Common.{and-false, codes, if◌then◌else◌, true≢false, Text, space, is_some, flat_map-append, flat_map, Cursor, Rendered, Standing}
+use Rattle.yaml_base.proofs.Common.{and-false, codes, true≢false, Text, space, is_some, flat_map-append, flat_map, Cursor, Rendered, Standing}
 use Rattle.yaml_base.proofs.Common.{RenderedPieces, Piece, text_of, piece_text, one_piece, then_pieces, Place, render_place, Effective, effective}
 use Rattle.yaml_base.proofs.Common.{directives_in_force, TagDirective, character_text, double_inside, render_properties, render_anchor, Spelling, shorthand}
 use Rattle.yaml_base.proofs.Common.{verbatim, spelled, Scalar, arith, nat_tests}
 use Rattle.yaml_base.specs.Cursor.{render_text, space_if}
-use Rattle.yaml_base.specs.NodeLayout.{alias_piece, render_spelling, render_tag, scalar_piece}
+use Rattle.yaml_base.specs.NodeLayout.{alias_piece, render_spelling, scalar_piece}
 use Rattle.yaml_base.specs.values.TypedValues.{typed_settings}
 use Rattle.yaml_base.specs.values.ValueText.{in_quotes}
 use Rattle.yaml_base.specs.graphs.DumpedText.{anchor_text, tag_text, scalar_properties}
@@ -52,12 +52,9 @@ spelled_is : (tag : Spelling) (cursor : Cursor) → IsProperty (spelled false ta
 spelled_is (shorthand handle suffix) cursor = simp append_assoc
 spelled_is (verbatim tag) cursor = simp append_assoc
 
-tag_is : (tag : Option Text) (bare : Bool) (cursor : Cursor) → IsProperty (tag_text tag bare) cursor (render_tag false force tag bare cursor)
-tag_is tag bare cursor = grind (arith, nat_tests, spelled_is, append_assoc, append-nil)
-
 pub properties_are : (anchor tag : Option Text) (bare : Bool) (cursor : Cursor)
     → IsProperty (anchor_text anchor ++ tag_text tag bare) cursor (render_properties false force anchor tag bare cursor)
-properties_are anchor tag bare cursor = grind (arith, append_assoc, tag_is, anchor_is)
+properties_are anchor tag bare cursor = grind (arith, nat_tests, append_assoc, spelled_is, append-nil, anchor_is)
 
 -- ---- scalars and aliases
 
@@ -80,13 +77,10 @@ led before text = before.text ++ (space_if true before.cursor ++ text)
 abbrev is_bare : Scalar → Bool
 is_bare content = not (is_some content.tag) && not content.quoted_implicit && true
 
-bare_is : (content : Scalar) → tag_text content.tag (is_bare content) ≡ tag_text content.tag (not content.quoted_implicit)
-bare_is content = grind (arith)
-
 pub scalar_writes : (content : Scalar) (place : Place) (standing : Standing)
     → Writes (led (lead place standing) (scalar_properties content ++ in_quotes content.value)) standing.open_ended
     (one_piece (scalar_piece s force place false content standing))
-scalar_writes content place standing = grind (arith, append-nil, inside_is, properties_are, bare_is, append_assoc, and-false)
+scalar_writes content place standing = grind (arith, append-nil, inside_is, properties_are, append_assoc, and-false)
 
 pub alias_writes : (name : Text) (place : Place) (standing : Standing)
     → Writes (led (lead place standing) (codes "*" ++ name)) standing.open_ended (one_piece (alias_piece s place false name standing))

@@ -3,8 +3,8 @@ use Rattle.yaml_base.proofs.Common.{suc, zero, ℕ, ◌%◌, ◌+◌, ◌-◌, �
 use Rattle.yaml_base.proofs.Common.{Some, length, replicate, Bool, cond, false, true, ◌&&◌, ◌||◌, List, [], ◌++◌, ◌∷◌, ◌⊎◌, refl, ◌≡◌, eq-eqb, append_assoc}
 use Rattle.yaml_base.proofs.Common.{inl, inr, ap, subst, sym, ◌∙◌, arith, or-true, nat_tests, list_all-append, digit_glyph, digits_onto, filter_map, list_all}
 use Rattle.yaml_base.proofs.Common.{position, option_or, Text, is_alpha, DocumentStart, Event, stream_start, stream_end, document_start, document_end, alias}
-use Rattle.yaml_base.proofs.Common.{sequence_end, mapping_end, Stream, stream_events, Partial, after_stream, push, partial_of, some_if, name_or_tag_fault}
-use Rattle.yaml_base.proofs.Common.{content_fault, expected, place_fault, depth_fault, refusal_at, refusal, name_fault, anchor_fault, alias_fault, tag_fault}
+use Rattle.yaml_base.proofs.Common.{sequence_end, mapping_end, Stream, stream_events, Partial, after_stream, partial_of, some_if, name_or_tag_fault}
+use Rattle.yaml_base.proofs.Common.{content_fault, expected, place_fault, refusal_at, refusal, name_fault, anchor_fault, alias_fault, tag_fault}
 use Rattle.yaml_base.proofs.Common.{Held, scalar_held, sequence_held, mapping_held, GraphNode, Graph, node_numbered, Step, enters, leaves, meets_again}
 use Rattle.yaml_base.proofs.Common.{node_met_again, shared_nodes, numbered_name, anchor_of, opening_event_of, opening_events, closing_event_of}
 use Rattle.yaml_base.proofs.Common.{closing_events, step_events, document_event_list}

@@ -1,16 +1,11 @@
 -- What a number of JSON is spelled as is the same number.
-use Rattle.yaml_base.proofs.Common.{nat_tests, ℕ, ◌*◌, ◌+◌, Option, codes, neg_ℤ, negsuc, pos, ℤ, ◌+ℤ◌, Bool, false, true}
-use Rattle.yaml_base.proofs.Common.{[], ◌++◌, ◌≡◌, append-nil, arith, Decides-int_eq, digits_value, Text, JsonExponent, JsonNumber}
-use Rattle.yaml_base.proofs.Common.{json_value, number_meant, means_number, Decimal, signed}
+use Rattle.yaml_base.proofs.Common.{nat_tests, ℕ, ◌*◌, ◌+◌, Option, neg_ℤ, negsuc, pos, ℤ, ◌+ℤ◌, Bool, false, true}
+use Rattle.yaml_base.proofs.Common.{◌≡◌, append-nil, arith, Decides-int_eq, Text, JsonExponent, JsonNumber}
+use Rattle.yaml_base.proofs.Common.{json_value, number_meant, means_number, signed}
 use Rattle.std.{proofs.lemmas.Int.ints, proofs.lemmas.Int.Digits.digits_value_push, specs.Ordering.int_eq, specs.Prelude.◌*ℤ◌, specs.Prelude.◌-ℤ◌}
-use Rattle.yaml_base.specs.values.JsonNumbers.{is_same_number}
 
 same_integer : (a b : ℤ) → a ≡ b → int_eq a b ≡ true
 same_integer a b h = (Decides-int_eq a b).1 h
-
--- a decimal is the same number as itself
-pub itself_same : (number : Decimal) → is_same_number number number ≡ true
-itself_same number = grind (arith, same_integer)
 
 one_above : (e : ℤ) → (neg_ℤ (pos 0) +ℤ e) -ℤ (neg_ℤ (pos 1) +ℤ e) ≡ pos 1
 one_above e = omega (arith, ints)
@@ -29,17 +24,11 @@ rise gap = elim gap as (λ _. ℕ) [
   | negsuc n ↦ 0
 ]
 
--- a number with `.0` added
-zero_added : (negative : Bool) (whole : Text) (e : ℤ)
-    → is_same_number (record { digits = signed negative (digits_value 10 (whole ++ codes "0")); exponent = neg_ℤ (pos 1) +ℤ e })
-    (record { digits = signed negative (digits_value 10 (whole ++ [])); exponent = neg_ℤ (pos 0) +ℤ e }) ≡ true
-zero_added negative whole e = grind (arith, same_integer, one_below, digits_value_push, tenfold, append-nil, one_above)
-
 -- what a number's spelling means is the number, by its parts
 keeps : (negative : Bool) (whole : Text) (fraction : Option Text) (exponent : Option JsonExponent)
     → means_number (json_value (record { negative = negative; whole = whole; fraction = fraction; exponent = exponent }))
     (number_meant (record { negative = negative; whole = whole; fraction = fraction; exponent = exponent })) ≡ true
-keeps negative whole fraction exponent = grind (arith, nat_tests, itself_same, zero_added, same_integer, append-nil)
+keeps negative whole fraction exponent = grind (arith, nat_tests, one_below, digits_value_push, tenfold, one_above, same_integer, append-nil)
 
 -- what a number's spelling means is the number
 pub spelling_keeps_value : (number : JsonNumber) → means_number (json_value number) (number_meant number) ≡ true

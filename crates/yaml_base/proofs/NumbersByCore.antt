@@ -57,14 +57,10 @@ scientific_read mantissa read text decimal (Some exponent) reads h e = grind (ar
 
 -- The core schema
 
-core_integer_read : (negative : Bool) (c : ℕ) (digits : Text) → list_all is_decimal (c ∷ digits) ≡ true
-    → core_integer (minus negative ++ (c ∷ digits)) ≡ Some (meant_integer (signed negative (digits_value 10 (c ∷ digits))))
-core_integer_read negative c digits h = grind (arith, past_minus, minus_read, given, some_digits, and_parts)
-
 -- an integer by the core schema
 pub integer_by_core : (negative : Bool) (c : ℕ) (digits : Text) → list_all is_decimal (c ∷ digits) ≡ true
     → resolved_by_core (minus negative ++ (c ∷ digits)) ≡ meant_integer (signed negative (digits_value 10 (c ∷ digits)))
-integer_by_core negative c digits h = grind (arith, passed, no_word_of_core, and_parts, found, core_integer_read)
+integer_by_core negative c digits h = grind (arith, passed, no_word_of_core, and_parts, found, past_minus, minus_read, given, some_digits)
 
 -- what follows the whole part of a number that is no integer
 abbrev pub after_whole : (fraction : Text) → Option JsonExponent → Text

@@ -6,8 +6,8 @@ use Rattle.std.proofs.{Common.add-one, Common.drop-cons, Common.IsTrue, lemmas.L
 use Rattle.std.proofs.lemmas.List.{drop_all}
 use Rattle.std.specs.List.{find}
 use Rattle.yaml_base.specs.declared.{directives.yaml_tag_directive_t.yaml_tag_directive_t, directives.yaml_version_directive_t.yaml_version_directive_t}
-use Rattle.yaml_base.specs.declared.{nodes.yaml_node_data_t.yaml_node_data_t, nodes.yaml_node_pair_t.yaml_node_pair_t, nodes.yaml_node_t.yaml_node_t}
-use Rattle.yaml_base.specs.graphs.SeenNodes.{seen_number, seen_pair, seen_held, seen_node, seen_document, names_node, numbers_of}
+use Rattle.yaml_base.specs.declared.{nodes.yaml_node_pair_t.yaml_node_pair_t, nodes.yaml_node_t.yaml_node_t}
+use Rattle.yaml_base.specs.graphs.SeenNodes.{seen_number, seen_pair, seen_node, seen_document, names_node, numbers_of}
 
 -- a search from a place on finds what stands there
 pub found_at : {X : Type 0} (test : X → Bool) (items : List X) (i : ℕ) (d : X) → i < length items → test (get_or items i d) ≡ true
@@ -91,10 +91,6 @@ held_seen_pairs : (pairs : List yaml_node_pair_t)
 held_seen_pairs [] = refl
 held_seen_pairs (pair ∷ pairs) = ap (λ (rest : List ℕ). seen_number pair.key ∷ seen_number pair.value ∷ rest) (held_seen_pairs pairs)
 
--- the numbers that are seen are those that are held
-held_seen : {A : Type 0} (contents : yaml_node_data_t A) → numbers_held (seen_held contents) ≡ map seen_number (numbers_of contents)
-held_seen contents = grind (arith, nat_tests, held_seen_pairs)
-
 both_none : (first second : Option ℤ) → option_or first second ≡ None → (first ≡ None) × (second ≡ None)
 both_none None second none = (refl, none)
 both_none (Some number) second none = cc
@@ -104,7 +100,7 @@ nodes_within : {A : Type 0} (count : ℕ) (nodes : List (yaml_node_t A)) → fir
 nodes_within count [] none = refl
 nodes_within count (node ∷ nodes) none =
     let both = both_none _ _ (sym (find-append (λ number. not (names_node count number)) (numbers_of node.contents) (all_numbers nodes)) ∙ none) in
-    grind (arith, both_none, find-append, within_count, held_seen, all_within, nodes_within count nodes both.1)
+    grind (arith, nat_tests, both_none, find-append, within_count, held_seen_pairs, all_within, nodes_within count nodes both.1)
 
 pub whole_graph : {A : Type 0} (version : Option yaml_version_directive_t) (directives : List (yaml_tag_directive_t A)) (nodes : List (yaml_node_t A))
     (start_implicit end_implicit : Bool)

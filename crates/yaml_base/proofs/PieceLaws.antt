@@ -32,11 +32,6 @@ steps-append (event ∷ a) b s follows stage standing =
     let stepped = step s stage event (ends_next a (ends_next b follows)) standing in
     grind (arith, ends_next-append, steps-append a b s follows stepped.stage stepped.rendered.standing)
 
--- The first pieces are those of the prefix.
-pub prefix_pieces : (a b : List Event) (s : Effective) (follows : Bool) (stage : Stage) (standing : Standing)
-    → take (length a) (steps s follows (a ++ b) stage standing).pieces ≡ (steps s (ends_next b follows) a stage standing).pieces
-prefix_pieces a b s follows stage standing = grind (arith, steps-append, take_at, steps_count)
-
 -- What follows matters to a collection's start alone.
 pub step_same : (event : Event) (stage : Stage) (s : Effective) (f g : Bool) (standing : Standing) → begins_collection event ≡ false
     → step s stage event f standing ≡ step s stage event g standing
@@ -74,18 +69,14 @@ list_layout_steps events t s whole =
 -- A prefix's pieces in any whole list that begins with it and doesn't at once close a collection that it begins last.
 pub prefix_layout : (prefix rest : List Event) (t : Stream) (s : Effective) → partial_of (prefix ++ rest) ≡ Some (after_stream t)
     → last_closes_at_once prefix rest ≡ false → take (length prefix) (list_layout s (prefix ++ rest)) ≡ (steps s false prefix at_stream first_standing).pieces
-prefix_layout prefix rest t s whole other = grind (arith, list_layout_steps, prefix_pieces, open_steps)
-
--- A completion doesn't at once close a collection.
-start_not_closed : (event : Event) (p q : Partial) → push p event ≡ Some q → begins_collection event && first_ends_collection (missing q) ≡ false
-start_not_closed event p q h = grind (arith, nat_tests)
+prefix_layout prefix rest t s whole other = grind (arith, list_layout_steps, steps-append, take_at, steps_count, open_steps)
 
 abbrev NotClosed : List Event → Partial → Partial → Type 0
 NotClosed events p q = pushed p events ≡ Some q → last_closes_at_once events (missing q) ≡ false
 
 not_closed_next : (event : Event) (rest : List Event) (p q : Partial) (made : Option Partial) → push p event ≡ made
     → option_and_then (λ r. pushed r rest) made ≡ Some q → ((r : Partial) → NotClosed rest r q) → last_closes_at_once (event ∷ rest) (missing q) ≡ false
-not_closed_next event rest p q made h h2 h3 = grind (arith, nat_tests, start_not_closed)
+not_closed_next event rest p q made h h2 h3 = grind (arith, nat_tests)
 
 completion_not_closed : (events : List Event) (p q : Partial) → NotClosed events p q
 completion_not_closed [] p q given = refl

@@ -1,21 +1,17 @@
 -- Where plain is chosen, it is chosen whichever quotes are asked for in its place.
 use Rattle.yaml_base.proofs.Common.{if◌then◌else◌, Bool, false, true, ◌≡◌, ap, false≢true, ScalarStyle, plain, single_quoted, double_quoted, allowed_by_quotes}
-use Rattle.yaml_base.proofs.Common.{Allowances, is_plain, fitting_style, chosen, arith, nat_tests}
+use Rattle.yaml_base.proofs.Common.{Allowances, is_plain, chosen, arith, nat_tests}
 
 -- quotes aren't plain
 quotes_apart : (single : Bool) → (if single then single_quoted else double_quoted) ≡ plain → ⊥
 quotes_apart true is = false≢true (ap is_plain is)
 quotes_apart false is = false≢true (ap is_plain is)
 
-fitting_kept : (double_quotes : Bool) (allowed : Allowances) (plain_fits block_fits : Bool) (asked : ScalarStyle)
-    → fitting_style allowed plain_fits block_fits asked ≡ plain → fitting_style (allowed_by_quotes double_quotes allowed) plain_fits block_fits asked ≡ plain
-fitting_kept double_quotes allowed plain_fits block_fits asked h = grind (arith, nat_tests, quotes_apart)
-
 pub plain_under : (double_quotes : Bool) (allowed : Allowances) (asked : ScalarStyle)
     (empty tag_written plain_implicit quoted_implicit flow simple_key canonical : Bool)
     → (chosen allowed asked empty tag_written plain_implicit quoted_implicit flow simple_key canonical).style ≡ plain
     → (chosen (allowed_by_quotes double_quotes allowed) asked empty tag_written plain_implicit quoted_implicit flow simple_key canonical).style ≡ plain
-plain_under double_quotes allowed asked empty tag_written plain_implicit quoted_implicit flow simple_key canonical is = grind (arith, fitting_kept)
+plain_under double_quotes allowed asked empty tag_written plain_implicit quoted_implicit flow simple_key canonical is = grind (arith, nat_tests, quotes_apart)
 
 -- so by the test
 is_plain_style : (style : ScalarStyle) → is_plain style ≡ true → style ≡ plain

@@ -26,19 +26,6 @@ partial_events (within_document e d s levels) = begun_events e d s (levels_event
 partial_events (after_root e d s root) = begun_events e d s (node_events root)
 partial_events (after_stream t) = stream_events t
 
--- A node more: its events come last.
-added : (e : Option Encoding) (d : Documents) (s : DocumentStart) (outer : List Event) (level node : List Event)
-    → begun_events e d s (outer ++ (level ++ node)) ≡ begun_events e d s (outer ++ level) ++ node
-added e d s outer level node = grind (arith, append_assoc)
-
-with_node_events : (e : Option Encoding) (d : Documents) (s : DocumentStart) (levels : List Level) (n : Node)
-    → partial_events (with_node e d s levels n) ≡ begun_events e d s (levels_events levels) ++ node_events n
-with_node_events e d s levels n = grind (arith, nat_tests, append-nil, added, append_assoc)
-
--- The end of the innermost collection.
-closed_events : (level : Level) (event : Event) (n : Node) → closed level event ≡ Some n → node_events n ≡ level_events level ++ event ∷ []
-closed_events level event n h = grind (arith, nat_tests)
-
 abbrev AddsEvent : Partial → Event → Partial → Type 0
 AddsEvent p event q = partial_events q ≡ partial_events p ++ event ∷ []
 
@@ -46,19 +33,11 @@ closed_added : (e : Option Encoding) (d : Documents) (s : DocumentStart) (level 
     → closed level event ≡ made → option_and_then (λ node. Some (with_node e d s outer node)) made ≡ Some q
     → AddsEvent (within_document e d s (level ∷ outer)) event q
 closed_added e d s level outer event None q is given = cc
-closed_added e d s level outer event (Some n) q is given = grind (arith, with_node_events, closed_events, append_assoc, added)
-
-node_added : (e : Option Encoding) (d : Documents) (s : DocumentStart) (levels : List Level) (n : Node) (q : Partial) → Some (with_node e d s levels n) ≡ Some q
-    → partial_events q ≡ begun_events e d s (levels_events levels) ++ node_events n
-node_added e d s levels n q given = grind (arith, with_node_events)
-
-level_added : (e : Option Encoding) (d : Documents) (s : DocumentStart) (levels : List Level) (level : Level) (event : Event) (q : Partial)
-    → level_events level ≡ event ∷ [] → Some (within_document e d s (level ∷ levels)) ≡ Some q → AddsEvent (within_document e d s levels) event q
-level_added e d s levels level event q only given = grind (arith, append_assoc)
+closed_added e d s level outer event (Some n) q is given = grind (arith, nat_tests, append-nil, append_assoc)
 
 within_added : (e : Option Encoding) (d : Documents) (s : DocumentStart) (levels : List Level) (event : Event) (q : Partial)
     → push_within e d s levels event ≡ Some q → AddsEvent (within_document e d s levels) event q
-within_added e d s levels event q h = grind (arith, nat_tests, node_added, level_added, closed_added)
+within_added e d s levels event q h = grind (arith, nat_tests, append-nil, append_assoc, closed_added)
 
 with_read_document : (e : Option Encoding) (d : Documents) (x : Document)
     → stream_start e ∷ documents_events (documents_and d x) ≡ begun_events e d x.start (node_events x.root) ++ document_end x.end_implicit ∷ []

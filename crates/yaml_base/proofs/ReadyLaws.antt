@@ -1,5 +1,5 @@
 -- Ready events stay ready as a list grows.
-use Rattle.yaml_base.proofs.Common.{suc, ℕ, ◌≤◌, if◌then◌else◌, ◌==◌, nat_lt, length, Bool, false, true, ◌||◌, List, [], map, ◌++◌, ◌∷◌, refl, ◌≡◌}
+use Rattle.yaml_base.proofs.Common.{ℕ, nat_lt, length, Bool, false, true, ◌||◌, List, [], map, ◌++◌, ◌∷◌, refl, ◌≡◌}
 use Rattle.yaml_base.proofs.Common.{length-append, ap, sym, ◌∙◌, arith, nat_tests, list_any, Event, awaited, is_balanced, nonempty_prefixes, is_ready}
 use Rattle.yaml_base.specs.Ready.{ReadyStays}
 
@@ -29,9 +29,6 @@ ready_stays event rest more given =
     either_of _ _ _ (list_any is_balanced (nonempty_prefixes (event ∷ (rest ++ more)))) (either _ _ _ (more_stand (awaited event) (event ∷ rest) more))
     (any_prefix (event ∷ rest) more is_balanced) given
 
-counted : (now later : Bool) (m n : ℕ) → (now ≡ true → later ≡ true) → m ≤ n → (if now then suc m else 0) ≤ (if later then suc n else 0)
-counted now later m n h k = grind (arith, nat_tests)
-
 pub written_grows : ReadyStays
 written_grows [] more = omega arith
-written_grows (event ∷ rest) more = grind (arith, counted, ready_stays, written_grows rest more)
+written_grows (event ∷ rest) more = grind (arith, nat_tests, ready_stays, written_grows rest more)

@@ -1,8 +1,8 @@
 -- Isomorphic graphs are dumped as events that differ in styles alone, so in canonical mode as the same bytes.
-use Rattle.yaml_base.proofs.Common.{All, unwrap_or, option_map, bytes_eq, Option, None, Some, length, false, true, List, [], map, ◌++◌, ◌∷◌, refl, ◌≡◌, inl}
-use Rattle.yaml_base.proofs.Common.{inr, ap, sym, ◌∙◌, arith, map-append, All-head, All-tail, Text, any_style, any_layout, DocumentStart, Event, stream_start}
-use Rattle.yaml_base.proofs.Common.{stream_end, document_start, document_end, alias, scalar, sequence_start, sequence_end, mapping_start, mapping_end}
-use Rattle.yaml_base.proofs.Common.{encoding_asked, output_of, Encoding, Settings, AreDumped, label_at, Isomorphic, Held, GraphNode, Graph, node_numbered}
+use Rattle.yaml_base.proofs.Common.{All, unwrap_or, option_map, bytes_eq, Option, None, Some, false, true, List, [], map, ◌++◌, ◌∷◌, refl, ◌≡◌, inl}
+use Rattle.yaml_base.proofs.Common.{inr, ap, sym, ◌∙◌, arith, map-append, All-head, All-tail, Text, any_style, any_layout, Event, stream_start}
+use Rattle.yaml_base.proofs.Common.{stream_end, alias, scalar, sequence_start, sequence_end, mapping_start, mapping_end}
+use Rattle.yaml_base.proofs.Common.{encoding_asked, output_of, Encoding, Settings, AreDumped, label_at, Isomorphic, Held, GraphNode, Graph}
 use Rattle.yaml_base.proofs.Common.{Step, enters, leaves, meets_again, anchor_of, string_tag, sequence_tag, mapping_tag, opening_event_of, opening_events}
 use Rattle.yaml_base.proofs.Common.{closing_event_of, closing_events, step_events, document_event_list, scalar_kind, sequence_kind, mapping_kind, Label}
 use Rattle.yaml_base.proofs.Common.{label_of, IsReached, IsWholeGraph, nat_tests}
@@ -83,11 +83,6 @@ steps_alike first second iso walk (step ∷ part) all reached =
 abbrev events_within : Graph → List Event
 events_within graph = flat_map (step_events graph (graph_steps graph)) (graph_steps graph)
 
-document_is : (graph : Graph) → IsWholeGraph graph
-    → map unstyled (document_event_list graph)
-    ≡ unstyled (document_start graph.start) ∷ (map unstyled (events_within graph) ++ document_end graph.end_implicit ∷ [])
-document_is graph is = grind (arith, map-append)
-
 within_alike : (first second : Graph) → IsWholeGraph first → IsWholeGraph second → Isomorphic first second
     → map unstyled (events_within second) ≡ map unstyled (events_within first)
 within_alike first second is also iso =
@@ -95,13 +90,9 @@ within_alike first second is also iso =
     ap (λ (walk : List Step). map unstyled (flat_map (step_events second walk) walk)) walks.same
     ∙ steps_alike first second iso _ _ walks.reached walks.reached
 
-start_alike : (first second : DocumentStart) → first.version ≡ second.version → first.directives ≡ second.directives
-    → unstyled (document_start first) ≡ unstyled (document_start second)
-start_alike first second version directives = grind (arith)
-
 document_alike : (first second : Graph) → IsWholeGraph first → IsWholeGraph second → IsWrittenAlike first second
     → map unstyled (document_event_list first) ≡ map unstyled (document_event_list second)
-document_alike first second is also alike = grind (arith, document_is, start_alike, within_alike)
+document_alike first second is also alike = grind (arith, map-append, within_alike)
 
 documents_alike : (firsts seconds : List Graph) → All IsWholeGraph firsts → All IsWholeGraph seconds → AreWrittenAlike firsts seconds
     → map unstyled (flat_map document_event_list firsts) ≡ map unstyled (flat_map document_event_list seconds)

@@ -1,12 +1,12 @@
 -- A stage allows and refuses what the partial tree does that it stands for.
-use Rattle.yaml_base.proofs.Common.{nat_tests, arith, suc, is_none, option_and_then, Option, None, Some, length, Bool, false, not, true, List, [], ◌∷◌, refl}
+use Rattle.yaml_base.proofs.Common.{nat_tests, arith, suc, is_none, option_and_then, Option, None, Some, length, Bool, false, true, List, [], ◌∷◌, refl}
 use Rattle.yaml_base.proofs.Common.{◌≡◌, ap, subst, sym, ◌∙◌, TagDirective, DocumentStart, Event, stream_start, stream_end, document_start, document_end, alias}
 use Rattle.yaml_base.proofs.Common.{scalar, sequence_start, sequence_end, mapping_start, mapping_end, Node, nodes_and, pairs_and, Documents, no_documents}
 use Rattle.yaml_base.proofs.Common.{documents_and, Level, at_item, at_key, at_value, Partial, before_stream, between_documents, within_document, after_root}
-use Rattle.yaml_base.proofs.Common.{after_stream, with_node, closed, push_within, push, pushed, partial_of, first_standing, Standing, Role, as_item, as_key}
-use Rattle.yaml_base.proofs.Common.{as_value, is_key, expected, ends_collection, open_levels, refusal_at, refusal, Encoding, Effective, Frame, Stage, at_stream}
+use Rattle.yaml_base.proofs.Common.{after_stream, with_node, closed, push, pushed, partial_of, first_standing, Standing, Role, as_item, as_key}
+use Rattle.yaml_base.proofs.Common.{as_value, ends_collection, refusal_at, refusal, Encoding, Effective, Frame, Stage, at_stream}
 use Rattle.yaml_base.proofs.Common.{at_document, at_node, at_document_end, at_nothing, stage_after, step, ends_next, steps}
-use Rattle.yaml_base.specs.Steps.{role_after, is_item, node_allowed, stage_allows, stage_expected, frame_count, stage_refusal}
+use Rattle.yaml_base.specs.Steps.{stage_refusal}
 
 -- a frame awaits what a level does
 abbrev Awaits : Level → Role → Type 0
@@ -35,13 +35,6 @@ level_next (at_item c items) n = at_item c (nodes_and items n)
 level_next (at_key c pairs) n = at_value c pairs n
 level_next (at_value c pairs key) n = at_key c (pairs_and pairs key n)
 
-awaits_next : (level : Level) (role : Role) (n : Node) (simple : Bool) → Awaits level role → Awaits (level_next level n) (role_after role simple)
-awaits_next level role n simple h = grind (arith, nat_tests)
-
-node_stands : (e : Option Encoding) (d : Documents) (s : DocumentStart) (levels : List Level) (n : Node) (t : List TagDirective) (frames : List Frame)
-    (simple : Bool) → AllAwait levels frames → StandsFor (with_node e d s levels n) (stage_after t frames simple)
-node_stands e d s levels n t frames simple h = grind (arith, nat_tests, awaits_next)
-
 -- the stage after an event stands for the tree after it
 abbrev Follows : Partial → Stage → Event → Type 0
 Follows p stage event = (q : Partial) (s : Effective) (empty : Bool) (standing : Standing) → push p event ≡ Some q
@@ -53,15 +46,15 @@ stands_as p q stage given h = let same : p ≡ q = cc in subst (λ r. StandsFor 
 end_follows : (e : Option Encoding) (d : Documents) (s : DocumentStart) (level : Level) (levels : List Level) (t : List TagDirective) (frame : Frame)
     (frames : List Frame) (event : Event) (q : Partial) (made : Option Node) → AllAwait levels frames
     → option_and_then (λ node. Some (with_node e d s levels node)) made ≡ Some q → StandsFor q (stage_after t frames frame.simple)
-end_follows e d s level levels t frame frames event q made h k = grind (arith, nat_tests, stands_as, node_stands)
+end_follows e d s level levels t frame frames event q made h k = grind (arith, nat_tests, stands_as)
 
 closed_none : (level : Level) (event : Event) → ends_collection event ≡ false → closed level event ≡ None
 closed_none level event h = grind (arith, nat_tests)
 
 within_follows : (e : Option Encoding) (d : Documents) (s : DocumentStart) (levels : List Level) (t : List TagDirective) (frames : List Frame) (event : Event)
     → AllAwait levels frames → Follows (within_document e d s levels) (at_node t frames) event
-within_follows e d s levels t frames (alias name) h q eff empty standing given = grind (arith, stands_as, node_stands)
-within_follows e d s levels t frames (scalar content) h q eff empty standing given = grind (arith, stands_as, node_stands)
+within_follows e d s levels t frames (alias name) h q eff empty standing given = grind (arith, nat_tests, stands_as)
+within_follows e d s levels t frames (scalar content) h q eff empty standing given = grind (arith, nat_tests, stands_as)
 within_follows e d s levels t frames (sequence_start c) h q eff empty standing given = grind (arith, stands_as)
 within_follows e d s levels t frames (mapping_start c) h q eff empty standing given = grind (arith, stands_as)
 within_follows e d s (level ∷ levels) t (frame ∷ frames) sequence_end h q eff empty standing given =
@@ -111,41 +104,19 @@ pub stage_stands : (events : List Event) (p : Partial) (s : Effective) (follows 
     → StandsFor p (steps s follows events at_stream first_standing).stage
 stage_stands events p s follows given = list_stands events before_stream p at_stream s follows first_standing tt given
 
--- A stage allows what may be pushed.
-item_allowed : (level : Level) (role : Role) (f : Node → Partial) → Awaits level role
-    → not (is_item role) ≡ is_none (option_and_then (λ node. Some (f node)) (closed level sequence_end))
-item_allowed level role f h = grind (arith, nat_tests)
-
-key_allowed : (level : Level) (role : Role) (f : Node → Partial) → Awaits level role
-    → not (is_key role) ≡ is_none (option_and_then (λ node. Some (f node)) (closed level mapping_end))
-key_allowed level role f h = grind (arith, nat_tests)
-
 none_allowed : (level : Level) (event : Event) (f : Node → Partial) → ends_collection event ≡ false
     → true ≡ is_none (option_and_then (λ node. Some (f node)) (closed level event))
 none_allowed level event f h = ap (λ o. is_none (option_and_then (λ node. Some (f node)) o)) (sym (closed_none level event h))
-
-within_allowed : (e : Option Encoding) (d : Documents) (s : DocumentStart) (levels : List Level) (t : List TagDirective) (frames : List Frame) (event : Event)
-    → AllAwait levels frames → not (node_allowed frames event) ≡ is_none (push_within e d s levels event)
-within_allowed e d s levels t frames event h = grind (arith, nat_tests, item_allowed, key_allowed, none_allowed)
-
-pub stage_allowed : (p : Partial) (stage : Stage) (event : Event) → StandsFor p stage → not (stage_allows stage event) ≡ is_none (push p event)
-stage_allowed p stage event h = grind (arith, nat_tests, within_allowed)
-
-stage_expects : (p : Partial) (stage : Stage) → StandsFor p stage → stage_expected stage ≡ expected p
-stage_expects p stage h = grind (arith, nat_tests)
 
 frames_count : (levels : List Level) (frames : List Frame) → AllAwait levels frames → length frames ≡ length levels
 frames_count [] [] h = refl
 frames_count (level ∷ levels) (frame ∷ frames) h = ap suc (frames_count levels frames h.1)
 frames_count levels frames h = absurd h
 
-frames_open : (p : Partial) (stage : Stage) → StandsFor p stage → frame_count stage ≡ length (open_levels p)
-frames_open p stage h = grind (arith, nat_tests, frames_count)
-
 -- The refusal at a stage is the refusal after the list.
 pub stage_refuses : (canonical : Bool) (p : Partial) (stage : Stage) (event : Event) → StandsFor p stage
     → stage_refusal canonical stage event ≡ refusal_at canonical p event
-stage_refuses canonical p stage event h = grind (arith, stage_allowed, stage_expects, frames_open)
+stage_refuses canonical p stage event h = grind (arith, nat_tests, none_allowed, frames_count)
 
 pub stage_refusal_after : (canonical : Bool) (events : List Event) (event : Event) (p : Partial) (s : Effective) (follows : Bool) → partial_of events ≡ Some p
     → stage_refusal canonical (steps s follows events at_stream first_standing).stage event ≡ refusal canonical events event

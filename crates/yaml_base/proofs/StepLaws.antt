@@ -1,8 +1,8 @@
 -- The pieces of a list, event by event, are those of its tree's layout.
 use Rattle.yaml_base.proofs.Common.{arith, ℕ, Bool, false, true, List, ◌++◌, ◌∷◌, refl, ◌≡◌, append-nil, append_assoc, ap, ◌∙◌, TagDirective, Event}
 use Rattle.yaml_base.proofs.Common.{sequence_end, mapping_end, Node, alias_node, scalar_node, Nodes, sequence_node, Pairs, mapping_node, no_nodes, nodes_and}
-use Rattle.yaml_base.proofs.Common.{no_pairs, pairs_and, Document, Documents, no_documents, documents_and, Stream, node_events, nodes_events, pairs_events}
-use Rattle.yaml_base.proofs.Common.{document_events, documents_events, stream_events, render_document, has_no_documents, render_documents, first_standing}
+use Rattle.yaml_base.proofs.Common.{no_pairs, pairs_and, Documents, no_documents, documents_and, Stream, node_events, nodes_events, pairs_events}
+use Rattle.yaml_base.proofs.Common.{document_events, documents_events, stream_events, has_no_documents, render_documents, first_standing}
 use Rattle.yaml_base.proofs.Common.{layout, Standing, RenderedPieces, then_pieces, start_piece, is_written_in_flow, entry_place, render_node, render_nodes}
 use Rattle.yaml_base.proofs.Common.{render_pairs, Role, as_item, as_key, as_value, is_undented, entries_column, has_no_nodes, has_no_pairs, is_simple}
 use Rattle.yaml_base.proofs.Common.{is_simple_at, Effective, Frame, at_stream, at_document, at_node, next_place, stage_after, ends_next, Steps, steps}
@@ -12,11 +12,6 @@ abbrev after_pieces : RenderedPieces → (Standing → Steps) → Steps
 after_pieces rendered next =
     let after = next rendered.standing in
     record { pieces = rendered.pieces ++ after.pieces; standing = after.standing; stage = after.stage }
-
--- More pieces and then steps: the pieces, then the more, then the steps.
-after_pieces-then_pieces : (a : RenderedPieces) (f : Standing → RenderedPieces) (g : Standing → Steps)
-    → after_pieces (then_pieces a f) g ≡ after_pieces a (λ standing. after_pieces (f standing) g)
-after_pieces-then_pieces a f g = grind (arith, append_assoc)
 
 -- Steps that agree where the pieces leave off.
 after_pieces-same : (a : RenderedPieces) (f g : Standing → Steps) → f a.standing ≡ g a.standing → after_pieces a f ≡ after_pieces a g
@@ -70,7 +65,7 @@ mutual
       let start = start_piece s d place simple c standing in
       let column = entries_column in_flow (is_undented s place.role) s.indent place.column start.standing.cursor in
       let each = nodes_steps items s follows (sequence_end ∷ rest) d in_flow column simple frames start.standing in
-      grind (arith, append_assoc, sequence_ends, after_pieces-same, after_pieces-then_pieces, each)
+      grind (arith, append_assoc, sequence_ends, after_pieces-same, each)
   node_steps (mapping_node c pairs) s follows rest d frames standing =
       let place = next_place frames in
       let empty = has_no_pairs pairs in
@@ -79,7 +74,7 @@ mutual
       let start = start_piece s d place simple c standing in
       let column = entries_column in_flow false s.indent place.column start.standing.cursor in
       let each = pairs_steps pairs s follows (mapping_end ∷ rest) d in_flow column simple frames start.standing in
-      grind (arith, append_assoc, mapping_ends, after_pieces-same, after_pieces-then_pieces, each)
+      grind (arith, append_assoc, mapping_ends, after_pieces-same, each)
 
   pub nodes_steps : (items : Nodes) (s : Effective) (follows : Bool) (rest : List Event) (d : List TagDirective) (in_flow : Bool) (column : ℕ) (simple : Bool)
       (frames : List Frame) (standing : Standing)
@@ -91,7 +86,7 @@ mutual
       let before = render_nodes items s d in_flow column standing in
       let each = node_steps last s follows rest d (frame_at in_flow (as_item (has_no_nodes items)) column simple ∷ frames) before.standing in
       let one = nodes_steps items s follows (node_events last ++ rest) d in_flow column simple frames standing in
-      grind (arith, append_assoc, after_pieces-same, after_pieces-then_pieces, each, one)
+      grind (arith, append_assoc, after_pieces-same, each, one)
 
   pub pairs_steps : (pairs : Pairs) (s : Effective) (follows : Bool) (rest : List Event) (d : List TagDirective) (in_flow : Bool) (column : ℕ) (simple : Bool)
       (frames : List Frame) (standing : Standing)
@@ -109,12 +104,7 @@ mutual
       let each = node_steps last_key s follows (node_events last_value ++ rest) d at_the_key before.standing in
       let one = node_steps last_value s follows rest d at_the_value keyed.standing in
       let other = pairs_steps pairs s follows (node_events last_key ++ (node_events last_value ++ rest)) d in_flow column simple frames standing in
-      grind (arith, append_assoc, after_pieces-same, after_pieces-then_pieces, each, one, other)
-
-pub document_steps : (x : Document) (s : Effective) (first follows : Bool) (rest : List Event) (standing : Standing)
-    → steps s follows (document_events x ++ rest) (at_document first) standing
-    ≡ after_pieces (render_document s first x standing) (steps s follows rest (at_document false))
-document_steps x s first follows rest standing = grind (arith, append_assoc, after_pieces-same, node_steps, after_pieces-then_pieces)
+      grind (arith, append_assoc, after_pieces-same, each, one, other)
 
 pub documents_steps : (x : Documents) (s : Effective) (follows : Bool) (rest : List Event) (standing : Standing)
     → steps s follows (documents_events x ++ rest) (at_document true) standing
@@ -122,8 +112,8 @@ pub documents_steps : (x : Documents) (s : Effective) (follows : Bool) (rest : L
 documents_steps no_documents s follows rest standing = refl
 documents_steps (documents_and x last) s follows rest standing =
     let before = documents_steps x s follows (document_events last ++ rest) standing in
-    grind (arith, append_assoc, after_pieces-same, document_steps, after_pieces-then_pieces, before)
+    grind (arith, append_assoc, after_pieces-same, node_steps, before)
 
 -- The layout of a stream is what its events give, one after another.
 pub stream_steps : (t : Stream) (s : Effective) → (steps s false (stream_events t) at_stream first_standing).pieces ≡ layout s t
-stream_steps t s = grind (arith, after_pieces-same, documents_steps, after_pieces-then_pieces, append-nil)
+stream_steps t s = grind (arith, after_pieces-same, documents_steps, append_assoc, append-nil)

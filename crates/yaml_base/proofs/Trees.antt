@@ -1,7 +1,7 @@
 -- A list of events has at most one tree: pushing a tree's events gives the tree back.
 use Rattle.yaml_base.proofs.Common.{arith, option_and_then, Option, Some, List, [], ◌++◌, ◌∷◌, refl, ◌≡◌, append_assoc, ap, sym, ◌∙◌, DocumentStart, Collection}
 use Rattle.yaml_base.proofs.Common.{Event, stream_end, sequence_end, mapping_end, Node, alias_node, scalar_node, Nodes, sequence_node, Pairs, mapping_node}
-use Rattle.yaml_base.proofs.Common.{no_nodes, nodes_and, no_pairs, pairs_and, Document, Documents, no_documents, documents_and, Stream, node_events}
+use Rattle.yaml_base.proofs.Common.{no_nodes, nodes_and, no_pairs, pairs_and, Documents, no_documents, documents_and, Stream, node_events}
 use Rattle.yaml_base.proofs.Common.{nodes_events, pairs_events, document_events, documents_events, stream_events, Level, at_item, at_key, at_value}
 use Rattle.yaml_base.proofs.Common.{between_documents, within_document, after_stream, with_node, pushed, partial_of, finished, tree_of, Encoding}
 
@@ -30,15 +30,10 @@ mutual
       let other = pairs_pushed pairs c e d s levels (node_events key ++ (node_events value ++ rest)) in
       grind (arith, append_assoc, each, one, other)
 
--- A document's, and several documents'.
-pub document_pushed : (x : Document) (e : Option Encoding) (d : Documents) (rest : List Event)
-    → pushed (between_documents e d) (document_events x ++ rest) ≡ pushed (between_documents e (documents_and d x)) rest
-document_pushed x e d rest = grind (arith, append_assoc, node_pushed)
-
 pub documents_pushed : (d : Documents) (e : Option Encoding) (rest : List Event)
     → pushed (between_documents e no_documents) (documents_events d ++ rest) ≡ pushed (between_documents e d) rest
 documents_pushed no_documents e rest = refl
-documents_pushed (documents_and d x) e rest = grind (arith, append_assoc, document_pushed, documents_pushed d e (document_events x ++ rest))
+documents_pushed (documents_and d x) e rest = grind (arith, append_assoc, node_pushed, documents_pushed d e (document_events x ++ rest))
 
 -- Pushing a stream's events gives the stream.
 pub stream_pushed : (t : Stream) → partial_of (stream_events t) ≡ Some (after_stream t)

@@ -88,13 +88,10 @@ pub record IsOrderly (graph : Graph) (walk : List Step) : Type 0 where
   pub follow : FollowEntries [] walk
   pub reached : (number : ℕ) → list_any (is_entry_of number) walk ≡ true → IsReached graph number
 
-once_added : (any now : Bool) (counted : ℕ) → counted ≡ cond any 1 0 → (any ≡ true → now ≡ false) → counted + cond now 1 0 ≡ cond (any || now) 1 0
-once_added any now counted h k = grind (arith, nat_tests)
-
 once_more : (test : Step → Bool) (before : List Step) (step : Step) → count_by test before ≡ cond (list_any test before) 1 0
     → (list_any test before ≡ true → test step ≡ false)
     → count_by test (before ++ step ∷ []) ≡ cond (list_any test (before ++ step ∷ [])) 1 0
-once_more test before step is fails = grind (arith, count_added, once_added, any_added)
+once_more test before step is fails = grind (arith, nat_tests, count_added, any_added)
 
 -- another number than that of a node which isn't entered yet
 differs : (before : List Step) (number other : ℕ) → list_any (is_entry_of number) before ≡ false → list_any (is_entry_of other) before ≡ true

@@ -4,7 +4,7 @@ use Rattle.yaml_base.proofs.Common.{ℕ, ◌==◌, Option, None, Some, codes, �
 use Rattle.yaml_base.proofs.Common.{eqb-true, lt-ltb, ltb-true, true≢false, inl, inr, ap, sym, ◌∙◌, arith, or_cases, and_cases, and_left, and_right, or_from}
 use Rattle.yaml_base.proofs.Common.{or_left, list_all-append, bytes_eq-Decides, digit_value, concat, list_all, onto_first, slice_split, Text, is_between}
 use Rattle.yaml_base.proofs.Common.{is_blank, is_word, Decimal, is_point, is_exponent_letter, is_plus_or_minus, is_decimal, first_meets, past_sign, is_negative}
-use Rattle.yaml_base.proofs.Common.{are_digits, counted_digits, decimal_of_digits, exponent_read, times_power_of_ten, scientific, core_mantissa, is_underscore}
+use Rattle.yaml_base.proofs.Common.{are_digits, counted_digits, decimal_of_digits, exponent_read, times_power_of_ten, scientific, core_mantissa}
 use Rattle.yaml_base.proofs.Common.{are_grouped, begins_grouped, is_leading, octal_11, decimal_11, are_sixtieths, is_colon, fine_sixties_11, mantissa_11}
 use Rattle.yaml_base.proofs.Common.{exponent_11, has_more_points, more_points_11, past, is_hyphen, is_time_after_date, in_date, timestamp_11, in_number}
 use Rattle.std.specs.Char.{is_digit}

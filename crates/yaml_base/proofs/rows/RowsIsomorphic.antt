@@ -1,6 +1,6 @@
 -- Graphs that are isomorphic, and graphs that aren't.
-use Rattle.yaml_base.proofs.Common.{suc, zero, ℕ, slice_index, Contains, None, codes, true, List, [], map, ◌∷◌, ◌⊎◌, refl, ◌≡◌, inl, ap, sym, ◌∙◌, arith, Text}
-use Rattle.yaml_base.proofs.Common.{any_style, block, label_at, Isomorphic, scalar_held, sequence_held, GraphNode, Graph, children, string_tag, sequence_tag}
+use Rattle.yaml_base.proofs.Common.{suc, zero, ℕ, slice_index, Contains, codes, [], map, ◌∷◌, ◌⊎◌, refl, ◌≡◌, inl, ap, sym, ◌∙◌, arith}
+use Rattle.yaml_base.proofs.Common.{label_at, Isomorphic, Graph, children}
 use Rattle.yaml_base.proofs.Common.{IsReached, first_reached, child_reached, nat_tests}
 use Rattle.yaml_base.proofs.rows.{RowsMeetings.graph_of, RowsMeetings.sequence_of, RowsMeetings.string_of, RowsUnfolding.held_by_none}
 

@@ -1,5 +1,5 @@
 -- What each reader makes of texts that no right writer writes: no value, or another one than was to be written.
-use Rattle.yaml_base.proofs.Common.{Option, None, Some, codes, Bool, false, true, List, [], ◌++◌, ◌∷◌, refl, ◌≡◌, list_all, Text, line_separator}
+use Rattle.yaml_base.proofs.Common.{Option, None, Some, codes, false, true, List, [], ◌++◌, ◌∷◌, refl, ◌≡◌, Text, line_separator}
 use Rattle.yaml_base.proofs.Common.{TagDirective, canonical_content, tagged, untagged, Content, scalar_content, sequence_content, mapping_content, no_contents}
 use Rattle.yaml_base.proofs.Common.{contents_and, no_content_pairs, content_pairs_and, DocumentContent, read_block, read_double, read_plain, read_single}
 use Rattle.yaml_base.proofs.rows.Cases.{Gives, reads_none}

@@ -1,8 +1,8 @@
 -- Trees that don't unfold their graphs: an alias before its node, children exchanged, a style changed, an alias of a node
 -- without an anchor, a node written twice.
-use Rattle.yaml_base.proofs.Common.{suc, zero, ℕ, Contains, count_by, option_map, Option, None, Some, codes, Bool, false, true, List, [], ◌∷◌, refl, ◌≡◌, ap}
-use Rattle.yaml_base.proofs.Common.{subst, sym, ◌∙◌, arith, Text, ScalarStyle, any_style, double_quoted, block, Node, alias_node, scalar_node, sequence_node}
-use Rattle.yaml_base.proofs.Common.{no_nodes, nodes_and, scalar_held, sequence_held, GraphNode, Graph, node_numbered, children, string_tag, sequence_tag}
+use Rattle.yaml_base.proofs.Common.{suc, zero, ℕ, Contains, count_by, option_map, Option, None, Some, codes, Bool, false, true, [], ◌∷◌, refl, ◌≡◌, ap}
+use Rattle.yaml_base.proofs.Common.{subst, sym, ◌∙◌, arith, Text, ScalarStyle, any_style, double_quoted, block, Node, alias_node, sequence_node}
+use Rattle.yaml_base.proofs.Common.{no_nodes, nodes_and, Graph, node_numbered, children, sequence_tag}
 use Rattle.yaml_base.proofs.Common.{scalar_kind, sequence_kind, mapping_kind, Label, node_shape_of, Placed, node_placed, none_placed, number_at, label_of}
 use Rattle.yaml_base.proofs.Common.{HasShape, Occurrence, alias_occurrence, node_occurrence, occurrences, has_anchor, is_occurrence_of, NameTheirNodes}
 use Rattle.yaml_base.proofs.Common.{IsReached, first_reached, child_reached, TreeUnfolds, nat_tests}

@@ -1,8 +1,8 @@
 -- Each document of an accepted list stands: its names and tags by what is accepted, its scalars by their bodies.
-use Rattle.yaml_base.proofs.Common.{nat_tests, ◌≤◌, Option, Some, ℤ, true, List, [], ◌∷◌, refl, ◌≡◌, leb-true, subst, arith, list_all}
+use Rattle.yaml_base.proofs.Common.{nat_tests, ◌≤◌, Option, Some, true, List, [], ◌∷◌, refl, ◌≡◌, leb-true, subst, arith, list_all}
 use Rattle.yaml_base.proofs.Common.{Rendered, Event, Documents, no_documents, documents_and, root_place, has_no_documents, render_documents}
 use Rattle.yaml_base.proofs.Common.{first_standing, text_of, has_scalar_values, MeaningIsKept, has_scalar_texts, text_written, bytes_written, list_layout}
-use Rattle.yaml_base.proofs.Common.{IsAccepted, Encoding, Settings, Effective, effective_indent, effective, reads_alike, directives_in_force, BodiesAreTidy}
+use Rattle.yaml_base.proofs.Common.{IsAccepted, Encoding, Settings, Effective, effective, reads_alike, directives_in_force, BodiesAreTidy}
 use Rattle.yaml_base.proofs.Common.{characters_read, documents_in_order}
 use Rattle.yaml_base.{proofs.Trees.tree_of-stream_events, proofs.stream_documents.StreamEachDocument.AllDocuments}
 use Rattle.yaml_base.{proofs.stream_documents.StreamHeadingLines.heading_stands, proofs.stream_documents.StreamRootLeaves.root_stands}
@@ -44,10 +44,6 @@ documents_stand s (documents_and before document) low high sound bodies =
 
 -- Settings
 
--- an indent is at most 9
-indent_low : (indent : Option ℤ) → effective_indent indent ≤ 9
-indent_low indent = grind (arith, nat_tests, leb-true)
-
 -- The law
 
 -- texts of Unicode scalar values are values of them
@@ -77,7 +73,7 @@ StreamsStand =
 -- it does where bodies are tidy and keep their meaning, and texts are of such characters and read from their bytes
 pub streams_stand : BodiesAreTidy → MeaningIsKept → TextsAreValues → LayoutsAreShown → LayoutsAreRead → StreamsStand
 streams_stand tidy kept values shown characters given encoding events accepted texts portable =
-    grind (arith, documents_stand, indent_deep, indent_low, accepted_names_stand, tree_of-stream_events, roots_stand)
+    grind (arith, nat_tests, documents_stand, indent_deep, leb-true, accepted_names_stand, tree_of-stream_events, roots_stand)
 
 -- and then reads back
 pub streams_read_back : StreamsStand → StreamReadsBack

@@ -2,7 +2,7 @@
 use Rattle.yaml_base.proofs.Common.{arith, if◌then◌else◌, ◌==◌, Option, None, Some, codes, Bool, false, not, true, ◌&&◌, ◌||◌, List, [], ◌++◌, ◌∷◌, refl, ◌≡◌}
 use Rattle.yaml_base.proofs.Common.{append-nil, append_assoc, ap, subst, sym, ◌∙◌, flat_map-append, Text, line_feed, Cursor, Rendered, Version, TagDirective}
 use Rattle.yaml_base.proofs.Common.{DocumentStart, Document, render_if, render_closing_marker, render_version, render_tag_directives, has_directives}
-use Rattle.yaml_base.proofs.Common.{is_explicit, render_document_marker, render_document_start, document_start_piece, document_end_piece, root_place}
+use Rattle.yaml_base.proofs.Common.{is_explicit, render_document_start, document_start_piece, document_end_piece, root_place}
 use Rattle.yaml_base.proofs.Common.{render_document, Piece, piece_text, text_of, Standing, RenderedPiece, RenderedPieces, one_piece, render_node, Effective}
 use Rattle.yaml_base.proofs.Common.{directives_in_force, nat_tests}
 use Rattle.yaml_base.proofs.stream_documents.{StreamDocumentReads.dots_if, StreamRootAdded.text_with_marker}
@@ -35,10 +35,6 @@ pub dots_rendered : (x : Bool) → render_if x render_closing_marker (margin_cur
 dots_rendered true = refl
 dots_rendered false = refl
 
-marker_rendered : (explicit canonical : Bool) → render_if explicit (render_document_marker canonical) (margin_cursor 0)
-    ≡ record { text = marker_text explicit canonical; cursor = root_cursor (explicit && not canonical) }
-marker_rendered explicit canonical = grind (arith, nat_tests)
-
 -- a document's start is rendered so
 pub start_rendered : (s : Effective) (first : Bool) (start : DocumentStart) (standing : Standing) → standing.cursor ≡ margin_cursor 0
     → render_document_start s first start standing
@@ -46,7 +42,7 @@ pub start_rendered : (s : Effective) (first : Bool) (start : DocumentStart) (sta
       text = before_root s (standing.open_ended == 0) start ++ marker_text (is_explicit (s.canonical || s.portable) first start) s.canonical;
       cursor = root_cursor (is_explicit (s.canonical || s.portable) first start && not s.canonical);
     }
-start_rendered s first start standing at = grind (arith, dots_rendered, directives_end, version_ends, marker_rendered, append_assoc)
+start_rendered s first start standing at = grind (arith, nat_tests, dots_rendered, directives_end, version_ends, append_assoc)
 
 -- Ends
 

@@ -50,10 +50,6 @@ implicit_more s depth document ended deep stands small none some =
     (ended_more s.breaks12 depth (closed (render_root false s document)) (with_document s [] document) document.end_implicit
     (markerless_added s depth document none (root_fits s document false deep stands) small stood))
 
--- a document that isn't the first has its marker
-pub later_explicit : (each : Bool) (start : DocumentStart) → is_explicit each false start ≡ true
-later_explicit each start = grind (arith)
-
 -- one without a marker has no directives
 without_marker : (each first : Bool) (start : DocumentStart) → is_explicit each first start ≡ false → has_directives start ≡ false
 without_marker each first start h = (or_parts (not start.implicit || not first || each) (has_directives start) h).1
@@ -63,7 +59,7 @@ pub later_more : (s : Effective) (depth : ℕ) (text : Text) (documents : List D
     → DocumentStands s false document
     → size document.root ≤ depth → Awaits s.breaks12 depth text documents ended
     → Awaits s.breaks12 depth (text ++ document_text s false ended document) (with_document s documents document) (not document.end_implicit)
-later_more s depth text documents document ended deep stands small awaits = grind (arith, explicit_more, later_explicit)
+later_more s depth text documents document ended deep stands small awaits = grind (arith, explicit_more)
 
 -- the first, where it isn't lost
 pub first_more : (s : Effective) (depth : ℕ) (document : Document) → 2 ≤ s.indent → DocumentStands s true document → size document.root ≤ depth

@@ -1,7 +1,7 @@
 -- The lines of a document's directives: each begins with `%`, and they are read as its version and its directives.
-use Rattle.yaml_base.proofs.Common.{if◌then◌else◌, option_and_then, Option, None, Some, Bool, true, List, [], ◌++◌, ◌∷◌, refl, ◌≡◌, int_eq, append-nil}
+use Rattle.yaml_base.proofs.Common.{option_and_then, Option, None, Some, Bool, true, List, [], ◌++◌, ◌∷◌, refl, ◌≡◌, int_eq, append-nil}
 use Rattle.yaml_base.proofs.Common.{append_assoc, ap, sym, ◌∙◌, arith, list_all, Text, line_feed, Rendered, first_cursor, render_then, Version, TagDirective}
-use Rattle.yaml_base.proofs.Common.{DocumentStart, render_version, render_tag_directives, directive_scalars, Effective, version_fault, handle_fault}
+use Rattle.yaml_base.proofs.Common.{DocumentStart, render_version, render_tag_directives, directive_scalars, Effective, version_fault}
 use Rattle.yaml_base.proofs.Common.{next_directive_fault, directives_fault_after, directives_fault, heading_read, begins_with_percent, Line, lines_of}
 use Rattle.yaml_base.proofs.Common.{text_of_lines}
 use Rattle.yaml_base.{proofs.NoFaults.neither, proofs.PercentLaws.prefix_stands, proofs.TagForms.handle_form, proofs.TagWords.handle_ends_no_word}
@@ -9,7 +9,7 @@ use Rattle.yaml_base.{proofs.stream_documents.StreamSoFar.Percents}
 use Rattle.yaml_base.proofs.stream_documents.StreamRootsStand.{heading_text, HeadingStands}
 use Rattle.yaml_base.proofs.stream_lines.StreamClosed.{character_line, lines_broken, closed_behind}
 use Rattle.yaml_base.proofs.stream_lines.StreamLineLaws.{is_closed, OneLine, one_line_both}
-use Rattle.yaml_base.proofs.stream_documents.StreamHeadings.{prefix_no_white, directive_text, tag_lines, version_lines, heading_lines, heading_reads}
+use Rattle.yaml_base.proofs.stream_documents.StreamHeadings.{prefix_no_white, tag_lines, version_lines, heading_lines, heading_reads}
 use Rattle.yaml_base.proofs.stream_nodes.StreamBegun.{shown_line}
 
 -- Lines with their breaks
@@ -37,18 +37,13 @@ text_of_both (line ∷ rest) others = grind (arith, append_assoc, text_of_both r
 
 -- A heading's lines
 
--- a directive's line
-directive_whole : (breaks12 portable : Bool) (directive : TagDirective) → handle_fault directive.handle ≡ None
-    → OneLine breaks12 (directive_text portable directive)
-directive_whole breaks12 portable directive sound =
-    grind (arith, one_line_both, shown_line, handle_ends_no_word, handle_form, character_line, prefix_no_white, prefix_stands)
-
 tags_whole : (breaks12 portable : Bool) (before directives : List TagDirective) → directives_fault_after before directives ≡ None
     → WholeLines breaks12 (tag_lines portable directives)
 tags_whole breaks12 portable before [] sound = tt
 tags_whole breaks12 portable before (directive ∷ rest) sound =
     let both = neither (next_directive_fault before directive) (directives_fault_after (before ++ directive ∷ []) rest) sound in
-    grind (arith, neither, directive_whole, tags_whole breaks12 portable (before ++ directive ∷ []) rest both.1)
+    grind (arith, neither, one_line_both, shown_line, handle_ends_no_word, handle_form, character_line, prefix_no_white, prefix_stands,
+    tags_whole breaks12 portable (before ++ directive ∷ []) rest both.1)
 
 version_whole : (breaks12 : Bool) (version : Option Version) → WholeLines breaks12 (version_lines version)
 version_whole breaks12 None = tt

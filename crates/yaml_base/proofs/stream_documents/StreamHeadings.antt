@@ -4,17 +4,17 @@ use Rattle.yaml_base.proofs.Common.{◌++◌, ◌∷◌, ◌⊎◌, refl, ◌≡
 use Rattle.yaml_base.proofs.Common.{not-true, false≢true, nat_tests, list_all-append, list_all}
 use Rattle.yaml_base.proofs.Common.{slice_split, all_scalars, Text, line_feed, space, is_alpha, is_space, is_blank, is_break, Version, TagDirective}
 use Rattle.yaml_base.proofs.Common.{DocumentStart, directive_scalars, is_tag_character, character_written, percent_escaped, prefix_escaped, version_fault}
-use Rattle.yaml_base.proofs.Common.{exclamation_mark, handle_fault, prefix_fault, directive_fault, gives_handle, next_directive_fault, directives_fault_after}
+use Rattle.yaml_base.proofs.Common.{exclamation_mark, handle_fault, prefix_fault, next_directive_fault, directives_fault_after}
 use Rattle.yaml_base.proofs.Common.{directives_fault, is_uri_character, percent_read, Heading, heading_read, Line}
 use Rattle.std.proofs.lemmas.List.Splits.{slice_split_at, slice_split_none}
 use Rattle.std.proofs.lemmas.List.Sums.{fold-append}
 use Rattle.yaml_base.{proofs.NoFaults.neither, proofs.NoFaults.not_given, proofs.TagForms.IsHandle, proofs.TagForms.handle_form}
-use Rattle.yaml_base.{proofs.TagWords.handle_ends_no_word, specs.Layout.version_word, specs.declared.errors.yaml_error_t.TheVariants.DuplicateDirective}
+use Rattle.yaml_base.{proofs.TagWords.handle_ends_no_word, specs.Layout.version_word}
 use Rattle.yaml_base.proofs.stream_nodes.StreamTags.{uri_character, uri_text}
 use Rattle.yaml_base.proofs.stream_nodes.StreamProperties.{holds_white, has_no_space, no_white_no_space}
 use Rattle.yaml_base.proofs.PercentLaws.{decoded_prefix, character_stands, escaped_stands, stands_in_prefix, prefix_stands, prefix_begins}
 use Rattle.yaml_base.specs.reading.ReadTags.{closes_handle, is_handle_text, prefix_parsed, is_handle_given}
-use Rattle.yaml_base.specs.streams.StreamDocuments.{version_parsed, with_directive, directive_by_words, directive_line}
+use Rattle.yaml_base.specs.streams.StreamDocuments.{with_directive, directive_by_words, directive_line}
 use Rattle.yaml_base.proofs.AllPass.{none_pass, uncut_by}
 
 -- Words
@@ -152,10 +152,6 @@ version_of minor = record { major = pos 1; minor = pos minor }
 pub version_form : (version : Version) → version_fault version ≡ None → (version ≡ version_of 1) ⊎ (version ≡ version_of 2)
 version_form version h = grind (arith, false≢true, eqb-true)
 
--- a version without a fault is read as it was given
-version_reads : (version : Version) → version_fault version ≡ None → version_parsed ((version_word version).text) ≡ Some version
-version_reads version h = grind (arith, version_form)
-
 -- the line of a version, if there is one
 abbrev pub version_lines : Option Version → List Line
 version_lines None = []
@@ -165,7 +161,7 @@ version_lines (Some version) = record { text = codes "%YAML" ++ (space ∷ (vers
 version_read : (version : Option Version) → option_and_then version_fault version ≡ None
     → heading_read (version_lines version) ≡ Some (record { version = version; directives = [] })
 version_read None sound = refl
-version_read (Some version) sound = grind (arith, int_eq, version_reads)
+version_read (Some version) sound = grind (arith, int_eq, version_form)
 
 -- Headings
 

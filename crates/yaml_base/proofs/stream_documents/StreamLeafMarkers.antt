@@ -34,15 +34,11 @@ markerless_keeps : (breaks12 : Bool) → Keeps (begins_markerless breaks12)
 markerless_keeps breaks12 [] b h = absurd (false≢true h)
 markerless_keeps breaks12 (c ∷ a) b h = grind (arith, deep_keeps)
 
--- a line that begins with a bracket is no marker
-bracket_markerless : (c : ℕ) (t : Text) → (c == 0x5D || c == 0x7D) ≡ true → is_markerless (marker_of (c ∷ t)) ≡ true
-bracket_markerless c t h = grind (arith, eqb-true, false≢true)
-
 -- nor is any line that begins so
 first_markerless : (breaks12 : Bool) (u : Text) → begins_markerless breaks12 u ≡ true
     → is_markerless (marker_of (first_text (lines_of breaks12 (u ++ (line_feed ∷ []))))) ≡ true
 first_markerless breaks12 [] h = absurd (false≢true h)
-first_markerless breaks12 (c ∷ u) h = grind (arith, first_extended, bracket_markerless, inside_markerless, deep_first)
+first_markerless breaks12 (c ∷ u) h = grind (arith, first_extended, eqb-true, false≢true, inside_markerless, deep_first)
 
 -- after each break of a text something begins a line that is no marker
 abbrev Markerless : Bool → Text → Type 0
@@ -57,16 +53,12 @@ deep_markerless breaks12 t h =
 markerless_text : (breaks12 : Bool) (a b : Text) → Markerless breaks12 a → Markerless breaks12 b → Markerless breaks12 (a ++ b)
 markerless_text breaks12 a b h k = after_both breaks12 (begins_markerless breaks12) (markerless_keeps breaks12) a b h k
 
--- a closing bracket on a line of its own
-bracket_below : (breaks12 : Bool) (closing : Text) → list_any is_break closing ≡ false → begins_closing closing ≡ true → Markerless breaks12 (line_feed ∷ closing)
-bracket_below breaks12 closing one h = grind (arith, and_from, after_line_of, unbroken_line)
-
 -- the end of a collection at the root
 end_markerless : (s : Effective) (brackets : Brackets) (empty : Bool) (cursor : Cursor)
     → list_any is_break brackets.opening ≡ false → list_any is_break brackets.closing ≡ false
     → begins_closing brackets.closing ≡ true → Markerless s.breaks12 (render_end s brackets true empty None cursor).text
 end_markerless s brackets empty cursor h h2 h3 =
-    grind (arith, nat_tests, markerless_text, deep_markerless, indicator_deep, after_line_of, unbroken_line, bracket_below, spaces_line)
+    grind (arith, nat_tests, markerless_text, deep_markerless, indicator_deep, after_line_of, unbroken_line, and_from, spaces_line)
 
 -- Lines after the first
 

@@ -1,12 +1,12 @@
 -- A document's root that is a leaf stands, where its names, its bodies and the keys in it do.
 use Rattle.yaml_base.proofs.Common.{◌≤◌, is_some, Option, None, Bool, false, not, true, ◌&&◌, List, [], refl, ◌≡◌, true≢false, ap, sym, ◌∙◌, arith, and_parts}
-use Rattle.yaml_base.proofs.Common.{and_from, list_all, Text, is_tidy_character, Cursor, TagDirective, Scalar, scalar_tag, collection_tag, Node}
+use Rattle.yaml_base.proofs.Common.{and_from, Text, Cursor, TagDirective, Scalar, scalar_tag, collection_tag, Node}
 use Rattle.yaml_base.proofs.Common.{alias_node, scalar_node, sequence_node, mapping_node, Document, root_place, render_properties, choice_of, as_root, deeper}
-use Rattle.yaml_base.proofs.Common.{Effective, is_written_as_nothing, directives_in_force, has_deep_lines, is_tidy_style, is_empty, Choice, is_plain}
+use Rattle.yaml_base.proofs.Common.{Effective, is_written_as_nothing, directives_in_force, is_empty, Choice, is_plain}
 use Rattle.yaml_base.proofs.{stream_documents.StreamLeafMarkers.leaf_markerless, stream_flow.StreamFlowFits.flows_fit, stream_flow.StreamFlowKinds.KeysFit}
 use Rattle.yaml_base.proofs.{stream_flow.StreamFlowReads.sequence_reads, stream_flow.StreamFlowReads.mapping_reads, stream_flow.StreamFlowScalars.rules_of}
 use Rattle.yaml_base.proofs.{stream_nodes.StreamAgrees.node_tree, stream_nodes.StreamLeads.tag_is_written}
-use Rattle.yaml_base.proofs.{stream_nodes.StreamScalarsFit.body_cursor, stream_nodes.StreamTexts.node_own}
+use Rattle.yaml_base.proofs.{stream_nodes.StreamTexts.node_own}
 use Rattle.yaml_base.proofs.stream_nodes.StreamLeaves.{ScalarsFit, SimpleKeysFit, leaves_stand}
 use Rattle.yaml_base.proofs.stream_documents.StreamRootBegins.{properties_begin, alias_begins, flow_begins, body_head, empty_begins, styled_begins, plain_asked}
 use Rattle.yaml_base.proofs.stream_documents.StreamRootsStand.{root_cursor, Begins, LeafStands, is_leaf, PropertiesStand, RootStands}

@@ -1,7 +1,7 @@
 -- A whole stream whose documents stand is read as their trees.
 use Rattle.yaml_base.proofs.Common.{suc, ℕ, ◌≤◌, if◌then◌else◌, ◌==◌, option_and_then, None, Some, codes, length, Bool, false, not, true, ◌&&◌, ◌||◌, List, []}
 use Rattle.yaml_base.proofs.Common.{◌++◌, ◌∷◌, refl, ◌≡◌, eqb-true, length-append, append-nil, ap, subst, sym, ◌∙◌, arith, and_parts, and_from, flat_map-append}
-use Rattle.yaml_base.proofs.Common.{list_all, Text, line_feed, Document, Documents, no_documents, documents_and, Stream, is_explicit, root_place}
+use Rattle.yaml_base.proofs.Common.{Text, line_feed, Document, Documents, no_documents, documents_and, Stream, is_explicit, root_place}
 use Rattle.yaml_base.proofs.Common.{render_document, render_documents, first_standing, layout, piece_text, text_of, RenderedPieces, Effective}
 use Rattle.yaml_base.proofs.Common.{is_written_as_nothing, directives_in_force, DocumentTree, documents_in_order, marker_of, Sections, sections_of, no_heading}
 use Rattle.yaml_base.proofs.Common.{with_read_document, directive_lines, document_lines, begins_with_percent, prefix_kind, lines_before_marker_read}

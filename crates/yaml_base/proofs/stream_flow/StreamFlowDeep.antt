@@ -1,12 +1,12 @@
 -- Each line of a collection in flow after its first is deeper than the column around.
 use Rattle.yaml_base.proofs.Common.{suc, ℕ, ◌≤◌, if◌then◌else◌, Option, None, Some, codes, Bool, false, true, ◌&&◌, List, [], ◌++◌, ◌∷◌, refl, ◌≡◌, ap, ◌∙◌}
-use Rattle.yaml_base.proofs.Common.{arith, and_parts, false≢true, list_all, list_any, Text, is_tidy_character, Cursor, Rendered, render_nothing, render_then}
+use Rattle.yaml_base.proofs.Common.{arith, and_parts, false≢true, list_any, Text, Cursor, Rendered, render_nothing, render_then}
 use Rattle.yaml_base.proofs.Common.{new_line, space_if, indicator, ScalarStyle, TagDirective, Scalar, Collection, scalar_tag, collection_tag, Node, alias_node}
 use Rattle.yaml_base.proofs.Common.{scalar_node, Nodes, sequence_node, Pairs, mapping_node, no_nodes, nodes_and, no_pairs, pairs_and, render_properties}
 use Rattle.yaml_base.proofs.Common.{render_alias, render_separation, render_body, choice_of, is_written_in_flow, Brackets, square, curly, empty_or_comma}
 use Rattle.yaml_base.proofs.Common.{render_end, entry_place, Role, as_item, as_key, as_value, Place, is_key, line_column, deeper, has_no_nodes, has_no_pairs}
 use Rattle.yaml_base.proofs.Common.{is_simple, is_simple_at, flow_break, opening_or_comma, render_flow_place, render_place, is_read_break, Effective}
-use Rattle.yaml_base.proofs.Common.{has_deep_lines, ends_white, has_clean_edges, is_tidy_style, is_tidy, name_read, is_break, nat_tests}
+use Rattle.yaml_base.proofs.Common.{ends_white, has_clean_edges, is_tidy_style, is_tidy, name_read, is_break, nat_tests}
 use Rattle.yaml_base.proofs.{stream_flow.StreamPropertyWords.lead, stream_lines.StreamClosed.spaces_line, stream_lines.StreamLineLaws.OneLine}
 use Rattle.yaml_base.proofs.{stream_lines.StreamLineLaws.one_line_both, stream_lines.StreamTidyLaws.deep_lines_fewer, stream_nodes.StreamAliasFits.name_line}
 use Rattle.yaml_base.proofs.{stream_nodes.StreamBegun.lead_line, stream_nodes.StreamLeads.lead_rendered, stream_nodes.StreamLeads.tag_is_written}

@@ -1,5 +1,5 @@
 -- Each kind of node that stands in flow takes the reader of flow collections to its place with its tree, where what it holds does.
-use Rattle.yaml_base.proofs.Common.{arith, ℕ, if◌then◌else◌, is_some, Option, None, Some, Bool, false, not, true, ◌&&◌, List, [], ◌++◌, ◌∷◌, refl, ◌≡◌}
+use Rattle.yaml_base.proofs.Common.{arith, ℕ, if◌then◌else◌, Option, None, Some, Bool, false, not, true, ◌&&◌, List, [], ◌++◌, ◌∷◌, refl, ◌≡◌}
 use Rattle.yaml_base.proofs.Common.{true≢false, append-nil, append_assoc, ap, sym, ◌∙◌, false≢true, Text, space, Cursor, Rendered, space_if, TagDirective}
 use Rattle.yaml_base.proofs.Common.{Scalar, Collection, scalar_tag, collection_tag, Node, alias_node, scalar_node, Nodes, sequence_node, Pairs, mapping_node}
 use Rattle.yaml_base.proofs.Common.{no_nodes, nodes_and, no_pairs, pairs_and, render_properties, render_alias, render_separation, render_body, choice_of}

@@ -1,7 +1,7 @@
 -- A line that begins with the bracket of a collection in flow, after its properties, holds no simple key, so it begins no mapping
 -- in a block.
 use Rattle.yaml_base.proofs.Common.{nat_tests, arith, ℕ, if◌then◌else◌, ◌==◌, Option, None, Bool, false, true, [], ◌++◌, ◌∷◌, refl, ◌≡◌, append_assoc, ap, ◌∙◌}
-use Rattle.yaml_base.proofs.Common.{and_parts, false≢true, Text, plain, read_plain, ParsedTag, begins_with_indicator, key_of_text, begins_text, kind_of_node}
+use Rattle.yaml_base.proofs.Common.{and_parts, false≢true, Text, plain, read_plain, ParsedTag, begins_with_indicator, begins_text, kind_of_node}
 use Rattle.yaml_base.proofs.Common.{Rules, Properties, scalar_of_style, empty_sequence, empty_mapping, a_scalar, word_by_kind, word_after}
 use Rattle.yaml_base.proofs.{stream_flow.StreamPropertyWords.lead, stream_nodes.StreamOwnTexts.own_kind, stream_nodes.StreamProperties.begins_content}
 use Rattle.yaml_base.proofs.stream_flow.StreamFlowWords.{opens_inside, Given}
@@ -57,11 +57,6 @@ bracket_content : (q : Bool) (t : Text) → begins_content (opening q ∷ t) ≡
 bracket_content true t = refl
 bracket_content false t = refl
 
--- such a text is no key
-no_key_text : (rules : Rules) (anchor tag : Option Text) (parsed : Option ParsedTag) (q : Bool) (t : Text) → Given rules anchor tag parsed → keeps_open t ≡ true
-    → key_of_text rules (lead anchor tag ++ (opening q ∷ t)) ≡ None
-no_key_text rules anchor tag parsed q t given h = grind (arith, nat_tests, lead_no_text, bracket_content, no_word)
-
 -- no `:` after it ends a key
 bracket_nowhere : (rules : Rules) (anchor tag : Option Text) (parsed : Option ParsedTag) (q : Bool) (b t : Text)
     → Given rules anchor tag parsed → keeps_open (b ++ t) ≡ true
@@ -69,7 +64,7 @@ bracket_nowhere : (rules : Rules) (anchor tag : Option Text) (parsed : Option Pa
 bracket_nowhere rules anchor tag parsed q b [] given h = tt
 bracket_nowhere rules anchor tag parsed q b (x ∷ t) given h =
     let each = bracket_nowhere rules anchor tag parsed q (b ++ (x ∷ [])) t given (ap keeps_open (append_assoc b (x ∷ []) t) ∙ h) in
-    grind (arith, no_key_text, keeps_prefix, append_assoc, each)
+    grind (arith, nat_tests, lead_no_text, bracket_content, no_word, keeps_prefix, append_assoc, each)
 
 -- Kinds
 

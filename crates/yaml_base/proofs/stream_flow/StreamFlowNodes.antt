@@ -3,7 +3,7 @@ use Rattle.yaml_base.proofs.Common.{arith, ℕ, Option, Some, codes, Bool, false
 use Rattle.yaml_base.proofs.Common.{sym, ◌∙◌, Text, Cursor, Rendered, space_if, indicator, TagDirective, collection_tag, Node, alias_node, scalar_node, Nodes}
 use Rattle.yaml_base.proofs.Common.{sequence_node, Pairs, mapping_node, no_nodes, nodes_and, no_pairs, pairs_and, render_properties, entry_place, Role, as_item}
 use Rattle.yaml_base.proofs.Common.{as_key, as_value, is_key, deeper, has_no_nodes, has_no_pairs, is_simple, flow_break, key_indicator, render_flow_place}
-use Rattle.yaml_base.proofs.Common.{render_place, Effective, Tree, TreePairs, no_trees, no_tree_pairs, tree_pairs_and, no_key, in_sequence, in_mapping, Rules}
+use Rattle.yaml_base.proofs.Common.{render_place, Effective, Tree, TreePairs, no_trees, tree_pairs_and, no_key, in_mapping, Rules}
 use Rattle.yaml_base.proofs.stream_flow.{StreamFlowScalars.rules_of, StreamFlowTakes.FlowNode}
 use Rattle.yaml_base.proofs.stream_flow.StreamFlowKinds.{KeysFit, alias_step, scalar_step, ItemsTake, PairsTake, sequence_step, mapping_step}
 use Rattle.yaml_base.proofs.stream_flow.StreamFlowPairs.{FlowEntry, item_entry, simple_pair_entry, long_pair_entry, first_entry, next_entry}

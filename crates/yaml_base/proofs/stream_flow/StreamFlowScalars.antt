@@ -5,7 +5,7 @@ use Rattle.yaml_base.proofs.Common.{single_quoted, double_quoted, literal, folde
 use Rattle.yaml_base.proofs.Common.{render_body, allowed_under, style_asked_at, choice_of, entry_place, Role, read_in_style, Effective, read_plain, is_tidy}
 use Rattle.yaml_base.proofs.Common.{Allowances, is_empty, and-false}
 use Rattle.yaml_base.proofs.Common.{double_inside, render_quote, runs, render_runs, quotes_doubled, single_quote, is_plain, requested_style}
-use Rattle.yaml_base.proofs.Common.{quoted_style, fitting_style, fits_plain, Rules}
+use Rattle.yaml_base.proofs.Common.{fitting_style, fits_plain, Rules}
 use Rattle.yaml_base.proofs.{stream_flow.StreamPropertyWords.lead, stream_lines.StreamCuts.none_not_some}
 use Rattle.yaml_base.proofs.stream_nodes.StreamLeads.{EndedCollection, lead_rendered}
 use Rattle.yaml_base.proofs.stream_nodes.StreamStands.{tag_written, tag_meant}
@@ -21,13 +21,10 @@ is_flow_style literal = false
 is_flow_style folded = false
 is_flow_style _ = true
 
-quotes_in_flow : (allowed : Allowances) → is_flow_style (quoted_style allowed) ≡ true
-quotes_in_flow allowed = grind (arith)
-
 -- where no block style fits the style is one of flow
 style_in_flow : (allowed : Allowances) (fits x : Bool) (asked : ScalarStyle)
     → is_flow_style (fitting_style allowed fits (allowed.block && not true && not x) asked) ≡ true
-style_in_flow allowed fits x asked = grind (arith, nat_tests, quotes_in_flow)
+style_in_flow allowed fits x asked = grind (arith, nat_tests)
 
 -- so is the style that is chosen in flow
 pub chosen_in_flow : (s : Effective) (role : Role) (column : ℕ) (simple : Bool) (content : Scalar)

@@ -4,7 +4,7 @@ use Rattle.yaml_base.proofs.Common.{eqb-true, append-nil, append_assoc, ap, sym,
 use Rattle.yaml_base.proofs.Common.{indicator, Brackets, square, curly, render_end, line_column, Effective, ParsedTag, Tree, Trees, sequence_tree, TreePairs}
 use Rattle.yaml_base.proofs.Common.{mapping_tree, no_key, key_held, OpenFlow, in_sequence, in_mapping, at_once, Awaited, entry_awaited, node_awaited}
 use Rattle.yaml_base.proofs.Common.{comma_awaited, colon_awaited, FlowReading, within, with_tree, level_opened, ends_indicator, spaces, Rules, properties_read}
-use Rattle.yaml_base.proofs.Common.{opens, symbol, free, begins_bracket, class_of, is_pair, flow_tokens, and-false}
+use Rattle.yaml_base.proofs.Common.{opens, free, begins_bracket, class_of, is_pair, flow_tokens, and-false}
 use Rattle.yaml_base.proofs.{stream_flow.StreamPlainWords.ends_word, stream_lines.StreamInside.blank_spaces, stream_nodes.StreamStands.tag_meant}
 use Rattle.yaml_base.proofs.stream_flow.StreamPropertyWords.{lead, opens_after}
 use Rattle.yaml_base.proofs.stream_nodes.StreamLeads.{EndedCollection, lead_spaces, lead_then}
@@ -13,7 +13,7 @@ use Rattle.yaml_base.proofs.stream_flow.StreamPasses.{passes_both, passes_then, 
 use Rattle.yaml_base.proofs.stream_flow.StreamSays.{EndsWord, says_indicator, indicator_ends, class_fixed}
 use Rattle.yaml_base.proofs.stream_flow.StreamTakes.{steps, TakesBytes, takes_to, takes_sequence_end, takes_mapping_end}
 use Rattle.yaml_base.proofs.stream_nodes.StreamProperties.{properties_text, has_properties, read_as, properties_parsed}
-use Rattle.yaml_base.specs.streams.StreamFlow.{with_word, may_open, opened_with}
+use Rattle.yaml_base.specs.streams.StreamFlow.{may_open, opened_with}
 
 -- where a node may begin: between entries, or after the space that follows `?` or `:`
 abbrev pub awaited_of : (spaced : Bool) → Awaited
@@ -44,16 +44,11 @@ pub record FlowEntries (rules : Rules) (bracket : ℕ) (cursor : Cursor) (own : 
 
 -- Words
 
--- where a mapping awaits no key a word is a node
-with_word_open : (breaks12 : Bool) (levels : List OpenFlow) (text : Text) (tree : Tree) → may_open levels ≡ true
-    → with_word breaks12 levels text tree ≡ with_tree levels tree
-with_word_open breaks12 levels text tree h = grind (arith, nat_tests, false≢true)
-
 -- a word takes its place
 pub takes_word : (rules : Rules) (levels : List OpenFlow) (spaced : Bool) (text : Text) (tree : Tree) → FlowWord rules text tree → may_open levels ≡ true
     → TakesBytes rules (within levels (awaited_of spaced)) text (with_tree levels tree)
-takes_word rules levels true text tree of h = grind (arith, takes_to, with_word_open)
-takes_word rules levels false text tree of h = grind (arith, takes_to, with_word_open)
+takes_word rules levels true text tree of h = grind (arith, nat_tests, takes_to, false≢true)
+takes_word rules levels false text tree of h = grind (arith, nat_tests, takes_to, false≢true)
 
 -- Collections
 

@@ -1,7 +1,7 @@
 -- Plain text is one word among the tokens of flow, before white space and a flow indicator.
-use Rattle.yaml_base.proofs.Common.{nat_tests, arith, ℕ, ◌==◌, Some, codes, Bool, false, not, true, ◌&&◌, ◌||◌, List, [], map, ◌++◌, ◌∷◌, refl, ◌≡◌}
+use Rattle.yaml_base.proofs.Common.{nat_tests, arith, ℕ, Some, codes, Bool, false, not, true, ◌&&◌, List, [], map, ◌++◌, ◌∷◌, refl, ◌≡◌}
 use Rattle.yaml_base.proofs.Common.{true≢false, append-nil, append_assoc, ap, ◌∙◌, and_parts, or_parts, false≢true, map-append, list_all, Text, is_among}
-use Rattle.yaml_base.proofs.Common.{is_read_white, begins_white, begins_with_hash, holds_no_plain, read_plain, ends_white, has_clean_edges, FlowToken, word}
+use Rattle.yaml_base.proofs.Common.{is_read_white, holds_no_plain, read_plain, ends_white, has_clean_edges, FlowToken, word}
 use Rattle.yaml_base.proofs.Common.{free, FlowStep, FlowClass, is_white_blank, is_white_break, is_flow_indicator, begins_bracket, class_of, flow_tokens}
 use Rattle.yaml_base.proofs.Common.{not-true}
 use Rattle.yaml_base.proofs.{stream_flow.StreamWords.GivesWord}

@@ -8,7 +8,7 @@ use Rattle.yaml_base.proofs.Common.{escape_after_backslash, escape_text, needs_e
 use Rattle.yaml_base.proofs.Common.{quotes_doubled, single_quote}
 use Rattle.yaml_base.{proofs.stream_flow.StreamFlowScalars.is_flow_style, specs.Cursor.render_text}
 use Rattle.yaml_base.specs.scalars.DoubleQuoted.{quote, ShortEscape}
-use Rattle.yaml_base.specs.scalars.Plain.{Run, cons_run, run_text}
+use Rattle.yaml_base.specs.scalars.Plain.{Run, run_text}
 
 -- Without folds
 
@@ -30,18 +30,13 @@ unfolded_runs written indent edge [] cursor = refl
 unfolded_runs written indent edge (run ∷ more) cursor =
     ap (λ t. run_text written false indent run.kind run.text ++ t) (unfolded_runs written indent false more _)
 
--- a character that is no break before runs
-run_joined : (written : Text → Text) (one : ℕ → Text) (writes : Writes written one) (indent c : ℕ) (all : List Run) → is_break c ≡ false
-    → run_texts written indent (cons_run c all) ≡ one c ++ run_texts written indent all
-run_joined written one writes indent c all h = grind (arith, append-nil, append_assoc)
-
 -- a value without a break is rendered as it is written
 written_alone : (written : Text → Text) (one : ℕ → Text) (writes : Writes written one) (indent : ℕ) (value : Text) → list_any is_break value ≡ false
     → run_texts written indent (runs value) ≡ written value
 written_alone written one writes indent [] h = sym writes.nothing
 written_alone written one writes indent (c ∷ value) h =
     let parts = or_parts (is_break c) (list_any is_break value) h in
-    grind (arith, or_parts, run_joined, written_alone written one writes indent value parts.1)
+    grind (arith, or_parts, append-nil, append_assoc, written_alone written one writes indent value parts.1)
 
 runs_alone : (written : Text → Text) (one : ℕ → Text) (writes : Writes written one) (indent : ℕ) (value : Text) (cursor : Cursor)
     → list_any is_break value ≡ false → (render_runs written None indent true (runs value) cursor).text ≡ written value
@@ -136,9 +131,6 @@ unbroken_character unicode c h = by (needs_escape unicode c)
     by true = unbroken_after c (letter_among short_escapes c) refl
     by false = ap (λ x. x || false) h
 
-unbroken_quote : (c : ℕ) → is_break c ≡ false → list_any is_break (quote_doubled c) ≡ false
-unbroken_quote c h = grind (arith)
-
 doubled_each : (value : Text) → quotes_doubled value ≡ flat_map quote_doubled value
 doubled_each [] = refl
 doubled_each (c ∷ value) = ap (λ t. quote_doubled c ++ t) (doubled_each value)
@@ -150,4 +142,4 @@ quoted_unbroken unicode value h =
 -- the body of a simple key has no break
 pub key_unbroken : (style : ScalarStyle) (unicode : Bool) (value : Text) → list_any is_break value ≡ false → list_any is_break (key_body style unicode value)
     ≡ false
-key_unbroken style unicode value h = grind (arith, nat_tests, unbroken_both, doubled_each, unbroken_each, unbroken_quote, quoted_unbroken)
+key_unbroken style unicode value h = grind (arith, nat_tests, unbroken_both, doubled_each, unbroken_each, quoted_unbroken)

@@ -4,7 +4,7 @@ use Rattle.yaml_base.proofs.Common.{◌++◌, ◌∷◌, refl, ◌≡◌, le-leb
 use Rattle.yaml_base.proofs.Common.{flat_map, list_all, Text, space, is_alpha, Cursor, Rendered, space_if, ScalarStyle, any_style, plain}
 use Rattle.yaml_base.proofs.Common.{single_quoted, double_quoted, literal, folded, TagDirective, Scalar, Collection, scalar_tag, collection_tag, alias_node}
 use Rattle.yaml_base.proofs.Common.{scalar_node, sequence_node, Pairs, mapping_node, no_nodes, nodes_and, no_pairs, pairs_and, Body, render_properties, ◌==◌}
-use Rattle.yaml_base.proofs.Common.{render_alias, render_separation, render_body, choice_of, body_at, is_written_in_flow}
+use Rattle.yaml_base.proofs.Common.{render_alias, render_separation, render_body, choice_of, body_at}
 use Rattle.yaml_base.proofs.Common.{entry_place, Role, as_key, Place, deeper, byte_count, name_count, tag_count, is_short, has_no_pairs, read_in_style}
 use Rattle.yaml_base.proofs.Common.{most_key_bytes, Effective, is_tidy, is_empty, character_text, quotes_doubled, is_plain, Tree}
 use Rattle.yaml_base.proofs.Common.{alias_tree, scalar_tree, longest_key, Rules}
@@ -137,10 +137,6 @@ alias_key_fits rules n name letters short of =
 
 -- Collections
 
--- an empty collection is written in flow
-empty_in_flow : (s : Effective) (place : Place) (start : Collection) → is_written_in_flow s place start true ≡ true
-empty_in_flow s place start = grind (arith)
-
 -- an empty collection that is a simple key
 empty_key_fits : (s : Effective) (own directives : List TagDirective) (start : Collection) (a b : ℕ) (tree : Tree) (cursor : Cursor)
     → IsNamed start.anchor → TagStands s.portable own directives (collection_tag s.canonical start)
@@ -184,10 +180,10 @@ simple_keys_fit s own directives (scalar_node content) pairs e h names body =
     (λ stands. scalar_key_placed s own directives content pairs e (simple_scalar s.canonical directives content h) names stands)
     body
 simple_keys_fit s own directives (sequence_node start no_nodes) pairs e h names bodies =
-    grind (arith, empty_in_flow, empty_key_fits, simple_collection, tag_of_collection)
+    grind (arith, empty_key_fits, simple_collection, tag_of_collection)
 simple_keys_fit s own directives (sequence_node start (nodes_and items last)) pairs e h names bodies =
     absurd (false≢true (simple_collection s.canonical false 0 h).0)
 simple_keys_fit s own directives (mapping_node start no_pairs) pairs e h names bodies =
-    grind (arith, empty_in_flow, empty_key_fits, simple_collection, tag_of_collection)
+    grind (arith, empty_key_fits, simple_collection, tag_of_collection)
 simple_keys_fit s own directives (mapping_node start (pairs_and before key value)) pairs e h names bodies =
     absurd (false≢true (simple_collection s.canonical false 0 h).0)

@@ -1,9 +1,9 @@
 -- How a block scalar leaves off: at a line's start where its value ends in a break, and elsewhere after an indicator that strips.
 use Rattle.yaml_base.proofs.Common.{ℕ, ◌+◌, ◌≤◌, if◌then◌else◌, ◌==◌, Option, Bool, false, not, true, ◌&&◌, ◌||◌, List, [], ◌++◌, ◌∷◌, refl, ◌≡◌, true≢false}
 use Rattle.yaml_base.proofs.Common.{append_assoc, ap, sym, ◌∙◌, arith, or_parts, false≢true, nat_tests, Text, line_feed, line_separator, paragraph_separator}
-use Rattle.yaml_base.proofs.Common.{is_ascii, is_space, is_break, is_printable, Cursor, column_after, ScalarStyle, not-true, not-false}
-use Rattle.yaml_base.proofs.Common.{is_read_break, strip, after_digit, chomping_first, Charset, Allowances, somewhere, is_empty}
-use Rattle.yaml_base.proofs.Common.{is_special, is_special_but_tab, begins_with_blanks_alone, bars_literal, allows_literal, tab, ending, indentation_hint}
+use Rattle.yaml_base.proofs.Common.{is_space, is_break, is_printable, Cursor, column_after, ScalarStyle, not-true, not-false}
+use Rattle.yaml_base.proofs.Common.{is_read_break, strip, after_digit, chomping_first, Charset, Allowances, somewhere}
+use Rattle.yaml_base.proofs.Common.{is_special, bars_literal, allows_literal, tab, ending, indentation_hint}
 use Rattle.yaml_base.proofs.Common.{ending_hint, render_hint, ends_in_break, folded_parts}
 use Rattle.yaml_base.proofs.Common.{parts, is_block, fitting_style}
 use Rattle.yaml_base.specs.{Cursor.next_column, scalars.Analysis.begins_with, scalars.BlockHeader.without_break}

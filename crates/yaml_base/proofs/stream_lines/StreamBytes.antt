@@ -1,6 +1,6 @@
 -- A text of printable characters and tabs, however its line breaks are written, is read as its documents.
-use Rattle.yaml_base.proofs.Common.{nat_tests, arith, ℕ, if◌then◌else◌, ◌==◌, option_and_then, Some, Bool, false, true, List, [], ◌∷◌, refl, ◌≡◌, eqb-true, ap}
-use Rattle.yaml_base.proofs.Common.{◌∙◌, and_parts, and_from, false≢true, list_all-append, list_all, Text, is_tidy_character, break_text, with_breaks_written}
+use Rattle.yaml_base.proofs.Common.{nat_tests, arith, ℕ, option_and_then, Some, Bool, true, List, [], ◌∷◌, refl, ◌≡◌, eqb-true, ap}
+use Rattle.yaml_base.proofs.Common.{◌∙◌, and_parts, and_from, false≢true, list_all-append, list_all, Text, is_tidy_character, with_breaks_written}
 use Rattle.yaml_base.proofs.Common.{is_rendered_text, LineBreak, characters_read, documents_of, stream_trees, or_left, ScalarStyle, literal}
 use Rattle.yaml_base.proofs.AllPass.{all_pass}
 use Rattle.yaml_base.{proofs.BreakLaws.breaks-round, specs.streams.StreamReader.may_stand_raw, specs.streams.StreamReader.text_trees}
@@ -9,16 +9,12 @@ use Rattle.yaml_base.{proofs.BreakLaws.breaks-round, specs.streams.StreamReader.
 abbrev pub is_shown : ℕ → Bool
 is_shown c = is_tidy_character literal c
 
--- a character that is none of these is none of a text of them
-other_than : (c n : ℕ) → is_shown n ≡ false → is_shown c ≡ true → (c == n) ≡ false
-other_than c n none h = grind (arith, false≢true, eqb-true)
-
 -- such a text has no CR and no U+0085
 printable_rendered : (text : Text) → list_all is_shown text ≡ true → is_rendered_text text ≡ true
 printable_rendered [] h = refl
 printable_rendered (c ∷ rest) h =
     let parts = and_parts (is_shown c) (list_all is_shown rest) h in
-    grind (arith, and_parts, other_than, printable_rendered rest parts.1)
+    grind (arith, and_parts, false≢true, eqb-true, printable_rendered rest parts.1)
 
 -- the characters of a tidy text of any style are such
 style_shown : (style : ScalarStyle) (c : ℕ) → is_tidy_character style c ≡ true → is_shown c ≡ true
@@ -28,19 +24,12 @@ style_shown style c h = grind (arith, nat_tests, or_left)
 pub tidy_rendered : (style : ScalarStyle) (text : Text) → list_all (is_tidy_character style) text ≡ true → is_rendered_text text ≡ true
 tidy_rendered style text h = printable_rendered text (all_pass (is_tidy_character style) is_shown (style_shown style) text h)
 
-break_raw : (setting : LineBreak) → list_all may_stand_raw (break_text setting) ≡ true
-break_raw setting = grind (arith, nat_tests)
-
--- such a character may stand raw
-raw : (c : ℕ) → is_shown c ≡ true → may_stand_raw c ≡ true
-raw c h = grind (arith, false≢true)
-
 -- however its breaks are written, such a text may stand raw
 pub printable_raw : (setting : LineBreak) (text : Text) → list_all is_shown text ≡ true → list_all may_stand_raw (with_breaks_written setting text) ≡ true
 printable_raw setting [] h = refl
 printable_raw setting (c ∷ rest) h =
     let parts = and_parts (is_shown c) (list_all is_shown rest) h in
-    grind (arith, and_parts, list_all-append, and_from, break_raw, raw, printable_raw setting rest parts.1)
+    grind (arith, nat_tests, and_parts, list_all-append, and_from, false≢true, printable_raw setting rest parts.1)
 
 -- such a text with its breaks written reads as the documents of the text
 pub trees_of_text : (breaks12 : Bool) (setting : LineBreak) (text : Text) → list_all is_shown text ≡ true

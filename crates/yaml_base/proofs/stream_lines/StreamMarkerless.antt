@@ -6,7 +6,7 @@ use Rattle.yaml_base.proofs.stream_lines.{StreamClosed.closed, StreamClosed.indi
 use Rattle.yaml_base.proofs.stream_lines.{StreamSections.is_markerless, StreamSections.AllMarkerless}
 use Rattle.yaml_base.proofs.stream_nodes.{StreamAgrees.node_tree, StreamFits.size, StreamFits.Fits, StreamFits.indicated_lines, StreamItems.items_text}
 use Rattle.yaml_base.proofs.stream_nodes.{StreamItems.ItemsFit, StreamItems.items_inside}
-use Rattle.yaml_base.proofs.stream_nodes.StreamPairs.{key_place, value_place, colon_cursor, simple_key, indicated_key, simple_value, indicated_value}
+use Rattle.yaml_base.proofs.stream_nodes.StreamPairs.{key_place, value_place, simple_key, indicated_key, simple_value, indicated_value}
 use Rattle.yaml_base.proofs.stream_nodes.StreamPairs.{pair_text, pairs_text, PairFits, PairsFit, keyed_lines, rest_inside}
 use Rattle.yaml_base.proofs.stream_nodes.StreamPairs.{indicated_pair_lines, pairs_lines}
 use Rattle.yaml_base.proofs.stream_lines.StreamLineLaws.{unbroken_line}

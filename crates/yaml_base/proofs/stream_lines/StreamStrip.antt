@@ -1,9 +1,9 @@
 -- A break more at the end of a block scalar that strips its final breaks doesn't change what it reads as.
 use Rattle.yaml_base.proofs.Common.{nat_tests, arith, ℕ, if◌then◌else◌, option_map, option_and_then, Option, Some, Bool, false, List, [], ◌++◌, ◌∷◌}
 use Rattle.yaml_base.proofs.Common.{refl, ◌≡◌, true≢false, ap, ◌∙◌, Text, line_feed, is_read_break, elements, strip, digit_first, after_digit, chomping_first}
-use Rattle.yaml_base.proofs.Common.{after_chomping, after_break, read_lines, read_block}
+use Rattle.yaml_base.proofs.Common.{after_chomping, after_break, read_block}
 use Rattle.yaml_base.proofs.stream_lines.StreamCuts.{none_not_some}
-use Rattle.yaml_base.specs.reading.ReadBlock.{Element, content, line_end, prepend_to_elements, prepend_element, detected_indentation, read_indentation}
+use Rattle.yaml_base.specs.reading.ReadBlock.{Element, content, line_end, prepend_to_elements, prepend_element, detected_indentation}
 use Rattle.yaml_base.specs.reading.ReadBlock.{all_unindented, has_content, kept_lines, joined, unfolded, clip, lines_read}
 
 -- a break at the end, as text and as an element
@@ -31,10 +31,6 @@ detected_more [] = refl
 detected_more (content text ∷ rest) = refl
 detected_more (line_end b ∷ rest) = detected_more rest
 
--- so the read_indentation stays
-indentation_more : (digit column : Option ℕ) (es : List Element) → read_indentation digit column (es ++ last_end) ≡ read_indentation digit column es
-indentation_more digit column es = grind (arith, nat_tests, detected_more)
-
 -- it needs none
 unindented_more : (n : ℕ) (es : List Element) → all_unindented n (es ++ last_end) ≡ option_map (λ t. t ++ last_end) (all_unindented n es)
 unindented_more n [] = refl
@@ -55,11 +51,6 @@ kept_more (line_end b ∷ rest) = grind (arith, content_more, kept_more rest)
 -- and what they read as
 lines_more : (folded : Bool) (es : List Element) → lines_read folded strip (es ++ last_end) ≡ lines_read folded strip es
 lines_more folded es = ap (λ t. (if folded then unfolded false t else joined t) ++ []) (kept_more es)
-
--- so the lines after a header read the same
-read_more : (folded : Bool) (digit column : Option ℕ) (es : List Element)
-    → read_lines folded strip digit column (es ++ last_end) ≡ read_lines folded strip digit column es
-read_more folded digit column es = grind (arith, indentation_more, unindented_more, lines_more)
 
 -- no indicator clips
 clip_not_strip : clip ≡ strip → ⊥
@@ -84,4 +75,5 @@ body_more breaks12 (c ∷ t) f v h same = grind (arith, none_not_some)
 -- a block scalar that strips reads the same with a break more at its end
 pub strip_more : (breaks12 : Bool) (column : Option ℕ) (symbol : ℕ) (rest v : Text) → chomping_first (after_digit rest) ≡ strip
     → read_block breaks12 column (symbol ∷ rest) ≡ Some v → read_block breaks12 column ((symbol ∷ rest) ++ (line_feed ∷ [])) ≡ Some v
-strip_more breaks12 column symbol rest v strips read = grind (arith, elements_more, read_more, none_not_some, digit_more, chomping_more, body_more)
+strip_more breaks12 column symbol rest v strips read =
+    grind (arith, nat_tests, elements_more, detected_more, unindented_more, lines_more, none_not_some, digit_more, chomping_more, body_more)

@@ -1,7 +1,7 @@
 -- No node is read of a line that begins with a directive's `%` or that is a document's marker: so what reads as a node is neither.
 use Rattle.yaml_base.proofs.Common.{nat_tests, arith, ℕ, if◌then◌else◌, ◌==◌, option_map, Option, None, Some, codes, Bool, false}
 use Rattle.yaml_base.proofs.Common.{true, List, [], ◌++◌, ◌∷◌, refl, ◌≡◌, eqb-true, append_assoc, ap, sym, ◌∙◌, and_parts, false≢true}
-use Rattle.yaml_base.proofs.Common.{Text, read_plain, stood_plain, Tree, begins_with_marker, start_marker, end_marker, no_exclamation}
+use Rattle.yaml_base.proofs.Common.{Text, stood_plain, Tree, begins_with_marker, start_marker, end_marker, no_exclamation}
 use Rattle.yaml_base.proofs.Common.{marker_of, begins_with_percent, Line, without_last_space, key_of_text, key_from}
 use Rattle.yaml_base.proofs.Common.{key_of_line, trimmed, word_text, kind_of_text, text_read, begins_text, kind_of_node}
 use Rattle.yaml_base.proofs.Common.{node_read, Rules, Properties, no_properties, scalar_parsed, word_after, word_read}
@@ -25,12 +25,9 @@ unsaid : (x : Bool) (properties : Properties) (value : Option Text) → value �
 unsaid true properties value h = ap (scalar_parsed properties stood_plain) h
 unsaid false properties value h = refl
 
-percent_plain : (breaks12 : Bool) (t : Text) → read_plain breaks12 false (0x25 ∷ t) ≡ None
-percent_plain breaks12 t = grind (arith, nat_tests)
-
 indicator_word : (symbol : LineStart) (t : Text) (rules : Rules) (column : Option ℕ) (properties : Properties)
     → word_after rules false column properties (indicator_text symbol ++ t) ≡ None
-indicator_word symbol t rules column properties = grind (arith, nat_tests, unsaid, percent_plain)
+indicator_word symbol t rules column properties = grind (arith, nat_tests, unsaid)
 
 indicator_read : (symbol : LineStart) (t : Text) (rules : Rules) → word_read rules false (indicator_text symbol ++ t) ≡ None
 indicator_read percent t rules = indicator_word percent t rules None no_properties

@@ -1,13 +1,13 @@
 -- The trees that a layout's nodes are to be read as, and that they agree with the events.
 use Rattle.yaml_base.proofs.Common.{arith, if◌then◌else◌, is_some, Option, None, Some, Bool, false, not, true, ◌&&◌, ◌||◌, List, [], ◌∷◌, refl, ◌≡◌, ap, ◌∙◌}
-use Rattle.yaml_base.proofs.Common.{and_parts, and_from, false≢true, Decides-int_eq, Text, ScalarStyle, Version, TagDirective, Scalar, scalar_tag}
+use Rattle.yaml_base.proofs.Common.{and_parts, and_from, false≢true, Decides-int_eq, Text, ScalarStyle, TagDirective, Scalar, scalar_tag}
 use Rattle.yaml_base.proofs.Common.{collection_tag, Node, alias_node, scalar_node, Nodes, sequence_node, Pairs, mapping_node, no_nodes, nodes_and, no_pairs}
 use Rattle.yaml_base.proofs.Common.{pairs_and, Document, root_place, allowed_under, style_asked_at, choice_of, is_written_in_flow, entry_place, as_item}
 use Rattle.yaml_base.proofs.Common.{as_key, as_value, Place, has_no_nodes, has_no_pairs, is_simple, is_simple_at, Effective, directives_in_force, Allowances}
 use Rattle.yaml_base.proofs.Common.{is_empty, Choice, lacks_tag_and_flags, is_plain, requested_style, fitting_style, fits_plain, Stood, stood_plain}
 use Rattle.yaml_base.proofs.Common.{stood_quoted, stood_bare, Tagging, with_tag, without_tag, Tree, alias_tree, scalar_tree, Trees, sequence_tree, TreePairs}
 use Rattle.yaml_base.proofs.Common.{mapping_tree, no_trees, trees_and, no_tree_pairs, tree_pairs_and, DocumentTree, document_agrees, nat_tests}
-use Rattle.yaml_base.specs.streams.StreamContent.{may_stand, is_same_text, tagging_agrees, tree_agrees, trees_agree, tree_pairs_agree, is_same_version}
+use Rattle.yaml_base.specs.streams.StreamContent.{may_stand, is_same_text, tagging_agrees, tree_agrees, trees_agree, tree_pairs_agree}
 use Rattle.yaml_base.specs.streams.StreamContent.{are_same_directives}
 use Rattle.yaml_base.proofs.TagForms.{same_text}
 
@@ -149,9 +149,6 @@ mutual
       let other = pairs_agree pairs s directives in_flow before.0 in
       grind (arith, and_parts, and_from, each, one, other)
 
-same_version : (version : Option Version) → is_same_version version version ≡ true
-same_version version = grind (arith, nat_tests, and_from, Decides-int_eq)
-
 same_directives : (directives : List TagDirective) → are_same_directives directives directives ≡ true
 same_directives [] = refl
 same_directives (d ∷ rest) = grind (arith, and_from, same_text, same_directives rest)
@@ -159,4 +156,4 @@ same_directives (d ∷ rest) = grind (arith, and_from, same_text, same_directive
 -- the tree of a document agrees with it
 pub document_tree_agrees : (s : Effective) (document : Document) → node_is_tagged s.canonical document.root ≡ true
     → document_agrees s.canonical document (document_tree s document) ≡ true
-document_tree_agrees s document h = grind (arith, and_from, node_tree, same_version, same_directives, node_agrees)
+document_tree_agrees s document h = grind (arith, nat_tests, and_from, node_tree, Decides-int_eq, same_directives, node_agrees)

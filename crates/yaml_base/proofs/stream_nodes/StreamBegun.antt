@@ -2,7 +2,7 @@
 use Rattle.yaml_base.proofs.Common.{ℕ, ◌+◌, if◌then◌else◌, ◌==◌, is_some, Option, None, Some, length, Bool, false, true, ◌&&◌, ◌||◌, List, [], ◌++◌}
 use Rattle.yaml_base.proofs.Common.{◌∷◌, refl, ◌≡◌, append-nil, append_assoc, ap, subst, sym, ◌∙◌, arith, nat_tests, Text}
 use Rattle.yaml_base.proofs.Common.{space, is_blank, is_break, Cursor, space_if, TagDirective, Collection, collection_tag, render_properties}
-use Rattle.yaml_base.proofs.Common.{is_read_break, Effective, spelling, spelled, ParsedTag, is_spaces, ends_indicator, spaces, key_from, key_of_line}
+use Rattle.yaml_base.proofs.Common.{is_read_break, Effective, ParsedTag, is_spaces, ends_indicator, spaces, key_from, key_of_line}
 use Rattle.yaml_base.proofs.Common.{begins_sequence, begins_mapping, begins_text, kind_of_node, Rules, properties_read}
 use Rattle.yaml_base.proofs.{stream_flow.StreamFlowScalars.rules_of, stream_flow.StreamFlowWords.tag_of_collection, stream_flow.StreamPropertyWords.lead}
 use Rattle.yaml_base.proofs.{stream_keys.StreamNoKeys.KeyNowhere, stream_keys.StreamNoKeys.nowhere_alone, stream_keys.StreamNoKeys.properties_nowhere}

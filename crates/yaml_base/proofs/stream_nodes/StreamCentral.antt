@@ -8,7 +8,7 @@ use Rattle.yaml_base.proofs.stream_nodes.StreamAgrees.{node_tree, nodes_tree, pa
 use Rattle.yaml_base.proofs.stream_nodes.StreamFits.{items_size, pairs_size, indicated_lines}
 use Rattle.yaml_base.proofs.stream_nodes.StreamPairReads.{pairs_read_back}
 use Rattle.yaml_base.proofs.stream_nodes.StreamBlocks.{Opened, opened_more, opened_reads, Block}
-use Rattle.yaml_base.proofs.stream_nodes.StreamItems.{item_text, items_text, item_entries, ItemsFit, items_lines, items_split, items_read_back}
+use Rattle.yaml_base.proofs.stream_nodes.StreamItems.{items_text, item_entries, ItemsFit, items_lines, items_split, items_read_back}
 use Rattle.yaml_base.proofs.stream_nodes.StreamPairs.{key_place, simple_key, indicated_key, simple_value, indicated_value, pair_text, pairs_text, pair_entries}
 use Rattle.yaml_base.proofs.stream_nodes.StreamPairs.{PairFits, PairsFit, keyed_lines, indicated_pair_lines, pairs_lines, pairs_split}
 use Rattle.yaml_base.specs.streams.StreamNodes.{items_read, pairs_held, pairs_read, entries_whole}

@@ -134,11 +134,6 @@ pairs_within q d role (Some c) indent cursor deep within = grind (arith)
 
 -- The law
 
--- what fits for a size fits for a greater one
-fits_deeper : (rules : Rules) (m n : ℕ) (own : Rendered) (tree : Tree) (place : Place) (cursor : Cursor) → m ≤ n → Fits rules m own tree place cursor
-    → Fits rules n own tree place cursor
-fits_deeper rules m n own tree place cursor le fit = grind (arith)
-
 -- what isn't written in flow isn't empty
 not_empty : (s : Effective) (place : Place) (start : Collection) (empty : Bool) → is_written_in_flow s place start empty ≡ false → empty ≡ false
 not_empty s place start empty h = (or_parts (place.in_flow || s.canonical || asks_flow start.style) empty h).1
@@ -156,7 +151,7 @@ collection_fits : {Read : Type 0} (rules : Rules) (s : Effective) (place : Place
     × Entries rules (entries_column false undented s.indent place.column begun.cursor) place begun
     (own false (entries_column false undented s.indent place.column begun.cursor) begun.cursor) text)
     → Fits rules (suc size) (collection_own s brackets x undented empty place.column begun (own x)) (make x anchor tag) place cursor
-collection_fits rules s place cursor brackets undented empty begun size text own make anchor tag in_flow true h leaf each = grind (arith, fits_deeper)
+collection_fits rules s place cursor brackets undented empty begun size text own make anchor tag in_flow true h leaf each = grind (arith)
 collection_fits rules s place cursor brackets undented empty begun size text own make anchor tag in_flow false h read each =
     let e : ℕ = entries_column false undented s.indent place.column begun.cursor in
     let parts = each h read in

@@ -1,7 +1,7 @@
 -- A literal or folded scalar as its own text on the lines of a block.
 use Rattle.yaml_base.proofs.Common.{nat_tests, arith, ℕ, Option, None, Some, Bool, false, true, ◌||◌, List, [], ◌++◌, ◌∷◌, refl}
 use Rattle.yaml_base.proofs.Common.{◌≡◌, append_assoc, ap, subst, sym, and_parts, and_from, or_parts, list_all-append, Text, ScalarStyle, literal, folded}
-use Rattle.yaml_base.proofs.Common.{is_read_break, after_digit, after_chomping, after_break, read_block}
+use Rattle.yaml_base.proofs.Common.{is_read_break, read_block}
 use Rattle.yaml_base.proofs.Common.{ParsedTag, is_tidy, Line, prepend_to_first_line, prepend_character, lines_of, key_of_text}
 use Rattle.yaml_base.proofs.Common.{Rules, a_scalar, kind_of_word}
 use Rattle.yaml_base.proofs.{stream_flow.StreamFlowWords.Given, stream_flow.StreamPropertyWords.lead, stream_keys.StreamKeys.none_parsed}
@@ -21,13 +21,9 @@ block_style false = folded
 
 -- No key
 
--- a line has no break after a header's digit and indicator
-header_alone : (breaks12 : Bool) (b : Text) → OneLine breaks12 b → after_break breaks12 (after_chomping (after_digit b)) ≡ None
-header_alone breaks12 b one = grind (arith, or_parts)
-
 -- so one line alone is no block scalar
 no_block : (breaks12 l : Bool) (b : Text) → OneLine breaks12 b → read_block breaks12 None (block_indicator l ∷ b) ≡ None
-no_block breaks12 l b h = grind (arith, nat_tests, header_alone)
+no_block breaks12 l b h = grind (arith, nat_tests, or_parts)
 
 -- a text that begins with such an indicator is a scalar
 block_kind : (l : Bool) (t : Text) → kind_of_word (block_indicator l ∷ t) ≡ a_scalar

@@ -1,7 +1,7 @@
 -- The entries of a mapping read as its pairs, where each of them fits; and how a mapping's text is rendered.
 use Rattle.yaml_base.proofs.Common.{suc, ℕ, ◌+◌, ◌≤◌, if◌then◌else◌, fold, option_and_then, Option, None, Some, length, Bool, false, true, List, []}
 use Rattle.yaml_base.proofs.Common.{◌++◌, ◌∷◌, refl, ◌≡◌, true≢false, append-nil, append_assoc, ap, sym, ◌∙◌, arith, false≢true, Text, Cursor, Rendered}
-use Rattle.yaml_base.proofs.Common.{render_then, new_line, TagDirective, Node, Pairs, no_pairs, pairs_and, entry_place, Role, as_key, as_value, has_no_pairs}
+use Rattle.yaml_base.proofs.Common.{render_then, new_line, TagDirective, Node, Pairs, no_pairs, pairs_and, entry_place, Role, as_key, has_no_pairs}
 use Rattle.yaml_base.proofs.Common.{is_simple, render_place, Effective, Tree, TreePairs, tree_pairs_and, Line, lines_of, spaces, SimpleKey, key_entry}
 use Rattle.yaml_base.proofs.Common.{value_entry, simple_entry, node_read, Rules}
 use Rattle.yaml_base.proofs.stream_lines.StreamClosed.{closing, closed, Settled, new_line_closes, indicator_cursor}
@@ -9,7 +9,7 @@ use Rattle.yaml_base.proofs.stream_lines.StreamInside.{past_spaces}
 use Rattle.yaml_base.proofs.stream_nodes.{StreamAgrees.node_tree, StreamAgrees.pairs_tree, StreamItems.regrouped, StreamItems.Lays, StreamTexts.node_own}
 use Rattle.yaml_base.proofs.stream_nodes.{StreamTexts.pairs_own}
 use Rattle.yaml_base.proofs.stream_nodes.StreamFits.{size, pairs_size, Fits, tree_anywhere, indicated_lines, blanked_lines}
-use Rattle.yaml_base.proofs.stream_nodes.StreamPairs.{KeyFits, key_place, value_place, colon_cursor, simple_key, indicated_key, simple_value, indicated_value}
+use Rattle.yaml_base.proofs.stream_nodes.StreamPairs.{KeyFits, key_place, value_place, colon_cursor, simple_key, indicated_value}
 use Rattle.yaml_base.proofs.stream_nodes.StreamPairs.{pair_text, pairs_text, entries_of_pair, pair_entries, PairFits, PairsFit}
 use Rattle.yaml_base.proofs.stream_nodes.StreamPairs.{keyed_lines}
 use Rattle.yaml_base.specs.streams.StreamNodes.{HeldPairs, with_key, with_held_value, simple_pair, entry_by_kind, entry_at, entry_read, no_pairs_held}
@@ -131,21 +131,12 @@ pub record PairLays (text before : Text) (own : Rendered) (line : Text) (e : ℕ
   pub is : text ≡ spaces e ++ (head ∷ tail)
   pub lays : closed own ≡ before ++ (line ++ (head ∷ tail))
 
--- regrouped: a key, its `:` and what that opens
-keyed_regrouped : (a n k v c : Text) → ((a ++ ((n ++ []) ++ k)) ++ ((0x3A ∷ []) ++ v)) ++ c ≡ a ++ (n ++ (k ++ (0x3A ∷ (v ++ c))))
-keyed_regrouped a n k v c = grind (arith, append_assoc, append-nil)
-
--- regrouped: a key with its indicator, and a value with its own
-indicated_regrouped : (a n k m v c : Text)
-    → ((a ++ ((n ++ (0x3F ∷ [])) ++ k)) ++ ((m ++ (0x3A ∷ [])) ++ v)) ++ c ≡ a ++ (n ++ (0x3F ∷ (k ++ (m ++ (0x3A ∷ (v ++ c))))))
-indicated_regrouped a n k m v c = grind (arith, append_assoc, regrouped)
-
 -- so it is for a pair of either kind
 pair_lays : (x : Bool) (rules : Rules) (s : Effective) (directives : List TagDirective) (pairs : Pairs) (key value : Node) (e : ℕ) (before : Rendered)
     → PairFits x rules s directives pairs key value e
     → PairLays (pair_text x pairs key value s directives e) before.text (pair_own x pairs key value s directives e before) (new_line e before.cursor).text e
-pair_lays true rules s directives pairs key value e before fit = grind (arith, keyed_regrouped)
-pair_lays false rules s directives pairs key value e before fit = grind (arith, append_assoc, indicated_regrouped, new_line_closes)
+pair_lays true rules s directives pairs key value e before fit = grind (arith, append_assoc, append-nil)
+pair_lays false rules s directives pairs key value e before fit = grind (arith, append_assoc, regrouped, new_line_closes)
 
 -- the pairs of a mapping leave off settled
 pub pairs_settled : (rules : Rules) (s : Effective) (directives : List TagDirective) (pairs : Pairs) (e : ℕ) (cursor : Cursor)

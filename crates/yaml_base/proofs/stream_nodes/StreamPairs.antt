@@ -1,6 +1,6 @@
 -- The pairs of a mapping in a block, where each of them fits: their lines split into one entry for a pair with a simple key
 -- and two for another, lie inside the columns around, and read as their trees.
-use Rattle.yaml_base.proofs.Common.{ℕ, ◌+◌, ◌<◌, ◌≤◌, ◌==◌, Some, codes, length, Bool, false, not, true, ◌&&◌, List, [], ◌++◌, ◌∷◌, refl, ◌≡◌, append_assoc, ap}
+use Rattle.yaml_base.proofs.Common.{ℕ, ◌+◌, ◌<◌, ◌≤◌, ◌==◌, Some, codes, length, Bool, false, not, true, List, [], ◌++◌, ◌∷◌, refl, ◌≡◌, append_assoc, ap}
 use Rattle.yaml_base.proofs.Common.{subst, sym, ◌∙◌, arith, and_from, list_all, Text, space, Cursor, Rendered, indicator, TagDirective, Node, Pairs, no_pairs}
 use Rattle.yaml_base.proofs.Common.{pairs_and, entry_place, Role, as_key, as_value, Place, has_no_pairs, is_simple, Effective, Tree, marker_of, nat_tests}
 use Rattle.yaml_base.proofs.Common.{Line, lines_of, ends_indicator, begins_with_indicator, belongs_to_entry, spaces, key_of_line, simple_entry, Rules}
@@ -109,15 +109,11 @@ keyed_begins rules text after tree key h =
     ap (λ t. begins_entry false (t ++ (0x3A ∷ after))) key.is
     ∙ and_from _ _ (ap not key.shows) (ap not (ap (λ t. begins_with_indicator 0x2D (t ++ (0x3A ∷ after))) (sym key.is) ∙ key.no_dash after h))
 
--- a place in a column is within those around
-within_less : (q : Bool) (d e : ℕ) (x : Bool) → d + rank q ≤ e → d + rank (q && x) ≤ e
-within_less q d e x h = grind (arith, nat_tests)
-
 -- the lines after the first of what an indicator opens are inside the column, where the node fits there
 pub rest_inside : (rules : Rules) (n : ℕ) (own : Rendered) (tree : Tree) (role : Role) (cursor : Cursor) (e : ℕ)
     (fit : Fits rules n own tree (entry_place false role e) cursor) (w : cursor.whitespace ≡ false)
     (q : Bool) (d : ℕ) → d + rank q ≤ e → AllInside q d (fit.opens w).rest
-rest_inside rules n own tree role cursor e fit w q d h = grind (arith, within_less)
+rest_inside rules n own tree role cursor e fit w q d h = grind (arith, nat_tests)
 
 -- all lines of an indicator and what it opens are deeper than a column farther out
 indicated_inside : (rules : Rules) (n : ℕ) (own : Rendered) (tree : Tree) (role : Role) (cursor : Cursor) (e c : ℕ)

@@ -5,7 +5,7 @@ use Rattle.yaml_base.proofs.Common.{append-nil, append_assoc, ap, subst, sym, â—
 use Rattle.yaml_base.proofs.Common.{column_after, space_if, ScalarStyle, any_style, plain, single_quoted, double_quoted, literal, folded}
 use Rattle.yaml_base.proofs.Common.{TagDirective, render_properties, render_separation, render_body, Place, read_in_style, Effective, read_block, is_tidy}
 use Rattle.yaml_base.proofs.Common.{is_empty, allows_literal, ending, indentation_hint, ending_hint, ends_in_break, double_inside, render_quote}
-use Rattle.yaml_base.proofs.Common.{folded_parts, parts, runs, render_runs, quotes_doubled, single_quote, is_plain, is_block, spaces, Rules}
+use Rattle.yaml_base.proofs.Common.{runs, render_runs, quotes_doubled, single_quote, is_plain, is_block, spaces, Rules}
 use Rattle.yaml_base.proofs.{stream_flow.StreamFlowScalars.rules_of, stream_flow.StreamFlowScalars.is_flow_style, stream_flow.StreamFlowScalars.body_ended}
 use Rattle.yaml_base.proofs.{stream_flow.StreamFlowWords.Given, stream_flow.StreamFlowWords.scalar_in, stream_flow.StreamPropertyWords.lead}
 use Rattle.yaml_base.proofs.{stream_lines.StreamCuts.none_not_some, stream_lines.StreamLineLaws.is_closed, stream_lines.StreamStrip.strip_more}
@@ -18,7 +18,7 @@ use Rattle.yaml_base.proofs.stream_lines.StreamBlockEnds.{EndsBreak, ending_brea
 use Rattle.yaml_base.proofs.stream_lines.StreamBlockEnds.{hint_text, strips}
 use Rattle.yaml_base.proofs.stream_lines.StreamClosed.{closed, Settled, closed_behind}
 use Rattle.yaml_base.proofs.stream_nodes.StreamOwnBlocks.{block_indicator, block_style, own_block, block_tidy_more}
-use Rattle.yaml_base.specs.scalars.{BlockHeader.render_header, BlockHeader.block_body, Literal.indented}
+use Rattle.yaml_base.specs.scalars.{BlockHeader.render_header, BlockHeader.block_body}
 use Rattle.yaml_base.proofs.stream_nodes.StreamLeads.{before_count, before_spaces, before_some}
 
 -- Bodies
