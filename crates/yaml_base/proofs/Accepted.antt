@@ -5,13 +5,12 @@ use Rattle.yaml_base.proofs.Common.{sum_by-append, list_all, option_or, Event, s
 use Rattle.yaml_base.proofs.Common.{at_value, Partial, before_stream, and_from, and_parts, between_documents, within_document, after_root, after_stream, push}
 use Rattle.yaml_base.proofs.Common.{pushed, partial_of, empty_scalar, outer_missing, levels_missing, missing, missing_after, completion, some_if}
 use Rattle.yaml_base.proofs.Common.{name_or_tag_fault, content_fault, expected, place_fault, most_open, begins_collection, ends_collection, open_levels}
-use Rattle.yaml_base.proofs.Common.{depth_fault, refusal_at, refusal, is_sound, open_count}
-use Rattle.std.specs.Prelude.{flat_map}
 use Rattle.yaml_base.{proofs.NoFaults.neither, proofs.NoFaults.is_none_none, proofs.OpenCounts.open_count-levels, proofs.Pushes.partial_of_events}
 use Rattle.yaml_base.{proofs.Trees.stream_pushed, specs.Pieces.innermost_missing, specs.Refusal.BeginsAccepted, specs.Refusal.RefusedExactly}
 use Rattle.yaml_base.{specs.declared.errors.yaml_error_t.yaml_error_t, specs.declared.errors.yaml_error_t.TheVariants.TooDeep}
+use Rattle.yaml_base.proofs.Common.{depth_fault, refusal_at, refusal, is_sound, open_count, nat_tests}
 use Rattle.yaml_base.proofs.Completions.{pushed-append, stream_completed, completion_pushed, prefix_is_partial}
-use Rattle.yaml_base.proofs.Common.{nat_tests}
+use Rattle.std.specs.Prelude.{flat_map}
 
 -- no prefix leaves too many collections open
 abbrev IsShallow : List Event → Type 0

@@ -2,8 +2,7 @@
 use Rattle.yaml_base.proofs.Common.{nat_tests, arith, ℕ, if◌then◌else◌, ◌==◌, Bool, false, not, true, ◌||◌, [], ◌++◌, ◌∷◌, refl, ◌≡◌, eqb-true, or_cases}
 use Rattle.yaml_base.proofs.Common.{and_parts, and_from, or_parts, or_left, or_right, not-true, Text, line_feed, carriage_return, next_line, is_break}
 use Rattle.yaml_base.proofs.Common.{break_text, with_breaks_written, with_line_breaks_read, is_rendered_text, is_indented_text, LineBreak, false≢true}
-use Rattle.yaml_base.proofs.Common.{carriage_return_break}
-use Rattle.yaml_base.specs.LineBreaks.{line_breaks_read_after, begins_indented}
+use Rattle.yaml_base.{proofs.Common.carriage_return_break, specs.LineBreaks.line_breaks_read_after, specs.LineBreaks.begins_indented}
 
 -- a rendered text's prefix and rest are rendered
 pub rendered-cons : (c : ℕ) (rest : Text) → is_rendered_text (c ∷ rest) ≡ true

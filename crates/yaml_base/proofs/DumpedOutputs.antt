@@ -3,14 +3,11 @@ use Rattle.yaml_base.proofs.Common.{Bool, true, false, Option, None, Some, List,
 use Rattle.yaml_base.proofs.Common.{line_feed, eqb-true, option_map, unwrap_or, flat_map-append, Standing, Piece, text_of, piece_text, layout, root_place}
 use Rattle.yaml_base.proofs.Common.{render_node, document_end_piece, stream_end_piece, first_standing, with_breaks_written, line_feed_break, encode, cut, utf8}
 use Rattle.yaml_base.proofs.Common.{bytes_written, output_of, Encoding, Event, stream_start, stream_end, DocumentStart, Document, Documents, Stream}
+use Rattle.yaml_base.{specs.Settings.largest_usize, specs.values.TypedValues.typed_settings, proofs.DocumentsUnfold.document_unfolds}
+use Rattle.yaml_base.{proofs.DumpedTexts.node_writes, proofs.Trees.one_tree, proofs.Trees.tree_of-stream_events}
 use Rattle.yaml_base.proofs.Common.{documents_and, no_documents, stream_events, Node, Graph, document_event_list, AreDumped, IsWholeGraph, All-head, arith}
-use Rattle.yaml_base.specs.Settings.{largest_usize}
 use Rattle.yaml_base.specs.graphs.DumpedText.{HasDumpedText, HaveText, IsBareDocument, dumped_text, node_text}
-use Rattle.yaml_base.specs.values.TypedValues.{typed_settings}
-use Rattle.yaml_base.proofs.DocumentsUnfold.{document_unfolds}
 use Rattle.yaml_base.proofs.DumpedLeaves.{Writes, force, s}
-use Rattle.yaml_base.proofs.DumpedTexts.{node_writes}
-use Rattle.yaml_base.proofs.Trees.{one_tree, tree_of-stream_events}
 
 -- a document without directives, whose end isn't written, and a stream of it alone
 abbrev pub bare_document : (implicit : Bool) → Node → Document

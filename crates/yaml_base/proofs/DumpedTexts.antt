@@ -4,15 +4,12 @@ use Rattle.yaml_base.proofs.Common.{and-false, codes, Text, Cursor, Rendered, re
 use Rattle.yaml_base.proofs.Common.{root_place, entry_place, Role, as_item, as_key, as_value, is_key, line_column, deeper, is_written_in_flow, has_no_nodes}
 use Rattle.yaml_base.proofs.Common.{has_no_pairs, render_node, render_nodes, render_pairs, is_simple, Brackets, square, curly, start_piece, is_undented}
 use Rattle.yaml_base.proofs.Common.{render_properties, opening_or_comma, flow_break, key_indicator, Collection, Node, alias_node, scalar_node, sequence_node}
+use Rattle.yaml_base.proofs.DumpedLeaves.{Writes, alias_writes, force, lead, led, properties_are, s, scalar_writes, standing_at, text_of-append, writes_text}
+use Rattle.yaml_base.{specs.Cursor.space_if, specs.values.ValueText.in_quotes, specs.values.ValueText.line_at, proofs.DumpedLeaves.writes_then}
 use Rattle.yaml_base.proofs.Common.{mapping_node, Nodes, no_nodes, nodes_and, Pairs, no_pairs, pairs_and, arith, nat_tests}
-use Rattle.yaml_base.specs.Cursor.{space_if}
 use Rattle.yaml_base.specs.Indicators.{render_indicator, opening_bracket}
 use Rattle.yaml_base.specs.NodeLayout.{alias_piece, end_piece, render_collection, scalar_piece}
-use Rattle.yaml_base.specs.values.ValueText.{in_quotes, line_at}
-use Rattle.yaml_base.specs.graphs.DumpedText.{scalar_properties, collection_properties, closing_line, node_text, nodes_text}
-use Rattle.yaml_base.specs.graphs.DumpedText.{node_pairs_text}
-use Rattle.yaml_base.proofs.DumpedLeaves.{Writes, alias_writes, force, lead, led, properties_are, s, scalar_writes, standing_at, text_of-append, writes_text}
-use Rattle.yaml_base.proofs.DumpedLeaves.{writes_then}
+use Rattle.yaml_base.specs.graphs.DumpedText.{scalar_properties, collection_properties, closing_line, node_text, nodes_text, node_pairs_text}
 
 -- ---- collections
 

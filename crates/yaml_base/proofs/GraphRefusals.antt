@@ -4,15 +4,14 @@ use Rattle.yaml_base.proofs.Common.{Some, length, replicate, Bool, cond, false, 
 use Rattle.yaml_base.proofs.Common.{inl, inr, ap, subst, sym, ◌∙◌, arith, or-true, nat_tests, list_all-append, digit_glyph, digits_onto, filter_map, list_all}
 use Rattle.yaml_base.proofs.Common.{position, option_or, Text, is_alpha, DocumentStart, Event, stream_start, stream_end, document_start, document_end, alias}
 use Rattle.yaml_base.proofs.Common.{sequence_end, mapping_end, Stream, stream_events, Partial, after_stream, partial_of, some_if, name_or_tag_fault}
-use Rattle.yaml_base.proofs.Common.{content_fault, expected, place_fault, refusal_at, refusal, name_fault, anchor_fault, alias_fault, tag_fault}
-use Rattle.yaml_base.proofs.Common.{Held, scalar_held, sequence_held, mapping_held, GraphNode, Graph, node_numbered, Step, enters, leaves, meets_again}
-use Rattle.yaml_base.proofs.Common.{node_met_again, shared_nodes, numbered_name, anchor_of, opening_event_of, opening_events, closing_event_of}
-use Rattle.yaml_base.proofs.Common.{closing_events, step_events, document_event_list}
-use Rattle.std.specs.Prelude.{flat_map}
-use Rattle.yaml_base.{proofs.Accepted.pushed_next, proofs.Completions.prefix_is_partial, proofs.SharedNodes.has, proofs.SharedNodes.shared_named}
-use Rattle.yaml_base.{proofs.Trees.stream_pushed, proofs.Twins.IsIn, proofs.Twins.in_either, specs.declared.errors.yaml_error_t.yaml_error_t}
-use Rattle.yaml_base.{specs.graphs.Meetings.graph_steps, specs.graphs.Meetings.decimal_digits}
+use Rattle.yaml_base.proofs.Common.{content_fault, expected, place_fault, refusal_at, refusal, name_fault, anchor_fault, alias_fault, tag_fault, Held}
+use Rattle.yaml_base.proofs.Common.{scalar_held, sequence_held, mapping_held, GraphNode, Graph, node_numbered, Step, enters, leaves, meets_again}
+use Rattle.yaml_base.proofs.Common.{node_met_again, shared_nodes, numbered_name, anchor_of, opening_event_of, opening_events, closing_event_of, closing_events}
+use Rattle.yaml_base.{proofs.Common.step_events, proofs.Common.document_event_list, proofs.Accepted.pushed_next, proofs.Completions.prefix_is_partial}
+use Rattle.yaml_base.{proofs.SharedNodes.has, proofs.SharedNodes.shared_named, proofs.Trees.stream_pushed, proofs.Twins.IsIn, proofs.Twins.in_either}
+use Rattle.yaml_base.{specs.declared.errors.yaml_error_t.yaml_error_t, specs.graphs.Meetings.graph_steps, specs.graphs.Meetings.decimal_digits}
 use Rattle.yaml_base.specs.declared.errors.yaml_error_t.TheVariants.{AnchorAlphabet, AnchorEmpty, TagEmpty, TooDeep}
+use Rattle.std.specs.Prelude.{flat_map}
 
 -- ---- events of a stream
 

@@ -1,7 +1,6 @@
 -- What a number of JSON is spelled as is the same number.
-use Rattle.yaml_base.proofs.Common.{nat_tests, ℕ, ◌*◌, ◌+◌, Option, neg_ℤ, negsuc, pos, ℤ, ◌+ℤ◌, Bool, false, true}
-use Rattle.yaml_base.proofs.Common.{◌≡◌, append-nil, arith, Decides-int_eq, Text, JsonExponent, JsonNumber}
-use Rattle.yaml_base.proofs.Common.{json_value, number_meant, means_number, signed}
+use Rattle.yaml_base.proofs.Common.{nat_tests, ℕ, ◌*◌, ◌+◌, Option, neg_ℤ, negsuc, pos, ℤ, ◌+ℤ◌, Bool, false, true, ◌≡◌, append-nil, arith, Decides-int_eq}
+use Rattle.yaml_base.proofs.Common.{Text, JsonExponent, JsonNumber, json_value, number_meant, means_number, signed}
 use Rattle.std.{proofs.lemmas.Int.ints, proofs.lemmas.Int.Digits.digits_value_push, specs.Ordering.int_eq, specs.Prelude.◌*ℤ◌, specs.Prelude.◌-ℤ◌}
 
 same_integer : (a b : ℤ) → a ≡ b → int_eq a b ≡ true

@@ -1,8 +1,7 @@
 -- Texts that are written out: ASCII without a break.
-use Rattle.yaml_base.proofs.Common.{suc, zero, ℕ, nat_lt, Bool, false, not, true, ◌&&◌, List, [], ◌∷◌, ◌≡◌, ltb-true, ap, ◌∙◌, arith, and_parts}
-use Rattle.yaml_base.proofs.Common.{not-true, chars-IsAscii, list_all, list_any, chars, is_break}
+use Rattle.yaml_base.proofs.Common.{suc, zero, ℕ, nat_lt, Bool, false, not, true, ◌&&◌, List, [], ◌∷◌, ◌≡◌, ltb-true, ap, ◌∙◌, arith, and_parts, not-true}
+use Rattle.yaml_base.proofs.{Common.chars-IsAscii, Common.list_all, Common.list_any, Common.chars, Common.is_break, AllPass.none_pass}
 use Rattle.std.specs.Prelude.{IsAscii}
-use Rattle.yaml_base.proofs.AllPass.{none_pass}
 
 -- characters of ASCII that are no breaks; computes at a literal
 abbrev pub are_plain : List ℕ → Bool

@@ -1,15 +1,12 @@
 -- A number's spelling, cut where the schemas cut it: past its sign, at its point, at its exponent.
-use Rattle.std.specs.Char.{is_digit}
-use Rattle.yaml_base.proofs.Common.{suc, ℕ, if◌then◌else◌, ⊤, ◌==◌, Option, None, Some, codes, length, Bool, false, not, true, ◌||◌, List, [], ◌++◌}
-use Rattle.yaml_base.proofs.Common.{◌∷◌, refl, ◌≡◌, eqb-true, ne_eqb, append-nil, ap, ◌∙◌, arith, and_parts, and_from, and_left, or_from, or_left}
-use Rattle.yaml_base.proofs.Common.{not_from_false, false≢true, slice_split-cons_yes, take_while-cons, list_all, slice_split, take_while, Text, named}
-use Rattle.yaml_base.proofs.Common.{JsonExponent, minus, exponent_negative, exponent_spelled, Resolved, words_of_core, words_of_11, is_point}
-use Rattle.yaml_base.proofs.Common.{is_exponent_letter, is_plus_or_minus, is_decimal, first_meets, past_sign, is_negative, are_digits, is_underscore}
-use Rattle.yaml_base.proofs.Common.{ungrouped, are_grouped, is_hyphen, is_date, in_date, timestamp_11}
-use Rattle.std.proofs.lemmas.List.{Elements.All-cons, Elements.All-append, Splits.slice_split_none, Splits.slice_split_at}
-use Rattle.std.specs.List.{All}
-use Rattle.yaml_base.proofs.SchemaWords.{named_unlike}
-use Rattle.yaml_base.proofs.AllPass.{all_pass, uncut_by}
+use Rattle.yaml_base.proofs.Common.{suc, ℕ, if◌then◌else◌, ⊤, ◌==◌, Option, None, Some, codes, length, Bool, false, not, true, ◌||◌, List, [], ◌++◌, ◌∷◌, refl}
+use Rattle.yaml_base.proofs.Common.{◌≡◌, eqb-true, ne_eqb, append-nil, ap, ◌∙◌, arith, and_parts, and_from, and_left, or_from, or_left, not_from_false}
+use Rattle.yaml_base.proofs.Common.{false≢true, slice_split-cons_yes, take_while-cons, list_all, slice_split, take_while, Text, named, JsonExponent, minus}
+use Rattle.yaml_base.proofs.Common.{exponent_negative, exponent_spelled, Resolved, words_of_core, words_of_11, is_point, is_exponent_letter, is_plus_or_minus}
+use Rattle.yaml_base.proofs.Common.{is_decimal, first_meets, past_sign, is_negative, are_digits, is_underscore, ungrouped, are_grouped, is_hyphen, is_date}
+use Rattle.std.{specs.Char.is_digit, proofs.lemmas.List.Elements.All-cons, proofs.lemmas.List.Elements.All-append, specs.List.All}
+use Rattle.std.proofs.lemmas.List.Splits.{slice_split_none, slice_split_at}
+use Rattle.yaml_base.proofs.{Common.in_date, Common.timestamp_11, SchemaWords.named_unlike, AllPass.all_pass, AllPass.uncut_by}
 
 -- Digits
 

@@ -1,13 +1,12 @@
 -- The numbers that name no node are sought node by node.
 use Rattle.yaml_base.proofs.Common.{arith, nat_tests, suc, ℕ, ◌+◌, ◌<◌, ◌≤◌, is_some, is_none, Option, None, Some, nat_le, negsuc, pos, ℤ, drop, length}
-use Rattle.yaml_base.proofs.Common.{slice_index_or as get_or, Bool, cond, false, not, true, ◌&&◌, List, [], map, ◌∷◌, refl, ◌≡◌, ap, sym, ◌∙◌, length-map}
-use Rattle.yaml_base.proofs.Common.{flat_map, list_all, option_or, numbers_held, is_whole, numbers_of_pairs, all_numbers, first_outside}
-use Rattle.std.proofs.{Common.add-one, Common.drop-cons, Common.IsTrue, lemmas.List.Folds.find-append}
-use Rattle.std.proofs.lemmas.List.{drop_all}
-use Rattle.std.specs.List.{find}
 use Rattle.yaml_base.specs.declared.{directives.yaml_tag_directive_t.yaml_tag_directive_t, directives.yaml_version_directive_t.yaml_version_directive_t}
 use Rattle.yaml_base.specs.declared.{nodes.yaml_node_pair_t.yaml_node_pair_t, nodes.yaml_node_t.yaml_node_t}
+use Rattle.yaml_base.proofs.Common.{flat_map, list_all, option_or, numbers_held, is_whole, numbers_of_pairs, all_numbers, first_outside}
 use Rattle.yaml_base.specs.graphs.SeenNodes.{seen_number, seen_pair, seen_node, seen_document, names_node, numbers_of}
+use Rattle.std.{proofs.lemmas.List.Folds.find-append, proofs.lemmas.List.drop_all, specs.List.find}
+use Rattle.std.proofs.Common.{add-one, drop-cons, IsTrue}
+use Rattle.yaml_base.proofs.Common.{slice_index_or as get_or, Bool, cond, false, not, true, ◌&&◌, List, [], map, ◌∷◌, refl, ◌≡◌, ap, sym, ◌∙◌, length-map}
 
 -- a search from a place on finds what stands there
 pub found_at : {X : Type 0} (test : X → Bool) (items : List X) (i : ℕ) (d : X) → i < length items → test (get_or items i d) ≡ true

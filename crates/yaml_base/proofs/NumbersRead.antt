@@ -1,15 +1,13 @@
 -- Both schemas read the spelling of a number of JSON as that number.
-use Rattle.yaml_base.proofs.Common.{arith, nat_tests, ℕ, if◌then◌else◌, ◌==◌, Option, None, Some, codes, length, Bool, false, not, true, ◌&&◌, [], ◌++◌}
-use Rattle.yaml_base.proofs.Common.{◌∷◌, refl, ◌≡◌, true≢false, append-nil, append_assoc, ap, sym, ◌∙◌, and_parts, and_from, and_left, and_right, or_left}
-use Rattle.yaml_base.proofs.Common.{or_right, not_from_false, not-true, bytes_eq-Decides, list_all, digits_value, Text, JsonExponent}
-use Rattle.yaml_base.proofs.Common.{JsonNumber, is_json_number, minus, json_value, yaml_number, number_meant, means_number, Resolved, meant_integer}
-use Rattle.yaml_base.proofs.Common.{first_reading, is_decimal, first_meets, is_negative, signed, are_digits, decimal_of_digits}
-use Rattle.yaml_base.proofs.Common.{resolved_by_core, ungrouped, based_11, octal_11, decimal_11, mantissa_11, exponent_11}
-use Rattle.yaml_base.proofs.Common.{float_11, in_date, numbers_11, resolved_by_11}
-use Rattle.yaml_base.proofs.JsonSpelling.{spelling_keeps_value}
+use Rattle.yaml_base.proofs.Common.{arith, nat_tests, ℕ, if◌then◌else◌, ◌==◌, Option, None, Some, codes, length, Bool, false, not, true, ◌&&◌, [], ◌++◌, ◌∷◌}
+use Rattle.yaml_base.proofs.Common.{refl, ◌≡◌, true≢false, append-nil, append_assoc, ap, sym, ◌∙◌, and_parts, and_from, and_left, and_right, or_left, or_right}
+use Rattle.yaml_base.proofs.Common.{not_from_false, not-true, bytes_eq-Decides, list_all, digits_value, Text, JsonExponent, JsonNumber, is_json_number, minus}
+use Rattle.yaml_base.proofs.Common.{json_value, yaml_number, number_meant, means_number, Resolved, meant_integer, first_reading, is_decimal, first_meets}
+use Rattle.yaml_base.proofs.Common.{is_negative, signed, are_digits, decimal_of_digits, resolved_by_core, ungrouped, based_11, octal_11, decimal_11}
 use Rattle.yaml_base.proofs.NumberCuts.{digits_grouped, digits_ungrouped, no_point, no_exponent, at_point, HasDigits, past_minus, minus_read, no_word_of_11}
-use Rattle.yaml_base.proofs.NumberCuts.{no_timestamp}
 use Rattle.yaml_base.proofs.NumbersByCore.{passed, found, given, decimal_of, pointed_read, exponent_sign, exponent_read_signed, scientific_read}
+use Rattle.yaml_base.proofs.{JsonSpelling.spelling_keeps_value, NumberCuts.no_timestamp}
+use Rattle.yaml_base.proofs.Common.{mantissa_11, exponent_11, float_11, in_date, numbers_11, resolved_by_11}
 use Rattle.yaml_base.proofs.NumbersByCore.{integer_by_core, after_whole, no_letter, cut_read, scientific_of, decimal_by_core}
 use Rattle.yaml_base.specs.values.JsonNumbers.{is_whole_part, fraction_or_default, is_json_integer, NumbersAreRead}
 

@@ -1,7 +1,6 @@
 -- A partial tree's events: each push adds its event at their end.
 use Rattle.yaml_base.proofs.Common.{nat_tests, arith, option_and_then, Option, None, Some, List, [], ◌++◌, ◌∷◌, refl, ◌≡◌, append-nil, append_assoc, ap, sym}
-use Rattle.yaml_base.proofs.Common.{◌∙◌, DocumentStart, Event, stream_start, stream_end, document_start, document_end, sequence_start}
-use Rattle.yaml_base.proofs.Common.{mapping_start, Node}
+use Rattle.yaml_base.proofs.Common.{◌∙◌, DocumentStart, Event, stream_start, stream_end, document_start, document_end, sequence_start, mapping_start, Node}
 use Rattle.yaml_base.proofs.Common.{Document, Documents, no_documents, documents_and, node_events, nodes_events, pairs_events, documents_events, stream_events}
 use Rattle.yaml_base.proofs.Common.{Level, at_item, at_key, at_value, Partial, before_stream, between_documents, within_document, after_root, after_stream}
 use Rattle.yaml_base.proofs.Common.{with_node, closed, push_within, push, pushed, partial_of, Encoding}

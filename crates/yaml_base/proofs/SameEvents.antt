@@ -1,16 +1,15 @@
 -- Isomorphic graphs are dumped as events that differ in styles alone, so in canonical mode as the same bytes.
-use Rattle.yaml_base.proofs.Common.{All, unwrap_or, option_map, bytes_eq, Option, None, Some, false, true, List, [], map, ◌++◌, ◌∷◌, refl, ◌≡◌, inl}
-use Rattle.yaml_base.proofs.Common.{inr, ap, sym, ◌∙◌, arith, map-append, All-head, All-tail, Text, any_style, any_layout, Event, stream_start}
-use Rattle.yaml_base.proofs.Common.{stream_end, alias, scalar, sequence_start, sequence_end, mapping_start, mapping_end}
-use Rattle.yaml_base.proofs.Common.{encoding_asked, output_of, Encoding, Settings, AreDumped, label_at, Isomorphic, Held, GraphNode, Graph}
-use Rattle.yaml_base.proofs.Common.{Step, enters, leaves, meets_again, anchor_of, string_tag, sequence_tag, mapping_tag, opening_event_of, opening_events}
-use Rattle.yaml_base.proofs.Common.{closing_event_of, closing_events, step_events, document_event_list, scalar_kind, sequence_kind, mapping_kind, Label}
-use Rattle.yaml_base.proofs.Common.{label_of, IsReached, IsWholeGraph, nat_tests}
-use Rattle.std.specs.Prelude.{flat_map}
-use Rattle.yaml_base.{proofs.ContentsUnfold.dumped_stream, proofs.Unstyled.unstyled, proofs.Unstyled.outputs_same, specs.graphs.Isomorphic.IsWrittenAlike}
-use Rattle.yaml_base.{specs.graphs.Isomorphic.AreWrittenAlike, specs.graphs.Meetings.graph_steps, specs.graphs.Unfolding.StyledKind}
+use Rattle.yaml_base.proofs.Common.{All, unwrap_or, option_map, bytes_eq, Option, None, Some, false, true, List, [], map, ◌++◌, ◌∷◌, refl, ◌≡◌, inl, inr, ap}
+use Rattle.yaml_base.proofs.Common.{sym, ◌∙◌, arith, map-append, All-head, All-tail, Text, any_style, any_layout, Event, stream_start, stream_end, alias}
+use Rattle.yaml_base.proofs.Common.{scalar, sequence_start, sequence_end, mapping_start, mapping_end, encoding_asked, output_of, Encoding, Settings, AreDumped}
+use Rattle.yaml_base.proofs.Common.{label_at, Isomorphic, Held, GraphNode, Graph, Step, enters, leaves, meets_again, anchor_of, string_tag, sequence_tag}
+use Rattle.yaml_base.proofs.Common.{mapping_tag, opening_event_of, opening_events, closing_event_of, closing_events, step_events, document_event_list}
+use Rattle.yaml_base.{proofs.ContentsUnfold.dumped_stream, proofs.Unstyled.unstyled, proofs.Unstyled.outputs_same, specs.graphs.Meetings.graph_steps}
+use Rattle.yaml_base.{specs.graphs.Unfolding.StyledKind, proofs.DocumentsUnfold.some_nodes}
+use Rattle.yaml_base.proofs.Common.{scalar_kind, sequence_kind, mapping_kind, Label, label_of, IsReached, IsWholeGraph, nat_tests}
+use Rattle.yaml_base.specs.graphs.Isomorphic.{IsWrittenAlike, AreWrittenAlike}
 use Rattle.yaml_base.proofs.SameWalks.{node_of_step, AllReached, renumbered, same_walks, anchors_alike}
-use Rattle.yaml_base.proofs.DocumentsUnfold.{some_nodes}
+use Rattle.std.specs.Prelude.{flat_map}
 
 -- ---- a node's events, by its label
 

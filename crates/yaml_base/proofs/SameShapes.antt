@@ -2,12 +2,11 @@
 use Rattle.yaml_base.proofs.Common.{ℕ, ◌==◌, count_by, Option, Some, Bool, cond, false, true, List, [], map, ◌++◌, ◌∷◌, refl, ◌≡◌, eq-eqb, eqb-true}
 use Rattle.yaml_base.proofs.Common.{append_assoc, inl, inr, ap, subst, sym, ◌∙◌, arith, map-append, bytes_eq-Decides, Text, label_at, Isomorphic, Graph}
 use Rattle.yaml_base.proofs.Common.{children, Shape, number_at, numbers_at, Occurrence, alias_occurrence, node_occurrence, occurrences, has_anchor}
-use Rattle.yaml_base.proofs.Common.{is_occurrence_of, NameTheirNodes, IsReached, first_reached}
 use Rattle.yaml_base.proofs.Twins.{Twin, alias_twin, Twins, node_twin, none_twins, twins_and, first_placed, firsts_placed, second_placed, seconds_placed}
 use Rattle.yaml_base.proofs.Twins.{TwinFits, TwinsFit, joined, Pair, alias_pair, node_pair, pairs, pairs_below, first_number, second_number, first_of}
 use Rattle.yaml_base.proofs.Twins.{second_of, first_occurrences, second_occurrences, IsIn, in_left, in_right, in_either, contained_in, in_map, number_in}
-use Rattle.yaml_base.proofs.Twins.{occurrence_reached, only_one, count_map, counted_in}
-use Rattle.yaml_base.specs.graphs.Unfolding.{Unfolds}
+use Rattle.yaml_base.{proofs.Twins.occurrence_reached, proofs.Twins.only_one, proofs.Twins.count_map, proofs.Twins.counted_in, specs.graphs.Unfolding.Unfolds}
+use Rattle.yaml_base.proofs.Common.{is_occurrence_of, NameTheirNodes, IsReached, first_reached}
 
 -- ---- partners
 

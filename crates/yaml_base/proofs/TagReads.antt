@@ -1,11 +1,10 @@
 -- The written form of a tag, read with the document's own directives and the defaults, is the tag.
-use Rattle.yaml_base.proofs.Common.{ℕ, ◌==◌, option_map, None, Some, Bool, false, not, true, List, [], ◌++◌, ◌∷◌, refl, ◌≡◌, append_assoc, inl, inr, ap}
-use Rattle.yaml_base.proofs.Common.{subst, sym, ◌∙◌, and_parts, not-true, list_all, scalars, Text, is_alpha, TagDirective, percent_escaped, suffix_escaped}
+use Rattle.yaml_base.proofs.Common.{ℕ, ◌==◌, option_map, None, Some, Bool, false, not, true, List, [], ◌++◌, ◌∷◌, refl, ◌≡◌, append_assoc, inl, inr, ap, subst}
+use Rattle.yaml_base.proofs.Common.{sym, ◌∙◌, and_parts, not-true, list_all, scalars, Text, is_alpha, TagDirective, percent_escaped, suffix_escaped}
 use Rattle.yaml_base.proofs.Common.{exclamation_mark, handle_fault, directives_fault, directives_in_force, Spelling, verbatim, spelling, spelled}
 use Rattle.yaml_base.proofs.Common.{shorthand_read, verbatim_read, tag_read, percent_read, name_parsed, prefix_among, directives_assumed}
-use Rattle.yaml_base.proofs.Common.{cut_after_exclamation, name_joined}
 use Rattle.yaml_base.proofs.PercentLaws.{decoded_escaped, decoded_suffix, stands_written, suffix_stands, written_is_no_exclamation, written_is_no_less}
-use Rattle.yaml_base.proofs.PercentLaws.{alpha_is_no_less, suffix_begins}
+use Rattle.yaml_base.proofs.{Common.cut_after_exclamation, Common.name_joined, PercentLaws.alpha_is_no_less, PercentLaws.suffix_begins}
 use Rattle.yaml_base.proofs.TagForms.{closing_angle_dropped, IsHandle, handle_form, scalars_behind, spelling_is, in_force_found}
 
 -- Verbatim tags

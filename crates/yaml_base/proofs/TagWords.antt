@@ -1,10 +1,9 @@
 -- A written tag is one word: it holds no white space, and it is never the bare tag.
-use Rattle.yaml_base.proofs.Common.{ℕ, None, Bool, false, true, ◌||◌, List, [], ◌++◌, ◌∷◌, refl, ◌≡◌, ap, sym, ◌∙◌, arith, or_parts}
-use Rattle.yaml_base.proofs.Common.{or_from, nat_tests, list_all, list_any, Text, is_alpha, is_blank, is_break, TagDirective, percent_escaped, suffix_escaped}
-use Rattle.yaml_base.proofs.Common.{exclamation_mark, handle_fault, directives_fault, directives_in_force, Spelling, spelling, spelled}
+use Rattle.yaml_base.proofs.Common.{ℕ, None, Bool, false, true, ◌||◌, List, [], ◌++◌, ◌∷◌, refl, ◌≡◌, ap, sym, ◌∙◌, arith, or_parts, or_from, nat_tests}
+use Rattle.yaml_base.proofs.Common.{list_all, list_any, Text, is_alpha, is_blank, is_break, TagDirective, percent_escaped, suffix_escaped, exclamation_mark}
+use Rattle.yaml_base.proofs.{TagForms.IsHandle, TagForms.handle_form, TagForms.spelling_is, TagForms.in_force_found, AllPass.none_pass, AllPass.fewer_pass}
+use Rattle.yaml_base.proofs.Common.{handle_fault, directives_fault, directives_in_force, Spelling, spelling, spelled}
 use Rattle.yaml_base.proofs.PercentLaws.{stands_written, escaped_stands, suffix_stands, separates, written_never_separates, suffix_begins}
-use Rattle.yaml_base.proofs.TagForms.{IsHandle, handle_form, spelling_is, in_force_found}
-use Rattle.yaml_base.proofs.AllPass.{none_pass, fewer_pass}
 
 any-append : (p : ℕ → Bool) (xs ys : Text) → list_any p xs ≡ false → list_any p ys ≡ false → list_any p (xs ++ ys) ≡ false
 any-append p [] ys h k = k

@@ -1,12 +1,11 @@
 -- Two trees of one shape, each with the numbers of its own graph: what stands at each place of both, and that the numbers
 -- there belong together.
 use Rattle.yaml_base.proofs.Common.{suc, zero, ℕ, ◌+◌, ◌≤◌, ⊤, Contains, count_by, Option, Bool, cond, false, true, List, [], map, ◌++◌, ◌∷◌, ◌⊎◌, refl, ◌≡◌}
-use Rattle.yaml_base.proofs.Common.{inl, inr, ap, subst, sym, ◌∙◌, arith, map-append, Contains-append_left, Contains-append_right, Text}
-use Rattle.yaml_base.proofs.Common.{label_at, Graph, children, Shape, no_shapes, Placed, alias_placed, PlacedNodes, node_placed, none_placed, placed_and}
-use Rattle.yaml_base.proofs.Common.{number_at, numbers_at, HasShape, HaveShapes, Occurrence, alias_occurrence, node_occurrence, occurrences}
-use Rattle.yaml_base.proofs.Common.{occurrences_below, IsReached, child_reached}
+use Rattle.yaml_base.proofs.Common.{inl, inr, ap, subst, sym, ◌∙◌, arith, map-append, Contains-append_left, Contains-append_right, Text, label_at, Graph}
+use Rattle.yaml_base.proofs.Common.{children, Shape, no_shapes, Placed, alias_placed, PlacedNodes, node_placed, none_placed, placed_and, number_at, numbers_at}
+use Rattle.yaml_base.proofs.Common.{HasShape, HaveShapes, Occurrence, alias_occurrence, node_occurrence, occurrences, occurrences_below, IsReached}
+use Rattle.yaml_base.proofs.{Common.child_reached, DocumentsUnfold.count_cons}
 use Rattle.yaml_base.specs.graphs.Unfolding.{alias_shape, Shapes, node_shape, shapes_and}
-use Rattle.yaml_base.proofs.DocumentsUnfold.{count_cons}
 
 -- ---- trees with two numbers at each place
 

@@ -6,8 +6,7 @@ use Rattle.yaml_base.proofs.Common.{pairs_and, node_events, nodes_events, pairs_
 use Rattle.yaml_base.proofs.Common.{Graph, node_numbered, numbers_held, numbers_in, children, Step, leaves, anchor_of, string_tag, sequence_tag, mapping_tag}
 use Rattle.yaml_base.proofs.Common.{opening_event_of, opening_events, closing_event_of, closing_events, step_events, node_shape_of, nodes_shapes, pairs_shapes}
 use Rattle.yaml_base.proofs.Common.{Placed, alias_placed, PlacedNodes, node_placed, none_placed, placed_and, numbers_at, label_of, HasShape, HaveShapes}
-use Rattle.yaml_base.proofs.UnfoldTrees.{placed_steps, below_steps, Fits, AllFit}
-use Rattle.yaml_base.proofs.Common.{nat_tests}
+use Rattle.yaml_base.proofs.{Common.nat_tests, UnfoldTrees.placed_steps, UnfoldTrees.below_steps, UnfoldTrees.Fits, UnfoldTrees.AllFit}
 
 -- ---- the tree of events
 

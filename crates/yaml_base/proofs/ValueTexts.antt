@@ -1,12 +1,10 @@
 -- The canonical text of a value is that of its tree, and its bytes are the encoding of that text.
-use Rattle.yaml_base.proofs.Common.{ℕ, ◌+◌, true, None, Some, ◌∷◌, [], ◌++◌, refl, ◌≡◌, ap, sym, ◌∙◌, append_assoc, codes, Text, encode, cut, utf8}
-use Rattle.yaml_base.proofs.DumpedOutputs.{tree_output}
-use Rattle.yaml_base.specs.graphs.DumpedText.{dumped_text, node_pairs_text, node_text, nodes_text}
 use Rattle.yaml_base.specs.values.TypedValues.{TypedValue, null_value, bool_value, int_value, text_value, list_value, map_value, TypedValues, no_values}
+use Rattle.yaml_base.{proofs.DumpedOutputs.tree_output, specs.Characters.line_feed, specs.Settings.largest_usize}
+use Rattle.yaml_base.proofs.Common.{ℕ, ◌+◌, true, None, Some, ◌∷◌, [], ◌++◌, refl, ◌≡◌, ap, sym, ◌∙◌, append_assoc, codes, Text, encode, cut, utf8}
+use Rattle.yaml_base.specs.graphs.DumpedText.{dumped_text, node_pairs_text, node_text, nodes_text}
 use Rattle.yaml_base.specs.values.TypedValues.{values_and, TypedPairs, no_value_pairs, value_pairs_and, value_node, value_nodes, value_pairs, typed_output}
 use Rattle.yaml_base.specs.values.ValueText.{document_text, items_text, line_at, pairs_text, value_text}
-use Rattle.yaml_base.specs.Characters.{line_feed}
-use Rattle.yaml_base.specs.Settings.{largest_usize}
 
 -- what stands before a list's end, where there are items; and before a map's
 abbrev ItemsAre : ℕ → TypedValues → Type 0

@@ -1,10 +1,9 @@
 -- A text that begins with no digit and no point, past its sign, is no number and no timestamp.
-use Rattle.yaml_base.proofs.Common.{nat_tests, arith, ℕ, ◌==◌, Option, None, ℤ, length, Bool, false, not, true, ◌||◌, List, [], ◌++◌}
-use Rattle.yaml_base.proofs.Common.{◌∷◌, refl, ◌≡◌, eqb-true, true≢false, and_left, and_right, or_parts, or_from, false≢true, slice_split-cons_no}
-use Rattle.yaml_base.proofs.Common.{take_while-cons, onto_first, slice_split, take_while, Text, is_between, Decimal, is_point, is_decimal, first_meets}
-use Rattle.yaml_base.proofs.Common.{past_sign, are_digits, counted_digits, decimal_of_digits, scientific, core_mantissa}
-use Rattle.yaml_base.proofs.Common.{is_leading, octal_11, decimal_11, are_sixtieths, fine_sixties_11, mantissa_11, has_more_points}
-use Rattle.yaml_base.proofs.Common.{more_points_11, is_date, in_date, timestamp_11}
+use Rattle.yaml_base.proofs.Common.{nat_tests, arith, ℕ, ◌==◌, Option, None, ℤ, length, Bool, false, not, true, ◌||◌, List, [], ◌++◌, ◌∷◌, refl, ◌≡◌, eqb-true}
+use Rattle.yaml_base.proofs.Common.{true≢false, and_left, and_right, or_parts, or_from, false≢true, slice_split-cons_no, take_while-cons, onto_first}
+use Rattle.yaml_base.proofs.Common.{slice_split, take_while, Text, is_between, Decimal, is_point, is_decimal, first_meets, past_sign, are_digits}
+use Rattle.yaml_base.proofs.Common.{counted_digits, decimal_of_digits, scientific, core_mantissa, is_leading, octal_11, decimal_11, are_sixtieths}
+use Rattle.yaml_base.proofs.Common.{fine_sixties_11, mantissa_11, has_more_points, more_points_11, is_date, in_date, timestamp_11}
 use Rattle.yaml_base.proofs.no_numbers.NoNumbers.{NoNumber, off, filled}
 
 -- a digit or a point

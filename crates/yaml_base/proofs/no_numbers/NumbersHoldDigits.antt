@@ -1,11 +1,10 @@
 -- A text without a digit is no number and no timestamp, unless it is of points alone.
-use Rattle.yaml_base.proofs.Common.{nat_tests, arith, ℕ, if◌then◌else◌, None, Bool, false, true, ◌||◌, List, [], ◌++◌, ◌∷◌, refl, ◌≡◌, eqb-true, true≢false, ap}
-use Rattle.yaml_base.proofs.Common.{◌∙◌, and_left, and_right, or_parts, or_from, list_any-append, concat, list_all, list_any, onto_first}
-use Rattle.yaml_base.proofs.Common.{slice_split, Text, is_point, is_decimal, first_meets, past_sign, decimal_of_digits, core_mantissa, begins_grouped}
-use Rattle.yaml_base.proofs.Common.{mantissa_11, has_more_points, is_number_letter}
+use Rattle.yaml_base.proofs.Common.{nat_tests, arith, ℕ, if◌then◌else◌, None, Bool, false, true, ◌||◌, List, [], ◌++◌, ◌∷◌, refl, ◌≡◌, eqb-true, true≢false}
+use Rattle.yaml_base.proofs.Common.{ap, ◌∙◌, and_left, and_right, or_parts, or_from, list_any-append, concat, list_all, list_any, onto_first, slice_split}
+use Rattle.yaml_base.proofs.Common.{Text, is_point, is_decimal, first_meets, past_sign, decimal_of_digits, core_mantissa, begins_grouped, mantissa_11}
+use Rattle.yaml_base.proofs.{Common.has_more_points, Common.is_number_letter, AllPass.none_pass}
 use Rattle.yaml_base.proofs.no_numbers.NoNumbers.{NoNumber, off, filled}
 use Rattle.yaml_base.proofs.no_numbers.NumbersBegin.{first_part, digits_begin, scientific_begins, more_points_11_begins, begins_none}
-use Rattle.yaml_base.proofs.AllPass.{none_pass}
 
 -- a text holds a digit
 abbrev holds_digit : Text → Bool

@@ -1,8 +1,7 @@
 -- Events for worked rows, in short.
 use Rattle.yaml_base.proofs.Common.{Option, None, Some, ℤ, false, true, List, [], ◌++◌, ◌∷◌, Text, ScalarStyle, any_style, Collection, Event, stream_start}
 use Rattle.yaml_base.proofs.Common.{stream_end, document_start, document_end, scalar, sequence_start, sequence_end, mapping_start, mapping_end, text_of}
-use Rattle.yaml_base.proofs.Common.{list_layout, Settings, effective}
-use Rattle.yaml_base.specs.{Event.CollectionStyle, scripts.Script.unset}
+use Rattle.yaml_base.{proofs.Common.list_layout, proofs.Common.Settings, proofs.Common.effective, specs.Event.CollectionStyle, specs.scripts.Script.unset}
 
 -- nothing set but an ample limit
 abbrev pub plain_settings : Settings

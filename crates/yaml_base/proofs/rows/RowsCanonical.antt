@@ -1,9 +1,8 @@
 -- Canonical bytes read back, computed: each row a text or its bytes, and the content.
 use Rattle.yaml_base.proofs.Common.{None, Some, codes, pos, false, true, [], ◌++◌, ◌∷◌, refl, ◌≡◌, Text, canonical_content, tagged, untagged, Content}
 use Rattle.yaml_base.proofs.Common.{scalar_content, sequence_content, mapping_content, no_contents, contents_and, no_content_pairs, content_pairs_and}
-use Rattle.yaml_base.proofs.Common.{DocumentContent}
+use Rattle.yaml_base.{proofs.Common.DocumentContent, proofs.rows.Cases.Gives, specs.reading.Content.alias_content}
 use Rattle.std.specs.{Char.encode_utf8, Str.chars, Str.is_utf8}
-use Rattle.yaml_base.{proofs.rows.Cases.Gives, specs.reading.Content.alias_content}
 
 -- a document without version and directives
 abbrev root : Content → DocumentContent

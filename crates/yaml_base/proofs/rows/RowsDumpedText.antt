@@ -1,15 +1,11 @@
 -- Canonical texts of dumped documents, computed.
 use Rattle.yaml_base.proofs.Common.{Bool, Option, None, Some, codes, true, false, List, [], ◌∷◌, refl, Text, any_style, any_layout, option_map, unwrap_or}
-use Rattle.yaml_base.proofs.Common.{Stream}
-use Rattle.yaml_base.proofs.Common.{Documents, no_documents, documents_and, tree_of, scalar_held, GraphNode, document_event_list, Node, alias_node, scalar_node}
-use Rattle.yaml_base.proofs.Common.{sequence_node, mapping_node, nodes_and, no_nodes, pairs_and, no_pairs, Collection, node_events}
-use Rattle.std.specs.{Char.encode_utf8}
-use Rattle.yaml_base.specs.graphs.Meetings.{decimal_digits}
-use Rattle.yaml_base.specs.graphs.DumpedText.{dumped_text}
-use Rattle.yaml_base.specs.values.TypedValues.{typed_settings}
-use Rattle.yaml_base.proofs.rows.Cases.{Gives}
-use Rattle.yaml_base.proofs.rows.RowEvents.{alone, rendered_under, stream_of}
+use Rattle.yaml_base.proofs.Common.{Stream, Documents, no_documents, documents_and, tree_of, scalar_held, GraphNode, document_event_list, Node, alias_node}
+use Rattle.yaml_base.{specs.graphs.Meetings.decimal_digits, specs.graphs.DumpedText.dumped_text, specs.values.TypedValues.typed_settings}
+use Rattle.yaml_base.{proofs.rows.Cases.Gives, proofs.rows.RowEvents.alone, proofs.rows.RowEvents.rendered_under, proofs.rows.RowEvents.stream_of}
+use Rattle.yaml_base.proofs.Common.{scalar_node, sequence_node, mapping_node, nodes_and, no_nodes, pairs_and, no_pairs, Collection, node_events}
 use Rattle.yaml_base.proofs.rows.RowsMeetings.{string_of, sequence_of, mapping_of, graph_of, dumped}
+use Rattle.std.specs.Char.{encode_utf8}
 
 -- the text of the last document, by its root
 abbrev text_of_last : Documents → Text

@@ -1,8 +1,7 @@
 -- Graphs that are isomorphic, and graphs that aren't.
-use Rattle.yaml_base.proofs.Common.{suc, zero, ℕ, slice_index, Contains, codes, [], map, ◌∷◌, ◌⊎◌, refl, ◌≡◌, inl, ap, sym, ◌∙◌, arith}
-use Rattle.yaml_base.proofs.Common.{label_at, Isomorphic, Graph, children}
-use Rattle.yaml_base.proofs.Common.{IsReached, first_reached, child_reached, nat_tests}
+use Rattle.yaml_base.proofs.Common.{suc, zero, ℕ, slice_index, Contains, codes, [], map, ◌∷◌, ◌⊎◌, refl, ◌≡◌, inl, ap, sym, ◌∙◌, arith, label_at, Isomorphic}
 use Rattle.yaml_base.proofs.rows.{RowsMeetings.graph_of, RowsMeetings.sequence_of, RowsMeetings.string_of, RowsUnfolding.held_by_none}
+use Rattle.yaml_base.proofs.Common.{Graph, children, IsReached, first_reached, child_reached, nat_tests}
 
 -- ---- two nodes change places, and no root reaches a fourth
 

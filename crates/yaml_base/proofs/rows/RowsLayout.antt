@@ -1,10 +1,9 @@
 -- Worked rows: the text of whole streams.
 use Rattle.yaml_base.proofs.Common.{None, Some, codes, negsuc, pos, replicate, false, true, [], ◌++◌, ◌∷◌, refl, ◌≡◌, any_style, single_quoted, double_quoted}
 use Rattle.yaml_base.proofs.Common.{literal, folded, any_layout, block, flow, document_start, document_end, alias, scalar, sequence_start, sequence_end}
-use Rattle.yaml_base.proofs.Common.{mapping_start, mapping_end}
 use Rattle.yaml_base.proofs.rows.RowEvents.{canonical_settings, unicode_settings, of_width, of_indent, untagged, leaf, tagged, in_style, sequence, mapping}
+use Rattle.yaml_base.proofs.{Common.mapping_start, Common.mapping_end, rows.Cases.Gives, rows.Cases.GivesOfTwo}
 use Rattle.yaml_base.proofs.rows.RowEvents.{document_of, stream_of, alone, rendered_under, rendered}
-use Rattle.yaml_base.proofs.rows.Cases.{Gives, GivesOfTwo}
 
 tag_directive : rendered (stream_of
     (document_of (leaf (codes "a") ∷ [])

@@ -1,7 +1,6 @@
 -- Lines and columns of offsets, computed.
+use Rattle.yaml_base.{specs.values.LinesAndColumns.line_of, specs.values.LinesAndColumns.column_of, proofs.rows.Cases.GivesOfTwo}
 use Rattle.yaml_base.proofs.Common.{ℕ, List, codes, [], ◌∷◌, ◌++◌, refl}
-use Rattle.yaml_base.specs.values.LinesAndColumns.{line_of, column_of}
-use Rattle.yaml_base.proofs.rows.Cases.{GivesOfTwo}
 
 -- the line and the column of an offset
 abbrev place : List ℕ → ℕ → ℕ × ℕ

@@ -1,11 +1,10 @@
 -- Blanks that are literal, computed: the values that literal takes then, how they are written, and that readers take tabs in literal
 -- text alone.
-use Rattle.yaml_base.proofs.Common.{None, codes, false, true, [], ◌++◌, ◌∷◌, refl, ◌≡◌, Text, literal, folded, block, flow}
-use Rattle.yaml_base.proofs.Common.{Charset, allows_literal, Settings, is_tidy, agrees, stream_trees}
-use Rattle.std.specs.{Char.encode_utf8, Str.chars, Str.is_utf8}
-use Rattle.yaml_base.proofs.rows.Cases.{Gives, reads_none}
+use Rattle.yaml_base.proofs.Common.{None, codes, false, true, [], ◌++◌, ◌∷◌, refl, ◌≡◌, Text, literal, folded, block, flow, Charset, allows_literal, Settings}
+use Rattle.yaml_base.proofs.{Common.is_tidy, Common.agrees, Common.stream_trees, rows.Cases.Gives, rows.Cases.reads_none}
 use Rattle.yaml_base.proofs.rows.RowEvents.{plain_settings, canonical_settings, untagged, leaf, sequence, mapping, alone, rendered_under}
 use Rattle.yaml_base.proofs.rows.StreamTrees.{only, in_quotes, items}
+use Rattle.std.specs.{Char.encode_utf8, Str.chars, Str.is_utf8}
 
 abbrev ascii : Charset
 ascii = record { unicode = false; breaks12 = false }

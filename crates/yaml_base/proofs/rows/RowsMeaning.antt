@@ -1,9 +1,8 @@
 -- Worked rows: what the bodies of a layout read as, and that their lines are indented.
 use Rattle.yaml_base.proofs.Common.{Option, None, Some, codes, pos, true, List, [], map, ◌∷◌, refl, ◌≡◌, Text, double_quoted, literal, folded, block, flow}
+use Rattle.yaml_base.{proofs.rows.Cases.GivesOfTwo, specs.Meaning.body_written, specs.Meaning.body_read}
 use Rattle.yaml_base.proofs.Common.{Event, bodies_of, is_indented_text, list_layout, both_break, Settings, effective}
-use Rattle.yaml_base.proofs.rows.Cases.{GivesOfTwo}
 use Rattle.yaml_base.proofs.rows.RowEvents.{plain_settings, of_width, of_indent, untagged, leaf, sequence, mapping, alone}
-use Rattle.yaml_base.specs.Meaning.{body_written, body_read}
 
 abbrev written : Settings → List Event → List Text
 written given events = let s = effective given None in map (body_written s) (bodies_of (list_layout s events))

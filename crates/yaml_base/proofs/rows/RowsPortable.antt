@@ -1,12 +1,10 @@
 -- Worked rows of portable mode, computed, each beside what is written without it.
 use Rattle.yaml_base.proofs.Common.{suc, zero, ℕ, None, Some, codes, replicate, false, true, List, [], ◌++◌, ◌∷◌, refl, ◌≡◌, Text, any_layout, block, flow}
-use Rattle.yaml_base.proofs.Common.{ScalarStyle}
-use Rattle.yaml_base.proofs.Common.{Event, document_start, document_end, output_of, suffix_escaped, prefix_escaped, utf16_big, both_break, Settings, agrees}
-use Rattle.yaml_base.proofs.Common.{literal, folded, single_quoted, stream_trees}
-use Rattle.std.specs.{Char.encode_utf8, Str.chars, Str.is_utf8}
+use Rattle.yaml_base.proofs.Common.{ScalarStyle, Event, document_start, document_end, output_of, suffix_escaped, prefix_escaped, utf16_big, both_break}
 use Rattle.yaml_base.proofs.rows.RowEvents.{plain_settings, canonical_settings, untagged, leaf, tagged, sequence, mapping, implicit_start, document_of}
-use Rattle.yaml_base.proofs.rows.RowEvents.{stream_of}
-use Rattle.yaml_base.proofs.rows.RowEvents.{alone, rendered_under, rendered}
+use Rattle.yaml_base.proofs.Common.{Settings, agrees, literal, folded, single_quoted, stream_trees}
+use Rattle.yaml_base.proofs.rows.RowEvents.{stream_of, alone, rendered_under, rendered}
+use Rattle.std.specs.{Char.encode_utf8, Str.chars, Str.is_utf8}
 
 abbrev portable_settings : Settings
 portable_settings = record plain_settings { portable = true }

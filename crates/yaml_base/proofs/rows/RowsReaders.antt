@@ -1,10 +1,9 @@
 -- What each reader makes of texts that no right writer writes: no value, or another one than was to be written.
-use Rattle.yaml_base.proofs.Common.{Option, None, Some, codes, false, true, List, [], ◌++◌, ◌∷◌, refl, ◌≡◌, Text, line_separator}
-use Rattle.yaml_base.proofs.Common.{TagDirective, canonical_content, tagged, untagged, Content, scalar_content, sequence_content, mapping_content, no_contents}
-use Rattle.yaml_base.proofs.Common.{contents_and, no_content_pairs, content_pairs_and, DocumentContent, read_block, read_double, read_plain, read_single}
-use Rattle.yaml_base.proofs.rows.Cases.{Gives, reads_none}
+use Rattle.yaml_base.proofs.Common.{Option, None, Some, codes, false, true, List, [], ◌++◌, ◌∷◌, refl, ◌≡◌, Text, line_separator, TagDirective}
+use Rattle.yaml_base.proofs.Common.{canonical_content, tagged, untagged, Content, scalar_content, sequence_content, mapping_content, no_contents, contents_and}
+use Rattle.yaml_base.{proofs.rows.Cases.Gives, proofs.rows.Cases.reads_none, specs.reading.Content.ScalarTag}
+use Rattle.yaml_base.proofs.Common.{no_content_pairs, content_pairs_and, DocumentContent, read_block, read_double, read_plain, read_single}
 use Rattle.std.specs.{Char.encode_utf8, Str.chars, Str.is_utf8}
-use Rattle.yaml_base.specs.reading.Content.{ScalarTag}
 
 -- ---- plain
 

@@ -1,10 +1,9 @@
 -- Scripts computed: each row a script, and what it says.
-use Rattle.yaml_base.proofs.Common.{map, replicate}
-use Rattle.yaml_base.proofs.Common.{None, Some, codes, negsuc, pos, false, true, [], ◌++◌, ◌∷◌, refl, ◌≡◌, any_style, folded, any_layout, flow, stream_start}
-use Rattle.yaml_base.proofs.Common.{stream_end, document_start, document_end, alias, scalar, sequence_start, sequence_end, mapping_start, mapping_end}
-use Rattle.yaml_base.proofs.Common.{utf16_little, utf16_big, both_break}
-use Rattle.std.specs.{Char.encode_utf8, Str.chars, Str.is_utf8}
+use Rattle.yaml_base.proofs.Common.{map, replicate, None, Some, codes, negsuc, pos, false, true, [], ◌++◌, ◌∷◌, refl, ◌≡◌, any_style, folded, any_layout, flow}
+use Rattle.yaml_base.proofs.Common.{stream_start, stream_end, document_start, document_end, alias, scalar, sequence_start, sequence_end, mapping_start}
+use Rattle.yaml_base.proofs.Common.{mapping_end, utf16_little, utf16_big, both_break}
 use Rattle.yaml_base.specs.scripts.Script.{bad_line, understood, unset, script_of}
+use Rattle.std.specs.{Char.encode_utf8, Str.chars, Str.is_utf8}
 
 -- a canonical scalar, from its settings to the stream's end
 a_whole_script : script_of (codes "canonical on\nwidth -1\n+STR any\n+DOC 1 -\n=VAL any 1 1 - - \"a\"\n-DOC 1\n-STR\n")

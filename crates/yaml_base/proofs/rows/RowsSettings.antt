@@ -1,7 +1,6 @@
 -- What is set, and what it comes to, computed.
 use Rattle.yaml_base.proofs.Common.{ℕ, Option, None, Some, negsuc, pos, ℤ, false, [], map, ◌∷◌, refl, ◌≡◌, utf8, utf16_little, utf16_big, line_feed_break}
-use Rattle.yaml_base.proofs.Common.{both_break, effective}
-use Rattle.yaml_base.proofs.rows.RowEvents.{plain_settings, of_indent}
+use Rattle.yaml_base.proofs.{Common.both_break, Common.effective, rows.RowEvents.plain_settings, rows.RowEvents.of_indent}
 
 -- what an indent comes to
 abbrev indent_of : ℤ → ℕ

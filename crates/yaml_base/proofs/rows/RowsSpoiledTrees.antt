@@ -1,13 +1,12 @@
 -- Trees that don't unfold their graphs: an alias before its node, children exchanged, a style changed, an alias of a node
 -- without an anchor, a node written twice.
-use Rattle.yaml_base.proofs.Common.{suc, zero, ℕ, Contains, count_by, option_map, Option, None, Some, codes, Bool, false, true, [], ◌∷◌, refl, ◌≡◌, ap}
-use Rattle.yaml_base.proofs.Common.{subst, sym, ◌∙◌, arith, Text, ScalarStyle, any_style, double_quoted, block, Node, alias_node, sequence_node}
-use Rattle.yaml_base.proofs.Common.{no_nodes, nodes_and, Graph, node_numbered, children, sequence_tag}
-use Rattle.yaml_base.proofs.Common.{scalar_kind, sequence_kind, mapping_kind, Label, node_shape_of, Placed, node_placed, none_placed, number_at, label_of}
-use Rattle.yaml_base.proofs.Common.{HasShape, Occurrence, alias_occurrence, node_occurrence, occurrences, has_anchor, is_occurrence_of, NameTheirNodes}
-use Rattle.yaml_base.proofs.Common.{IsReached, first_reached, child_reached, TreeUnfolds, nat_tests}
-use Rattle.yaml_base.specs.graphs.Unfolding.{StyledKind}
-use Rattle.yaml_base.proofs.rows.{RowsMeetings.graph_of, RowsMeetings.sequence_of, RowsMeetings.string_of, RowsUnfolding.a_sequence, RowsUnfolding.a_string}
+use Rattle.yaml_base.proofs.Common.{suc, zero, ℕ, Contains, count_by, option_map, Option, None, Some, codes, Bool, false, true, [], ◌∷◌, refl, ◌≡◌, ap, subst}
+use Rattle.yaml_base.proofs.Common.{sym, ◌∙◌, arith, Text, ScalarStyle, any_style, double_quoted, block, Node, alias_node, sequence_node, no_nodes, nodes_and}
+use Rattle.yaml_base.proofs.Common.{Graph, node_numbered, children, sequence_tag, scalar_kind, sequence_kind, mapping_kind, Label, node_shape_of, Placed}
+use Rattle.yaml_base.proofs.Common.{node_placed, none_placed, number_at, label_of, HasShape, Occurrence, alias_occurrence, node_occurrence, occurrences}
+use Rattle.yaml_base.{specs.graphs.Unfolding.StyledKind, proofs.rows.RowsUnfolding.a_sequence, proofs.rows.RowsUnfolding.a_string}
+use Rattle.yaml_base.proofs.Common.{has_anchor, is_occurrence_of, NameTheirNodes, IsReached, first_reached, child_reached, TreeUnfolds, nat_tests}
+use Rattle.yaml_base.proofs.rows.RowsMeetings.{graph_of, sequence_of, string_of}
 
 -- ---- an alias before its node
 

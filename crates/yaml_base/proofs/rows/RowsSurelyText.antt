@@ -1,7 +1,6 @@
 -- Which texts may stand plain, computed.
 use Rattle.yaml_base.proofs.Common.{codes, Bool, not, true, [], ◌++◌, ◌∷◌, refl, ◌≡◌, list_all, slice_split, Text, is_space, is_reserved, is_symbol, is_based}
-use Rattle.yaml_base.proofs.Common.{is_numeric}
-use Rattle.yaml_base.specs.values.SurelyText.{is_surely_text}
+use Rattle.yaml_base.{proofs.Common.is_numeric, specs.values.SurelyText.is_surely_text}
 
 -- each of some texts, one space apart, passes a test
 abbrev all_pass : (Text → Bool) → Text → Bool

@@ -1,12 +1,10 @@
 -- Trees that unfold a graph, and trees that don't.
 use Rattle.yaml_base.proofs.Common.{suc, zero, ℕ, Contains, count_by, None, Some, codes, true, [], ◌∷◌, ◌⊎◌, refl, ◌≡◌, inl, inr, arith, nat_tests, any_style}
 use Rattle.yaml_base.proofs.Common.{block, Node, alias_node, scalar_node, sequence_node, mapping_node, no_nodes, nodes_and, no_pairs, pairs_and}
-use Rattle.yaml_base.proofs.Common.{document_events, Graph, children, string_tag, sequence_tag, mapping_tag}
-use Rattle.yaml_base.proofs.Common.{document_event_list, node_shape_of, Placed, alias_placed, node_placed, none_placed, placed_and, number_at, HasShape}
-use Rattle.yaml_base.proofs.Common.{alias_occurrence, node_occurrence, occurrences, is_occurrence_of, IsReached, first_reached, child_reached, TreeUnfolds}
-use Rattle.yaml_base.proofs.Common.{ContentUnfolds, node_content}
-use Rattle.yaml_base.proofs.Common.{ℕ, Option, Text, ScalarStyle}
-use Rattle.yaml_base.specs.graphs.Meetings.{decimal_digits}
+use Rattle.yaml_base.proofs.Common.{document_events, Graph, children, string_tag, sequence_tag, mapping_tag, document_event_list, node_shape_of, Placed}
+use Rattle.yaml_base.proofs.Common.{alias_placed, node_placed, none_placed, placed_and, number_at, HasShape, alias_occurrence, node_occurrence, occurrences}
+use Rattle.yaml_base.proofs.Common.{is_occurrence_of, IsReached, first_reached, child_reached, TreeUnfolds, ContentUnfolds, node_content, Option, Text}
+use Rattle.yaml_base.{proofs.Common.ScalarStyle, specs.graphs.Meetings.decimal_digits}
 use Rattle.yaml_base.proofs.rows.RowsMeetings.{graph_of, mapping_of, sequence_of, string_of}
 
 -- a mapping whose one key is a string, and whose value is the mapping

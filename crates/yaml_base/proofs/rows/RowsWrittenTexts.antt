@@ -1,8 +1,7 @@
 -- Written texts, computed: what may stand raw in them, and values with U+2028 under the line breaks of YAML 1.2.
 use Rattle.yaml_base.proofs.Common.{codes, false, true, [], map, ◌++◌, ◌∷◌, refl, ◌≡◌, list_all, list_any, Text, plain, single_quoted, double_quoted, literal}
-use Rattle.yaml_base.proofs.Common.{folded, block, Settings}
+use Rattle.yaml_base.{proofs.Common.folded, proofs.Common.block, proofs.Common.Settings, specs.WrittenTexts.is_separator, specs.WrittenTexts.is_written_raw}
 use Rattle.yaml_base.proofs.rows.RowEvents.{unicode_settings, untagged, leaf, sequence, mapping, alone, rendered_under}
-use Rattle.yaml_base.specs.WrittenTexts.{is_separator, is_written_raw}
 
 -- U+2028 and U+2029 alone are separators
 separators : map is_separator (0xA ∷ 0x85 ∷ 0x2027 ∷ 0x2028 ∷ 0x2029 ∷ 0x202A ∷ []) ≡ false ∷ false ∷ false ∷ true ∷ true ∷ false ∷ []

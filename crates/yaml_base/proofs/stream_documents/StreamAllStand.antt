@@ -1,19 +1,17 @@
 -- Each document of an accepted list stands: its names and tags by what is accepted, its scalars by their bodies.
-use Rattle.yaml_base.proofs.Common.{nat_tests, ◌≤◌, Option, Some, true, List, [], ◌∷◌, refl, ◌≡◌, leb-true, subst, arith, list_all}
-use Rattle.yaml_base.proofs.Common.{Rendered, Event, Documents, no_documents, documents_and, root_place, has_no_documents, render_documents}
-use Rattle.yaml_base.proofs.Common.{first_standing, text_of, has_scalar_values, MeaningIsKept, has_scalar_texts, text_written, bytes_written, list_layout}
-use Rattle.yaml_base.proofs.Common.{IsAccepted, Encoding, Settings, Effective, effective, reads_alike, directives_in_force, BodiesAreTidy}
-use Rattle.yaml_base.proofs.Common.{characters_read, documents_in_order}
+use Rattle.yaml_base.proofs.Common.{nat_tests, ◌≤◌, Option, Some, true, List, [], ◌∷◌, refl, ◌≡◌, leb-true, subst, arith, list_all, Rendered, Event, Documents}
+use Rattle.yaml_base.proofs.Common.{no_documents, documents_and, root_place, has_no_documents, render_documents, first_standing, text_of, has_scalar_values}
+use Rattle.yaml_base.proofs.Common.{MeaningIsKept, has_scalar_texts, text_written, bytes_written, list_layout, IsAccepted, Encoding, Settings, Effective}
 use Rattle.yaml_base.{proofs.Trees.tree_of-stream_events, proofs.stream_documents.StreamEachDocument.AllDocuments}
 use Rattle.yaml_base.{proofs.stream_documents.StreamHeadingLines.heading_stands, proofs.stream_documents.StreamRootLeaves.root_stands}
 use Rattle.yaml_base.{proofs.stream_keys.StreamKeysFit.keys_fit, proofs.stream_keys.StreamSimpleKeys.simple_keys_fit}
 use Rattle.yaml_base.{proofs.stream_lines.StreamClosed.margin_cursor, proofs.stream_nodes.StreamScalarLeaves.scalars_fit, specs.StreamLaw.StreamReadsBack}
-use Rattle.yaml_base.proofs.stream_lines.StreamBytes.{is_shown}
+use Rattle.yaml_base.{proofs.stream_lines.StreamBytes.is_shown, proofs.stream_nodes.StreamStands.BodyStands, proofs.stream_nodes.StreamStands.BodiesHold}
+use Rattle.yaml_base.proofs.Common.{effective, reads_alike, directives_in_force, BodiesAreTidy, characters_read, documents_in_order}
 use Rattle.yaml_base.proofs.stream_documents.StreamDocumentTexts.{start_rendered, end_cursor}
 use Rattle.yaml_base.proofs.stream_documents.StreamRootsStand.{is_on_marker, DocumentsStand}
 use Rattle.yaml_base.proofs.stream_nodes.StreamBodies.{DocumentsHold, roots_stand}
 use Rattle.yaml_base.proofs.stream_nodes.StreamNames.{IsSoundDocument, accepted_names_stand}
-use Rattle.yaml_base.proofs.stream_nodes.StreamStands.{BodyStands, BodiesHold}
 use Rattle.yaml_base.proofs.stream_documents.StreamLawStands.{documents_parts, indent_deep, StreamStands, stream_agrees}
 
 -- Documents

@@ -1,13 +1,12 @@
 -- One document more of a stream: its directives, its `---` and its root, or a root without `---` at the stream's start.
-use Rattle.yaml_base.proofs.Common.{ℕ, ◌==◌, is_some, Option, None, Some, codes, length, Bool, false, not, true, ◌&&◌, List, [], ◌++◌, ◌∷◌, refl, ◌≡◌, eqb-true}
-use Rattle.yaml_base.proofs.Common.{append-nil, append_assoc, ap, subst, sym, ◌∙◌, arith, or_parts, false≢true, Text, line_feed, Version, TagDirective}
-use Rattle.yaml_base.proofs.Common.{DocumentStart, has_directives, Effective, DocumentTree, start_marker, Section, Heading, no_heading, heading_read, and-false}
-use Rattle.yaml_base.proofs.Common.{after_heading, with_heading, section_by_kind, lines_of}
-use Rattle.yaml_base.proofs.stream_lines.{StreamClosed.lines_broken, StreamClosed.closed_both, StreamLineLaws.is_closed}
+use Rattle.yaml_base.proofs.Common.{ℕ, ◌==◌, is_some, Option, None, Some, codes, length, Bool, false, not, true, ◌&&◌, List, [], ◌++◌, ◌∷◌, refl, ◌≡◌}
+use Rattle.yaml_base.proofs.Common.{eqb-true, append-nil, append_assoc, ap, subst, sym, ◌∙◌, arith, or_parts, false≢true, Text, line_feed, Version}
+use Rattle.yaml_base.proofs.Common.{TagDirective, DocumentStart, has_directives, Effective, DocumentTree, start_marker, Section, Heading, no_heading}
+use Rattle.yaml_base.proofs.stream_lines.{StreamClosed.lines_broken, StreamClosed.closed_both, StreamLineLaws.is_closed, StreamLineLaws.unbroken_line}
+use Rattle.yaml_base.proofs.Common.{heading_read, and-false, after_heading, with_heading, section_by_kind, lines_of}
 use Rattle.yaml_base.proofs.stream_documents.StreamRootsStand.{heading_text, HeadingStands}
 use Rattle.yaml_base.proofs.stream_documents.StreamSoFar.{WalkProgress, prefix_alone, one_more, Percents, percents_markerless, percents_shown, prefix_heading}
 use Rattle.yaml_base.specs.streams.StreamDocuments.{StreamPlace, after_root, document_read}
-use Rattle.yaml_base.proofs.stream_lines.StreamLineLaws.{unbroken_line}
 
 -- Ends
 

@@ -2,10 +2,9 @@
 use Rattle.yaml_base.proofs.Common.{arith, if◌then◌else◌, ◌==◌, Option, None, Some, codes, Bool, false, not, true, ◌&&◌, ◌||◌, List, [], ◌++◌, ◌∷◌, refl, ◌≡◌}
 use Rattle.yaml_base.proofs.Common.{append-nil, append_assoc, ap, subst, sym, ◌∙◌, flat_map-append, Text, line_feed, Cursor, Rendered, Version, TagDirective}
 use Rattle.yaml_base.proofs.Common.{DocumentStart, Document, render_if, render_closing_marker, render_version, render_tag_directives, has_directives}
-use Rattle.yaml_base.proofs.Common.{is_explicit, render_document_start, document_start_piece, document_end_piece, root_place}
-use Rattle.yaml_base.proofs.Common.{render_document, Piece, piece_text, text_of, Standing, RenderedPiece, RenderedPieces, one_piece, render_node, Effective}
-use Rattle.yaml_base.proofs.Common.{directives_in_force, nat_tests}
-use Rattle.yaml_base.proofs.stream_documents.{StreamDocumentReads.dots_if, StreamRootAdded.text_with_marker}
+use Rattle.yaml_base.proofs.Common.{is_explicit, render_document_start, document_start_piece, document_end_piece, root_place, render_document, Piece}
+use Rattle.yaml_base.proofs.Common.{piece_text, text_of, Standing, RenderedPiece, RenderedPieces, one_piece, render_node, Effective, directives_in_force}
+use Rattle.yaml_base.proofs.{Common.nat_tests, stream_documents.StreamDocumentReads.dots_if, stream_documents.StreamRootAdded.text_with_marker}
 use Rattle.yaml_base.proofs.stream_documents.StreamRootsStand.{root_cursor, render_root, heading_text}
 use Rattle.yaml_base.proofs.stream_lines.StreamClosed.{closing, closed, Settled, new_line_closes, margin_cursor}
 use Rattle.yaml_base.proofs.stream_nodes.StreamTexts.{node_own, node_joined}

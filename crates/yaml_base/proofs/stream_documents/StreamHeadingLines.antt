@@ -1,16 +1,14 @@
 -- The lines of a document's directives: each begins with `%`, and they are read as its version and its directives.
-use Rattle.yaml_base.proofs.Common.{option_and_then, Option, None, Some, Bool, true, List, [], ◌++◌, ◌∷◌, refl, ◌≡◌, int_eq, append-nil}
-use Rattle.yaml_base.proofs.Common.{append_assoc, ap, sym, ◌∙◌, arith, list_all, Text, line_feed, Rendered, first_cursor, render_then, Version, TagDirective}
-use Rattle.yaml_base.proofs.Common.{DocumentStart, render_version, render_tag_directives, directive_scalars, Effective, version_fault}
-use Rattle.yaml_base.proofs.Common.{next_directive_fault, directives_fault_after, directives_fault, heading_read, begins_with_percent, Line, lines_of}
-use Rattle.yaml_base.proofs.Common.{text_of_lines}
-use Rattle.yaml_base.{proofs.NoFaults.neither, proofs.PercentLaws.prefix_stands, proofs.TagForms.handle_form, proofs.TagWords.handle_ends_no_word}
-use Rattle.yaml_base.{proofs.stream_documents.StreamSoFar.Percents}
+use Rattle.yaml_base.proofs.Common.{option_and_then, Option, None, Some, Bool, true, List, [], ◌++◌, ◌∷◌, refl, ◌≡◌, int_eq, append-nil, append_assoc, ap, sym}
+use Rattle.yaml_base.proofs.Common.{◌∙◌, arith, list_all, Text, line_feed, Rendered, first_cursor, render_then, Version, TagDirective, DocumentStart}
+use Rattle.yaml_base.proofs.Common.{render_version, render_tag_directives, directive_scalars, Effective, version_fault, next_directive_fault}
+use Rattle.yaml_base.proofs.{NoFaults.neither, PercentLaws.prefix_stands, TagForms.handle_form, TagWords.handle_ends_no_word}
+use Rattle.yaml_base.proofs.{stream_documents.StreamSoFar.Percents, stream_nodes.StreamBegun.shown_line}
+use Rattle.yaml_base.proofs.Common.{directives_fault_after, directives_fault, heading_read, begins_with_percent, Line, lines_of, text_of_lines}
 use Rattle.yaml_base.proofs.stream_documents.StreamRootsStand.{heading_text, HeadingStands}
 use Rattle.yaml_base.proofs.stream_lines.StreamClosed.{character_line, lines_broken, closed_behind}
 use Rattle.yaml_base.proofs.stream_lines.StreamLineLaws.{is_closed, OneLine, one_line_both}
 use Rattle.yaml_base.proofs.stream_documents.StreamHeadings.{prefix_no_white, tag_lines, version_lines, heading_lines, heading_reads}
-use Rattle.yaml_base.proofs.stream_nodes.StreamBegun.{shown_line}
 
 -- Lines with their breaks
 

@@ -1,21 +1,18 @@
 -- A document's directives, as they are written, are lines that are read as these directives.
-use Rattle.yaml_base.proofs.Common.{ℕ, if◌then◌else◌, ◌==◌, fold, option_and_then, Option, None, Some, codes, pos, Bool, false, not, true, ◌&&◌, ◌||◌, List, []}
-use Rattle.yaml_base.proofs.Common.{◌++◌, ◌∷◌, ◌⊎◌, refl, ◌≡◌, int_eq, eqb-true, append-nil, append_assoc, inl, inr, ap, sym, ◌∙◌, arith, and_parts, and_from}
-use Rattle.yaml_base.proofs.Common.{not-true, false≢true, nat_tests, list_all-append, list_all}
-use Rattle.yaml_base.proofs.Common.{slice_split, all_scalars, Text, line_feed, space, is_alpha, is_space, is_blank, is_break, Version, TagDirective}
-use Rattle.yaml_base.proofs.Common.{DocumentStart, directive_scalars, is_tag_character, character_written, percent_escaped, prefix_escaped, version_fault}
-use Rattle.yaml_base.proofs.Common.{exclamation_mark, handle_fault, prefix_fault, next_directive_fault, directives_fault_after}
-use Rattle.yaml_base.proofs.Common.{directives_fault, is_uri_character, percent_read, Heading, heading_read, Line}
-use Rattle.std.proofs.lemmas.List.Splits.{slice_split_at, slice_split_none}
-use Rattle.std.proofs.lemmas.List.Sums.{fold-append}
-use Rattle.yaml_base.{proofs.NoFaults.neither, proofs.NoFaults.not_given, proofs.TagForms.IsHandle, proofs.TagForms.handle_form}
-use Rattle.yaml_base.{proofs.TagWords.handle_ends_no_word, specs.Layout.version_word}
+use Rattle.yaml_base.proofs.Common.{ℕ, if◌then◌else◌, ◌==◌, fold, option_and_then, Option, None, Some, codes, pos, Bool, false, not, true, ◌&&◌, ◌||◌, List}
+use Rattle.yaml_base.proofs.Common.{[], ◌++◌, ◌∷◌, ◌⊎◌, refl, ◌≡◌, int_eq, eqb-true, append-nil, append_assoc, inl, inr, ap, sym, ◌∙◌, arith, and_parts}
+use Rattle.yaml_base.proofs.Common.{and_from, not-true, false≢true, nat_tests, list_all-append, list_all, slice_split, all_scalars, Text, line_feed, space}
+use Rattle.yaml_base.proofs.Common.{is_alpha, is_space, is_blank, is_break, Version, TagDirective, DocumentStart, directive_scalars, is_tag_character}
+use Rattle.yaml_base.proofs.Common.{character_written, percent_escaped, prefix_escaped, version_fault, exclamation_mark, handle_fault, prefix_fault}
+use Rattle.yaml_base.proofs.Common.{next_directive_fault, directives_fault_after, directives_fault, is_uri_character, percent_read, Heading, heading_read}
+use Rattle.yaml_base.{proofs.Common.Line, proofs.NoFaults.neither, proofs.NoFaults.not_given, proofs.TagForms.IsHandle, proofs.TagForms.handle_form}
+use Rattle.yaml_base.{proofs.TagWords.handle_ends_no_word, specs.Layout.version_word, proofs.AllPass.none_pass, proofs.AllPass.uncut_by}
 use Rattle.yaml_base.proofs.stream_nodes.StreamTags.{uri_character, uri_text}
 use Rattle.yaml_base.proofs.stream_nodes.StreamProperties.{holds_white, has_no_space, no_white_no_space}
 use Rattle.yaml_base.proofs.PercentLaws.{decoded_prefix, character_stands, escaped_stands, stands_in_prefix, prefix_stands, prefix_begins}
 use Rattle.yaml_base.specs.reading.ReadTags.{closes_handle, is_handle_text, prefix_parsed, is_handle_given}
 use Rattle.yaml_base.specs.streams.StreamDocuments.{with_directive, directive_by_words, directive_line}
-use Rattle.yaml_base.proofs.AllPass.{none_pass, uncut_by}
+use Rattle.std.proofs.lemmas.List.{Splits.slice_split_at, Splits.slice_split_none, Sums.fold-append}
 
 -- Words
 

@@ -7,10 +7,9 @@ use Rattle.yaml_base.proofs.Common.{Document, Documents, no_documents, documents
 use Rattle.yaml_base.proofs.Common.{stream_events, tree_of, layout, Piece, text_of, with_breaks_written, bytes_written, list_layout, is_sound, IsAccepted}
 use Rattle.yaml_base.proofs.Common.{Encoding, Settings, Effective, effective_indent, effective, loses_document, document_has_flow_indicator, all_read_alike}
 use Rattle.yaml_base.proofs.Common.{reads_alike, characters_read, lacks_tag_and_flags, DocumentTree, document_agrees, documents_in_order, agrees, not-true}
+use Rattle.yaml_base.{proofs.Trees.tree_of-stream_events, specs.streams.StreamContent.documents_agree, proofs.stream_documents.StreamRootsStand.DocumentsStand}
 use Rattle.yaml_base.proofs.Common.{documents_of, stream_trees, nat_tests}
-use Rattle.yaml_base.{proofs.Trees.tree_of-stream_events, proofs.stream_lines.StreamBytes.trees_of_bytes, proofs.stream_lines.StreamBytes.is_shown}
-use Rattle.yaml_base.{specs.streams.StreamContent.documents_agree}
-use Rattle.yaml_base.proofs.stream_documents.StreamRootsStand.{DocumentsStand}
+use Rattle.yaml_base.proofs.stream_lines.StreamBytes.{trees_of_bytes, is_shown}
 use Rattle.yaml_base.proofs.stream_documents.StreamEachDocument.{AllDocuments, all_of_both, each_document}
 use Rattle.yaml_base.proofs.stream_documents.StreamWholeReads.{FirstWritten, document_trees, stream_reads}
 use Rattle.yaml_base.proofs.stream_nodes.StreamAgrees.{document_tree, node_is_tagged, nodes_are_tagged, pairs_are_tagged, document_tree_agrees}

@@ -4,19 +4,18 @@ use Rattle.yaml_base.proofs.Common.{eqb-true, append-nil, append_assoc, ap, â—Œâ
 use Rattle.yaml_base.proofs.Common.{is_tidy_character, Cursor, Rendered, ScalarStyle, plain, TagDirective, Scalar, scalar_tag, collection_tag, Node}
 use Rattle.yaml_base.proofs.Common.{alias_node, scalar_node, sequence_node, mapping_node, root_place, render_properties, render_alias, render_separation}
 use Rattle.yaml_base.proofs.Common.{render_body, choice_of, Brackets, square, curly, empty_or_comma, render_end, deeper, has_no_nodes, has_no_pairs, Effective}
+use Rattle.yaml_base.proofs.stream_lines.StreamDeepBreaks.{after_breaks, begins_deep, Deep, Keeps, after_both, after_weaker, after_line_of, deep_keeps}
+use Rattle.yaml_base.proofs.{stream_documents.StreamRootsStand.is_leaf, stream_nodes.StreamOwnWords.deep_more, stream_nodes.StreamProperties.IsNamed}
 use Rattle.yaml_base.proofs.Common.{has_deep_lines, is_tidy_style, is_empty, marker_of, lines_of, name_read, is_break, list_any, nat_tests}
-use Rattle.yaml_base.proofs.{stream_documents.StreamRootsStand.is_leaf, stream_lines.StreamLineLaws.OneLine}
-use Rattle.yaml_base.proofs.{stream_lines.StreamLineLaws.one_line_both, stream_nodes.StreamOwnWords.deep_more, stream_nodes.StreamProperties.IsNamed}
+use Rattle.yaml_base.proofs.stream_lines.StreamLineLaws.{OneLine, one_line_both, unbroken_line}
 use Rattle.yaml_base.proofs.stream_lines.StreamSections.{is_markerless, AllMarkerless}
 use Rattle.yaml_base.proofs.stream_lines.StreamMarkerless.{inside_markerless, all_markerless}
 use Rattle.yaml_base.proofs.stream_flow.StreamFlowDeep.{properties_line, indicator_deep, alias_deep, items_deep, pairs_deep}
 use Rattle.yaml_base.proofs.stream_lines.StreamClosed.{closing, closed, spaces_line, after_line}
-use Rattle.yaml_base.proofs.stream_lines.StreamDeepBreaks.{after_breaks, begins_deep, Deep, Keeps, after_both, after_weaker, after_line_of, deep_keeps}
 use Rattle.yaml_base.proofs.stream_lines.StreamDeepBreaks.{space_line, lines_pass, deep_first}
 use Rattle.yaml_base.proofs.stream_lines.StreamTidyLaws.{first_text, lines_after_first, first_extended, deep_lines_inside}
 use Rattle.yaml_base.proofs.stream_nodes.StreamStands.{TagStands, NamesStand, BodyStands, body_from, BodiesHold}
 use Rattle.yaml_base.proofs.stream_nodes.StreamTexts.{node_own, items_own, pairs_own}
-use Rattle.yaml_base.proofs.stream_lines.StreamLineLaws.{unbroken_line}
 
 -- Collections in flow
 
@@ -145,11 +144,11 @@ leaf_markerless (sequence_node start items) s own directives cursor deep leaf na
     (collection_markerless s own directives square start.anchor (collection_tag s.canonical start) (has_no_nodes items) cursor
     (items_own items s directives true (deeper s.indent None) begun.cursor)
     refl refl refl names.0 names.1
-    (items_deep items s own directives 1 (deeper s.indent None) begun.cursor (omega arith) names.2 (rw leaf at bodies)))
+    (items_deep s own directives 1 items (deeper s.indent None) begun.cursor (omega arith) names.2 (rw leaf at bodies)))
 leaf_markerless (mapping_node start pairs) s own directives cursor deep leaf names bodies =
     let begun = render_properties s.portable directives start.anchor (collection_tag s.canonical start) false cursor in
     rw leaf
     (collection_markerless s own directives curly start.anchor (collection_tag s.canonical start) (has_no_pairs pairs) cursor
     (pairs_own pairs s directives true (deeper s.indent None) begun.cursor)
     refl refl refl names.0 names.1
-    (pairs_deep pairs s own directives 1 (deeper s.indent None) begun.cursor (omega arith) names.2 (rw leaf at bodies)))
+    (pairs_deep s own directives 1 pairs (deeper s.indent None) begun.cursor (omega arith) names.2 (rw leaf at bodies)))

@@ -3,15 +3,13 @@ use Rattle.yaml_base.proofs.Common.{arith, ℕ, ◌==◌, Option, None, Some, Bo
 use Rattle.yaml_base.proofs.Common.{append_assoc, ap, ◌∙◌, and_parts, or_parts, false≢true, Text, space, Cursor, Rendered, space_if, ScalarStyle, any_style}
 use Rattle.yaml_base.proofs.Common.{plain, single_quoted, double_quoted, literal, folded, TagDirective, render_properties, render_alias, render_body}
 use Rattle.yaml_base.proofs.Common.{is_read_break, read_in_style, Effective, spelling, spelled, is_read_white, read_plain, ParsedTag, has_clean_edges}
-use Rattle.yaml_base.proofs.Common.{is_tidy_style, Allowances, is_empty, is_plain, fitting_style, Tree, Rules, nat_tests}
 use Rattle.yaml_base.proofs.{stream_documents.StreamRootsStand.Begins, stream_nodes.StreamOwnTexts.own_shows, stream_flow.StreamFlowReads.FlowContent}
-use Rattle.yaml_base.proofs.{stream_flow.StreamFlowWords.Given, stream_flow.StreamPropertyWords.lead}
-use Rattle.yaml_base.proofs.{stream_nodes.StreamBegun.properties_whole, stream_nodes.StreamProperties.IsNamed}
+use Rattle.yaml_base.proofs.{stream_flow.StreamFlowWords.Given, stream_flow.StreamPropertyWords.lead, stream_nodes.StreamBegun.properties_whole}
+use Rattle.yaml_base.proofs.{stream_nodes.StreamProperties.IsNamed, stream_lines.StreamLineLaws.break_line, stream_nodes.StreamAgrees.plain_fits}
+use Rattle.yaml_base.proofs.Common.{is_tidy_style, Allowances, is_empty, is_plain, fitting_style, Tree, Rules, nat_tests}
 use Rattle.yaml_base.proofs.stream_nodes.StreamLeads.{lead_rendered, tag_is_written}
 use Rattle.yaml_base.proofs.stream_nodes.StreamScalarsFit.{render_styled, body_cursor, separation_text}
 use Rattle.yaml_base.proofs.stream_nodes.StreamStands.{tag_written, tag_meant, TagStands}
-use Rattle.yaml_base.proofs.stream_lines.StreamLineLaws.{break_line}
-use Rattle.yaml_base.proofs.stream_nodes.StreamAgrees.{plain_fits}
 
 -- Characters
 

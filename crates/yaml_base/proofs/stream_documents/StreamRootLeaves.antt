@@ -1,18 +1,16 @@
 -- A document's root that is a leaf stands, where its names, its bodies and the keys in it do.
 use Rattle.yaml_base.proofs.Common.{◌≤◌, is_some, Option, None, Bool, false, not, true, ◌&&◌, List, [], refl, ◌≡◌, true≢false, ap, sym, ◌∙◌, arith, and_parts}
-use Rattle.yaml_base.proofs.Common.{and_from, Text, Cursor, TagDirective, Scalar, scalar_tag, collection_tag, Node}
-use Rattle.yaml_base.proofs.Common.{alias_node, scalar_node, sequence_node, mapping_node, Document, root_place, render_properties, choice_of, as_root, deeper}
-use Rattle.yaml_base.proofs.Common.{Effective, is_written_as_nothing, directives_in_force, is_empty, Choice, is_plain}
+use Rattle.yaml_base.proofs.Common.{and_from, Text, Cursor, TagDirective, Scalar, scalar_tag, collection_tag, Node, alias_node, scalar_node, sequence_node}
+use Rattle.yaml_base.proofs.Common.{mapping_node, Document, root_place, render_properties, choice_of, as_root, deeper, Effective, is_written_as_nothing}
+use Rattle.yaml_base.proofs.stream_documents.StreamRootBegins.{properties_begin, alias_begins, flow_begins, body_head, empty_begins, styled_begins}
 use Rattle.yaml_base.proofs.{stream_documents.StreamLeafMarkers.leaf_markerless, stream_flow.StreamFlowFits.flows_fit, stream_flow.StreamFlowKinds.KeysFit}
-use Rattle.yaml_base.proofs.{stream_flow.StreamFlowReads.sequence_reads, stream_flow.StreamFlowReads.mapping_reads, stream_flow.StreamFlowScalars.rules_of}
-use Rattle.yaml_base.proofs.{stream_nodes.StreamAgrees.node_tree, stream_nodes.StreamLeads.tag_is_written}
-use Rattle.yaml_base.proofs.{stream_nodes.StreamTexts.node_own}
+use Rattle.yaml_base.proofs.{stream_flow.StreamFlowScalars.rules_of, stream_nodes.StreamAgrees.node_tree, stream_nodes.StreamLeads.tag_is_written}
+use Rattle.yaml_base.proofs.{stream_nodes.StreamTexts.node_own, stream_documents.StreamRootBegins.plain_asked, stream_documents.StreamRootStood.root_settled}
+use Rattle.yaml_base.proofs.Common.{directives_in_force, is_empty, Choice, is_plain, and-false}
+use Rattle.yaml_base.proofs.stream_flow.StreamFlowReads.{sequence_reads, mapping_reads}
 use Rattle.yaml_base.proofs.stream_nodes.StreamLeaves.{ScalarsFit, SimpleKeysFit, leaves_stand}
-use Rattle.yaml_base.proofs.stream_documents.StreamRootBegins.{properties_begin, alias_begins, flow_begins, body_head, empty_begins, styled_begins, plain_asked}
 use Rattle.yaml_base.proofs.stream_documents.StreamRootsStand.{root_cursor, Begins, LeafStands, is_leaf, PropertiesStand, RootStands}
 use Rattle.yaml_base.proofs.stream_nodes.StreamStands.{tag_written, NamesStand, BodyStands, body_from, BodiesHold}
-use Rattle.yaml_base.proofs.Common.{and-false}
-use Rattle.yaml_base.proofs.stream_documents.StreamRootStood.{root_settled}
 
 -- Scalars
 
@@ -101,7 +99,7 @@ root_stands s document on_marker deep scalars simple_keys keys names bodies =
     let directives = directives_in_force own in
     record {
       leaves =
-          leaves_stand document.root s own directives scalars (flows_fit s own directives keys deep) simple_keys as_root None
+          leaves_stand s own directives scalars (flows_fit s own directives keys deep) simple_keys document.root as_root None
           (root_cursor on_marker) (λ h. refl) refl
           (root_settled on_marker) names bodies;
       leaf = λ leaf. leaf_stands s document on_marker (omega arith) keys names bodies leaf;

@@ -1,22 +1,20 @@
 -- A root that stands, as a document's directives are given, fits where it begins, and its lines are those of a root.
 use Rattle.yaml_base.proofs.Common.{suc, ℕ, ◌≤◌, if◌then◌else◌, option_map, Option, None, Some, Bool, false, not, true, ◌||◌, List, [], ◌∷◌, refl, ◌≡◌}
 use Rattle.yaml_base.proofs.Common.{true≢false, ap, subst, sym, ◌∙◌, arith, or_parts, false≢true, Text, Rendered, TagDirective, Collection, collection_tag}
-use Rattle.yaml_base.proofs.Common.{Node, alias_node, scalar_node, sequence_node, mapping_node, Document, root_place, asks_flow}
-use Rattle.yaml_base.proofs.Common.{is_written_in_flow, has_no_nodes, has_no_pairs, Effective, is_written_as_nothing, directives_in_force}
-use Rattle.yaml_base.proofs.Common.{Tagging, Tree, scalar_tree, sequence_tree, mapping_tree, stands_at_margin, Line, lines_of, is_spaces, without_blank_lines}
-use Rattle.yaml_base.proofs.Common.{past_indentation, blanked, LinesReader, NodeKind, begins_sequence, begins_mapping, begins_text, kind_of_node, ReadsText}
-use Rattle.yaml_base.proofs.Common.{node_by_kind}
-use Rattle.yaml_base.proofs.Common.{node_at, begins_properties, text_or_properties, node_read, Rules, no_properties}
+use Rattle.yaml_base.proofs.Common.{Node, alias_node, scalar_node, sequence_node, mapping_node, Document, root_place, asks_flow, is_written_in_flow}
+use Rattle.yaml_base.proofs.Common.{has_no_nodes, has_no_pairs, Effective, is_written_as_nothing, directives_in_force, Tagging, Tree, scalar_tree}
+use Rattle.yaml_base.proofs.Common.{sequence_tree, mapping_tree, stands_at_margin, Line, lines_of, is_spaces, without_blank_lines, past_indentation, blanked}
+use Rattle.yaml_base.proofs.Common.{LinesReader, NodeKind, begins_sequence, begins_mapping, begins_text, kind_of_node, ReadsText, node_by_kind, node_at}
 use Rattle.yaml_base.proofs.{stream_documents.StreamRoots.marker_cursor, stream_lines.StreamClosed.closed, stream_lines.StreamCuts.none_not_some}
-use Rattle.yaml_base.proofs.{stream_lines.StreamMarkerless.items_markerless, stream_lines.StreamMarkerless.pairs_markerless}
-use Rattle.yaml_base.proofs.{stream_nodes.StreamAgrees.node_tree}
-use Rattle.yaml_base.proofs.{stream_nodes.StreamCentral.items_block, stream_nodes.StreamCentral.pairs_block, stream_nodes.StreamItems.items_text}
-use Rattle.yaml_base.proofs.{stream_nodes.StreamItems.items_lay, stream_nodes.StreamPairReads.pairs_lay, stream_nodes.StreamPairs.pairs_text}
+use Rattle.yaml_base.proofs.{stream_nodes.StreamAgrees.node_tree, stream_nodes.StreamPairReads.pairs_lay, stream_nodes.StreamPairs.pairs_text}
+use Rattle.yaml_base.proofs.Common.{begins_properties, text_or_properties, node_read, Rules, no_properties}
+use Rattle.yaml_base.proofs.stream_lines.StreamMarkerless.{items_markerless, pairs_markerless}
+use Rattle.yaml_base.proofs.stream_nodes.StreamCentral.{items_block, pairs_block}
+use Rattle.yaml_base.proofs.stream_nodes.StreamItems.{items_text, items_lay}
 use Rattle.yaml_base.proofs.stream_documents.StreamRootLines.{FirstStands, Stood, begins_stands, block_stands}
 use Rattle.yaml_base.proofs.stream_documents.StreamRootsStand.{rules_of, root_cursor, render_root, is_leaf, PropertiesStand, RootStands}
 use Rattle.yaml_base.proofs.stream_nodes.StreamFits.{size, Opens, Fits, blanked_lines}
-use Rattle.yaml_base.proofs.stream_nodes.StreamNodesFit.{render_begun, BegunReads, Leaves, ItemLeaves, PairLeaves, Stands, node_fits}
-use Rattle.yaml_base.proofs.stream_nodes.StreamNodesFit.{items_fit, pairs_fit}
+use Rattle.yaml_base.proofs.stream_nodes.StreamNodesFit.{render_begun, BegunReads, Leaves, ItemLeaves, PairLeaves, Stands, node_fits, items_fit, pairs_fit}
 use Rattle.yaml_base.proofs.stream_nodes.StreamTexts.{node_own, items_own, pairs_own}
 
 -- Collections in blocks
@@ -35,7 +33,7 @@ block_stood (sequence_node start items) given s directives on_marker deep block 
     let rules : Rules = record { breaks12 = s.breaks12; directives = given } in
     let begun : Rendered = render_begun s directives start (root_cursor on_marker) in
     let asked : BegunReads rules s directives start (root_cursor on_marker) × ItemLeaves items rules s directives 0 = rw block at leaves in
-    let fit = items_fit items rules s directives 0 deep asked.1 in
+    let fit = items_fit rules s directives deep items 0 asked.1 in
     let some = not_empty s start (has_no_nodes items) block in
     let reads = items_block rules s directives items 0 fit some in
     rw block
@@ -46,7 +44,7 @@ block_stood (mapping_node start pairs) given s directives on_marker deep block l
     let rules : Rules = record { breaks12 = s.breaks12; directives = given } in
     let begun : Rendered = render_begun s directives start (root_cursor on_marker) in
     let asked : BegunReads rules s directives start (root_cursor on_marker) × PairLeaves pairs rules s directives 0 = rw block at leaves in
-    let fit = pairs_fit pairs rules s directives 0 deep asked.1 in
+    let fit = pairs_fit rules s directives deep pairs 0 asked.1 in
     let some = not_empty s start (has_no_pairs pairs) block in
     let reads = pairs_block rules s directives pairs 0 fit some in
     rw block
@@ -129,7 +127,7 @@ root_settled false = λ h. (refl, refl)
 pub root_fits : (s : Effective) (document : Document) (on_marker : Bool) → 2 ≤ s.indent → RootStands s document on_marker
     → Fits (rules_of s document) (size document.root) (render_root on_marker s document) (root_tree s document) root_place (root_cursor on_marker)
 root_fits s document on_marker deep root =
-    node_fits document.root (rules_of s document) s (directives_in_force document.start.directives) root_place (root_cursor on_marker) deep
+    node_fits (rules_of s document) s (directives_in_force document.start.directives) deep document.root root_place (root_cursor on_marker)
     (root_settled on_marker) root.leaves
 
 -- its lines are those of a root, where it isn't nothing on a line of its own

@@ -1,10 +1,9 @@
 -- A root that fits reads as its document's tree: on lines of its own, on the line of `---`, and below that line.
-use Rattle.yaml_base.proofs.Common.{arith, suc, zero, ℕ, ◌≤◌, if◌then◌else◌, None, Some, codes, Bool, false, true, List, [], ◌++◌, ◌∷◌, refl, ◌≡◌, ap, sym, ◌∙◌}
-use Rattle.yaml_base.proofs.Common.{false≢true, Cursor, Rendered, root_place, Tree, stands_at_margin, root_below, Line, lines_of, is_spaces}
-use Rattle.yaml_base.proofs.Common.{without_blank_lines, first_line_is_blank, past_indentation, blanked, LinesReader, NodeKind, begins_sequence, begins_mapping}
-use Rattle.yaml_base.proofs.Common.{begins_text}
-use Rattle.yaml_base.proofs.Common.{kind_of_node, ReadsText, node_by_kind, node_at, node_read, Rules, Properties}
+use Rattle.yaml_base.proofs.Common.{arith, suc, zero, ℕ, ◌≤◌, if◌then◌else◌, None, Some, codes, Bool, false, true, List, [], ◌++◌, ◌∷◌, refl, ◌≡◌, ap, sym}
+use Rattle.yaml_base.proofs.Common.{◌∙◌, false≢true, Cursor, Rendered, root_place, Tree, stands_at_margin, root_below, Line, lines_of, is_spaces}
+use Rattle.yaml_base.proofs.Common.{without_blank_lines, first_line_is_blank, past_indentation, blanked, LinesReader, NodeKind, begins_sequence}
 use Rattle.yaml_base.proofs.stream_lines.{StreamClosed.closed, StreamClosed.margin_cursor, StreamCuts.none_not_some}
+use Rattle.yaml_base.proofs.Common.{begins_mapping, begins_text, kind_of_node, ReadsText, node_by_kind, node_at, node_read, Rules, Properties}
 use Rattle.yaml_base.proofs.stream_nodes.StreamFits.{Opens, Fits, blanked_lines}
 use Rattle.yaml_base.specs.streams.StreamDocuments.{root_after_marker, root_with_marker}
 

@@ -1,22 +1,21 @@
 -- Each line of a collection in flow after its first is deeper than the column around.
 use Rattle.yaml_base.proofs.Common.{suc, ℕ, ◌≤◌, if◌then◌else◌, Option, None, Some, codes, Bool, false, true, ◌&&◌, List, [], ◌++◌, ◌∷◌, refl, ◌≡◌, ap, ◌∙◌}
-use Rattle.yaml_base.proofs.Common.{arith, and_parts, false≢true, list_any, Text, Cursor, Rendered, render_nothing, render_then}
-use Rattle.yaml_base.proofs.Common.{new_line, space_if, indicator, ScalarStyle, TagDirective, Scalar, Collection, scalar_tag, collection_tag, Node, alias_node}
-use Rattle.yaml_base.proofs.Common.{scalar_node, Nodes, sequence_node, Pairs, mapping_node, no_nodes, nodes_and, no_pairs, pairs_and, render_properties}
-use Rattle.yaml_base.proofs.Common.{render_alias, render_separation, render_body, choice_of, is_written_in_flow, Brackets, square, curly, empty_or_comma}
-use Rattle.yaml_base.proofs.Common.{render_end, entry_place, Role, as_item, as_key, as_value, Place, is_key, line_column, deeper, has_no_nodes, has_no_pairs}
-use Rattle.yaml_base.proofs.Common.{is_simple, is_simple_at, flow_break, opening_or_comma, render_flow_place, render_place, is_read_break, Effective}
-use Rattle.yaml_base.proofs.Common.{ends_white, has_clean_edges, is_tidy_style, is_tidy, name_read, is_break, nat_tests}
-use Rattle.yaml_base.proofs.{stream_flow.StreamPropertyWords.lead, stream_lines.StreamClosed.spaces_line, stream_lines.StreamLineLaws.OneLine}
-use Rattle.yaml_base.proofs.{stream_lines.StreamLineLaws.one_line_both, stream_lines.StreamTidyLaws.deep_lines_fewer, stream_nodes.StreamAliasFits.name_line}
-use Rattle.yaml_base.proofs.{stream_nodes.StreamBegun.lead_line, stream_nodes.StreamLeads.lead_rendered, stream_nodes.StreamLeads.tag_is_written}
-use Rattle.yaml_base.proofs.stream_nodes.StreamProperties.{IsNamed, name_letters}
+use Rattle.yaml_base.proofs.Common.{arith, and_parts, false≢true, list_any, Text, Cursor, Rendered, render_nothing, render_then, new_line, space_if, indicator}
+use Rattle.yaml_base.proofs.Common.{ScalarStyle, TagDirective, Scalar, Collection, scalar_tag, collection_tag, Node, alias_node, scalar_node, Nodes}
+use Rattle.yaml_base.proofs.Common.{sequence_node, Pairs, mapping_node, no_nodes, nodes_and, no_pairs, pairs_and, render_properties, render_alias}
+use Rattle.yaml_base.proofs.Common.{render_separation, render_body, choice_of, is_written_in_flow, Brackets, square, curly, empty_or_comma, render_end}
+use Rattle.yaml_base.proofs.Common.{entry_place, Role, as_item, as_key, as_value, Place, is_key, line_column, deeper, has_no_nodes, has_no_pairs, is_simple}
+use Rattle.yaml_base.proofs.Common.{is_simple_at, flow_break, opening_or_comma, render_flow_place, render_place, is_read_break, Effective, ends_white}
+use Rattle.yaml_base.proofs.stream_nodes.StreamStands.{tag_written, tag_meant, TagStands, NamesStand, AllNamesStand, PairsNamesStand, BodyStands, body_from}
+use Rattle.yaml_base.proofs.{stream_flow.StreamPropertyWords.lead, stream_lines.StreamClosed.spaces_line, stream_lines.StreamTidyLaws.deep_lines_fewer}
+use Rattle.yaml_base.proofs.{stream_nodes.StreamAliasFits.name_line, stream_nodes.StreamBegun.lead_line, stream_nodes.StreamLeads.lead_rendered}
+use Rattle.yaml_base.proofs.{stream_nodes.StreamLeads.tag_is_written, stream_nodes.StreamProperties.IsNamed, stream_nodes.StreamProperties.name_letters}
+use Rattle.yaml_base.proofs.Common.{has_clean_edges, is_tidy_style, is_tidy, name_read, is_break, nat_tests}
+use Rattle.yaml_base.proofs.stream_lines.StreamLineLaws.{OneLine, one_line_both, unbroken_line, break_line}
 use Rattle.yaml_base.proofs.stream_flow.StreamFlowScalars.{rules_of, is_flow_style, chosen_in_flow, separation_in_flow}
 use Rattle.yaml_base.proofs.stream_lines.StreamDeepBreaks.{Deep, deep_both, deep_line, deep_new_line, deep_tidy, ends_as_last, line_prefix, space_line}
-use Rattle.yaml_base.proofs.stream_nodes.StreamStands.{tag_written, tag_meant, TagStands, NamesStand, AllNamesStand, PairsNamesStand, BodyStands, body_from}
 use Rattle.yaml_base.proofs.stream_nodes.StreamStands.{BodiesHold, ItemsHold, PairsHold}
 use Rattle.yaml_base.proofs.stream_nodes.StreamTexts.{node_own, items_own, pairs_own}
-use Rattle.yaml_base.proofs.stream_lines.StreamLineLaws.{unbroken_line, break_line}
 
 -- Properties
 
@@ -146,60 +145,57 @@ collection_deep : (s : Effective) (own directives : List TagDirective) (count : 
 collection_deep s own directives count brackets anchor tag empty column cursor entries opening closing le named stands deep =
     grind (arith, deep_both, deep_line, properties_line, end_deep)
 
--- each node in flow at a column, the items of each sequence and the pairs of each mapping have lines as deep as that column
-mutual
-  node_deep : (n : Node) (s : Effective) (own directives : List TagDirective) (count column : ℕ) (role : Role) (cursor : Cursor) → count ≤ column
-      → NamesStand s.portable own s.canonical directives n → BodiesHold (BodyStands s) n s directives (entry_place true role column) cursor
-      → Deep s.breaks12 count (node_own n s directives (entry_place true role column) cursor).text
-  node_deep (alias_node name) s own directives count column role cursor le names bodies =
-      alias_deep s count name (is_simple_at (entry_place true role column) s.canonical directives (alias_node name)) cursor names
-  node_deep (scalar_node content) s own directives count column role cursor le names bodies =
-      scalar_deep s own directives count column role cursor content le names bodies
-  node_deep (sequence_node start items) s own directives count column role cursor le names bodies =
-      let begun = render_properties s.portable directives start.anchor (collection_tag s.canonical start) false cursor in
-      collection_deep s own directives count square start.anchor (collection_tag s.canonical start) (has_no_nodes items) (Some column) cursor
-      (items_own items s directives true (deeper s.indent (Some column)) begun.cursor) refl refl (λ h. le)
-      names.0 names.1
-      (items_deep items s own directives count (deeper s.indent (Some column)) begun.cursor (omega arith) names.2 bodies)
-  node_deep (mapping_node start pairs) s own directives count column role cursor le names bodies =
-      let begun = render_properties s.portable directives start.anchor (collection_tag s.canonical start) false cursor in
-      collection_deep s own directives count curly start.anchor (collection_tag s.canonical start) (has_no_pairs pairs) (Some column) cursor
-      (pairs_own pairs s directives true (deeper s.indent (Some column)) begun.cursor) refl refl (λ h. le)
-      names.0 names.1
-      (pairs_deep pairs s own directives count (deeper s.indent (Some column)) begun.cursor (omega arith) names.2 bodies)
+module _ (s : Effective) (own directives : List TagDirective) (count : ℕ) where
+  -- each node in flow at a column, the items of each sequence and the pairs of each mapping have lines as deep as that column
+  mutual
+    node_deep : (n : Node) (column : ℕ) (role : Role) (cursor : Cursor) → count ≤ column → NamesStand s.portable own s.canonical directives n
+        → BodiesHold (BodyStands s) n s directives (entry_place true role column) cursor
+        → Deep s.breaks12 count (node_own n s directives (entry_place true role column) cursor).text
+    node_deep (alias_node name) column role cursor le names bodies =
+        alias_deep s count name (is_simple_at (entry_place true role column) s.canonical directives (alias_node name)) cursor names
+    node_deep (scalar_node content) column role cursor le names bodies =
+        scalar_deep s own directives count column role cursor content le names bodies
+    node_deep (sequence_node start items) column role cursor le names bodies =
+        let begun = render_properties s.portable directives start.anchor (collection_tag s.canonical start) false cursor in
+        collection_deep s own directives count square start.anchor (collection_tag s.canonical start) (has_no_nodes items) (Some column) cursor
+        (items_own items s directives true (deeper s.indent (Some column)) begun.cursor) refl refl (λ h. le) names.0 names.1
+        (items_deep items (deeper s.indent (Some column)) begun.cursor (omega arith) names.2 bodies)
+    node_deep (mapping_node start pairs) column role cursor le names bodies =
+        let begun = render_properties s.portable directives start.anchor (collection_tag s.canonical start) false cursor in
+        collection_deep s own directives count curly start.anchor (collection_tag s.canonical start) (has_no_pairs pairs) (Some column) cursor
+        (pairs_own pairs s directives true (deeper s.indent (Some column)) begun.cursor) refl refl (λ h. le) names.0 names.1
+        (pairs_deep pairs (deeper s.indent (Some column)) begun.cursor (omega arith) names.2 bodies)
 
-  pub items_deep : (items : Nodes) (s : Effective) (own directives : List TagDirective) (count column : ℕ) (cursor : Cursor) → count ≤ column
-      → AllNamesStand s.portable own s.canonical directives items → ItemsHold (BodyStands s) items s directives true column cursor
-      → Deep s.breaks12 count (items_own items s directives true column cursor).text
-  items_deep no_nodes s own directives count column cursor le names bodies = refl
-  items_deep (nodes_and items last) s own directives count column cursor le names bodies =
-      let role = as_item (has_no_nodes items) in
-      let place = entry_place true role column in
-      let before = items_own items s directives true column cursor in
-      let symbols = render_place s place false before.cursor in
-      let rendered = node_own last s directives place symbols.cursor in
-      deep_both s.breaks12 count before.text (symbols.text ++ rendered.text) (items_deep items s own directives count column cursor le names.0 bodies.0)
-      (deep_both s.breaks12 count symbols.text rendered.text (place_deep s count column role false before.cursor le)
-      (node_deep last s own directives count column role symbols.cursor le names.1 bodies.1))
+    pub items_deep : (items : Nodes) (column : ℕ) (cursor : Cursor) → count ≤ column → AllNamesStand s.portable own s.canonical directives items
+        → ItemsHold (BodyStands s) items s directives true column cursor → Deep s.breaks12 count (items_own items s directives true column cursor).text
+    items_deep no_nodes column cursor le names bodies = refl
+    items_deep (nodes_and items last) column cursor le names bodies =
+        let role = as_item (has_no_nodes items) in
+        let place = entry_place true role column in
+        let before = items_own items s directives true column cursor in
+        let symbols = render_place s place false before.cursor in
+        let rendered = node_own last s directives place symbols.cursor in
+        deep_both s.breaks12 count before.text (symbols.text ++ rendered.text) (items_deep items column cursor le names.0 bodies.0)
+        (deep_both s.breaks12 count symbols.text rendered.text (place_deep s count column role false before.cursor le)
+        (node_deep last column role symbols.cursor le names.1 bodies.1))
 
-  pub pairs_deep : (pairs : Pairs) (s : Effective) (own directives : List TagDirective) (count column : ℕ) (cursor : Cursor) → count ≤ column
-      → PairsNamesStand s.portable own s.canonical directives pairs → PairsHold (BodyStands s) pairs s directives true column cursor
-      → Deep s.breaks12 count (pairs_own pairs s directives true column cursor).text
-  pairs_deep no_pairs s own directives count column cursor le names bodies = refl
-  pairs_deep (pairs_and pairs key value) s own directives count column cursor le names bodies =
-      let key_role = as_key (has_no_pairs pairs) in
-      let value_role = as_value (is_simple s.canonical directives key) in
-      let before = pairs_own pairs s directives true column cursor in
-      let symbols = render_place s (entry_place true key_role column) (is_simple s.canonical directives key) before.cursor in
-      let key_rendered = node_own key s directives (entry_place true key_role column) symbols.cursor in
-      let value_indicators = render_place s (entry_place true value_role column) false key_rendered.cursor in
-      let value_rendered = node_own value s directives (entry_place true value_role column) value_indicators.cursor in
-      deep_both s.breaks12 count (before.text ++ (symbols.text ++ key_rendered.text)) (value_indicators.text ++ value_rendered.text)
-      (deep_both s.breaks12 count before.text (symbols.text ++ key_rendered.text) (pairs_deep pairs s own directives count column cursor le names.0 bodies.0)
-      (deep_both s.breaks12 count symbols.text key_rendered.text (place_deep s count column key_role (is_simple s.canonical directives key) before.cursor le)
-      (node_deep key s own directives count column key_role symbols.cursor le names.1 bodies.1)))
-      (deep_both s.breaks12 count value_indicators.text value_rendered.text (place_deep s count column value_role false key_rendered.cursor le)
-      (node_deep value s own directives count column value_role value_indicators.cursor le names.2 bodies.2))
+    pub pairs_deep : (pairs : Pairs) (column : ℕ) (cursor : Cursor) → count ≤ column → PairsNamesStand s.portable own s.canonical directives pairs
+        → PairsHold (BodyStands s) pairs s directives true column cursor → Deep s.breaks12 count (pairs_own pairs s directives true column cursor).text
+    pairs_deep no_pairs column cursor le names bodies = refl
+    pairs_deep (pairs_and pairs key value) column cursor le names bodies =
+        let key_role = as_key (has_no_pairs pairs) in
+        let value_role = as_value (is_simple s.canonical directives key) in
+        let before = pairs_own pairs s directives true column cursor in
+        let symbols = render_place s (entry_place true key_role column) (is_simple s.canonical directives key) before.cursor in
+        let key_rendered = node_own key s directives (entry_place true key_role column) symbols.cursor in
+        let value_indicators = render_place s (entry_place true value_role column) false key_rendered.cursor in
+        let value_rendered = node_own value s directives (entry_place true value_role column) value_indicators.cursor in
+        deep_both s.breaks12 count (before.text ++ (symbols.text ++ key_rendered.text)) (value_indicators.text ++ value_rendered.text)
+        (deep_both s.breaks12 count before.text (symbols.text ++ key_rendered.text) (pairs_deep pairs column cursor le names.0 bodies.0)
+        (deep_both s.breaks12 count symbols.text key_rendered.text (place_deep s count column key_role (is_simple s.canonical directives key) before.cursor le)
+        (node_deep key column key_role symbols.cursor le names.1 bodies.1)))
+        (deep_both s.breaks12 count value_indicators.text value_rendered.text (place_deep s count column value_role false key_rendered.cursor le)
+        (node_deep value column value_role value_indicators.cursor le names.2 bodies.2))
 
 -- Collections in a block
 
@@ -212,7 +208,7 @@ pub sequence_deep : (s : Effective) (own directives : List TagDirective) (count 
 sequence_deep s own directives count place cursor start items le ends in_flow names bodies =
     let begun = render_properties s.portable directives start.anchor (collection_tag s.canonical start) false cursor in
     rw in_flow (collection_deep s own _ count square _ _ (has_no_nodes items) _ cursor _ refl refl ends names.0 names.1
-    (items_deep items s own _ count _ _ le names.2 (rw in_flow at bodies)))
+    (items_deep s own _ count items _ _ le names.2 (rw in_flow at bodies)))
 
 -- and such a mapping
 pub mapping_deep : (s : Effective) (own directives : List TagDirective) (count : ℕ) (place : Place) (cursor : Cursor) (start : Collection) (pairs : Pairs)
@@ -223,4 +219,4 @@ pub mapping_deep : (s : Effective) (own directives : List TagDirective) (count :
 mapping_deep s own directives count place cursor start pairs le ends in_flow names bodies =
     let begun = render_properties s.portable directives start.anchor (collection_tag s.canonical start) false cursor in
     rw in_flow (collection_deep s own _ count curly _ _ (has_no_pairs pairs) _ cursor _ refl refl ends names.0 names.1
-    (pairs_deep pairs s own _ count _ _ le names.2 (rw in_flow at bodies)))
+    (pairs_deep s own _ count pairs _ _ le names.2 (rw in_flow at bodies)))

@@ -1,27 +1,23 @@
 -- A collection in flow fits where it stands in a block.
-use Rattle.yaml_base.proofs.Common.{suc, ℕ, ◌≤◌, if◌then◌else◌, Option, None, Some, Bool, false, true, List, [], ◌++◌, ◌∷◌, refl}
-use Rattle.yaml_base.proofs.Common.{◌≡◌, append_assoc, ap, sym, ◌∙◌, arith, false≢true, list_all, Text, line_feed, Cursor, Rendered}
-use Rattle.yaml_base.proofs.Common.{space_if, TagDirective, Collection, collection_tag, alias_node, scalar_node, sequence_node, mapping_node}
-use Rattle.yaml_base.proofs.Common.{Place, line_column, deeper, is_read_break, Effective, is_space_or_break, Tree}
-use Rattle.yaml_base.proofs.Common.{Line, prepend_to_first_line, prepend_character, lines_of, text_of_lines, belongs_to_entry, all_deeper}
-use Rattle.yaml_base.proofs.Common.{kind_of_text, text_by_kind, text_read, kind_of_node, begins_properties, text_or_properties, Rules, Properties}
-use Rattle.yaml_base.proofs.{stream_flow.StreamFlowDeep.sequence_deep, stream_flow.StreamFlowDeep.mapping_deep, stream_flow.StreamFlowKinds.KeysFit}
-use Rattle.yaml_base.proofs.{stream_flow.StreamFlowScalars.rules_of, stream_flow.StreamFlowWords.Given, stream_flow.StreamPropertyWords.lead}
-use Rattle.yaml_base.proofs.{stream_lines.StreamClosed.closed, stream_lines.StreamClosed.lines_behind, stream_lines.StreamClosed.after_line}
-use Rattle.yaml_base.proofs.{stream_lines.StreamCuts.none_not_some, stream_lines.StreamDeepBreaks.Deep, stream_lines.StreamDeepBreaks.space_line}
-use Rattle.yaml_base.proofs.{stream_lines.StreamDeepBreaks.deep_inside, stream_lines.StreamInside.AllInside, stream_lines.StreamLineLaws.is_closed}
-use Rattle.yaml_base.proofs.{stream_lines.StreamLineLaws.OneLine, stream_lines.StreamLineLaws.text_of_lines_of, stream_lines.StreamTidyLaws.lines_after_first}
-use Rattle.yaml_base.proofs.{stream_nodes.StreamAgrees.node_tree, stream_nodes.StreamBegun.lead_line, stream_nodes.StreamBlocks.below_ends}
-use Rattle.yaml_base.proofs.{stream_nodes.StreamFits.Fits, stream_nodes.StreamLeads.tag_is_written, stream_nodes.StreamLeafFits.TextReads}
+use Rattle.yaml_base.proofs.Common.{suc, ℕ, ◌≤◌, if◌then◌else◌, Option, None, Some, Bool, false, true, List, [], ◌++◌, ◌∷◌, refl, ◌≡◌, append_assoc, ap, sym}
+use Rattle.yaml_base.proofs.Common.{◌∙◌, arith, false≢true, list_all, Text, line_feed, Cursor, Rendered, space_if, TagDirective, Collection, collection_tag}
+use Rattle.yaml_base.proofs.Common.{alias_node, scalar_node, sequence_node, mapping_node, Place, line_column, deeper, is_read_break, Effective}
+use Rattle.yaml_base.proofs.Common.{is_space_or_break, Tree, Line, prepend_to_first_line, prepend_character, lines_of, text_of_lines, belongs_to_entry}
+use Rattle.yaml_base.proofs.Common.{all_deeper, kind_of_text, text_by_kind, text_read, kind_of_node, begins_properties, text_or_properties, Rules, Properties}
+use Rattle.yaml_base.proofs.{Common.Node, stream_flow.StreamFlowKinds.KeysFit, stream_flow.StreamFlowScalars.rules_of, stream_flow.StreamFlowWords.Given}
+use Rattle.yaml_base.proofs.{stream_flow.StreamPropertyWords.lead, stream_lines.StreamCuts.none_not_some, stream_lines.StreamInside.AllInside}
+use Rattle.yaml_base.proofs.{stream_lines.StreamTidyLaws.lines_after_first, stream_nodes.StreamAgrees.node_tree, stream_nodes.StreamBegun.lead_line}
+use Rattle.yaml_base.proofs.{stream_nodes.StreamBlocks.below_ends, stream_nodes.StreamFits.Fits, stream_nodes.StreamLeafFits.TextReads}
 use Rattle.yaml_base.proofs.{stream_nodes.StreamLeafFits.text_fits, stream_nodes.StreamLeaves.block_place, stream_nodes.StreamLeaves.FlowsFit}
-use Rattle.yaml_base.proofs.{stream_nodes.StreamNodesFit.LeafFits, stream_nodes.StreamOwnTexts.deeper_all, stream_nodes.StreamOwnTexts.parsed_reads}
-use Rattle.yaml_base.proofs.{stream_nodes.StreamOwnTexts.headed, stream_nodes.StreamTexts.node_own}
-use Rattle.yaml_base.proofs.stream_nodes.StreamProperties.{IsNamed}
+use Rattle.yaml_base.proofs.{stream_nodes.StreamNodesFit.LeafFits, stream_nodes.StreamTexts.node_own, stream_nodes.StreamProperties.IsNamed}
+use Rattle.yaml_base.proofs.stream_flow.StreamFlowDeep.{sequence_deep, mapping_deep}
+use Rattle.yaml_base.proofs.stream_lines.StreamClosed.{closed, lines_behind, after_line}
+use Rattle.yaml_base.proofs.stream_lines.StreamDeepBreaks.{Deep, space_line, deep_inside}
+use Rattle.yaml_base.proofs.stream_lines.StreamLineLaws.{is_closed, OneLine, text_of_lines_of}
+use Rattle.yaml_base.proofs.stream_nodes.StreamLeads.{tag_is_written, before_count, before_spaces, before_some}
+use Rattle.yaml_base.proofs.stream_nodes.StreamOwnTexts.{deeper_all, parsed_reads, headed, own_shows}
 use Rattle.yaml_base.proofs.stream_flow.StreamFlowReads.{FlowContent, content_read, sequence_reads, mapping_reads, FlowReads}
 use Rattle.yaml_base.proofs.stream_nodes.StreamStands.{tag_written, tag_meant, TagStands}
-use Rattle.yaml_base.proofs.Common.{Node}
-use Rattle.yaml_base.proofs.stream_nodes.StreamLeads.{before_count, before_spaces, before_some}
-use Rattle.yaml_base.proofs.stream_nodes.StreamOwnTexts.{own_shows}
 
 -- Lines
 

@@ -1,23 +1,20 @@
 -- Each kind of node that stands in flow takes the reader of flow collections to its place with its tree, where what it holds does.
-use Rattle.yaml_base.proofs.Common.{arith, ℕ, if◌then◌else◌, Option, None, Some, Bool, false, not, true, ◌&&◌, List, [], ◌++◌, ◌∷◌, refl, ◌≡◌}
-use Rattle.yaml_base.proofs.Common.{true≢false, append-nil, append_assoc, ap, sym, ◌∙◌, false≢true, Text, space, Cursor, Rendered, space_if, TagDirective}
-use Rattle.yaml_base.proofs.Common.{Scalar, Collection, scalar_tag, collection_tag, Node, alias_node, scalar_node, Nodes, sequence_node, Pairs, mapping_node}
-use Rattle.yaml_base.proofs.Common.{no_nodes, nodes_and, no_pairs, pairs_and, render_properties, render_alias, render_separation, render_body, choice_of}
-use Rattle.yaml_base.proofs.Common.{square, curly, render_end, entry_place, Role, is_key, deeper, is_simple, Effective, is_plain, Tree, alias_tree, and-false}
-use Rattle.yaml_base.proofs.Common.{sequence_tree, mapping_tree, no_trees, no_tree_pairs, is_alias, is_key_text, no_key, key_held, OpenFlow, in_sequence}
-use Rattle.yaml_base.proofs.Common.{in_mapping, with_tree, level_opened, Rules}
-use Rattle.yaml_base.proofs.Common.{name_read, begins_bracket, class_of}
-use Rattle.yaml_base.proofs.stream_flow.{StreamPropertyWords.lead, StreamTakes.takes_both, StreamTakes.takes_simple_key}
+use Rattle.yaml_base.proofs.Common.{arith, ℕ, if◌then◌else◌, Option, None, Some, Bool, false, not, true, ◌&&◌, List, [], ◌++◌, ◌∷◌, refl, ◌≡◌, true≢false}
+use Rattle.yaml_base.proofs.Common.{append-nil, append_assoc, ap, sym, ◌∙◌, false≢true, Text, space, Cursor, Rendered, space_if, TagDirective, Scalar}
+use Rattle.yaml_base.proofs.Common.{Collection, scalar_tag, collection_tag, Node, alias_node, scalar_node, Nodes, sequence_node, Pairs, mapping_node, no_nodes}
+use Rattle.yaml_base.proofs.Common.{nodes_and, no_pairs, pairs_and, render_properties, render_alias, render_separation, render_body, choice_of, square, curly}
+use Rattle.yaml_base.proofs.Common.{render_end, entry_place, Role, is_key, deeper, is_simple, Effective, is_plain, Tree, alias_tree, and-false, sequence_tree}
+use Rattle.yaml_base.proofs.Common.{mapping_tree, no_trees, no_tree_pairs, is_alias, is_key_text, no_key, key_held, OpenFlow, in_sequence, in_mapping}
+use Rattle.yaml_base.proofs.stream_flow.{StreamPropertyWords.lead, StreamTakes.takes_both, StreamTakes.takes_simple_key, StreamSays.class_fixed}
+use Rattle.yaml_base.proofs.Common.{with_tree, level_opened, Rules, name_read, begins_bracket, class_of}
 use Rattle.yaml_base.proofs.stream_flow.StreamWhites.{spaces_end_word, alias_blank}
 use Rattle.yaml_base.proofs.stream_flow.StreamFlowScalars.{rules_of, chosen_in_flow, bare_not_plain, body_flow_word, body_ended, scalar_whole}
-use Rattle.yaml_base.proofs.stream_flow.StreamFlowTakes.{FlowNode, FlowEntries, takes_word, takes_collection, opens_more, FlowEnd, sequence_ends}
-use Rattle.yaml_base.proofs.stream_flow.StreamFlowTakes.{mapping_ends}
+use Rattle.yaml_base.proofs.stream_flow.StreamFlowTakes.{FlowNode, FlowEntries, takes_word, takes_collection, opens_more, FlowEnd, sequence_ends, mapping_ends}
 use Rattle.yaml_base.proofs.stream_flow.StreamFlowWords.{opens_inside, FlowWord, Given, lead_opens, alias_flow_word, empty_sequence_word, empty_mapping_word}
 use Rattle.yaml_base.proofs.stream_nodes.StreamAgrees.{node_tree, nodes_tree, pairs_tree}
 use Rattle.yaml_base.proofs.stream_nodes.StreamLeads.{EndedCollection, lead_rendered, tag_is_written}
 use Rattle.yaml_base.proofs.stream_nodes.StreamStands.{tag_written, tag_meant, NamesStand, BodyStands, body_from, BodiesHold}
 use Rattle.yaml_base.proofs.stream_nodes.StreamTexts.{node_own, items_own, pairs_own}
-use Rattle.yaml_base.proofs.stream_flow.StreamSays.{class_fixed}
 
 -- the space after an alias that is a simple key
 abbrev pub alias_space : Node → Text

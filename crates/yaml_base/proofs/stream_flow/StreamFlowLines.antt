@@ -1,12 +1,11 @@
 -- A line that begins with the bracket of a collection in flow, after its properties, holds no simple key, so it begins no mapping
 -- in a block.
 use Rattle.yaml_base.proofs.Common.{nat_tests, arith, ℕ, if◌then◌else◌, ◌==◌, Option, None, Bool, false, true, [], ◌++◌, ◌∷◌, refl, ◌≡◌, append_assoc, ap, ◌∙◌}
-use Rattle.yaml_base.proofs.Common.{and_parts, false≢true, Text, plain, read_plain, ParsedTag, begins_with_indicator, begins_text, kind_of_node}
-use Rattle.yaml_base.proofs.Common.{Rules, Properties, scalar_of_style, empty_sequence, empty_mapping, a_scalar, word_by_kind, word_after}
+use Rattle.yaml_base.proofs.Common.{and_parts, false≢true, Text, plain, read_plain, ParsedTag, begins_with_indicator, begins_text, kind_of_node, Rules}
 use Rattle.yaml_base.proofs.{stream_flow.StreamPropertyWords.lead, stream_nodes.StreamOwnTexts.own_kind, stream_nodes.StreamProperties.begins_content}
-use Rattle.yaml_base.proofs.stream_flow.StreamFlowWords.{opens_inside, Given}
-use Rattle.yaml_base.proofs.{stream_keys.StreamKeys.none_parsed, stream_keys.StreamKeyReads.lead_no_text}
-use Rattle.yaml_base.proofs.stream_keys.StreamNoKeys.{KeyNowhere, nowhere_alone}
+use Rattle.yaml_base.proofs.{stream_flow.StreamFlowWords.opens_inside, stream_flow.StreamFlowWords.Given, stream_keys.StreamKeys.none_parsed}
+use Rattle.yaml_base.proofs.{stream_keys.StreamKeyReads.lead_no_text, stream_keys.StreamNoKeys.KeyNowhere, stream_keys.StreamNoKeys.nowhere_alone}
+use Rattle.yaml_base.proofs.Common.{Properties, scalar_of_style, empty_sequence, empty_mapping, a_scalar, word_by_kind, word_after}
 
 -- the bracket that begins a sequence, and the one that begins a mapping
 abbrev pub opening : (is_sequence : Bool) → ℕ

@@ -98,44 +98,40 @@ pairs_step s own directives (pairs_and pairs prev_key prev_value) key value colu
 
 -- Nodes
 
--- each node, the items of each sequence and the pairs of each mapping
-mutual
-  pub node_flow : (n : Node) (s : Effective) (own directives : List TagDirective) → KeysFit s own directives → (role : Role) (column : ℕ) (cursor : Cursor)
-      → NamesStand s.portable own s.canonical directives n → BodiesHold (BodyStands s) n s directives (entry_place true role column) cursor
-      → FlowNode (rules_of s own) (is_key role && is_simple s.canonical directives n) cursor (node_own n s directives (entry_place true role column) cursor)
-      (node_tree n s directives (entry_place true role 0))
-  node_flow (alias_node name) s own directives fits role column cursor names bodies =
-      alias_step s own directives fits role column cursor name names (is_key role && is_simple s.canonical directives (alias_node name)) refl
-  node_flow (scalar_node content) s own directives fits role column cursor names bodies =
-      scalar_step s own directives fits role column cursor content names bodies
-  node_flow (sequence_node start items) s own directives fits role column cursor names bodies =
-      sequence_step s own directives fits role column cursor start items names bodies
-      (items_flow items s own directives fits (deeper s.indent (Some column))
-      (render_properties s.portable directives start.anchor (collection_tag s.canonical start) false cursor).cursor names.2 bodies)
-  node_flow (mapping_node start pairs) s own directives fits role column cursor names bodies =
-      mapping_step s own directives fits role column cursor start pairs names bodies
-      (pairs_flow pairs s own directives fits (deeper s.indent (Some column))
-      (render_properties s.portable directives start.anchor (collection_tag s.canonical start) false cursor).cursor names.2 bodies)
+module _ (s : Effective) (own directives : List TagDirective) (fits : KeysFit s own directives ) where
+  -- each node, the items of each sequence and the pairs of each mapping
+  mutual
+    pub node_flow : (n : Node) (role : Role) (column : ℕ) (cursor : Cursor) → NamesStand s.portable own s.canonical directives n
+        → BodiesHold (BodyStands s) n s directives (entry_place true role column) cursor
+        → FlowNode (rules_of s own) (is_key role && is_simple s.canonical directives n) cursor (node_own n s directives (entry_place true role column) cursor)
+        (node_tree n s directives (entry_place true role 0))
+    node_flow (alias_node name) role column cursor names bodies =
+        alias_step s own directives fits role column cursor name names (is_key role && is_simple s.canonical directives (alias_node name)) refl
+    node_flow (scalar_node content) role column cursor names bodies =
+        scalar_step s own directives fits role column cursor content names bodies
+    node_flow (sequence_node start items) role column cursor names bodies =
+        sequence_step s own directives fits role column cursor start items names bodies (items_flow items (deeper s.indent (Some column))
+        (render_properties s.portable directives start.anchor (collection_tag s.canonical start) false cursor).cursor names.2 bodies)
+    node_flow (mapping_node start pairs) role column cursor names bodies =
+        mapping_step s own directives fits role column cursor start pairs names bodies (pairs_flow pairs (deeper s.indent (Some column))
+        (render_properties s.portable directives start.anchor (collection_tag s.canonical start) false cursor).cursor names.2 bodies)
 
-  pub items_flow : (items : Nodes) (s : Effective) (own directives : List TagDirective) → KeysFit s own directives → (column : ℕ) (cursor : Cursor)
-      → AllNamesStand s.portable own s.canonical directives items → ItemsHold (BodyStands s) items s directives true column cursor
-      → ItemsTake s own directives items column cursor
-  items_flow no_nodes s own directives fits column cursor names bodies = tt
-  items_flow (nodes_and items last) s own directives fits column cursor names bodies =
-      items_step s own directives items last column cursor (items_flow items s own directives fits column cursor names.0 bodies.0)
-      (node_flow last s own directives fits (as_item (has_no_nodes items)) column
-      (render_place s (entry_place true (as_item (has_no_nodes items)) column) false
-      (items_own items s directives true column cursor).cursor).cursor names.1 bodies.1)
+    pub items_flow : (items : Nodes) (column : ℕ) (cursor : Cursor) → AllNamesStand s.portable own s.canonical directives items
+        → ItemsHold (BodyStands s) items s directives true column cursor → ItemsTake s own directives items column cursor
+    items_flow no_nodes column cursor names bodies = tt
+    items_flow (nodes_and items last) column cursor names bodies =
+        items_step s own directives items last column cursor (items_flow items column cursor names.0 bodies.0)
+        (node_flow last (as_item (has_no_nodes items)) column (render_place s (entry_place true (as_item (has_no_nodes items)) column) false
+        (items_own items s directives true column cursor).cursor).cursor names.1 bodies.1)
 
-  pub pairs_flow : (pairs : Pairs) (s : Effective) (own directives : List TagDirective) → KeysFit s own directives → (column : ℕ) (cursor : Cursor)
-      → PairsNamesStand s.portable own s.canonical directives pairs → PairsHold (BodyStands s) pairs s directives true column cursor
-      → PairsTake s own directives pairs column cursor
-  pairs_flow no_pairs s own directives fits column cursor names bodies = tt
-  pairs_flow (pairs_and pairs key value) s own directives fits column cursor names bodies =
-      let key_place = entry_place true (as_key (has_no_pairs pairs)) column in
-      let symbols = render_place s key_place (is_simple s.canonical directives key) (pairs_own pairs s directives true column cursor).cursor in
-      pairs_step s own directives pairs key value column cursor (pairs_flow pairs s own directives fits column cursor names.0 bodies.0)
-      (node_flow key s own directives fits (as_key (has_no_pairs pairs)) column symbols.cursor names.1 bodies.1)
-      (node_flow value s own directives fits (as_value (is_simple s.canonical directives key)) column
-      (render_place s (entry_place true (as_value (is_simple s.canonical directives key)) column) false
-      (node_own key s directives key_place symbols.cursor).cursor).cursor names.2 bodies.2)
+    pub pairs_flow : (pairs : Pairs) (column : ℕ) (cursor : Cursor) → PairsNamesStand s.portable own s.canonical directives pairs
+        → PairsHold (BodyStands s) pairs s directives true column cursor → PairsTake s own directives pairs column cursor
+    pairs_flow no_pairs column cursor names bodies = tt
+    pairs_flow (pairs_and pairs key value) column cursor names bodies =
+        let key_place = entry_place true (as_key (has_no_pairs pairs)) column in
+        let symbols = render_place s key_place (is_simple s.canonical directives key) (pairs_own pairs s directives true column cursor).cursor in
+        pairs_step s own directives pairs key value column cursor (pairs_flow pairs column cursor names.0 bodies.0)
+        (node_flow key (as_key (has_no_pairs pairs)) column symbols.cursor names.1 bodies.1)
+        (node_flow value (as_value (is_simple s.canonical directives key)) column
+        (render_place s (entry_place true (as_value (is_simple s.canonical directives key)) column) false
+        (node_own key s directives key_place symbols.cursor).cursor).cursor names.2 bodies.2)

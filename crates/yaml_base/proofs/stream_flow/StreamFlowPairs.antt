@@ -2,15 +2,14 @@
 use Rattle.yaml_base.proofs.Common.{ℕ, ◌==◌, Option, None, Bool, false, true, ◌||◌, List, [], ◌++◌, ◌∷◌, refl, ◌≡◌, append_assoc, ap, sym, ◌∙◌, and_parts}
 use Rattle.yaml_base.proofs.Common.{Text, line_feed, space, Cursor, Rendered, space_if, as_value, flow_break, key_indicator, render_flow_place, Effective}
 use Rattle.yaml_base.proofs.Common.{Tree, Trees, TreePairs, trees_and, tree_pairs_and, no_key, key_due, key_held, OpenFlow, in_sequence, in_mapping}
-use Rattle.yaml_base.proofs.Common.{entry_awaited, node_awaited, comma_awaited, within, level_opened, Rules, is_flow_indicator, class_of, arith}
-use Rattle.yaml_base.proofs.stream_flow.{StreamFlowWords.opens_inside, StreamPlainWords.ends_word, StreamTakes.TakesBytes, StreamTakes.takes_both}
-use Rattle.yaml_base.proofs.stream_flow.{StreamWhites.line_feed_class}
-use Rattle.yaml_base.proofs.stream_flow.StreamFlowTakes.{FlowNode, FlowEntries, opens_more, white_opens}
 use Rattle.yaml_base.proofs.stream_flow.StreamPasses.{passes_both, passes_then, takes_text, passes_comma, passes_colon, passes_late_colon, passes_question}
 use Rattle.yaml_base.proofs.stream_flow.StreamPasses.{passes_node_space, is_white_text, passes_entry_white, passes_colon_white, flow_break_white, space_white}
+use Rattle.yaml_base.proofs.{stream_flow.StreamFlowWords.opens_inside, stream_flow.StreamPlainWords.ends_word, stream_flow.StreamTakes.TakesBytes}
+use Rattle.yaml_base.proofs.{stream_flow.StreamTakes.takes_both, stream_flow.StreamWhites.line_feed_class, stream_nodes.StreamLeads.EndedCollection}
+use Rattle.yaml_base.proofs.Common.{entry_awaited, node_awaited, comma_awaited, within, level_opened, Rules, is_flow_indicator, class_of, arith}
+use Rattle.yaml_base.proofs.stream_flow.StreamFlowTakes.{FlowNode, FlowEntries, opens_more, white_opens}
 use Rattle.yaml_base.proofs.stream_flow.StreamPasses.{white_both, WhiteThen, late_colon, white_either}
 use Rattle.yaml_base.proofs.stream_flow.StreamSays.{EndsWord, indicator_ends, class_fixed}
-use Rattle.yaml_base.proofs.stream_nodes.StreamLeads.{EndedCollection}
 
 -- what stands for one entry after `[`, `{` or a comma, and what it does to the collection's level
 pub record FlowEntry (rules : Rules) (text : Text) (from to : OpenFlow) : Type 0 where

@@ -4,13 +4,13 @@ use Rattle.yaml_base.proofs.Common.{append_assoc, ap, sym, ◌∙◌, and_parts,
 use Rattle.yaml_base.proofs.Common.{TagDirective, Collection, collection_tag, Nodes, sequence_node, Pairs, mapping_node, no_nodes, nodes_and, no_pairs}
 use Rattle.yaml_base.proofs.Common.{pairs_and, render_properties, is_written_in_flow, Brackets, square, curly, render_end, Place, is_undented, line_column}
 use Rattle.yaml_base.proofs.Common.{deeper, has_no_nodes, has_no_pairs, Effective, is_read_white, is_space_or_break, ParsedTag, Tree, sequence_tree}
-use Rattle.yaml_base.proofs.Common.{mapping_tree, and-false}
-use Rattle.yaml_base.proofs.Common.{no_trees, no_tree_pairs, no_key, OpenFlow, in_sequence, in_mapping, Awaited, collection_awaited, entry_awaited}
-use Rattle.yaml_base.proofs.Common.{comma_awaited, FlowReading, done, within, word_step, level_opened, opened, flow_step, tree_at_end, flow_read}
-use Rattle.yaml_base.proofs.Common.{prepend_to_trimmed, trimmed, kind_of_text, text_by_kind, begins_text, kind_of_node, Rules, Properties, word_after, symbol}
-use Rattle.yaml_base.proofs.Common.{free, FlowStep, is_flow_indicator, begins_bracket, class_of, begun_token, bracket_step, is_pair, flow_tokens}
-use Rattle.yaml_base.{proofs.stream_flow.StreamFlowScalars.rules_of, proofs.stream_flow.StreamPropertyWords.lead, proofs.stream_lines.StreamLineLaws.OneLine}
+use Rattle.yaml_base.proofs.Common.{mapping_tree, and-false, no_trees, no_tree_pairs, no_key, OpenFlow, in_sequence, in_mapping, Awaited, collection_awaited}
+use Rattle.yaml_base.proofs.Common.{entry_awaited, comma_awaited, FlowReading, done, within, word_step, level_opened, opened, flow_step, tree_at_end}
+use Rattle.yaml_base.proofs.Common.{flow_read, prepend_to_trimmed, trimmed, kind_of_text, text_by_kind, begins_text, kind_of_node, Rules, Properties}
+use Rattle.yaml_base.proofs.Common.{word_after, symbol, free, FlowStep, is_flow_indicator, begins_bracket, class_of, begun_token, bracket_step, is_pair}
+use Rattle.yaml_base.{proofs.Common.flow_tokens, proofs.stream_flow.StreamFlowScalars.rules_of, proofs.stream_flow.StreamPropertyWords.lead}
 use Rattle.yaml_base.{proofs.stream_nodes.StreamProperties.begins_content, specs.streams.StreamNodes.flow_text}
+use Rattle.yaml_base.proofs.stream_lines.StreamLineLaws.{OneLine, unbroken_line, break_line, not_white}
 use Rattle.yaml_base.proofs.stream_flow.StreamFlowNodes.{items_flow, pairs_flow}
 use Rattle.yaml_base.proofs.stream_flow.StreamFlowWords.{opens_inside, Given, tag_of_collection}
 use Rattle.yaml_base.proofs.stream_nodes.StreamAgrees.{node_tree, nodes_tree, pairs_tree}
@@ -23,7 +23,6 @@ use Rattle.yaml_base.proofs.stream_flow.StreamSays.{indicator_ends, opens_before
 use Rattle.yaml_base.proofs.stream_flow.StreamTakes.{steps, TakesBytes, takes_both, flow_reads}
 use Rattle.yaml_base.proofs.stream_nodes.StreamStands.{tag_written, tag_meant, NamesStand, BodyStands, BodiesHold}
 use Rattle.yaml_base.proofs.stream_nodes.StreamTexts.{collection_own, node_own, items_own, pairs_own}
-use Rattle.yaml_base.proofs.stream_lines.StreamLineLaws.{unbroken_line, break_line, not_white}
 
 -- a bracket that begins a collection in flow and one that ends it
 pub record AreBrackets (rules : Rules) (bracket closing : ℕ) : Type 0 where
@@ -321,7 +320,7 @@ pub sequence_reads : (s : Effective) (own directives : List TagDirective) → Ke
 sequence_reads s own directives fits place cursor start items in_flow names bodies =
     let begun = render_properties s.portable directives start.anchor (collection_tag s.canonical start) false cursor in
     rw in_flow (sequence_content s own directives place.column (is_undented s place.role) cursor start items
-    (items_flow items s own _ fits _ _ names.2 (rw in_flow at bodies)))
+    (items_flow s own _ fits items _ _ names.2 (rw in_flow at bodies)))
 
 -- and so is a mapping
 pub mapping_reads : (s : Effective) (own directives : List TagDirective) → KeysFit s own directives → (place : Place) (cursor : Cursor) (start : Collection)

@@ -3,12 +3,10 @@ use Rattle.yaml_base.proofs.Common.{nat_tests, arith, ℕ, is_some, Option, None
 use Rattle.yaml_base.proofs.Common.{true≢false, append_assoc, and_parts, false≢true, Text, Cursor, Rendered, space_if, ScalarStyle, any_style, plain}
 use Rattle.yaml_base.proofs.Common.{single_quoted, double_quoted, literal, folded, TagDirective, Scalar, scalar_tag, render_properties, render_separation}
 use Rattle.yaml_base.proofs.Common.{render_body, allowed_under, style_asked_at, choice_of, entry_place, Role, read_in_style, Effective, read_plain, is_tidy}
-use Rattle.yaml_base.proofs.Common.{Allowances, is_empty, and-false}
-use Rattle.yaml_base.proofs.Common.{double_inside, render_quote, runs, render_runs, quotes_doubled, single_quote, is_plain, requested_style}
-use Rattle.yaml_base.proofs.Common.{fitting_style, fits_plain, Rules}
-use Rattle.yaml_base.proofs.{stream_flow.StreamPropertyWords.lead, stream_lines.StreamCuts.none_not_some}
-use Rattle.yaml_base.proofs.stream_nodes.StreamLeads.{EndedCollection, lead_rendered}
-use Rattle.yaml_base.proofs.stream_nodes.StreamStands.{tag_written, tag_meant}
+use Rattle.yaml_base.proofs.Common.{Allowances, is_empty, and-false, double_inside, render_quote, runs, render_runs, quotes_doubled, single_quote, is_plain}
+use Rattle.yaml_base.proofs.{stream_flow.StreamPropertyWords.lead, stream_lines.StreamCuts.none_not_some, stream_nodes.StreamLeads.EndedCollection}
+use Rattle.yaml_base.proofs.{stream_nodes.StreamLeads.lead_rendered, stream_nodes.StreamStands.tag_written, stream_nodes.StreamStands.tag_meant}
+use Rattle.yaml_base.proofs.Common.{requested_style, fitting_style, fits_plain, Rules}
 use Rattle.yaml_base.proofs.stream_flow.StreamFlowWords.{FlowWord, Given, scalar_in, quoted_flow_word, plain_flow_word}
 
 -- by what a document of the layout is read

@@ -1,15 +1,12 @@
 -- A node's own word in flow, with its anchor and tag: it is one word among the tokens, and reads as the node's tree.
 use Rattle.yaml_base.proofs.Common.{ℕ, if◌then◌else◌, ◌==◌, option_map, Option, None, Some, codes, Bool, false, not, true, ◌&&◌, [], ◌++◌, ◌∷◌, refl, ◌≡◌}
-use Rattle.yaml_base.proofs.Common.{true≢false, ap, ◌∙◌, arith, and_parts, or_parts, false≢true, nat_tests, list_all, Text, is_among, is_alpha}
-use Rattle.yaml_base.proofs.Common.{ScalarStyle, plain, is_read_white, holds_no_plain, Properties}
-use Rattle.yaml_base.proofs.Common.{read_plain, ParsedTag, has_clean_edges, is_tidy, is_plain, Tree, alias_tree, scalar_tree, sequence_tree}
-use Rattle.yaml_base.proofs.Common.{mapping_tree, no_trees, no_tree_pairs, Rules, name_read, collection_tag_parsed, tagging_parsed, stood_in_style}
-use Rattle.yaml_base.proofs.Common.{scalar_parsed}
-use Rattle.yaml_base.proofs.Common.{scalar_of_style, a_scalar, kind_of_word, word_by_kind, word_after, word_read, word, FlowStep, begins_plain, class_of}
-use Rattle.yaml_base.proofs.Common.{begun_token}
-use Rattle.yaml_base.proofs.Common.{flow_tokens}
-use Rattle.yaml_base.proofs.{stream_keys.StreamAliasKeys.alias_word, stream_lines.StreamTidyLaws.tidy_at_root}
-use Rattle.yaml_base.proofs.{stream_nodes.StreamAgrees.tagging_in, stream_nodes.StreamLeads.lead_then, stream_nodes.StreamStands.tag_meant}
+use Rattle.yaml_base.proofs.Common.{true≢false, ap, ◌∙◌, arith, and_parts, or_parts, false≢true, nat_tests, list_all, Text, is_among, is_alpha, ScalarStyle}
+use Rattle.yaml_base.proofs.Common.{plain, is_read_white, holds_no_plain, Properties, read_plain, ParsedTag, has_clean_edges, is_tidy, is_plain, Tree}
+use Rattle.yaml_base.proofs.Common.{alias_tree, scalar_tree, sequence_tree, mapping_tree, no_trees, no_tree_pairs, Rules, name_read, collection_tag_parsed}
+use Rattle.yaml_base.proofs.Common.{tagging_parsed, stood_in_style, scalar_parsed, scalar_of_style, a_scalar, kind_of_word, word_by_kind, word_after}
+use Rattle.yaml_base.proofs.{stream_keys.StreamAliasKeys.alias_word, stream_lines.StreamTidyLaws.tidy_at_root, stream_nodes.StreamAgrees.tagging_in}
+use Rattle.yaml_base.proofs.{stream_nodes.StreamLeads.lead_then, stream_nodes.StreamStands.tag_meant}
+use Rattle.yaml_base.proofs.Common.{word_read, word, FlowStep, begins_plain, class_of, begun_token, flow_tokens}
 use Rattle.yaml_base.proofs.stream_lines.StreamCuts.{none_not_some, quote_of, quoted_in, read_quoted}
 use Rattle.yaml_base.proofs.stream_flow.StreamSays.{Says, class_fixed}
 use Rattle.yaml_base.proofs.stream_flow.StreamPlainWords.{stays_plain, is_white_class, all_stay, ends_shown, plain_text_word}

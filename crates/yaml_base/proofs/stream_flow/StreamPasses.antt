@@ -1,11 +1,10 @@
 -- Indicators and white space in flow, which take the reader of flow collections on whatever follows them.
 use Rattle.yaml_base.proofs.Common.{arith, suc, zero, ℕ, ◌==◌, Option, codes, replicate, Bool, false, true, ◌||◌, List, [], ◌++◌, ◌∷◌, refl, ◌≡◌, eqb-true}
-use Rattle.yaml_base.proofs.Common.{true≢false, append_assoc, ◌∙◌, and_parts, and_from, false≢true, list_all-append, list_all, Text, line_feed, space}
-use Rattle.yaml_base.proofs.Common.{Cursor, render_then, new_line, space_if, indicator, flow_break, Effective, OpenFlow, at_once, after_white, entry_awaited}
+use Rattle.yaml_base.proofs.Common.{true≢false, append_assoc, ◌∙◌, and_parts, and_from, false≢true, list_all-append, list_all, Text, line_feed, space, Cursor}
+use Rattle.yaml_base.proofs.Common.{render_then, new_line, space_if, indicator, flow_break, Effective, OpenFlow, at_once, after_white, entry_awaited}
 use Rattle.yaml_base.proofs.Common.{node_awaited, comma_awaited, colon_awaited, FlowReading, within, flow_step, Rules, symbol, blank, line_end, free}
+use Rattle.yaml_base.proofs.stream_flow.{StreamTakes.steps, StreamTakes.TakesBytes, StreamWhites.line_feed_class, StreamSays.class_fixed}
 use Rattle.yaml_base.proofs.Common.{is_flow_indicator, class_of, flow_tokens, or_cases, inl, inr, subst, sym}
-use Rattle.yaml_base.proofs.stream_flow.{StreamTakes.steps, StreamTakes.TakesBytes, StreamWhites.line_feed_class}
-use Rattle.yaml_base.proofs.stream_flow.StreamSays.{class_fixed}
 
 -- a text takes the reader from a reading to another, before anything
 pub record Passes (rules : Rules) (from : FlowReading) (text : Text) (to : FlowReading) : Type 0 where

@@ -1,12 +1,10 @@
 -- Plain text is one word among the tokens of flow, before white space and a flow indicator.
-use Rattle.yaml_base.proofs.Common.{nat_tests, arith, ℕ, Some, codes, Bool, false, not, true, ◌&&◌, List, [], map, ◌++◌, ◌∷◌, refl, ◌≡◌}
-use Rattle.yaml_base.proofs.Common.{true≢false, append-nil, append_assoc, ap, ◌∙◌, and_parts, or_parts, false≢true, map-append, list_all, Text, is_among}
-use Rattle.yaml_base.proofs.Common.{is_read_white, holds_no_plain, read_plain, ends_white, has_clean_edges, FlowToken, word}
-use Rattle.yaml_base.proofs.Common.{free, FlowStep, FlowClass, is_white_blank, is_white_break, is_flow_indicator, begins_bracket, class_of, flow_tokens}
-use Rattle.yaml_base.proofs.Common.{not-true}
-use Rattle.yaml_base.proofs.{stream_flow.StreamWords.GivesWord}
+use Rattle.yaml_base.proofs.Common.{nat_tests, arith, ℕ, Some, codes, Bool, false, not, true, ◌&&◌, List, [], map, ◌++◌, ◌∷◌, refl, ◌≡◌, true≢false}
+use Rattle.yaml_base.proofs.Common.{append-nil, append_assoc, ap, ◌∙◌, and_parts, or_parts, false≢true, map-append, list_all, Text, is_among, is_read_white}
+use Rattle.yaml_base.proofs.Common.{holds_no_plain, read_plain, ends_white, has_clean_edges, FlowToken, word, free, FlowStep, FlowClass, is_white_blank}
+use Rattle.yaml_base.proofs.{stream_flow.StreamWords.GivesWord, stream_keys.StreamPlainKeys.reads_plain}
+use Rattle.yaml_base.proofs.Common.{is_white_break, is_flow_indicator, begins_bracket, class_of, flow_tokens, not-true}
 use Rattle.yaml_base.specs.streams.StreamTokens.{in_plain, white_token, plain_step}
-use Rattle.yaml_base.proofs.stream_keys.StreamPlainKeys.{reads_plain}
 
 -- a character of a class ends a word, where white space does if what follows it does
 abbrev pub ends_by : FlowClass → Bool → Bool

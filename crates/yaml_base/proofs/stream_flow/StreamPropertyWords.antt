@@ -1,16 +1,14 @@
 -- The tokens of a word in flow with its anchor and tag before it: it is one word with them, and so is what opens a collection.
 use Rattle.yaml_base.proofs.Common.{ℕ, Option, None, Some, Bool, false, true, ◌||◌, List, [], ◌++◌, ◌∷◌, refl, ◌≡◌, true≢false, append-nil, append_assoc, ap}
-use Rattle.yaml_base.proofs.Common.{sym, ◌∙◌, arith, or_parts, false≢true, nat_tests, Text, space, is_blank, is_break, TagDirective}
-use Rattle.yaml_base.proofs.Common.{read_plain, ParsedTag, has_clean_edges, word, opens, FlowPlace, free, FlowStep, FlowClass}
-use Rattle.yaml_base.proofs.Common.{begins_property, begins_double, begins_single, begins_bracket}
-use Rattle.yaml_base.proofs.Common.{begins_plain, class_of, begun_token, bracket_step, is_pair, flow_tokens}
-use Rattle.yaml_base.proofs.TagWords.{letters_end_no_word}
-use Rattle.yaml_base.proofs.stream_flow.{StreamPlainWords.is_white_class, StreamPlainWords.shown_at, StreamPlainWords.plain_word}
-use Rattle.yaml_base.proofs.stream_flow.{StreamWords.shifted, StreamWords.double_quoted_word, StreamWords.single_quoted_word}
+use Rattle.yaml_base.proofs.Common.{sym, ◌∙◌, arith, or_parts, false≢true, nat_tests, Text, space, is_blank, is_break, TagDirective, read_plain, ParsedTag}
+use Rattle.yaml_base.proofs.Common.{has_clean_edges, word, opens, FlowPlace, free, FlowStep, FlowClass, begins_property, begins_double, begins_single}
+use Rattle.yaml_base.proofs.{TagWords.letters_end_no_word, stream_lines.StreamCuts.quote_of, stream_lines.StreamCuts.read_quoted}
+use Rattle.yaml_base.proofs.Common.{begins_bracket, begins_plain, class_of, begun_token, bracket_step, is_pair, flow_tokens}
+use Rattle.yaml_base.proofs.stream_flow.StreamPlainWords.{is_white_class, shown_at, plain_word}
+use Rattle.yaml_base.proofs.stream_flow.StreamWords.{shifted, double_quoted_word, single_quoted_word}
 use Rattle.yaml_base.proofs.stream_flow.StreamSays.{Says, ends_unquoted, class_fixed}
 use Rattle.yaml_base.proofs.stream_nodes.StreamProperties.{holds_white, WrittenTag, IsTagged, IsNamed, name_letters}
 use Rattle.yaml_base.specs.streams.StreamTokens.{in_property, after_property, begun_after_property, property_step}
-use Rattle.yaml_base.proofs.stream_lines.StreamCuts.{quote_of, read_quoted}
 
 -- the anchor and the tag as they are written, and a space after them
 abbrev pub lead : Option Text → Option Text → Text

@@ -1,9 +1,8 @@
 -- What a text in flow is to its reader: these tokens, before anything that ends a word.
 use Rattle.yaml_base.proofs.Common.{arith, ℕ, Bool, false, true, List, [], ◌++◌, ◌∷◌, refl, ◌≡◌, eqb-true, ap, false≢true, Text, FlowToken, opens, symbol}
-use Rattle.yaml_base.proofs.Common.{blank, free, is_white_blank, is_flow_indicator, begins_bracket, class_of, is_pair, is_break}
-use Rattle.yaml_base.proofs.Common.{flow_tokens}
-use Rattle.yaml_base.proofs.stream_flow.{StreamPlainWords.ends_by, StreamPlainWords.ends_word, StreamWords.begins_unquoted}
-use Rattle.yaml_base.proofs.stream_lines.StreamLineLaws.{break_line}
+use Rattle.yaml_base.proofs.{stream_flow.StreamWords.begins_unquoted, stream_lines.StreamLineLaws.break_line}
+use Rattle.yaml_base.proofs.Common.{blank, free, is_white_blank, is_flow_indicator, begins_bracket, class_of, is_pair, is_break, flow_tokens}
+use Rattle.yaml_base.proofs.stream_flow.StreamPlainWords.{ends_by, ends_word}
 
 -- a text is these tokens where what follows ends a word
 pub record Says (breaks12 : Bool) (text : Text) (tokens : List FlowToken) : Type 0 where

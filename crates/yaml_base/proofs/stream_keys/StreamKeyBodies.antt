@@ -5,10 +5,8 @@ use Rattle.yaml_base.proofs.Common.{◌∷◌, refl, ◌≡◌, eqb-true, append
 use Rattle.yaml_base.proofs.Common.{nat_tests, flat_map, list_any, Text, space, is_space, is_break, hex_digits, Cursor, and-false, ScalarStyle, any_style}
 use Rattle.yaml_base.proofs.Common.{plain, single_quoted, double_quoted, literal, folded, render_body, Effective, short_escapes, letter_among}
 use Rattle.yaml_base.proofs.Common.{escape_after_backslash, escape_text, needs_escape, character_text, double_inside, render_quote, runs, render_runs}
-use Rattle.yaml_base.proofs.Common.{quotes_doubled, single_quote}
-use Rattle.yaml_base.{proofs.stream_flow.StreamFlowScalars.is_flow_style, specs.Cursor.render_text}
-use Rattle.yaml_base.specs.scalars.DoubleQuoted.{quote, ShortEscape}
-use Rattle.yaml_base.specs.scalars.Plain.{Run, run_text}
+use Rattle.yaml_base.{proofs.Common.quotes_doubled, proofs.Common.single_quote, proofs.stream_flow.StreamFlowScalars.is_flow_style, specs.Cursor.render_text}
+use Rattle.yaml_base.{specs.scalars.DoubleQuoted.quote, specs.scalars.DoubleQuoted.ShortEscape, specs.scalars.Plain.Run, specs.scalars.Plain.run_text}
 
 -- Without folds
 

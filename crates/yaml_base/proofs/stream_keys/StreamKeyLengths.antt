@@ -1,12 +1,11 @@
 -- The text of a simple key isn't longer than a reader allows: a byte of its names, its tag and its value makes four characters at
 -- most.
-use Rattle.yaml_base.proofs.Common.{suc, ℕ, ◌*◌, ◌+◌, ◌≤◌, if◌then◌else◌, Option, None, Some, nat_le, length, encode_utf8, Bool, false, true, List, []}
-use Rattle.yaml_base.proofs.Common.{◌++◌, ◌∷◌, refl, ◌≡◌, length-append, subst, sym, arith, nat_tests, length-encode, len_utf8_bounds, length-le-encodes}
-use Rattle.yaml_base.proofs.Common.{len_utf8, flat_map, Text, hex_digits, ScalarStyle, plain, single_quoted}
-use Rattle.yaml_base.proofs.Common.{TagDirective, byte_count, name_count, tag_count, is_tag_character, byte_escaped, character_written, percent_escaped}
-use Rattle.yaml_base.proofs.Common.{is_suffix_character, suffix_escaped, Spelling, shorthand, verbatim, spelled, short_escapes, letter_among}
-use Rattle.yaml_base.proofs.Common.{escape_after_backslash, escape_text, needs_escape, character_text, quotes_doubled}
-use Rattle.yaml_base.{proofs.stream_flow.StreamPropertyWords.lead}
+use Rattle.yaml_base.proofs.Common.{suc, ℕ, ◌*◌, ◌+◌, ◌≤◌, if◌then◌else◌, Option, None, Some, nat_le, length, encode_utf8, Bool, false, true, List, [], ◌++◌}
+use Rattle.yaml_base.proofs.Common.{◌∷◌, refl, ◌≡◌, length-append, subst, sym, arith, nat_tests, length-encode, len_utf8_bounds, length-le-encodes, len_utf8}
+use Rattle.yaml_base.proofs.Common.{flat_map, Text, hex_digits, ScalarStyle, plain, single_quoted, TagDirective, byte_count, name_count, tag_count}
+use Rattle.yaml_base.proofs.Common.{is_tag_character, byte_escaped, character_written, percent_escaped, is_suffix_character, suffix_escaped, Spelling}
+use Rattle.yaml_base.proofs.Common.{shorthand, verbatim, spelled, short_escapes, letter_among, escape_after_backslash, escape_text, needs_escape}
+use Rattle.yaml_base.{proofs.Common.character_text, proofs.Common.quotes_doubled, proofs.stream_flow.StreamPropertyWords.lead}
 use Rattle.yaml_base.{proofs.stream_keys.StreamKeyBodies.key_body, proofs.stream_nodes.StreamStands.tag_written, specs.Layout.spelling_count}
 
 -- Bytes of characters

@@ -1,9 +1,8 @@
 -- What a line with a simple key begins with: no space, no indicator of an entry and no marker.
-use Rattle.yaml_base.proofs.Common.{nat_tests, arith, ℕ, if◌then◌else◌, ◌==◌, Option, Some, codes, Bool, false, true, ◌||◌, [], ◌++◌, ◌∷◌, refl}
-use Rattle.yaml_base.proofs.Common.{◌≡◌, eqb-true, true≢false, ap, subst, sym, ◌∙◌, or_parts, false≢true, Text, is_among, space}
-use Rattle.yaml_base.proofs.Common.{begins_with_three, begins_no_plain, ParsedTag, Tree, begins_with_marker, marker_of, begins_with_indicator}
-use Rattle.yaml_base.proofs.Common.{key_of_text, key_entry, value_entry, simple_entry, Rules}
-use Rattle.yaml_base.proofs.{stream_flow.StreamFlowWords.Given, stream_flow.StreamPropertyWords.lead, stream_keys.StreamKeys.NoKey}
+use Rattle.yaml_base.proofs.Common.{nat_tests, arith, ℕ, if◌then◌else◌, ◌==◌, Option, Some, codes, Bool, false, true, ◌||◌, [], ◌++◌, ◌∷◌, refl, ◌≡◌, eqb-true}
+use Rattle.yaml_base.proofs.Common.{true≢false, ap, subst, sym, ◌∙◌, or_parts, false≢true, Text, is_among, space, begins_with_three, begins_no_plain}
+use Rattle.yaml_base.proofs.Common.{ParsedTag, Tree, begins_with_marker, marker_of, begins_with_indicator, key_of_text, key_entry, value_entry, simple_entry}
+use Rattle.yaml_base.proofs.{Common.Rules, stream_flow.StreamFlowWords.Given, stream_flow.StreamPropertyWords.lead, stream_keys.StreamKeys.NoKey}
 use Rattle.yaml_base.proofs.{stream_keys.StreamKeys.key_found, stream_keys.StreamKeysFit.KeyText, stream_keys.StreamPlainKeys.not_among}
 use Rattle.yaml_base.proofs.{stream_keys.StreamPlainKeys.Begins, stream_lines.StreamSections.is_markerless, stream_nodes.StreamPairs.KeyFits}
 

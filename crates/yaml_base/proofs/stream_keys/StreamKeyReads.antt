@@ -1,17 +1,14 @@
 -- A simple key after its anchor and its tag is read as its tree, and no `:` inside it ends a key earlier.
-use Rattle.yaml_base.proofs.Common.{nat_tests, ◌&&◌}
-use Rattle.yaml_base.proofs.Common.{arith, ℕ, if◌then◌else◌, ◌==◌, option_and_then, Option, None, Some, nat_le, length, Bool, false, true, [], ◌++◌}
-use Rattle.yaml_base.proofs.Common.{◌∷◌, refl, ◌≡◌, eqb-true, true≢false, append_assoc, ap, subst, sym, ◌∙◌, and_parts, false≢true, Text, plain}
-use Rattle.yaml_base.proofs.Common.{read_plain, ParsedTag, is_tidy, Tree}
-use Rattle.yaml_base.proofs.Common.{is_alias, longest_key, ends_indicator, without_last_space, word_of_alias}
+use Rattle.yaml_base.proofs.Common.{nat_tests, ◌&&◌, arith, ℕ, if◌then◌else◌, ◌==◌, option_and_then, Option, None, Some, nat_le, length, Bool, false, true, []}
+use Rattle.yaml_base.proofs.Common.{◌++◌, ◌∷◌, refl, ◌≡◌, eqb-true, true≢false, append_assoc, ap, subst, sym, ◌∙◌, and_parts, false≢true, Text, plain}
+use Rattle.yaml_base.proofs.Common.{read_plain, ParsedTag, is_tidy, Tree, is_alias, longest_key, ends_indicator, without_last_space, word_of_alias}
+use Rattle.yaml_base.proofs.stream_keys.StreamNoKeys.{KeyNowhere, nowhere_then, nowhere_clear, reads_alias, alias_left, other_kept, kind_other, tag_no_alias}
+use Rattle.yaml_base.proofs.{stream_flow.StreamPropertyWords.lead, stream_lines.StreamTidyLaws.tidy_at_root, stream_nodes.StreamProperties.begins_content}
+use Rattle.yaml_base.proofs.{stream_nodes.StreamStands.tag_meant, stream_keys.StreamNoKeys.anchor_no_alias, stream_keys.StreamNoKeys.lead_nowhere}
 use Rattle.yaml_base.proofs.Common.{key_of_text, Rules, Properties, scalar_of_style, an_alias, kind_of_word, word_by_kind, word_after}
-use Rattle.yaml_base.proofs.{stream_flow.StreamPropertyWords.lead, stream_lines.StreamTidyLaws.tidy_at_root}
-use Rattle.yaml_base.proofs.{stream_nodes.StreamProperties.begins_content, stream_nodes.StreamStands.tag_meant}
 use Rattle.yaml_base.proofs.stream_lines.StreamCuts.{quote_of, quoted_in, read_quoted, quoted_whole}
 use Rattle.yaml_base.proofs.stream_keys.StreamKeys.{NoKey, none_parsed, no_alias_before, key_by_word}
 use Rattle.yaml_base.proofs.stream_flow.StreamFlowWords.{Given, given_reads, scalar_in, scalar_meant, quoted_kind, quoted_read}
-use Rattle.yaml_base.proofs.stream_keys.StreamNoKeys.{KeyNowhere, nowhere_then, nowhere_clear, reads_alias, alias_left, other_kept, kind_other}
-use Rattle.yaml_base.proofs.stream_keys.StreamNoKeys.{tag_no_alias, anchor_no_alias, lead_nowhere}
 use Rattle.yaml_base.proofs.stream_keys.StreamPlainKeys.{Begins, plain_kind, plain_style, plain_no_key, reads_plain}
 
 -- Words after properties

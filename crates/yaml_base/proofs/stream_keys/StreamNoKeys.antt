@@ -1,14 +1,13 @@
 -- No `:` in an anchor or a tag ends a key: what stands before it is no word, and no alias.
 use Rattle.yaml_base.proofs.Common.{nat_tests, arith, ℕ, ◌+◌, if◌then◌else◌, ◌==◌, is_some, option_map, option_and_then, Option, None, Some, length, Bool}
 use Rattle.yaml_base.proofs.Common.{false, not, true, ◌||◌, [], ◌++◌, ◌∷◌, refl, ◌≡◌, eqb-true, true≢false, append-nil, append_assoc, ap, subst, sym, ◌∙◌}
-use Rattle.yaml_base.proofs.Common.{and_parts, and_from, false≢true, list_all, Text, space, is_alpha, ParsedTag, tag_parsed, Stood, Tree}
-use Rattle.yaml_base.proofs.Common.{is_alias, ends_indicator, Indented, past_indentation, spaces}
-use Rattle.yaml_base.proofs.Common.{without_last_space, word_of_alias, key_of_text, key_from, Rules, Properties, PropertiesRead, cut_before_space}
-use Rattle.yaml_base.proofs.Common.{tag_of_word, tag_first, scalar_parsed, an_alias}
-use Rattle.yaml_base.proofs.Common.{word_by_kind, word_after, word_read}
-use Rattle.yaml_base.{proofs.stream_flow.StreamPropertyWords.lead, proofs.stream_lines.StreamInside.indented_spaces, specs.streams.StreamScalars.WordKind}
-use Rattle.yaml_base.proofs.stream_keys.StreamKeys.{NoKey, no_alias_before, key_by_word}
+use Rattle.yaml_base.proofs.Common.{and_parts, and_from, false≢true, list_all, Text, space, is_alpha, ParsedTag, tag_parsed, Stood, Tree, is_alias}
+use Rattle.yaml_base.proofs.Common.{ends_indicator, Indented, past_indentation, spaces, without_last_space, word_of_alias, key_of_text, key_from, Rules}
+use Rattle.yaml_base.proofs.Common.{Properties, PropertiesRead, cut_before_space, tag_of_word, tag_first, scalar_parsed, an_alias, word_by_kind, word_after}
 use Rattle.yaml_base.proofs.stream_nodes.StreamProperties.{WrittenTag, IsTagged, IsNamed, properties_text, has_no_space, word_whole, name_letters}
+use Rattle.yaml_base.{proofs.Common.word_read, proofs.stream_flow.StreamPropertyWords.lead, specs.streams.StreamScalars.WordKind}
+use Rattle.yaml_base.proofs.stream_lines.StreamInside.{indented_spaces}
+use Rattle.yaml_base.proofs.stream_keys.StreamKeys.{NoKey, no_alias_before, key_by_word}
 use Rattle.yaml_base.proofs.stream_nodes.StreamProperties.{no_white_no_space, space_after, content_indented, with_anchor}
 
 -- Texts in which no key ends

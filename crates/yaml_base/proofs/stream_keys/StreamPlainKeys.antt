@@ -1,9 +1,8 @@
 -- A plain simple key is found where its text ends, before the `:` that follows it.
 use Rattle.yaml_base.proofs.Common.{arith, nat_tests, ℕ, if◌then◌else◌, ◌==◌, None, Some, codes, Bool, false, true, ◌||◌, [], map, ◌++◌, ◌∷◌, refl, ◌≡◌}
 use Rattle.yaml_base.proofs.Common.{eqb-true, true≢false, and_parts, or_parts, false≢true, Text, is_among, space, plain, unit_of, folding_read, is_read_white}
-use Rattle.yaml_base.proofs.Common.{begins_no_plain, holds_no_plain, read_plain, is_tidy, Rules, style_of_first_character}
-use Rattle.yaml_base.proofs.Common.{a_scalar, kind_of_word}
 use Rattle.yaml_base.proofs.{stream_keys.StreamKeys.NoKey, stream_lines.StreamCuts.none_not_some}
+use Rattle.yaml_base.proofs.Common.{begins_no_plain, holds_no_plain, read_plain, is_tidy, Rules, style_of_first_character, a_scalar, kind_of_word}
 
 -- a character outside a set is none of the set's
 pub not_among : (set : Text) (c n : ℕ) → is_among set n ≡ true → is_among set c ≡ false → (c == n) ≡ false

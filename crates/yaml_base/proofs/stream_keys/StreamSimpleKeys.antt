@@ -1,33 +1,27 @@
 -- Each simple key of the layout in a block is cut off before its `:`, where its names and its body stand.
 use Rattle.yaml_base.proofs.Common.{nat_tests, suc, ℕ, ◌+◌, ◌≤◌, if◌then◌else◌, is_some, Option, None, Some, nat_le, length, Bool, false, not, true, List, []}
 use Rattle.yaml_base.proofs.Common.{◌++◌, ◌∷◌, refl, ◌≡◌, le-leb, leb-true, length-append, true≢false, ap, subst, sym, ◌∙◌, arith, and_parts, false≢true}
-use Rattle.yaml_base.proofs.Common.{flat_map, list_all, Text, space, is_alpha, Cursor, Rendered, space_if, ScalarStyle, any_style, plain}
-use Rattle.yaml_base.proofs.Common.{single_quoted, double_quoted, literal, folded, TagDirective, Scalar, Collection, scalar_tag, collection_tag, alias_node}
-use Rattle.yaml_base.proofs.Common.{scalar_node, sequence_node, Pairs, mapping_node, no_nodes, nodes_and, no_pairs, pairs_and, Body, render_properties, ◌==◌}
-use Rattle.yaml_base.proofs.Common.{render_alias, render_separation, render_body, choice_of, body_at}
-use Rattle.yaml_base.proofs.Common.{entry_place, Role, as_key, Place, deeper, byte_count, name_count, tag_count, is_short, has_no_pairs, read_in_style}
-use Rattle.yaml_base.proofs.Common.{most_key_bytes, Effective, is_tidy, is_empty, character_text, quotes_doubled, is_plain, Tree}
-use Rattle.yaml_base.proofs.Common.{alias_tree, scalar_tree, longest_key, Rules}
-use Rattle.yaml_base.proofs.{stream_flow.StreamFlowKinds.empty_whole, stream_flow.StreamFlowWords.Given, stream_flow.StreamFlowWords.scalar_in}
-use Rattle.yaml_base.proofs.{stream_flow.StreamPropertyWords.lead, stream_keys.StreamAliasKeys.alias_key, stream_keys.StreamKeyBodies.key_body}
-use Rattle.yaml_base.proofs.{stream_keys.StreamKeyBodies.body_alone, stream_lines.StreamClosed.margin_cursor, stream_lines.StreamClosed.spaces_line}
-use Rattle.yaml_base.proofs.{stream_lines.StreamCuts.none_not_some, stream_lines.StreamLineLaws.one_line_both, stream_lines.StreamTidyLaws.tidy_at_root}
-use Rattle.yaml_base.proofs.{stream_nodes.StreamAgrees.tagging_in, stream_nodes.StreamLeaves.SimpleKeysFit}
-use Rattle.yaml_base.proofs.{stream_nodes.StreamNodesFit.render_begun, stream_nodes.StreamPairs.KeyFits, stream_nodes.StreamPairs.key_place}
+use Rattle.yaml_base.proofs.Common.{flat_map, list_all, Text, space, is_alpha, Cursor, Rendered, space_if, ScalarStyle, any_style, plain, single_quoted}
+use Rattle.yaml_base.proofs.Common.{double_quoted, literal, folded, TagDirective, Scalar, Collection, scalar_tag, collection_tag, alias_node, scalar_node}
+use Rattle.yaml_base.proofs.Common.{sequence_node, Pairs, mapping_node, no_nodes, nodes_and, no_pairs, pairs_and, Body, render_properties, ◌==◌, render_alias}
+use Rattle.yaml_base.proofs.Common.{render_separation, render_body, choice_of, body_at, entry_place, Role, as_key, Place, deeper, byte_count, name_count}
+use Rattle.yaml_base.proofs.Common.{tag_count, is_short, has_no_pairs, read_in_style, most_key_bytes, Effective, is_tidy, is_empty, character_text}
+use Rattle.yaml_base.proofs.Common.{quotes_doubled, is_plain, Tree, alias_tree, scalar_tree, longest_key, Rules, word_after, is_break, list_any, is_among}
+use Rattle.yaml_base.proofs.stream_keys.StreamKeysFit.{KeyText, key_style, SimpleScalar, simple_scalar, scalar_key_text, alias_key_text, empty_key_text}
+use Rattle.yaml_base.proofs.{Common.codes, stream_flow.StreamFlowKinds.empty_whole, stream_flow.StreamFlowWords.Given, stream_flow.StreamFlowWords.scalar_in}
+use Rattle.yaml_base.proofs.{stream_flow.StreamFlowWords.tag_of_collection, stream_flow.StreamPropertyWords.lead, stream_keys.StreamAliasKeys.alias_key}
+use Rattle.yaml_base.proofs.{stream_keys.StreamKeyBodies.key_body, stream_keys.StreamKeyBodies.body_alone, stream_lines.StreamClosed.margin_cursor}
+use Rattle.yaml_base.proofs.{stream_lines.StreamClosed.spaces_line, stream_lines.StreamCuts.none_not_some, stream_lines.StreamLineLaws.one_line_both}
+use Rattle.yaml_base.proofs.{stream_lines.StreamTidyLaws.tidy_at_root, stream_nodes.StreamAgrees.tagging_in, stream_nodes.StreamAgrees.plain_fits}
+use Rattle.yaml_base.proofs.{stream_nodes.StreamLeaves.SimpleKeysFit, stream_nodes.StreamNodesFit.render_begun, stream_nodes.StreamPairs.KeyFits}
+use Rattle.yaml_base.proofs.{stream_nodes.StreamPairs.key_place, stream_keys.StreamPlainKeys.begins, stream_keys.StreamPlainKeys.reads_plain}
+use Rattle.yaml_base.proofs.{stream_keys.StreamPlainKeys.tidy_begins, stream_nodes.StreamLeads.lead_rendered, stream_nodes.StreamLeads.tag_is_written}
+use Rattle.yaml_base.proofs.{stream_keys.StreamKeysFit.simple_collection, stream_nodes.StreamTexts.scalar_own, stream_keys.StreamNoKeys.nowhere_clear}
 use Rattle.yaml_base.proofs.stream_flow.StreamFlowScalars.{rules_of, is_flow_style, bare_not_plain}
-use Rattle.yaml_base.proofs.stream_keys.StreamPlainKeys.{begins, reads_plain, tidy_begins}
-use Rattle.yaml_base.proofs.stream_nodes.StreamLeads.{lead_rendered, tag_is_written}
 use Rattle.yaml_base.proofs.stream_nodes.StreamProperties.{IsNamed, name_letters, begins_content}
 use Rattle.yaml_base.proofs.stream_keys.StreamKeyPrefixes.{prefix_markerless, key_fits, other_prefix, lead_prefix, plain_prefix}
 use Rattle.yaml_base.proofs.stream_keys.StreamKeyReads.{quoted_key_read, plain_key_read, given_key}
-use Rattle.yaml_base.proofs.stream_keys.StreamKeysFit.{KeyText, key_style, SimpleScalar, simple_scalar, scalar_key_text, alias_key_text, empty_key_text}
-use Rattle.yaml_base.proofs.stream_keys.StreamKeysFit.{simple_collection}
 use Rattle.yaml_base.proofs.stream_nodes.StreamStands.{tag_written, tag_meant, TagStands, NamesStand, BodyStands}
-use Rattle.yaml_base.proofs.stream_nodes.StreamTexts.{scalar_own}
-use Rattle.yaml_base.proofs.stream_nodes.StreamAgrees.{plain_fits}
-use Rattle.yaml_base.proofs.Common.{word_after, is_break, list_any, is_among, codes}
-use Rattle.yaml_base.proofs.stream_flow.StreamFlowWords.{tag_of_collection}
-use Rattle.yaml_base.proofs.stream_keys.StreamNoKeys.{nowhere_clear}
 
 -- Styles
 

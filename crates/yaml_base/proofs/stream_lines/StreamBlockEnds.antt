@@ -1,14 +1,12 @@
 -- How a block scalar leaves off: at a line's start where its value ends in a break, and elsewhere after an indicator that strips.
 use Rattle.yaml_base.proofs.Common.{ℕ, ◌+◌, ◌≤◌, if◌then◌else◌, ◌==◌, Option, Bool, false, not, true, ◌&&◌, ◌||◌, List, [], ◌++◌, ◌∷◌, refl, ◌≡◌, true≢false}
 use Rattle.yaml_base.proofs.Common.{append_assoc, ap, sym, ◌∙◌, arith, or_parts, false≢true, nat_tests, Text, line_feed, line_separator, paragraph_separator}
-use Rattle.yaml_base.proofs.Common.{is_space, is_break, is_printable, Cursor, column_after, ScalarStyle, not-true, not-false}
-use Rattle.yaml_base.proofs.Common.{is_read_break, strip, after_digit, chomping_first, Charset, Allowances, somewhere}
-use Rattle.yaml_base.proofs.Common.{is_special, bars_literal, allows_literal, tab, ending, indentation_hint}
-use Rattle.yaml_base.proofs.Common.{ending_hint, render_hint, ends_in_break, folded_parts}
-use Rattle.yaml_base.proofs.Common.{parts, is_block, fitting_style}
-use Rattle.yaml_base.specs.{Cursor.next_column, scalars.Analysis.begins_with, scalars.BlockHeader.without_break}
-use Rattle.yaml_base.specs.{scalars.BlockHeader.one_break, scalars.BlockHeader.more_breaks, scalars.Folded.cut_line, scalars.Folded.next_line_unindented}
-use Rattle.yaml_base.specs.{scalars.Lines.Part, scalars.Lines.line, scalars.Lines.line_break, scalars.Lines.begun, scalars.Literal.indented}
+use Rattle.yaml_base.proofs.Common.{is_space, is_break, is_printable, Cursor, column_after, ScalarStyle, not-true, not-false, is_read_break, strip}
+use Rattle.yaml_base.proofs.Common.{after_digit, chomping_first, Charset, Allowances, somewhere, is_special, bars_literal, allows_literal, tab, ending}
+use Rattle.yaml_base.specs.{Cursor.next_column, scalars.Analysis.begins_with, scalars.Folded.cut_line, scalars.Folded.next_line_unindented, scalars.Lines.Part}
+use Rattle.yaml_base.specs.{scalars.Lines.line, scalars.Lines.line_break, scalars.Lines.begun, scalars.Literal.indented}
+use Rattle.yaml_base.proofs.Common.{indentation_hint, ending_hint, render_hint, ends_in_break, folded_parts, parts, is_block, fitting_style}
+use Rattle.yaml_base.specs.scalars.BlockHeader.{without_break, one_break, more_breaks}
 
 -- Values that end in a break
 

@@ -1,9 +1,8 @@
 -- A text of printable characters and tabs, however its line breaks are written, is read as its documents.
-use Rattle.yaml_base.proofs.Common.{nat_tests, arith, ℕ, option_and_then, Some, Bool, true, List, [], ◌∷◌, refl, ◌≡◌, eqb-true, ap}
-use Rattle.yaml_base.proofs.Common.{◌∙◌, and_parts, and_from, false≢true, list_all-append, list_all, Text, is_tidy_character, with_breaks_written}
-use Rattle.yaml_base.proofs.Common.{is_rendered_text, LineBreak, characters_read, documents_of, stream_trees, or_left, ScalarStyle, literal}
-use Rattle.yaml_base.proofs.AllPass.{all_pass}
-use Rattle.yaml_base.{proofs.BreakLaws.breaks-round, specs.streams.StreamReader.may_stand_raw, specs.streams.StreamReader.text_trees}
+use Rattle.yaml_base.proofs.Common.{nat_tests, arith, ℕ, option_and_then, Some, Bool, true, List, [], ◌∷◌, refl, ◌≡◌, eqb-true, ap, ◌∙◌, and_parts, and_from}
+use Rattle.yaml_base.proofs.Common.{false≢true, list_all-append, list_all, Text, is_tidy_character, with_breaks_written, is_rendered_text, LineBreak}
+use Rattle.yaml_base.{proofs.AllPass.all_pass, proofs.BreakLaws.breaks-round, specs.streams.StreamReader.may_stand_raw, specs.streams.StreamReader.text_trees}
+use Rattle.yaml_base.proofs.Common.{characters_read, documents_of, stream_trees, or_left, ScalarStyle, literal}
 
 -- printable characters and tabs, which are those of literal text
 abbrev pub is_shown : ℕ → Bool

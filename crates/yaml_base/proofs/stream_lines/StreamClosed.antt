@@ -1,10 +1,9 @@
 -- How a node's text leaves off: at a line's start, or before the break that the next new line begins with.
-use Rattle.yaml_base.proofs.Common.{suc, zero, ℕ, ◌+◌, ◌≤◌, if◌then◌else◌, Bool, false, true, ◌||◌, List, [], ◌++◌, ◌∷◌, refl, ◌≡◌, le-ltb, append-nil, ap, sym}
-use Rattle.yaml_base.proofs.Common.{◌∙◌, arith, and_parts, and_from, or_parts, list_all, list_any, Text, line_feed, space, Cursor, Rendered, new_line}
+use Rattle.yaml_base.proofs.Common.{suc, zero, ℕ, ◌+◌, ◌≤◌, if◌then◌else◌, Bool, false, true, ◌||◌, List, [], ◌++◌, ◌∷◌, refl, ◌≡◌, le-ltb, append-nil, ap}
+use Rattle.yaml_base.proofs.Common.{sym, ◌∙◌, arith, and_parts, and_from, or_parts, list_all, list_any, Text, line_feed, space, Cursor, Rendered, new_line}
+use Rattle.yaml_base.proofs.stream_lines.{StreamTidyLaws.lines_after_first, StreamInside.inside_deeper, StreamInside.AllInside}
 use Rattle.yaml_base.proofs.Common.{is_read_break, Line, prepend_to_first_line, prepend_character, lines_of, ends_indicator, belongs_to_entry, spaces}
-use Rattle.yaml_base.proofs.stream_lines.{StreamLineLaws.is_closed, StreamLineLaws.OneLine, StreamTidyLaws.lines_after_first}
-use Rattle.yaml_base.proofs.stream_lines.StreamInside.{inside_deeper, AllInside}
-use Rattle.yaml_base.proofs.stream_lines.StreamLineLaws.{break_line}
+use Rattle.yaml_base.proofs.stream_lines.StreamLineLaws.{is_closed, OneLine, break_line}
 
 -- Cursors
 

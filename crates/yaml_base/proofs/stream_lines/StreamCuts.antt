@@ -1,9 +1,8 @@
 -- What reads is what is cut off: no proper prefix of a quoted text is one, and a longer text begins with it.
-use Rattle.yaml_base.proofs.Common.{arith, nat_tests}
-use Rattle.yaml_base.proofs.Common.{ℕ, if◌then◌else◌, ◌==◌, option_map, Option, None, Some, Bool, false, true, [], map, ◌++◌, ◌∷◌, refl, ◌≡◌, true≢false, ap}
-use Rattle.yaml_base.proofs.Common.{sym, ◌∙◌, Text, QuotePlace, between, Quoted, with_unit, after_step}
-use Rattle.yaml_base.proofs.Common.{quoted_from, quoted_reading, value_before, value_alone, read_double, FoldUnit, unit_of, folding_read, unquoted, read_single}
-use Rattle.yaml_base.proofs.Common.{ScalarStyle, single_quoted, double_quoted}
+use Rattle.yaml_base.proofs.Common.{arith, nat_tests, ℕ, if◌then◌else◌, ◌==◌, option_map, Option, None, Some, Bool, false, true, [], map, ◌++◌, ◌∷◌, refl, ◌≡◌}
+use Rattle.yaml_base.proofs.Common.{true≢false, ap, sym, ◌∙◌, Text, QuotePlace, between, Quoted, with_unit, after_step, quoted_from, quoted_reading}
+use Rattle.yaml_base.proofs.Common.{value_before, value_alone, read_double, FoldUnit, unit_of, folding_read, unquoted, read_single, ScalarStyle, single_quoted}
+use Rattle.yaml_base.proofs.Common.{double_quoted}
 use Rattle.yaml_base.specs.reading.ReadDouble.{QuoteStep, quote_step, QuotedReading, double_quoted_prefix}
 
 -- nothing is not something

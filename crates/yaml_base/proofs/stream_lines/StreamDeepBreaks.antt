@@ -2,9 +2,8 @@
 use Rattle.yaml_base.proofs.Common.{nat_tests, suc, zero, ℕ, ◌≤◌, ◌==◌, Bool, false, not, true, ◌&&◌, ◌||◌, [], ◌++◌, ◌∷◌, refl, ◌≡◌, ap, ◌∙◌, arith}
 use Rattle.yaml_base.proofs.Common.{and_parts, and_from, or_parts, false≢true, list_all, list_any, Text, line_feed, space, is_blank, Cursor, new_line}
 use Rattle.yaml_base.proofs.Common.{space_if, is_read_break, is_read_white, begins_with_spaces, begins_with_deep_line, has_deep_lines, ends_white, lines_of}
-use Rattle.yaml_base.proofs.Common.{belongs_to_entry, spaces}
-use Rattle.yaml_base.{proofs.stream_lines.StreamInside.AllInside, proofs.stream_lines.StreamLineLaws.OneLine, specs.reading.TidyText.begins_with_break}
-use Rattle.yaml_base.proofs.stream_lines.StreamClosed.{spaces_line}
+use Rattle.yaml_base.{proofs.Common.belongs_to_entry, proofs.Common.spaces, proofs.stream_lines.StreamInside.AllInside}
+use Rattle.yaml_base.{proofs.stream_lines.StreamLineLaws.OneLine, specs.reading.TidyText.begins_with_break, proofs.stream_lines.StreamClosed.spaces_line}
 use Rattle.yaml_base.proofs.stream_lines.StreamTidyLaws.{first_text, lines_after_first, spaces_inside}
 
 -- what stands after each break of a text passes a test

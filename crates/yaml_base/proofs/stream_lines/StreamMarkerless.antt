@@ -1,16 +1,14 @@
 -- No line of a block collection at the root is a document's marker.
 use Rattle.yaml_base.proofs.Common.{ℕ, Bool, false, true, List, [], ◌++◌, ◌∷◌, refl, ◌≡◌, eqb-true, ap, ◌∙◌, arith, and_parts, and_from, false≢true, list_all}
 use Rattle.yaml_base.proofs.Common.{Text, space, Rendered, TagDirective, Node, Nodes, Pairs, no_pairs, pairs_and, entry_place, Role, as_key, as_value}
+use Rattle.yaml_base.proofs.stream_nodes.StreamPairs.{key_place, value_place, simple_key, indicated_key, simple_value, indicated_value, pair_text, pairs_text}
+use Rattle.yaml_base.proofs.{stream_lines.StreamClosed.closed, stream_lines.StreamClosed.indicator_cursor, stream_lines.StreamInside.AllInside}
+use Rattle.yaml_base.proofs.{stream_lines.StreamLineLaws.OneLine, stream_lines.StreamLineLaws.unbroken_line, stream_lines.StreamSections.is_markerless}
+use Rattle.yaml_base.proofs.{stream_lines.StreamSections.AllMarkerless, stream_nodes.StreamAgrees.node_tree, AllPass.all_pass}
 use Rattle.yaml_base.proofs.Common.{has_no_pairs, Effective, Tree, marker_of, Line, lines_of, ends_indicator, belongs_to_entry, spaces, Rules, nat_tests}
-use Rattle.yaml_base.proofs.stream_lines.{StreamClosed.closed, StreamClosed.indicator_cursor, StreamInside.AllInside, StreamLineLaws.OneLine}
-use Rattle.yaml_base.proofs.stream_lines.{StreamSections.is_markerless, StreamSections.AllMarkerless}
-use Rattle.yaml_base.proofs.stream_nodes.{StreamAgrees.node_tree, StreamFits.size, StreamFits.Fits, StreamFits.indicated_lines, StreamItems.items_text}
-use Rattle.yaml_base.proofs.stream_nodes.{StreamItems.ItemsFit, StreamItems.items_inside}
-use Rattle.yaml_base.proofs.stream_nodes.StreamPairs.{key_place, value_place, simple_key, indicated_key, simple_value, indicated_value}
-use Rattle.yaml_base.proofs.stream_nodes.StreamPairs.{pair_text, pairs_text, PairFits, PairsFit, keyed_lines, rest_inside}
-use Rattle.yaml_base.proofs.stream_nodes.StreamPairs.{indicated_pair_lines, pairs_lines}
-use Rattle.yaml_base.proofs.stream_lines.StreamLineLaws.{unbroken_line}
-use Rattle.yaml_base.proofs.AllPass.{all_pass}
+use Rattle.yaml_base.proofs.stream_nodes.StreamFits.{size, Fits, indicated_lines}
+use Rattle.yaml_base.proofs.stream_nodes.StreamItems.{items_text, ItemsFit, items_inside}
+use Rattle.yaml_base.proofs.stream_nodes.StreamPairs.{PairFits, PairsFit, keyed_lines, rest_inside, indicated_pair_lines, pairs_lines}
 
 -- a line that begins with a space is no marker
 space_markerless : (t : Text) → is_markerless (marker_of (space ∷ t)) ≡ true

@@ -1,10 +1,9 @@
 -- A break more at the end of a block scalar that strips its final breaks doesn't change what it reads as.
-use Rattle.yaml_base.proofs.Common.{nat_tests, arith, ℕ, if◌then◌else◌, option_map, option_and_then, Option, Some, Bool, false, List, [], ◌++◌, ◌∷◌}
-use Rattle.yaml_base.proofs.Common.{refl, ◌≡◌, true≢false, ap, ◌∙◌, Text, line_feed, is_read_break, elements, strip, digit_first, after_digit, chomping_first}
-use Rattle.yaml_base.proofs.Common.{after_chomping, after_break, read_block}
-use Rattle.yaml_base.proofs.stream_lines.StreamCuts.{none_not_some}
-use Rattle.yaml_base.specs.reading.ReadBlock.{Element, content, line_end, prepend_to_elements, prepend_element, detected_indentation}
-use Rattle.yaml_base.specs.reading.ReadBlock.{all_unindented, has_content, kept_lines, joined, unfolded, clip, lines_read}
+use Rattle.yaml_base.proofs.Common.{nat_tests, arith, ℕ, if◌then◌else◌, option_map, option_and_then, Option, Some, Bool, false, List, [], ◌++◌, ◌∷◌, refl, ◌≡◌}
+use Rattle.yaml_base.proofs.Common.{true≢false, ap, ◌∙◌, Text, line_feed, is_read_break, elements, strip, digit_first, after_digit, chomping_first}
+use Rattle.yaml_base.specs.reading.ReadBlock.{Element, content, line_end, prepend_to_elements, prepend_element, detected_indentation, all_unindented}
+use Rattle.yaml_base.proofs.{Common.after_chomping, Common.after_break, Common.read_block, stream_lines.StreamCuts.none_not_some}
+use Rattle.yaml_base.specs.reading.ReadBlock.{has_content, kept_lines, joined, unfolded, clip, lines_read}
 
 -- a break at the end, as text and as an element
 abbrev feed : Text

@@ -1,9 +1,7 @@
 -- The lines of a tidy text after its first lie inside the column of the block around, and of any block farther out.
-use Rattle.yaml_base.proofs.Common.{nat_tests, suc, zero, ℕ, ◌≤◌, ◌==◌, Option, None, Some, Bool, false, not, true, ◌||◌, List, [], ◌∷◌, refl, ◌≡◌}
-use Rattle.yaml_base.proofs.Common.{eqb-true, ap, ◌∙◌, arith, and_parts, and_from, false≢true, list_all, Text, space, ScalarStyle}
-use Rattle.yaml_base.proofs.Common.{is_read_break}
-use Rattle.yaml_base.proofs.Common.{begins_with_spaces, begins_with_deep_line, has_deep_lines, is_tidy, Line}
-use Rattle.yaml_base.proofs.Common.{prepend_to_first_line, prepend_character, lines_of, belongs_to_entry}
+use Rattle.yaml_base.proofs.Common.{nat_tests, suc, zero, ℕ, ◌≤◌, ◌==◌, Option, None, Some, Bool, false, not, true, ◌||◌, List, [], ◌∷◌, refl, ◌≡◌, eqb-true}
+use Rattle.yaml_base.proofs.Common.{ap, ◌∙◌, arith, and_parts, and_from, false≢true, list_all, Text, space, ScalarStyle, is_read_break, begins_with_spaces}
+use Rattle.yaml_base.proofs.Common.{begins_with_deep_line, has_deep_lines, is_tidy, Line, prepend_to_first_line, prepend_character, lines_of, belongs_to_entry}
 use Rattle.yaml_base.proofs.stream_lines.StreamInside.{AllInside}
 
 -- Fewer spaces

@@ -1,11 +1,10 @@
 -- No node is read of a line that begins with a directive's `%` or that is a document's marker: so what reads as a node is neither.
-use Rattle.yaml_base.proofs.Common.{nat_tests, arith, ℕ, if◌then◌else◌, ◌==◌, option_map, Option, None, Some, codes, Bool, false}
-use Rattle.yaml_base.proofs.Common.{true, List, [], ◌++◌, ◌∷◌, refl, ◌≡◌, eqb-true, append_assoc, ap, sym, ◌∙◌, and_parts, false≢true}
-use Rattle.yaml_base.proofs.Common.{Text, stood_plain, Tree, begins_with_marker, start_marker, end_marker, no_exclamation}
-use Rattle.yaml_base.proofs.Common.{marker_of, begins_with_percent, Line, without_last_space, key_of_text, key_from}
-use Rattle.yaml_base.proofs.Common.{key_of_line, trimmed, word_text, kind_of_text, text_read, begins_text, kind_of_node}
-use Rattle.yaml_base.proofs.Common.{node_read, Rules, Properties, no_properties, scalar_parsed, word_after, word_read}
+use Rattle.yaml_base.proofs.Common.{nat_tests, arith, ℕ, if◌then◌else◌, ◌==◌, option_map, Option, None, Some, codes, Bool, false, true, List, [], ◌++◌, ◌∷◌}
+use Rattle.yaml_base.proofs.Common.{refl, ◌≡◌, eqb-true, append_assoc, ap, sym, ◌∙◌, and_parts, false≢true, Text, stood_plain, Tree, begins_with_marker}
+use Rattle.yaml_base.proofs.Common.{start_marker, end_marker, no_exclamation, marker_of, begins_with_percent, Line, without_last_space, key_of_text, key_from}
+use Rattle.yaml_base.proofs.Common.{key_of_line, trimmed, word_text, kind_of_text, text_read, begins_text, kind_of_node, node_read, Rules, Properties}
 use Rattle.yaml_base.proofs.stream_lines.{StreamCuts.none_not_some, StreamSections.is_markerless}
+use Rattle.yaml_base.proofs.Common.{no_properties, scalar_parsed, word_after, word_read}
 
 -- what a document's text doesn't begin with
 data LineStart : Type 0 where

@@ -1,14 +1,13 @@
 -- The trees that a layout's nodes are to be read as, and that they agree with the events.
 use Rattle.yaml_base.proofs.Common.{arith, if◌then◌else◌, is_some, Option, None, Some, Bool, false, not, true, ◌&&◌, ◌||◌, List, [], ◌∷◌, refl, ◌≡◌, ap, ◌∙◌}
-use Rattle.yaml_base.proofs.Common.{and_parts, and_from, false≢true, Decides-int_eq, Text, ScalarStyle, TagDirective, Scalar, scalar_tag}
-use Rattle.yaml_base.proofs.Common.{collection_tag, Node, alias_node, scalar_node, Nodes, sequence_node, Pairs, mapping_node, no_nodes, nodes_and, no_pairs}
-use Rattle.yaml_base.proofs.Common.{pairs_and, Document, root_place, allowed_under, style_asked_at, choice_of, is_written_in_flow, entry_place, as_item}
-use Rattle.yaml_base.proofs.Common.{as_key, as_value, Place, has_no_nodes, has_no_pairs, is_simple, is_simple_at, Effective, directives_in_force, Allowances}
-use Rattle.yaml_base.proofs.Common.{is_empty, Choice, lacks_tag_and_flags, is_plain, requested_style, fitting_style, fits_plain, Stood, stood_plain}
-use Rattle.yaml_base.proofs.Common.{stood_quoted, stood_bare, Tagging, with_tag, without_tag, Tree, alias_tree, scalar_tree, Trees, sequence_tree, TreePairs}
-use Rattle.yaml_base.proofs.Common.{mapping_tree, no_trees, trees_and, no_tree_pairs, tree_pairs_and, DocumentTree, document_agrees, nat_tests}
-use Rattle.yaml_base.specs.streams.StreamContent.{may_stand, is_same_text, tagging_agrees, tree_agrees, trees_agree, tree_pairs_agree}
-use Rattle.yaml_base.specs.streams.StreamContent.{are_same_directives}
+use Rattle.yaml_base.proofs.Common.{and_parts, and_from, false≢true, Decides-int_eq, Text, ScalarStyle, TagDirective, Scalar, scalar_tag, collection_tag, Node}
+use Rattle.yaml_base.proofs.Common.{alias_node, scalar_node, Nodes, sequence_node, Pairs, mapping_node, no_nodes, nodes_and, no_pairs, pairs_and, Document}
+use Rattle.yaml_base.proofs.Common.{root_place, allowed_under, style_asked_at, choice_of, is_written_in_flow, entry_place, as_item, as_key, as_value, Place}
+use Rattle.yaml_base.proofs.Common.{has_no_nodes, has_no_pairs, is_simple, is_simple_at, Effective, directives_in_force, Allowances, is_empty, Choice}
+use Rattle.yaml_base.proofs.Common.{lacks_tag_and_flags, is_plain, requested_style, fitting_style, fits_plain, Stood, stood_plain, stood_quoted, stood_bare}
+use Rattle.yaml_base.proofs.Common.{Tagging, with_tag, without_tag, Tree, alias_tree, scalar_tree, Trees, sequence_tree, TreePairs, mapping_tree, no_trees}
+use Rattle.yaml_base.proofs.Common.{trees_and, no_tree_pairs, tree_pairs_and, DocumentTree, document_agrees, nat_tests}
+use Rattle.yaml_base.specs.streams.StreamContent.{may_stand, is_same_text, tagging_agrees, tree_agrees, trees_agree, tree_pairs_agree, are_same_directives}
 use Rattle.yaml_base.proofs.TagForms.{same_text}
 
 -- how a scalar stands in a style, after the bare tag or not

@@ -1,15 +1,13 @@
 -- An alias that is no simple key fits where it stands in a block.
-use Rattle.yaml_base.proofs.Common.{ℕ, ◌<◌, if◌then◌else◌, ◌==◌, is_some, Option, None, Some, Bool, false, not, true, ◌&&◌, List, [], ◌++◌, ◌∷◌, refl}
-use Rattle.yaml_base.proofs.Common.{◌≡◌, eqb-true, true≢false, append-nil, append_assoc, ap, subst, sym, ◌∙◌, arith, and_parts, false≢true, list_all}
-use Rattle.yaml_base.proofs.Common.{option_or, Text, line_feed, space, is_alpha, Cursor, TagDirective, alias_node, render_alias, Place, is_simple_at}
-use Rattle.yaml_base.proofs.Common.{is_read_break, Effective, is_read_white, alias_tree, ends_indicator, all_deeper, spaces, key_ends, key_from}
-use Rattle.yaml_base.proofs.Common.{prepend_to_trimmed, trimmed, begins_mapping, begins_text, kind_of_node, Rules, no_properties, word_after}
-use Rattle.yaml_base.proofs.{stream_lines.StreamClosed.closed, stream_lines.StreamClosed.lines_broken, stream_lines.StreamLineLaws.is_closed}
-use Rattle.yaml_base.proofs.{stream_lines.StreamLineLaws.OneLine, stream_nodes.StreamBlocks.below_ends, stream_nodes.StreamFits.Fits}
-use Rattle.yaml_base.proofs.{stream_nodes.StreamLeafFits.TextReads, stream_nodes.StreamLeafFits.text_fits, stream_nodes.StreamNodesFit.LeafFits}
-use Rattle.yaml_base.proofs.stream_lines.StreamLineLaws.{break_line, not_white}
-use Rattle.yaml_base.proofs.stream_lines.StreamClosed.{character_line}
-use Rattle.yaml_base.proofs.AllPass.{none_pass}
+use Rattle.yaml_base.proofs.Common.{ℕ, ◌<◌, if◌then◌else◌, ◌==◌, is_some, Option, None, Some, Bool, false, not, true, ◌&&◌, List, [], ◌++◌, ◌∷◌, refl, ◌≡◌}
+use Rattle.yaml_base.proofs.Common.{eqb-true, true≢false, append-nil, append_assoc, ap, subst, sym, ◌∙◌, arith, and_parts, false≢true, list_all, option_or}
+use Rattle.yaml_base.proofs.Common.{Text, line_feed, space, is_alpha, Cursor, TagDirective, alias_node, render_alias, Place, is_simple_at, is_read_break}
+use Rattle.yaml_base.proofs.Common.{Effective, is_read_white, alias_tree, ends_indicator, all_deeper, spaces, key_ends, key_from, prepend_to_trimmed, trimmed}
+use Rattle.yaml_base.proofs.{stream_nodes.StreamBlocks.below_ends, stream_nodes.StreamFits.Fits, stream_nodes.StreamNodesFit.LeafFits, AllPass.none_pass}
+use Rattle.yaml_base.proofs.Common.{begins_mapping, begins_text, kind_of_node, Rules, no_properties, word_after}
+use Rattle.yaml_base.proofs.stream_lines.StreamClosed.{closed, lines_broken, character_line}
+use Rattle.yaml_base.proofs.stream_lines.StreamLineLaws.{is_closed, OneLine, break_line, not_white}
+use Rattle.yaml_base.proofs.stream_nodes.StreamLeafFits.{TextReads, text_fits}
 use Rattle.yaml_base.proofs.stream_nodes.StreamLeads.{before_count, before_spaces, before_some}
 
 -- a letter of a name is none of what names don't hold

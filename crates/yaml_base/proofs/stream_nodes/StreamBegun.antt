@@ -1,20 +1,17 @@
 -- The properties of a collection in a block are on one line, after a space where one is needed, and are read there.
-use Rattle.yaml_base.proofs.Common.{ℕ, ◌+◌, if◌then◌else◌, ◌==◌, is_some, Option, None, Some, length, Bool, false, true, ◌&&◌, ◌||◌, List, [], ◌++◌}
-use Rattle.yaml_base.proofs.Common.{◌∷◌, refl, ◌≡◌, append-nil, append_assoc, ap, subst, sym, ◌∙◌, arith, nat_tests, Text}
-use Rattle.yaml_base.proofs.Common.{space, is_blank, is_break, Cursor, space_if, TagDirective, Collection, collection_tag, render_properties}
-use Rattle.yaml_base.proofs.Common.{is_read_break, Effective, ParsedTag, is_spaces, ends_indicator, spaces, key_from, key_of_line}
-use Rattle.yaml_base.proofs.Common.{begins_sequence, begins_mapping, begins_text, kind_of_node, Rules, properties_read}
-use Rattle.yaml_base.proofs.{stream_flow.StreamFlowScalars.rules_of, stream_flow.StreamFlowWords.tag_of_collection, stream_flow.StreamPropertyWords.lead}
-use Rattle.yaml_base.proofs.{stream_keys.StreamNoKeys.KeyNowhere, stream_keys.StreamNoKeys.nowhere_alone, stream_keys.StreamNoKeys.properties_nowhere}
-use Rattle.yaml_base.proofs.{stream_lines.StreamInside.blank_spaces, stream_lines.StreamLineLaws.OneLine, stream_lines.StreamLineLaws.one_line_both}
-use Rattle.yaml_base.proofs.{stream_nodes.StreamAliasFits.name_line, stream_nodes.StreamLeads.spelling_text, stream_nodes.StreamLeads.spelling_ended}
-use Rattle.yaml_base.proofs.{stream_nodes.StreamLeads.tag_is_written, stream_nodes.StreamNodesFit.BegunReads, stream_nodes.StreamStands.tag_written}
-use Rattle.yaml_base.proofs.{stream_nodes.StreamStands.tag_meant, stream_nodes.StreamStands.TagStands}
+use Rattle.yaml_base.proofs.Common.{ℕ, ◌+◌, if◌then◌else◌, ◌==◌, is_some, Option, None, Some, length, Bool, false, true, ◌&&◌, ◌||◌, List, [], ◌++◌, ◌∷◌, refl}
+use Rattle.yaml_base.proofs.Common.{◌≡◌, append-nil, append_assoc, ap, subst, sym, ◌∙◌, arith, nat_tests, Text, space, is_blank, is_break, Cursor, space_if}
+use Rattle.yaml_base.proofs.Common.{TagDirective, Collection, collection_tag, render_properties, is_read_break, Effective, ParsedTag, is_spaces}
+use Rattle.yaml_base.proofs.Common.{ends_indicator, spaces, key_from, key_of_line, begins_sequence, begins_mapping, begins_text, kind_of_node, Rules}
+use Rattle.yaml_base.proofs.{Common.properties_read, stream_flow.StreamFlowScalars.rules_of, stream_flow.StreamFlowWords.tag_of_collection}
+use Rattle.yaml_base.proofs.{stream_flow.StreamPropertyWords.lead, stream_lines.StreamInside.blank_spaces, stream_nodes.StreamAliasFits.name_line}
+use Rattle.yaml_base.proofs.{stream_nodes.StreamNodesFit.BegunReads, AllPass.fewer_pass}
+use Rattle.yaml_base.proofs.stream_keys.StreamNoKeys.{KeyNowhere, nowhere_alone, properties_nowhere}
+use Rattle.yaml_base.proofs.stream_lines.StreamLineLaws.{OneLine, one_line_both, unbroken_line}
+use Rattle.yaml_base.proofs.stream_nodes.StreamLeads.{spelling_text, spelling_ended, tag_is_written, before_count, before_spaces, before_some}
+use Rattle.yaml_base.proofs.stream_nodes.StreamStands.{tag_written, tag_meant, TagStands}
 use Rattle.yaml_base.proofs.stream_nodes.StreamBlocks.{Said, BegunKind, unsaid, is_parsed}
 use Rattle.yaml_base.proofs.stream_nodes.StreamProperties.{holds_white, IsTagged, IsNamed, properties_text, name_letters, properties_parsed}
-use Rattle.yaml_base.proofs.stream_lines.StreamLineLaws.{unbroken_line}
-use Rattle.yaml_base.proofs.AllPass.{fewer_pass}
-use Rattle.yaml_base.proofs.stream_nodes.StreamLeads.{before_count, before_spaces, before_some}
 
 -- Lines
 

@@ -4,14 +4,13 @@ use Rattle.yaml_base.proofs.Common.{suc, zero, ℕ, ◌+◌, ◌-◌, ◌<◌, �
 use Rattle.yaml_base.proofs.Common.{List, [], ◌++◌, ◌∷◌, refl, ◌≡◌, append-nil, append_assoc, ap, subst, sym, ◌∙◌, arith, and_parts, list_all, Text, or-true}
 use Rattle.yaml_base.proofs.Common.{line_feed, space, Cursor, Rendered, render_nothing, new_line, Place, Tree, Line, lines_of, is_spaces, without_blank_lines}
 use Rattle.yaml_base.proofs.Common.{first_line_is_blank, ends_indicator, belongs_to_entry, Indented, spaces, blanked, LinesReader, text_read, NodeKind}
-use Rattle.yaml_base.proofs.Common.{begins_text}
-use Rattle.yaml_base.proofs.Common.{kind_of_node, ReadsText, node_by_kind, node_at, node_lines, begins_properties, after_properties, text_or_properties}
-use Rattle.yaml_base.proofs.Common.{node_read, Rules, Properties, no_properties, PropertiesRead, properties_read, collection_tag_parsed}
-use Rattle.yaml_base.proofs.stream_lines.{StreamLineLaws.is_closed, StreamLineLaws.OneLine, StreamLineLaws.one_line_both, StreamTidyLaws.lines_after_first}
+use Rattle.yaml_base.proofs.Common.{begins_text, kind_of_node, ReadsText, node_by_kind, node_at, node_lines, begins_properties, after_properties}
 use Rattle.yaml_base.proofs.stream_lines.StreamClosed.{closing, closed, Settled, spaces_line, begins_cons, lines_behind, after_line, lines_broken}
-use Rattle.yaml_base.proofs.stream_lines.StreamClosed.{closed_alike, closed_both}
+use Rattle.yaml_base.proofs.{stream_lines.StreamTidyLaws.lines_after_first, stream_lines.StreamClosed.closed_alike, stream_lines.StreamClosed.closed_both}
+use Rattle.yaml_base.proofs.{stream_nodes.StreamFits.WithinColumn, stream_nodes.StreamFits.Opens, stream_nodes.StreamFits.Fits, stream_nodes.StreamItems.Lays}
+use Rattle.yaml_base.proofs.Common.{text_or_properties, node_read, Rules, Properties, no_properties, PropertiesRead, properties_read, collection_tag_parsed}
+use Rattle.yaml_base.proofs.stream_lines.StreamLineLaws.{is_closed, OneLine, one_line_both}
 use Rattle.yaml_base.proofs.stream_lines.StreamInside.{indented_spaces, not_blank, blank_spaces, AllInside, blank_both}
-use Rattle.yaml_base.proofs.stream_nodes.{StreamFits.WithinColumn, StreamFits.Opens, StreamFits.Fits, StreamItems.Lays}
 
 -- Lines
 

@@ -3,17 +3,15 @@ use Rattle.yaml_base.proofs.Common.{arith, ℕ, if◌then◌else◌, is_some, op
 use Rattle.yaml_base.proofs.Common.{◌≡◌, true≢false, append-nil, ap, subst, sym, ◌∙◌, Text, TagDirective, Node, Nodes, Pairs, no_nodes, nodes_and, no_pairs}
 use Rattle.yaml_base.proofs.Common.{pairs_and, has_no_nodes, has_no_pairs, is_simple, Effective, sequence_tree, mapping_tree, lines_of, begins_with_indicator}
 use Rattle.yaml_base.proofs.Common.{spaces, key_of_line, begins_sequence, begins_mapping, begins_text, kind_of_node, node_read, Rules, collection_tag_parsed}
-use Rattle.yaml_base.{proofs.stream_lines.StreamClosed.closed, proofs.stream_lines.StreamInside.splits_alone, specs.streams.StreamLines.Entries as EntriesFound}
+use Rattle.yaml_base.proofs.stream_nodes.StreamPairs.{key_place, simple_key, indicated_key, simple_value, indicated_value, pair_text, pairs_text, pair_entries}
+use Rattle.yaml_base.proofs.{Common.or_right, stream_nodes.StreamPairReads.pairs_read_back, stream_lines.StreamLineLaws.unbroken_line}
 use Rattle.yaml_base.proofs.stream_nodes.StreamAgrees.{node_tree, nodes_tree, pairs_tree}
 use Rattle.yaml_base.proofs.stream_nodes.StreamFits.{items_size, pairs_size, indicated_lines}
-use Rattle.yaml_base.proofs.stream_nodes.StreamPairReads.{pairs_read_back}
 use Rattle.yaml_base.proofs.stream_nodes.StreamBlocks.{Opened, opened_more, opened_reads, Block}
 use Rattle.yaml_base.proofs.stream_nodes.StreamItems.{items_text, item_entries, ItemsFit, items_lines, items_split, items_read_back}
-use Rattle.yaml_base.proofs.stream_nodes.StreamPairs.{key_place, simple_key, indicated_key, simple_value, indicated_value, pair_text, pairs_text, pair_entries}
 use Rattle.yaml_base.proofs.stream_nodes.StreamPairs.{PairFits, PairsFit, keyed_lines, indicated_pair_lines, pairs_lines, pairs_split}
 use Rattle.yaml_base.specs.streams.StreamNodes.{items_read, pairs_held, pairs_read, entries_whole}
-use Rattle.yaml_base.proofs.stream_lines.StreamLineLaws.{unbroken_line}
-use Rattle.yaml_base.proofs.Common.{or_right}
+use Rattle.yaml_base.{proofs.stream_lines.StreamClosed.closed, proofs.stream_lines.StreamInside.splits_alone, specs.streams.StreamLines.Entries as EntriesFound}
 
 -- The first line
 

@@ -1,17 +1,16 @@
 -- An empty plain scalar in a block, of which its anchor and tag are written or nothing, fits.
-use Rattle.yaml_base.proofs.Common.{nat_tests, suc, zero, ℕ, ◌≤◌, if◌then◌else◌, option_map, Option, None, Some, Bool, false, not, ◌||◌, List, [], ◌++◌}
-use Rattle.yaml_base.proofs.Common.{◌∷◌, refl, ◌≡◌, append-nil, append_assoc, ap, sym, ◌∙◌, arith, false≢true, Text, line_feed, Cursor, Rendered}
-use Rattle.yaml_base.proofs.Common.{render_nothing, plain, TagDirective, render_properties, Place, Effective, ParsedTag, stood_plain}
-use Rattle.yaml_base.proofs.Common.{scalar_tree, Line, lines_of, spaces, blanked, text_read, ReadsText, node_at, begins_properties, after_properties}
-use Rattle.yaml_base.proofs.Common.{text_or_properties, node_read, Rules, no_properties, collection_tag_parsed, tagging_parsed}
+use Rattle.yaml_base.proofs.Common.{nat_tests, suc, zero, ℕ, ◌≤◌, if◌then◌else◌, option_map, Option, None, Some, Bool, false, not, ◌||◌, List, [], ◌++◌, ◌∷◌}
+use Rattle.yaml_base.proofs.Common.{refl, ◌≡◌, append-nil, append_assoc, ap, sym, ◌∙◌, arith, false≢true, Text, line_feed, Cursor, Rendered, render_nothing}
+use Rattle.yaml_base.proofs.Common.{plain, TagDirective, render_properties, Place, Effective, ParsedTag, stood_plain, scalar_tree, Line, lines_of, spaces}
+use Rattle.yaml_base.proofs.Common.{blanked, text_read, ReadsText, node_at, begins_properties, after_properties, text_or_properties, node_read, Rules}
 use Rattle.yaml_base.proofs.{stream_flow.StreamFlowScalars.rules_of, stream_flow.StreamFlowWords.scalar_in, stream_lines.StreamCuts.none_not_some}
-use Rattle.yaml_base.proofs.{stream_lines.StreamInside.blank_spaces, stream_lines.StreamLineLaws.is_closed, stream_nodes.StreamAgrees.tagging_in}
-use Rattle.yaml_base.proofs.{stream_nodes.StreamBegun.begun_kind, stream_nodes.StreamFits.Fits, stream_nodes.StreamProperties.IsNamed}
-use Rattle.yaml_base.proofs.{stream_nodes.StreamScalarsFit.render_styled, stream_nodes.StreamStands.TagStands}
+use Rattle.yaml_base.proofs.{stream_lines.StreamInside.blank_spaces, stream_lines.StreamInside.blank_both, stream_lines.StreamLineLaws.is_closed}
+use Rattle.yaml_base.proofs.{stream_nodes.StreamAgrees.tagging_in, stream_nodes.StreamBegun.begun_kind, stream_nodes.StreamFits.Fits}
+use Rattle.yaml_base.proofs.{stream_nodes.StreamProperties.IsNamed, stream_nodes.StreamScalarsFit.render_styled, stream_nodes.StreamStands.TagStands}
+use Rattle.yaml_base.proofs.Common.{no_properties, collection_tag_parsed, tagging_parsed}
 use Rattle.yaml_base.proofs.stream_lines.StreamClosed.{closed, spaces_line, lines_broken}
 use Rattle.yaml_base.proofs.stream_nodes.StreamLeafFits.{TextReads, text_fits}
 use Rattle.yaml_base.proofs.stream_nodes.StreamBlocks.{Said, BegunKind, unsaid, is_parsed, below_ends}
-use Rattle.yaml_base.proofs.stream_lines.StreamInside.{blank_both}
 
 -- after an empty plain body white space has ended
 abbrev pub emptied : Rendered → Rendered

@@ -2,13 +2,11 @@
 use Rattle.yaml_base.proofs.Common.{suc, zero, ℕ, ◌+◌, ◌<◌, ◌≤◌, if◌then◌else◌, ◌==◌, Option, None, Some, Bool, false, not, true, ◌&&◌, ◌||◌, List, [], ◌++◌}
 use Rattle.yaml_base.proofs.Common.{◌∷◌, refl, ◌≡◌, ap, ◌∙◌, arith, and_parts, and_from, list_all, Text, space, Cursor, Rendered, Place, is_in_mapping, Tree}
 use Rattle.yaml_base.proofs.Common.{Line, lines_of, without_blank_lines, ends_indicator, belongs_to_entry, Indented, spaces, LinesReader, begins_text}
-use Rattle.yaml_base.proofs.Common.{kind_of_node}
-use Rattle.yaml_base.proofs.Common.{ReadsText, node_by_kind, node_at, begins_properties, text_or_properties, node_read, Rules, no_properties}
 use Rattle.yaml_base.proofs.{stream_lines.StreamLineLaws.is_closed, stream_lines.StreamTidyLaws.lines_after_first, stream_nodes.StreamBlocks.spaces_both}
-use Rattle.yaml_base.proofs.{stream_nodes.StreamFits.WithinColumn, stream_nodes.StreamFits.Fits}
+use Rattle.yaml_base.proofs.{stream_nodes.StreamFits.WithinColumn, stream_nodes.StreamFits.Fits, AllPass.all_pass}
+use Rattle.yaml_base.proofs.Common.{kind_of_node, ReadsText, node_by_kind, node_at, begins_properties, text_or_properties, node_read, Rules, no_properties}
 use Rattle.yaml_base.proofs.stream_lines.StreamClosed.{closed, Settled, spaces_line, lines_behind, rank}
 use Rattle.yaml_base.proofs.stream_lines.StreamInside.{indented_spaces, not_blank, AllInside, inside_mapping}
-use Rattle.yaml_base.proofs.AllPass.{all_pass}
 
 -- Inside
 

@@ -96,63 +96,57 @@ no_canonical s start empty h =
 may_stand : (s : Effective) (column : Option ℕ) → s.canonical ≡ false → MayStand s column
 may_stand s column block h = absurd (false≢true (sym block ∙ h))
 
--- what is asked of the parts of a node in a block, where its names and bodies stand
-mutual
-  pub leaves_stand : (n : Node) (s : Effective) (own directives : List TagDirective) (scalars : ScalarsFit s own directives)
-      (flows : FlowsFit s own directives) (keys : SimpleKeysFit s own directives) (role : Role) (column : Option ℕ) (cursor : Cursor)
-      → MayStand s column → (is_key role && is_simple s.canonical directives n) ≡ false
-      → Stands column cursor → NamesStand s.portable own s.canonical directives n
-      → BodiesHold (BodyStands s) n s directives (block_place role column) cursor
-      → Leaves n (rules_of s own) s directives (block_place role column) cursor
-  leaves_stand (alias_node name) s own directives scalars flows keys role column cursor may simple stands names bodies =
-      alias_leaf s own directives name role column cursor simple names
-  leaves_stand (scalar_node content) s own directives scalars flows keys role column cursor may simple stands names bodies =
-      scalars content role column cursor simple stands names bodies
-  leaves_stand (sequence_node start items) s own directives scalars flows keys role column cursor may simple stands names bodies =
-      let place = block_place role column in
-      let begun = render_begun s directives start cursor in
-      let e = entries_column false (is_undented s role) s.indent column begun.cursor in
-      either_of _ _ _
-      (λ h. flows (sequence_node start items) role column cursor may h simple stands names bodies)
-      (λ h. (
-        begun_reads s own _ start cursor names.0 names.1,
-        items_stand items s own directives scalars flows keys (no_canonical s start _ h) e begun.cursor names.2 (rw h at bodies),
-      ))
-  leaves_stand (mapping_node start pairs) s own directives scalars flows keys role column cursor may simple stands names bodies =
-      let place = block_place role column in
-      let begun = render_begun s directives start cursor in
-      let e = entries_column false false s.indent column begun.cursor in
-      either_of (LeafFits (rules_of s own) s directives (mapping_node start pairs) place cursor)
-      (BegunReads (rules_of s own) s directives start cursor × PairLeaves pairs (rules_of s own) s directives e)
-      (is_written_in_flow s place start (has_no_pairs pairs))
-      (λ h. flows (mapping_node start pairs) role column cursor may h simple stands names bodies)
-      (λ h. (
-        begun_reads s own directives start cursor names.0 names.1,
-        pairs_stand pairs s own directives scalars flows keys (no_canonical s start (has_no_pairs pairs) h) e begun.cursor names.2 (rw h at bodies),
-      ))
+module _ (s : Effective) (own directives : List TagDirective) (scalars : ScalarsFit s own directives) (flows : FlowsFit s own directives)
+    (keys : SimpleKeysFit s own directives) where
+  -- what is asked of the parts of a node in a block, where its names and bodies stand
+  mutual
+    pub leaves_stand : (n : Node) (role : Role) (column : Option ℕ) (cursor : Cursor) → MayStand s column
+        → (is_key role && is_simple s.canonical directives n) ≡ false → Stands column cursor → NamesStand s.portable own s.canonical directives n
+        → BodiesHold (BodyStands s) n s directives (block_place role column) cursor → Leaves n (rules_of s own) s directives (block_place role column) cursor
+    leaves_stand (alias_node name) role column cursor may simple stands names bodies =
+        alias_leaf s own directives name role column cursor simple names
+    leaves_stand (scalar_node content) role column cursor may simple stands names bodies =
+        scalars content role column cursor simple stands names bodies
+    leaves_stand (sequence_node start items) role column cursor may simple stands names bodies =
+        let place = block_place role column in
+        let begun = render_begun s directives start cursor in
+        let e = entries_column false (is_undented s role) s.indent column begun.cursor in
+        either_of _ _ _
+        (λ h. flows (sequence_node start items) role column cursor may h simple stands names bodies)
+        (λ h. (
+          begun_reads s own _ start cursor names.0 names.1,
+          items_stand items (no_canonical s start _ h) e begun.cursor names.2 (rw h at bodies),
+        ))
+    leaves_stand (mapping_node start pairs) role column cursor may simple stands names bodies =
+        let place = block_place role column in
+        let begun = render_begun s directives start cursor in
+        let e = entries_column false false s.indent column begun.cursor in
+        either_of (LeafFits (rules_of s own) s directives (mapping_node start pairs) place cursor)
+        (BegunReads (rules_of s own) s directives start cursor × PairLeaves pairs (rules_of s own) s directives e)
+        (is_written_in_flow s place start (has_no_pairs pairs))
+        (λ h. flows (mapping_node start pairs) role column cursor may h simple stands names bodies)
+        (λ h. (
+          begun_reads s own directives start cursor names.0 names.1,
+          pairs_stand pairs (no_canonical s start (has_no_pairs pairs) h) e begun.cursor names.2 (rw h at bodies),
+        ))
 
-  items_stand : (items : Nodes) (s : Effective) (own directives : List TagDirective) (scalars : ScalarsFit s own directives)
-      (flows : FlowsFit s own directives) (keys : SimpleKeysFit s own directives) → s.canonical ≡ false → (e : ℕ) (cursor : Cursor)
-      → AllNamesStand s.portable own s.canonical directives items → ItemsHold (BodyStands s) items s directives false e cursor
-      → ItemLeaves items (rules_of s own) s directives e
-  items_stand no_nodes s own directives scalars flows keys block e cursor names hold = tt
-  items_stand (nodes_and items last) s own directives scalars flows keys block e cursor names hold = (
-    items_stand items s own directives scalars flows keys block e cursor names.0 hold.0,
-    leaves_stand last s own directives scalars flows keys (as_item (has_no_nodes items)) (Some e) (indicator_cursor e)
-        (may_stand s (Some e) block) refl (refl, λ h. refl) names.1 hold.1,
-  )
+    items_stand : (items : Nodes) → s.canonical ≡ false → (e : ℕ) (cursor : Cursor) → AllNamesStand s.portable own s.canonical directives items
+        → ItemsHold (BodyStands s) items s directives false e cursor → ItemLeaves items (rules_of s own) s directives e
+    items_stand no_nodes block e cursor names hold = tt
+    items_stand (nodes_and items last) block e cursor names hold = (
+      items_stand items block e cursor names.0 hold.0,
+      leaves_stand last (as_item (has_no_nodes items)) (Some e) (indicator_cursor e)
+          (may_stand s (Some e) block) refl (refl, λ h. refl) names.1 hold.1,
+    )
 
-  pairs_stand : (pairs : Pairs) (s : Effective) (own directives : List TagDirective) (scalars : ScalarsFit s own directives)
-      (flows : FlowsFit s own directives) (keys : SimpleKeysFit s own directives) → s.canonical ≡ false → (e : ℕ) (cursor : Cursor)
-      → PairsNamesStand s.portable own s.canonical directives pairs → PairsHold (BodyStands s) pairs s directives false e cursor
-      → PairLeaves pairs (rules_of s own) s directives e
-  pairs_stand no_pairs s own directives scalars flows keys block e cursor names hold = tt
-  pairs_stand (pairs_and pairs key value) s own directives scalars flows keys block e cursor names hold = (
-    pairs_stand pairs s own directives scalars flows keys block e cursor names.0 hold.0,
-    pair_leaves s own directives keys pairs key value e (pairs_own pairs s directives false e cursor).cursor names.1
-        (is_simple s.canonical directives key) refl (hold.1, hold.2)
-        (λ h bodies. leaves_stand key s own directives scalars flows keys (as_key (has_no_pairs pairs)) (Some e) (indicator_cursor e)
-        (may_stand s (Some e) block) h (refl, λ i. refl) names.1 bodies)
-        (λ y at stands bodies. leaves_stand value s own directives scalars flows keys (as_value y) (Some e) at
-        (may_stand s (Some e) block) refl stands names.2 bodies),
-  )
+    pairs_stand : (pairs : Pairs) → s.canonical ≡ false → (e : ℕ) (cursor : Cursor) → PairsNamesStand s.portable own s.canonical directives pairs
+        → PairsHold (BodyStands s) pairs s directives false e cursor → PairLeaves pairs (rules_of s own) s directives e
+    pairs_stand no_pairs block e cursor names hold = tt
+    pairs_stand (pairs_and pairs key value) block e cursor names hold = (
+      pairs_stand pairs block e cursor names.0 hold.0,
+      pair_leaves s own directives keys pairs key value e (pairs_own pairs s directives false e cursor).cursor names.1
+          (is_simple s.canonical directives key) refl (hold.1, hold.2)
+          (λ h bodies. leaves_stand key (as_key (has_no_pairs pairs)) (Some e) (indicator_cursor e)
+          (may_stand s (Some e) block) h (refl, λ i. refl) names.1 bodies)
+          (λ y at stands bodies. leaves_stand value (as_value y) (Some e) at (may_stand s (Some e) block) refl stands names.2 bodies),
+    )

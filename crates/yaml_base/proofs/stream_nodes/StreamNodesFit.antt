@@ -227,34 +227,30 @@ pair_fits true pairs key value rules s directives e leaves value_fits key_fits =
 pair_fits false pairs key value rules s directives e leaves value_fits
     key_fits = (key_fits leaves.0, value_fits false (indicator_cursor e) (refl, λ h. refl) leaves.1)
 
--- a node in a block fits where its leaves do; so do the items of a sequence and the pairs of a mapping
-mutual
-  pub node_fits : (n : Node) (rules : Rules) (s : Effective) (directives : List TagDirective) (place : Place) (cursor : Cursor) → 2 ≤ s.indent
-      → Stands place.column cursor
-      → Leaves n rules s directives place cursor → Fits rules (size n) (node_own n s directives place cursor) (node_tree n s directives place) place cursor
-  node_fits (alias_node name) rules s directives place cursor deep stands leaves = leaves
-  node_fits (scalar_node content) rules s directives place cursor deep stands leaves = leaves
-  node_fits (sequence_node start items) rules s directives place cursor deep stands leaves =
-      sequence_fits start items rules s directives place cursor deep stands leaves (λ e each. items_fit items rules s directives e deep each)
-  node_fits (mapping_node start pairs) rules s directives place cursor deep stands leaves =
-      mapping_fits start pairs rules s directives place cursor deep stands leaves (λ e each. pairs_fit pairs rules s directives e deep each)
+module _ (rules : Rules) (s : Effective) (directives : List TagDirective) (deep : 2 ≤ s.indent ) where
+  -- a node in a block fits where its leaves do; so do the items of a sequence and the pairs of a mapping
+  mutual
+    pub node_fits : (n : Node) (place : Place) (cursor : Cursor) → Stands place.column cursor → Leaves n rules s directives place cursor
+        → Fits rules (size n) (node_own n s directives place cursor) (node_tree n s directives place) place cursor
+    node_fits (alias_node name) place cursor stands leaves = leaves
+    node_fits (scalar_node content) place cursor stands leaves = leaves
+    node_fits (sequence_node start items) place cursor stands leaves =
+        sequence_fits start items rules s directives place cursor deep stands leaves (λ e each. items_fit items e each)
+    node_fits (mapping_node start pairs) place cursor stands leaves =
+        mapping_fits start pairs rules s directives place cursor deep stands leaves (λ e each. pairs_fit pairs e each)
 
-  pub items_fit : (items : Nodes) (rules : Rules) (s : Effective) (directives : List TagDirective) (e : ℕ) → 2 ≤ s.indent
-      → ItemLeaves items rules s directives e
-      → ItemsFit rules s directives items e
-  items_fit no_nodes rules s directives e deep leaves = tt
-  items_fit (nodes_and items last) rules s directives e deep leaves = (
-    items_fit items rules s directives e deep leaves.0,
-    node_fits last rules s directives (item_place items e) (indicator_cursor e) deep (refl, λ h. refl) leaves.1,
-  )
+    pub items_fit : (items : Nodes) (e : ℕ) → ItemLeaves items rules s directives e → ItemsFit rules s directives items e
+    items_fit no_nodes e leaves = tt
+    items_fit (nodes_and items last) e leaves = (
+      items_fit items e leaves.0,
+      node_fits last (item_place items e) (indicator_cursor e) (refl, λ h. refl) leaves.1,
+    )
 
-  pub pairs_fit : (pairs : Pairs) (rules : Rules) (s : Effective) (directives : List TagDirective) (e : ℕ) → 2 ≤ s.indent
-      → PairLeaves pairs rules s directives e
-      → PairsFit rules s directives pairs e
-  pairs_fit no_pairs rules s directives e deep leaves = tt
-  pairs_fit (pairs_and pairs key value) rules s directives e deep leaves = (
-    pairs_fit pairs rules s directives e deep leaves.0,
-    pair_fits (is_simple s.canonical directives key) pairs key value rules s directives e leaves.1
-        (λ y cursor stands each. node_fits value rules s directives (value_place y e) cursor deep stands each)
-        (λ each. node_fits key rules s directives (key_place pairs e) (indicator_cursor e) deep (refl, λ h. refl) each),
-  )
+    pub pairs_fit : (pairs : Pairs) (e : ℕ) → PairLeaves pairs rules s directives e → PairsFit rules s directives pairs e
+    pairs_fit no_pairs e leaves = tt
+    pairs_fit (pairs_and pairs key value) e leaves = (
+      pairs_fit pairs e leaves.0,
+      pair_fits (is_simple s.canonical directives key) pairs key value rules s directives e leaves.1
+          (λ y cursor stands each. node_fits value (value_place y e) cursor stands each)
+          (λ each. node_fits key (key_place pairs e) (indicator_cursor e) (refl, λ h. refl) each),
+    )

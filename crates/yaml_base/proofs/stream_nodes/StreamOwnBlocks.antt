@@ -1,13 +1,11 @@
 -- A literal or folded scalar as its own text on the lines of a block.
-use Rattle.yaml_base.proofs.Common.{nat_tests, arith, ℕ, Option, None, Some, Bool, false, true, ◌||◌, List, [], ◌++◌, ◌∷◌, refl}
-use Rattle.yaml_base.proofs.Common.{◌≡◌, append_assoc, ap, subst, sym, and_parts, and_from, or_parts, list_all-append, Text, ScalarStyle, literal, folded}
-use Rattle.yaml_base.proofs.Common.{is_read_break, read_block}
-use Rattle.yaml_base.proofs.Common.{ParsedTag, is_tidy, Line, prepend_to_first_line, prepend_character, lines_of, key_of_text}
-use Rattle.yaml_base.proofs.Common.{Rules, a_scalar, kind_of_word}
+use Rattle.yaml_base.proofs.Common.{nat_tests, arith, ℕ, Option, None, Some, Bool, false, true, ◌||◌, List, [], ◌++◌, ◌∷◌, refl, ◌≡◌, append_assoc, ap, subst}
+use Rattle.yaml_base.proofs.Common.{sym, and_parts, and_from, or_parts, list_all-append, Text, ScalarStyle, literal, folded, is_read_break, read_block}
 use Rattle.yaml_base.proofs.{stream_flow.StreamFlowWords.Given, stream_flow.StreamPropertyWords.lead, stream_keys.StreamKeys.none_parsed}
-use Rattle.yaml_base.proofs.stream_keys.StreamKeyReads.{lead_no_text}
-use Rattle.yaml_base.proofs.{stream_keys.StreamNoKeys.KeyNowhere, stream_keys.StreamNoKeys.nowhere_alone, stream_lines.StreamLineLaws.OneLine}
-use Rattle.yaml_base.proofs.{stream_lines.StreamLineLaws.one_line_both, stream_lines.StreamTidyLaws.first_text, stream_nodes.StreamOwnTexts.OwnText}
+use Rattle.yaml_base.proofs.{stream_keys.StreamKeyReads.lead_no_text, stream_lines.StreamTidyLaws.first_text, stream_nodes.StreamOwnTexts.OwnText}
+use Rattle.yaml_base.proofs.Common.{ParsedTag, is_tidy, Line, prepend_to_first_line, prepend_character, lines_of, key_of_text, Rules, a_scalar, kind_of_word}
+use Rattle.yaml_base.proofs.stream_keys.StreamNoKeys.{KeyNowhere, nowhere_alone}
+use Rattle.yaml_base.proofs.stream_lines.StreamLineLaws.{OneLine, one_line_both}
 use Rattle.yaml_base.proofs.stream_nodes.StreamOwnWords.{feed, deep_more, lines_deeper, tidy_deep, first_passes}
 
 -- the indicator of a block style, and the style

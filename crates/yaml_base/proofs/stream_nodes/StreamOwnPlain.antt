@@ -1,11 +1,10 @@
 -- A plain scalar as its own text on the lines of a block.
 use Rattle.yaml_base.proofs.Common.{arith, suc, ℕ, if◌then◌else◌, ◌==◌, Option, None, Some, codes, Bool, false, true, ◌&&◌, ◌||◌, [], ◌++◌, ◌∷◌, refl, ◌≡◌}
-use Rattle.yaml_base.proofs.Common.{eqb-true, true≢false, ap, sym, ◌∙◌, and_parts, or_parts, option_or, Text, is_among, is_blank}
-use Rattle.yaml_base.proofs.Common.{plain, is_read_break, is_read_white, begins_white, begins_no_plain, begins_with_hash, holds_no_plain}
-use Rattle.yaml_base.proofs.Common.{read_plain, ends_white, is_tidy, stood_plain, prepend_character}
-use Rattle.yaml_base.proofs.Common.{lines_of, ends_indicator, begins_with_indicator, key_ends, key_from, word_text, kind_of_text, text_by_kind, Rules}
-use Rattle.yaml_base.proofs.Common.{scalar_parsed, scalar_of_style, word_by_kind, word_after, not-true, nat_tests}
+use Rattle.yaml_base.proofs.Common.{eqb-true, true≢false, ap, sym, ◌∙◌, and_parts, or_parts, option_or, Text, is_among, is_blank, plain, is_read_break}
+use Rattle.yaml_base.proofs.Common.{is_read_white, begins_white, begins_no_plain, begins_with_hash, holds_no_plain, read_plain, ends_white, is_tidy}
+use Rattle.yaml_base.proofs.Common.{stood_plain, prepend_character, lines_of, ends_indicator, begins_with_indicator, key_ends, key_from, word_text}
 use Rattle.yaml_base.proofs.{stream_flow.StreamPropertyWords.lead, stream_nodes.StreamOwnTexts.OwnText}
+use Rattle.yaml_base.proofs.Common.{kind_of_text, text_by_kind, Rules, scalar_parsed, scalar_of_style, word_by_kind, word_after, not-true, nat_tests}
 use Rattle.yaml_base.proofs.stream_lines.StreamTidyLaws.{tidy_at_root, first_text}
 use Rattle.yaml_base.proofs.stream_keys.StreamPlainKeys.{Begins, begins, plain_kind, plain_style, reads_plain, tidy_begins}
 use Rattle.yaml_base.proofs.stream_nodes.StreamOwnWords.{feed, deep_more, lines_deeper, tidy_deep, shown_trimmed}

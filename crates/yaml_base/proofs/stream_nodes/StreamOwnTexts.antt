@@ -2,14 +2,13 @@
 use Rattle.yaml_base.proofs.Common.{arith, ℕ, ◌+◌, if◌then◌else◌, ◌==◌, option_map, Option, None, Some, length, Bool, false, not, true, ◌&&◌, ◌||◌, List, []}
 use Rattle.yaml_base.proofs.Common.{◌++◌, ◌∷◌, refl, ◌≡◌, append-nil, append_assoc, ap, sym, ◌∙◌, and_parts, false≢true, Text, space, ScalarStyle}
 use Rattle.yaml_base.proofs.Common.{is_read_break, ParsedTag, is_plain, scalar_tree, Line, lines_of, text_of_lines, ends_indicator, begins_with_indicator}
-use Rattle.yaml_base.proofs.Common.{all_deeper, spaces, key_from, LinesReader, kind_of_text, text_by_kind, text_read, begins_text, not-true}
-use Rattle.yaml_base.proofs.Common.{kind_of_node, node_lines, begins_properties, after_properties, text_or_properties, Rules, Properties, properties_read}
-use Rattle.yaml_base.proofs.Common.{stood_in_style, scalar_parsed, nat_tests}
-use Rattle.yaml_base.proofs.{stream_flow.StreamPropertyWords.lead, stream_lines.StreamClosed.lines_behind, stream_lines.StreamLineLaws.text_of_lines_of}
-use Rattle.yaml_base.proofs.{stream_nodes.StreamBegun.lead_line, stream_nodes.StreamBlocks.spaces_both, stream_nodes.StreamLeads.lead_spaces}
-use Rattle.yaml_base.proofs.{stream_nodes.StreamLeads.lead_then, stream_nodes.StreamLeafFits.TextReads, stream_nodes.StreamStands.tag_meant}
+use Rattle.yaml_base.proofs.Common.{all_deeper, spaces, key_from, LinesReader, kind_of_text, text_by_kind, text_read, begins_text, not-true, kind_of_node}
+use Rattle.yaml_base.proofs.Common.{node_lines, begins_properties, after_properties, text_or_properties, Rules, Properties, properties_read, stood_in_style}
+use Rattle.yaml_base.proofs.{Common.scalar_parsed, Common.nat_tests, stream_flow.StreamPropertyWords.lead, stream_lines.StreamClosed.lines_behind}
+use Rattle.yaml_base.proofs.{stream_lines.StreamLineLaws.text_of_lines_of, stream_nodes.StreamBegun.lead_line, stream_nodes.StreamBlocks.spaces_both}
+use Rattle.yaml_base.proofs.{stream_nodes.StreamLeads.lead_spaces, stream_nodes.StreamLeads.lead_then, stream_nodes.StreamLeafFits.TextReads}
+use Rattle.yaml_base.proofs.{stream_nodes.StreamStands.tag_meant, stream_keys.StreamNoKeys.KeyNowhere, stream_keys.StreamNoKeys.lead_nowhere}
 use Rattle.yaml_base.proofs.stream_flow.StreamFlowWords.{Given, tagging_meant, scalar_in}
-use Rattle.yaml_base.proofs.stream_keys.StreamNoKeys.{KeyNowhere, lead_nowhere}
 use Rattle.yaml_base.proofs.stream_lines.StreamTidyLaws.{first_text, lines_after_first}
 use Rattle.yaml_base.proofs.stream_lines.StreamInside.{indented_spaces, not_blank, AllInside, deeper_inside}
 use Rattle.yaml_base.proofs.stream_nodes.StreamProperties.{properties_text, has_properties, begins_content, properties_parsed}

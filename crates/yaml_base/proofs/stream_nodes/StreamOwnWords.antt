@@ -1,20 +1,14 @@
 -- Quoted and plain scalars as their own text on the lines of a block.
-use Rattle.yaml_base.proofs.Common.{nat_tests, text_by_kind, kind_of_text, word_text}
-use Rattle.yaml_base.proofs.Common.{arith, suc, zero, ℕ, ◌==◌, Option, None, Some, Bool, false, not, true, ◌&&◌, ◌||◌, List, []}
-use Rattle.yaml_base.proofs.Common.{◌++◌, ◌∷◌, refl, ◌≡◌, ap, ◌∙◌, and_parts, and_from, false≢true, option_or, Text}
-use Rattle.yaml_base.proofs.Common.{line_feed, space, is_blank, ScalarStyle, is_read_break, is_read_white}
-use Rattle.yaml_base.proofs.Common.{begins_with_spaces, begins_with_blank_line, begins_with_deep_line, has_deep_lines, ends_white, is_tidy}
-use Rattle.yaml_base.proofs.Common.{Line, prepend_to_first_line, prepend_character, lines_of, ends_indicator}
-use Rattle.yaml_base.proofs.Common.{key_ends, key_from, prepend_to_trimmed, trimmed, Rules, word_after}
-use Rattle.yaml_base.proofs.{stream_flow.StreamPropertyWords.lead, stream_lines.StreamInside.AllInside}
-use Rattle.yaml_base.proofs.stream_lines.StreamCuts.{quote_of, quoted_in, read_quoted}
+use Rattle.yaml_base.proofs.Common.{nat_tests, text_by_kind, kind_of_text, word_text, arith, suc, zero, ℕ, ◌==◌, Option, None, Some, Bool, false, not, true}
+use Rattle.yaml_base.proofs.Common.{◌&&◌, ◌||◌, List, [], ◌++◌, ◌∷◌, refl, ◌≡◌, ap, ◌∙◌, and_parts, and_from, false≢true, option_or, Text, line_feed, space}
+use Rattle.yaml_base.proofs.Common.{is_blank, ScalarStyle, is_read_break, is_read_white, begins_with_spaces, begins_with_blank_line, begins_with_deep_line}
+use Rattle.yaml_base.proofs.Common.{has_deep_lines, ends_white, is_tidy, Line, prepend_to_first_line, prepend_character, lines_of, ends_indicator, key_ends}
+use Rattle.yaml_base.proofs.{Common.key_from, Common.prepend_to_trimmed, Common.trimmed, Common.Rules, Common.word_after, stream_flow.StreamPropertyWords.lead}
+use Rattle.yaml_base.proofs.{stream_lines.StreamInside.AllInside, stream_lines.StreamCuts.quote_of, stream_lines.StreamCuts.quoted_in}
+use Rattle.yaml_base.proofs.{stream_lines.StreamCuts.read_quoted, stream_nodes.StreamOwnTexts.lines_shown, stream_nodes.StreamOwnTexts.OwnText}
+use Rattle.yaml_base.proofs.{stream_flow.StreamFlowWords.quoted_after, stream_keys.StreamKeyReads.quoted_nowhere, stream_keys.StreamNoKeys.KeyNowhere}
+use Rattle.yaml_base.proofs.{stream_keys.StreamNoKeys.nowhere_alone, stream_lines.StreamDeepBreaks.ends_as_last, stream_lines.StreamLineLaws.not_white}
 use Rattle.yaml_base.proofs.stream_lines.StreamTidyLaws.{first_text, lines_after_first, deep_lines_inside}
-use Rattle.yaml_base.proofs.stream_nodes.StreamOwnTexts.{lines_shown, OwnText}
-use Rattle.yaml_base.proofs.stream_flow.StreamFlowWords.{quoted_after}
-use Rattle.yaml_base.proofs.stream_keys.StreamKeyReads.{quoted_nowhere}
-use Rattle.yaml_base.proofs.stream_keys.StreamNoKeys.{KeyNowhere, nowhere_alone}
-use Rattle.yaml_base.proofs.stream_lines.StreamDeepBreaks.{ends_as_last}
-use Rattle.yaml_base.proofs.stream_lines.StreamLineLaws.{not_white}
 
 -- The break after a text
 

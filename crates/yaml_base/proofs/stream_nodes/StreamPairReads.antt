@@ -1,19 +1,16 @@
 -- The entries of a mapping read as its pairs, where each of them fits; and how a mapping's text is rendered.
-use Rattle.yaml_base.proofs.Common.{suc, ℕ, ◌+◌, ◌≤◌, if◌then◌else◌, fold, option_and_then, Option, None, Some, length, Bool, false, true, List, []}
-use Rattle.yaml_base.proofs.Common.{◌++◌, ◌∷◌, refl, ◌≡◌, true≢false, append-nil, append_assoc, ap, sym, ◌∙◌, arith, false≢true, Text, Cursor, Rendered}
-use Rattle.yaml_base.proofs.Common.{render_then, new_line, TagDirective, Node, Pairs, no_pairs, pairs_and, entry_place, Role, as_key, has_no_pairs}
-use Rattle.yaml_base.proofs.Common.{is_simple, render_place, Effective, Tree, TreePairs, tree_pairs_and, Line, lines_of, spaces, SimpleKey, key_entry}
-use Rattle.yaml_base.proofs.Common.{value_entry, simple_entry, node_read, Rules}
+use Rattle.yaml_base.proofs.Common.{suc, ℕ, ◌+◌, ◌≤◌, if◌then◌else◌, fold, option_and_then, Option, None, Some, length, Bool, false, true, List, [], ◌++◌, ◌∷◌}
+use Rattle.yaml_base.proofs.Common.{refl, ◌≡◌, true≢false, append-nil, append_assoc, ap, sym, ◌∙◌, arith, false≢true, Text, Cursor, Rendered, render_then}
+use Rattle.yaml_base.proofs.Common.{new_line, TagDirective, Node, Pairs, no_pairs, pairs_and, entry_place, Role, as_key, has_no_pairs, is_simple, render_place}
+use Rattle.yaml_base.proofs.Common.{Effective, Tree, TreePairs, tree_pairs_and, Line, lines_of, spaces, SimpleKey, key_entry, value_entry, simple_entry}
+use Rattle.yaml_base.proofs.stream_nodes.StreamPairs.{KeyFits, key_place, value_place, colon_cursor, simple_key, indicated_value, pair_text, pairs_text}
+use Rattle.yaml_base.proofs.{Common.node_read, Common.Rules, stream_lines.StreamInside.past_spaces, stream_nodes.StreamAgrees.node_tree}
+use Rattle.yaml_base.proofs.{stream_nodes.StreamAgrees.pairs_tree, stream_nodes.StreamItems.regrouped, stream_nodes.StreamItems.Lays}
+use Rattle.yaml_base.proofs.{stream_nodes.StreamTexts.node_own, stream_nodes.StreamTexts.pairs_own, stream_lines.StreamLineLaws.unbroken_line}
 use Rattle.yaml_base.proofs.stream_lines.StreamClosed.{closing, closed, Settled, new_line_closes, indicator_cursor}
-use Rattle.yaml_base.proofs.stream_lines.StreamInside.{past_spaces}
-use Rattle.yaml_base.proofs.stream_nodes.{StreamAgrees.node_tree, StreamAgrees.pairs_tree, StreamItems.regrouped, StreamItems.Lays, StreamTexts.node_own}
-use Rattle.yaml_base.proofs.stream_nodes.{StreamTexts.pairs_own}
 use Rattle.yaml_base.proofs.stream_nodes.StreamFits.{size, pairs_size, Fits, tree_anywhere, indicated_lines, blanked_lines}
-use Rattle.yaml_base.proofs.stream_nodes.StreamPairs.{KeyFits, key_place, value_place, colon_cursor, simple_key, indicated_value}
-use Rattle.yaml_base.proofs.stream_nodes.StreamPairs.{pair_text, pairs_text, entries_of_pair, pair_entries, PairFits, PairsFit}
-use Rattle.yaml_base.proofs.stream_nodes.StreamPairs.{keyed_lines}
+use Rattle.yaml_base.proofs.stream_nodes.StreamPairs.{entries_of_pair, pair_entries, PairFits, PairsFit, keyed_lines}
 use Rattle.yaml_base.specs.streams.StreamNodes.{HeldPairs, with_key, with_held_value, simple_pair, entry_by_kind, entry_at, entry_read, no_pairs_held}
-use Rattle.yaml_base.proofs.stream_lines.StreamLineLaws.{unbroken_line}
 
 -- Reading
 

@@ -3,12 +3,11 @@
 use Rattle.yaml_base.proofs.Common.{ℕ, ◌+◌, ◌<◌, ◌≤◌, ◌==◌, Some, codes, length, Bool, false, not, true, List, [], ◌++◌, ◌∷◌, refl, ◌≡◌, append_assoc, ap}
 use Rattle.yaml_base.proofs.Common.{subst, sym, ◌∙◌, arith, and_from, list_all, Text, space, Cursor, Rendered, indicator, TagDirective, Node, Pairs, no_pairs}
 use Rattle.yaml_base.proofs.Common.{pairs_and, entry_place, Role, as_key, as_value, Place, has_no_pairs, is_simple, Effective, Tree, marker_of, nat_tests}
-use Rattle.yaml_base.proofs.Common.{Line, lines_of, ends_indicator, begins_with_indicator, belongs_to_entry, spaces, key_of_line, simple_entry, Rules}
-use Rattle.yaml_base.{proofs.stream_lines.StreamSections.is_markerless}
-use Rattle.yaml_base.{proofs.stream_nodes.StreamAgrees.node_tree, proofs.stream_nodes.StreamTexts.node_own, specs.streams.StreamNodes.kind_of_entry}
-use Rattle.yaml_base.proofs.stream_lines.StreamLineLaws.{is_closed, OneLine, lines_after_break, unbroken_line}
 use Rattle.yaml_base.proofs.stream_lines.StreamClosed.{closed, indicator_cursor, margin_cursor, spaces_line, lines_behind, closed_behind, closed_both, rank}
-use Rattle.yaml_base.proofs.stream_lines.StreamClosed.{inside_both}
+use Rattle.yaml_base.{proofs.stream_lines.StreamSections.is_markerless, proofs.stream_nodes.StreamAgrees.node_tree, proofs.stream_nodes.StreamTexts.node_own}
+use Rattle.yaml_base.{specs.streams.StreamNodes.kind_of_entry, proofs.stream_lines.StreamClosed.inside_both}
+use Rattle.yaml_base.proofs.Common.{Line, lines_of, ends_indicator, begins_with_indicator, belongs_to_entry, spaces, key_of_line, simple_entry, Rules}
+use Rattle.yaml_base.proofs.stream_lines.StreamLineLaws.{is_closed, OneLine, lines_after_break, unbroken_line}
 use Rattle.yaml_base.proofs.stream_lines.StreamInside.{inside_deeper, begins_entry, outside, AllInside, Splits, splits_none, splits_both, splits_one}
 use Rattle.yaml_base.proofs.stream_nodes.StreamFits.{size, Opens, Fits, indicated_lines, indicated_ends}
 

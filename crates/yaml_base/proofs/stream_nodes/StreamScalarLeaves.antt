@@ -1,14 +1,12 @@
 -- Each scalar in a block fits where its names and its body stand.
-use Rattle.yaml_base.proofs.Common.{ℕ, ◌≤◌, if◌then◌else◌, is_some, Option, None, Some, Bool, false, not, true, ◌&&◌, ◌||◌, List, [], refl, ◌≡◌}
-use Rattle.yaml_base.proofs.Common.{true≢false, and_parts, Text, Cursor, ScalarStyle, plain}
-use Rattle.yaml_base.proofs.Common.{TagDirective, scalar_tag, scalar_node, render_body, allowed_under, style_asked_at, choice_of, Place, deeper, is_simple_at}
-use Rattle.yaml_base.proofs.Common.{read_in_style}
-use Rattle.yaml_base.proofs.Common.{Effective, is_tidy, Allowances, is_empty, allows_literal, is_plain, is_block, requested_style, fits_plain}
+use Rattle.yaml_base.proofs.Common.{ℕ, ◌≤◌, if◌then◌else◌, is_some, Option, None, Some, Bool, false, not, true, ◌&&◌, ◌||◌, List, [], refl, ◌≡◌, true≢false}
+use Rattle.yaml_base.proofs.Common.{and_parts, Text, Cursor, ScalarStyle, plain, TagDirective, scalar_tag, scalar_node, render_body, allowed_under}
+use Rattle.yaml_base.proofs.Common.{style_asked_at, choice_of, Place, deeper, is_simple_at, read_in_style, Effective, is_tidy, Allowances, is_empty}
 use Rattle.yaml_base.proofs.{Charsets.literal_still, Charsets.literal_allowed, stream_flow.StreamFlowScalars.rules_of}
-use Rattle.yaml_base.proofs.{stream_flow.StreamFlowScalars.bare_not_plain}
-use Rattle.yaml_base.proofs.{stream_flow.StreamFlowWords.scalar_in, stream_lines.StreamBlockEnds.block_fitting}
+use Rattle.yaml_base.proofs.{stream_flow.StreamFlowScalars.bare_not_plain, stream_flow.StreamFlowWords.scalar_in, stream_lines.StreamBlockEnds.block_fitting}
 use Rattle.yaml_base.proofs.{stream_nodes.StreamEmptyFits.empty_fits, stream_nodes.StreamFits.Fits, stream_nodes.StreamLeaves.block_place}
 use Rattle.yaml_base.proofs.{stream_nodes.StreamLeaves.ScalarsFit, stream_nodes.StreamProperties.IsNamed, stream_nodes.StreamStands.TagStands}
+use Rattle.yaml_base.proofs.Common.{allows_literal, is_plain, is_block, requested_style, fits_plain}
 use Rattle.yaml_base.proofs.stream_nodes.StreamScalarsFit.{body_fits, render_styled, body_cursor, styled_fits}
 
 -- a scalar in a style fits where its body is tidy and reads as its value

@@ -1,25 +1,22 @@
 -- Scalars that stand in blocks fit: in each style, behind an anchor and a tag or without them, and where nothing is written.
-use Rattle.yaml_base.proofs.Common.{nat_tests}
-use Rattle.yaml_base.proofs.Common.{ℕ, ◌≤◌, if◌then◌else◌, Option, None, Some, Bool, false, true, ◌&&◌, List, [], ◌++◌, ◌∷◌, refl, ◌≡◌, true≢false}
-use Rattle.yaml_base.proofs.Common.{append-nil, append_assoc, ap, subst, sym, ◌∙◌, arith, false≢true, Text, Cursor, Rendered, render_then}
-use Rattle.yaml_base.proofs.Common.{column_after, space_if, ScalarStyle, any_style, plain, single_quoted, double_quoted, literal, folded}
-use Rattle.yaml_base.proofs.Common.{TagDirective, render_properties, render_separation, render_body, Place, read_in_style, Effective, read_block, is_tidy}
-use Rattle.yaml_base.proofs.Common.{is_empty, allows_literal, ending, indentation_hint, ending_hint, ends_in_break, double_inside, render_quote}
-use Rattle.yaml_base.proofs.Common.{runs, render_runs, quotes_doubled, single_quote, is_plain, is_block, spaces, Rules}
-use Rattle.yaml_base.proofs.{stream_flow.StreamFlowScalars.rules_of, stream_flow.StreamFlowScalars.is_flow_style, stream_flow.StreamFlowScalars.body_ended}
-use Rattle.yaml_base.proofs.{stream_flow.StreamFlowWords.Given, stream_flow.StreamFlowWords.scalar_in, stream_flow.StreamPropertyWords.lead}
-use Rattle.yaml_base.proofs.{stream_lines.StreamCuts.none_not_some, stream_lines.StreamLineLaws.is_closed, stream_lines.StreamStrip.strip_more}
-use Rattle.yaml_base.proofs.{stream_nodes.StreamBlocks.below_ends, stream_nodes.StreamFits.Fits, stream_nodes.StreamLeads.lead_rendered}
-use Rattle.yaml_base.proofs.{stream_nodes.StreamLeads.tag_is_written, stream_nodes.StreamLeafFits.text_fits, stream_nodes.StreamOwnPlain.own_plain}
-use Rattle.yaml_base.proofs.{stream_nodes.StreamOwnTexts.OwnText, stream_nodes.StreamOwnTexts.own_reads, stream_nodes.StreamOwnWords.feed}
-use Rattle.yaml_base.proofs.{stream_nodes.StreamOwnWords.own_quoted, stream_nodes.StreamProperties.IsNamed}
-use Rattle.yaml_base.proofs.{stream_nodes.StreamStands.tag_written, stream_nodes.StreamStands.tag_meant, stream_nodes.StreamStands.TagStands}
+use Rattle.yaml_base.proofs.Common.{nat_tests, ℕ, ◌≤◌, if◌then◌else◌, Option, None, Some, Bool, false, true, ◌&&◌, List, [], ◌++◌, ◌∷◌, refl, ◌≡◌, true≢false}
+use Rattle.yaml_base.proofs.Common.{append-nil, append_assoc, ap, subst, sym, ◌∙◌, arith, false≢true, Text, Cursor, Rendered, render_then, column_after}
+use Rattle.yaml_base.proofs.Common.{space_if, ScalarStyle, any_style, plain, single_quoted, double_quoted, literal, folded, TagDirective, render_properties}
+use Rattle.yaml_base.proofs.Common.{render_separation, render_body, Place, read_in_style, Effective, read_block, is_tidy, is_empty, allows_literal, ending}
+use Rattle.yaml_base.proofs.Common.{indentation_hint, ending_hint, ends_in_break, double_inside, render_quote, runs, render_runs, quotes_doubled, single_quote}
 use Rattle.yaml_base.proofs.stream_lines.StreamBlockEnds.{EndsBreak, ending_breaks, EndsLines, literal_end, folded_lines_end, column_ended, last_is_read}
-use Rattle.yaml_base.proofs.stream_lines.StreamBlockEnds.{hint_text, strips}
+use Rattle.yaml_base.{proofs.Common.is_plain, proofs.Common.is_block, proofs.Common.spaces, proofs.Common.Rules, proofs.stream_lines.StreamBlockEnds.hint_text}
+use Rattle.yaml_base.{proofs.stream_lines.StreamBlockEnds.strips, proofs.stream_flow.StreamFlowWords.Given, proofs.stream_flow.StreamFlowWords.scalar_in}
+use Rattle.yaml_base.{proofs.stream_flow.StreamPropertyWords.lead, proofs.stream_lines.StreamCuts.none_not_some, proofs.stream_lines.StreamLineLaws.is_closed}
+use Rattle.yaml_base.{proofs.stream_lines.StreamStrip.strip_more, proofs.stream_nodes.StreamBlocks.below_ends, proofs.stream_nodes.StreamFits.Fits}
+use Rattle.yaml_base.{proofs.stream_nodes.StreamLeafFits.text_fits, proofs.stream_nodes.StreamOwnPlain.own_plain, proofs.stream_nodes.StreamOwnWords.feed}
+use Rattle.yaml_base.{proofs.stream_nodes.StreamOwnWords.own_quoted, proofs.stream_nodes.StreamProperties.IsNamed, specs.scalars.BlockHeader.render_header}
+use Rattle.yaml_base.{specs.scalars.BlockHeader.block_body, proofs.stream_nodes.StreamOwnTexts.OwnText, proofs.stream_nodes.StreamOwnTexts.own_reads}
+use Rattle.yaml_base.proofs.stream_flow.StreamFlowScalars.{rules_of, is_flow_style, body_ended}
+use Rattle.yaml_base.proofs.stream_nodes.StreamLeads.{lead_rendered, tag_is_written, before_count, before_spaces, before_some}
+use Rattle.yaml_base.proofs.stream_nodes.StreamStands.{tag_written, tag_meant, TagStands}
 use Rattle.yaml_base.proofs.stream_lines.StreamClosed.{closed, Settled, closed_behind}
 use Rattle.yaml_base.proofs.stream_nodes.StreamOwnBlocks.{block_indicator, block_style, own_block, block_tidy_more}
-use Rattle.yaml_base.specs.scalars.{BlockHeader.render_header, BlockHeader.block_body}
-use Rattle.yaml_base.proofs.stream_nodes.StreamLeads.{before_count, before_spaces, before_some}
 
 -- Bodies
 

@@ -3,14 +3,12 @@ use Rattle.yaml_base.proofs.Common.{ℕ, ◌==◌, None, codes, Bool, false, not
 use Rattle.yaml_base.proofs.Common.{and_parts, and_from, or_parts, or_from, not-true, nat_tests, list_any-append, list_all, list_any, all_scalars, Text}
 use Rattle.yaml_base.proofs.Common.{is_among, is_alpha, TagDirective, is_tag_character, character_written, percent_escaped, suffix_escaped, exclamation_mark}
 use Rattle.yaml_base.proofs.Common.{directives_fault, directives_in_force, Spelling, verbatim, spelling, spelled, tag_read, is_uri_character, name_parsed}
-use Rattle.yaml_base.proofs.Common.{cut_after_exclamation, tag_parsed}
-use Rattle.yaml_base.{proofs.TagWords.written_tag_ends_no_word, specs.StreamLaw.has_flow_indicator, specs.reading.ReadTags.may_follow_handle}
-use Rattle.yaml_base.proofs.TagReads.{stands_no_exclamation, cut_at_handle, written_tag_reads}
-use Rattle.yaml_base.proofs.stream_nodes.StreamProperties.{WrittenTag}
 use Rattle.yaml_base.proofs.PercentLaws.{stands_written, escaped_stands, suffix_stands, character_is_no_flow_indicator, portable_suffix_has_no_flow_indicator}
+use Rattle.yaml_base.{proofs.Common.cut_after_exclamation, proofs.Common.tag_parsed, proofs.TagWords.written_tag_ends_no_word}
+use Rattle.yaml_base.{specs.StreamLaw.has_flow_indicator, specs.reading.ReadTags.may_follow_handle, proofs.stream_nodes.StreamProperties.WrittenTag}
+use Rattle.yaml_base.{proofs.AllPass.all_pass, proofs.TagReads.stands_no_exclamation, proofs.TagReads.cut_at_handle, proofs.TagReads.written_tag_reads}
 use Rattle.yaml_base.proofs.PercentLaws.{written_is_no_less, alpha_is_no_less, escaped_begins, suffix_begins}
 use Rattle.yaml_base.proofs.TagForms.{closing_angle_dropped, IsHandle, handle_form, spelling_is, in_force_found}
-use Rattle.yaml_base.proofs.AllPass.{all_pass}
 
 -- Characters
 

@@ -1,8 +1,6 @@
+use Rattle.std.{proofs.Common.rules, proofs.Common.w32, proofs.lemmas.Int.to_z-of_z, specs.Prelude.FitsSigned}
+use Rattle.yaml_base.{proofs.NumbersOutside.found_at, proofs.NumbersOutside.passed_at, proofs.NumbersOutside.none_left, specs.graphs.SeenNodes.names_node}
 use Rattle.yaml_base.proofs.Common.{pos, Some, ℤ, not, slice_index_or as get_or, ap, sym, ◌∙◌, arith}
-use Rattle.std.proofs.{Common.rules, Common.w32, lemmas.Int.to_z-of_z}
-use Rattle.std.specs.Prelude.{FitsSigned}
-use Rattle.yaml_base.proofs.NumbersOutside.{found_at, passed_at, none_left}
-use Rattle.yaml_base.specs.graphs.SeenNodes.{names_node}
 use Rattle.yaml_base.proofs.documents.outside_items.Goals as goal
 
 pub returns-then-not-names_node : goal.returns-then-not-names_node

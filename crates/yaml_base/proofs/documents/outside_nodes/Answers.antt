@@ -1,5 +1,4 @@
-use Rattle.yaml_base.proofs.Common.{sym, ◌∙◌, arith}
-use Rattle.yaml_base.proofs.NumbersOutside.{held_outside, none_held}
+use Rattle.yaml_base.proofs.{Common.sym, Common.◌∙◌, Common.arith, NumbersOutside.held_outside, NumbersOutside.none_held}
 use Rattle.yaml_base.proofs.documents.outside_nodes.Goals as goal
 
 pub returns-then-is_some : goal.returns-then-is_some

@@ -1,8 +1,7 @@
-use Rattle.yaml_base.proofs.Common.{pos, Some, first_outside, numbers_of_pairs, slice_index_or as get_or, ap, sym, ◌∙◌, arith}
-use Rattle.std.proofs.{Common.rules, Common.w32, lemmas.Int.to_z-of_z, lemmas.List.drop_all}
-use Rattle.std.specs.Prelude.{FitsSigned}
+use Rattle.std.{proofs.Common.rules, proofs.Common.w32, proofs.lemmas.Int.to_z-of_z, proofs.lemmas.List.drop_all, specs.Prelude.FitsSigned}
 use Rattle.yaml_base.proofs.NumbersOutside.{key_outside, value_outside, pair_within}
 use Rattle.yaml_base.specs.graphs.SeenNodes.{names_node}
+use Rattle.yaml_base.proofs.Common.{pos, Some, first_outside, numbers_of_pairs, slice_index_or as get_or, ap, sym, ◌∙◌, arith}
 use Rattle.yaml_base.proofs.documents.outside_pairs.Goals as goal
 
 pub returns-then-not-names_node : goal.returns-then-not-names_node

@@ -1,6 +1,5 @@
+use Rattle.std.{proofs.lemmas.List.Sums.count_by-le-length, proofs.lemmas.List.Sums.sum_by-append, specs.List.count_by}
 use Rattle.std.proofs.Common.{◌≡◌, ℕ, ◌+◌, cond, List, ◌++◌, ap, arith}
-use Rattle.std.proofs.lemmas.List.Sums.{count_by-le-length, sum_by-append}
-use Rattle.std.specs.List.{count_by}
 use Rattle.yaml_base.specs.values.LinesAndColumns.{is_line_feed}
 use Rattle.yaml_base.proofs.places.line_breaks.Goals as goal
 

@@ -1,5 +1,4 @@
-use Rattle.std.proofs.Common.{◌≡◌, take}
-use Rattle.std.specs.List.{count_by}
+use Rattle.std.{proofs.Common.◌≡◌, proofs.Common.take, specs.List.count_by}
 use Rattle.yaml_base.specs.values.LinesAndColumns.{is_line_feed}
 use Rattle.yaml_base.proofs.places.line_breaks_in_block.Given as goal
 

@@ -1,9 +1,6 @@
 use Prim.Native.Nat.{min}
+use Rattle.std.{proofs.lemmas.Bool.cases_lt, proofs.lemmas.List.take_all, specs.Fmt.is_char_start, specs.List.after_last, specs.List.count_by}
 use Rattle.std.proofs.Common.{◌≡◌, ℕ, ◌+◌, List, length, take, inl, inr, sym, ap, ◌∙◌, arith}
-use Rattle.std.proofs.lemmas.Bool.{cases_lt}
-use Rattle.std.proofs.lemmas.List.{take_all}
-use Rattle.std.specs.Fmt.{is_char_start}
-use Rattle.std.specs.List.{after_last, count_by}
 use Rattle.yaml_base.specs.values.LinesAndColumns.{is_line_feed}
 use Rattle.yaml_base.proofs.places.place_of.Goals as goal
 

@@ -1,7 +1,5 @@
 use Rattle.yaml_base.proofs.Common.{ℕ, ◌-◌, List, ◌++◌, ◌≡◌, length, take, ap, ◌∙◌, append_assoc}
-use Rattle.std.proofs.Common.{drop, take-append-drop}
-use Rattle.std.proofs.KnownBytes.{Appends-trans}
-use Rattle.std.proofs.lemmas.List.{take_rest}
+use Rattle.std.proofs.{Common.drop, Common.take-append-drop, KnownBytes.Appends-trans, lemmas.List.take_rest}
 use Rattle.yaml_base.proofs.sinks.write_to_sink.Goals as goal
 
 -- the first of what is left was given, too

@@ -1,7 +1,6 @@
-use Rattle.std.specs.List.{slice_get}
-use Rattle.yaml_base.proofs.Common.{ℕ, option_map, Option, None, Some, length, List, map, refl, ◌≡◌, ap, sym, ◌∙◌}
+use Rattle.std.specs.{List.slice_get, Slice.IsItemAt}
 use Rattle.std.proofs.lemmas.Option.{slice_get-map, slice_get_past, slice_get_read}
-use Rattle.std.specs.Slice.{IsItemAt}
+use Rattle.yaml_base.proofs.Common.{ℕ, option_map, Option, None, Some, length, List, map, refl, ◌≡◌, ap, sym, ◌∙◌}
 use Rattle.yaml_base.specs.graphs.SeenNodes.{seen_node}
 use denote.Bor.{Bor}
 use Rattle.yaml_base.proofs.documents.yaml_document_t.node_at.Goals as goal

@@ -1,5 +1,4 @@
-use Rattle.yaml_base.proofs.Common.{length, all_numbers, first_outside}
-use Rattle.yaml_base.proofs.NumbersOutside.{whole_graph, none_of_test}
+use Rattle.yaml_base.proofs.{Common.length, Common.all_numbers, Common.first_outside, NumbersOutside.whole_graph, NumbersOutside.none_of_test}
 use Rattle.yaml_base.proofs.documents.yaml_document_t.numbers_name_nodes.Goals as goal
 
 pub returns : goal.returns

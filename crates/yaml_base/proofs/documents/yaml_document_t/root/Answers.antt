@@ -1,7 +1,5 @@
-use Rattle.std.specs.List.{slice_get}
+use Rattle.std.{specs.List.slice_get, proofs.lemmas.Option.slice_get-map, specs.Prelude.option_copied}
 use Rattle.yaml_base.proofs.Common.{option_map, Option, None, Some, refl, ◌≡◌, ap, sym, ◌∙◌}
-use Rattle.std.proofs.lemmas.Option.{slice_get-map}
-use Rattle.std.specs.Prelude.{option_copied}
 use Rattle.yaml_base.specs.graphs.SeenNodes.{seen_node}
 use denote.Bor.{Bor}
 use Rattle.yaml_base.proofs.documents.yaml_document_t.root.Goals as goal
