@@ -138,8 +138,7 @@ all_named walk before (enters number ∷ rest) follow names =
           (place_more (anchor_of walk) before (enters number)) (all_named walk (before ++ enters number ∷ []) rest follow.1 names),
     )
 all_named walk before (leaves number ∷ rest) follow names =
-    let all = filter_map (place_of (anchor_of walk)) walk in
-    subst (λ (earlier : List Occurrence). NameTheirNodes all earlier (filter_map (place_of (anchor_of walk)) rest))
+    subst (λ (earlier : List Occurrence). NameTheirNodes (filter_map (place_of (anchor_of walk)) walk) earlier (filter_map (place_of (anchor_of walk)) rest))
     (place_more (anchor_of walk) before (leaves number) ∙ append-nil (filter_map (place_of (anchor_of walk)) before))
     (all_named walk (before ++ leaves number ∷ []) rest follow.1 names)
 all_named walk before (meets_again number ∷ rest) follow names =
@@ -199,7 +198,6 @@ pub document_unfolds : (graph : Graph) → IsWholeGraph graph → EventsUnfold g
 document_unfolds graph is =
     let walk = graph_steps graph in
     let made = walk_placed (anchor_of walk) graph is.whole (some_nodes (length graph.nodes) is.has_nodes) in
-    let orderly = orderly_steps graph (suc (length graph.nodes)) 1 first_reached in
     let root = node_at graph made.placed in
     let events : node_events root ≡ flat_map (step_events graph walk) walk = node_at_events graph walk made.placed made.fits
     ∙ ap (flat_map (step_events graph walk)) (sym made.adds) in
@@ -211,5 +209,5 @@ document_unfolds graph is =
           document_start graph.start ∷ (flat_map (step_events graph walk) walk ++ document_end graph.end_implicit ∷ [])) is.has_nodes);
       start = refl;
       end_implicit = refl;
-      unfolds = tree_unfolds graph walk made orderly;
+      unfolds = tree_unfolds graph walk made (orderly_steps graph (suc (length graph.nodes)) 1 first_reached);
     }

@@ -112,12 +112,11 @@ directive_reads portable version before directive ending sound scalars =
     let with_prefix : Option Heading = Some (record { version = version; directives = before ++ directive ∷ [] }) in
     let both = neither _ _ sound in
     let parts = neither _ _ both.0 in
-    let fresh = not_given _ _ both.1 in
     let made : Heading = record { version = version; directives = before } in
     ap (directive_by_words made) (directive_words portable directive parts.0)
     ∙ ap (with_directive made directive.handle) (prefix_reads portable directive.prefix parts.1 scalars)
     ∙ ap (λ x. if x && not (is_handle_given directive.handle before) then with_prefix else None)
-    (handle_reads directive.handle (handle_form directive.handle parts.0)) ∙ ap (λ x. if not x then with_prefix else None) fresh
+    (handle_reads directive.handle (handle_form directive.handle parts.0)) ∙ ap (λ x. if not x then with_prefix else None) (not_given _ _ both.1)
 
 -- the lines of some directives
 abbrev pub tag_lines : (portable : Bool) → List TagDirective → List Line

@@ -115,12 +115,11 @@ pub styled_begins : (s : Effective) (own directives : List TagDirective) (anchor
     → HeadShows s.breaks12 (render_body style s limit indent value (body_cursor s directives anchor tag bare style value cursor)).text
     → Begins s.breaks12 cursor (render_styled s directives anchor tag bare style limit indent value cursor)
 styled_begins s own directives anchor tag bare style limit indent value cursor named stands some h =
-    let properties = render_properties s.portable directives anchor tag bare cursor in
     let text = (render_body style s limit indent value (body_cursor s directives anchor tag bare style value cursor)).text in
     let before = lead anchor (tag_written s.portable directives tag bare) in
     led_begins _ _ _ _ _ _ _ _
     (record { named = named; tagged = tag_is_written _ own _ tag bare stands }) h.shows h.goes_on
-    (ap (λ t. (properties.text ++ t) ++ text) (separation_text style value _ some)
+    (ap (λ t. ((render_properties s.portable directives anchor tag bare cursor).text ++ t) ++ text) (separation_text style value _ some)
     ∙ ap (λ t. t ++ text) (lead_rendered _ _ _ tag bare _)
     ∙ append_assoc (space_if true cursor) before text ∙ ap (λ t. space_if true cursor ++ (before ++ t)) h.is)
 

@@ -98,11 +98,10 @@ pub block_stands : (rules : Rules) (on_marker : Bool) (anchor tag : Option Text)
     → AllMarkerless (lines_of rules.breaks12 text) → ((begun.text ≡ [] → ⊥) → Begins rules.breaks12 (root_cursor on_marker) begun)
     → Stood on_marker (lines_of rules.breaks12 (closed (block_own begun entries)))
 block_stands rules on_marker anchor tag begun entries text kind (is_parsed parsed) lays opened markerless properties =
-    let core = parsed.head ∷ parsed.tail in
     let b = properties (λ e. not_empty parsed.count (sym parsed.text ∙ e)) in
     let is = ap (lines_of rules.breaks12) (own_closed begun entries ∙ ap (λ t. begun.text ++ t) (below rules 0 begun.cursor entries text lays parsed.ends))
     ∙ lines_broken rules.breaks12 begun.text text (ap (λ t. list_any (is_read_break rules.breaks12) t) parsed.text
-    ∙ one_line_both rules.breaks12 (spaces parsed.count) core (spaces_line rules.breaks12 parsed.count) parsed.one_line) in
+    ∙ one_line_both rules.breaks12 (spaces parsed.count) (parsed.head ∷ parsed.tail) (spaces_line rules.breaks12 parsed.count) parsed.one_line) in
     subst (Stood on_marker) (sym is) (
       markerless,
       subst (λ t. FirstStands on_marker (record { text = t; ending = line_feed ∷ [] } ∷ lines_of rules.breaks12 text)) (sym b.text)

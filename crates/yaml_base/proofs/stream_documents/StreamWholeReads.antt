@@ -121,11 +121,10 @@ documents_so_rendered s (documents_and (documents_and before last) document) dee
     let rendered = render_documents s (documents_and before last) first_standing in
     let so = documents_so_rendered s (documents_and before last) deep stands.0
     (first_prefix s (documents_in_order (documents_and before last)) (document ∷ []) written) in
-    let text = document_text s false (rendered.standing.open_ended == 0) document in
     document_so_rendered s false (documents_and before last) rendered document deep stands.1 so.cursor
     (λ depth long small. later_more s depth (text_of rendered.pieces) (document_trees s (documents_and before last)) document
     (rendered.standing.open_ended == 0) deep stands.1 small
-    (so.awaits depth (shorter depth (text_of rendered.pieces) text long)))
+    (so.awaits depth (shorter depth (text_of rendered.pieces) (document_text s false (rendered.standing.open_ended == 0) document) long)))
   where
     shorter : (depth : ℕ) (a b : Text) → suc (length (a ++ b)) ≤ depth → suc (length a) ≤ depth
     shorter depth a b h = let sum = length-append a b in omega arith

@@ -76,10 +76,9 @@ pub scalar_step : (s : Effective) (own directives : List TagDirective) (fits : K
     → FlowNode (rules_of s own) (is_key role && is_simple s.canonical directives (scalar_node content)) cursor
     (node_own (scalar_node content) s directives (entry_place true role column) cursor) (node_tree (scalar_node content) s directives (entry_place true role 0))
 scalar_step s own directives fits role column cursor content names body =
-    let place = entry_place true role column in
     let simple = is_key role && is_simple s.canonical directives (scalar_node content) in
     let tag = scalar_tag s.canonical content in
-    let choice = choice_of s place simple content in
+    let choice = choice_of s (entry_place true role column) simple content in
     let properties = render_properties s.portable directives content.anchor tag choice.bare cursor in
     let separation = render_separation choice.style true content.value properties.cursor in
     let limit = if simple then None else s.width in

@@ -30,8 +30,7 @@ items_step s own directives no_nodes last column cursor take node =
 items_step s own directives (nodes_and items prev) last column cursor take node =
     let before = items_own (nodes_and items prev) s directives true column cursor in
     let comma_cursor = (indicator (codes ",") false false false before.cursor).cursor in
-    let gap = flow_break s (Some column) comma_cursor in
-    let rendered = node_own last s directives (entry_place true (as_item false) column) gap.cursor in
+    let rendered = node_own last s directives (entry_place true (as_item false) column) (flow_break s (Some column) comma_cursor).cursor in
     let tree = node_tree last s directives (entry_place true (as_item false) 0) in
     let trees = nodes_tree (nodes_and items prev) s directives true in
     next_entry _ 0x5B cursor before _ _ _ _ take refl node.ended
@@ -74,9 +73,7 @@ pairs_step : (s : Effective) (own directives : List TagDirective) (pairs : Pairs
     → PairsTake s own directives (pairs_and pairs key value) column cursor
 pairs_step s own directives no_pairs key value column cursor take key_node value_node =
     let simple = is_simple s.canonical directives key in
-    let open_cursor = (indicator (codes "{") true true false cursor).cursor in
-    let gap = flow_break s (Some column) open_cursor in
-    let symbols = key_indicator simple false gap.cursor in
+    let symbols = key_indicator simple false (flow_break s (Some column) ((indicator (codes "{") true true false cursor).cursor)).cursor in
     let key_rendered = node_own key s directives (entry_place true (as_key true) column) symbols.cursor in
     let value_indicators = render_flow_place s (as_value simple) false (Some column) key_rendered.cursor in
     let value_rendered = node_own value s directives (entry_place true (as_value simple) column) value_indicators.cursor in
@@ -85,16 +82,14 @@ pairs_step s own directives no_pairs key value column cursor take key_node value
 pairs_step s own directives (pairs_and pairs prev_key prev_value) key value column cursor take key_node value_node =
     let simple = is_simple s.canonical directives key in
     let before = pairs_own (pairs_and pairs prev_key prev_value) s directives true column cursor in
-    let comma_cursor = (indicator (codes ",") false false false before.cursor).cursor in
-    let gap = flow_break s (Some column) comma_cursor in
+    let gap = flow_break s (Some column) ((indicator (codes ",") false false false before.cursor).cursor) in
     let symbols = key_indicator simple false gap.cursor in
     let key_rendered = node_own key s directives (entry_place true (as_key false) column) symbols.cursor in
     let value_indicators = render_flow_place s (as_value simple) false (Some column) key_rendered.cursor in
     let value_rendered = node_own value s directives (entry_place true (as_value simple) column) value_indicators.cursor in
-    let trees = pairs_tree (pairs_and pairs prev_key prev_value) s directives true in
     next_entry _ 0x7B _ _ _ _ _ _ take
     (append_assoc before.text (0x2C ∷ ((gap.text ++ symbols.text) ++ key_rendered.text)) (value_indicators.text ++ value_rendered.text)) value_node.ended
-    (λ anchor tag. pair_entry _ s _ _ _ _ _ _ _ key_node value_node _ tag trees)
+    (λ anchor tag. pair_entry _ s _ _ _ _ _ _ _ key_node value_node _ tag (pairs_tree (pairs_and pairs prev_key prev_value) s directives true))
 
 -- Nodes
 

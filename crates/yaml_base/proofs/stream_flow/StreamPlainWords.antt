@@ -98,8 +98,7 @@ pub plain_stays : (breaks12 : Bool) (t : Text) → holds_no_plain breaks12 true 
 plain_stays breaks12 [] h = refl
 plain_stays breaks12 (c ∷ t) h =
     let parts = or_parts _ _ h in
-    let symbol = or_parts _ _ parts.0 in
-    ap (λ x. x && all_stay breaks12 t) (stays_at breaks12 c symbol.1) ∙ plain_stays breaks12 t parts.1
+    ap (λ x. x && all_stay breaks12 t) (stays_at breaks12 c (or_parts _ _ parts.0).1) ∙ plain_stays breaks12 t parts.1
 
 -- a character that isn't white is of no white class
 pub shown_at : (breaks12 : Bool) (c : ℕ) → is_read_white breaks12 c ≡ false → is_white_class (class_of breaks12 c) ≡ false
@@ -115,6 +114,5 @@ pub plain_word : (breaks12 : Bool) (before : Text) (c : ℕ) (t rest v : Text) �
     → has_clean_edges breaks12 (c ∷ t) ≡ true → ends_word breaks12 rest ≡ true
     → GivesWord breaks12 (in_plain (before ++ (c ∷ [])) []) (before ++ (c ∷ [])) t rest
 plain_word breaks12 before c t rest v read clean ends =
-    let holds = (reads_plain breaks12 true c t v read).1 in
-    plain_text_word breaks12 before c t rest (and_parts _ _ (plain_stays breaks12 (c ∷ t) holds)).1
+    plain_text_word breaks12 before c t rest (and_parts _ _ (plain_stays breaks12 (c ∷ t) ((reads_plain breaks12 true c t v read).1))).1
     (clean_shown breaks12 c t (not-true (ends_white breaks12 (c ∷ t)) (and_parts _ _ clean).1)) ends

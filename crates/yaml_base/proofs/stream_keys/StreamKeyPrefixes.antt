@@ -61,9 +61,7 @@ plain_marker c t after symbol h k = grind (arith, nat_tests)
 -- what plain text begins with
 pub plain_prefix : (breaks12 : Bool) (c : ℕ) (t : Text) → begins_no_plain breaks12 (c ∷ t) ≡ false → Begins c → KeyPrefix (c ∷ t)
 plain_prefix breaks12 c t h b =
-    let outer = or_parts _ _ h in
-    let inner = or_parts _ _ outer.0 in
-    let three = or_parts _ _ inner.0 in
+    let three = or_parts _ _ (or_parts _ _ (or_parts _ _ h).0).0 in
     record {
       first = c;
       tail = t;

@@ -113,9 +113,8 @@ scalar_fits : (s : Effective) (own directives : List TagDirective) (content : Sc
     → (scalar_own s directives (entry_place true role column) true content cursor).text ≡ space_if true cursor ++ (text ++ [])
     → KeyText s.breaks12 text
 scalar_fits s own directives content role column cursor text named stands simple e =
-    let place = entry_place true role column in
     let tag = scalar_tag s.canonical content in
-    let choice = choice_of s place true content in
+    let choice = choice_of s (entry_place true role column) true content in
     let properties = render_properties s.portable directives content.anchor tag choice.bare cursor in
     let separation = render_separation choice.style true content.value properties.cursor in
     let body = (render_body choice.style s None (deeper s.indent (Some column)) content.value separation.cursor).text in
@@ -152,11 +151,10 @@ keys_fit s own directives (scalar_node content) role column cursor text h names 
     (ap (λ x. (scalar_own s directives (entry_place true role column) x content cursor).text) (sym h) ∙ e))
 keys_fit s own directives (sequence_node start no_nodes) role column cursor text h names bodies e =
     let tag = collection_tag s.canonical start in
-    let tree = node_tree (sequence_node start no_nodes) s directives (entry_place true role 0) in
     let whole = lead start.anchor (tag_written s.portable directives tag false) ++ (0x5B ∷ 0x5D ∷ []) in
     let short = (simple_collection s.canonical true (name_count start.anchor + tag_count directives tag)
     (and_parts (is_key role) (is_simple s.canonical directives (sequence_node start no_nodes)) h).1).1 in
-    key_text_fits s.breaks12 tree text
+    key_text_fits s.breaks12 (node_tree (sequence_node start no_nodes) s directives (entry_place true role 0)) text
     (subst (KeyText s.breaks12)
     (sym (cancelled cursor text whole (node_own (sequence_node start no_nodes) s directives (entry_place true role column) cursor).text e
     (empty_whole (render_properties s.portable directives start.anchor tag false cursor) cursor
@@ -168,11 +166,10 @@ keys_fit s own directives (sequence_node start (nodes_and items last)) role colu
     (is_simple s.canonical directives (sequence_node start (nodes_and items last))) h).1).0)
 keys_fit s own directives (mapping_node start no_pairs) role column cursor text h names bodies e =
     let tag = collection_tag s.canonical start in
-    let tree = node_tree (mapping_node start no_pairs) s directives (entry_place true role 0) in
     let whole = lead start.anchor (tag_written s.portable directives tag false) ++ (0x7B ∷ 0x7D ∷ []) in
     let short = (simple_collection s.canonical true (name_count start.anchor + tag_count directives tag)
     (and_parts (is_key role) (is_simple s.canonical directives (mapping_node start no_pairs)) h).1).1 in
-    key_text_fits s.breaks12 tree text
+    key_text_fits s.breaks12 (node_tree (mapping_node start no_pairs) s directives (entry_place true role 0)) text
     (subst (KeyText s.breaks12)
     (sym (cancelled cursor text whole (node_own (mapping_node start no_pairs) s directives (entry_place true role column) cursor).text e
     (empty_whole (render_properties s.portable directives start.anchor tag false cursor) cursor

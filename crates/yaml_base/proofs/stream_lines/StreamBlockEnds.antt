@@ -127,8 +127,7 @@ pub last_is_read : (charset : Charset) (value : Text) (end : EndsBreak value) �
 last_is_read charset value end allowed =
     let nowhere =
     (or_parts _ _ (not-true _ allowed)).1 in
-    let bars = nowhere_last (bars_literal charset) end.prefix end.last (ap (somewhere (bars_literal charset)) (sym end.is) ∙ nowhere) in
-    let but_tab = (or_parts _ _ bars).0 in
+    let but_tab = (or_parts _ _ (nowhere_last (bars_literal charset) end.prefix end.last (ap (somewhere (bars_literal charset)) (sym end.is) ∙ nowhere))).0 in
     let special = ap (λ x. not x && is_special charset end.last) (sym (break_no_tab end.last end.breaks)) ∙ but_tab in
     let parts =
     or_parts _ _ special in

@@ -38,7 +38,6 @@ pair_opens : (x : Bool) (rules : Rules) (s : Effective) (directives : List TagDi
 pair_opens true rules s directives pairs key value e fit =
     let o = fit.1.opens refl in
     let k = (simple_key pairs key s directives e).text in
-    let tree = node_tree key s directives (key_place pairs e) in
     let line = fit.0.first ∷ (fit.0.tail ++ (0x3A ∷ o.head)) in
     record {
       head = fit.0.first;
@@ -46,7 +45,7 @@ pair_opens true rules s directives pairs key value e fit =
       ending = o.ending;
       rest = o.rest;
       is =
-          keyed_lines rules k (closed (simple_value pairs key value s directives e)) tree e fit.0 o
+          keyed_lines rules k (closed (simple_value pairs key value s directives e)) (node_tree key s directives (key_place pairs e)) e fit.0 o
           ∙ ap (λ t. record { text = spaces e ++ (t ++ (0x3A ∷ o.head)); ending = o.ending } ∷ o.rest) fit.0.is;
       shows = fit.0.shows;
       begins =

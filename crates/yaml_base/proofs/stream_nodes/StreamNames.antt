@@ -89,22 +89,20 @@ module _ (portable canonical : Bool) (own : List TagDirective) (sound : directiv
     names_stand (sequence_node start items) good allowed =
         let parts = and_parts (is_good canonical (sequence_start start)) (list_all (is_good canonical) (nodes_events items ++ sequence_end ∷ [])) good in
         let facts = no_faults canonical (sequence_start start) parts.0 in
-        let all = all_of_both (is_good canonical) (nodes_events items) (sequence_end ∷ []) parts.1 in
         let tag = collection_tag canonical start in
         let both = open_parts portable (tag_has_flow_indicator directives tag) (nodes_have_flow_indicator canonical directives items) allowed in (
           anchor_named start.anchor tag facts.0,
           tag_stands start.anchor tag facts.0 (given_scalars (canonical || not start.implicit) start.tag facts.2) both.0,
-          all_names_stand items all.0 both.1,
+          all_names_stand items (all_of_both (is_good canonical) (nodes_events items) (sequence_end ∷ []) parts.1).0 both.1,
         )
     names_stand (mapping_node start pairs) good allowed =
         let parts = and_parts (is_good canonical (mapping_start start)) (list_all (is_good canonical) (pairs_events pairs ++ mapping_end ∷ [])) good in
         let facts = no_faults canonical (mapping_start start) parts.0 in
-        let all = all_of_both (is_good canonical) (pairs_events pairs) (mapping_end ∷ []) parts.1 in
         let tag = collection_tag canonical start in
         let both = open_parts portable (tag_has_flow_indicator directives tag) (pairs_have_flow_indicator canonical directives pairs) allowed in (
           anchor_named start.anchor tag facts.0,
           tag_stands start.anchor tag facts.0 (given_scalars (canonical || not start.implicit) start.tag facts.2) both.0,
-          pairs_names_stand pairs all.0 both.1,
+          pairs_names_stand pairs (all_of_both (is_good canonical) (pairs_events pairs) (mapping_end ∷ []) parts.1).0 both.1,
         )
 
     all_names_stand : (items : Nodes) → list_all (is_good canonical) (nodes_events items) ≡ true

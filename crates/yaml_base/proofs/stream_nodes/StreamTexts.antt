@@ -101,24 +101,20 @@ mutual
   node_joined (scalar_node content) s directives place standing = grind (arith, assoc_three)
   node_joined (sequence_node start items) s directives place standing =
       let in_flow = is_written_in_flow s place start (has_no_nodes items) in
-      let simple = is_simple_at place s.canonical directives (sequence_node start items) in
-      let symbols = render_place s place simple standing.cursor in
+      let symbols = render_place s place (is_simple_at place s.canonical directives (sequence_node start items)) standing.cursor in
       let begun = render_properties s.portable directives start.anchor (collection_tag s.canonical start) false symbols.cursor in
       let column = entries_column in_flow _ _ _ begun.cursor in
       let before : Standing = record { cursor = begun.cursor; open_ended = standing.open_ended } in
-      let all = items_joined items s directives in_flow _ before in
       collection_parts symbols begun (render_nodes items s directives in_flow column before) (items_own items s directives in_flow column begun.cursor)
-      (render_end s square in_flow (has_no_nodes items) place.column) all
+      (render_end s square in_flow (has_no_nodes items) place.column) (items_joined items s directives in_flow _ before)
   node_joined (mapping_node start pairs) s directives place standing =
       let in_flow = is_written_in_flow s place start (has_no_pairs pairs) in
-      let simple = is_simple_at place s.canonical directives (mapping_node start pairs) in
-      let symbols = render_place s place simple standing.cursor in
+      let symbols = render_place s place (is_simple_at place s.canonical directives (mapping_node start pairs)) standing.cursor in
       let begun = render_properties s.portable directives start.anchor (collection_tag s.canonical start) false symbols.cursor in
       let column = entries_column in_flow false s.indent place.column begun.cursor in
       let before : Standing = record { cursor = begun.cursor; open_ended = standing.open_ended } in
-      let all = pairs_joined pairs s directives in_flow column before in
       collection_parts symbols begun (render_pairs pairs s directives in_flow column before) (pairs_own pairs s directives in_flow column begun.cursor)
-      (render_end s curly in_flow (has_no_pairs pairs) place.column) all
+      (render_end s curly in_flow (has_no_pairs pairs) place.column) (pairs_joined pairs s directives in_flow column before)
 
   pub items_joined : (items : Nodes) (s : Effective) (directives : List TagDirective) (in_flow : Bool) (column : ℕ) (standing : Standing)
       → Joined (render_nodes items s directives in_flow column standing) (items_own items s directives in_flow column standing.cursor)
