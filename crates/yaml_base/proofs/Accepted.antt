@@ -137,8 +137,7 @@ or_none : (a b : Option yaml_error_t) → a ≡ None → b ≡ None → option_o
 or_none a b h k = ap (λ x. option_or x b) h ∙ k
 
 no_fault : (wrong : Bool) (fault : yaml_error_t) → some_if wrong fault ≡ None → wrong ≡ false
-no_fault true fault h = cc
-no_fault false fault h = refl
+no_fault wrong fault h = grind (arith, nat_tests)
 
 is_some_value : (o : Option Partial) → is_none o ≡ false → (q : Partial) × (o ≡ Some q)
 is_some_value None h = cc
@@ -201,8 +200,7 @@ begins_no_end : (event : Event) → begins_collection event ≡ true → stops (
 begins_no_end event h = grind (arith, nat_tests)
 
 some_pushed : (o : Option Partial) (q : Partial) → option_and_then (λ next. Some next) o ≡ Some q → is_none o ≡ false
-some_pushed None q h = cc
-some_pushed (Some r) q h = refl
+some_pushed o q h = grind (arith, nat_tests)
 
 room_left : (before : List Event) (event : Event) (m n : ℕ) → 0 < m → open_count before ≡ n → open_count (before ++ event ∷ []) ≤ m
     → begins_collection event ≡ true → n < m

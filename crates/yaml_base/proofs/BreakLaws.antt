@@ -65,8 +65,7 @@ character-written : (setting : LineBreak) (c : ℕ) (rest : Text) (x : Bool) →
     → (not (is_break c) || begins_indented rest) ≡ true
     → is_indented_text (with_breaks_written setting rest) ≡ true
     → is_indented_text ((if x then break_text setting else c ∷ []) ++ with_breaks_written setting rest) ≡ true
-character-written setting c rest true is h ih = grind (arith, nat_tests, eqb-true, and_from, break-begins, begins-written)
-character-written setting c rest false is h ih = grind (arith, or_cases, and_from, or_left, or_right, begins-written)
+character-written setting c rest x is h ih = grind (arith, nat_tests, eqb-true, and_from, break-begins, begins-written, or_cases, or_left, or_right)
 
 -- an indented text stays so, however its line breaks are written
 pub indented-written : (setting : LineBreak) (text : Text) → is_indented_text text ≡ true

@@ -40,8 +40,7 @@ tag_in None = None
 tag_in (Some label) = label.tag
 
 stated_some : (tag : Option Text) (text : Text) (implicit : Bool) → Some text ≡ tag → tag ≡ explicit_tag (content_tag tag implicit)
-stated_some None text implicit is = cc
-stated_some (Some other) text implicit is = refl
+stated_some tag text implicit is = grind (arith, nat_tests)
 
 tag_kept : (found : Option GraphNode) (label : Label) (implicit : Bool) → option_map (label_of true) found ≡ Some label
     → label.tag ≡ explicit_tag (content_tag label.tag implicit)

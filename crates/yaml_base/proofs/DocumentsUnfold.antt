@@ -162,8 +162,7 @@ reached_entered graph walk placed orderly fits is root (child_reached {number = 
     orderly.met child (ap (list_any (is_meeting_of child)) is ∙ met)
 
 not_entered : (entered : Bool) → (entered ≡ true → ⊥) → entered ≡ false
-not_entered true unreached = absurd (unreached refl)
-not_entered false unreached = refl
+not_entered entered unreached = grind (arith, nat_tests)
 
 -- ---- the law
 

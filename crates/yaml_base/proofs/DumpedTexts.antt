@@ -106,8 +106,7 @@ place_of None = root_place
 place_of (Some spot) = entry_place true spot.0 spot.1
 
 in_flow : (spot : Spot) (start : Collection) (empty : Bool) → is_written_in_flow s (place_of spot) start empty ≡ true
-in_flow None start empty = refl
-in_flow (Some spot) start empty = refl
+in_flow spot start empty = grind (arith, nat_tests)
 
 no_key_is_simple : (key : Node) → is_simple true force key ≡ false
 no_key_is_simple key = grind (arith, nat_tests)

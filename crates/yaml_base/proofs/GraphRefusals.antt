@@ -28,13 +28,11 @@ first_fault None (Some other) content depth error stands sound is = cc
 first_fault (Some fault) place content depth error stands sound is = inl is
 
 only_depth : (deep : Bool) (error : yaml_error_t) → some_if deep TooDeep ≡ Some error → error ≡ TooDeep
-only_depth true error is = cc
-only_depth false error is = cc
+only_depth deep error is = grind (arith, nat_tests)
 
 stands : (pushed : Option Partial) (after : Partial) (fault : yaml_error_t) → option_and_then (λ next. Some next) pushed ≡ Some after
     → some_if (is_none pushed) fault ≡ None
-stands None after fault is = cc
-stands (Some next) after fault is = refl
+stands pushed after fault is = grind (arith, nat_tests)
 
 -- an event of a stream is refused for its tag or its depth
 pub refused_so : (stream : Stream) (prefix : List Event) (event : Event) (later : List Event) (error : yaml_error_t)

@@ -111,5 +111,4 @@ whole_graph version directives nodes start_implicit end_implicit none =
 
 -- what the test of a document's numbers tells
 pub none_of_test : {X : Type 0} (found : Option X) → IsTrue (is_none found) → found ≡ None
-none_of_test None is = refl
-none_of_test (Some x) is = cc
+none_of_test found is = grind (arith, nat_tests)

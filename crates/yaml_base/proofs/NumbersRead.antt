@@ -28,8 +28,7 @@ based_11_none negative letter base c rest h = grind (arith, nat_tests, and_left,
 
 -- digits of which the first isn't 0 are no octal number
 octal_11_none : (negative : Bool) (c : ℕ) (digits : Text) → (c == 0x30) ≡ false → octal_11 negative (c ∷ digits) ≡ None
-octal_11_none negative c [] h = refl
-octal_11_none negative c (d ∷ digits) h = grind (arith, and_left)
+octal_11_none negative c digits h = grind (arith, nat_tests, and_left)
 
 -- a whole part: `0`, or its first digit isn't 0
 data Whole (c : ℕ) (digits : Text) : Type 0 where

@@ -21,8 +21,7 @@ one_piece_each s t =
     ap length (sym (stream_steps t s)) ∙ steps_count (stream_events t) s false at_stream first_standing
 
 ends_next-append : (a b : List Event) (follows : Bool) → ends_next (a ++ b) follows ≡ ends_next a (ends_next b follows)
-ends_next-append [] b follows = refl
-ends_next-append (event ∷ a) b follows = refl
+ends_next-append a b follows = grind (arith, nat_tests)
 
 -- The steps of a list and then another.
 pub steps-append : (a b : List Event) (s : Effective) (follows : Bool) (stage : Stage) (standing : Standing)
@@ -48,8 +47,7 @@ steps_same (event ∷ next ∷ rest) s f g stage standing other =
     (steps_same (next ∷ rest) s f g stepped.stage stepped.rendered.standing other)
 
 ends_next-first : (rest : List Event) → ends_next rest false ≡ first_ends_collection rest
-ends_next-first [] = refl
-ends_next-first (event ∷ rest) = refl
+ends_next-first rest = grind (arith, nat_tests)
 
 open_steps : (prefix rest : List Event) (s : Effective) (b c : Bool) → last_begins_collection prefix ≡ b → first_ends_collection rest ≡ c → b && c ≡ false
     → (steps s (ends_next rest false) prefix at_stream first_standing).pieces ≡ (steps s false prefix at_stream first_standing).pieces

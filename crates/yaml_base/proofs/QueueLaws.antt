@@ -31,8 +31,7 @@ held_waits [] = λ event rest given. cc
 held_waits (first ∷ others) = held_if first others (is_ready first others) refl (held_waits others)
 
 middle_false : (a b c : Bool) → (a || b) || c ≡ false → b ≡ false
-middle_false false b c h = grind (arith)
-middle_false true b c h = cc
+middle_false a b c h = grind (arith, nat_tests)
 
 -- So an event that is held first awaits at least as many as stand from it on.
 pub held_is_short : (event : Event) (rest : List Event) → is_ready event rest ≡ false → length (event ∷ rest) ≤ awaited event

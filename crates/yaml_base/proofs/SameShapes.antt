@@ -160,12 +160,10 @@ back_of all other once = grind (arith, count_map, counted_in, eqb-true)
 -- ---- the law
 
 first_numbers : (pair : Pair) → number_in (first_of pair) ≡ first_number pair
-first_numbers (alias_pair name number other) = refl
-first_numbers (node_pair anchor number other) = refl
+first_numbers pair = grind (arith)
 
 second_numbers : (pair : Pair) → number_in (second_of pair) ≡ second_number pair
-second_numbers (alias_pair name number other) = refl
-second_numbers (node_pair anchor number other) = refl
+second_numbers pair = grind (arith)
 
 -- what is known of a tree with the numbers of both graphs
 record Both (first second : Graph) (twin : Twin) : Type 0 where

@@ -39,12 +39,10 @@ pairs_begin (pairs_and pairs key value) rest follows opens =
 
 -- A collection's end follows its start at once exactly where it is empty.
 sequence_ends : (items : Nodes) (rest : List Event) (follows : Bool) → ends_next (nodes_events items ++ sequence_end ∷ rest) follows ≡ has_no_nodes items
-sequence_ends no_nodes rest follows = refl
-sequence_ends (nodes_and items last) rest follows = grind (arith, append_assoc, nodes_begin, node_begins)
+sequence_ends items rest follows = grind (arith, append_assoc, nodes_begin, node_begins)
 
 mapping_ends : (pairs : Pairs) (rest : List Event) (follows : Bool) → ends_next (pairs_events pairs ++ mapping_end ∷ rest) follows ≡ has_no_pairs pairs
-mapping_ends no_pairs rest follows = refl
-mapping_ends (pairs_and pairs key value) rest follows = grind (arith, append_assoc, pairs_begin, node_begins)
+mapping_ends pairs rest follows = grind (arith, append_assoc, pairs_begin, node_begins)
 
 abbrev frame_at : (in_flow : Bool) → Role → ℕ → (simple : Bool) → Frame
 frame_at in_flow role column simple = record { place = entry_place in_flow role column; simple = simple }

@@ -52,8 +52,7 @@ based_by_core letter base text h k = grind (arith, nat_tests, off, and_left, unb
 
 -- a text that begins no number has no sign
 without_first : (text : Text) → first_meets begins_number text ≡ false → first_meets begins_digits (past_sign text) ≡ false
-without_first [] h = refl
-without_first (c ∷ rest) h = grind (arith, or_parts)
+without_first text h = grind (arith, nat_tests, or_parts)
 
 -- a text that isn't numeric is no number
 number_none : (text : Text) → is_numeric text ≡ false → NoNumber text

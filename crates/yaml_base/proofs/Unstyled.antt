@@ -22,8 +22,7 @@ chosen_canonical : (allowed others : Allowances) (asked other : ScalarStyle) (em
     → canonical ≡ true
     → chosen allowed asked empty tag_written plain_implicit quoted_implicit in_flow simple canonical
     ≡ chosen others other empty tag_written plain_implicit quoted_implicit in_flow simple canonical
-chosen_canonical allowed others asked other empty tag_written plain_implicit quoted_implicit in_flow simple true on = refl
-chosen_canonical allowed others asked other empty tag_written plain_implicit quoted_implicit in_flow simple false on = cc
+chosen_canonical allowed others asked other empty tag_written plain_implicit quoted_implicit in_flow simple canonical on = grind (arith, nat_tests)
 
 scalar_unstyled : (s : Effective) → s.canonical ≡ true → (directives : List TagDirective) (frames : List Frame) (content : Scalar) (empty : Bool)
     (standing : Standing)

@@ -16,13 +16,11 @@ first_part [] = []
 first_part (part ∷ parts) = part
 
 onto_first_begins : (test : ℕ → Bool) (c : ℕ) (parts : List Text) → first_meets test (first_part (onto_first c parts)) ≡ test c
-onto_first_begins test c [] = refl
-onto_first_begins test c (part ∷ parts) = refl
+onto_first_begins test c parts = grind (arith, nat_tests)
 
 -- a cut text's first piece begins with what the text begins with, or is empty
 pub split_begins : (test sign : ℕ → Bool) (text : Text) → first_meets test text ≡ false → first_meets test (first_part (slice_split sign text)) ≡ false
-split_begins test sign [] h = refl
-split_begins test sign (c ∷ rest) h = grind (arith, onto_first_begins)
+split_begins test sign text h = grind (arith, nat_tests, onto_first_begins)
 
 -- a character that is no digit isn't this one, which is
 pub unlike : (c n : ℕ) → is_decimal n ≡ true → is_decimal c ≡ false → (c == n) ≡ false
@@ -42,16 +40,13 @@ pub scientific_begins : (mantissa : Text → Option Decimal) (exponent : Text �
 scientific_begins mantissa exponent parts h = grind (arith, nat_tests)
 
 core_mantissa_begins : (negative : Bool) (text : Text) → first_meets begins_digits text ≡ false → core_mantissa negative (slice_split is_point text) ≡ None
-core_mantissa_begins negative [] h = refl
-core_mantissa_begins negative (c ∷ rest) h = grind (arith, slice_split-cons_no, or_parts, pointed_begins)
+core_mantissa_begins negative text h = grind (arith, nat_tests, slice_split-cons_no, or_parts, pointed_begins)
 
 mantissa_11_begins : (negative : Bool) (text : Text) → first_meets begins_digits text ≡ false → mantissa_11 negative (slice_split is_point text) ≡ None
-mantissa_11_begins negative [] h = refl
-mantissa_11_begins negative (c ∷ rest) h = grind (arith, slice_split-cons_no, or_parts, off, and_left)
+mantissa_11_begins negative text h = grind (arith, nat_tests, slice_split-cons_no, or_parts, off, and_left)
 
 more_points_begin : (text : Text) → first_meets begins_digits text ≡ false → has_more_points (slice_split is_point text) ≡ false
-more_points_begin [] h = refl
-more_points_begin (c ∷ rest) h = grind (arith, slice_split-cons_no, or_parts, and_left, or_from, filled)
+more_points_begin text h = grind (arith, nat_tests, slice_split-cons_no, or_parts, and_left, or_from, filled)
 
 pub more_points_11_begins : (parts : List Text) → has_more_points (slice_split is_point (first_part parts)) ≡ false → more_points_11 parts ≡ None
 more_points_11_begins parts h = grind (arith, nat_tests, off, and_left)
@@ -89,8 +84,7 @@ timestamp_begins text h = grind (arith, off, or_from, and_left, date_begins, spl
 
 -- a sign begins no number, so the text itself begins none either
 whole_begins : (text : Text) → first_meets begins_digits (past_sign text) ≡ false → first_meets is_decimal text ≡ false
-whole_begins [] h = refl
-whole_begins (c ∷ rest) h = grind (arith, eqb-true, false≢true, or_parts)
+whole_begins text h = grind (arith, nat_tests, eqb-true, false≢true, or_parts)
 
 digit_begins : (text : Text) → first_meets begins_digits text ≡ false → first_meets is_decimal text ≡ false
 digit_begins [] h = refl

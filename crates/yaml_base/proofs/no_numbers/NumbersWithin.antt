@@ -1,6 +1,6 @@
 -- A text that holds a character which stands in no number is no number and no timestamp.
 use Rattle.yaml_base.proofs.Common.{nat_tests, and-true}
-use Rattle.yaml_base.proofs.Common.{ℕ, ◌==◌, Option, None, Some, codes, ℤ, length, Bool, false, not, true, ◌&&◌, ◌||◌, List, [], ◌++◌, ◌∷◌, ◌⊎◌, refl, ◌≡◌}
+use Rattle.yaml_base.proofs.Common.{ℕ, ◌==◌, Option, None, codes, ℤ, length, Bool, false, not, true, ◌&&◌, ◌||◌, List, [], ◌++◌, ◌∷◌, ◌⊎◌, refl, ◌≡◌}
 use Rattle.yaml_base.proofs.Common.{eqb-true, lt-ltb, ltb-true, true≢false, inl, inr, ap, sym, ◌∙◌, arith, or_cases, and_cases, and_left, and_right, or_from}
 use Rattle.yaml_base.proofs.Common.{or_left, list_all-append, bytes_eq-Decides, digit_value, concat, list_all, onto_first, slice_split, Text, is_between}
 use Rattle.yaml_base.proofs.Common.{is_blank, is_word, Decimal, is_point, is_exponent_letter, is_plus_or_minus, is_decimal, first_meets, past_sign, is_negative}
@@ -122,8 +122,7 @@ sign_outside (c ∷ rest) h = grind (arith, sign_stands)
 -- ---- floats
 
 scaled_none : (decimal : Option Decimal) → times_power_of_ten decimal None ≡ None
-scaled_none None = refl
-scaled_none (Some decimal) = refl
+scaled_none decimal = grind (arith, nat_tests)
 
 scientific_outside : (mantissa : Text → Option Decimal) (exponent : Text → Option ℤ) → ((text : Text) → within text ≡ false → mantissa text ≡ None)
     → ((text : Text) → within text ≡ false → exponent text ≡ None) → (parts : List Text) → list_all within parts ≡ false

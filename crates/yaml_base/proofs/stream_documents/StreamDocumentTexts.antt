@@ -1,5 +1,5 @@
 -- The text of a document by itself: its directives, its marker, its root and its end, as one text in place of pieces.
-use Rattle.yaml_base.proofs.Common.{arith, if◌then◌else◌, ◌==◌, Option, None, Some, codes, Bool, false, not, true, ◌&&◌, ◌||◌, List, [], ◌++◌, ◌∷◌, refl, ◌≡◌}
+use Rattle.yaml_base.proofs.Common.{arith, if◌then◌else◌, ◌==◌, Option, codes, Bool, false, not, true, ◌&&◌, ◌||◌, List, [], ◌++◌, ◌∷◌, refl, ◌≡◌}
 use Rattle.yaml_base.proofs.Common.{append-nil, append_assoc, ap, subst, sym, ◌∙◌, flat_map-append, Text, line_feed, Cursor, Rendered, Version, TagDirective}
 use Rattle.yaml_base.proofs.Common.{DocumentStart, Document, render_if, render_closing_marker, render_version, render_tag_directives, has_directives}
 use Rattle.yaml_base.proofs.Common.{is_explicit, render_document_start, document_start_piece, document_end_piece, root_place, render_document, Piece}
@@ -22,8 +22,7 @@ before_root s ended start = dots_if (has_directives start && not ended) ++ headi
 
 -- lines of their own end where a line begins
 version_ends : (version : Option Version) → (render_version version (margin_cursor 0)).cursor ≡ margin_cursor 0
-version_ends None = refl
-version_ends (Some version) = refl
+version_ends version = grind (arith, nat_tests)
 
 directives_end : (portable : Bool) (directives : List TagDirective) (cursor : Cursor) → cursor ≡ margin_cursor 0
     → (render_tag_directives portable directives cursor).cursor ≡ margin_cursor 0
@@ -31,8 +30,7 @@ directives_end portable [] cursor h = h
 directives_end portable (directive ∷ rest) cursor h = directives_end portable rest (margin_cursor 0) refl
 
 pub dots_rendered : (x : Bool) → render_if x render_closing_marker (margin_cursor 0) ≡ record { text = dots_if x; cursor = margin_cursor 0 }
-dots_rendered true = refl
-dots_rendered false = refl
+dots_rendered x = grind (arith, nat_tests)
 
 -- a document's start is rendered so
 pub start_rendered : (s : Effective) (first : Bool) (start : DocumentStart) (standing : Standing) → standing.cursor ≡ margin_cursor 0
@@ -51,13 +49,11 @@ end_text : (implicit : Bool) (standing : Standing) → Settled standing.cursor
 end_text implicit standing h = grind (arith, nat_tests, append-nil, new_line_closes)
 
 pub end_cursor : (implicit : Bool) (standing : Standing) → (document_end_piece implicit standing).standing.cursor ≡ margin_cursor 0
-end_cursor true standing = refl
-end_cursor false standing = refl
+end_cursor implicit standing = grind (arith, nat_tests)
 
 -- an implicit end leaves the document open, an explicit one doesn't
 end_marker : (implicit : Bool) (standing : Standing) → ((document_end_piece implicit standing).standing.open_ended == 0) ≡ not implicit
-end_marker true standing = grind (arith)
-end_marker false standing = refl
+end_marker implicit standing = grind (arith, nat_tests)
 
 -- Documents
 
@@ -75,8 +71,7 @@ document_text s first ended document =
 -- a root behind its marker
 marked_root : (explicit : Bool) (s : Effective) (document : Document)
     → marker_text explicit s.canonical ++ closed (render_root (explicit && not s.canonical) s document) ≡ root_part explicit s document
-marked_root true s document = refl
-marked_root false s document = refl
+marked_root explicit s document = grind (arith, nat_tests)
 
 -- regrouped: what stands before a marker, the marker, a root and its end
 regrouped : (a m r c e : Text) → ((((a ++ m) ++ []) ++ []) ++ r) ++ (c ++ e) ≡ a ++ ((m ++ (r ++ c)) ++ e)

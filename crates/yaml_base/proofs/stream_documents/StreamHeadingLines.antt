@@ -1,5 +1,5 @@
 -- The lines of a document's directives: each begins with `%`, and they are read as its version and its directives.
-use Rattle.yaml_base.proofs.Common.{option_and_then, Option, None, Some, Bool, true, List, [], ◌++◌, ◌∷◌, refl, ◌≡◌, int_eq, append-nil, append_assoc, ap, sym}
+use Rattle.yaml_base.proofs.Common.{option_and_then, Option, None, Bool, true, List, [], ◌++◌, ◌∷◌, refl, ◌≡◌, int_eq, append-nil, append_assoc, ap, sym}
 use Rattle.yaml_base.proofs.Common.{◌∙◌, arith, list_all, Text, line_feed, Rendered, first_cursor, render_then, Version, TagDirective, DocumentStart}
 use Rattle.yaml_base.proofs.Common.{render_version, render_tag_directives, directive_scalars, Effective, version_fault, next_directive_fault}
 use Rattle.yaml_base.proofs.{NoFaults.neither, PercentLaws.prefix_stands, TagForms.handle_form, TagWords.handle_ends_no_word}
@@ -44,8 +44,7 @@ tags_whole breaks12 portable before (directive ∷ rest) sound =
     tags_whole breaks12 portable (before ++ directive ∷ []) rest both.1)
 
 version_whole : (breaks12 : Bool) (version : Option Version) → WholeLines breaks12 (version_lines version)
-version_whole breaks12 None = tt
-version_whole breaks12 (Some version) = grind (arith, int_eq)
+version_whole breaks12 version = grind (arith, int_eq)
 
 -- the lines of a heading without a fault
 heading_whole : (breaks12 portable : Bool) (start : DocumentStart) → directives_fault start.directives ≡ None
@@ -72,8 +71,7 @@ heading_percent portable start = grind (arith, tags_percent)
 -- As they are rendered
 
 version_is : (version : Option Version) → render_version version first_cursor ≡ record { text = text_of_lines (version_lines version); cursor = first_cursor }
-version_is None = refl
-version_is (Some version) = grind (arith, int_eq)
+version_is version = grind (arith, int_eq)
 
 tags_are : (portable : Bool) (directives : List TagDirective)
     → render_tag_directives portable directives first_cursor ≡ record { text = text_of_lines (tag_lines portable directives); cursor = first_cursor }

@@ -156,8 +156,7 @@ version_lines (Some version) = record { text = codes "%YAML" ++ (space ∷ (vers
 -- it is read as the version
 version_read : (version : Option Version) → option_and_then version_fault version ≡ None
     → heading_read (version_lines version) ≡ Some (record { version = version; directives = [] })
-version_read None sound = refl
-version_read (Some version) sound = grind (arith, int_eq, version_form)
+version_read version sound = grind (arith, nat_tests, int_eq, version_form)
 
 -- Headings
 

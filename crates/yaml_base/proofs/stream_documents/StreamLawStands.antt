@@ -100,8 +100,7 @@ indent_deep indent = grind (arith, nat_tests, leb-true)
 
 -- no document is lost where all is read alike
 first_written : (s : Effective) (documents : List Document) → (s.portable ≡ false → loses_document s.canonical documents ≡ false) → FirstWritten s documents
-first_written s [] kept = tt
-first_written s (document ∷ rest) kept = grind (arith, false≢true)
+first_written s documents kept = grind (arith, nat_tests, false≢true)
 
 -- The law
 

@@ -36,8 +36,7 @@ markerless_keeps breaks12 (c ∷ a) b h = grind (arith, deep_keeps)
 -- nor is any line that begins so
 first_markerless : (breaks12 : Bool) (u : Text) → begins_markerless breaks12 u ≡ true
     → is_markerless (marker_of (first_text (lines_of breaks12 (u ++ (line_feed ∷ []))))) ≡ true
-first_markerless breaks12 [] h = absurd (false≢true h)
-first_markerless breaks12 (c ∷ u) h = grind (arith, first_extended, eqb-true, false≢true, inside_markerless, deep_first)
+first_markerless breaks12 u h = grind (false≢true, nat_tests, arith, first_extended, eqb-true, inside_markerless, deep_first)
 
 -- after each break of a text something begins a line that is no marker
 abbrev Markerless : Bool → Text → Type 0

@@ -25,15 +25,13 @@ shown_margin (line ∷ rest) h = h
 
 -- and isn't blank
 shown_whole : (lines : List Line) → begins_shown lines ≡ true → without_blank_lines lines ≡ lines
-shown_whole [] h = refl
-shown_whole (line ∷ rest) h = grind (arith, false≢true)
+shown_whole lines h = grind (arith, nat_tests, false≢true)
 
 -- no line of what reads as a node is a marker, where none after its first is
 markerless_whole : (lines : List Line) (depth : ℕ) (rules : Rules) (here : Bool) (column : Option ℕ) (tree : Tree)
     → node_read depth rules here column lines ≡ Some tree
     → AllMarkerless (lines_after_first lines) → AllMarkerless lines
-markerless_whole [] depth rules here column tree reads after = refl
-markerless_whole (line ∷ rest) depth rules here column tree reads after = grind (arith, and_from, read_markerless)
+markerless_whole lines depth rules here column tree reads after = grind (arith, nat_tests, and_from, read_markerless)
 
 -- Documents behind `---`
 

@@ -75,8 +75,7 @@ Percents lines = list_all (λ line. begins_with_percent line.text) lines ≡ tru
 
 -- such a line is no marker
 percent_markerless : (t : Text) → begins_with_percent t ≡ true → is_markerless (marker_of t) ≡ true
-percent_markerless [] h = absurd (false≢true h)
-percent_markerless (c ∷ t) h = grind (arith, eqb-true)
+percent_markerless t h = grind (false≢true, arith, eqb-true)
 
 -- none of them is
 pub percents_markerless : (lines : List Line) → Percents lines → AllMarkerless lines

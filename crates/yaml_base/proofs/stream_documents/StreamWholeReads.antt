@@ -150,8 +150,7 @@ ended_read breaks12 depth text documents marker awaits = by (marker == 0) refl (
 
 -- a blank line is no marker, and begins no text
 blank_markerless : (t : Text) → is_spaces t ≡ true → is_markerless (marker_of t) ≡ true
-blank_markerless [] h = refl
-blank_markerless (c ∷ t) h = grind (arith, and_parts, eqb-true)
+blank_markerless t h = grind (arith, and_parts, eqb-true)
 
 blank_lines_markerless : (lines : List Line) → all_blank lines ≡ true → AllMarkerless lines
 blank_lines_markerless [] h = refl

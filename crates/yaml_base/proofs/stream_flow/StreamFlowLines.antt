@@ -53,8 +53,7 @@ no_word rules false properties (c ∷ d ∷ t) h = no_scalar rules false propert
 
 -- a bracket begins a node's own text
 bracket_content : (q : Bool) (t : Text) → begins_content (opening q ∷ t) ≡ true
-bracket_content true t = refl
-bracket_content false t = refl
+bracket_content q t = grind (arith, nat_tests)
 
 -- no `:` after it ends a key
 bracket_nowhere : (rules : Rules) (anchor tag : Option Text) (parsed : Option ParsedTag) (q : Bool) (b t : Text)

@@ -1,6 +1,6 @@
 -- A scalar of the layout in flow is one word that reads as its tree.
 use Rattle.yaml_base.proofs.Common.{nat_tests, arith, ℕ, is_some, Option, None, Some, Bool, false, not, true, ◌&&◌, ◌||◌, List, [], ◌++◌, ◌∷◌, refl, ◌≡◌}
-use Rattle.yaml_base.proofs.Common.{true≢false, append_assoc, and_parts, false≢true, Text, Cursor, Rendered, space_if, ScalarStyle, any_style, plain}
+use Rattle.yaml_base.proofs.Common.{true≢false, append_assoc, false≢true, Text, Cursor, Rendered, space_if, ScalarStyle, any_style, plain}
 use Rattle.yaml_base.proofs.Common.{single_quoted, double_quoted, literal, folded, TagDirective, Scalar, scalar_tag, render_properties, render_separation}
 use Rattle.yaml_base.proofs.Common.{render_body, allowed_under, style_asked_at, choice_of, entry_place, Role, read_in_style, Effective, read_plain, is_tidy}
 use Rattle.yaml_base.proofs.Common.{Allowances, is_empty, and-false, double_inside, render_quote, runs, render_runs, quotes_doubled, single_quote, is_plain}
@@ -35,8 +35,7 @@ chosen_in_flow s role column simple content =
 
 -- the bare tag stands before no plain scalar
 pub bare_not_plain : (tag quoted plain_style : Bool) → (not tag && not quoted && not plain_style) ≡ true → plain_style ≡ false
-bare_not_plain tag quoted true h = absurd (false≢true (and_parts (not tag && not quoted) false h).1)
-bare_not_plain tag quoted false h = refl
+bare_not_plain tag quoted plain_style h = grind (arith, nat_tests, false≢true)
 
 -- a plain text isn't empty in flow
 plain_case : (s : Effective) (own : List TagDirective) (anchor tag given_tag : Option Text) (column : ℕ) (text value : Text)

@@ -47,8 +47,7 @@ pub record FlowEntries (rules : Rules) (bracket : ℕ) (cursor : Cursor) (own : 
 -- a word takes its place
 pub takes_word : (rules : Rules) (levels : List OpenFlow) (spaced : Bool) (text : Text) (tree : Tree) → FlowWord rules text tree → may_open levels ≡ true
     → TakesBytes rules (within levels (awaited_of spaced)) text (with_tree levels tree)
-takes_word rules levels true text tree of h = grind (arith, nat_tests, takes_to, false≢true)
-takes_word rules levels false text tree of h = grind (arith, nat_tests, takes_to, false≢true)
+takes_word rules levels spaced text tree of h = grind (arith, nat_tests, takes_to, false≢true)
 
 -- Collections
 

@@ -177,8 +177,7 @@ alias_flow_word rules (n ∷ name) h = record {
 
 -- the tag of a collection, if it has one
 pub tag_of_collection : (tag : Option Text) → collection_tag_parsed (tag_meant tag false) ≡ Some tag
-tag_of_collection None = refl
-tag_of_collection (Some tag) = refl
+tag_of_collection tag = grind (arith, nat_tests)
 
 -- `[]`
 pub empty_sequence_word : (rules : Rules) (anchor tag given_tag : Option Text) → Given rules anchor tag (tag_meant given_tag false)

@@ -35,8 +35,7 @@ indicator_ends breaks12 c text e = ends_anyhow breaks12 c text (λ more. ap (λ 
 
 -- what ends a word is no quote
 pub ends_unquoted : (breaks12 : Bool) (rest : Text) → ends_word breaks12 rest ≡ true → begins_unquoted rest ≡ true
-ends_unquoted breaks12 [] h = absurd (false≢true h)
-ends_unquoted breaks12 (c ∷ rest) h = grind (arith, false≢true, eqb-true, class_fixed)
+ends_unquoted breaks12 rest h = grind (false≢true, arith, eqb-true, class_fixed)
 
 -- Words
 

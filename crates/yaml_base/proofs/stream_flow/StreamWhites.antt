@@ -1,13 +1,12 @@
 -- White space in flow, and what it does to the reader of flow collections.
-use Rattle.yaml_base.proofs.Common.{arith, suc, zero, ℕ, Bool, false, true, List, [], ◌++◌, ◌∷◌, refl, ◌≡◌, ap, ◌∙◌, line_feed, space, OpenFlow, at_once}
+use Rattle.yaml_base.proofs.Common.{arith, suc, zero, ℕ, Bool, List, [], ◌++◌, ◌∷◌, refl, ◌≡◌, ap, ◌∙◌, line_feed, space, OpenFlow, at_once}
 use Rattle.yaml_base.proofs.stream_flow.{StreamTakes.TakesBytes, StreamTakes.takes_to, StreamPlainWords.ends_by, StreamPlainWords.ends_word}
 use Rattle.yaml_base.proofs.Common.{after_blank, colon_awaited, within, spaces, Rules, is_white_break, class_of}
 use Rattle.yaml_base.proofs.stream_flow.StreamSays.{EndsWord, says_blank, class_fixed}
 
 -- LF is a break
 pub line_feed_class : (breaks12 : Bool) → class_of breaks12 line_feed ≡ is_white_break
-line_feed_class true = refl
-line_feed_class false = refl
+line_feed_class breaks12 = grind (arith)
 
 -- spaces end a word, if what follows them does
 pub spaces_end_word : (breaks12 : Bool) (n : ℕ) → EndsWord breaks12 (spaces n)

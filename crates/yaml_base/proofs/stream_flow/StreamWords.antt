@@ -108,8 +108,7 @@ is_quoted breaks12 (c ∷ t) (within_digits more number) ends before rest = at_d
 
 -- what reads alone leaves nothing
 alone_ends : (quoted : Option Quoted) (v : Text) → value_alone (quoted_reading quoted) ≡ Some v → Ends quoted
-alone_ends None v e = absurd (none_not_some e)
-alone_ends (Some quoted) v e = grind (arith, none_not_some)
+alone_ends quoted v e = grind (arith, none_not_some)
 
 -- what reads as double-quoted is a word after its first quote, and after whatever stands before that
 pub double_quoted_word : (breaks12 : Bool) (before t rest v : Text) → read_double breaks12 (0x22 ∷ t) ≡ Some v
@@ -127,8 +126,7 @@ begins_unquoted (c ∷ rest) = if c == 0x27 then false else true
 -- a word in single quotes ends before what is no quote
 after_quote_ends : (breaks12 : Bool) (text rest : Text) → begins_unquoted rest ≡ true
     → flow_tokens breaks12 (after_quote text) rest ≡ word text ∷ flow_tokens breaks12 free rest
-after_quote_ends breaks12 text [] h = absurd (false≢true h)
-after_quote_ends breaks12 text (c ∷ rest) h = grind (arith, false≢true)
+after_quote_ends breaks12 text rest h = grind (false≢true, arith)
 
 -- two characters more
 shifted_twice : (breaks12 : Bool) (before : Text) (c d : ℕ) (t rest : Text)

@@ -27,8 +27,7 @@ last_space c (d ∷ t) = ap (option_map (λ text. c ∷ text)) (last_space d t)
 
 -- a word that begins with `*` is an alias, if its name is one
 pub alias_word : (rules : Rules) (flow : Bool) (n : ℕ) (t : Text) → word_read rules flow (0x2A ∷ n ∷ t) ≡ option_map alias_tree (name_read (n ∷ t))
-alias_word rules flow n [] = refl
-alias_word rules flow n (c ∷ t) = refl
+alias_word rules flow n t = grind (arith)
 
 spaced_word : (rules : Rules) (n : ℕ) (t : Text) → word_but_alias rules (0x2A ∷ n ∷ spaced t) ≡ None
 spaced_word rules n t = grind (arith, alias_word, spaced_no_name)

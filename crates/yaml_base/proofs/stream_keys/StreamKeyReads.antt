@@ -8,7 +8,7 @@ use Rattle.yaml_base.proofs.{stream_nodes.StreamStands.tag_meant, stream_keys.St
 use Rattle.yaml_base.proofs.Common.{key_of_text, Rules, Properties, scalar_of_style, an_alias, kind_of_word, word_by_kind, word_after}
 use Rattle.yaml_base.proofs.stream_lines.StreamCuts.{quote_of, quoted_in, read_quoted, quoted_whole}
 use Rattle.yaml_base.proofs.stream_keys.StreamKeys.{NoKey, none_parsed, no_alias_before, key_by_word}
-use Rattle.yaml_base.proofs.stream_flow.StreamFlowWords.{Given, given_reads, scalar_in, scalar_meant, quoted_kind, quoted_read}
+use Rattle.yaml_base.proofs.stream_flow.StreamFlowWords.{Given, given_reads, scalar_in, scalar_meant, quoted_read}
 use Rattle.yaml_base.proofs.stream_keys.StreamPlainKeys.{Begins, plain_kind, plain_style, plain_no_key, reads_plain}
 
 -- Words after properties
@@ -74,8 +74,7 @@ given_key rules anchor tag parsed c t tree given own star clear read short = rec
 -- a text in quotes that doesn't read is no key
 quoted_no_text : (rules : Rules) (double : Bool) (anchor tag : Option Text) (parsed : Option ParsedTag) (b : Text) → Given rules anchor tag parsed
     → read_quoted double rules.breaks12 (quote_of double ∷ b) ≡ None → key_of_text rules (lead anchor tag ++ (quote_of double ∷ b)) ≡ None
-quoted_no_text rules true anchor tag parsed b given none = grind (arith, lead_no_text, quoted_kind true b, none_parsed)
-quoted_no_text rules false anchor tag parsed b given none = grind (arith, lead_no_text, quoted_kind false b, none_parsed)
+quoted_no_text rules double anchor tag parsed b given none = grind (arith, nat_tests, lead_no_text, none_parsed)
 
 -- so no key ends in one that reads
 pub quoted_nowhere : (rules : Rules) (double : Bool) (anchor tag : Option Text) (parsed : Option ParsedTag) (b t v : Text) → Given rules anchor tag parsed

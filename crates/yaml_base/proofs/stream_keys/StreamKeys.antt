@@ -32,8 +32,7 @@ key_found rules before (c ∷ t) after key clear read h =
 
 -- nothing is said of no value
 pub none_parsed : (properties : Properties) (standing : Stood) (x : Bool) → ◌≡◌ {A = Option Tree} (scalar_parsed properties standing (if x then None else None)) None
-none_parsed properties standing true = refl
-none_parsed properties standing false = refl
+none_parsed properties standing x = grind (arith)
 
 -- what no alias begins with none stands before a space
 pub no_alias_before : (rules : Rules) (q : ℕ) (t : Text) → (q == space) ≡ false → ((u : Text) → word_of_alias rules (q ∷ u) ≡ None)

@@ -60,8 +60,7 @@ other_kept (Some tree) h = ap (λ x. if x then None else Some tree) h
 
 -- a scalar is none
 scalar_other : (properties : Properties) (standing : Stood) (value : Option Text) → reads_alias (scalar_parsed properties standing value) ≡ false
-scalar_other properties standing None = refl
-scalar_other properties standing (Some text) = grind (arith)
+scalar_other properties standing value = grind (arith, nat_tests)
 
 -- a collection is none
 collection_other : (tag : Option (Option Text)) (make : Option Text → Tree) → ((tag : Option Text) → is_alias (make tag) ≡ false)
@@ -178,8 +177,7 @@ name_nowhere rules before (c ∷ name) h =
 
 -- nor in an anchor and the space after it
 anchored_nowhere : (rules : Rules) (anchor : Option Text) → IsNamed anchor → KeyNowhere rules [] (anchored anchor)
-anchored_nowhere rules None named = tt
-anchored_nowhere rules (Some name) named = grind (arith, false≢true, nowhere_both, name_nowhere, name_letters)
+anchored_nowhere rules anchor named = grind (arith, nat_tests, false≢true, nowhere_both, name_nowhere, name_letters)
 
 -- no key ends in properties
 pub properties_nowhere : (rules : Rules) (anchor tag : Option Text) (parsed : Option ParsedTag) → IsNamed anchor → IsTagged rules.directives tag parsed

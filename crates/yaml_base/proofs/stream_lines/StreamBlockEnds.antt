@@ -142,8 +142,7 @@ last_is_read charset value end allowed =
 
 -- a hint is written as it is
 pub hint_text : (hint : Text) (cursor : Cursor) → (render_hint hint cursor).text ≡ hint
-hint_text [] cursor = refl
-hint_text (c ∷ rest) cursor = refl
+hint_text hint cursor = grind (arith, nat_tests)
 
 -- where a value ends in no break the header strips
 pub strips : (best_indent : ℕ) (value rest : Text) → 2 ≤ best_indent → best_indent ≤ 9 → ends_in_break (ending value) ≡ false

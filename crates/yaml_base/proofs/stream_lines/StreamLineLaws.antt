@@ -49,8 +49,7 @@ one_line_both breaks12 (c ∷ a) b h k =
 
 -- what breaks no line in a value breaks none that is read
 pub break_line : (breaks12 : Bool) (c : ℕ) → is_break c ≡ false → is_read_break breaks12 c ≡ false
-break_line true c h = grind (arith, nat_tests, h)
-break_line false c h = grind (arith, nat_tests, h)
+break_line breaks12 c h = grind (arith, nat_tests)
 
 -- so it is for a text
 pub unbroken_line : (breaks12 : Bool) (text : Text) → list_any is_break text ≡ false → OneLine breaks12 text

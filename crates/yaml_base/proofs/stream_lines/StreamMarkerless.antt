@@ -16,8 +16,7 @@ space_markerless t = grind (arith, nat_tests)
 
 -- nor is one that begins with a `-` and what an indicator opens
 dash_markerless : (t : Text) → ends_indicator t ≡ true → is_markerless (marker_of (0x2D ∷ t)) ≡ true
-dash_markerless [] h = refl
-dash_markerless (b ∷ t) h = grind (arith, eqb-true)
+dash_markerless t h = grind (arith, nat_tests, eqb-true)
 
 -- nor one that begins with `?`
 question_markerless : (t : Text) → is_markerless (marker_of (0x3F ∷ t)) ≡ true
@@ -29,8 +28,7 @@ colon_markerless t = grind (arith, nat_tests)
 
 -- a line inside column 0 is no marker
 pub inside_markerless : (s : Bool) (t : Text) → belongs_to_entry s 0 t ≡ true → is_markerless (marker_of t) ≡ true
-inside_markerless s [] h = refl
-inside_markerless s (c ∷ t) h = grind (arith, eqb-true, space_markerless, false≢true, and_parts, dash_markerless)
+inside_markerless s t h = grind (arith, nat_tests, eqb-true, space_markerless, false≢true, and_parts, dash_markerless)
 
 -- nor is any of some lines there
 pub all_markerless : (s : Bool) (lines : List Line) → AllInside s 0 lines → AllMarkerless lines

@@ -57,19 +57,16 @@ clip_not_strip e = grind (arith, true≢false)
 
 -- the header is what it was
 chomping_more : (t : Text) → chomping_first t ≡ strip → (chomping_first (t ++ feed) ≡ strip) × (after_chomping (t ++ feed) ≡ after_chomping t ++ feed)
-chomping_more [] h = absurd (clip_not_strip h)
-chomping_more (c ∷ t) h = grind (arith)
+chomping_more t h = grind (arith, nat_tests)
 
 -- nor is its digit another
 digit_more : (t : Text) → chomping_first (after_digit t) ≡ strip → (after_digit (t ++ feed) ≡ after_digit t ++ feed) × (digit_first (t ++ feed) ≡ digit_first t)
-digit_more [] h = absurd (clip_not_strip h)
-digit_more (c ∷ t) h = grind (arith)
+digit_more t h = grind (arith, nat_tests)
 
 -- where a break ends the header, the text after it has one more at its end
 body_more : (breaks12 : Bool) (t : Text) (f : Text → Option Text) (v : Text) → option_and_then f (after_break breaks12 t) ≡ Some v
     → ((body : Text) → f (body ++ feed) ≡ f body) → option_and_then f (after_break breaks12 (t ++ feed)) ≡ Some v
-body_more breaks12 [] f v h same = absurd (none_not_some h)
-body_more breaks12 (c ∷ t) f v h same = grind (arith, none_not_some)
+body_more breaks12 t f v h same = grind (arith, nat_tests, none_not_some)
 
 -- a block scalar that strips reads the same with a break more at its end
 pub strip_more : (breaks12 : Bool) (column : Option ℕ) (symbol : ℕ) (rest v : Text) → chomping_first (after_digit rest) ≡ strip

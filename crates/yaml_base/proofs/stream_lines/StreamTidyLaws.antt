@@ -51,12 +51,10 @@ lines_after_first [] = []
 lines_after_first (line ∷ rest) = rest
 
 pub first_extended : (c : ℕ) (lines : List Line) → first_text (prepend_to_first_line c lines) ≡ c ∷ first_text lines
-first_extended c [] = refl
-first_extended c (line ∷ rest) = refl
+first_extended c lines = grind (arith, nat_tests)
 
 pub after_extended : (c : ℕ) (lines : List Line) → lines_after_first (prepend_to_first_line c lines) ≡ lines_after_first lines
-after_extended c [] = refl
-after_extended c (line ∷ rest) = refl
+after_extended c lines = grind (arith, nat_tests)
 
 -- a space is no break
 no_break : (breaks12 : Bool) (c : ℕ) → (c == space) ≡ true → is_read_break breaks12 c ≡ false

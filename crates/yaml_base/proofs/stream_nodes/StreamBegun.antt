@@ -17,8 +17,7 @@ use Rattle.yaml_base.proofs.stream_nodes.StreamProperties.{holds_white, IsTagged
 
 -- what isn't white breaks no line
 white_line : (breaks12 : Bool) (c : ℕ) → (is_blank c || is_break c) ≡ false → is_read_break breaks12 c ≡ false
-white_line true c h = grind (arith, nat_tests, h)
-white_line false c h = grind (arith, nat_tests, h)
+white_line breaks12 c h = grind (arith, nat_tests)
 
 -- a text that holds nothing white is on one line
 pub shown_line : (breaks12 : Bool) (text : Text) → holds_white text ≡ false → OneLine breaks12 text

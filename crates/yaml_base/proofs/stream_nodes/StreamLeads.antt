@@ -48,8 +48,7 @@ before_count true = 0
 before_count false = 1
 
 pub before_spaces : (white : Bool) → (if true && not white then space ∷ [] else []) ≡ spaces (before_count white)
-before_spaces true = refl
-before_spaces false = refl
+before_spaces white = grind (arith, nat_tests)
 
 pub before_some : (white : Bool) → white ≡ false → 0 < before_count white
 before_some true h = absurd (true≢false h)

@@ -39,8 +39,7 @@ no_faults canonical event h = grind (arith, and_parts, neither, is_none_none)
 
 -- a name without a fault is read as it is
 name_reads : (if_empty if_other : yaml_error_t) (name : Text) → name_fault if_empty if_other name ≡ None → name_read name ≡ Some name
-name_reads if_empty if_other [] h = absurd (cc)
-name_reads if_empty if_other (c ∷ rest) h = grind (arith)
+name_reads if_empty if_other name h = grind (arith, nat_tests)
 
 -- so is an anchor
 anchor_named : (anchor tag : Option Text) → properties_fault anchor tag ≡ None → IsNamed anchor

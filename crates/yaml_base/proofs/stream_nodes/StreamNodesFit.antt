@@ -1,6 +1,6 @@
 -- The central law: a node in a block fits where its leaves, its simple keys and the properties of its collections do.
 use Rattle.yaml_base.proofs.Common.{suc, zero, ℕ, ◌+◌, ◌-◌, ◌<◌, ◌≤◌, if◌then◌else◌, ◌==◌, Option, None, Some, nat_lt, Bool, false, not, true, ◌&&◌, ◌||◌}
-use Rattle.yaml_base.proofs.Common.{List, ◌∷◌, refl, ◌≡◌, eqb-true, le-ltb, true≢false, ap, sym, ◌∙◌, arith, or_parts, false≢true, Text, line_feed, Cursor}
+use Rattle.yaml_base.proofs.Common.{List, ◌∷◌, refl, ◌≡◌, eqb-true, le-ltb, true≢false, ap, ◌∙◌, arith, or_parts, false≢true, Text, line_feed, Cursor}
 use Rattle.yaml_base.proofs.Common.{Rendered, TagDirective, Collection, collection_tag, Node, alias_node, scalar_node, Nodes, sequence_node, Pairs}
 use Rattle.yaml_base.proofs.Common.{mapping_node, no_nodes, nodes_and, no_pairs, pairs_and, render_properties, asks_flow, is_written_in_flow, Brackets, square}
 use Rattle.yaml_base.proofs.Common.{curly, Role, Place, is_undented, entries_column, has_no_nodes, has_no_pairs, is_simple, Effective, Tree, sequence_tree}
@@ -8,7 +8,7 @@ use Rattle.yaml_base.proofs.Common.{mapping_tree, spaces, Rules}
 use Rattle.yaml_base.proofs.stream_lines.StreamClosed.{Settled, new_line_closes, indicator_cursor, rank}
 use Rattle.yaml_base.proofs.stream_nodes.{StreamAgrees.node_tree, StreamAgrees.nodes_tree, StreamAgrees.pairs_tree, StreamCentral.items_block}
 use Rattle.yaml_base.proofs.stream_nodes.{StreamCentral.pairs_block, StreamPairReads.colon_ends, StreamPairReads.pairs_settled, StreamPairReads.pairs_lay}
-use Rattle.yaml_base.proofs.stream_nodes.StreamBlocks.{Block, Compact, Entries, BegunKind, unsaid, is_parsed, block_fits}
+use Rattle.yaml_base.proofs.stream_nodes.StreamBlocks.{Block, Compact, Entries, BegunKind, block_fits}
 use Rattle.yaml_base.proofs.stream_nodes.StreamFits.{size, items_size, pairs_size, WithinColumn, Fits}
 use Rattle.yaml_base.proofs.stream_nodes.StreamItems.{item_place, items_text, ItemsFit, items_settled, items_end, items_inside, items_lay}
 use Rattle.yaml_base.proofs.stream_nodes.StreamPairs.{KeyFits, key_place, value_place, colon_cursor, simple_key, pairs_text, PairFits, PairsFit, pairs_end}
@@ -117,20 +117,17 @@ compact_at (Some c) undented (suc k) cursor deep stands h = grind (arith, compac
 compact_begun : (rules : Rules) (anchor tag : Option Text) (column : Option ℕ) (undented : Bool) (indent : ℕ) (cursor : Cursor) (begun : Rendered) → 2 ≤ indent
     → Stands column cursor
     → BegunKind rules anchor tag cursor begun → begun.cursor.indention ≡ true → Compact (entries_column false undented indent column begun.cursor) begun.cursor
-compact_begun rules anchor tag column undented indent cursor begun deep stands (is_parsed is) h = absurd (false≢true (sym is.ends ∙ h))
-compact_begun rules anchor tag column undented indent cursor begun deep stands (unsaid no_anchor no_tag nothing) h = grind (arith, compact_at)
+compact_begun rules anchor tag column undented indent cursor begun deep stands h10 h = grind (false≢true, arith, compact_at)
 
 -- the items of a sequence in a block stand within the columns around
 items_within : (s : Effective) (q : Bool) (d : ℕ) (role : Role) (column : Option ℕ) (cursor : Cursor) → 2 ≤ s.indent → WithinColumn q d role column
     → d + rank q ≤ entries_column false (is_undented s role) s.indent column cursor
-items_within s q d role None cursor deep within = absurd within
-items_within s q d role (Some c) cursor deep within = grind (arith)
+items_within s q d role column cursor deep within = grind (arith)
 
 -- the pairs of a mapping in a block stand deeper than the columns around
 pairs_within : (q : Bool) (d : ℕ) (role : Role) (column : Option ℕ) (indent : ℕ) (cursor : Cursor) → 2 ≤ indent → WithinColumn q d role column
     → d < entries_column false false indent column cursor
-pairs_within q d role None indent cursor deep within = absurd within
-pairs_within q d role (Some c) indent cursor deep within = grind (arith)
+pairs_within q d role column indent cursor deep within = grind (arith)
 
 -- The law
 

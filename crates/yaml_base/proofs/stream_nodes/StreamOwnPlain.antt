@@ -16,8 +16,7 @@ first_after breaks12 c t h = grind (arith)
 
 -- where a line ends or goes on with a space, so does its text
 ends_begins : (breaks12 : Bool) (t : Text) → ends_indicator (first_text (lines_of breaks12 (t ++ feed))) ≡ true → begins_white breaks12 t ≡ true
-ends_begins breaks12 [] h = refl
-ends_begins breaks12 (c ∷ t) h = grind (arith, first_after)
+ends_begins breaks12 t h = grind (arith, nat_tests, first_after)
 
 -- no key ends in the first line of plain text
 plain_keyless : (rules : Rules) (before t : Text) → holds_no_plain rules.breaks12 false t ≡ false

@@ -53,8 +53,7 @@ lines_deeper breaks12 column h t goes_on deep c e = grind (arith, lines_shown, d
 -- the lines of a tidy text are deep
 pub tidy_deep : (style : ScalarStyle) (breaks12 : Bool) (column : Option ℕ) (text : Text) → is_tidy style breaks12 column text ≡ true
     → (c : ℕ) → column ≡ Some c → has_deep_lines breaks12 (suc c) text ≡ true
-tidy_deep style breaks12 None text tidy c e = cc
-tidy_deep style breaks12 (Some d) text tidy c e = grind (arith, and_parts)
+tidy_deep style breaks12 column text tidy c e = grind (arith, nat_tests, and_parts)
 
 -- it is cut off where nothing white stands before it
 pub shown_trimmed : (breaks12 : Bool) (c : ℕ) (t : Text) → ends_white breaks12 (c ∷ t) ≡ false → trimmed breaks12 (c ∷ (t ++ feed)) ≡ c ∷ t

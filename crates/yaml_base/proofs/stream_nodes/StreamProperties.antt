@@ -71,8 +71,7 @@ letters_no_space name h = all_pass is_alpha (λ c. not (c == space)) letter_no_s
 
 -- what is a name consists of letters
 pub name_letters : (name : Text) → name_read name ≡ Some name → list_all is_alpha name ≡ true
-name_letters [] h = refl
-name_letters (c ∷ name) h = grind (arith, none_not_some)
+name_letters name h = grind (arith, nat_tests, none_not_some)
 
 -- where nothing is white no space is
 pub no_white_no_space : (text : Text) → holds_white text ≡ false → has_no_space text ≡ true
@@ -111,14 +110,12 @@ read_as anchor parsed count rest =
 -- without a tag
 no_tag : (directives : List TagDirective) (anchor : Option Text) (column : ℕ) (rest : Text) → begins_content rest ≡ true
     → tag_first directives anchor column rest ≡ read_as anchor None column rest
-no_tag directives anchor column [] h = grind (arith, append-nil)
-no_tag directives anchor column (c ∷ rest) h = grind (arith, and_parts, not-true)
+no_tag directives anchor column rest h = grind (arith, nat_tests, append-nil, and_parts, not-true)
 
 -- a tag, before a space or the end
 with_tag : (directives : List TagDirective) (anchor : Option Text) (column : ℕ) (tag rest : Text) (parsed : ParsedTag) → WrittenTag directives tag parsed
     → ends_indicator rest ≡ true → tag_first directives anchor column (tag ++ rest) ≡ read_as anchor (Some parsed) (column + length tag) rest
-with_tag directives anchor column [] rest parsed written h = grind (arith)
-with_tag directives anchor column (c ∷ tag) rest parsed written h = grind (arith, word_whole, no_white_no_space)
+with_tag directives anchor column tag rest parsed written h = grind (arith, nat_tests, word_whole, no_white_no_space)
 
 -- an anchor, before a space or the end
 pub with_anchor : (name rest : Text) → name_read name ≡ Some name → ends_indicator rest ≡ true
