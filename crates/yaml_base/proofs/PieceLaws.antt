@@ -20,16 +20,13 @@ pub one_piece_each : OnePieceEach
 one_piece_each s t =
     ap length (sym (stream_steps t s)) ∙ steps_count (stream_events t) s false at_stream first_standing
 
-ends_next-append : (a b : List Event) (follows : Bool) → ends_next (a ++ b) follows ≡ ends_next a (ends_next b follows)
-ends_next-append a b follows = grind (arith, nat_tests)
-
 -- The steps of a list and then another.
 pub steps-append : (a b : List Event) (s : Effective) (follows : Bool) (stage : Stage) (standing : Standing)
     → steps s follows (a ++ b) stage standing ≡ joined_steps (steps s (ends_next b follows) a stage standing) (steps s follows b)
 steps-append [] b s follows stage standing = refl
 steps-append (event ∷ a) b s follows stage standing =
     let stepped = step s stage event (ends_next a (ends_next b follows)) standing in
-    grind (arith, ends_next-append, steps-append a b s follows stepped.stage stepped.rendered.standing)
+    grind (arith, nat_tests, steps-append a b s follows stepped.stage stepped.rendered.standing)
 
 -- What follows matters to a collection's start alone.
 pub step_same : (event : Event) (stage : Stage) (s : Effective) (f g : Bool) (standing : Standing) → begins_collection event ≡ false

@@ -1,9 +1,9 @@
 -- A partial tree's events: each push adds its event at their end.
 use Rattle.yaml_base.proofs.Common.{nat_tests, arith, option_and_then, Option, Some, List, [], ◌++◌, ◌∷◌, refl, ◌≡◌, append-nil, append_assoc, ap, sym}
-use Rattle.yaml_base.proofs.Common.{◌∙◌, DocumentStart, Event, stream_start, stream_end, document_start, document_end, sequence_start, mapping_start, Node}
+use Rattle.yaml_base.proofs.Common.{◌∙◌, DocumentStart, Event, stream_start, stream_end, document_start, document_end, sequence_start, mapping_start}
 use Rattle.yaml_base.proofs.Common.{Document, Documents, no_documents, documents_and, node_events, nodes_events, pairs_events, documents_events, stream_events}
 use Rattle.yaml_base.proofs.Common.{Level, at_item, at_key, at_value, Partial, before_stream, between_documents, within_document, after_root, after_stream}
-use Rattle.yaml_base.proofs.Common.{with_node, closed, push_within, push, pushed, partial_of, Encoding}
+use Rattle.yaml_base.proofs.Common.{push_within, push, pushed, partial_of, Encoding}
 
 abbrev pub level_events : Level → List Event
 level_events (at_item c items) = sequence_start c ∷ nodes_events items
@@ -28,14 +28,9 @@ partial_events (after_stream t) = stream_events t
 abbrev AddsEvent : Partial → Event → Partial → Type 0
 AddsEvent p event q = partial_events q ≡ partial_events p ++ event ∷ []
 
-closed_added : (e : Option Encoding) (d : Documents) (s : DocumentStart) (level : Level) (outer : List Level) (event : Event) (made : Option Node) (q : Partial)
-    → closed level event ≡ made → option_and_then (λ node. Some (with_node e d s outer node)) made ≡ Some q
-    → AddsEvent (within_document e d s (level ∷ outer)) event q
-closed_added e d s level outer event made q is given = grind (arith, nat_tests, append-nil, append_assoc)
-
 within_added : (e : Option Encoding) (d : Documents) (s : DocumentStart) (levels : List Level) (event : Event) (q : Partial)
     → push_within e d s levels event ≡ Some q → AddsEvent (within_document e d s levels) event q
-within_added e d s levels event q h = grind (arith, nat_tests, append-nil, append_assoc, closed_added)
+within_added e d s levels event q h = grind (arith, nat_tests, append-nil, append_assoc)
 
 with_read_document : (e : Option Encoding) (d : Documents) (x : Document)
     → stream_start e ∷ documents_events (documents_and d x) ≡ begun_events e d x.start (node_events x.root) ++ document_end x.end_implicit ∷ []

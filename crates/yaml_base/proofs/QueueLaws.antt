@@ -30,12 +30,9 @@ pub held_waits : (events : List Event) → HeldWaits events (written events)
 held_waits [] = λ event rest given. cc
 held_waits (first ∷ others) = held_if first others (is_ready first others) refl (held_waits others)
 
-middle_false : (a b c : Bool) → (a || b) || c ≡ false → b ≡ false
-middle_false a b c h = grind (arith, nat_tests)
-
 -- So an event that is held first awaits at least as many as stand from it on.
 pub held_is_short : (event : Event) (rest : List Event) → is_ready event rest ≡ false → length (event ∷ rest) ≤ awaited event
-held_is_short event rest waits = grind (arith, middle_false)
+held_is_short event rest waits = grind (arith, nat_tests)
 
 -- A collection that the ready events begin last isn't closed by what is held, nor by what may come.
 pub no_end_held : (event : Event) (rest : List Event) → is_ready event rest ≡ false → ends_collection event ≡ false

@@ -250,14 +250,11 @@ in_firsts number [] within = within
 in_firsts number (x ∷ xs) (inl is) = inl is
 in_firsts number (x ∷ xs) (inr within) = inr (in_firsts number xs (in_filter (λ other. not (other == x)) number (first_of_each xs) within))
 
-mapped_cond : (b : Bool) (f : ℕ → ℕ) (x : ℕ) (xs : List ℕ) → cond b (f x ∷ map f xs) (map f xs) ≡ map f (cond b (x ∷ xs) xs)
-mapped_cond b f x xs = grind (arith, nat_tests)
-
 without_alike : (first second : Graph) (iso : Isomorphic first second) (x : ℕ) (xs : List ℕ) → IsReached first x → NumbersReached first xs
     → filter (λ other. not (other == iso.partner x)) (map iso.partner xs) ≡ map iso.partner (filter (λ other. not (other == x)) xs)
 without_alike first second iso x [] reached all = refl
 without_alike first second iso x (y ∷ ys) reached all =
-    grind (arith, nat_tests, same_test, mapped_cond, without_alike first second iso x ys reached (λ number within. all number (inr within)))
+    grind (arith, nat_tests, same_test, without_alike first second iso x ys reached (λ number within. all number (inr within)))
 
 firsts_alike : (first second : Graph) (iso : Isomorphic first second) (xs : List ℕ) → NumbersReached first xs
     → first_of_each (map iso.partner xs) ≡ map iso.partner (first_of_each xs)

@@ -37,13 +37,6 @@ pairs_begin (pairs_and pairs key value) rest follows opens =
     let each = pairs_begin pairs (node_events key ++ (node_events value ++ rest)) follows (node_begins key (node_events value ++ rest) follows) in
     grind (arith, append_assoc, node_begins, each)
 
--- A collection's end follows its start at once exactly where it is empty.
-sequence_ends : (items : Nodes) (rest : List Event) (follows : Bool) → ends_next (nodes_events items ++ sequence_end ∷ rest) follows ≡ has_no_nodes items
-sequence_ends items rest follows = grind (arith, append_assoc, nodes_begin, node_begins)
-
-mapping_ends : (pairs : Pairs) (rest : List Event) (follows : Bool) → ends_next (pairs_events pairs ++ mapping_end ∷ rest) follows ≡ has_no_pairs pairs
-mapping_ends pairs rest follows = grind (arith, append_assoc, pairs_begin, node_begins)
-
 abbrev frame_at : (in_flow : Bool) → Role → ℕ → (simple : Bool) → Frame
 frame_at in_flow role column simple = record { place = entry_place in_flow role column; simple = simple }
 
@@ -63,7 +56,7 @@ mutual
       let start = start_piece s d place simple c standing in
       let column = entries_column in_flow (is_undented s place.role) s.indent place.column start.standing.cursor in
       let each = nodes_steps items s follows (sequence_end ∷ rest) d in_flow column simple frames start.standing in
-      grind (arith, append_assoc, sequence_ends, after_pieces-same, each)
+      grind (arith, append_assoc, nodes_begin, node_begins, after_pieces-same, each)
   node_steps (mapping_node c pairs) s follows rest d frames standing =
       let place = next_place frames in
       let empty = has_no_pairs pairs in
@@ -72,7 +65,7 @@ mutual
       let start = start_piece s d place simple c standing in
       let column = entries_column in_flow false s.indent place.column start.standing.cursor in
       let each = pairs_steps pairs s follows (mapping_end ∷ rest) d in_flow column simple frames start.standing in
-      grind (arith, append_assoc, mapping_ends, after_pieces-same, each)
+      grind (arith, append_assoc, pairs_begin, node_begins, after_pieces-same, each)
 
   pub nodes_steps : (items : Nodes) (s : Effective) (follows : Bool) (rest : List Event) (d : List TagDirective) (in_flow : Bool) (column : ℕ) (simple : Bool)
       (frames : List Frame) (standing : Standing)

@@ -1,12 +1,11 @@
 -- In canonical mode no layout goes by the styles of events, nor by whether a document's start is implicit.
 use Rattle.yaml_base.proofs.Common.{arith, ◌==◌, Option, Bool, false, not, true, ◌&&◌, ◌||◌, List, [], map, ◌∷◌, refl, ◌≡◌, ap, sym, ◌∙◌, render_then, cut}
-use Rattle.yaml_base.proofs.Common.{ScalarStyle, any_style, any_layout, TagDirective, DocumentStart, Scalar, Collection, Event, document_start, scalar}
-use Rattle.yaml_base.proofs.Common.{sequence_start, mapping_start, Stream, stream_events, render_if, render_closing_marker, render_version}
-use Rattle.yaml_base.proofs.Common.{render_tag_directives, has_directives, is_explicit, render_document_marker, first_standing, layout, Piece, Standing}
-use Rattle.yaml_base.proofs.Common.{piece_without_body, Role, encoding_asked, settings_for, bytes_written, output_of, list_layout, ends_collection, Encoding}
-use Rattle.yaml_base.proofs.Common.{Settings, Effective, effective, Frame, Stage, at_stream, at_document, at_node, Stepped, start_step, step, ends_next, Steps}
-use Rattle.yaml_base.proofs.Common.{steps, directives_in_force, Allowances, chosen, or_left, or_right, nat_tests}
-use Rattle.yaml_base.proofs.{StepLaws.stream_steps, Trees.tree_of-stream_events}
+use Rattle.yaml_base.proofs.Common.{any_style, any_layout, TagDirective, DocumentStart, Scalar, Collection, Event, document_start, scalar, sequence_start}
+use Rattle.yaml_base.proofs.Common.{mapping_start, Stream, stream_events, render_if, render_closing_marker, render_version, render_tag_directives}
+use Rattle.yaml_base.proofs.Common.{has_directives, is_explicit, render_document_marker, first_standing, layout, Piece, Standing, piece_without_body, Role}
+use Rattle.yaml_base.proofs.Common.{encoding_asked, settings_for, bytes_written, output_of, list_layout, ends_collection, Encoding, Settings, Effective}
+use Rattle.yaml_base.proofs.Common.{effective, Frame, Stage, at_stream, at_document, at_node, Stepped, start_step, step, ends_next, Steps, steps}
+use Rattle.yaml_base.proofs.{Common.directives_in_force, Common.or_left, Common.or_right, Common.nat_tests, StepLaws.stream_steps, Trees.tree_of-stream_events}
 
 -- an event of no style; a document's start is implicit
 abbrev pub unstyled : Event → Event
@@ -18,17 +17,11 @@ unstyled event = event
 
 -- ---- scalars
 
-chosen_canonical : (allowed others : Allowances) (asked other : ScalarStyle) (empty tag_written plain_implicit quoted_implicit in_flow simple canonical : Bool)
-    → canonical ≡ true
-    → chosen allowed asked empty tag_written plain_implicit quoted_implicit in_flow simple canonical
-    ≡ chosen others other empty tag_written plain_implicit quoted_implicit in_flow simple canonical
-chosen_canonical allowed others asked other empty tag_written plain_implicit quoted_implicit in_flow simple canonical on = grind (arith, nat_tests)
-
 scalar_unstyled : (s : Effective) → s.canonical ≡ true → (directives : List TagDirective) (frames : List Frame) (content : Scalar) (empty : Bool)
     (standing : Standing)
     → step s (at_node directives frames) (scalar (record content { style = any_style })) empty standing
     ≡ step s (at_node directives frames) (scalar content) empty standing
-scalar_unstyled s on directives frames content empty standing = grind (arith, chosen_canonical)
+scalar_unstyled s on directives frames content empty standing = grind (arith, nat_tests)
 
 -- ---- collections
 

@@ -1,15 +1,14 @@
 -- A text that holds a character which stands in no number is no number and no timestamp.
-use Rattle.yaml_base.proofs.Common.{nat_tests, and-true}
-use Rattle.yaml_base.proofs.Common.{ℕ, ◌==◌, Option, None, codes, ℤ, length, Bool, false, not, true, ◌&&◌, ◌||◌, List, [], ◌++◌, ◌∷◌, ◌⊎◌, refl, ◌≡◌}
-use Rattle.yaml_base.proofs.Common.{eqb-true, lt-ltb, ltb-true, true≢false, inl, inr, ap, sym, ◌∙◌, arith, or_cases, and_cases, and_left, and_right, or_from}
-use Rattle.yaml_base.proofs.Common.{or_left, list_all-append, bytes_eq-Decides, digit_value, concat, list_all, onto_first, slice_split, Text, is_between}
-use Rattle.yaml_base.proofs.Common.{is_blank, is_word, Decimal, is_point, is_exponent_letter, is_plus_or_minus, is_decimal, first_meets, past_sign, is_negative}
-use Rattle.yaml_base.proofs.Common.{are_digits, counted_digits, decimal_of_digits, exponent_read, times_power_of_ten, scientific, core_mantissa}
-use Rattle.yaml_base.proofs.Common.{are_grouped, begins_grouped, is_leading, octal_11, decimal_11, are_sixtieths, is_colon, fine_sixties_11, mantissa_11}
-use Rattle.yaml_base.proofs.Common.{exponent_11, has_more_points, more_points_11, past, is_hyphen, is_time_after_date, in_date, timestamp_11, in_number}
-use Rattle.std.specs.Char.{is_digit}
+use Rattle.yaml_base.proofs.Common.{nat_tests, and-true, ℕ, ◌==◌, Option, None, codes, ℤ, length, Bool, false, not, true, ◌&&◌, ◌||◌, List, [], ◌++◌, ◌∷◌, ◌⊎◌}
+use Rattle.yaml_base.proofs.Common.{refl, ◌≡◌, eqb-true, lt-ltb, ltb-true, true≢false, inl, inr, ap, sym, ◌∙◌, arith, or_cases, and_cases, and_left, and_right}
+use Rattle.yaml_base.proofs.Common.{or_from, or_left, list_all-append, bytes_eq-Decides, digit_value, concat, list_all, onto_first, slice_split, Text}
+use Rattle.yaml_base.proofs.Common.{is_between, is_blank, is_word, Decimal, is_point, is_exponent_letter, is_plus_or_minus, is_decimal, first_meets, past_sign}
+use Rattle.yaml_base.proofs.Common.{is_negative, are_digits, counted_digits, decimal_of_digits, exponent_read, scientific, core_mantissa, are_grouped}
+use Rattle.yaml_base.proofs.Common.{begins_grouped, is_leading, octal_11, decimal_11, are_sixtieths, is_colon, fine_sixties_11, mantissa_11, exponent_11}
+use Rattle.yaml_base.proofs.Common.{has_more_points, more_points_11, past, is_hyphen, is_time_after_date, in_date, timestamp_11, in_number}
 use Rattle.yaml_base.proofs.no_numbers.NoNumbers.{NoNumber, off, filled, past_cons}
 use Rattle.yaml_base.specs.values.SchemaOf11.{is_sixtieth, is_offset, is_zone, in_clock, is_time}
+use Rattle.std.specs.Char.{is_digit}
 
 -- a text has the characters of numbers alone
 abbrev within : Text → Bool
@@ -121,13 +120,10 @@ sign_outside (c ∷ rest) h = grind (arith, sign_stands)
 
 -- ---- floats
 
-scaled_none : (decimal : Option Decimal) → times_power_of_ten decimal None ≡ None
-scaled_none decimal = grind (arith, nat_tests)
-
 scientific_outside : (mantissa : Text → Option Decimal) (exponent : Text → Option ℤ) → ((text : Text) → within text ≡ false → mantissa text ≡ None)
     → ((text : Text) → within text ≡ false → exponent text ≡ None) → (parts : List Text) → list_all within parts ≡ false
     → scientific mantissa exponent parts ≡ None
-scientific_outside mantissa exponent h k parts e = grind (arith, nat_tests, and-true, two_cases, scaled_none)
+scientific_outside mantissa exponent h k parts e = grind (arith, nat_tests, and-true, two_cases)
 
 exponent_outside : (text : Text) → within text ≡ false → exponent_read text ≡ None
 exponent_outside text h = off _ _ (digits_outside (past_sign text) (sign_outside text h))

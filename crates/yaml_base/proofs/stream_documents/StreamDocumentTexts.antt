@@ -1,7 +1,7 @@
 -- The text of a document by itself: its directives, its marker, its root and its end, as one text in place of pieces.
-use Rattle.yaml_base.proofs.Common.{arith, if◌then◌else◌, ◌==◌, Option, codes, Bool, false, not, true, ◌&&◌, ◌||◌, List, [], ◌++◌, ◌∷◌, refl, ◌≡◌}
-use Rattle.yaml_base.proofs.Common.{append-nil, append_assoc, ap, subst, sym, ◌∙◌, flat_map-append, Text, line_feed, Cursor, Rendered, Version, TagDirective}
-use Rattle.yaml_base.proofs.Common.{DocumentStart, Document, render_if, render_closing_marker, render_version, render_tag_directives, has_directives}
+use Rattle.yaml_base.proofs.Common.{arith, if◌then◌else◌, ◌==◌, codes, Bool, false, not, true, ◌&&◌, ◌||◌, List, [], ◌++◌, ◌∷◌, refl, ◌≡◌}
+use Rattle.yaml_base.proofs.Common.{append-nil, append_assoc, ap, subst, sym, ◌∙◌, flat_map-append, Text, line_feed, Cursor, Rendered, TagDirective}
+use Rattle.yaml_base.proofs.Common.{DocumentStart, Document, render_if, render_closing_marker, render_tag_directives, has_directives}
 use Rattle.yaml_base.proofs.Common.{is_explicit, render_document_start, document_start_piece, document_end_piece, root_place, render_document, Piece}
 use Rattle.yaml_base.proofs.Common.{piece_text, text_of, Standing, RenderedPiece, RenderedPieces, one_piece, render_node, Effective, directives_in_force}
 use Rattle.yaml_base.proofs.{Common.nat_tests, stream_documents.StreamDocumentReads.dots_if, stream_documents.StreamRootAdded.text_with_marker}
@@ -20,10 +20,6 @@ marker_text false canonical = []
 abbrev pub before_root : Effective → (ended : Bool) → DocumentStart → Text
 before_root s ended start = dots_if (has_directives start && not ended) ++ heading_text s start
 
--- lines of their own end where a line begins
-version_ends : (version : Option Version) → (render_version version (margin_cursor 0)).cursor ≡ margin_cursor 0
-version_ends version = grind (arith, nat_tests)
-
 directives_end : (portable : Bool) (directives : List TagDirective) (cursor : Cursor) → cursor ≡ margin_cursor 0
     → (render_tag_directives portable directives cursor).cursor ≡ margin_cursor 0
 directives_end portable [] cursor h = h
@@ -39,7 +35,7 @@ pub start_rendered : (s : Effective) (first : Bool) (start : DocumentStart) (sta
       text = before_root s (standing.open_ended == 0) start ++ marker_text (is_explicit (s.canonical || s.portable) first start) s.canonical;
       cursor = root_cursor (is_explicit (s.canonical || s.portable) first start && not s.canonical);
     }
-start_rendered s first start standing at = grind (arith, nat_tests, dots_rendered, directives_end, version_ends, append_assoc)
+start_rendered s first start standing at = grind (arith, nat_tests, dots_rendered, directives_end, append_assoc)
 
 -- Ends
 

@@ -70,9 +70,6 @@ heading_percent portable start = grind (arith, tags_percent)
 
 -- As they are rendered
 
-version_is : (version : Option Version) → render_version version first_cursor ≡ record { text = text_of_lines (version_lines version); cursor = first_cursor }
-version_is version = grind (arith, int_eq)
-
 tags_are : (portable : Bool) (directives : List TagDirective)
     → render_tag_directives portable directives first_cursor ≡ record { text = text_of_lines (tag_lines portable directives); cursor = first_cursor }
 tags_are portable [] = refl
@@ -82,7 +79,7 @@ tags_are portable (directive ∷ rest) = grind (arith, append_assoc, tags_are po
 heading_rendered : (portable : Bool) (start : DocumentStart)
     → render_then (render_version start.version first_cursor) (render_tag_directives portable start.directives)
     ≡ record { text = text_of_lines (heading_lines portable start); cursor = first_cursor }
-heading_rendered portable start = grind (arith, version_is, tags_are, text_of_both)
+heading_rendered portable start = grind (arith, int_eq, tags_are, text_of_both)
 
 -- A heading as it is rendered
 

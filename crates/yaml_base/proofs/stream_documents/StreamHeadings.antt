@@ -153,11 +153,6 @@ abbrev pub version_lines : Option Version → List Line
 version_lines None = []
 version_lines (Some version) = record { text = codes "%YAML" ++ (space ∷ (version_word version).text); ending = line_feed ∷ [] } ∷ []
 
--- it is read as the version
-version_read : (version : Option Version) → option_and_then version_fault version ≡ None
-    → heading_read (version_lines version) ≡ Some (record { version = version; directives = [] })
-version_read version sound = grind (arith, nat_tests, int_eq, version_form)
-
 -- Headings
 
 -- the lines of a document's version and directives
@@ -168,4 +163,4 @@ heading_lines portable start = version_lines start.version ++ tag_lines portable
 pub heading_reads : (portable : Bool) (start : DocumentStart) → option_and_then version_fault start.version ≡ None
     → directives_fault start.directives ≡ None → list_all directive_scalars start.directives ≡ true
     → heading_read (heading_lines portable start) ≡ Some (record { version = start.version; directives = start.directives })
-heading_reads portable start version directives scalars = grind (arith, fold-append, version_read, tags_read)
+heading_reads portable start version directives scalars = grind (arith, nat_tests, fold-append, int_eq, version_form, tags_read)

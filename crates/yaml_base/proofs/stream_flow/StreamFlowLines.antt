@@ -2,7 +2,7 @@
 -- in a block.
 use Rattle.yaml_base.proofs.Common.{nat_tests, arith, ℕ, if◌then◌else◌, ◌==◌, Option, None, Bool, false, true, [], ◌++◌, ◌∷◌, refl, ◌≡◌, append_assoc, ap, ◌∙◌}
 use Rattle.yaml_base.proofs.Common.{and_parts, false≢true, Text, plain, read_plain, ParsedTag, begins_with_indicator, begins_text, kind_of_node, Rules}
-use Rattle.yaml_base.proofs.{stream_flow.StreamPropertyWords.lead, stream_nodes.StreamOwnTexts.own_kind, stream_nodes.StreamProperties.begins_content}
+use Rattle.yaml_base.proofs.{stream_flow.StreamPropertyWords.lead, stream_nodes.StreamOwnTexts.own_kind}
 use Rattle.yaml_base.proofs.{stream_flow.StreamFlowWords.opens_inside, stream_flow.StreamFlowWords.Given, stream_keys.StreamKeys.none_parsed}
 use Rattle.yaml_base.proofs.{stream_keys.StreamKeyReads.lead_no_text, stream_keys.StreamNoKeys.KeyNowhere, stream_keys.StreamNoKeys.nowhere_alone}
 use Rattle.yaml_base.proofs.Common.{Properties, scalar_of_style, empty_sequence, empty_mapping, a_scalar, word_by_kind, word_after}
@@ -51,10 +51,6 @@ no_word rules false properties (c ∷ d ∷ t) h = no_scalar rules false propert
 
 -- No keys
 
--- a bracket begins a node's own text
-bracket_content : (q : Bool) (t : Text) → begins_content (opening q ∷ t) ≡ true
-bracket_content q t = grind (arith, nat_tests)
-
 -- no `:` after it ends a key
 bracket_nowhere : (rules : Rules) (anchor tag : Option Text) (parsed : Option ParsedTag) (q : Bool) (b t : Text)
     → Given rules anchor tag parsed → keeps_open (b ++ t) ≡ true
@@ -62,7 +58,7 @@ bracket_nowhere : (rules : Rules) (anchor tag : Option Text) (parsed : Option Pa
 bracket_nowhere rules anchor tag parsed q b [] given h = tt
 bracket_nowhere rules anchor tag parsed q b (x ∷ t) given h =
     let each = bracket_nowhere rules anchor tag parsed q (b ++ (x ∷ [])) t given (ap keeps_open (append_assoc b (x ∷ []) t) ∙ h) in
-    grind (arith, nat_tests, lead_no_text, bracket_content, no_word, keeps_prefix, append_assoc, each)
+    grind (arith, nat_tests, lead_no_text, no_word, keeps_prefix, append_assoc, each)
 
 -- Kinds
 

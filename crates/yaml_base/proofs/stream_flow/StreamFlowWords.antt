@@ -3,12 +3,11 @@ use Rattle.yaml_base.proofs.Common.{ℕ, if◌then◌else◌, ◌==◌, option_m
 use Rattle.yaml_base.proofs.Common.{true≢false, ap, ◌∙◌, arith, and_parts, or_parts, false≢true, nat_tests, list_all, Text, is_among, is_alpha, ScalarStyle}
 use Rattle.yaml_base.proofs.Common.{plain, is_read_white, holds_no_plain, Properties, read_plain, ParsedTag, has_clean_edges, is_tidy, is_plain, Tree}
 use Rattle.yaml_base.proofs.Common.{alias_tree, scalar_tree, sequence_tree, mapping_tree, no_trees, no_tree_pairs, Rules, name_read, collection_tag_parsed}
-use Rattle.yaml_base.proofs.Common.{tagging_parsed, stood_in_style, scalar_parsed, scalar_of_style, a_scalar, kind_of_word, word_by_kind, word_after}
-use Rattle.yaml_base.proofs.{stream_keys.StreamAliasKeys.alias_word, stream_lines.StreamTidyLaws.tidy_at_root, stream_nodes.StreamAgrees.tagging_in}
-use Rattle.yaml_base.proofs.{stream_nodes.StreamLeads.lead_then, stream_nodes.StreamStands.tag_meant}
-use Rattle.yaml_base.proofs.Common.{word_read, word, FlowStep, begins_plain, class_of, begun_token, flow_tokens}
+use Rattle.yaml_base.proofs.Common.{tagging_parsed, stood_in_style, scalar_parsed, scalar_of_style, word_by_kind, word_after, word_read, word, FlowStep}
+use Rattle.yaml_base.proofs.{Common.begins_plain, Common.class_of, Common.begun_token, Common.flow_tokens, stream_keys.StreamAliasKeys.alias_word}
+use Rattle.yaml_base.proofs.{stream_lines.StreamTidyLaws.tidy_at_root, stream_nodes.StreamAgrees.tagging_in, stream_nodes.StreamLeads.lead_then}
+use Rattle.yaml_base.proofs.{stream_nodes.StreamStands.tag_meant, stream_flow.StreamSays.Says, stream_flow.StreamSays.class_fixed}
 use Rattle.yaml_base.proofs.stream_lines.StreamCuts.{none_not_some, quote_of, quoted_in, read_quoted}
-use Rattle.yaml_base.proofs.stream_flow.StreamSays.{Says, class_fixed}
 use Rattle.yaml_base.proofs.stream_flow.StreamPlainWords.{stays_plain, is_white_class, all_stay, ends_shown, plain_text_word}
 use Rattle.yaml_base.proofs.stream_flow.StreamPropertyWords.{lead, lead_passes, Leads, says_quoted_after, says_plain_after, says_empty_after}
 use Rattle.yaml_base.proofs.stream_keys.StreamPlainKeys.{not_among, Begins, begins, plain_kind, plain_style, reads_plain, tidy_begins}
@@ -65,16 +64,12 @@ pub scalar_meant : (rules : Rules) (flow : Bool) (anchor tag : Option Text) (sty
     ≡ Some (scalar_in anchor tag style bare v)
 scalar_meant rules flow anchor tag style bare column text v value h tidy read = grind (arith, tagging_meant)
 
--- a text in quotes is a scalar
-pub quoted_kind : (double : Bool) (t : Text) → kind_of_word (quote_of double ∷ t) ≡ a_scalar
-quoted_kind double t = grind (arith, nat_tests)
-
 -- it is read so
 pub quoted_after : (rules : Rules) (flow double : Bool) (column : Option ℕ) (properties : Properties) (t v : Text)
     → is_tidy (quoted_in double) rules.breaks12 column (quote_of double ∷ t) ≡ true → read_quoted double rules.breaks12 (quote_of double ∷ t) ≡ Some v
     → word_after rules flow column properties (quote_of double ∷ t) ≡ scalar_parsed properties (stood_in_style (quoted_in double)) (Some v)
-quoted_after rules flow true column properties t v tidy read = grind (arith, nat_tests, quoted_kind)
-quoted_after rules flow false column properties t v tidy read = grind (arith, nat_tests, quoted_kind)
+quoted_after rules flow true column properties t v tidy read = grind (arith, nat_tests)
+quoted_after rules flow false column properties t v tidy read = grind (arith, nat_tests)
 
 -- also with its anchor and tag
 pub quoted_read : (rules : Rules) (flow double : Bool) (anchor tag : Option Text) (bare : Bool) (column : Option ℕ) (t v : Text)

@@ -123,11 +123,6 @@ abbrev pub begins_unquoted : Text → Bool
 begins_unquoted [] = false
 begins_unquoted (c ∷ rest) = if c == 0x27 then false else true
 
--- a word in single quotes ends before what is no quote
-after_quote_ends : (breaks12 : Bool) (text rest : Text) → begins_unquoted rest ≡ true
-    → flow_tokens breaks12 (after_quote text) rest ≡ word text ∷ flow_tokens breaks12 free rest
-after_quote_ends breaks12 text rest h = grind (false≢true, arith)
-
 -- two characters more
 shifted_twice : (breaks12 : Bool) (before : Text) (c d : ℕ) (t rest : Text)
     → ◌≡◌ {A = List FlowToken} (word (((before ++ (c ∷ [])) ++ (d ∷ [])) ++ t) ∷ flow_tokens breaks12 free rest)
@@ -139,7 +134,7 @@ abbrev IsUnquoted : Bool → Text → Type 0
 IsUnquoted breaks12 t = (unquoted t ≡ None → ⊥) → (before rest : Text) → begins_unquoted rest ≡ true → GivesWord breaks12 (in_single before) before t rest
 
 at_closing : (breaks12 : Bool) (c : ℕ) → IsUnquoted breaks12 (c ∷ [])
-at_closing breaks12 c closes before rest h = grind (arith, after_quote_ends)
+at_closing breaks12 c closes before rest h = grind (arith, false≢true)
 
 at_inside : (breaks12 : Bool) (c d : ℕ) (t : Text) → IsUnquoted breaks12 t → IsUnquoted breaks12 (d ∷ t) → IsUnquoted breaks12 (c ∷ d ∷ t)
 at_inside breaks12 c d t one two closes before rest h = by (c == 0x27) (d == 0x27) refl closes

@@ -2,13 +2,12 @@
 use Rattle.yaml_base.proofs.Common.{nat_tests, arith, ℕ, ◌+◌, if◌then◌else◌, ◌==◌, is_some, option_map, option_and_then, Option, None, Some, length, Bool}
 use Rattle.yaml_base.proofs.Common.{false, not, true, ◌||◌, [], ◌++◌, ◌∷◌, refl, ◌≡◌, eqb-true, true≢false, append-nil, append_assoc, ap, subst, sym, ◌∙◌}
 use Rattle.yaml_base.proofs.Common.{and_parts, and_from, false≢true, list_all, Text, space, is_alpha, ParsedTag, tag_parsed, Stood, Tree, is_alias}
-use Rattle.yaml_base.proofs.Common.{ends_indicator, Indented, past_indentation, spaces, without_last_space, word_of_alias, key_of_text, key_from, Rules}
-use Rattle.yaml_base.proofs.Common.{Properties, PropertiesRead, cut_before_space, tag_of_word, tag_first, scalar_parsed, an_alias, word_by_kind, word_after}
+use Rattle.yaml_base.proofs.Common.{ends_indicator, Indented, past_indentation, spaces, word_of_alias, key_of_text, key_from, Rules, Properties}
 use Rattle.yaml_base.proofs.stream_nodes.StreamProperties.{WrittenTag, IsTagged, IsNamed, properties_text, has_no_space, word_whole, name_letters}
-use Rattle.yaml_base.{proofs.Common.word_read, proofs.stream_flow.StreamPropertyWords.lead, specs.streams.StreamScalars.WordKind}
-use Rattle.yaml_base.proofs.stream_lines.StreamInside.{indented_spaces}
-use Rattle.yaml_base.proofs.stream_keys.StreamKeys.{NoKey, no_alias_before, key_by_word}
+use Rattle.yaml_base.{proofs.stream_flow.StreamPropertyWords.lead, specs.streams.StreamScalars.WordKind, proofs.stream_lines.StreamInside.indented_spaces}
+use Rattle.yaml_base.proofs.Common.{PropertiesRead, cut_before_space, tag_of_word, tag_first, scalar_parsed, an_alias, word_by_kind, word_after, word_read}
 use Rattle.yaml_base.proofs.stream_nodes.StreamProperties.{no_white_no_space, space_after, content_indented, with_anchor}
+use Rattle.yaml_base.proofs.stream_keys.StreamKeys.{NoKey, no_alias_before, key_by_word}
 
 -- Texts in which no key ends
 
@@ -136,15 +135,10 @@ anchor_no_alias rules u = grind (arith, alias_left, anchor_other)
 
 -- No key
 
--- a text that is no word and no alias before its last space is no key
-pub no_key_text : (rules : Rules) (text : Text) → word_read rules false text ≡ None → option_and_then (word_of_alias rules) (without_last_space text) ≡ None
-    → key_of_text rules text ≡ None
-no_key_text rules text no_word none = grind (arith, key_by_word)
-
 -- the beginning of a tag after an anchor or not is no key
 tag_no_key : (rules : Rules) (anchor : Option Text) (b : Text) → IsNamed anchor → has_no_space b ≡ true → key_of_text rules (anchored anchor ++ (0x21 ∷ b))
     ≡ None
-tag_no_key rules anchor b h k = grind (arith, nat_tests, no_key_text, tag_no_word, no_alias_before, tag_no_alias, anchor_no_alias)
+tag_no_key rules anchor b h k = grind (arith, nat_tests, key_by_word, tag_no_word, no_alias_before, tag_no_alias, anchor_no_alias)
 
 -- no key ends in the rest of a tag
 tag_rest_nowhere : (rules : Rules) (anchor : Option Text) (b t : Text) → IsNamed anchor → has_no_space b ≡ true → has_no_space t ≡ true

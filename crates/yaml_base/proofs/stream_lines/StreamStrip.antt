@@ -1,8 +1,8 @@
 -- A break more at the end of a block scalar that strips its final breaks doesn't change what it reads as.
-use Rattle.yaml_base.proofs.Common.{nat_tests, arith, ℕ, if◌then◌else◌, option_map, option_and_then, Option, Some, Bool, false, List, [], ◌++◌, ◌∷◌, refl, ◌≡◌}
-use Rattle.yaml_base.proofs.Common.{true≢false, ap, ◌∙◌, Text, line_feed, is_read_break, elements, strip, digit_first, after_digit, chomping_first}
+use Rattle.yaml_base.proofs.Common.{nat_tests, arith, ℕ, if◌then◌else◌, option_map, Option, Some, Bool, false, List, [], ◌++◌, ◌∷◌, refl, ◌≡◌}
+use Rattle.yaml_base.proofs.Common.{true≢false, ap, ◌∙◌, Text, line_feed, is_read_break, elements, strip, after_digit, chomping_first}
 use Rattle.yaml_base.specs.reading.ReadBlock.{Element, content, line_end, prepend_to_elements, prepend_element, detected_indentation, all_unindented}
-use Rattle.yaml_base.proofs.{Common.after_chomping, Common.after_break, Common.read_block, stream_lines.StreamCuts.none_not_some}
+use Rattle.yaml_base.proofs.{Common.read_block, stream_lines.StreamCuts.none_not_some}
 use Rattle.yaml_base.specs.reading.ReadBlock.{has_content, kept_lines, joined, unfolded, clip, lines_read}
 
 -- a break at the end, as text and as an element
@@ -55,21 +55,8 @@ lines_more folded es = ap (λ t. (if folded then unfolded false t else joined t)
 clip_not_strip : clip ≡ strip → ⊥
 clip_not_strip e = grind (arith, true≢false)
 
--- the header is what it was
-chomping_more : (t : Text) → chomping_first t ≡ strip → (chomping_first (t ++ feed) ≡ strip) × (after_chomping (t ++ feed) ≡ after_chomping t ++ feed)
-chomping_more t h = grind (arith, nat_tests)
-
--- nor is its digit another
-digit_more : (t : Text) → chomping_first (after_digit t) ≡ strip → (after_digit (t ++ feed) ≡ after_digit t ++ feed) × (digit_first (t ++ feed) ≡ digit_first t)
-digit_more t h = grind (arith, nat_tests)
-
--- where a break ends the header, the text after it has one more at its end
-body_more : (breaks12 : Bool) (t : Text) (f : Text → Option Text) (v : Text) → option_and_then f (after_break breaks12 t) ≡ Some v
-    → ((body : Text) → f (body ++ feed) ≡ f body) → option_and_then f (after_break breaks12 (t ++ feed)) ≡ Some v
-body_more breaks12 t f v h same = grind (arith, nat_tests, none_not_some)
-
 -- a block scalar that strips reads the same with a break more at its end
 pub strip_more : (breaks12 : Bool) (column : Option ℕ) (symbol : ℕ) (rest v : Text) → chomping_first (after_digit rest) ≡ strip
     → read_block breaks12 column (symbol ∷ rest) ≡ Some v → read_block breaks12 column ((symbol ∷ rest) ++ (line_feed ∷ [])) ≡ Some v
 strip_more breaks12 column symbol rest v strips read =
-    grind (arith, nat_tests, elements_more, detected_more, unindented_more, lines_more, none_not_some, digit_more, chomping_more, body_more)
+    grind (arith, nat_tests, elements_more, detected_more, unindented_more, lines_more, none_not_some)
