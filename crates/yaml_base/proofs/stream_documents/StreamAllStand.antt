@@ -40,8 +40,6 @@ documents_stand s (documents_and before document) low high sound bodies =
       },
     )
 
--- Settings
-
 -- The law
 
 -- texts of Unicode scalar values are values of them

@@ -33,7 +33,7 @@ markerless_keeps : (breaks12 : Bool) → Keeps (begins_markerless breaks12)
 markerless_keeps breaks12 [] b h = absurd (false≢true h)
 markerless_keeps breaks12 (c ∷ a) b h = grind (arith, deep_keeps)
 
--- nor is any line that begins so
+-- the first line of a text that begins as no marker does is no marker
 first_markerless : (breaks12 : Bool) (u : Text) → begins_markerless breaks12 u ≡ true
     → is_markerless (marker_of (first_text (lines_of breaks12 (u ++ (line_feed ∷ []))))) ≡ true
 first_markerless breaks12 u h = grind (false≢true, nat_tests, arith, first_extended, eqb-true, inside_markerless, deep_first)

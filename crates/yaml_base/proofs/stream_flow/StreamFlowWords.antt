@@ -64,7 +64,7 @@ pub scalar_meant : (rules : Rules) (flow : Bool) (anchor tag : Option Text) (sty
     ≡ Some (scalar_in anchor tag style bare v)
 scalar_meant rules flow anchor tag style bare column text v value h tidy read = grind (arith, tagging_meant)
 
--- it is read so
+-- a text in quotes is read as a scalar
 pub quoted_after : (rules : Rules) (flow double : Bool) (column : Option ℕ) (properties : Properties) (t v : Text)
     → is_tidy (quoted_in double) rules.breaks12 column (quote_of double ∷ t) ≡ true → read_quoted double rules.breaks12 (quote_of double ∷ t) ≡ Some v
     → word_after rules flow column properties (quote_of double ∷ t) ≡ scalar_parsed properties (stood_in_style (quoted_in double)) (Some v)

@@ -1,9 +1,9 @@
 -- A break more at the end of a block scalar that strips its final breaks doesn't change what it reads as.
 use Rattle.yaml_base.proofs.Common.{nat_tests, arith, ℕ, if◌then◌else◌, option_map, Option, Some, Bool, false, List, [], ◌++◌, ◌∷◌, refl, ◌≡◌}
-use Rattle.yaml_base.proofs.Common.{true≢false, ap, ◌∙◌, Text, line_feed, is_read_break, elements, strip, after_digit, chomping_first}
+use Rattle.yaml_base.proofs.Common.{ap, ◌∙◌, Text, line_feed, is_read_break, elements, strip, after_digit, chomping_first}
 use Rattle.yaml_base.specs.reading.ReadBlock.{Element, content, line_end, prepend_to_elements, prepend_element, detected_indentation, all_unindented}
 use Rattle.yaml_base.proofs.{Common.read_block, stream_lines.StreamCuts.none_not_some}
-use Rattle.yaml_base.specs.reading.ReadBlock.{has_content, kept_lines, joined, unfolded, clip, lines_read}
+use Rattle.yaml_base.specs.reading.ReadBlock.{has_content, kept_lines, joined, unfolded, lines_read}
 
 -- a break at the end, as text and as an element
 abbrev feed : Text
@@ -30,7 +30,7 @@ detected_more [] = refl
 detected_more (content text ∷ rest) = refl
 detected_more (line_end b ∷ rest) = detected_more rest
 
--- it needs none
+-- it needs no indentation
 unindented_more : (n : ℕ) (es : List Element) → all_unindented n (es ++ last_end) ≡ option_map (λ t. t ++ last_end) (all_unindented n es)
 unindented_more n [] = refl
 unindented_more n (e ∷ rest) = grind (arith, unindented_more n rest)
@@ -50,10 +50,6 @@ kept_more (line_end b ∷ rest) = grind (arith, content_more, kept_more rest)
 -- and what they read as
 lines_more : (folded : Bool) (es : List Element) → lines_read folded strip (es ++ last_end) ≡ lines_read folded strip es
 lines_more folded es = ap (λ t. (if folded then unfolded false t else joined t) ++ []) (kept_more es)
-
--- no indicator clips
-clip_not_strip : clip ≡ strip → ⊥
-clip_not_strip e = grind (arith, true≢false)
 
 -- a block scalar that strips reads the same with a break more at its end
 pub strip_more : (breaks12 : Bool) (column : Option ℕ) (symbol : ℕ) (rest v : Text) → chomping_first (after_digit rest) ≡ strip

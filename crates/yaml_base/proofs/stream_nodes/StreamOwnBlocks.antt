@@ -19,7 +19,7 @@ block_style false = folded
 
 -- No key
 
--- so one line alone is no block scalar
+-- one line alone is no block scalar
 no_block : (breaks12 l : Bool) (b : Text) → OneLine breaks12 b → read_block breaks12 None (block_indicator l ∷ b) ≡ None
 no_block breaks12 l b h = grind (arith, nat_tests, or_parts)
 
