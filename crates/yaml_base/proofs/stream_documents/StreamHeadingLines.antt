@@ -40,8 +40,18 @@ tags_whole : (breaks12 portable : Bool) (before directives : List TagDirective) 
 tags_whole breaks12 portable before [] sound = tt
 tags_whole breaks12 portable before (directive ∷ rest) sound =
     let both = neither (next_directive_fault before directive) (directives_fault_after (before ++ directive ∷ []) rest) sound in
-    grind (arith, neither, one_line_both, shown_line, handle_ends_no_word, handle_form, character_line, prefix_no_white, prefix_stands,
-    tags_whole breaks12 portable (before ++ directive ∷ []) rest both.1)
+    grind (
+      arith,
+      neither,
+      one_line_both,
+      shown_line,
+      handle_ends_no_word,
+      handle_form,
+      character_line,
+      prefix_no_white,
+      prefix_stands,
+      tags_whole breaks12 portable (before ++ directive ∷ []) rest both.1,
+    )
 
 version_whole : (breaks12 : Bool) (version : Option Version) → WholeLines breaks12 (version_lines version)
 version_whole breaks12 version = grind (arith, int_eq)

@@ -93,7 +93,7 @@ pairs_step s own directives (pairs_and pairs prev_key prev_value) key value colu
 
 -- Nodes
 
-module _ (s : Effective) (own directives : List TagDirective) (fits : KeysFit s own directives ) where
+module _ (s : Effective) (own directives : List TagDirective) (fits : KeysFit s own directives) where
   -- each node, the items of each sequence and the pairs of each mapping
   mutual
     pub node_flow : (n : Node) (role : Role) (column : ℕ) (cursor : Cursor) → NamesStand s.portable own s.canonical directives n

@@ -224,7 +224,7 @@ pair_fits true pairs key value rules s directives e leaves value_fits key_fits =
 pair_fits false pairs key value rules s directives e leaves value_fits
     key_fits = (key_fits leaves.0, value_fits false (indicator_cursor e) (refl, λ h. refl) leaves.1)
 
-module _ (rules : Rules) (s : Effective) (directives : List TagDirective) (deep : 2 ≤ s.indent ) where
+module _ (rules : Rules) (s : Effective) (directives : List TagDirective) (deep : 2 ≤ s.indent) where
   -- a node in a block fits where its leaves do; so do the items of a sequence and the pairs of a mapping
   mutual
     pub node_fits : (n : Node) (place : Place) (cursor : Cursor) → Stands place.column cursor → Leaves n rules s directives place cursor
