@@ -1,6 +1,5 @@
 //! Columns as the pen keeps them: `u32::MAX` stands for that and all above.
 ghost use Rattle.std.specs.Prelude.{◌≡◌, ◌≤◌, ℕ, length, min};
-ghost use Rattle.std.specs.Fmt.{is_char_start};
 ghost use Rattle.std.specs.Str.{chars};
 ghost use Rattle.yaml_base.specs.Cursor.{next_column};
 ghost use Rattle.yaml_pen.specs.Page.{buffer_size};
@@ -18,13 +17,6 @@ pub(crate) fn next_column(character: char, column: u32) -> u32
     }
 }
 
-/// Returns whether a byte is the first of a character.
-fn begins_character(byte: u8) -> bool
-    ensures { result ≡ is_char_start byte }
-{
-    byte < 0x80 || byte >= 0xC0
-}
-
 /// Returns how many characters a text has that fits the buffer: as many as bytes that begin one.
 pub(crate) fn character_count(text: &str) -> u32
     requires { length text.now ≤ buffer_size }
@@ -34,7 +26,8 @@ pub(crate) fn character_count(text: &str) -> u32
     let mut count = 0;
     let mut place = 0;
     while place < bytes.len() {
-        count += begins_character(bytes[place]) as u32;
+        let byte = bytes[place];
+        count += ((byte < 0x80) | (byte >= 0xC0)) as u32;
         place += 1;
     }
     count

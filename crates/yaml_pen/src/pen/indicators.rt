@@ -1,5 +1,5 @@
 //! Indicators, and the spaces before them.
-ghost use Rattle.std.specs.Prelude.{◌≡◌, ◌&&◌, false, true};
+ghost use Rattle.std.specs.Prelude.{◌≡◌, false, true};
 ghost use Rattle.std.specs.Str.{chars};
 ghost use Rattle.std.specs.List.{list_any};
 ghost use Rattle.yaml_base.specs.Characters.{is_break};
@@ -109,7 +109,8 @@ impl<A: Allocator> Pen<A> {
     {
         self.separate_if(indicator.needs_space)?;
         self.write_indicator_text(indicator.text)?;
-        self.set_flags(indicator.leaves_space, indicator.keeps_indention);
+        self.set_whitespace(indicator.leaves_space);
+        self.set_indention(self.indention() & indicator.keeps_indention);
         Ok(())
     }
 
@@ -143,17 +144,5 @@ impl<A: Allocator> Pen<A> {
             [byte] => self.put(*byte),
             _ => self.write_run(text),
         }
-    }
-
-    fn set_flags(&mut self, whitespace: bool, indention: bool)
-        ensures { self.new ≡ record self.old {
-          cursor = record self.old.cursor {
-            whitespace = whitespace;
-            indention = self.old.cursor.indention && indention;
-          };
-        } }
-    {
-        self.set_whitespace(whitespace);
-        self.set_indention(self.indention() && indention);
     }
 }

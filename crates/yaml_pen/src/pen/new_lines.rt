@@ -1,9 +1,8 @@
 //! New lines, and the spaces that they begin with.
-ghost use Rattle.std.specs.Prelude.{◌≡◌, pos, ◌≤ℤ◌, ◌<◌, ◌≤◌, false, true, unwrap_or, replicate};
+ghost use Rattle.std.specs.Prelude.{◌≡◌, pos, ◌≤ℤ◌, ◌<◌, ◌≤◌, false, true, replicate};
 ghost use Rattle.yaml_base.specs.Characters.{space};
 ghost use Rattle.yaml_base.specs.Cursor.{render_text, breaks_line, new_line};
 ghost use Rattle.yaml_base.specs.Settings.{line_feed_break};
-ghost use Rattle.yaml_base.specs.Seen.{seen_break};
 ghost use Rattle.yaml_pen.specs.Page.{IsReady, has_bom, natural};
 ghost use Rattle.yaml_pen.specs.Wrote.{Wrote};
 ghost use Rattle.yaml_pen.specs.Lines.{line_begun, render_line_break, spaces_to};
@@ -28,16 +27,7 @@ impl<A: Allocator> Pen<A> {
         requires not_negative { pos 0 ≤ℤ indent }
         ensures written { Wrote (new_line (natural indent)) self.old self.new result }
     {
-        self.begin_line(indent as u32)
-    }
-
-    #[inline(always)]
-    fn begin_line(&mut self, at: u32) -> Result<(), yaml_error_t>
-        requires ready { IsReady self.old }
-        requires below { at < 2147483648 }
-        ensures written { Wrote (new_line at) self.old self.new result }
-    {
-        self.go_to_line(at)?;
+        self.go_to_line(indent as u32)?;
         self.set_whitespace(true);
         self.set_indention(true);
         Ok(())
@@ -57,7 +47,7 @@ impl<A: Allocator> Pen<A> {
         }
     }
 
-    // Whether a break is needed here, and is one byte as the spaces are.
+    // Whether a break is needed here, and is LF, one byte as the spaces are. A setting of ANY is taken for LF.
     fn starts_at_once(&self, at: u32) -> bool
         requires { at < 2147483648 }
         ensures breaks { result ≡ true → breaks_line at self.now.cursor ≡ true }
@@ -68,7 +58,10 @@ impl<A: Allocator> Pen<A> {
         at <= MOST_SPACES_AFTER_BREAK
             && self.breaks_line(at)
             && !has_bom(self.encoding)
-            && is_line_feed(self.line_break)
+            && match self.line_break {
+                yaml_break_t::YAML_CR_BREAK | yaml_break_t::YAML_CRLN_BREAK => false,
+                _ => true,
+            }
     }
 
     // Most lines begin at few columns. A start whose length is known is copied without a call.
@@ -144,19 +137,11 @@ impl<A: Allocator> Pen<A> {
         ensures written { Wrote (render_text (replicate count space)) self.old self.new result }
     {
         if count <= MOST_SPACES {
-            self.write_few_spaces(count)
+            let spaces = [b' '; 64];
+            self.write_ascii(&spaces[..count as usize])
         } else {
             self.write_many_spaces(count)
         }
-    }
-
-    fn write_few_spaces(&mut self, count: u32) -> Result<(), yaml_error_t>
-        requires ready { IsReady self.old }
-        requires few { count ≤ 64 }
-        ensures written { Wrote (render_text (replicate count space)) self.old self.new result }
-    {
-        let spaces = [b' '; 64];
-        self.write_ascii(&spaces[..count as usize])
     }
 
     // One space after another.
@@ -170,14 +155,4 @@ impl<A: Allocator> Pen<A> {
         }
         Ok(())
     }
-}
-
-/// Returns whether a break is written as LF; a setting of ANY is taken for LF.
-fn is_line_feed(line_break: yaml_break_t) -> bool
-    ensures { result ≡ true → unwrap_or (seen_break line_break) line_feed_break ≡ line_feed_break }
-{
-    !matches!(
-        line_break,
-        yaml_break_t::YAML_CR_BREAK | yaml_break_t::YAML_CRLN_BREAK
-    )
 }
