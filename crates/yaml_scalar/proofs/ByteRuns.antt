@@ -4,35 +4,10 @@ use Rattle.yaml_scalar.proofs.Common.{false, not, true, ◌&&◌, ◌||◌, List
 use Rattle.yaml_scalar.proofs.Common.{ap, subst, sym, ◌∙◌, arith, and-true, and_parts, and_from, agree_below_at, nat_tests, list_all-append, IsUtf8-take}
 use Rattle.yaml_scalar.proofs.Common.{encodes-chars, scalars-chars, list_all, IsCharBoundary, Text, is_among, is_break, is_printable, is_quiet, is_free}
 use Rattle.yaml_scalar.proofs.Common.{IsFreeRun, ImpliesTest, stays_where, stays_in_line, last_from, IsRun}
-use Rattle.std.{proofs.lemmas.Bool.cases_lt, proofs.lemmas.Bool.agree_below, proofs.lemmas.List.take_more, proofs.lemmas.List.Folds.list_all_at}
+use Rattle.std.{proofs.lemmas.Bool.cases_lt, proofs.lemmas.Bool.agree_below, proofs.lemmas.List.Folds.list_all_at}
 use Rattle.std.{proofs.lemmas.Str.encode_ascii, proofs.lemmas.Str.chars_from_encodes, specs.Int.Bits.bit_and, specs.Str.chars}
 use lib.Utf8.{encode, next, scalar, scalar_cases, scalars}
-use Rattle.yaml_scalar.specs.{ByteClasses.four_are_free, declared.classes.TheConstants.CLASSES}
-
--- one byte more, and four
-free_more : (classes : ℕ) (bytes : List ℕ) (place : ℕ) → place < length bytes → is_free classes (slice_index bytes place) ≡ true
-    → list_all (is_free classes) (take place bytes) ≡ true → list_all (is_free classes) (take (place + 1) bytes) ≡ true
-free_more classes bytes place within free all =
-    ap (list_all (is_free classes)) (take_more bytes place 0 within)
-    ∙ list_all-append (is_free classes) (take place bytes) (slice_index bytes place ∷ [])
-    ∙ and_from _ _ all (and_from _ true free refl)
-
-pub free_four : (classes : ℕ) (bytes : List ℕ) (place : ℕ) → place + 4 ≤ length bytes → four_are_free classes bytes place ≡ true
-    → list_all (is_free classes) (take place bytes) ≡ true → list_all (is_free classes) (take (place + 4) bytes) ≡ true
-free_four classes bytes place within four_free all =
-    let p = and_parts (is_free classes (slice_index bytes place) && is_free classes (slice_index bytes (place + 1))
-    && is_free classes (slice_index bytes (place + 2))) (is_free classes (slice_index bytes (place + 3))) four_free in
-    let q = and_parts (is_free classes (slice_index bytes place) && is_free classes (slice_index bytes (place + 1)))
-    (is_free classes (slice_index bytes (place + 2))) p.0 in
-    let r = and_parts (is_free classes (slice_index bytes place)) (is_free classes (slice_index bytes (place + 1))) q.0 in
-    let one = free_more classes bytes place (omega arith) r.0 all in
-    let two = free_more classes bytes (place + 1) (omega arith) r.1 one in
-    let second : place + 1 + 1 ≡ place + 2 = omega arith in
-    let three = free_more classes bytes (place + 2) (omega arith) q.1 (subst (λ n. list_all (is_free classes) (take n bytes) ≡ true) second two) in
-    let third : place + 2 + 1 ≡ place + 3 = omega arith in
-    let four = free_more classes bytes (place + 3) (omega arith) p.1 (subst (λ n. list_all (is_free classes) (take n bytes) ≡ true) third three) in
-    let fourth : place + 3 + 1 ≡ place + 4 = omega arith in
-    subst (λ n. list_all (is_free classes) (take n bytes) ≡ true) fourth four
+use Rattle.yaml_scalar.specs.declared.classes.TheConstants.{CLASSES}
 
 -- a byte that goes on with a character is of no class
 inside_free : (classes b : ℕ) → 128 ≤ b → b < 192 → is_free classes b ≡ true

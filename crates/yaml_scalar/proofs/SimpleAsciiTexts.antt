@@ -13,14 +13,13 @@ pub last_at : (before first : ℕ) (rest : List ℕ) → last_from before (first
 last_at before first [] = refl
 last_at before first (second ∷ rest) = last_at first second rest
 
-pub simple_ascii_ends : (bytes : List ℕ) → is_ordinary (slice_index bytes 0) ≡ true
-    → not (slice_index bytes (length bytes - 1) == 32) ≡ has_simple_ascii_ends bytes
-simple_ascii_ends [] ordinary = cc
-simple_ascii_ends (first ∷ rest) ordinary =
+pub simple_ascii_ends : (bytes : List ℕ)
+    → (is_ordinary (slice_index bytes 0) && not (slice_index bytes (length bytes - 1) == 32)) ≡ has_simple_ascii_ends bytes
+simple_ascii_ends [] = refl
+simple_ascii_ends (first ∷ rest) =
     let at : length (first ∷ rest) - 1 ≡ length rest = omega arith in
-    ap (λ n. not (slice_index (first ∷ rest) n == 32)) at
-    ∙ ap (λ c. not (is_space c)) (sym (last_at 0 first rest))
-    ∙ sym (ap (λ b. b && not (is_space (last_from 0 (first ∷ rest)))) ordinary)
+    ap (λ n. is_ordinary first && not (slice_index (first ∷ rest) n == 32)) at
+    ∙ ap (λ c. is_ordinary first && not (is_space c)) (sym (last_at 0 first rest))
 
 -- what the classes of bytes that no simple ASCII text holds say of its characters
 simple_ascii_is_ascii : (c : ℕ) → is_simple_ascii_character c ≡ true → c < 128

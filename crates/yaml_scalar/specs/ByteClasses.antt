@@ -1,5 +1,5 @@
 -- Classes of bytes, and runs of bytes of none of them.
-use Rattle.std.specs.Prelude.{◌≡◌, ℕ, Bool, true, false, List, ◌==◌, ◌&&◌, ◌+◌, ◌<◌, ◌≤◌, length, slice_index, take}
+use Rattle.std.specs.Prelude.{◌≡◌, ℕ, Bool, true, false, List, ◌==◌, ◌<◌, ◌≤◌, length, slice_index, take}
 use Rattle.std.specs.Char.{IsScalar}
 use Rattle.std.specs.Int.Bits.{bit_and}
 use Rattle.std.specs.List.{list_all}
@@ -9,14 +9,6 @@ use Rattle.yaml_scalar.specs.declared.classes.TheConstants.{CLASSES}
 -- the byte is of none of these classes
 abbrev pub is_free : (classes : ℕ) → ℕ → Bool
 is_free classes byte = bit_and (slice_index CLASSES byte) classes == 0
-
--- so are the four bytes from a place on
-abbrev pub four_are_free : (classes : ℕ) → (bytes : List ℕ) → (place : ℕ) → Bool
-four_are_free classes bytes place =
-    is_free classes (slice_index bytes place)
-    && is_free classes (slice_index bytes (place + 1))
-    && is_free classes (slice_index bytes (place + 2))
-    && is_free classes (slice_index bytes (place + 3))
 
 -- the longest prefix of a text none of whose bytes is of these classes
 pub record IsFreeRun (classes : ℕ) (text : List ℕ) (size : ℕ) : Type 0 where

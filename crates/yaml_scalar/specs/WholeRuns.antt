@@ -1,8 +1,8 @@
 -- Runs of characters that are written whole.
-use Rattle.std.specs.Prelude.{◌≡◌, ◌≤◌, ◌+◌, ℕ, Bool, true, false, Option, None, Some, List, [], ◌∷◌, ◌==◌, ◌||◌, ◌&&◌, not, take}
+use Rattle.std.specs.Prelude.{◌≡◌, ◌≤◌, ◌+◌, ℕ, Bool, true, false, Option, None, Some, List, ◌==◌, ◌||◌, ◌&&◌, not, take}
 use Rattle.std.specs.List.{list_all}
 use Rattle.std.specs.Str.{IsCharBoundary, chars}
-use Rattle.yaml_base.specs.Characters.{Text, is_break, is_space}
+use Rattle.yaml_base.specs.Characters.{is_break, is_space}
 use Rattle.yaml_base.specs.Cursor.{Cursor}
 use Rattle.yaml_base.specs.scalars.DoubleQuoted.{needs_escape}
 use Rattle.yaml_base.specs.Tags.{last_from}

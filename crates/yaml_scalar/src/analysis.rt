@@ -4,8 +4,8 @@ ghost use Rattle.std.specs.Prelude.{◌≡◌, ◌≤◌, ◌==◌, ◌||◌, �
 ghost use Rattle.std.specs.Str.{IsUtf8, chars};
 ghost use Rattle.yaml_base.specs.scalars.Analysis as spec;
 ghost use Rattle.yaml_base.specs.Characters as class;
-ghost use Rattle.yaml_scalar.specs.Barred.{all_styles, allowed_by, barred_by, barred_by_space, barred_in, either, is_quiet};
-ghost use Rattle.yaml_scalar.specs.Barred.{seen_barred, with_indicator};
+ghost use Rattle.yaml_scalar.specs.Barred.{all_styles, allowed_by, barred_by, barred_in, either, is_quiet};
+ghost use Rattle.yaml_scalar.specs.Barred.{seen_barred};
 ghost use Rattle.yaml_scalar.specs.ByteClasses.{ImpliesTest};
 ghost use Rattle.yaml_scalar.specs.ScalarData.{ChooseAlike, is_flow, seen_charset, seen_data};
 
@@ -69,7 +69,11 @@ pub fn analyze_scalar(value: &str, unicode: bool, breaks12: bool) -> scalar_data
     ensures { seen_data result ≡ spec.allowances (record { unicode = unicode; breaks12 = breaks12 }) (chars value.now) }
 {
     let (barred, rest) = barred_before(value, CharacterSet { unicode, breaks12 });
-    data_of(value, with_break(barred, rest))
+    let all = BarredStyles {
+        multiline: barred.multiline | holds_break(rest),
+        ..barred
+    };
+    data_of(value, all)
 }
 
 /// Analyses a scalar's value as `analyze_scalar`, but `multiline` may be wrong if only double quotes fit:
@@ -174,17 +178,7 @@ fn is_key(c: char, rest: &str) -> bool
 fn is_key_or_comment(c: char, rest: &str) -> bool
     ensures { result ≡ spec.is_key_or_comment c (chars rest.now) }
 {
-    is_key(c, rest) || (is_gap(c) && begins_with_hash(rest))
-}
-
-/// Returns whether `#` comes next.
-fn begins_with_hash(rest: &str) -> bool
-    ensures { result ≡ spec.begins_with (λ d. d == 35) (chars rest.now) }
-{
-    match rest.chars().next() {
-        Some(c) => c == '#',
-        None => false,
-    }
+    is_key(c, rest) || (is_gap(c) && matches!(rest.chars().next(), Some('#')))
 }
 
 /// Returns whether a space comes next.
@@ -229,17 +223,6 @@ fn bars_block(c: char, rest: &str, charset: CharacterSet) -> bool
     is_special(c, charset) || is_trailing_space(c, rest) || (is_space(c) && is_at_end(rest))
 }
 
-/// Returns what was read, and an indicator of flow collections, which only plain text may not hold.
-fn with_flow_indicator(barred: BarredStyles, c: char, rest: &str) -> BarredStyles
-    ensures { seen_barred result ≡ with_indicator (seen_barred barred) c (chars rest.now) }
-{
-    BarredStyles {
-        flow_plain: true,
-        block_plain: barred.block_plain || is_key(c, rest),
-        ..barred
-    }
-}
-
 /// Returns what was read, and the next character, seen with what follows it.
 #[inline(always)]
 fn with_next(barred: BarredStyles, c: char, rest: &str, charset: CharacterSet) -> BarredStyles
@@ -249,7 +232,12 @@ fn with_next(barred: BarredStyles, c: char, rest: &str, charset: CharacterSet) -
         return barred;
     }
     if is_flow_indicator(c) {
-        return with_flow_indicator(barred, c, rest);
+        // Only plain text may not hold it.
+        return BarredStyles {
+            flow_plain: true,
+            block_plain: barred.block_plain | is_key(c, rest),
+            ..barred
+        };
     }
     BarredStyles {
         multiline: barred.multiline || is_break(c),
@@ -271,18 +259,6 @@ fn significant_classes(charset: CharacterSet) -> u8
     }
 }
 
-/// Returns what was read, and a space, if this is one, before the rest.
-#[inline(always)]
-fn with_space(barred: BarredStyles, last: char, rest: &str, charset: CharacterSet) -> BarredStyles
-    ensures { seen_barred result ≡ either (seen_barred barred) (barred_by_space (seen_charset charset) last (chars rest.now)) }
-{
-    if is_space(last) {
-        with_next(barred, ' ', rest, charset)
-    } else {
-        barred
-    }
-}
-
 /// Skips ordinary characters; returns the result, in which a space at their end counts, and the rest.
 #[inline(always)]
 fn skip_quiet(barred: BarredStyles, text: &str, charset: CharacterSet) -> (BarredStyles, &str)
@@ -292,17 +268,11 @@ fn skip_quiet(barred: BarredStyles, text: &str, charset: CharacterSet) -> (Barre
     ensures shorter { length result.1.now ≤ length text.now }
 {
     let (quiet, rest) = text.split_at(free_length(text, significant_classes(charset)));
-    (
-        with_space(barred, last_of('\0', quiet), rest, charset),
-        rest,
-    )
-}
-
-/// Returns whether only double quotes can write what was read.
-fn bars_all(barred: BarredStyles) -> bool
-    ensures { result ≡ all_styles (seen_barred barred) }
-{
-    barred.flow_plain && barred.block_plain && barred.single_quoted && barred.block
+    if is_space(last_of('\0', quiet)) {
+        (with_next(barred, ' ', rest, charset), rest)
+    } else {
+        (barred, rest)
+    }
 }
 
 /// Returns the text after the next characters none of which is a break.
@@ -331,16 +301,6 @@ pub fn holds_break(text: &str) -> bool
     false
 }
 
-/// Returns what was read, which bars all, and whether a break follows.
-fn with_break(barred: BarredStyles, rest: &str) -> BarredStyles
-    ensures { seen_barred result ≡ record (seen_barred barred) { multiline = barred.multiline || list_any class.is_break (chars rest.now) } }
-{
-    BarredStyles {
-        multiline: barred.multiline || holds_break(rest),
-        ..barred
-    }
-}
-
 /// Returns what the characters of a value bar, as far as it was read, and the rest: none unless all is barred.
 fn barred_before(value: &str, charset: CharacterSet) -> (BarredStyles, &str)
     ensures same { record (seen_barred result.0) { multiline = result.0.multiline || list_any class.is_break (chars result.1.now) }
@@ -352,7 +312,8 @@ fn barred_before(value: &str, charset: CharacterSet) -> (BarredStyles, &str)
     while let Some(c) = chars.next() {
         let rest = chars.as_str();
         let more = with_next(barred, c, rest, charset);
-        if bars_all(more) {
+        // Where only double quotes are left the rest bars no more.
+        if more.flow_plain & more.block_plain & more.single_quoted & more.block {
             return (more, rest);
         }
         let (read, after) = skip_quiet(more, rest, charset);

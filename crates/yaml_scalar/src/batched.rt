@@ -32,20 +32,6 @@ fn append(bytes: &mut BatchBytes, text: &[u8])
     let _ = bytes.try_extend_from_slice(text);
 }
 
-/// Appends a character's escape.
-#[inline(always)]
-fn append_escape(bytes: &mut BatchBytes, c: char)
-    requires { length bytes.old.items + longest_escape ≤ most_bytes }
-    ensures { bytes.new.items ≡ bytes.old.items ++ spec.escape_text c }
-{
-    match escape_of(c) {
-        Escape::Letter(text) => append(bytes, &text),
-        Escape::Two(text) => append(bytes, &text),
-        Escape::Four(text) => append(bytes, &text),
-        Escape::Eight(text) => append(bytes, &text),
-    }
-}
-
 /// Appends a character as an escape, or as itself.
 #[inline(always)]
 fn append_character(bytes: &mut BatchBytes, c: char, unicode: bool)
@@ -53,10 +39,14 @@ fn append_character(bytes: &mut BatchBytes, c: char, unicode: bool)
     requires batched { is_batched unicode c ≡ true }
     ensures { bytes.new.items ≡ bytes.old.items ++ spec.character_text unicode c }
 {
-    if needs_escape(c, unicode) {
-        append_escape(bytes, c)
-    } else {
-        append(bytes, &[c as u8])
+    if !needs_escape(c, unicode) {
+        return append(bytes, &[c as u8]);
+    }
+    match escape_of(c) {
+        Escape::Letter(text) => append(bytes, &text),
+        Escape::Two(text) => append(bytes, &text),
+        Escape::Four(text) => append(bytes, &text),
+        Escape::Eight(text) => append(bytes, &text),
     }
 }
 

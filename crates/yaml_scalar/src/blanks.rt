@@ -45,18 +45,11 @@ fn begins_with_blanks_alone(text: &str) -> bool
     }
 }
 
-/// Returns whether a character is special and no tab.
-fn is_special_but_tab(c: char, charset: CharacterSet) -> bool
-    ensures { result ≡ spec.is_special_but_tab (seen_charset charset) c }
-{
-    c != '\t' && is_special(c, charset)
-}
-
 /// Returns whether no literal text holds this character before what follows it.
 fn bars_literal(c: char, rest: &str, charset: CharacterSet) -> bool
     ensures { result ≡ spec.bars_literal (seen_charset charset) c (chars rest.now) }
 {
-    is_special_but_tab(c, charset) || (is_break(c) && begins_with_blanks_alone(rest))
+    (c != '\t' && is_special(c, charset)) || (is_break(c) && begins_with_blanks_alone(rest))
 }
 
 /// Returns whether some character of a value bars it from literal text.

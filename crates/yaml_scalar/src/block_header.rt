@@ -108,7 +108,11 @@ fn write_hints<A: Allocator>(
     ensures { Wrote (layout.render_hints (natural best_indent) (chars value.now)) pen.old pen.new result }
 {
     write_indentation_hint(pen, value, best_indent)?;
-    write_ending_hint(pen, value_ending(value))
+    match value_ending(value) {
+        Ending::WithoutBreak => write_hint(pen, b'-'),
+        Ending::OneBreak => pen.write_nothing(),
+        Ending::MoreBreaks => write_hint(pen, b'+'),
+    }
 }
 
 fn write_indentation_hint<A: Allocator>(
@@ -125,17 +129,6 @@ fn write_indentation_hint<A: Allocator>(
         write_hint(pen, b'0' + best_indent as u8)
     } else {
         pen.write_nothing()
-    }
-}
-
-fn write_ending_hint<A: Allocator>(pen: &mut Pen<A>, ending: Ending) -> Result<(), yaml_error_t>
-    requires { IsReady pen.old }
-    ensures { Wrote (layout.render_hint (layout.ending_hint (seen_ending ending))) pen.old pen.new result }
-{
-    match ending {
-        Ending::WithoutBreak => write_hint(pen, b'-'),
-        Ending::OneBreak => pen.write_nothing(),
-        Ending::MoreBreaks => write_hint(pen, b'+'),
     }
 }
 

@@ -17,7 +17,7 @@ ghost use Rattle.yaml_scalar.specs.Width.{limit_of};
 use crate::analysis::begins_with_space;
 use crate::block_header::BlockStyle;
 use crate::runs::{Run, RunEnds, line_run_after};
-use crate::shared::has_limit;
+use crate::shared::has_limit_where;
 use crate::width::is_past_width;
 use std::alloc::Allocator;
 use yaml_base::{is_break, is_space, yaml_error_t};
@@ -141,19 +141,13 @@ fn place_after(style: BlockStyle, place: Place, character: char) -> Place
         return Place::LineStart;
     }
     match place {
-        Place::LineStart => place_in_line(style, character),
+        // A line that begins with a space is never folded.
+        Place::LineStart => match style {
+            BlockStyle::Folded if !is_space(character) => Place::Folding,
+            _ => Place::Fixed,
+        },
         Place::Folding => Place::Folding,
         Place::Fixed => Place::Fixed,
-    }
-}
-
-/// Returns the place in a line that begins with this character. A line that begins with a space is never folded.
-fn place_in_line(style: BlockStyle, first: char) -> Place
-    ensures { result ≡ step.place_in_line (is_folded style) first }
-{
-    match style {
-        BlockStyle::Folded if !is_space(first) => Place::Folding,
-        _ => Place::Fixed,
     }
 }
 
@@ -169,7 +163,7 @@ fn run_after(character: char, rest: &str, place: Place, lines: BlockLines) -> Ru
         },
         Place::Folding => {
             let ends = RunEnds {
-                space: has_limit(lines.width),
+                space: has_limit_where(true, lines.width),
                 quote: false,
             };
             line_run_after(character, rest, ends)

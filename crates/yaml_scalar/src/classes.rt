@@ -1,8 +1,8 @@
 //! Classes of bytes, by which runs of characters are found without decoding them.
 ghost use Rattle.std.specs.List.{list_all};
-ghost use Rattle.std.specs.Prelude.{◌≡◌, ◌≤◌, ◌+◌, true, length, take};
+ghost use Rattle.std.specs.Prelude.{◌≡◌, ◌≤◌, true, length, take};
 ghost use Rattle.std.specs.Str.{chars};
-ghost use Rattle.yaml_scalar.specs.ByteClasses.{IsFreeRun, four_are_free, is_free};
+ghost use Rattle.yaml_scalar.specs.ByteClasses.{IsFreeRun, is_free};
 ghost use Rattle.yaml_base.specs.Tags.{last_from};
 
 /// LF, CR, and the bytes that U+0085, U+2028 and U+2029 begin with.
@@ -48,25 +48,6 @@ pub(crate) fn is_free(byte: u8, classes: u8) -> bool
     CLASSES[byte as usize] & classes == 0
 }
 
-/// Returns whether the four bytes from a place on are of none of these classes. One branch tells it of all four.
-fn are_free(bytes: &[u8], place: usize, classes: u8) -> bool
-    requires { place + 4 ≤ length bytes.now }
-    ensures { result ≡ four_are_free classes bytes.now place }
-{
-    is_free(bytes[place], classes)
-        & is_free(bytes[place + 1], classes)
-        & is_free(bytes[place + 2], classes)
-        & is_free(bytes[place + 3], classes)
-}
-
-/// Returns whether the four bytes from a place on are of none of these classes, where none before them is.
-fn are_free_too(bytes: &[u8], place: usize, classes: u8) -> bool
-    requires { place + 4 ≤ length bytes.now }
-    ensures { result ≡ true → list_all (is_free classes) (take place bytes.now) ≡ true → list_all (is_free classes) (take (place + 4) bytes.now) ≡ true }
-{
-    are_free(bytes, place, classes)
-}
-
 /// Returns the length of a prefix, four bytes after four, none of whose bytes is of these classes.
 #[inline(always)]
 fn free_length_by_fours(bytes: &[u8], classes: u8) -> usize
@@ -74,7 +55,15 @@ fn free_length_by_fours(bytes: &[u8], classes: u8) -> usize
     ensures all { list_all (is_free classes) (take result bytes.now) ≡ true }
 {
     let mut size = 0;
-    while bytes.len() - size >= 4 && are_free_too(bytes, size, classes) {
+    while bytes.len() - size >= 4 {
+        // One branch tells it of all four.
+        let free = is_free(bytes[size], classes)
+            & is_free(bytes[size + 1], classes)
+            & is_free(bytes[size + 2], classes)
+            & is_free(bytes[size + 3], classes);
+        if !free {
+            return size;
+        }
         size += 4;
     }
     size

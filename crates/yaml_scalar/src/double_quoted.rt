@@ -87,19 +87,6 @@ fn write_quoted<A: Allocator>(
     pen.put_indicator(&Indicator::tight("\""))
 }
 
-/// Writes a character as its escape.
-fn write_escape<A: Allocator>(pen: &mut Pen<A>, c: char) -> Result<(), yaml_error_t>
-    requires { IsReady pen.old }
-    ensures { Wrote (render_text (spec.escape_text c)) pen.old pen.new result }
-{
-    match escape_of(c) {
-        Escape::Letter(bytes) => write_bytes(pen, c, &bytes),
-        Escape::Two(bytes) => write_bytes(pen, c, &bytes),
-        Escape::Four(bytes) => write_bytes(pen, c, &bytes),
-        Escape::Eight(bytes) => write_bytes(pen, c, &bytes),
-    }
-}
-
 /// Writes the bytes of a character's escape.
 fn write_bytes<A: Allocator>(pen: &mut Pen<A>, c: char, bytes: &[u8]) -> Result<(), yaml_error_t>
     requires ready { IsReady pen.old }
@@ -118,10 +105,14 @@ fn write_character<A: Allocator>(
     requires { IsReady pen.old }
     ensures { Wrote (render_text (spec.character_text unicode c)) pen.old pen.new result }
 {
-    if needs_escape(c, unicode) {
-        write_escape(pen, c)
-    } else {
-        pen.write_char(c)
+    if !needs_escape(c, unicode) {
+        return pen.write_char(c);
+    }
+    match escape_of(c) {
+        Escape::Letter(bytes) => write_bytes(pen, c, &bytes),
+        Escape::Two(bytes) => write_bytes(pen, c, &bytes),
+        Escape::Four(bytes) => write_bytes(pen, c, &bytes),
+        Escape::Eight(bytes) => write_bytes(pen, c, &bytes),
     }
 }
 
@@ -129,15 +120,8 @@ fn write_character<A: Allocator>(
 fn may_fold(before: Option<char>, rest: &str) -> bool
     ensures { result ≡ spec.may_fold before (chars rest.now) }
 {
-    rest.chars().next().is_some() && is_other(before)
-}
-
-/// Returns whether a character is no space.
-fn is_other(before: Option<char>) -> bool
-    ensures { result ≡ spec.is_other before }
-{
     match before {
-        Some(c) => !is_space(c),
+        Some(c) => !is_space(c) && rest.chars().next().is_some(),
         None => false,
     }
 }
@@ -232,26 +216,12 @@ fn ascii_ending_classes(folds: bool) -> u8
     }
 }
 
-/// Returns the run of a text up to the first character that isn't written as itself or may become a fold.
-fn run_where(before: char, text: &str, unicode: bool, folds: bool) -> Run
-    ensures { IsRun (stays_where unicode folds) before text.now result.length result.last }
-{
-    run_up_to(before, text, ending_classes(unicode, folds))
-}
-
-/// Returns whether a space may become a fold, since there is a width.
-fn has_folds(quoting: Quoting) -> bool
-    ensures { result ≡ has_limit (limit_where quoting.allow_breaks quoting.width) }
-{
-    has_limit_where(quoting.allow_breaks, quoting.width)
-}
-
 /// Returns the run of a text up to the first character that isn't written as itself. A space ends it where folds are allowed.
 fn run_after(before: char, text: &str, quoting: Quoting) -> Run
     ensures { IsRun (stays quoting.unicode (limit_where quoting.allow_breaks quoting.width)) before text.now result.length result.last }
 {
-    let folds = has_folds(quoting);
-    run_where(before, text, quoting.unicode, folds)
+    let folds = has_limit_where(quoting.allow_breaks, quoting.width);
+    run_up_to(before, text, ending_classes(quoting.unicode, folds))
 }
 
 /// Writes the texts of characters that were batched.
@@ -267,7 +237,7 @@ fn write_batch<A: Allocator>(pen: &mut Pen<A>, bytes: &BatchBytes) -> Result<(),
 fn is_short(value: &str, quoting: Quoting) -> bool
     ensures { result ≡ true → IsShortRun (stays quoting.unicode (limit_where quoting.allow_breaks quoting.width)) value.now }
 {
-    let folds = has_folds(quoting);
+    let folds = has_limit_where(quoting.allow_breaks, quoting.width);
     is_short_run(value, ascii_ending_classes(folds))
 }
 

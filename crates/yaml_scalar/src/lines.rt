@@ -16,7 +16,7 @@ ghost use Rattle.yaml_scalar.specs.Width.{limit_where};
 
 use crate::analysis::is_at_end;
 use crate::runs::{Run, line_run_within, short_classes};
-use crate::shared::{may_fold_here, room_in_line};
+use crate::shared::{has_limit_where, may_fold_here};
 use crate::short_runs::{is_short_run, write_short_run};
 use std::alloc::Allocator;
 use yaml_base::{is_break, is_space, yaml_error_t};
@@ -99,17 +99,6 @@ fn write_fold<A: Allocator>(pen: &mut Pen<A>, indent: u32) -> Result<(), yaml_er
     write_indentation(pen, indent)
 }
 
-fn write_space<A: Allocator>(pen: &mut Pen<A>, folds: bool, indent: u32) -> Result<(), yaml_error_t>
-    requires { IsReady pen.old }
-    ensures { Wrote (render_text (if folds then class.line_feed ∷ layout.indentation indent else class.space ∷ [])) pen.old pen.new result }
-{
-    if folds {
-        write_fold(pen, indent)
-    } else {
-        pen.put(b' ')
-    }
-}
-
 fn write_extra_break<A: Allocator>(pen: &mut Pen<A>, needed: bool) -> Result<(), yaml_error_t>
     requires { IsReady pen.old }
     ensures { Wrote (render_text (if needed then class.line_feed ∷ [] else [])) pen.old pen.new result }
@@ -118,21 +107,6 @@ fn write_extra_break<A: Allocator>(pen: &mut Pen<A>, needed: bool) -> Result<(),
         pen.put_break()
     } else {
         pen.write_nothing()
-    }
-}
-
-fn write_line_start<A: Allocator>(
-    pen: &mut Pen<A>,
-    goes_on: bool,
-    indent: u32,
-) -> Result<(), yaml_error_t>
-    requires { IsReady pen.old }
-    ensures { Wrote (render_text (if goes_on then [] else layout.indentation indent)) pen.old pen.new result }
-{
-    if goes_on {
-        pen.write_nothing()
-    } else {
-        write_indentation(pen, indent)
     }
 }
 
@@ -152,26 +126,14 @@ fn write_line_break<A: Allocator>(
 {
     write_extra_break(pen, doubled)?;
     pen.write_break(character)?;
-    write_line_start(pen, goes_on, indent)
-}
-
-fn is_doubled_quote(character: char, quoted: bool) -> bool
-    ensures { result ≡ quoted && character == 39 }
-{
-    quoted && character == '\''
-}
-
-fn write_extra_quote<A: Allocator>(pen: &mut Pen<A>, needed: bool) -> Result<(), yaml_error_t>
-    requires { IsReady pen.old }
-    ensures { Wrote (render_text (if needed then 39 ∷ [] else [])) pen.old pen.new result }
-{
-    if needed {
-        pen.put(b'\'')
-    } else {
+    if goes_on {
         pen.write_nothing()
+    } else {
+        write_indentation(pen, indent)
     }
 }
 
+/// Writes a character that is no break, a `'` twice between single quotes.
 fn write_other<A: Allocator>(
     pen: &mut Pen<A>,
     character: char,
@@ -181,16 +143,13 @@ fn write_other<A: Allocator>(
     requires no_break { class.is_break character ≡ false }
     ensures { Wrote (render_text (steps.written_as quoted (character ∷ []))) pen.old pen.new result }
 {
-    let doubled = is_doubled_quote(character, quoted);
-    write_extra_quote(pen, doubled)?;
-    pen.write_char(character)
-}
-
-// Whether a character is LF that begins a run, so that it is written twice.
-fn is_doubled_break(character: char, before: CharacterKind) -> bool
-    ensures { result ≡ character == class.line_feed && not (layout.is_same_kind (steps.seen_kind before) layout.breaks) }
-{
-    character == '\n' && !is_same_kind(before, CharacterKind::Break)
+    let doubled = quoted & (character == '\'');
+    if doubled {
+        pen.put(b'\'')?;
+        pen.write_char(character)
+    } else {
+        pen.write_char(character)
+    }
 }
 
 // Whether a run is one space, neither first nor last, past the width.
@@ -218,11 +177,15 @@ fn write_step<A: Allocator>(
 {
     match kind_of(character) {
         CharacterKind::Space => {
-            let folds = is_fold(pen, lines, before, rest);
-            write_space(pen, folds, lines.indent)
+            if is_fold(pen, lines, before, rest) {
+                write_fold(pen, lines.indent)
+            } else {
+                pen.put(b' ')
+            }
         }
         CharacterKind::Break => {
-            let doubled = is_doubled_break(character, before);
+            // LF that begins a run is written twice.
+            let doubled = (character == '\n') & !is_same_kind(before, CharacterKind::Break);
             let goes_on = begins_kind(CharacterKind::Break, rest);
             write_line_break(pen, character, doubled, goes_on, lines.indent)
         }
@@ -230,11 +193,17 @@ fn write_step<A: Allocator>(
     }
 }
 
-// How many columns of the line are left, if any.
+/// Returns how many columns follow before one that is past the width, if any.
 fn line_room<A: Allocator>(pen: &Pen<A>, lines: Lines) -> usize
     ensures { 0 < result → HasRoom (limit_where lines.allow_breaks lines.width) pen.now.cursor.column result }
 {
-    room_in_line(pen, lines.allow_breaks, lines.width)
+    if !has_limit_where(lines.allow_breaks, lines.width) {
+        usize::MAX
+    } else if lines.width < 0 {
+        0
+    } else {
+        (lines.width as u32).saturating_sub(pen.column() as u32) as usize
+    }
 }
 
 // A `'` ends a run where it is doubled, and so does a space that may become a fold.

@@ -1,7 +1,7 @@
 //! Plain scalars.
-ghost use Rattle.std.specs.Prelude.{◌≡◌, pos, ◌≤ℤ◌, ◌||◌, not, true, false, IfOk};
+ghost use Rattle.std.specs.Prelude.{◌≡◌, pos, ◌≤ℤ◌, true, false, IfOk};
 ghost use Rattle.std.specs.Str.{chars};
-ghost use Rattle.yaml_base.specs.scalars.Analysis.{Charset, allows_plain, is_empty};
+ghost use Rattle.yaml_base.specs.scalars.Analysis.{Charset, allows_plain};
 ghost use Rattle.yaml_base.specs.scalars.Plain.{plain_body, render_plain};
 ghost use Rattle.yaml_base.specs.reading.ReadPlain.{read_plain};
 ghost use Rattle.yaml_pen.specs.Page.{IsReady, natural};
@@ -37,10 +37,11 @@ pub fn write_plain_scalar<A: Allocator>(
     ensures reads { (charset : Charset) → allows_plain charset flow (chars value.now) ≡ true
         → IfOk result (λ _. ReadsBack (read_plain charset.breaks12 flow) (chars value.now) pen.old.text pen.new.text) }
 {
-    write_after_space(
+    // The empty value needs no space in a block collection or as a root.
+    pen.separate_if(flow | !is_at_end(value))?;
+    write_body(
         pen,
         value,
-        flow,
         Lines {
             quoted: false,
             known: Known::Nothing,
@@ -49,28 +50,6 @@ pub fn write_plain_scalar<A: Allocator>(
             width,
         },
     )
-}
-
-fn write_after_space<A: Allocator>(
-    pen: &mut Pen<A>,
-    value: &str,
-    flow: bool,
-    lines: Lines,
-) -> Result<(), yaml_error_t>
-    requires ready { IsReady pen.old }
-    requires plain { lines.quoted ≡ false }
-    requires known { IsKnown lines.known lines.quoted value.now }
-    ensures { Wrote (render_plain flow (limit_where lines.allow_breaks lines.width) lines.indent (chars value.now)) pen.old pen.new result }
-{
-    pen.separate_if(needs_space(flow, value))?;
-    write_body(pen, value, lines)
-}
-
-// Whether a space comes first. The empty value needs none in a block collection or as a root.
-fn needs_space(flow: bool, value: &str) -> bool
-    ensures { result ≡ flow || not (is_empty (chars value.now)) }
-{
-    flow || !is_at_end(value)
 }
 
 /// Writes a plain scalar after the space before it, where there is one.

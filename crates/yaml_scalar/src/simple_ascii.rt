@@ -6,7 +6,7 @@ ghost use Rattle.yaml_base.specs.scalars.Plain.{render_plain};
 ghost use Rattle.yaml_pen.specs.Page.{IsReady, natural};
 ghost use Rattle.yaml_pen.specs.Wrote.{Wrote};
 ghost use Rattle.yaml_scalar.specs.Barred.{is_ordinary};
-ghost use Rattle.yaml_scalar.specs.SimpleAsciiTexts.{IsSimpleAscii, has_simple_ascii_ends, is_simple_ascii};
+ghost use Rattle.yaml_scalar.specs.SimpleAsciiTexts.{IsSimpleAscii, is_simple_ascii};
 ghost use Rattle.yaml_scalar.specs.Width.{limit_where};
 
 use crate::classes::{BREAK, INDICATOR, UNPRINTABLE, WIDE};
@@ -27,16 +27,13 @@ pub fn is_simple_ascii(text: &str) -> bool
     ensures value { result ≡ is_simple_ascii text.now }
     ensures simple_ascii { result ≡ true → IsSimpleAscii text.now }
 {
-    has_simple_ascii_ends(text.as_bytes()) && is_short_run(text, NOT_SIMPLE_ASCII)
-}
-
-/// Returns whether a text begins with a letter or a digit and ends with no space.
-fn has_simple_ascii_ends(bytes: &[u8]) -> bool
-    ensures { result ≡ has_simple_ascii_ends bytes.now }
-{
+    let bytes = text.as_bytes();
     match bytes.len() {
         0 => false,
-        count => is_ordinary_byte(bytes[0]) && bytes[count - 1] != b' ',
+        count => {
+            let ends = is_ordinary_byte(bytes[0]) & (bytes[count - 1] != b' ');
+            ends && is_short_run(text, NOT_SIMPLE_ASCII)
+        }
     }
 }
 

@@ -45,7 +45,7 @@ pub fn select_scalar_style(
         (λ error. (spec.lacks_tag_and_flags tag_written plain_implicit quoted_implicit ≡ true)
         × (error ≡ yaml_error_t.NoTagNorImplicit)) }
 {
-    if lacks_tag_and_flags(tag_written, plain_implicit, quoted_implicit) {
+    if !tag_written && !plain_implicit && !quoted_implicit {
         return Err(yaml_error_t::NoTagNorImplicit);
     }
     let context = Context { flow, simple_key };
@@ -55,12 +55,6 @@ pub fn select_scalar_style(
     let asked = requested_style(must_be_double, style);
     let style = fitting_style(allowed, plain_fits, block_fits, asked);
     Ok((style, is_bare(tag_written, quoted_implicit, style)))
-}
-
-fn lacks_tag_and_flags(tag_written: bool, plain_implicit: bool, quoted_implicit: bool) -> bool
-    ensures { result ≡ spec.lacks_tag_and_flags tag_written plain_implicit quoted_implicit }
-{
-    !tag_written && !plain_implicit && !quoted_implicit
 }
 
 /// Returns whether plain fits: the value allows it in its context and isn't empty in flow or as a simple key, and a tag or the
@@ -95,18 +89,7 @@ fn requested_style(must_be_double: bool, style: yaml_scalar_style_t) -> yaml_sca
     }
 }
 
-/// Returns single quotes where the value allows them, else double quotes.
-fn quoted_style(allowed: &scalar_data_t) -> yaml_scalar_style_t
-    ensures { seen_scalar_style result ≡ spec.quoted_style (seen_data allowed.now) }
-{
-    if allowed.single_quoted_allowed {
-        YAML_SINGLE_QUOTED_SCALAR_STYLE
-    } else {
-        YAML_DOUBLE_QUOTED_SCALAR_STYLE
-    }
-}
-
-/// Returns the style asked for where it fits.
+/// Returns the style asked for where it fits, for plain single quotes where these fit, else double quotes.
 fn fitting_style(
     allowed: &scalar_data_t,
     plain_fits: bool,
@@ -117,7 +100,8 @@ fn fitting_style(
 {
     match asked {
         YAML_PLAIN_SCALAR_STYLE if plain_fits => YAML_PLAIN_SCALAR_STYLE,
-        YAML_PLAIN_SCALAR_STYLE | YAML_SINGLE_QUOTED_SCALAR_STYLE => quoted_style(allowed),
+        YAML_PLAIN_SCALAR_STYLE | YAML_SINGLE_QUOTED_SCALAR_STYLE
+            if allowed.single_quoted_allowed => { YAML_SINGLE_QUOTED_SCALAR_STYLE }
         YAML_LITERAL_SCALAR_STYLE if block_fits => YAML_LITERAL_SCALAR_STYLE,
         YAML_FOLDED_SCALAR_STYLE if block_fits => YAML_FOLDED_SCALAR_STYLE,
         _ => YAML_DOUBLE_QUOTED_SCALAR_STYLE,

@@ -20,13 +20,13 @@ loop-c-preserved c =
           ∙ ap (λ (l : List ℕ). either read (barred_in charset (chars l))) (sym c.chars-chars-in-Some.ensures.rest);
     }
 
-pub returns-then-bars_all-clause-same : goal.returns-then-bars_all-clause-same
-returns-then-bars_all-clause-same c =
+pub returns-then-more-clause-same : goal.returns-then-more-clause-same
+returns-then-more-clause-same c =
     let so_far = c.loop-c.invariant in
     let charset = seen_charset c.args.charset in
     let rest : List ℕ = c.as_str-rest.result.now in
     let more = seen_barred c.with_next-more.result in
-    let p = and_parts (more.flow_plain && more.block_plain && more.single_quoted) more.block (sym c.if-bars_all.ensures) in
+    let p = and_parts (more.flow_plain && more.block_plain && more.single_quoted) more.block c.if-more.true in
     let q = and_parts (more.flow_plain && more.block_plain) more.single_quoted p.0 in
     let r = and_parts more.flow_plain more.block_plain q.0 in
     sym (barred_more charset _ (seen_barred c.loop-c.barred) _ _ rest c.in-Some.c so_far.is_text c.in-Some.ensures.steps.0 c.as_str-rest.ensures so_far.so_far

@@ -8,7 +8,7 @@ returns-in-LineStart c = no_run (stays_at (limit_of c.args.lines.width) c.args.p
 pub returns-in-Folding : goal.returns-in-Folding
 returns-in-Folding c =
     let fits : FitsSigned w32 c.args.lines.width = search rules in
-    rw c.in-Folding.is (rw (c.has_limit.ensures, to_z-of_z w32 c.args.lines.width fits) at c.line_run_after.ensures)
+    rw c.in-Folding.is (rw (c.has_limit_where.ensures, to_z-of_z w32 c.args.lines.width fits) at c.line_run_after.ensures)
 
 pub returns-in-Fixed : goal.returns-in-Fixed
 returns-in-Fixed c = rw c.in-Fixed.is c.line_run_after-in-Fixed.ensures

@@ -12,7 +12,12 @@ returns-in_err-write_break g c =
     (wrote_text_then c.in_ok-write_extra_break.ensures
     (wrote_text_failed (if c.args.goes_on then [] else indentation c.args.indent) c.in_err-write_break.ensures.written))
 
-pub returns : goal.returns
-returns g c =
-    wrote_text_then c.in_ok-write_extra_break.ensures
-    (wrote_text_then c.in_ok-write_break.ensures.written c.write_line_start.ensures)
+pub returns-then-goes_on : goal.returns-then-goes_on
+returns-then-goes_on g c =
+    rw c.if-goes_on.true
+    (wrote_text_then c.in_ok-write_extra_break.ensures (wrote_text_then c.in_ok-write_break.ensures.written c.write_nothing.ensures))
+
+pub returns-else-goes_on : goal.returns-else-goes_on
+returns-else-goes_on g c =
+    rw c.if-goes_on.false
+    (wrote_text_then c.in_ok-write_extra_break.ensures (wrote_text_then c.in_ok-write_break.ensures.written c.write_indentation.ensures))
