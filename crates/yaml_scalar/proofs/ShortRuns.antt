@@ -2,9 +2,9 @@
 use Rattle.yaml_scalar.proofs.Common.{ℕ, ◌≤◌, IsUtf8, Option, None, length, Bool, false, true, List, [], ◌≡◌, take_all, append-nil, ap, sym, ◌∙◌}
 use Rattle.yaml_scalar.proofs.Common.{encodes-chars, list_all, Text, Cursor, Rendered, render_text, double_inside, spaces, IsFreeRun, ImpliesTest}
 use Rattle.yaml_scalar.proofs.Common.{is_unbroken_ascii}
-use Rattle.yaml_scalar.proofs.Common.{written_as, render_steps, most_short, IsShortRun, IsShortLine, stays}
+use Rattle.yaml_scalar.proofs.Common.{written_as, render_steps, most_short, IsShortRun, IsShortLine, stays, stays_where, has_limit, subst}
 use Rattle.std.{proofs.lemmas.Str.encodes-IsAscii, specs.Str.chars}
-use Rattle.yaml_scalar.proofs.{ByteRuns.free_passes, EscapeBytes.plain-ascii, InsideSteps.inside_stays, StaysInLine.line_at}
+use Rattle.yaml_scalar.proofs.{ByteRuns.free_passes, EscapeBytes.plain-ascii, InsideSteps.inside_stays, InsideSteps.ascii_stays, InsideSteps.ascii_stays_plain, StaysInLine.line_at}
 
 -- characters of ASCII are bytes
 plain_bytes : (text : List ℕ) → IsUtf8 text → list_all is_unbroken_ascii (chars text) ≡ true → chars text ≡ text
@@ -31,6 +31,15 @@ short_line_rendered quoted limit indent cursor {text} is =
     ap (λ (t : Text). let l : Rendered = record { text = t; cursor = (render_text text cursor).cursor } in l) (sym (append-nil text))
     ∙ sym (line_at quoted limit indent false 32 text [] cursor is.run.all (λ _. is.room))
     ∙ ap (λ (t : Text). render_steps (written_as quoted) limit indent spaces t cursor) (append-nil text ∙ sym is.run.ascii)
+
+-- such a text between double quotes, where its classes are those of what isn't ASCII too
+pub short_inside : {text : List ℕ} (classes : ℕ) (unicode : Bool) (limit : Option ℕ) (folds : Bool) → folds ≡ has_limit limit
+    → ImpliesTest classes (stays_where false folds)
+    → ((test : ℕ → Bool) → ImpliesTest classes is_unbroken_ascii → ImpliesTest classes test → IsShortRun test text)
+    → IsShortRun (stays unicode limit) text
+short_inside classes unicode limit folds is tells run =
+    run (stays unicode limit) (λ d scalar free. ascii_stays_plain folds d (tells d scalar free))
+    (λ d scalar free. subst (λ (f : Bool). stays_where unicode f d ≡ true) is (ascii_stays unicode folds d (tells d scalar free)))
 
 -- a text between double quotes
 pub short_inside_rendered : (unicode : Bool) (limit : Option ℕ) (indent : ℕ) (cursor : Cursor) {text : List ℕ} → IsShortRun (stays unicode limit) text

@@ -9,7 +9,7 @@ ghost use Rattle.yaml_scalar.specs.Barred.{seen_barred};
 ghost use Rattle.yaml_scalar.specs.ByteClasses.{ImpliesTest};
 ghost use Rattle.yaml_scalar.specs.ScalarData.{ChooseAlike, is_flow, seen_charset, seen_data};
 
-use crate::characters::{is_flow_indicator, is_gap, is_indicator, is_open_ended, is_ordinary};
+use crate::characters::{is_flow_indicator, is_gap, is_indicator, is_ordinary};
 use crate::classes::{BREAK, INDICATOR, UNPRINTABLE, WIDE, free_length, last_of};
 use crate::clean_ascii::is_clean_ascii;
 use yaml_base::{is_ascii, is_break, is_printable, is_space};
@@ -139,7 +139,7 @@ fn begins_like_marker(value: &str) -> bool
 {
     let mut chars = value.chars();
     match (chars.next(), chars.next(), chars.next()) {
-        (Some(a), Some(b), Some(c)) => is_open_ended(a, b, c),
+        (Some(a), Some(b), Some(c)) => ((a == '-') | (a == '.')) & (b == a) & (c == a),
         _ => false,
     }
 }

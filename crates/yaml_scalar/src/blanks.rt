@@ -1,7 +1,6 @@
 //! What literal text takes where blanks are literal.
-ghost use Rattle.std.specs.Prelude.{◌≡◌, ◌==◌, ◌&&◌, not};
+ghost use Rattle.std.specs.Prelude.{◌≡◌, ◌&&◌, not};
 ghost use Rattle.std.specs.Str.{chars};
-ghost use Rattle.yaml_base.specs.Characters as class;
 ghost use Rattle.yaml_base.specs.scalars.Analysis as spec;
 ghost use Rattle.yaml_scalar.specs.ScalarData.{seen_charset};
 

@@ -65,7 +65,10 @@ pub(crate) fn write_header<A: Allocator>(
 {
     pen.put_indicator(&Indicator::spaced(block_indicator(style)))?;
     write_hints(pen, value, best_indent)?;
-    end_header(pen)
+    pen.put_break()?;
+    pen.set_whitespace(true);
+    pen.set_indention(true);
+    Ok(())
 }
 
 /// Returns the open-ended state that a value's header leaves.
@@ -85,16 +88,6 @@ fn block_indicator(style: BlockStyle) -> &'static str
         BlockStyle::Literal => "|",
         BlockStyle::Folded => ">",
     }
-}
-
-fn end_header<A: Allocator>(pen: &mut Pen<A>) -> Result<(), yaml_error_t>
-    requires { IsReady pen.old }
-    ensures { Wrote step.header_end pen.old pen.new result }
-{
-    pen.put_break()?;
-    pen.set_whitespace(true);
-    pen.set_indention(true);
-    Ok(())
 }
 
 fn write_hints<A: Allocator>(

@@ -1,9 +1,7 @@
 //! The lines of literal and folded scalars (YAML 1.1, section 9.3), one character after another.
 ghost use Rattle.std.specs.Prelude.{◌≡◌, ◌≤ℤ◌, pos, true, false};
 ghost use Rattle.std.specs.Str.{chars};
-ghost use Rattle.yaml_base.specs.scalars.Analysis as analysis;
 ghost use Rattle.yaml_base.specs.Characters as class;
-ghost use Rattle.yaml_base.specs.Cursor.{new_line, with_flags};
 ghost use Rattle.yaml_base.specs.scalars.Folded as layout;
 ghost use Rattle.yaml_base.specs.scalars.Lines.{parts};
 ghost use Rattle.yaml_pen.specs.Page.{IsReady, natural};
@@ -17,8 +15,7 @@ ghost use Rattle.yaml_scalar.specs.Width.{limit_of};
 use crate::analysis::begins_with_space;
 use crate::block_header::BlockStyle;
 use crate::runs::{Run, RunEnds, line_run_after};
-use crate::shared::has_limit_where;
-use crate::width::is_past_width;
+use crate::shared::{has_limit_where, may_fold_here};
 use std::alloc::Allocator;
 use yaml_base::{is_break, is_space, yaml_error_t};
 use yaml_pen::Pen;
@@ -96,7 +93,10 @@ fn write_inner<A: Allocator>(
     ensures { Wrote (step.render_inner (limit_of lines.width) (natural lines.indent) place character (chars rest.now)) pen.old pen.new result }
 {
     match place {
-        Place::LineStart => write_first(pen, character, lines.indent),
+        Place::LineStart => {
+            pen.write_indent(lines.indent)?;
+            write_content(pen, character)
+        }
         Place::Folding => {
             if folds(pen, lines.width, character, rest) {
                 write_fold(pen, lines.indent)
@@ -106,21 +106,6 @@ fn write_inner<A: Allocator>(
         }
         Place::Fixed => write_content(pen, character),
     }
-}
-
-/// Writes the first character of a line.
-fn write_first<A: Allocator>(
-    pen: &mut Pen<A>,
-    character: char,
-    indent: i32,
-) -> Result<(), yaml_error_t>
-    requires ready { IsReady pen.old }
-    requires not_negative { pos 0 ≤ℤ indent }
-    requires no_break { class.is_break character ≡ false }
-    ensures { Wrote (step.render_first (natural indent) character) pen.old pen.new result }
-{
-    pen.write_indent(indent)?;
-    write_content(pen, character)
 }
 
 fn write_fold<A: Allocator>(pen: &mut Pen<A>, indent: i32) -> Result<(), yaml_error_t>
@@ -182,7 +167,7 @@ fn run_after(character: char, rest: &str, place: Place, lines: BlockLines) -> Ru
 fn folds<A: Allocator>(pen: &Pen<A>, width: i32, character: char, rest: &str) -> bool
     ensures { result ≡ layout.folds (limit_of width) pen.now.cursor.column character (chars rest.now) }
 {
-    is_space(character) && !begins_with_space(rest) && is_past_width(pen, width)
+    is_space(character) && !begins_with_space(rest) && may_fold_here(pen, true, width)
 }
 
 /// Returns whether the next line, past the breaks that come first, begins without a space.

@@ -37,13 +37,6 @@ pub(crate) fn is_indicator(c: char) -> bool
     )
 }
 
-/// Returns whether three characters are `---` or `...`.
-pub(crate) fn is_open_ended(a: char, b: char, c: char) -> bool
-    ensures { result ≡ (a == 45 || a == 46) && b == a && c == a }
-{
-    (a == '-' || a == '.') && b == a && c == a
-}
-
 /// Returns whether a character is one of those that no plain text in flow holds.
 pub(crate) fn is_flow_indicator(c: char) -> bool
     ensures { result ≡ class.is_among (codes ",?:[]{}") c }

@@ -1,6 +1,5 @@
 //! Scalars between double quotes.
-ghost use Rattle.std.specs.Prelude.{◌≡◌, pos, ◌≤ℤ◌, ◌≤◌, ◌<◌, ◌==◌, ◌||◌, ◌&&◌, ◌∷◌, [], true, false, not, Option, None, Some, Bool, IfOk, length};
-ghost use Rattle.std.specs.List.{list_all};
+ghost use Rattle.std.specs.Prelude.{◌≡◌, pos, ◌≤ℤ◌, ◌≤◌, ◌&&◌, true, false, Option, None, Some, Bool, IfOk, length};
 ghost use Rattle.std.specs.Str.{IsUtf8, chars};
 ghost use Rattle.yaml_base.specs.scalars.Analysis.{begins_with};
 ghost use Rattle.yaml_base.specs.Characters.{is_space};
@@ -10,11 +9,9 @@ ghost use Rattle.yaml_base.specs.reading.ReadDouble.{read_double};
 ghost use Rattle.yaml_pen.specs.Page.{IsReady, natural};
 ghost use Rattle.yaml_pen.specs.Wrote.{Wrote};
 ghost use Rattle.yaml_scalar.specs.ByteClasses.{ImpliesTest};
-ghost use Rattle.yaml_scalar.specs.EscapeBytes.{is_unbroken_ascii};
 ghost use Rattle.yaml_scalar.specs.Batch.{WroteBatch};
 ghost use Rattle.yaml_scalar.specs.ReadsBack.{ReadsBack};
-ghost use Rattle.yaml_scalar.specs.ShortRuns.{IsShortRun};
-ghost use Rattle.yaml_scalar.specs.WholeRuns.{IsRun, has_limit, stays, stays_where};
+ghost use Rattle.yaml_scalar.specs.WholeRuns.{IsRun, stays, stays_where};
 ghost use Rattle.yaml_scalar.specs.Width.{limit_where};
 
 use crate::batched::{BatchBytes, fill_batch};
@@ -59,7 +56,8 @@ pub fn write_double_quoted_scalar<A: Allocator>(
     ensures written { Wrote (spec.render_double_quoted unicode (limit_where allow_breaks width) (natural indent) (chars value.now)) pen.old pen.new result }
     ensures reads { (breaks12 : Bool) → IfOk result (λ _. ReadsBack (read_double breaks12) (chars value.now) pen.old.text pen.new.text) }
 {
-    write_quoted(
+    pen.put_indicator(&Indicator::spaced("\""))?;
+    write_value(
         pen,
         value,
         Quoting {
@@ -68,22 +66,7 @@ pub fn write_double_quoted_scalar<A: Allocator>(
             indent,
             width,
         },
-    )
-}
-
-/// Writes a quote, the value's characters, and a quote.
-fn write_quoted<A: Allocator>(
-    pen: &mut Pen<A>,
-    value: &str,
-    quoting: Quoting,
-) -> Result<(), yaml_error_t>
-    requires ready { IsReady pen.old }
-    requires not_negative { pos 0 ≤ℤ quoting.indent }
-    ensures { Wrote (spec.render_double_quoted quoting.unicode (limit_where quoting.allow_breaks quoting.width) (natural quoting.indent) (chars value.now))
-        pen.old pen.new result }
-{
-    pen.put_indicator(&Indicator::spaced("\""))?;
-    write_value(pen, value, quoting)?;
+    )?;
     pen.put_indicator(&Indicator::tight("\""))
 }
 
@@ -187,17 +170,9 @@ fn write_next<A: Allocator>(
 fn ending_classes(unicode: bool, folds: bool) -> u8
     ensures { ImpliesTest result (stays_where unicode folds) }
 {
-    if unicode {
-        unicode_ending_classes(folds)
-    } else {
-        ascii_ending_classes(folds)
+    if !unicode {
+        return ascii_ending_classes(folds);
     }
-}
-
-/// Returns the classes of bytes that end a run where printable characters past ASCII stand as themselves.
-fn unicode_ending_classes(folds: bool) -> u8
-    ensures { ImpliesTest result (stays_where true folds) }
-{
     if folds {
         BREAK | UNPRINTABLE | ESCAPED | SPACE
     } else {
@@ -224,23 +199,6 @@ fn run_after(before: char, text: &str, quoting: Quoting) -> Run
     run_up_to(before, text, ending_classes(quoting.unicode, folds))
 }
 
-/// Writes the texts of characters that were batched.
-fn write_batch<A: Allocator>(pen: &mut Pen<A>, bytes: &BatchBytes) -> Result<(), yaml_error_t>
-    requires ready { IsReady pen.old }
-    requires plain { list_all is_unbroken_ascii bytes.now.items ≡ true }
-    ensures { Wrote (render_text bytes.now.items) pen.old pen.new result }
-{
-    pen.write_ascii(bytes.as_slice())
-}
-
-/// Returns whether a value is short and stands as it is, wherever its line ends.
-fn is_short(value: &str, quoting: Quoting) -> bool
-    ensures { result ≡ true → IsShortRun (stays quoting.unicode (limit_where quoting.allow_breaks quoting.width)) value.now }
-{
-    let folds = has_limit_where(quoting.allow_breaks, quoting.width);
-    is_short_run(value, ascii_ending_classes(folds))
-}
-
 /// Writes what stands between the quotes.
 fn write_value<A: Allocator>(
     pen: &mut Pen<A>,
@@ -252,7 +210,9 @@ fn write_value<A: Allocator>(
     ensures { Wrote (spec.double_inside quoting.unicode (limit_where quoting.allow_breaks quoting.width) (natural quoting.indent) None (chars value.now))
         pen.old pen.new result }
 {
-    if is_short(value, quoting) {
+    // A short value stands as it is, wherever its line ends.
+    let folds = has_limit_where(quoting.allow_breaks, quoting.width);
+    if is_short_run(value, ascii_ending_classes(folds)) {
         write_short_run(pen, value)
     } else {
         write_inside(pen, value, quoting)
@@ -283,7 +243,7 @@ fn write_escapes<'a, A: Allocator>(
 {
     let mut bytes = BatchBytes::new();
     let next = fill_batch(&mut bytes, before, text, unicode);
-    write_batch(pen, &bytes)?;
+    pen.write_ascii(bytes.as_slice())?;
     Ok(next)
 }
 

@@ -21,7 +21,6 @@ mod short_runs;
 mod simple_ascii;
 mod single_quoted;
 mod style;
-mod width;
 
 pub use analysis::{analyze_for_style, analyze_scalar, holds_break, scalar_data_t};
 pub use blanks::allows_literal;

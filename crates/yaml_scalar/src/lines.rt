@@ -9,14 +9,13 @@ ghost use Rattle.yaml_base.specs.scalars.Plain as layout;
 ghost use Rattle.yaml_pen.specs.Page.{IsReady};
 ghost use Rattle.yaml_pen.specs.Wrote.{Wrote};
 ghost use Rattle.yaml_scalar.specs.LineSteps as steps;
-ghost use Rattle.yaml_scalar.specs.ShortRuns.{IsShortLine};
 ghost use Rattle.yaml_scalar.specs.SimpleAsciiTexts.{IsKnown};
 ghost use Rattle.yaml_scalar.specs.WholeRuns.{HasRoom, IsLineRun};
 ghost use Rattle.yaml_scalar.specs.Width.{limit_where};
 
 use crate::analysis::is_at_end;
 use crate::runs::{Run, line_run_within, short_classes};
-use crate::shared::{has_limit_where, may_fold_here};
+use crate::shared::may_fold_here;
 use crate::short_runs::{is_short_run, write_short_run};
 use std::alloc::Allocator;
 use yaml_base::{is_break, is_space, yaml_error_t};
@@ -89,14 +88,6 @@ fn write_indentation<A: Allocator>(pen: &mut Pen<A>, indent: u32) -> Result<(), 
         pen.put(b' ')?;
     }
     Ok(())
-}
-
-fn write_fold<A: Allocator>(pen: &mut Pen<A>, indent: u32) -> Result<(), yaml_error_t>
-    requires { IsReady pen.old }
-    ensures { Wrote (render_text (class.line_feed ∷ layout.indentation indent)) pen.old pen.new result }
-{
-    pen.put_break()?;
-    write_indentation(pen, indent)
 }
 
 fn write_extra_break<A: Allocator>(pen: &mut Pen<A>, needed: bool) -> Result<(), yaml_error_t>
@@ -178,7 +169,8 @@ fn write_step<A: Allocator>(
     match kind_of(character) {
         CharacterKind::Space => {
             if is_fold(pen, lines, before, rest) {
-                write_fold(pen, lines.indent)
+                pen.put_break()?;
+                write_indentation(pen, lines.indent)
             } else {
                 pen.put(b' ')
             }
@@ -197,7 +189,7 @@ fn write_step<A: Allocator>(
 fn line_room<A: Allocator>(pen: &Pen<A>, lines: Lines) -> usize
     ensures { 0 < result → HasRoom (limit_where lines.allow_breaks lines.width) pen.now.cursor.column result }
 {
-    if !has_limit_where(lines.allow_breaks, lines.width) {
+    if !lines.allow_breaks | (lines.width == i32::MAX) {
         usize::MAX
     } else if lines.width < 0 {
         0
@@ -214,22 +206,7 @@ fn run_after<A: Allocator>(pen: &Pen<A>, character: char, rest: &str, lines: Lin
     line_run_within(character, rest, lines.quoted, room)
 }
 
-/// Returns whether a value is one short line, which stands as it is. An empty value isn't: it would fit even where no column is
-/// left.
-fn is_short_line<A: Allocator>(pen: &Pen<A>, value: &str, lines: Lines) -> bool
-    requires { IsKnown lines.known lines.quoted value.now }
-    ensures { result ≡ true → IsShortLine (limit_where lines.allow_breaks lines.width) lines.quoted pen.now.cursor value.now }
-{
-    value.len() <= line_room(pen, lines)
-        && match lines.known {
-            Known::SimpleAscii => true,
-            Known::Nothing => {
-                !value.is_empty() && is_short_run(value, short_classes(lines.quoted))
-            }
-        }
-}
-
-/// Writes the lines of a value, the flags of the cursor left as they are.
+/// Writes the lines of a value, the flags of the cursor left as they are. A short line stands as it is.
 #[inline(always)]
 pub(crate) fn write_lines<A: Allocator>(
     pen: &mut Pen<A>,
@@ -241,10 +218,20 @@ pub(crate) fn write_lines<A: Allocator>(
     ensures { Wrote (layout.render_runs (steps.written_as lines.quoted) (limit_where lines.allow_breaks lines.width) lines.indent true
         (layout.runs (chars value.now))) pen.old pen.new result }
 {
-    if is_short_line(pen, value, lines) {
-        write_short_run(pen, value)
-    } else {
-        write_runs(pen, value, lines)
+    if value.len() > line_room(pen, lines) {
+        return write_runs(pen, value, lines);
+    }
+    match lines.known {
+        Known::SimpleAscii => write_short_run(pen, value),
+        Known::Nothing => {
+            // An empty value isn't taken for short: it fits even where no column is left.
+            let short = !value.is_empty() & is_short_run(value, short_classes(lines.quoted));
+            if short {
+                write_short_run(pen, value)
+            } else {
+                write_runs(pen, value, lines)
+            }
+        }
     }
 }
 

@@ -1,5 +1,5 @@
 //! Runs of characters that are handed to the pen at once.
-ghost use Rattle.std.specs.Prelude.{◌≡◌, ◌<◌, ◌≤◌, ℕ, Bool, Option, false};
+ghost use Rattle.std.specs.Prelude.{◌<◌, ℕ, Bool, Option, false};
 ghost use Rattle.yaml_base.specs.Cursor.{Cursor};
 ghost use Rattle.yaml_scalar.specs.ByteClasses.{ImpliesTest};
 ghost use Rattle.yaml_scalar.specs.EscapeBytes.{is_unbroken_ascii};
@@ -65,15 +65,6 @@ pub(crate) fn line_run_after(before: char, text: &str, ends: RunEnds) -> Run
     run_up_to(before, text, ending_classes(ends))
 }
 
-/// Returns the run up to the first byte of some classes, at most `room` bytes long.
-fn run_within(before: char, text: &str, classes: u8, room: usize) -> Run
-    ensures run { (test : ℕ → Bool) → ImpliesTest classes test → IsRun test before text.now result.length result.last }
-    ensures within { result.length ≤ room }
-{
-    let (near, _) = text.split_at(text.floor_char_boundary(room));
-    run_up_to(before, near, classes)
-}
-
 /// Returns the next run of a line: to the next space if `room` is 0, else at most `room` bytes.
 pub(crate) fn line_run_within(before: char, text: &str, quote: bool, room: usize) -> Run
     ensures { (limit : Option ℕ) (cursor : Cursor) → (0 < room → HasRoom limit cursor.column room)
@@ -87,6 +78,7 @@ pub(crate) fn line_run_within(before: char, text: &str, quote: bool, room: usize
             space: false,
             quote,
         };
-        run_within(before, text, ending_classes(ends), room)
+        let (near, _) = text.split_at(text.floor_char_boundary(room));
+        run_up_to(before, near, ending_classes(ends))
     }
 }

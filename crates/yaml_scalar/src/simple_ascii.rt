@@ -62,7 +62,7 @@ pub fn write_simple_ascii_scalar<A: Allocator>(
     requires indented { pos 2 ≤ℤ indent }
     ensures { (flow : Bool) → Wrote (render_plain flow (limit_where allow_breaks width) (natural indent) (chars value.now)) pen.old pen.new result }
 {
-    pen.separate()?;
+    pen.separate_if(true)?;
     write_body(
         pen,
         value,

@@ -7,7 +7,6 @@ ghost use Rattle.yaml_base.specs.reading.ReadSingle.{read_single};
 ghost use Rattle.yaml_pen.specs.Page.{IsReady, natural};
 ghost use Rattle.yaml_pen.specs.Wrote.{Wrote};
 ghost use Rattle.yaml_scalar.specs.ReadsBack.{ReadsBack};
-ghost use Rattle.yaml_scalar.specs.SimpleAsciiTexts.{IsKnown};
 ghost use Rattle.yaml_scalar.specs.Width.{limit_where};
 
 use crate::lines::{Known, Lines, write_lines};
@@ -36,7 +35,8 @@ pub fn write_single_quoted_scalar<A: Allocator>(
     ensures reads { (charset : Charset) → allows_single_quoted charset (chars value.now) ≡ true
         → IfOk result (λ _. ReadsBack (read_single charset.breaks12) (chars value.now) pen.old.text pen.new.text) }
 {
-    write_between_quotes(
+    pen.put_indicator(&Indicator::spaced("'"))?;
+    write_lines(
         pen,
         value,
         Lines {
@@ -46,20 +46,6 @@ pub fn write_single_quoted_scalar<A: Allocator>(
             indent: indent as u32,
             width,
         },
-    )
-}
-
-fn write_between_quotes<A: Allocator>(
-    pen: &mut Pen<A>,
-    value: &str,
-    lines: Lines,
-) -> Result<(), yaml_error_t>
-    requires ready { IsReady pen.old }
-    requires quoted { lines.quoted ≡ true }
-    requires known { IsKnown lines.known lines.quoted value.now }
-    ensures { Wrote (render_single_quoted (limit_where lines.allow_breaks lines.width) lines.indent (chars value.now)) pen.old pen.new result }
-{
-    pen.put_indicator(&Indicator::spaced("'"))?;
-    write_lines(pen, value, lines)?;
+    )?;
     pen.put_indicator(&Indicator::tight("'"))
 }

@@ -54,7 +54,9 @@ pub fn select_scalar_style(
     let must_be_double = canonical || (simple_key && allowed.multiline);
     let asked = requested_style(must_be_double, style);
     let style = fitting_style(allowed, plain_fits, block_fits, asked);
-    Ok((style, is_bare(tag_written, quoted_implicit, style)))
+    // A quoted scalar that has no tag and no flag gets the bare tag `!`.
+    let bare = !tag_written & !quoted_implicit & !matches!(style, YAML_PLAIN_SCALAR_STYLE);
+    Ok((style, bare))
 }
 
 /// Returns whether plain fits: the value allows it in its context and isn't empty in flow or as a simple key, and a tag or the
@@ -106,11 +108,4 @@ fn fitting_style(
         YAML_FOLDED_SCALAR_STYLE if block_fits => YAML_FOLDED_SCALAR_STYLE,
         _ => YAML_DOUBLE_QUOTED_SCALAR_STYLE,
     }
-}
-
-/// Returns whether a quoted scalar has no tag and no flag, so that it gets the bare tag `!`.
-fn is_bare(tag_written: bool, quoted_implicit: bool, style: yaml_scalar_style_t) -> bool
-    ensures { result ≡ (not tag_written && not quoted_implicit && not (spec.is_plain (seen_scalar_style style))) }
-{
-    !tag_written && !quoted_implicit && !matches!(style, YAML_PLAIN_SCALAR_STYLE)
 }

@@ -5,8 +5,7 @@ use Rattle.yaml_scalar.proofs.analysis.begins_like_marker.Goals as goal
 pub returns-in-Some-Some-Some : goal.returns-in-Some-Some-Some
 returns-in-Some-Some-Some c =
     let taken = c.in-Some-Some-Some in
-    c.is_open_ended.ensures
-    ∙ marker-of-three _ _ _ _ _ _ _ c.utf8.value (sym c.chars-chars.ensures.rest ∙ taken.ensures.steps.0) taken.ensures'.steps.0 taken.ensures''.steps.0
+    marker-of-three _ _ _ _ _ _ _ c.utf8.value (sym c.chars-chars.ensures.rest ∙ taken.ensures.steps.0) taken.ensures'.steps.0 taken.ensures''.steps.0
 
 pub returns-in_default : goal.returns-in_default
 returns-in_default c =

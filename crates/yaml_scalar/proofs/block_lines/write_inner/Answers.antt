@@ -1,14 +1,22 @@
-use Rattle.yaml_scalar.proofs.Common.{if◌then◌else◌, Bool, chars, ap, sym, ◌∙◌, rules, w32, to_z-of_z, FitsSigned, wrote_as, natural, limit_of}
+use Rattle.yaml_scalar.proofs.Common.{if◌then◌else◌, Bool, chars, ap, sym, ◌∙◌, rules, w32, to_z-of_z, FitsSigned, wrote_as, wrote_then, wrote_failed, wrote_exit, natural, limit_of}
 use Rattle.yaml_scalar.proofs.Common.{render_content, render_inner}
 use Rattle.yaml_scalar.specs.BlockSteps.{render_fold}
 use Rattle.yaml_scalar.specs.declared.block_lines.Place.TheVariants.{Folding}
 use Rattle.yaml_scalar.proofs.block_lines.write_inner.Goals as goal
 
-pub returns-in-LineStart : goal.returns-in-LineStart
-returns-in-LineStart g c =
+pub returns-in_err-write_indent-in-LineStart : goal.returns-in_err-write_indent-in-LineStart
+returns-in_err-write_indent-in-LineStart g c =
     let indent = c.args.lines.indent in
     let fits : FitsSigned w32 indent = search rules in
-    rw c.in-LineStart.is (rw (to_z-of_z w32 indent fits) at c.write_first.ensures)
+    let line = rw (to_z-of_z w32 indent fits) at c.in_err-write_indent-in-LineStart.ensures.written in
+    rw c.in-LineStart.is (wrote_exit c.from_residual.ensures (wrote_failed (render_content c.args.character) line))
+
+pub returns-in_ok-write_indent-in-LineStart : goal.returns-in_ok-write_indent-in-LineStart
+returns-in_ok-write_indent-in-LineStart g c =
+    let indent = c.args.lines.indent in
+    let fits : FitsSigned w32 indent = search rules in
+    let line = rw (to_z-of_z w32 indent fits) at c.in_ok-write_indent-in-LineStart.ensures.written in
+    rw c.in-LineStart.is (wrote_then line c.write_content.ensures)
 
 pub returns-then-folds : goal.returns-then-folds
 returns-then-folds g c =
@@ -35,7 +43,7 @@ returns-else-folds g c =
     rw c.in-Folding.is
     (wrote_as (render_inner (limit_of lines.width) n Folding character (chars c.args.rest.now))
     (ap (λ (b : Bool). if b then render_fold n cursor else render_content character cursor) (sym c.if-folds.false ∙ same))
-    c.write_content.ensures)
+    c.write_content-else-folds.ensures)
 
 pub returns-in-Fixed : goal.returns-in-Fixed
 returns-in-Fixed g c = rw c.in-Fixed.is c.write_content-in-Fixed.ensures

@@ -1,19 +1,30 @@
-use Rattle.yaml_scalar.proofs.Common.{refl}
+use Rattle.yaml_scalar.proofs.Common.{Err, Ok, refl, ap, subst, sym, ◌∙◌, list_any, IsAscii, Text, is_break, render_text, Wrote}
 use Rattle.yaml_scalar.proofs.BatchTexts.{batched_plain, wrote_batch, failed_batched}
+use Rattle.yaml_scalar.proofs.EscapeBytes.{plain-unbroken, plain-ascii}
 use Rattle.yaml_scalar.proofs.double_quoted.write_escapes.Goals as goal
 
-pub write_batch-requires-clause-plain : goal.write_batch-requires-clause-plain
-write_batch-requires-clause-plain g c = batched_plain c.fill_batch-next.ensures.batched
+pub write_ascii-requires-clause-ascii : goal.write_ascii-requires-clause-ascii
+write_ascii-requires-clause-ascii g c =
+    subst IsAscii (sym c.as_slice.ensures.value) (plain-ascii c.fill_batch-next.new.bytes.items (batched_plain c.fill_batch-next.ensures.batched))
 
-pub returns-in_err-write_batch-clause-written : goal.returns-in_err-write_batch-clause-written
-returns-in_err-write_batch-clause-written g c =
-    failed_batched _ c.from_residual.ensures c.fill_batch-next.ensures.batched c.in_err-write_batch.ensures
+pub write_ascii-requires-clause-no_break : goal.write_ascii-requires-clause-no_break
+write_ascii-requires-clause-no_break g c =
+    ap (list_any is_break) c.as_slice.ensures.value
+    ∙ plain-unbroken c.fill_batch-next.new.bytes.items (batched_plain c.fill_batch-next.ensures.batched)
+
+pub returns-in_err-write_ascii-clause-written : goal.returns-in_err-write_ascii-clause-written
+returns-in_err-write_ascii-clause-written g c =
+    failed_batched _ c.from_residual.ensures c.fill_batch-next.ensures.batched
+    (subst (λ (t : Text). Wrote (render_text t) c.args.pen.now c.write_ascii.new.self (Err c.in_err-write_ascii.field-0.0)) c.as_slice.ensures.value
+    c.in_err-write_ascii.ensures.written)
 
 pub returns-clause-written : goal.returns-clause-written
-returns-clause-written g c = wrote_batch c.fill_batch-next.ensures.batched refl refl c.in_ok-write_batch.ensures
+returns-clause-written g c =
+    wrote_batch c.fill_batch-next.ensures.batched refl refl
+    (subst (λ (t : Text). Wrote (render_text t) c.args.pen.now c.write_ascii.new.self (Ok tt)) c.as_slice.ensures.value c.in_ok-write_ascii.ensures.written)
 
-pub write_batch-requires-clause-ready : goal.write_batch-requires-clause-ready
-write_batch-requires-clause-ready g c = c.requires
+pub write_ascii-requires-clause-ready : goal.write_ascii-requires-clause-ready
+write_ascii-requires-clause-ready g c = c.requires
 
 pub returns-clause-is_text : goal.returns-clause-is_text
 returns-clause-is_text g c = c.fill_batch-next.ensures.is_text

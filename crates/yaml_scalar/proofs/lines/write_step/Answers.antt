@@ -1,10 +1,25 @@
-use Rattle.yaml_scalar.proofs.Common.{◌==◌, Bool, false, not, true, ◌&&◌, line_feed, chars, ap, sym, ◌∙◌, Text, is_past_width, render_text, wrote_as, limit_where, seen_kind, written_as}
+use Rattle.yaml_scalar.proofs.Common.{◌==◌, Bool, false, not, true, ◌&&◌, line_feed, chars, ap, sym, ◌∙◌, Text, indentation, is_past_width, render_text, wrote_exit, wrote_text_failed, wrote_text_then, wrote_as, limit_where, seen_kind, written_as}
 use Rattle.yaml_scalar.specs.LineSteps.{render_line_step}
 use Rattle.yaml_scalar.proofs.LineCharacters.{space_text, break_text, other_text}
 use Rattle.yaml_scalar.proofs.lines.write_step.Goals as goal
 
-pub returns-then-is_fold : goal.returns-then-is_fold
-returns-then-is_fold g c =
+pub returns-in_err-put_break-in-Space : goal.returns-in_err-put_break-in-Space
+returns-in_err-put_break-in-Space g c =
+    let lines = c.args.lines in
+    let written = written_as lines.quoted in
+    let limit = limit_where lines.allow_breaks lines.width in
+    let before = seen_kind c.args.before in
+    let rest = chars c.args.rest.now in
+    let cursor = c.args.pen.now.cursor in
+    wrote_exit c.from_residual.ensures
+    (wrote_as (render_line_step written limit lines.indent before c.args.character rest)
+    (ap (λ (t : Text). render_text t cursor)
+    (space_text written (is_past_width limit cursor) true lines.indent before c.args.character rest
+    (ap seen_kind (sym c.in-Space.is) ∙ c.kind_of.ensures) (sym c.if-is_fold.true ∙ c.is_fold.ensures)))
+    (wrote_text_failed (indentation lines.indent) c.in_err-put_break-in-Space.ensures.written))
+
+pub returns-in_ok-put_break-in-Space : goal.returns-in_ok-put_break-in-Space
+returns-in_ok-put_break-in-Space g c =
     let lines = c.args.lines in
     let written = written_as lines.quoted in
     let limit = limit_where lines.allow_breaks lines.width in
@@ -15,7 +30,7 @@ returns-then-is_fold g c =
     (ap (λ (t : Text). render_text t cursor)
     (space_text written (is_past_width limit cursor) true lines.indent before c.args.character rest
     (ap seen_kind (sym c.in-Space.is) ∙ c.kind_of.ensures) (sym c.if-is_fold.true ∙ c.is_fold.ensures)))
-    c.write_fold.ensures
+    (wrote_text_then c.in_ok-put_break-in-Space.ensures.written c.write_indentation.ensures)
 
 pub returns-else-is_fold : goal.returns-else-is_fold
 returns-else-is_fold g c =

@@ -1,9 +1,0 @@
-use Rattle.yaml_scalar.proofs.Common.{false, true, refl}
-use Rattle.yaml_scalar.proofs.ByteRuns.{unicode_tells}
-use Rattle.yaml_scalar.proofs.double_quoted.unicode_ending_classes.Goals as goal
-
-pub returns-then-folds : goal.returns-then-folds
-returns-then-folds c = rw c.if-folds.true (unicode_tells 75 true refl refl refl refl)
-
-pub returns-else-folds : goal.returns-else-folds
-returns-else-folds c = rw c.if-folds.false (unicode_tells 73 false refl refl refl refl)
