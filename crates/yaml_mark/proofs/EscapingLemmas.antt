@@ -3,7 +3,7 @@ use Rattle.yaml_mark.proofs.Common.{suc, ℕ, ◌%◌, ◌+◌, ◌<◌, ◌==�
 use Rattle.yaml_mark.proofs.Common.{slice_index_or as get_or, take, encode_utf8_all as encodes, Bool, cond, false, not, true, ◌||◌, List, [], ◌++◌, ◌∷◌, ◌≢◌}
 use Rattle.yaml_mark.proofs.Common.{refl, ◌≡◌, ne_eqb, lit<, take-append-drop, ⊎_elim, ap, subst, sym, ◌∙◌, arith, cases_lt, and_parts, and_from}
 use Rattle.yaml_mark.proofs.Common.{prefix_len-le-length, encode_ascii, IsCharBoundary-before_ascii, IsUtf8-past_char, encodes-chars, chars_past_char}
-use Rattle.yaml_mark.proofs.Common.{list_all, list_any, position_or_len, IsCharBoundary, chars, Text, is_break, hex_digit, render_text, Indicator}
+use Rattle.yaml_mark.proofs.Common.{list_all, list_any, position_or_len, IsCharBoundary, chars, Text, is_break, hex_digit, render_text}
 use Rattle.yaml_mark.proofs.Common.{is_tag_character, byte_escaped, percent_escaped, suffix_escaped, prefix_escaped, exclamation_mark, IsPrefixRun}
 use Rattle.yaml_mark.proofs.Common.{wrote_text_then, wrote_cut, Wrote}
 use Rattle.yaml_base.proofs.Common.{◌/◌, ◌≤◌, if◌then◌else◌, codes, nat_le, ◌&&◌, leb-true, true≢false, append-nil, inl, inr, not-true, nat_tests}
@@ -13,7 +13,7 @@ use Rattle.std.{proofs.Common.Bor, proofs.Common.Result, proofs.lemmas.List.take
 use Rattle.std.{proofs.lemmas.Str.Ascii.IsAscii-nil, proofs.lemmas.Str.Ascii.IsAscii-cons, specs.List.prefix_len, specs.Str.IsAscii}
 use Rattle.std.proofs.lemmas.Str.{IsUtf8-drop, IsUtf8-from_ascii, IsCharBoundary-end, IsCharBoundary-from_take}
 use lib.Utf8.{encode}
-use Rattle.yaml_base.specs.{Cursor.render_name, Indicators.render_indicator, declared.errors.yaml_error_t.yaml_error_t}
+use Rattle.yaml_base.specs.{Cursor.render_name, declared.errors.yaml_error_t.yaml_error_t}
 use Rattle.yaml_pen.{proofs.Composing.wrote_then, proofs.Composing.wrote_as, specs.Page.Page}
 
 tag_character_is_ascii : (c : ℕ) → is_tag_character c ≡ true → c < 128
@@ -134,11 +134,6 @@ pub content_whole : {before between after : Page} {answer : Result (Unit {0}) ya
     → Wrote (indicator [] need false false) before between (Ok tt) → Wrote (render_text text) between after answer
     → Wrote (content need text) before after answer
 content_whole {before} need text one two = wrote_as (content need text) (render_content need text before.cursor) (wrote_then one two)
-
--- an indicator without an indicator
-pub no_indicator : {symbol other : Indicator} {before after : Page} {answer : Result (Unit {0}) yaml_error_t} → symbol ≡ other
-    → Wrote (render_indicator symbol) before after answer → Wrote (render_indicator other) before after answer
-no_indicator {symbol} {other} {before} {after} {answer} is wrote = subst (λ (s : Indicator). Wrote (render_indicator s) before after answer) is wrote
 
 -- Bytes, one after another.
 

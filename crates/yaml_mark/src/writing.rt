@@ -66,8 +66,11 @@ pub fn write_tag_suffix<A: Allocator>(
     requires ready { IsReady pen.old }
     ensures { Wrote (render_name (percent.suffix_escaped portable (chars suffix.now))) pen.old pen.new result }
 {
-    begin_tight(pen)?;
-    write_escaped(pen, suffix, flow_indicators(portable))
+    begin_tag(pen, false)?;
+    if portable {
+        return write_escaped(pen, suffix, FlowIndicators::Escaped);
+    }
+    write_escaped(pen, suffix, FlowIndicators::Raw)
 }
 
 /// Writes the prefix of a directive, escaped as a tag is, and a space before it where none stands there; `portable`
@@ -80,48 +83,19 @@ pub fn write_tag_prefix<A: Allocator>(
     requires ready { IsReady pen.old }
     ensures { Wrote (render_handle (percent.prefix_escaped portable (chars prefix.now))) pen.old pen.new result }
 {
-    begin_spaced(pen)?;
+    begin_tag(pen, true)?;
     let (run, rest) = prefix.split_at(prefix_run_length(prefix, portable));
     pen.write_run(run)?;
     write_escaped(pen, rest, FlowIndicators::Raw)
 }
 
-// What stands before a tag: a space where one is asked for and none stands there.
+// What stands before a tag: a space where one is asked for and none stands there. What follows ends white space and
+// indentation.
 fn begin_tag<A: Allocator>(pen: &mut Pen<A>, need_whitespace: bool) -> Result<(), yaml_error_t>
     requires ready { IsReady pen.old }
     ensures { Wrote (indicator [] need_whitespace false false) pen.old pen.new result }
 {
-    if need_whitespace {
-        begin_spaced(pen)
-    } else {
-        begin_tight(pen)
-    }
-}
-
-// A space where none stands there.
-fn begin_spaced<A: Allocator>(pen: &mut Pen<A>) -> Result<(), yaml_error_t>
-    requires ready { IsReady pen.old }
-    ensures { Wrote (indicator [] true false false) pen.old pen.new result }
-{
-    pen.put_indicator(&Indicator::spaced(""))
-}
-
-// Nothing: what follows ends white space and indentation.
-fn begin_tight<A: Allocator>(pen: &mut Pen<A>) -> Result<(), yaml_error_t>
-    requires ready { IsReady pen.old }
-    ensures { Wrote (indicator [] false false false) pen.old pen.new result }
-{
-    pen.put_indicator(&Indicator::tight(""))
-}
-
-fn flow_indicators(portable: bool) -> FlowIndicators
-    ensures { are_escaped result ≡ portable }
-{
-    if portable {
-        FlowIndicators::Escaped
-    } else {
-        FlowIndicators::Raw
-    }
+    pen.write_indicator("", need_whitespace, false, false)
 }
 
 // How many bytes of a prefix stand as themselves before the first that doesn't.
