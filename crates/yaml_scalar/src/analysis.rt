@@ -107,16 +107,6 @@ fn ends_word(rest: &str) -> bool
     rest.chars().next().is_none_or(is_gap)
 }
 
-/// Returns whether a break comes next.
-fn begins_with_break(rest: &str) -> bool
-    ensures { result ≡ spec.begins_with class.is_break (chars rest.now) }
-{
-    match rest.chars().next() {
-        Some(c) => is_break(c),
-        None => false,
-    }
-}
-
 /// Returns whether a character can't stand as itself, so that only double quotes can write it.
 pub(crate) fn is_special(c: char, charset: CharacterSet) -> bool
     ensures { result ≡ spec.is_special (seen_charset charset) c }
@@ -206,7 +196,11 @@ fn bars_plain(c: char, rest: &str, charset: CharacterSet, context: Context) -> b
 fn is_trailing_space(c: char, rest: &str) -> bool
     ensures { result ≡ spec.is_trailing_space c (chars rest.now) }
 {
-    is_space(c) && begins_with_break(rest)
+    is_space(c)
+        && match rest.chars().next() {
+            Some(next) => is_break(next),
+            None => false,
+        }
 }
 
 /// Returns whether no single-quoted text holds this character before what follows it.

@@ -1,5 +1,5 @@
 //! The characters that plain text may not hold, or not everywhere, and those that every text may.
-ghost use Rattle.std.specs.Prelude.{◌≡◌, ◌==◌, ◌||◌, ◌&&◌, codes};
+ghost use Rattle.std.specs.Prelude.{◌≡◌, ◌==◌, ◌||◌, codes};
 ghost use Rattle.yaml_base.specs.scalars.Analysis as spec;
 ghost use Rattle.yaml_base.specs.Characters as class;
 ghost use Rattle.yaml_scalar.specs.Barred.{is_ordinary};

@@ -1,5 +1,5 @@
 //! Scalars between double quotes.
-ghost use Rattle.std.specs.Prelude.{◌≡◌, pos, ◌≤ℤ◌, ◌≤◌, ◌&&◌, true, false, Option, None, Some, Bool, IfOk, length};
+ghost use Rattle.std.specs.Prelude.{◌≡◌, pos, ◌≤ℤ◌, ◌≤◌, ◌&&◌, false, Option, None, Some, Bool, IfOk, length};
 ghost use Rattle.std.specs.Str.{IsUtf8, chars};
 ghost use Rattle.yaml_base.specs.scalars.Analysis.{begins_with};
 ghost use Rattle.yaml_base.specs.Characters.{is_space};
@@ -229,24 +229,6 @@ fn begins_with_escape(text: &str, unicode: bool) -> bool
     }
 }
 
-/// Writes the next characters in one call. Returns the last one and the rest.
-fn write_escapes<'a, A: Allocator>(
-    pen: &mut Pen<A>,
-    before: char,
-    text: &'a str,
-    unicode: bool,
-) -> Result<(char, &'a str), yaml_error_t>
-    requires { IsReady pen.old }
-    ensures written { WroteBatch unicode before (chars text.now) pen.old pen.new result }
-    ensures is_text { IfOk result (λ next. IsUtf8 next.1.now) }
-    ensures shorter { IfOk result (λ next. length next.1.now ≤ length text.now) }
-{
-    let mut bytes = BatchBytes::new();
-    let next = fill_batch(&mut bytes, before, text, unicode);
-    pen.write_ascii(bytes.as_slice())?;
-    Ok(next)
-}
-
 /// Writes the next characters in one call if the first needs an escape, else none. Returns the last one and the rest.
 fn write_next_escapes<'a, A: Allocator>(
     pen: &mut Pen<A>,
@@ -259,12 +241,14 @@ fn write_next_escapes<'a, A: Allocator>(
     ensures is_text { IfOk result (λ next. IsUtf8 next.1.now) }
     ensures shorter { IfOk result (λ next. length next.1.now ≤ length text.now) }
 {
-    if begins_with_escape(text, unicode) {
-        write_escapes(pen, before, text, unicode)
-    } else {
+    if !begins_with_escape(text, unicode) {
         pen.write_nothing()?;
-        Ok((before, text))
+        return Ok((before, text));
     }
+    let mut bytes = BatchBytes::new();
+    let next = fill_batch(&mut bytes, before, text, unicode);
+    pen.write_ascii(bytes.as_slice())?;
+    Ok(next)
 }
 
 /// Writes what stands between the quotes: in turn a character, the run after it, and escapes with what is between them.

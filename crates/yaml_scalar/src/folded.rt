@@ -44,24 +44,6 @@ pub fn write_folded_scalar<A: Allocator>(
         → (column : Option ℕ) → Encloses (natural indent) (natural best_indent) column
         → IfOk result (λ _. ReadsBack (read_block charset.breaks12 column) (chars value.now) pen.old.text pen.new.text) }
 {
-    write_folded(pen, value, indent, best_indent, width)?;
-    Ok(open_ended(value))
-}
-
-fn write_folded<A: Allocator>(
-    pen: &mut Pen<A>,
-    value: &str,
-    indent: i32,
-    best_indent: i32,
-    width: i32,
-) -> Result<(), yaml_error_t>
-    requires ready { IsReady pen.old }
-    requires some { is_empty (chars value.now) ≡ false }
-    requires least { pos 2 ≤ℤ best_indent }
-    requires most { best_indent ≤ℤ pos 9 }
-    requires within { best_indent ≤ℤ indent }
-    ensures { Wrote (render_folded (limit_of width) (natural indent) (natural best_indent) (chars value.now)) pen.old pen.new result }
-{
     write_header(pen, value, best_indent, BlockStyle::Folded)?;
     write_lines(
         pen,
@@ -71,5 +53,6 @@ fn write_folded<A: Allocator>(
             indent,
             width,
         },
-    )
+    )?;
+    Ok(open_ended(value))
 }

@@ -14,7 +14,7 @@ ghost use Rattle.yaml_scalar.specs.WholeRuns.{HasRoom, IsLineRun};
 ghost use Rattle.yaml_scalar.specs.Width.{limit_where};
 
 use crate::analysis::is_at_end;
-use crate::runs::{Run, line_run_within, short_classes};
+use crate::runs::{Run, RunEnds, ending_classes, line_run_after, run_up_to, short_classes};
 use crate::shared::may_fold_here;
 use crate::short_runs::{is_short_run, write_short_run};
 use std::alloc::Allocator;
@@ -198,12 +198,26 @@ fn line_room<A: Allocator>(pen: &Pen<A>, lines: Lines) -> usize
     }
 }
 
-// A `'` ends a run where it is doubled, and so does a space that may become a fold.
+// Returns the run that follows a character: to the next space where no column is left, else as many bytes at most as
+// columns are. A `'` ends it where it is doubled.
 fn run_after<A: Allocator>(pen: &Pen<A>, character: char, rest: &str, lines: Lines) -> Run
     ensures { IsLineRun (limit_where lines.allow_breaks lines.width) lines.quoted pen.now.cursor character rest.now result.length result.last }
 {
     let room = line_room(pen, lines);
-    line_run_within(character, rest, lines.quoted, room)
+    if room == 0 {
+        let ends = RunEnds {
+            space: true,
+            quote: lines.quoted,
+        };
+        line_run_after(character, rest, ends)
+    } else {
+        let ends = RunEnds {
+            space: false,
+            quote: lines.quoted,
+        };
+        let (near, _) = rest.split_at(rest.floor_char_boundary(room));
+        run_up_to(character, near, ending_classes(ends))
+    }
 }
 
 /// Writes the lines of a value, the flags of the cursor left as they are. A short line stands as it is.

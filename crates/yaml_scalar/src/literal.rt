@@ -40,23 +40,6 @@ pub fn write_literal_scalar<A: Allocator>(
         → (column : Option ℕ) → Encloses (natural indent) (natural best_indent) column
         → IfOk result (λ _. ReadsBack (read_block charset.breaks12 column) (chars value.now) pen.old.text pen.new.text) }
 {
-    write_literal(pen, value, indent, best_indent)?;
-    Ok(open_ended(value))
-}
-
-fn write_literal<A: Allocator>(
-    pen: &mut Pen<A>,
-    value: &str,
-    indent: i32,
-    best_indent: i32,
-) -> Result<(), yaml_error_t>
-    requires ready { IsReady pen.old }
-    requires some { is_empty (chars value.now) ≡ false }
-    requires least { pos 2 ≤ℤ best_indent }
-    requires most { best_indent ≤ℤ pos 9 }
-    requires within { best_indent ≤ℤ indent }
-    ensures { Wrote (render_literal (natural indent) (natural best_indent) (chars value.now)) pen.old pen.new result }
-{
     write_header(pen, value, best_indent, BlockStyle::Literal)?;
     write_lines(
         pen,
@@ -66,5 +49,6 @@ fn write_literal<A: Allocator>(
             indent,
             width: i32::MAX,
         },
-    )
+    )?;
+    Ok(open_ended(value))
 }

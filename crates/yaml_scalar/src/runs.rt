@@ -1,9 +1,8 @@
 //! Runs of characters that are handed to the pen at once.
-ghost use Rattle.std.specs.Prelude.{◌<◌, ℕ, Bool, Option, false};
-ghost use Rattle.yaml_base.specs.Cursor.{Cursor};
+ghost use Rattle.std.specs.Prelude.{ℕ, Bool, false};
 ghost use Rattle.yaml_scalar.specs.ByteClasses.{ImpliesTest};
 ghost use Rattle.yaml_scalar.specs.EscapeBytes.{is_unbroken_ascii};
-ghost use Rattle.yaml_scalar.specs.WholeRuns.{HasRoom, IsLineRun, IsRun, stays_in_line};
+ghost use Rattle.yaml_scalar.specs.WholeRuns.{IsRun, stays_in_line};
 
 use crate::classes::{APOSTROPHE, BREAK, SPACE, WIDE, free_length, last_of};
 
@@ -22,7 +21,7 @@ pub(crate) struct RunEnds {
 }
 
 /// Returns the classes of bytes that end a run.
-fn ending_classes(ends: RunEnds) -> u8
+pub(crate) fn ending_classes(ends: RunEnds) -> u8
     ensures { ImpliesTest result (stays_in_line ends.space ends.quote) }
 {
     match (ends.space, ends.quote) {
@@ -63,22 +62,4 @@ pub(crate) fn line_run_after(before: char, text: &str, ends: RunEnds) -> Run
     ensures { IsRun (stays_in_line ends.space ends.quote) before text.now result.length result.last }
 {
     run_up_to(before, text, ending_classes(ends))
-}
-
-/// Returns the next run of a line: to the next space if `room` is 0, else at most `room` bytes.
-pub(crate) fn line_run_within(before: char, text: &str, quote: bool, room: usize) -> Run
-    ensures { (limit : Option ℕ) (cursor : Cursor) → (0 < room → HasRoom limit cursor.column room)
-        → IsLineRun limit quote cursor before text.now result.length result.last }
-{
-    if room == 0 {
-        let ends = RunEnds { space: true, quote };
-        line_run_after(before, text, ends)
-    } else {
-        let ends = RunEnds {
-            space: false,
-            quote,
-        };
-        let (near, _) = text.split_at(text.floor_char_boundary(room));
-        run_up_to(before, near, ending_classes(ends))
-    }
 }

@@ -5,10 +5,10 @@ ghost use Rattle.std.specs.Str.{chars};
 ghost use Rattle.yaml_base.specs.scalars.Plain.{render_plain};
 ghost use Rattle.yaml_pen.specs.Page.{IsReady, natural};
 ghost use Rattle.yaml_pen.specs.Wrote.{Wrote};
-ghost use Rattle.yaml_scalar.specs.Barred.{is_ordinary};
 ghost use Rattle.yaml_scalar.specs.SimpleAsciiTexts.{IsSimpleAscii, is_simple_ascii};
 ghost use Rattle.yaml_scalar.specs.Width.{limit_where};
 
+use crate::characters::is_ordinary;
 use crate::classes::{BREAK, INDICATOR, UNPRINTABLE, WIDE};
 use crate::lines::{Known, Lines};
 use crate::plain::write_body;
@@ -31,17 +31,10 @@ pub fn is_simple_ascii(text: &str) -> bool
     match bytes.len() {
         0 => false,
         count => {
-            let ends = is_ordinary_byte(bytes[0]) & (bytes[count - 1] != b' ');
+            let ends = is_ordinary(bytes[0] as char) & (bytes[count - 1] != b' ');
             ends && is_short_run(text, NOT_SIMPLE_ASCII)
         }
     }
-}
-
-/// Returns whether a byte is a letter or a digit.
-fn is_ordinary_byte(byte: u8) -> bool
-    ensures { result ≡ is_ordinary byte }
-{
-    matches!(byte, b'a'..=b'z' | b'A'..=b'Z' | b'0'..=b'9')
 }
 
 /// Writes a simple ASCII text as a plain scalar: as `write_plain_scalar` does, in flow or not, without looking at its

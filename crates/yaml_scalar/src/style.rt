@@ -1,5 +1,5 @@
 //! The style that is chosen for a scalar, and whether the bare tag `!` is written.
-ghost use Rattle.std.specs.Prelude.{◌≡◌, MatchResult, true, false, ◌||◌, ◌&&◌, not};
+ghost use Rattle.std.specs.Prelude.{◌≡◌, MatchResult, true, false, ◌||◌, ◌&&◌};
 ghost use Rattle.yaml_base.specs.Seen.{seen_scalar_style};
 ghost use Rattle.yaml_base.specs.scalars.Style as spec;
 ghost use Rattle.yaml_scalar.specs.ScalarData.{seen_choice, seen_data};

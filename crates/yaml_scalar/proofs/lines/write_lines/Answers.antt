@@ -1,5 +1,5 @@
-use Rattle.yaml_scalar.proofs.Common.{◌<◌, ℕ, List, length, false, ◌≡◌, arith, nat_tests, subst, sym, ◌∙◌, and_parts, not-true, chars, spaces, wrote_as, written_as}
-use Rattle.yaml_scalar.proofs.Common.{render_steps, limit_where, stays_in_line, IsShortLine}
+use Rattle.yaml_scalar.proofs.Common.{◌<◌, ℕ, List, length, false, not, true, ◌≡◌, arith, nat_tests, subst, sym, ◌∙◌, and_parts, not-true, chars, spaces}
+use Rattle.yaml_scalar.proofs.Common.{wrote_as, written_as, render_steps, limit_where, stays_in_line, IsShortLine}
 use Rattle.yaml_scalar.proofs.{LinesWritten.wrote_runs, ShortRuns.short_line_rendered, StaysInLine.room_less}
 use Rattle.yaml_scalar.proofs.{SimpleAsciiTexts.simple_ascii_some, SimpleAsciiTexts.simple_ascii_line}
 use Rattle.yaml_scalar.specs.declared.lines.Known.{Known}
@@ -49,7 +49,7 @@ returns-then-short g c =
     let limit = limit_where lines.allow_breaks lines.width in
     let value : List ℕ = c.args.value.now in
     let cursor = c.args.pen.now.cursor in
-    let is = and_parts _ _ c.if-short.true in
+    let is : (not c.is_empty.result ≡ true) × (c.is_short_run.result ≡ true) = and_parts _ _ c.if-short.true in
     let some : 0 < length value = grind (arith, nat_tests, sym c.is_empty.ensures ∙ not-true _ is.0) in
     let line : IsShortLine limit lines.quoted cursor value =
     record {
