@@ -27,24 +27,15 @@ impl<A: Allocator> Pen<A> {
         requires not_negative { pos 0 ≤ℤ indent }
         ensures written { Wrote (new_line (natural indent)) self.old self.new result }
     {
-        self.go_to_line(indent as u32)?;
+        let at = indent as u32;
+        if self.starts_at_once(at) {
+            self.write_line_start(at)?;
+        } else {
+            self.break_and_indent(at)?;
+        }
         self.set_whitespace(true);
         self.set_indention(true);
         Ok(())
-    }
-
-    // The line's start, the cursor's flags left as they are.
-    #[inline(always)]
-    fn go_to_line(&mut self, at: u32) -> Result<(), yaml_error_t>
-        requires ready { IsReady self.old }
-        requires below { at < 2147483648 }
-        ensures written { Wrote (line_begun at) self.old self.new result }
-    {
-        if self.starts_at_once(at) {
-            self.write_line_start(at)
-        } else {
-            self.break_and_indent(at)
-        }
     }
 
     // Whether a break is needed here, and is LF, one byte as the spaces are. A setting of ANY is taken for LF.
