@@ -108,7 +108,11 @@ impl<A: Allocator> Pen<A> {
         ensures written { Wrote (render_indicator (seen_indicator_row indicator.now)) self.old self.new result }
     {
         self.separate_if(indicator.needs_space)?;
-        self.write_indicator_text(indicator.text)?;
+        // Most indicators are one byte, which is a store.
+        match indicator.text.as_bytes() {
+            [byte] => self.put(*byte)?,
+            _ => self.write_run(indicator.text)?,
+        }
         self.set_whitespace(indicator.leaves_space);
         self.set_indention(self.indention() & indicator.keeps_indention);
         Ok(())
@@ -131,18 +135,6 @@ impl<A: Allocator> Pen<A> {
             self.put(b' ')
         } else {
             self.write_nothing()
-        }
-    }
-
-    // Most indicators are one byte, which is a store.
-    fn write_indicator_text(&mut self, text: &str) -> Result<(), yaml_error_t>
-        requires ready { IsReady self.old }
-        requires no_break { list_any is_break (chars text.now) ≡ false }
-        ensures written { Wrote (render_text (chars text.now)) self.old self.new result }
-    {
-        match text.as_bytes() {
-            [byte] => self.put(*byte),
-            _ => self.write_run(text),
         }
     }
 }
