@@ -5,7 +5,7 @@ ghost use Rattle.yaml_base.specs.Cursor.{render_text, breaks_line, new_line};
 ghost use Rattle.yaml_base.specs.Settings.{line_feed_break};
 ghost use Rattle.yaml_pen.specs.Page.{IsReady, has_bom, natural};
 ghost use Rattle.yaml_pen.specs.Wrote.{Wrote};
-ghost use Rattle.yaml_pen.specs.Lines.{line_begun, render_line_break, spaces_to};
+ghost use Rattle.yaml_pen.specs.Lines.{line_begun, spaces_to};
 
 use crate::pen::{Pen, has_bom};
 use std::alloc::Allocator;
@@ -90,21 +90,12 @@ impl<A: Allocator> Pen<A> {
         requires below { at < 2147483648 }
         ensures written { Wrote (line_begun at) self.old self.new result }
     {
-        self.break_line(at)?;
-        self.write_spaces_to(at)
-    }
-
-    // Breaks the line where a new line at this column needs it.
-    fn break_line(&mut self, at: u32) -> Result<(), yaml_error_t>
-        requires ready { IsReady self.old }
-        requires below { at < 2147483648 }
-        ensures written { Wrote (render_line_break at) self.old self.new result }
-    {
         if self.breaks_line(at) {
-            self.put_break()
+            self.put_break()?;
         } else {
-            self.write_nothing()
+            self.write_nothing()?;
         }
+        self.write_spaces_to(at)
     }
 
     fn breaks_line(&self, at: u32) -> bool
