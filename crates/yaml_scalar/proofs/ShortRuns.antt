@@ -4,7 +4,8 @@ use Rattle.yaml_scalar.proofs.Common.{encodes-chars, list_all, Text, Cursor, Ren
 use Rattle.yaml_scalar.proofs.Common.{is_unbroken_ascii}
 use Rattle.yaml_scalar.proofs.Common.{written_as, render_steps, most_short, IsShortRun, IsShortLine, stays, stays_where, has_limit, subst}
 use Rattle.std.{proofs.lemmas.Str.encodes-IsAscii, specs.Str.chars}
-use Rattle.yaml_scalar.proofs.{ByteRuns.free_passes, EscapeBytes.plain-ascii, InsideSteps.inside_stays, InsideSteps.ascii_stays, InsideSteps.ascii_stays_plain, StaysInLine.line_at}
+use Rattle.yaml_scalar.proofs.{ByteRuns.free_passes, EscapeBytes.plain-ascii, InsideSteps.inside_stays, InsideSteps.ascii_stays}
+use Rattle.yaml_scalar.proofs.{InsideSteps.ascii_stays_plain, StaysInLine.line_at}
 
 -- characters of ASCII are bytes
 plain_bytes : (text : List ℕ) → IsUtf8 text → list_all is_unbroken_ascii (chars text) ≡ true → chars text ≡ text

@@ -1,4 +1,5 @@
-use Rattle.yaml_scalar.proofs.Common.{if◌then◌else◌, Bool, chars, ap, sym, ◌∙◌, rules, w32, to_z-of_z, FitsSigned, wrote_as, wrote_then, wrote_failed, wrote_exit, natural, limit_of}
+use Rattle.yaml_scalar.proofs.Common.{if◌then◌else◌, Bool, chars, ap, sym, ◌∙◌, rules, w32, to_z-of_z, FitsSigned, wrote_as, wrote_then, wrote_failed}
+use Rattle.yaml_scalar.proofs.Common.{wrote_exit, natural, limit_of}
 use Rattle.yaml_scalar.proofs.Common.{render_content, render_inner}
 use Rattle.yaml_scalar.specs.BlockSteps.{render_fold}
 use Rattle.yaml_scalar.specs.declared.block_lines.Place.TheVariants.{Folding}

@@ -1,4 +1,5 @@
-use Rattle.yaml_scalar.proofs.Common.{◌==◌, Bool, false, not, true, ◌&&◌, line_feed, chars, ap, sym, ◌∙◌, Text, indentation, is_past_width, render_text, wrote_exit, wrote_text_failed, wrote_text_then, wrote_as, limit_where, seen_kind, written_as}
+use Rattle.yaml_scalar.proofs.Common.{◌==◌, Bool, false, not, true, ◌&&◌, line_feed, chars, ap, sym, ◌∙◌, Text, indentation, is_past_width, render_text}
+use Rattle.yaml_scalar.proofs.Common.{wrote_exit, wrote_text_failed, wrote_text_then, wrote_as, limit_where, seen_kind, written_as}
 use Rattle.yaml_scalar.specs.LineSteps.{render_line_step}
 use Rattle.yaml_scalar.proofs.LineCharacters.{space_text, break_text, other_text}
 use Rattle.yaml_scalar.proofs.lines.write_step.Goals as goal
@@ -56,8 +57,8 @@ returns-in-Break g c =
     let cursor = c.args.pen.now.cursor in
     wrote_as (render_line_step written limit lines.indent before c.args.character rest)
     (ap (λ (t : Text). render_text t cursor)
-    (break_text written (is_past_width limit cursor) (c.args.character == line_feed && not c.is_same_kind.result) c.begins_kind-goes_on.result lines.indent before
-    c.args.character rest (ap seen_kind (sym c.in-Break.is) ∙ c.kind_of.ensures)
+    (break_text written (is_past_width limit cursor) (c.args.character == line_feed && not c.is_same_kind.result) c.begins_kind-goes_on.result lines.indent
+    before c.args.character rest (ap seen_kind (sym c.in-Break.is) ∙ c.kind_of.ensures)
     (ap (λ (same : Bool). c.args.character == line_feed && not same) c.is_same_kind.ensures) c.begins_kind-goes_on.ensures))
     c.write_line_break.ensures
 

@@ -55,12 +55,14 @@ returns-in_err-write_lines-clause-written g c =
 
 pub returns-in_err-write_lines-clause-open_ended : goal.returns-in_err-write_lines-clause-open_ended
 returns-in_err-write_lines-clause-open_ended g c =
-    IfOk-from_err c.from_residual-in_err-write_lines.result (λ (open_ended : ℤ). open_ended ≡ pos (header_open_ended (chars c.args.value.now))) c.from_residual-in_err-write_lines.ensures.0
+    IfOk-from_err c.from_residual-in_err-write_lines.result (λ (open_ended : ℤ). open_ended ≡ pos (header_open_ended (chars c.args.value.now)))
+    c.from_residual-in_err-write_lines.ensures.0
 
 pub returns-in_err-write_lines-clause-reads : goal.returns-in_err-write_lines-clause-reads
 returns-in_err-write_lines-clause-reads g c charset allowed column enclosing =
     IfOk-from_err c.from_residual-in_err-write_lines.result
-    (λ _. ReadsBack (read_block charset.breaks12 column) (chars c.args.value.now) c.args.pen.now.text c.write_lines.new.pen.text) c.from_residual-in_err-write_lines.ensures.0
+    (λ _. ReadsBack (read_block charset.breaks12 column) (chars c.args.value.now) c.args.pen.now.text c.write_lines.new.pen.text)
+    c.from_residual-in_err-write_lines.ensures.0
 
 pub returns-clause-written : goal.returns-clause-written
 returns-clause-written g c =

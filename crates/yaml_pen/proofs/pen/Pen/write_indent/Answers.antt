@@ -9,14 +9,16 @@ use Rattle.yaml_pen.proofs.pen.Pen.write_indent.Goals.{then-starts_at_once+in_ok
 pub returns-in_err-write_line_start : goal.returns-in_err-write_line_start
 returns-in_err-write_line_start g c = record {
   written =
-      let line : Wrote (line_begun (natural c.args.indent)) c.args.self.now c.write_line_start.new.self (Err c.in_err-write_line_start.field-0.0) = search rules in
+      let line : Wrote (line_begun (natural c.args.indent)) c.args.self.now c.write_line_start.new.self
+      (Err c.in_err-write_line_start.field-0.0) = search rules in
       wrote_exit c.from_residual.ensures (wrote_failed_as (new_line (natural c.args.indent)) refl line);
 }
 
 pub returns-in_err-break_and_indent : goal.returns-in_err-break_and_indent
 returns-in_err-break_and_indent g c = record {
   written =
-      let line : Wrote (line_begun (natural c.args.indent)) c.args.self.now c.break_and_indent.new.self (Err c.in_err-break_and_indent.field-0.0) = search rules in
+      let line : Wrote (line_begun (natural c.args.indent)) c.args.self.now c.break_and_indent.new.self
+      (Err c.in_err-break_and_indent.field-0.0) = search rules in
       wrote_exit c.from_residual-in_err-break_and_indent.ensures (wrote_failed_as (new_line (natural c.args.indent)) refl line);
 }
 
