@@ -6,7 +6,7 @@ ghost use Rattle.yaml_base.specs.Event.{scalar};
 ghost use Rattle.yaml_base.specs.Meaning.{has_scalar_texts};
 ghost use Rattle.yaml_base.specs.Seen.{seen_event, seen_text};
 ghost use Rattle.yaml_emitter.specs.BorrowedTexts.{CopiesText, seen_name, seen_scalar};
-ghost use Rattle.yaml_emitter.specs.EmitsEvent.{EmitsScalar, WroteAlone, result_of_answer};
+ghost use Rattle.yaml_emitter.specs.EmitsEvent.{EmitsScalar, result_of_answer};
 ghost use Rattle.yaml_emitter.specs.Queue.{are_ready_by_one_more};
 
 use crate::emit::yaml_emitter_emit;
@@ -65,7 +65,8 @@ pub fn yaml_emitter_emit_scalar<A: Allocator + Copy>(
         if let Err(error) = emitter.write_before_scalar() {
             return ScalarAnswer::Taken(Err(error));
         }
-        return ScalarAnswer::Taken(emitter.machine.give_scalar(content));
+        let answer = emitter.machine.scalar(content);
+        return ScalarAnswer::Taken(emitter.machine.keep_error(answer));
     }
     wait_behind(emitter, content)
 }
@@ -91,15 +92,6 @@ fn wait_behind<A: Allocator + Copy>(
 impl<A: Allocator + Copy> Machine<A> {
     fn allocator(&self) -> A {
         self.alloc
-    }
-
-    /// Writes a scalar where no event waits.
-    fn give_scalar(&mut self, content: &ScalarContent) -> Result<(), yaml_error_t>
-        requires no_error { self.old.error ≡ None }
-        ensures { WroteAlone self.old (scalar (seen_scalar content.now)) result self.new }
-    {
-        let answer = self.scalar(content);
-        self.keep_error(answer)
     }
 }
 

@@ -1,10 +1,10 @@
 //! What is refused in an event's own content: names, tags, flags, directives.
 
-ghost use Rattle.std.specs.Prelude.{◌≡◌, Bool, None, chars, option_and_then, if◌then◌else◌};
+ghost use Rattle.std.specs.Prelude.{◌≡◌, Bool, None, chars, if◌then◌else◌};
 ghost use Rattle.yaml_base.specs.Errors.{refused};
 ghost use Rattle.yaml_base.specs.Event.{CollectionStyle, scalar};
 ghost use Rattle.yaml_base.specs.Refusal.{name_or_tag_fault, properties_fault};
-ghost use Rattle.yaml_base.specs.Tags.{alias_fault, anchor_fault, tag_fault};
+ghost use Rattle.yaml_base.specs.Tags.{tag_fault};
 ghost use Rattle.yaml_emitter.specs.BorrowedTexts.{seen_collection, seen_name, seen_scalar};
 ghost use Rattle.yaml_emitter.specs.NodeEvents.{start_of_kind};
 
@@ -42,33 +42,13 @@ fn check_properties(
 ) -> Result<(), yaml_error_t>
     ensures { refused result ≡ properties_fault (seen_name anchor.entry) (if tag_written then seen_name tag.entry else None) }
 {
-    check_anchor(anchor)?;
-    if tag_written { check_tag(tag) } else { Ok(()) }
-}
-
-fn check_anchor(anchor: Option<&str>) -> Result<(), yaml_error_t>
-    ensures { refused result ≡ option_and_then anchor_fault (seen_name anchor.entry) }
-{
-    let alias = false;
-    match anchor {
-        Some(name) => analyze_anchor(name, alias),
-        None => Ok(()),
+    if let Some(name) = anchor {
+        let alias = false;
+        analyze_anchor(name, alias)?;
     }
-}
-
-pub(crate) fn check_alias(name: &str) -> Result<(), yaml_error_t>
-    ensures { refused result ≡ alias_fault (chars name.now) }
-{
-    let alias = true;
-    analyze_anchor(name, alias)
-}
-
-fn check_tag(tag: Option<&str>) -> Result<(), yaml_error_t>
-    ensures { refused result ≡ option_and_then tag_fault (seen_name tag.entry) }
-{
     match tag {
-        Some(tag) => check_tag_text(tag),
-        None => Ok(()),
+        Some(tag) if tag_written => check_tag_text(tag),
+        _ => Ok(()),
     }
 }
 

@@ -11,12 +11,12 @@ ghost use Rattle.yaml_emitter.specs.Moves.{Moves};
 ghost use Rattle.yaml_emitter.specs.Promises.{HasAllBytes, Promised};
 ghost use Rattle.yaml_emitter.specs.Queue.{StandsLast, is_head_ready, seen_next};
 ghost use Rattle.yaml_emitter.specs.State.{KeepsGiven, KeepsSet, with_all_taken};
-ghost use Rattle.yaml_emitter.specs.EmitsEvent.{Settles, WroteAlone, WroteWaiting, kept_error};
+ghost use Rattle.yaml_emitter.specs.EmitsEvent.{Settles, WroteWaiting, kept_error};
 ghost use Rattle.yaml_emitter.specs.StandsAfter.{FailedReady, StandsAfter};
 
 use crate::emitter::yaml_emitter_t;
 use crate::machine::Machine;
-use crate::queue::{closes_at_once, first_and_rest, is_ready, needs_no_waiting, nothing_waits};
+use crate::queue::{closes_at_once, first_and_rest, is_ready, needs_no_waiting};
 use std::alloc::Allocator;
 use yaml_base::{yaml_error_t, yaml_event_t};
 
@@ -50,7 +50,9 @@ pub fn yaml_emitter_emit<A: Allocator + Copy>(
         return Err(error);
     }
     if needs_no_waiting(&emitter.queue, &event) {
-        return emitter.machine.give(&event);
+        let empty = false;
+        let answer = emitter.machine.process(&event, empty);
+        return emitter.machine.keep_error(answer);
     }
     emitter.queue.push_reserved(event);
     Ok(())
@@ -124,7 +126,7 @@ impl<A: Allocator + Copy> yaml_emitter_t<A> {
         requires output { self.old.has_output ≡ true }
         ensures { (last : Event) → StandsLast (seen_next next.entry) last → Settles self.old last result self.new }
     {
-        if nothing_waits(&self.queue) {
+        if self.queue.as_slice().is_empty() {
             return Ok(());
         }
         self.write_queue(next)
@@ -162,17 +164,6 @@ impl<A: Allocator + Copy> yaml_emitter_t<A> {
 }
 
 impl<A: Allocator + Copy> Machine<A> {
-    /// Writes an event that needn't wait, where none waits. An error is kept for good.
-    fn give(&mut self, event: &yaml_event_t<A>) -> Result<(), yaml_error_t>
-        requires no_error { self.old.error ≡ None }
-        requires ready { is_head_ready (seen_event event.now ∷ []) ≡ true }
-        ensures { WroteAlone self.old (seen_event event.now) result self.new }
-    {
-        let empty = false;
-        let answer = self.process(event, empty);
-        self.keep_error(answer)
-    }
-
     /// Keeps the error of a call, where it has one, for good. Returns what the call returned.
     pub(crate) fn keep_error(
         &mut self,

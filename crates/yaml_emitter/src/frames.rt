@@ -10,7 +10,7 @@ ghost use Rattle.yaml_emitter.specs.Nesting.{advanced};
 ghost use Rattle.yaml_emitter.specs.NodeEvents.{end_of_kind};
 ghost use Rattle.yaml_emitter.specs.Stages.{seen_stage};
 
-use crate::place::{Frame, Place};
+use crate::place::{Frame, Place, Role};
 use crate::stage::Stage;
 use std::alloc::Allocator;
 use std::marker::Model;
@@ -90,7 +90,13 @@ impl<A: Allocator> Frames<A> {
     {
         match &mut self.innermost {
             Some(frame) => {
-                frame.place.role = frame.place.role.after(simple);
+                // What the next node is.
+                frame.place.role = match frame.place.role {
+                    Role::Root => Role::Root,
+                    Role::Item { .. } => Role::Item { first: false },
+                    Role::Key { .. } => Role::Value { simple },
+                    Role::Value { .. } => Role::Key { first: false },
+                };
                 Stage::Node
             }
             None => Stage::DocumentEnd,

@@ -1,11 +1,11 @@
 //! The machine: it writes one event after another, and knows what may come next.
 
-ghost use Rattle.std.specs.Prelude.{◌≡◌, ◌||◌, IfOk, IfErr, None, [], not, is_some};
+ghost use Rattle.std.specs.Prelude.{◌≡◌, IfOk, IfErr, None, []};
 ghost use Rattle.yaml_pen.specs.Page.{IsUntouched, all_taken, encoded, output_left};
 ghost use Rattle.yaml_pen.specs.Wrote.{Flushed};
 ghost use Rattle.yaml_emitter.specs.Given.{seen_settings};
 ghost use Rattle.yaml_emitter.specs.StandsAfter.{failed_by};
-ghost use Rattle.yaml_emitter.specs.State.{is_at_stream, new_machine};
+ghost use Rattle.yaml_emitter.specs.State.{new_machine};
 
 use crate::effective::EffectiveSettings;
 use crate::frames::Frames;
@@ -75,16 +75,6 @@ impl<A: Allocator> Machine<A> {
         ensures { result ≡ self.now.error }
     {
         self.error
-    }
-
-    /// Returns whether the encoding was set, or the stream has begun.
-    pub(crate) fn knows_encoding(&self) -> bool
-        ensures { result ≡ (is_some self.now.given.encoding || not (is_at_stream self.now.stage)) }
-    {
-        match self.stage {
-            Stage::Stream => self.given.encoding != YAML_ANY_ENCODING,
-            _ => true,
-        }
     }
 
     /// Returns the flushed bytes not yet taken; none where nothing is written.

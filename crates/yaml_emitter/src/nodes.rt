@@ -21,7 +21,7 @@ ghost use Rattle.yaml_emitter.specs.Reach.{most_column};
 ghost use Rattle.yaml_emitter.specs.SimpleAsciiScalars.{StandsPlain};
 ghost use Rattle.yaml_emitter.specs.WrittenPieces.{piece_at};
 
-use crate::check::{check_alias, check_collection_names, check_scalar_names};
+use crate::check::{check_collection_names, check_scalar_names};
 use crate::machine::Machine;
 use crate::place::{Frame, Place, Role};
 use crate::stage::Stage;
@@ -37,6 +37,7 @@ use yaml_base::{
     CollectionKind, YAML_FLOW_MAPPING_STYLE, YAML_FLOW_SEQUENCE_STYLE, yaml_error_t,
     yaml_mapping_style_t, yaml_scalar_style_t, yaml_sequence_style_t,
 };
+use yaml_mark::analyze_anchor;
 use yaml_pen::Pen;
 
 impl<A: Allocator + Copy> Machine<A> {
@@ -132,7 +133,8 @@ impl<A: Allocator + Copy> Machine<A> {
     pub(crate) fn alias(&mut self, name: &str) -> Result<(), yaml_error_t>
         ensures { (empty : Bool) → Processed (alias (chars name.now)) empty self.old self.new result }
     {
-        check_alias(name)?;
+        let alias = true;
+        analyze_anchor(name, alias)?;
         if !self.is_at_node() {
             return Err(self.stage.refusal());
         }
@@ -255,34 +257,6 @@ fn lacks_flag(content: &ScalarContent, canonical: bool) -> bool
     tag.is_none() && !content.plain_implicit && !content.quoted_implicit
 }
 
-/// Returns what a scalar's event holds; its tag may be left out in plain style, and in others.
-pub(crate) fn scalar_content<'a, A: Allocator>(
-    anchor: &'a Option<String<A>>,
-    tag: &'a Option<String<A>>,
-    value: &'a String<A>,
-    implicit: (bool, bool),
-    style: yaml_scalar_style_t,
-) -> ScalarContent<'a>
-    ensures { seen_scalar result
-        ≡ record {
-          anchor = option_map seen_text anchor.now;
-          tag = option_map seen_text tag.now;
-          value = seen_text value.now;
-          plain_implicit = implicit.0;
-          quoted_implicit = implicit.1;
-          style = seen_scalar_style style;
-        } }
-{
-    ScalarContent {
-        anchor: borrowed_text(anchor),
-        tag: borrowed_text(tag),
-        value: value.as_str(),
-        plain_implicit: implicit.0,
-        quoted_implicit: implicit.1,
-        style,
-    }
-}
-
 pub(crate) fn is_flow_sequence(style: yaml_sequence_style_t) -> bool
     ensures { result ≡ asks_flow (seen_sequence_style style) }
 {
@@ -332,7 +306,8 @@ fn opened_frame<A: Allocator>(
         } }
     ensures nested { line_column (seen_frame result).place.column ≤ line_column site.now.place.column + 9 }
 {
-    let undents = site.place.role.is_in_mapping() && !site.settings.indented_sequences;
+    let in_mapping = matches!(site.place.role, Role::Key { .. } | Role::Value { .. });
+    let undents = in_mapping && !site.settings.indented_sequences;
     let undented = matches!(kind, CollectionKind::Sequence) && undents;
     let column = entries_column(pen, site.settings, &site.place, in_flow, undented);
     Frame {

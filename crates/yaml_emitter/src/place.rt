@@ -33,20 +33,14 @@ pub(crate) struct Frame {
 
 impl Role {
     ghost use Rattle.std.specs.Prelude.{◌≡◌, if◌then◌else◌};
-    ghost use Rattle.yaml_base.specs.Layout.{is_in_mapping, is_key};
-    ghost use Rattle.yaml_base.specs.Steps.{is_first, is_item, role_after};
+    ghost use Rattle.yaml_base.specs.Layout.{is_key};
+    ghost use Rattle.yaml_base.specs.Steps.{is_first, is_item};
     ghost use Rattle.yaml_emitter.specs.Places.{is_mapping, seen_role};
 
     pub(crate) fn is_key(self) -> bool
         ensures { result ≡ is_key (seen_role self) }
     {
         matches!(self, Role::Key { .. })
-    }
-
-    pub(crate) fn is_in_mapping(self) -> bool
-        ensures { result ≡ is_in_mapping (seen_role self) }
-    {
-        matches!(self, Role::Key { .. } | Role::Value { .. })
     }
 
     /// Returns whether a collection may end here: a mapping ends in place of a key, a sequence in place of an item.
@@ -67,18 +61,6 @@ impl Role {
         match self {
             Role::Item { first } | Role::Key { first } => first,
             _ => false,
-        }
-    }
-
-    /// Returns what the node after one is, which may have been a simple key.
-    pub(crate) fn after(self, simple: bool) -> Role
-        ensures { seen_role result ≡ role_after (seen_role self) simple }
-    {
-        match self {
-            Role::Root => Role::Root,
-            Role::Item { .. } => Role::Item { first: false },
-            Role::Key { .. } => Role::Value { simple },
-            Role::Value { .. } => Role::Key { first: false },
         }
     }
 }

@@ -14,10 +14,11 @@ ghost use Rattle.yaml_emitter.specs.WrittenPieces.{piece_at, seen_open_ended};
 use crate::directives::next_directives;
 use crate::effective::EffectiveSettings;
 use crate::machine::Machine;
-use crate::nodes::{collection_content, is_flow_mapping, is_flow_sequence, scalar_content};
+use crate::nodes::{collection_content, is_flow_mapping, is_flow_sequence};
 use crate::stage::Stage;
 use crate::writing::{
-    OpenEnded, StartContent, write_document_end, write_document_start, write_stream_end,
+    OpenEnded, ScalarContent, StartContent, borrowed_text, document_end_atoms,
+    write_closing_marker, write_document_atoms, write_document_start,
 };
 use std::alloc::Allocator;
 use std::mem;
@@ -49,13 +50,19 @@ impl<A: Allocator + Copy> Machine<A> {
                 plain_implicit,
                 quoted_implicit,
                 style,
-            } => self.scalar(&scalar_content(
-                anchor,
-                tag,
-                value,
-                (*plain_implicit, *quoted_implicit),
-                *style,
-            )),
+            } => {
+                let anchor = borrowed_text(anchor);
+                let tag = borrowed_text(tag);
+                let content = ScalarContent {
+                    anchor,
+                    tag,
+                    value: value.as_str(),
+                    plain_implicit: *plain_implicit,
+                    quoted_implicit: *quoted_implicit,
+                    style: *style,
+                };
+                self.scalar(&content)
+            }
             _ => self.process_other(event, empty),
         }
     }
@@ -189,7 +196,7 @@ fn flush_document_end<A: Allocator>(
     ensures written { (open_ended : ℕ) → Wrote (piece_at (document_end_piece implicit) open_ended) pen.old pen.new result }
     ensures flushed_whole { OnOk result (pen.new.output ≡ encoded pen.new) }
 {
-    write_document_end(pen, settings, implicit)?;
+    write_document_atoms(pen, settings, document_end_atoms(implicit))?;
     pen.flush()
 }
 
@@ -202,7 +209,8 @@ fn flush_stream_end<A: Allocator>(
     ensures written { Wrote (piece_at stream_end_piece (seen_open_ended open_ended)) pen.old pen.new result }
     ensures flushed_whole { OnOk result (pen.new.output ≡ encoded pen.new) }
 {
-    write_stream_end(pen, settings, open_ended)?;
+    // The last document may still be open.
+    write_closing_marker(pen, settings, open_ended.keeps_breaks())?;
     pen.flush()
 }
 

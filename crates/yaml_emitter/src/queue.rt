@@ -17,18 +17,6 @@ use yaml_base::yaml_event_t::{
     YAML_STREAM_END_EVENT, YAML_STREAM_START_EVENT,
 };
 
-fn begins<A: Allocator>(event: &yaml_event_t<A>) -> bool
-    ensures { result ≡ is_start (seen_event event.now) }
-{
-    matches!(
-        event,
-        YAML_STREAM_START_EVENT { .. }
-            | YAML_DOCUMENT_START_EVENT { .. }
-            | YAML_SEQUENCE_START_EVENT { .. }
-            | YAML_MAPPING_START_EVENT { .. }
-    )
-}
-
 fn ends<A: Allocator>(event: &yaml_event_t<A>) -> bool
     ensures { result ≡ is_end (seen_event event.now) }
 {
@@ -59,12 +47,13 @@ fn open_behind<A: Allocator>(before: usize, event: &yaml_event_t<A>) -> Option<u
     requires { before + 1 < 2 ^ 64 }
     ensures { result ≡ open_behind before (seen_event event.now) }
 {
-    if begins(event) {
-        Some(before + 1)
-    } else if ends(event) {
-        before.checked_sub(1)
-    } else {
-        Some(before)
+    match event {
+        YAML_STREAM_START_EVENT { .. }
+        | YAML_DOCUMENT_START_EVENT { .. }
+        | YAML_SEQUENCE_START_EVENT { .. }
+        | YAML_MAPPING_START_EVENT { .. } => Some(before + 1),
+        _ if ends(event) => before.checked_sub(1),
+        _ => Some(before),
     }
 }
 
@@ -98,13 +87,6 @@ pub(crate) fn is_ready<A: Allocator>(
     followers(event).saturating_sub(1) <= rest.len() || closes(rest, next)
 }
 
-/// Returns whether no event waits.
-pub(crate) fn nothing_waits<A: Allocator>(queue: &WaitingEvents<A>) -> bool
-    ensures { result ≡ (length queue.now.items == 0) }
-{
-    queue.as_slice().is_empty()
-}
-
 /// Returns whether no event waits, and this one can be written whatever follows it.
 pub(crate) fn needs_no_waiting<A: Allocator>(
     queue: &WaitingEvents<A>,
@@ -112,7 +94,7 @@ pub(crate) fn needs_no_waiting<A: Allocator>(
 ) -> bool
     ensures { result ≡ (length queue.now.items == 0 && awaited (seen_event event.now) == 0) }
 {
-    nothing_waits(queue) && followers(event) == 0
+    queue.is_empty() && followers(event) == 0
 }
 
 /// Returns whether one more event makes every queued one ready.

@@ -12,8 +12,9 @@ ghost use Rattle.yaml_emitter.specs.State.{knows_encoding};
 
 use crate::emitter::yaml_emitter_t;
 use crate::settings::Quotes;
+use crate::stage::Stage;
 use std::alloc::Allocator;
-use yaml_base::{yaml_break_t, yaml_encoding_t, yaml_error_t};
+use yaml_base::{YAML_ANY_ENCODING, yaml_break_t, yaml_encoding_t, yaml_error_t};
 
 /// Consumes the emitter and its output.
 pub fn yaml_emitter_delete<A: Allocator>(emitter: yaml_emitter_t<A>) {
@@ -182,7 +183,10 @@ impl<A: Allocator> yaml_emitter_t<A> {
     pub fn encoding_known(&self) -> bool
         ensures { result ≡ knows_encoding self.now }
     {
-        self.machine.knows_encoding()
+        match self.machine.stage {
+            Stage::Stream => self.machine.given.encoding != YAML_ANY_ENCODING,
+            _ => true,
+        }
     }
 
     /// Returns whether the stream was opened as a whole, for documents to be dumped into it; an output is then set.

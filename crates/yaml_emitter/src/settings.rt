@@ -4,7 +4,6 @@ ghost use Rattle.std.specs.Prelude.{◌≡◌, ◌≤◌, pos, ◌≤ℤ◌, IsS
 ghost use Rattle.yaml_base.specs.Settings.{effective, effective_encoding, effective_indent, effective_width, line_feed_break, nothing_given};
 ghost use Rattle.yaml_base.specs.Seen.{seen_encoding, seen_break};
 ghost use Rattle.yaml_emitter.specs.Given.{seen_width, seen_settings, seen_effective};
-ghost use Rattle.yaml_emitter.specs.Given as spec;
 
 use crate::effective::EffectiveSettings;
 use yaml_base::{
@@ -98,12 +97,6 @@ fn width_of(given: Option<i32>, indent: u32) -> i32
     }
 }
 
-fn is_double(quotes: Quotes) -> bool
-    ensures { result ≡ spec.is_double quotes }
-{
-    matches!(quotes, Quotes::Double)
-}
-
 /// Returns the line break in force: ANY is taken for LF.
 fn break_of(given: yaml_break_t) -> yaml_break_t
     ensures { seen_break result ≡ Some (unwrap_or (seen_break given) line_feed_break) }
@@ -139,7 +132,7 @@ impl Settings {
             encoding: encoding_of(self.encoding, of_stream),
             canonical: self.canonical,
             unicode: self.unicode,
-            double_quotes: is_double(self.quotes),
+            double_quotes: matches!(self.quotes, Quotes::Double),
             indent,
             width: width_of(self.width, indent),
             line_break: break_of(self.line_break),

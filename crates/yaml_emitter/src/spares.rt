@@ -38,7 +38,10 @@ impl<A: Allocator> SpareTexts<A> {
         let second = self.second.take();
         match mem::replace(&mut self.first, second) {
             Some(spare) => filled(spare, text),
-            None => new_copy(alloc, text),
+            None => match String::with_capacity(alloc, text.len().max(LEAST_BYTES)) {
+                Ok(room) => filled(room, text),
+                Err(_) => Err(yaml_error_t::Memory),
+            },
         }
     }
 
@@ -65,6 +68,7 @@ impl<A: Allocator> SpareTexts<A> {
         }
     }
 
+    /// Keeps the text of a scalar, unless it takes too much memory.
     fn keep_text(&mut self, event: yaml_event_t<A>) {
         match event {
             YAML_SCALAR_EVENT {
@@ -75,31 +79,16 @@ impl<A: Allocator> SpareTexts<A> {
             } => {
                 drop(anchor);
                 drop(tag);
-                self.keep(value);
+                if value.capacity() > MOST_BYTES {
+                    drop(value);
+                } else if self.first.is_none() {
+                    self.first = Some(value);
+                } else {
+                    self.second = Some(value);
+                }
             }
             other => drop(other),
         }
-    }
-
-    /// Keeps a text, unless it takes too much memory.
-    fn keep(&mut self, text: String<A>) {
-        if text.capacity() > MOST_BYTES {
-            drop(text);
-        } else if self.first.is_none() {
-            self.first = Some(text);
-        } else {
-            self.second = Some(text);
-        }
-    }
-}
-
-/// Returns a copy of a text, in memory of its own.
-fn new_copy<A: Allocator>(alloc: A, text: &str) -> Result<String<A>, yaml_error_t>
-    ensures { CopiesText (chars text.now) result }
-{
-    match String::with_capacity(alloc, text.len().max(LEAST_BYTES)) {
-        Ok(room) => filled(room, text),
-        Err(_) => Err(yaml_error_t::Memory),
     }
 }
 

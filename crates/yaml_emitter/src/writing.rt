@@ -21,7 +21,7 @@ pub(crate) use contents::{
     written_scalar_tag,
 };
 pub(crate) use directives::{StartContent, write_document_start};
-pub(crate) use documents::{write_document_end, write_stream_end};
+pub(crate) use documents::{document_end_atoms, write_closing_marker, write_document_atoms};
 pub(crate) use nodes::{
     entries_column, is_written_in_flow, write_alias, write_collection_end, write_collection_start,
 };

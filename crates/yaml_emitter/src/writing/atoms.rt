@@ -1,12 +1,11 @@
 //! Atoms: what stands before and around the texts of nodes, and in the lines of documents.
 
-ghost use Rattle.std.specs.Prelude.{◌≡◌, ◌≤◌, ◌≤ℤ◌, pos, false, ◌||◌};
-ghost use Rattle.yaml_base.specs.Cursor as layout;
+ghost use Rattle.std.specs.Prelude.{◌≡◌, ◌≤◌, false};
 ghost use Rattle.yaml_base.specs.Cursor.{new_line};
 ghost use Rattle.yaml_base.specs.Layout.{flow_break, line_column};
 ghost use Rattle.yaml_pen.specs.Page.{IsReady};
 ghost use Rattle.yaml_pen.specs.Wrote.{Wrote};
-ghost use Rattle.yaml_emitter.specs.Given.{seen_effective, seen_width};
+ghost use Rattle.yaml_emitter.specs.Given.{seen_effective};
 ghost use Rattle.yaml_emitter.specs.Places.{seen_place};
 ghost use Rattle.yaml_emitter.specs.Reach.{most_column};
 ghost use Rattle.yaml_emitter.specs.WrittenAtoms.{render_atom, render_atoms, atom_breaks, some_atom_breaks};
@@ -108,23 +107,11 @@ pub(crate) fn write_flow_line<A: Allocator>(
     requires { IsReady pen.old }
     ensures { Wrote (flow_break (seen_effective settings.now) place.now.column) pen.old pen.new result }
 {
-    if needs_flow_line(pen, settings) {
+    let past_width = settings.width != i32::MAX && pen.column() > settings.width;
+    let due = settings.canonical || past_width;
+    if due {
         write_new_line(pen, place.line_column())
     } else {
         pen.write_nothing()
     }
-}
-
-fn needs_flow_line<A: Allocator>(pen: &Pen<A>, settings: &EffectiveSettings) -> bool
-    ensures { result ≡ (settings.now.canonical || layout.is_past_width (seen_width settings.now.width) pen.now.cursor) }
-{
-    settings.canonical || is_line_full(pen, settings.width)
-}
-
-/// Returns whether the column is past the width, which isn't negative; `i32::MAX` is never passed.
-fn is_line_full<A: Allocator>(pen: &Pen<A>, width: i32) -> bool
-    requires { pos 0 ≤ℤ width }
-    ensures { result ≡ layout.is_past_width (seen_width width) pen.now.cursor }
-{
-    width != i32::MAX && pen.column() > width
 }

@@ -1,21 +1,20 @@
 //! Lines outside nodes: the markers of documents and the words of directives (YAML 1.1, sections 7.1 to 7.4).
 
-ghost use Rattle.std.specs.Prelude.{◌≡◌, ◌==◌, ℕ, Option, Some, option_map, false};
+ghost use Rattle.std.specs.Prelude.{◌≡◌, Option, Some, option_map, false};
 ghost use Rattle.yaml_base.specs.Cursor.{Cursor};
-ghost use Rattle.yaml_base.specs.Layout.{render_closing_marker, render_if, render_document_marker, document_end_piece, stream_end_piece, root_place};
+ghost use Rattle.yaml_base.specs.Layout.{render_closing_marker, render_if, render_document_marker, root_place};
 ghost use Rattle.yaml_base.specs.Layout.{render_version};
 ghost use Rattle.yaml_base.specs.Seen.{seen_version};
 ghost use Rattle.yaml_base.specs.Settings.{Effective};
 ghost use Rattle.yaml_pen.specs.Page.{IsReady};
 ghost use Rattle.yaml_pen.specs.Wrote.{Wrote};
 ghost use Rattle.yaml_emitter.specs.Given.{seen_effective};
-ghost use Rattle.yaml_emitter.specs.WrittenPieces.{render_document_end, piece_at, seen_open_ended};
+ghost use Rattle.yaml_emitter.specs.WrittenPieces.{render_document_end};
 ghost use Rattle.yaml_emitter.specs.WrittenAtoms.{render_atoms, some_atom_breaks};
 
 use crate::effective::EffectiveSettings;
 use crate::writing::atoms::{Atom, Atoms, write_atoms};
 use crate::writing::indicators::IndicatorKind;
-use crate::writing::open_ended::OpenEnded;
 use crate::writing::site::Site;
 use std::alloc::Allocator;
 use yaml_base::{yaml_error_t, yaml_version_directive_t};
@@ -40,19 +39,8 @@ pub(crate) fn write_document_atoms<A: Allocator>(
     write_atoms(pen, &outside, atoms)
 }
 
-/// Writes the end of a document.
-pub(crate) fn write_document_end<A: Allocator>(
-    pen: &mut Pen<A>,
-    settings: &EffectiveSettings,
-    implicit: bool,
-) -> Result<(), yaml_error_t>
-    requires { IsReady pen.old }
-    ensures { (open_ended : ℕ) → Wrote (piece_at (document_end_piece implicit) open_ended) pen.old pen.new result }
-{
-    write_document_atoms(pen, settings, document_end_atoms(implicit))
-}
-
-fn document_end_atoms(implicit: bool) -> Atoms<'static>
+/// Returns the atoms of the end of a document.
+pub(crate) fn document_end_atoms(implicit: bool) -> Atoms<'static>
     ensures whole { some_atom_breaks result ≡ false }
     ensures rendered { (s : Effective) (cursor : Cursor) → render_atoms s root_place result cursor ≡ render_document_end implicit cursor }
 {
@@ -65,18 +53,6 @@ fn document_end_atoms(implicit: bool) -> Atoms<'static>
             Atom::Line,
         )
     }
-}
-
-/// Writes the end of a stream, after which a last document may still be open.
-pub(crate) fn write_stream_end<A: Allocator>(
-    pen: &mut Pen<A>,
-    settings: &EffectiveSettings,
-    open_ended: OpenEnded,
-) -> Result<(), yaml_error_t>
-    requires { IsReady pen.old }
-    ensures { Wrote (piece_at stream_end_piece (seen_open_ended open_ended)) pen.old pen.new result }
-{
-    write_closing_marker(pen, settings, open_ended.keeps_breaks())
 }
 
 /// Writes `...` on a line of its own, where it is asked for.

@@ -25,7 +25,7 @@ use crate::place::{Frame, Place};
 use crate::writing::atoms::write_atoms;
 use crate::writing::contents::CollectionContent;
 use crate::writing::places::{flow_end_atoms, write_place};
-use crate::writing::properties::{alias_atoms, has_properties, write_properties};
+use crate::writing::properties::{alias_atoms, write_properties};
 use crate::writing::site::Site;
 use crate::writing::spelling::SpelledTag;
 use std::alloc::Allocator;
@@ -69,12 +69,11 @@ pub(crate) fn write_lead<A: Allocator>(
         pen.old pen.new result }
 {
     write_place(pen, site)?;
-    if has_properties(anchor, tag, bare) {
-        let apart = *site;
-        write_properties(pen, &apart, anchor, tag, bare)
-    } else {
-        Ok(())
+    if anchor.is_none() && tag.is_none() && !bare {
+        return Ok(());
     }
+    let apart = *site;
+    write_properties(pen, &apart, anchor, tag, bare)
 }
 
 /// Writes a collection's start at its place, its tag spelled so; its brackets come with the next event.

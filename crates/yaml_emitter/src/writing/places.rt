@@ -147,7 +147,7 @@ fn write_block_place<A: Allocator>(
     match (place.role, simple) {
         (Role::Root, _) => pen.write_nothing(),
         (Role::Item { .. }, _) => write_line_and_indicator(pen, place.line_column(), BlockEntry),
-        (Role::Key { .. }, true) => write_line_alone(pen, place.line_column()),
+        (Role::Key { .. }, true) => write_new_line(pen, place.line_column()),
         (Role::Key { .. }, false) => write_line_and_indicator(pen, place.line_column(), BlockKey),
         (Role::Value { simple: true }, _) => write_indicator(pen, SimpleValue),
         (Role::Value { simple: false }, _) => write_line_and_indicator(
@@ -170,15 +170,6 @@ fn write_line_and_indicator<A: Allocator>(
 {
     write_new_line(pen, column)?;
     write_indicator(pen, atom)
-}
-
-/// Writes a new line at a column, without an atom.
-fn write_line_alone<A: Allocator>(pen: &mut Pen<A>, column: u32) -> Result<(), yaml_error_t>
-    requires ready { IsReady pen.old }
-    requires reach { column ≤ most_column }
-    ensures { Wrote (λ cursor. render_then (new_line column cursor) render_nothing) pen.old pen.new result }
-{
-    write_new_line(pen, column)
 }
 
 /// Returns the atoms of the end of a collection in flow: where nothing stands between the brackets, the opening one

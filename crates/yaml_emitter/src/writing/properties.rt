@@ -1,7 +1,7 @@
 //! Anchors, aliases and tags (YAML 1.1, sections 8.1, 8.2 and 8.4).
 
-ghost use Rattle.std.specs.Prelude.{◌≡◌, Bool, Some, None, chars, false, ◌&&◌};
-ghost use Rattle.yaml_base.specs.Cursor.{Cursor, render_nothing, render_then};
+ghost use Rattle.std.specs.Prelude.{◌≡◌, None, chars, false, ◌&&◌};
+ghost use Rattle.yaml_base.specs.Cursor.{Cursor, render_then};
 ghost use Rattle.yaml_base.specs.Layout.{Place, render_anchor, render_alias};
 ghost use Rattle.yaml_base.specs.Settings.{Effective};
 ghost use Rattle.yaml_pen.specs.Page.{IsReady};
@@ -19,14 +19,6 @@ use crate::writing::spelling::SpelledTag;
 use std::alloc::Allocator;
 use yaml_base::yaml_error_t;
 use yaml_pen::Pen;
-
-/// Returns whether an anchor, a tag or the bare tag is written.
-pub(crate) fn has_properties(anchor: Option<&str>, tag: Option<SpelledTag>, bare: bool) -> bool
-    ensures { result ≡ false → (portable : Bool) (cursor : Cursor)
-        → render_then (render_anchor (seen_name anchor.entry) cursor) (render_spelled_tag portable (seen_tag tag.entry) bare) ≡ render_nothing cursor }
-{
-    anchor.is_some() || tag.is_some() || bare
-}
 
 /// Writes a node's anchor and its tag, or the bare tag.
 pub(crate) fn write_properties<A: Allocator>(

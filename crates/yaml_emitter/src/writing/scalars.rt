@@ -8,8 +8,6 @@ ghost use Rattle.yaml_base.specs.Layout.{allowed_under, charset_of, choice_of, s
 ghost use Rattle.yaml_base.specs.Event.{scalar_tag};
 ghost use Rattle.yaml_base.specs.Seen.{seen_scalar_style};
 ghost use Rattle.yaml_base.specs.Settings as in_force;
-ghost use Rattle.yaml_base.specs.Places.{is_root};
-ghost use Rattle.yaml_base.specs.scalars.BlockHeader as layout;
 ghost use Rattle.yaml_base.specs.scalars.Style.{is_literal, lacks_tag_and_flags, requested_style};
 ghost use Rattle.yaml_pen.specs.Page.{IsReady};
 ghost use Rattle.yaml_scalar.specs.ScalarData.{ChooseAlike, seen_choice, seen_data};
@@ -168,18 +166,12 @@ fn style_asked(site: &Site, content: &ScalarContent) -> yaml_scalar_style_t
         ≡ style_asked_at (seen_effective site.now.settings.now) (seen_place site.now.place) (seen_scalar content.now) }
 {
     match content.style {
-        YAML_LITERAL_SCALAR_STYLE | YAML_FOLDED_SCALAR_STYLE if bars_block(site, content.value) => {
-            YAML_DOUBLE_QUOTED_SCALAR_STYLE
-        }
+        YAML_LITERAL_SCALAR_STYLE | YAML_FOLDED_SCALAR_STYLE
+            if site.place.column.is_none()
+                && site.settings.portable
+                && begins_blank(content.value) => YAML_DOUBLE_QUOTED_SCALAR_STYLE,
         style => style,
     }
-}
-
-/// Returns whether the place bars block styles: in portable mode, at the root, where the header would have a digit.
-fn bars_block(site: &Site, value: &str) -> bool
-    ensures { result ≡ (is_root (seen_place site.now.place) && (seen_effective site.now.settings.now).portable && layout.begins_blank (chars value.now)) }
-{
-    site.place.column.is_none() && site.settings.portable && begins_blank(value)
 }
 
 /// Returns whether U+2028 and U+2029 are escaped: with the line breaks of YAML 1.2, and in portable mode.

@@ -1,17 +1,16 @@
 //! Scalars that stand plain as they are, known by their values without an analysis (YAML 1.1, section 9.1.3).
 
-ghost use Rattle.std.specs.Prelude.{◌≡◌, ℕ, List, true, not, chars, is_some};
+ghost use Rattle.std.specs.Prelude.{◌≡◌, ℕ, List, true, chars};
 ghost use Rattle.yaml_base.specs.Event.{TagDirective, plain};
 ghost use Rattle.yaml_base.specs.Layout.{scalar_piece};
-ghost use Rattle.yaml_base.specs.Seen.{seen_scalar_style};
 ghost use Rattle.yaml_pen.specs.Page.{IsReady};
 ghost use Rattle.yaml_pen.specs.Wrote.{Wrote};
 ghost use Rattle.yaml_scalar.specs.SimpleAsciiTexts.{IsSimpleAscii};
-ghost use Rattle.yaml_emitter.specs.BorrowedTexts.{seen_name, seen_scalar};
+ghost use Rattle.yaml_emitter.specs.BorrowedTexts.{seen_scalar};
 ghost use Rattle.yaml_emitter.specs.Given.{seen_effective};
 ghost use Rattle.yaml_emitter.specs.Places.{seen_place};
 ghost use Rattle.yaml_emitter.specs.ScalarTexts.{text_at};
-ghost use Rattle.yaml_emitter.specs.SimpleAsciiScalars.{StandsPlain, asks_plain, is_asked_plain};
+ghost use Rattle.yaml_emitter.specs.SimpleAsciiScalars.{StandsPlain, is_asked_plain};
 ghost use Rattle.yaml_emitter.specs.WrittenPieces.{piece_at};
 
 use crate::effective::EffectiveSettings;
@@ -20,9 +19,7 @@ use crate::writing::nodes::write_lead;
 use crate::writing::site::Site;
 use crate::writing::styles::line_indent;
 use std::alloc::Allocator;
-use yaml_base::{
-    YAML_ANY_SCALAR_STYLE, YAML_PLAIN_SCALAR_STYLE, yaml_error_t, yaml_scalar_style_t,
-};
+use yaml_base::{YAML_ANY_SCALAR_STYLE, YAML_PLAIN_SCALAR_STYLE, yaml_error_t};
 use yaml_pen::Pen;
 use yaml_scalar::{is_simple_ascii, write_simple_ascii_scalar};
 
@@ -39,20 +36,11 @@ fn is_asked_plain(canonical: bool, content: &ScalarContent) -> bool
 {
     !canonical
         && content.plain_implicit
-        && asks_plain(content.style)
-        && lacks_anchor(content.anchor)
-}
-
-fn asks_plain(style: yaml_scalar_style_t) -> bool
-    ensures { result ≡ asks_plain (seen_scalar_style style) }
-{
-    matches!(style, YAML_ANY_SCALAR_STYLE | YAML_PLAIN_SCALAR_STYLE)
-}
-
-fn lacks_anchor(anchor: Option<&str>) -> bool
-    ensures { result ≡ not (is_some (seen_name anchor.entry)) }
-{
-    anchor.is_none()
+        && matches!(
+            content.style,
+            YAML_ANY_SCALAR_STYLE | YAML_PLAIN_SCALAR_STYLE
+        )
+        && content.anchor.is_none()
 }
 
 /// Writes a scalar that stands plain as it is, by its value; the open-ended state stays.

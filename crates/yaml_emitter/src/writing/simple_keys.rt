@@ -9,7 +9,7 @@ ghost use Rattle.yaml_base.specs.Layout.{is_key};
 ghost use Rattle.yaml_base.specs.Event.{collection_tag, scalar_tag};
 ghost use Rattle.yaml_base.specs.Tags.{spelling};
 ghost use Rattle.yaml_emitter.specs.Places.{seen_place};
-ghost use Rattle.yaml_emitter.specs.BorrowedTexts.{seen_name, seen_collection, seen_scalar, seen_spelling};
+ghost use Rattle.yaml_emitter.specs.BorrowedTexts.{seen_name, seen_collection, seen_scalar};
 ghost use Rattle.yaml_emitter.specs.SimpleAsciiScalars.{StandsPlain};
 ghost use Rattle.yaml_emitter.specs.WrittenAtoms.{seen_tag, spelled_count};
 
@@ -93,33 +93,16 @@ fn byte_count(text: &str) -> usize
     text.len()
 }
 
-fn name_count(name: Option<&str>) -> usize
-    ensures { result ≡ layout.name_count (seen_name name.entry) }
-{
-    match name {
-        Some(name) => byte_count(name),
-        None => 0,
-    }
-}
-
 /// Returns how much of a key a tag takes; `usize::MAX` stands for that and all above.
 fn tag_count(tag: Option<SpelledTag>) -> usize
     ensures { result ≡ min (spelled_count (seen_tag tag.entry)) usize.MAX }
 {
     match tag {
-        Some(tag) => spelling_count(tag),
-        None => 0,
-    }
-}
-
-fn spelling_count(spelled: SpelledTag) -> usize
-    ensures { result ≡ min (layout.spelling_count (seen_spelling spelled.entry)) usize.MAX }
-{
-    match spelled {
-        SpelledTag::Shorthand { handle, suffix } => {
+        Some(SpelledTag::Shorthand { handle, suffix }) => {
             byte_count(handle).saturating_add(byte_count(suffix))
         }
-        SpelledTag::Verbatim { tag } => byte_count(tag),
+        Some(SpelledTag::Verbatim { tag }) => byte_count(tag),
+        None => 0,
     }
 }
 
@@ -127,7 +110,11 @@ fn spelling_count(spelled: SpelledTag) -> usize
 fn is_short(value: usize, anchor: Option<&str>, tag: Option<SpelledTag>) -> bool
     ensures { result ≡ layout.is_short (value + layout.name_count (seen_name anchor.entry) + spelled_count (seen_tag tag.entry)) }
 {
-    is_short_count(value, name_count(anchor), tag_count(tag))
+    let name = match anchor {
+        Some(name) => byte_count(name),
+        None => 0,
+    };
+    is_short_count(value, name, tag_count(tag))
 }
 
 /// Returns whether a value, a name and a tag of these sizes are short together; `tag` may be cut off at `usize::MAX`.

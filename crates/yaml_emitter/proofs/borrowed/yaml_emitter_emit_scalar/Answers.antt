@@ -1,7 +1,7 @@
-use Rattle.yaml_emitter.proofs.Common.{Result, Err, true, [], refl, ◌≡◌, ap, subst, sym, ◌∙◌, scalar, seen_events, seen_scalar, state_of, State}
+use Rattle.yaml_emitter.proofs.Common.{Result, Err, true, false, [], refl, ◌≡◌, ap, subst, sym, ◌∙◌, scalar, seen_events, seen_scalar, state_of, State, machine_of}
 use Rattle.yaml_base.specs.declared.errors.{yaml_error_t.yaml_error_t}
 use Rattle.yaml_emitter.proofs.{standing.EmitterKept.has_output_inside, standing.EmitterKept.kept_emitting, standing.KeepsSet.with_machine}
-use Rattle.yaml_emitter.proofs.standing.EmittingEvents.{emits_alone, emits_failed, emits_stopped, starting}
+use Rattle.yaml_emitter.proofs.standing.EmittingEvents.{emits_alone, emits_failed, emits_stopped, starting, wrote_alone}
 use Rattle.yaml_emitter.proofs.standing.WritingAll.{none_waits_on}
 use Rattle.yaml_emitter.specs.{EmitsEvent.EmitsEvent, EmitsEvent.Settled, EmitsEvent.Settles, Queue.are_ready_by_one_more}
 use Rattle.yaml_emitter.proofs.borrowed.yaml_emitter_emit_scalar.Goals as goal
@@ -31,17 +31,6 @@ returns-in-Err-clause-output g c =
     (c.write_before_scalar.ensures (seen_scalar c.args.content.now)) in
     h.set.has_output ∙ has_output_inside c.emitter.inside c.emitter.view_is c.requires
 
-pub give_scalar-requires : goal.give_scalar-requires
-give_scalar-requires g c =
-    let before : State = state_of c.emitter.inside in
-    let event = scalar (seen_scalar c.args.content.now) in
-    let settled : State = state_of c.emitter-then-are_ready_by_one_more.inside in
-    let h : Settled (starting before) event settled =
-    subst (λ (s : State). Settled (starting before) event s) (sym c.emitter-then-are_ready_by_one_more.view_is)
-    (subst (λ (r : Result (Unit {0}) yaml_error_t). Settles (starting before) event r c.write_before_scalar.new.self) c.in_default-write_before_scalar.is
-    (c.write_before_scalar.ensures (seen_scalar c.args.content.now))) in
-    record { no_error = h.no_error }
-
 pub invariant_of-emitter-then-are_ready_by_one_more-2 : goal.invariant_of-emitter-then-are_ready_by_one_more-2
 invariant_of-emitter-then-are_ready_by_one_more-2 g c =
     let before : State = state_of c.emitter.inside in
@@ -68,9 +57,11 @@ returns-then-are_ready_by_one_more-clause-emits g c =
     let ready : are_ready_by_one_more before.held ≡ true =
     ap (λ q. are_ready_by_one_more (seen_events q)) (sym c.as_slice.ensures.value) ∙ sym c.are_ready_by_one_more.ensures ∙ c.if-are_ready_by_one_more.true in
     let alone : settled.held ≡ [] = h.held ∙ none_waits_on h.count before.held (seen_scalar c.args.content.now) ready h.wrote.waits in
-    subst (λ (s : State). EmitsEvent s event c.give_scalar.result (with_machine settled settled.held c.give_scalar.new.self)) c.emitter.view_is
-    (emits_alone event before settled c.give_scalar.new.self c.give_scalar.result c.texts_are_scalars.ensures (sym c.error.ensures ∙ c.in_default.is)
-    h alone refl c.give_scalar.ensures)
+    subst (λ (s : State). EmitsEvent s event c.keep_error.result (with_machine settled settled.held c.keep_error.new.self)) c.emitter.view_is
+    (emits_alone event before settled c.keep_error.new.self c.keep_error.result c.texts_are_scalars.ensures (sym c.error.ensures ∙ c.in_default.is)
+    h alone refl
+    (wrote_alone event (machine_of settled) c.scalar-answer.new.self c.keep_error.new.self c.scalar-answer.result c.keep_error.result
+    h.no_error refl (c.scalar-answer.ensures false) c.keep_error.ensures.kept c.keep_error.ensures.answered))
 
 pub returns-then-are_ready_by_one_more-clause-output : goal.returns-then-are_ready_by_one_more-clause-output
 returns-then-are_ready_by_one_more-clause-output g c =

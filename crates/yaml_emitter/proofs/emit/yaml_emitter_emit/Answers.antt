@@ -1,7 +1,7 @@
 use Rattle.yaml_emitter.proofs.Common.{◌≤◌, Err, Ok, Result, true, List, refl, ◌≡◌, ap, subst, sym, ◌∙◌}
-use Rattle.yaml_emitter.proofs.Common.{Event, seen_event, seen_events, state_of, is_head_ready, State}
+use Rattle.yaml_emitter.proofs.Common.{Event, seen_event, seen_events, state_of, is_head_ready, State, machine_of}
 use Rattle.yaml_emitter.proofs.{events_done.SeenTexts.seen_scalars, standing.KeepsSet.with_machine}
-use Rattle.yaml_emitter.proofs.standing.EmittingEvents.{emits_alone, emits_failed, emits_stopped, emits_waiting, starting}
+use Rattle.yaml_emitter.proofs.standing.EmittingEvents.{emits_alone, emits_failed, emits_stopped, emits_waiting, starting, wrote_alone}
 use Rattle.yaml_emitter.proofs.standing.EmitterKept.{awaits_more, has_output_inside, kept_emitting, passes, room_left, seen_more, waits_behind}
 use Rattle.yaml_base.specs.declared.errors.{yaml_error_t.yaml_error_t}
 use Rattle.yaml_emitter.specs.EmitsEvent.{EmitsEvent, Settled, Settles, StillWait}
@@ -40,18 +40,6 @@ returns-in-Err g c =
       output = emitted.moves.set.has_output ∙ c.requires;
     }
 
-pub give-requires-clause-no_error : goal.give-requires-clause-no_error
-give-requires-clause-no_error g c =
-    let before : State = state_of c.emitter.inside in
-    let event = seen_event c.args.event in
-    let settled : State = state_of c.emitter-2.inside in
-    let h : Settled (starting before) event settled =
-    subst (λ (s : State). Settled (starting before) event s) (sym c.emitter-2.view_is)
-    (subst (λ (r : Result (Unit {0}) yaml_error_t). Settles (starting before) event r c.write_waiting.new.self) c.in_default-write_waiting.is
-    (c.write_waiting.ensures event refl)) in
-    let output : c.emitter-2.inside.has_output ≡ true = h.set.has_output ∙ has_output_inside c.emitter.inside c.emitter.view_is c.requires in
-    h.no_error
-
 pub invariant_of-emitter-then-needs_no_waiting : goal.invariant_of-emitter-then-needs_no_waiting
 invariant_of-emitter-then-needs_no_waiting g c =
     let before : State = state_of c.emitter.inside in
@@ -76,9 +64,11 @@ returns-then-needs_no_waiting g c =
     let output : c.emitter-2.inside.has_output ≡ true = h.set.has_output ∙ has_output_inside c.emitter.inside c.emitter.view_is c.requires in
     let alone = passes seen_event c.emitter-2.inside.queue.items event (sym c.needs_no_waiting.ensures ∙ c.if-needs_no_waiting.true) in
     let emitted =
-    subst (λ (s : State). EmitsEvent s event c.give.result (with_machine settled settled.held c.give.new.self)) c.emitter.view_is
-    (emits_alone event before settled c.give.new.self c.give.result (seen_scalars c.args.event) (sym c.error.ensures ∙ c.in_default.is)
-    h alone.0 alone.1 c.give.ensures) in
+    subst (λ (s : State). EmitsEvent s event c.keep_error.result (with_machine settled settled.held c.keep_error.new.self)) c.emitter.view_is
+    (emits_alone event before settled c.keep_error.new.self c.keep_error.result (seen_scalars c.args.event) (sym c.error.ensures ∙ c.in_default.is)
+    h alone.0 alone.1
+    (wrote_alone event (machine_of settled) c.process-answer.new.self c.keep_error.new.self c.process-answer.result c.keep_error.result
+    h.no_error alone.1 c.process-answer.ensures c.keep_error.ensures.kept c.keep_error.ensures.answered)) in
     record {
       moves = emitted.moves;
       promised = emitted.promised;
@@ -145,7 +135,3 @@ invariant_of-emitter-2 g c =
 
 pub write_waiting-requires-clause-no_error : goal.write_waiting-requires-clause-no_error
 write_waiting-requires-clause-no_error g c = sym c.error.ensures ∙ c.in_default.is
-
-pub give-requires-clause-ready : goal.give-requires-clause-ready
-give-requires-clause-ready g c =
-    (passes seen_event c.emitter-2.inside.queue.items (seen_event c.args.event) (sym c.needs_no_waiting.ensures ∙ c.if-needs_no_waiting.true)).1
