@@ -16,7 +16,7 @@ ghost use Rattle.yaml_emitter.specs.StandsAfter.{FailedReady, StandsAfter};
 
 use crate::emitter::yaml_emitter_t;
 use crate::machine::Machine;
-use crate::queue::{closes_at_once, first_and_rest, is_ready, needs_no_waiting};
+use crate::queue::{closes_at_once, first_and_rest, followers, is_ready};
 use std::alloc::Allocator;
 use yaml_base::{yaml_error_t, yaml_event_t};
 
@@ -49,7 +49,8 @@ pub fn yaml_emitter_emit<A: Allocator + Copy>(
         drop(event);
         return Err(error);
     }
-    if needs_no_waiting(&emitter.queue, &event) {
+    // No event waits, and this one can be written whatever follows it.
+    if emitter.queue.as_slice().is_empty() && followers(&event) == 0 {
         let empty = false;
         let answer = emitter.machine.process(&event, empty);
         return emitter.machine.keep_error(answer);

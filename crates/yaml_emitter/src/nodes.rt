@@ -27,9 +27,9 @@ use crate::place::{Frame, Place, Role};
 use crate::stage::Stage;
 use crate::writing::{
     CollectionContent, ScalarContent, Site, borrowed_text, entries_column, is_simple_alias_key,
-    is_simple_ascii_key, is_simple_collection_key, is_simple_scalar_key, is_written_in_flow, spell,
-    stands_plain, write_alias, write_collection_end, write_collection_start, write_scalar,
-    write_simple_ascii, written_collection_tag, written_scalar_tag,
+    is_simple_ascii_key, is_simple_collection_key, is_simple_scalar_key, is_written_in_flow,
+    line_indent, spell, stands_plain, write_alias, write_collection_end, write_collection_start,
+    write_lead, write_scalar, written_collection_tag, written_scalar_tag,
 };
 use std::alloc::Allocator;
 use yaml_base::CollectionKind::{Mapping, Sequence};
@@ -39,6 +39,7 @@ use yaml_base::{
 };
 use yaml_mark::analyze_anchor;
 use yaml_pen::Pen;
+use yaml_scalar::write_simple_ascii_scalar;
 
 impl<A: Allocator + Copy> Machine<A> {
     /// Processes a scalar. One that stands as it is has no anchor, and no tag is written: nothing of it can be refused.
@@ -86,7 +87,7 @@ impl<A: Allocator + Copy> Machine<A> {
         }
     }
 
-    /// Writes a simple ASCII scalar that stands plain as it is. Takes only the value, so that all it calls is inlined.
+    /// Writes a simple ASCII scalar that stands plain as it is; the open-ended state stays. Takes only the value, so that all it calls is inlined.
     fn put_simple_ascii(&mut self, value: &str) -> Result<(), yaml_error_t>
         requires stage { is_at_node self.old.stage ≡ true }
         requires simple_ascii { IsSimpleAscii value.now }
@@ -101,7 +102,11 @@ impl<A: Allocator + Copy> Machine<A> {
             place,
             simple,
         };
-        write_simple_ascii(&mut self.pen, &site, value)?;
+        let bare = false;
+        write_lead(&mut self.pen, &site, None, None, bare)?;
+        let indent = line_indent(&self.settings, &site.place);
+        let width = self.settings.width;
+        write_simple_ascii_scalar(&mut self.pen, value, !simple, indent, width)?;
         self.stage = self.frames.advance(simple);
         Ok(())
     }

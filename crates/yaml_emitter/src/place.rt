@@ -66,8 +66,8 @@ impl Role {
 }
 
 impl Place {
-    ghost use Rattle.std.specs.Prelude.{◌≡◌, ◌≤◌, ◌+◌, Some};
-    ghost use Rattle.yaml_base.specs.Layout.{deeper, line_column, root_place};
+    ghost use Rattle.std.specs.Prelude.{◌≡◌, ◌≤◌, Some};
+    ghost use Rattle.yaml_base.specs.Layout.{line_column, root_place};
     ghost use Rattle.yaml_emitter.specs.Places.{seen_place};
     ghost use Rattle.yaml_emitter.specs.Reach.{most_column};
 
@@ -99,14 +99,5 @@ impl Place {
             role: self.role,
             column: Some(self.line_column()),
         }
-    }
-
-    /// Returns the column one indent further in.
-    pub(crate) fn deeper(&self, indent: u32) -> u32
-        requires { indent ≤ 9 }
-        ensures value { result ≡ deeper indent (seen_place self.now).column }
-        ensures within { result ≤ most_column + 9 }
-    {
-        self.line_column() + indent
     }
 }

@@ -30,7 +30,7 @@ fn ends<A: Allocator>(event: &yaml_event_t<A>) -> bool
 }
 
 /// Returns how many events must follow this one, where none closes it sooner.
-fn followers<A: Allocator>(event: &yaml_event_t<A>) -> usize
+pub(crate) fn followers<A: Allocator>(event: &yaml_event_t<A>) -> usize
     ensures { result ≡ awaited (seen_event event.now) }
 {
     match event {
@@ -85,16 +85,6 @@ pub(crate) fn is_ready<A: Allocator>(
         → result ≡ is_head_ready (seen_event event.now ∷ (seen_events rest.now ++ last ∷ [])) }
 {
     followers(event).saturating_sub(1) <= rest.len() || closes(rest, next)
-}
-
-/// Returns whether no event waits, and this one can be written whatever follows it.
-pub(crate) fn needs_no_waiting<A: Allocator>(
-    queue: &WaitingEvents<A>,
-    event: &yaml_event_t<A>,
-) -> bool
-    ensures { result ≡ (length queue.now.items == 0 && awaited (seen_event event.now) == 0) }
-{
-    queue.is_empty() && followers(event) == 0
 }
 
 /// Returns whether one more event makes every queued one ready.

@@ -97,16 +97,6 @@ fn width_of(given: Option<i32>, indent: u32) -> i32
     }
 }
 
-/// Returns the line break in force: ANY is taken for LF.
-fn break_of(given: yaml_break_t) -> yaml_break_t
-    ensures { seen_break result ≡ Some (unwrap_or (seen_break given) line_feed_break) }
-{
-    match given {
-        YAML_ANY_BREAK => YAML_LN_BREAK,
-        other => other,
-    }
-}
-
 /// Returns the emitter's own encoding, else the stream's, else UTF-8.
 fn encoding_of(own: yaml_encoding_t, of_stream: yaml_encoding_t) -> yaml_encoding_t
     ensures { seen_encoding result ≡ Some (effective_encoding (seen_encoding own) (seen_encoding of_stream)) }
@@ -135,7 +125,10 @@ impl Settings {
             double_quotes: matches!(self.quotes, Quotes::Double),
             indent,
             width: width_of(self.width, indent),
-            line_break: break_of(self.line_break),
+            line_break: match self.line_break {
+                YAML_ANY_BREAK => YAML_LN_BREAK,
+                other => other,
+            },
             breaks12: self.line_breaks_1_2,
             portable: self.portable,
             indented_sequences: self.indented_sequences,

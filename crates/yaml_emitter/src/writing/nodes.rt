@@ -121,7 +121,7 @@ pub(crate) fn entries_column<A: Allocator>(
     match place.column {
         None if !in_flow => 0,
         Some(column) if !in_flow && undented && !pen.indention() => column,
-        _ => place.deeper(settings.indent),
+        _ => place.line_column() + settings.indent,
     }
 }
 

@@ -30,11 +30,20 @@ pub(crate) fn write_place<A: Allocator>(pen: &mut Pen<A>, site: &Site) -> Result
     requires { IsReady pen.old }
     ensures { Wrote (render_place (seen_effective site.now.settings.now) (seen_place site.now.place) site.now.simple) pen.old pen.new result }
 {
+    use IndicatorKind::*;
     if site.place.in_flow {
         let place = site.place.at_line();
-        write_flow_place(pen, site.settings, &place, site.simple)
-    } else {
-        write_block_place(pen, &site.place, site.simple)
+        return write_flow_place(pen, site.settings, &place, site.simple);
+    }
+    // In a block (YAML 1.1, sections 10.1.2 and 10.2.2).
+    let column = site.place.line_column();
+    match (site.place.role, site.simple) {
+        (Role::Root, _) => pen.write_nothing(),
+        (Role::Item { .. }, _) => write_line_and_indicator(pen, column, BlockEntry),
+        (Role::Key { .. }, true) => write_new_line(pen, column),
+        (Role::Key { .. }, false) => write_line_and_indicator(pen, column, BlockKey),
+        (Role::Value { simple: true }, _) => write_indicator(pen, SimpleValue),
+        (Role::Value { simple: false }, _) => write_line_and_indicator(pen, column, BlockValue),
     }
 }
 
@@ -131,31 +140,6 @@ fn write_long_value<A: Allocator>(
 {
     write_flow_line(pen, settings, place)?;
     write_indicator(pen, IndicatorKind::FlowValue)
-}
-
-/// Writes what a place in a block puts before its node (YAML 1.1, sections 10.1.2 and 10.2.2).
-#[inline(always)]
-fn write_block_place<A: Allocator>(
-    pen: &mut Pen<A>,
-    place: &Place,
-    simple: bool,
-) -> Result<(), yaml_error_t>
-    requires { IsReady pen.old }
-    ensures { Wrote (render_block_place (seen_role place.now.role) simple place.now.column) pen.old pen.new result }
-{
-    use IndicatorKind::*;
-    match (place.role, simple) {
-        (Role::Root, _) => pen.write_nothing(),
-        (Role::Item { .. }, _) => write_line_and_indicator(pen, place.line_column(), BlockEntry),
-        (Role::Key { .. }, true) => write_new_line(pen, place.line_column()),
-        (Role::Key { .. }, false) => write_line_and_indicator(pen, place.line_column(), BlockKey),
-        (Role::Value { simple: true }, _) => write_indicator(pen, SimpleValue),
-        (Role::Value { simple: false }, _) => write_line_and_indicator(
-            pen,
-            place.line_column(),
-            BlockValue,
-        ),
-    }
 }
 
 /// Writes a new line at a column, and an atom on it.

@@ -93,19 +93,6 @@ fn byte_count(text: &str) -> usize
     text.len()
 }
 
-/// Returns how much of a key a tag takes; `usize::MAX` stands for that and all above.
-fn tag_count(tag: Option<SpelledTag>) -> usize
-    ensures { result ≡ min (spelled_count (seen_tag tag.entry)) usize.MAX }
-{
-    match tag {
-        Some(SpelledTag::Shorthand { handle, suffix }) => {
-            byte_count(handle).saturating_add(byte_count(suffix))
-        }
-        Some(SpelledTag::Verbatim { tag }) => byte_count(tag),
-        None => 0,
-    }
-}
-
 /// Returns whether a value of `value` bytes, an anchor and a tag are short together.
 fn is_short(value: usize, anchor: Option<&str>, tag: Option<SpelledTag>) -> bool
     ensures { result ≡ layout.is_short (value + layout.name_count (seen_name anchor.entry) + spelled_count (seen_tag tag.entry)) }
@@ -114,7 +101,14 @@ fn is_short(value: usize, anchor: Option<&str>, tag: Option<SpelledTag>) -> bool
         Some(name) => byte_count(name),
         None => 0,
     };
-    is_short_count(value, name, tag_count(tag))
+    let tag = match tag {
+        Some(SpelledTag::Shorthand { handle, suffix }) => {
+            byte_count(handle).saturating_add(byte_count(suffix))
+        }
+        Some(SpelledTag::Verbatim { tag }) => byte_count(tag),
+        None => 0,
+    };
+    is_short_count(value, name, tag)
 }
 
 /// Returns whether a value, a name and a tag of these sizes are short together; `tag` may be cut off at `usize::MAX`.

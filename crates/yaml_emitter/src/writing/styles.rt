@@ -138,5 +138,5 @@ pub(crate) fn line_indent(settings: &EffectiveSettings, place: &Place) -> i32
     ensures high { result ≤ℤ pos (most_column + 9) }
     ensures within { pos settings.now.indent ≤ℤ result }
 {
-    place.deeper(settings.indent) as i32
+    (place.line_column() + settings.indent) as i32
 }

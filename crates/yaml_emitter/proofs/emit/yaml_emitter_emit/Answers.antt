@@ -1,10 +1,11 @@
-use Rattle.yaml_emitter.proofs.Common.{◌≤◌, Err, Ok, Result, true, List, refl, ◌≡◌, ap, subst, sym, ◌∙◌}
+use Rattle.yaml_emitter.proofs.Common.{◌≤◌, ◌==◌, ◌&&◌, Bool, false, length, awaited, ne_eqb, Err, Ok, Result, true, List, refl, ◌≡◌, ap, subst, sym, ◌∙◌}
 use Rattle.yaml_emitter.proofs.Common.{Event, seen_event, seen_events, state_of, is_head_ready, State, machine_of}
 use Rattle.yaml_emitter.proofs.{events_done.SeenTexts.seen_scalars, standing.KeepsSet.with_machine}
 use Rattle.yaml_emitter.proofs.standing.EmittingEvents.{emits_alone, emits_failed, emits_stopped, emits_waiting, starting, wrote_alone}
 use Rattle.yaml_emitter.proofs.standing.EmitterKept.{awaits_more, has_output_inside, kept_emitting, passes, room_left, seen_more, waits_behind}
 use Rattle.yaml_base.specs.declared.errors.{yaml_error_t.yaml_error_t}
 use Rattle.yaml_emitter.specs.EmitsEvent.{EmitsEvent, Settled, Settles, StillWait}
+use Rattle.yaml_emitter.proofs.emit.yaml_emitter_emit.Goals.{else-is_empty-via-then-is_empty+else-followers-eq0, else-is_empty-via-else-is_empty}
 use Rattle.yaml_emitter.proofs.emit.yaml_emitter_emit.Goals as goal
 
 pub returns-in-Some : goal.returns-in-Some
@@ -40,8 +41,8 @@ returns-in-Err g c =
       output = emitted.moves.set.has_output ∙ c.requires;
     }
 
-pub invariant_of-emitter-then-needs_no_waiting : goal.invariant_of-emitter-then-needs_no_waiting
-invariant_of-emitter-then-needs_no_waiting g c =
+pub invariant_of-emitter-then-followers-eq0 : goal.invariant_of-emitter-then-followers-eq0
+invariant_of-emitter-then-followers-eq0 g c =
     let before : State = state_of c.emitter.inside in
     let event = seen_event c.args.event in
     let settled : State = state_of c.emitter-2.inside in
@@ -52,8 +53,8 @@ invariant_of-emitter-then-needs_no_waiting g c =
     let output : c.emitter-2.inside.has_output ≡ true = h.set.has_output ∙ has_output_inside c.emitter.inside c.emitter.view_is c.requires in
     kept_emitting c.emitter-2.inside _ output refl c.emitter-2.invariant.room c.emitter-2.invariant.waits
 
-pub returns-then-needs_no_waiting : goal.returns-then-needs_no_waiting
-returns-then-needs_no_waiting g c =
+pub returns-then-followers-eq0 : goal.returns-then-followers-eq0
+returns-then-followers-eq0 g c =
     let before : State = state_of c.emitter.inside in
     let event = seen_event c.args.event in
     let settled : State = state_of c.emitter-2.inside in
@@ -62,7 +63,10 @@ returns-then-needs_no_waiting g c =
     (subst (λ (r : Result (Unit {0}) yaml_error_t). Settles (starting before) event r c.write_waiting.new.self) c.in_default-write_waiting.is
     (c.write_waiting.ensures event refl)) in
     let output : c.emitter-2.inside.has_output ≡ true = h.set.has_output ∙ has_output_inside c.emitter.inside c.emitter.view_is c.requires in
-    let alone = passes seen_event c.emitter-2.inside.queue.items event (sym c.needs_no_waiting.ensures ∙ c.if-needs_no_waiting.true) in
+    let empty : (length c.emitter-2.inside.queue.items == 0) ≡ true =
+    ap (λ q. length q == 0) (sym c.as_slice.ensures.value) ∙ sym c.is_empty.ensures ∙ c.if-is_empty.true in
+    let none : (awaited event == 0) ≡ true = ap (λ n. n == 0) (sym c.followers.ensures ∙ c.if-followers-eq0.true) in
+    let alone = passes seen_event c.emitter-2.inside.queue.items event (ap (λ (b : Bool). b && awaited event == 0) empty ∙ none) in
     let emitted =
     subst (λ (s : State). EmitsEvent s event c.keep_error.result (with_machine settled settled.held c.keep_error.new.self)) c.emitter.view_is
     (emits_alone event before settled c.keep_error.new.self c.keep_error.result (seen_scalars c.args.event) (sym c.error.ensures ∙ c.in_default.is)
@@ -91,11 +95,19 @@ invariant_of-emitter-3 g c =
     (c.write_waiting.ensures event refl)) in
     let output : c.emitter-2.inside.has_output ≡ true = h.set.has_output ∙ has_output_inside c.emitter.inside c.emitter.view_is c.requires in
     let pushed = c.push_reserved.new.self.items in
+    let apart : (length c.emitter-2.inside.queue.items == 0 && awaited event == 0) ≡ false =
+    ap (λ q. length q == 0 && awaited event == 0) (sym c.as_slice.ensures.value)
+    ∙ elim c.else-is_empty.branch [
+      | else-is_empty-via-then-is_empty+else-followers-eq0 w ↦
+          ap (λ (b : Bool). b && awaited event == 0) (sym c.is_empty.ensures ∙ w.if-is_empty.true)
+          ∙ ap (λ n. n == 0) (sym w.followers.ensures) ∙ ne_eqb _ _ w.if-followers-eq0.false
+      | else-is_empty-via-else-is_empty w ↦ ap (λ (b : Bool). b && awaited event == 0) (sym c.is_empty.ensures ∙ w.if-is_empty.false)
+    ] in
     kept_emitting c.emitter-2.inside _ output refl
     (subst (λ n. 4 ≤ n) (sym c.push_reserved.ensures.capacity) c.emitter-2.invariant.room)
     (ap is_head_ready (seen_more seen_event c.emitter-2.inside.queue.items pushed pushed c.args.event refl c.push_reserved.ensures.items)
     ∙ waits_behind settled.held event (subst (λ (l : List Event). StillWait l event) (sym h.held) h.wrote.waits)
-    (awaits_more seen_event c.emitter-2.inside.queue.items _ (sym c.needs_no_waiting.ensures ∙ c.if-needs_no_waiting.false)))
+    (awaits_more seen_event c.emitter-2.inside.queue.items _ apart))
 
 pub returns : goal.returns
 returns g c =
@@ -108,6 +120,14 @@ returns g c =
     (c.write_waiting.ensures event refl)) in
     let output : c.emitter-2.inside.has_output ≡ true = h.set.has_output ∙ has_output_inside c.emitter.inside c.emitter.view_is c.requires in
     let pushed = c.push_reserved.new.self.items in
+    let apart : (length c.emitter-2.inside.queue.items == 0 && awaited event == 0) ≡ false =
+    ap (λ q. length q == 0 && awaited event == 0) (sym c.as_slice.ensures.value)
+    ∙ elim c.else-is_empty.branch [
+      | else-is_empty-via-then-is_empty+else-followers-eq0 w ↦
+          ap (λ (b : Bool). b && awaited event == 0) (sym c.is_empty.ensures ∙ w.if-is_empty.true)
+          ∙ ap (λ n. n == 0) (sym w.followers.ensures) ∙ ne_eqb _ _ w.if-followers-eq0.false
+      | else-is_empty-via-else-is_empty w ↦ ap (λ (b : Bool). b && awaited event == 0) (sym c.is_empty.ensures ∙ w.if-is_empty.false)
+    ] in
     let held = seen_events pushed in
     let more = seen_more seen_event c.emitter-2.inside.queue.items pushed pushed c.args.event refl c.push_reserved.ensures.items in
     let emitted =
@@ -116,7 +136,7 @@ returns g c =
     h more
     (ap is_head_ready more
     ∙ waits_behind settled.held event (subst (λ (l : List Event). StillWait l event) (sym h.held) h.wrote.waits)
-    (awaits_more seen_event c.emitter-2.inside.queue.items _ (sym c.needs_no_waiting.ensures ∙ c.if-needs_no_waiting.false)))) in
+    (awaits_more seen_event c.emitter-2.inside.queue.items _ apart))) in
     record {
       moves = emitted.moves;
       promised = emitted.promised;

@@ -14,9 +14,3 @@ returns-then-site g c =
     ∙ flow_at_line s (seen_role site.place.role) site.simple c.at_line-place.result.column site.place.column cursor c.at_line-place.ensures.column
     ∙ flow_here s (seen_place site.place) site.simple cursor c.if-site.true)
     c.write_flow_place.ensures
-
-pub returns-else-site : goal.returns-else-site
-returns-else-site g c =
-    let site = c.args.site.now in
-    wrote_as (render_place (seen_effective site.settings.now) (seen_place site.place) site.simple)
-    (block_here (seen_effective site.settings.now) (seen_place site.place) site.simple c.args.pen.now.cursor c.if-site.false) c.write_block_place.ensures
