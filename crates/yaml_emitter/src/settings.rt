@@ -1,7 +1,7 @@
 //! What the caller sets, and what it comes to at the stream's start.
 
-ghost use Rattle.std.specs.Prelude.{◌≡◌, ◌≤◌, pos, ◌≤ℤ◌, IsSome, Some, unwrap_or};
-ghost use Rattle.yaml_base.specs.Settings.{effective, effective_encoding, effective_indent, effective_width, line_feed_break, nothing_given};
+ghost use Rattle.std.specs.Prelude.{◌≡◌, ◌≤◌, pos, ◌≤ℤ◌, IsSome, Some};
+ghost use Rattle.yaml_base.specs.Settings.{effective, effective_encoding, effective_indent, effective_width, nothing_given};
 ghost use Rattle.yaml_base.specs.Seen.{seen_encoding, seen_break};
 ghost use Rattle.yaml_emitter.specs.Given.{seen_width, seen_settings, seen_effective};
 
@@ -97,19 +97,6 @@ fn width_of(given: Option<i32>, indent: u32) -> i32
     }
 }
 
-/// Returns the emitter's own encoding, else the stream's, else UTF-8.
-fn encoding_of(own: yaml_encoding_t, of_stream: yaml_encoding_t) -> yaml_encoding_t
-    ensures { seen_encoding result ≡ Some (effective_encoding (seen_encoding own) (seen_encoding of_stream)) }
-{
-    match own {
-        YAML_ANY_ENCODING => match of_stream {
-            YAML_ANY_ENCODING => YAML_UTF8_ENCODING,
-            other => other,
-        },
-        other => other,
-    }
-}
-
 impl Settings {
     /// Returns what the settings come to for a stream that begins with this encoding.
     pub(crate) fn effective(&self, of_stream: yaml_encoding_t) -> EffectiveSettings
@@ -119,7 +106,11 @@ impl Settings {
     {
         let indent = indent_of(self.indent);
         EffectiveSettings {
-            encoding: encoding_of(self.encoding, of_stream),
+            encoding: match (self.encoding, of_stream) {
+                (YAML_ANY_ENCODING, YAML_ANY_ENCODING) => YAML_UTF8_ENCODING,
+                (YAML_ANY_ENCODING, other) => other,
+                (own, _) => own,
+            },
             canonical: self.canonical,
             unicode: self.unicode,
             double_quotes: matches!(self.quotes, Quotes::Double),

@@ -58,36 +58,31 @@ impl<A: Allocator> SpareTexts<A> {
         }
     }
 
-    /// Empties a queue, and keeps texts of its scalars.
+    /// Empties a queue, and keeps texts of its scalars, unless they take too much memory.
     fn keep_texts(&mut self, queue: &mut WaitingEvents<A>)
         ensures items { queue.new.items ≡ [] }
         ensures capacity { vec_capacity queue.new ≡ vec_capacity queue.old }
     {
         'events: while let Some(event) = queue.pop() {
-            self.keep_text(event);
-        }
-    }
-
-    /// Keeps the text of a scalar, unless it takes too much memory.
-    fn keep_text(&mut self, event: yaml_event_t<A>) {
-        match event {
-            YAML_SCALAR_EVENT {
-                anchor,
-                tag,
-                value,
-                ..
-            } => {
-                drop(anchor);
-                drop(tag);
-                if value.capacity() > MOST_BYTES {
-                    drop(value);
-                } else if self.first.is_none() {
-                    self.first = Some(value);
-                } else {
-                    self.second = Some(value);
+            match event {
+                YAML_SCALAR_EVENT {
+                    anchor,
+                    tag,
+                    value,
+                    ..
+                } => {
+                    drop(anchor);
+                    drop(tag);
+                    if value.capacity() > MOST_BYTES {
+                        drop(value);
+                    } else if self.first.is_none() {
+                        self.first = Some(value);
+                    } else {
+                        self.second = Some(value);
+                    }
                 }
+                other => drop(other),
             }
-            other => drop(other),
         }
     }
 }

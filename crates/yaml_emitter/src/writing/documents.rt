@@ -64,21 +64,12 @@ pub(crate) fn write_closing_marker<A: Allocator>(
     requires { IsReady pen.old }
     ensures { Wrote (render_if asked render_closing_marker) pen.old pen.new result }
 {
-    write_document_atoms(pen, settings, closing_atoms(asked))
-}
-
-fn closing_atoms(asked: bool) -> Atoms<'static>
-    ensures whole { some_atom_breaks result ≡ false }
-    ensures rendered { (s : Effective) (cursor : Cursor) → render_atoms s root_place result cursor ≡ render_if asked render_closing_marker cursor }
-{
+    use Atom::*;
     if asked {
-        (
-            Atom::Nothing,
-            Atom::Fixed(IndicatorKind::DocumentEnd),
-            Atom::Line,
-        )
+        let line = (Nothing, Fixed(IndicatorKind::DocumentEnd), Line);
+        write_document_atoms(pen, settings, line)
     } else {
-        NOTHING
+        pen.write_nothing()
     }
 }
 
@@ -122,21 +113,17 @@ pub(crate) fn write_version<A: Allocator>(
     requires { IsReady pen.old }
     ensures { Wrote (render_version (option_map seen_version version)) pen.old pen.new result }
 {
-    match version {
-        Some(version) => write_document_atoms(pen, settings, version_atoms(version)),
-        None => write_document_atoms(pen, settings, NOTHING),
-    }
-}
-
-fn version_atoms(version: yaml_version_directive_t) -> Atoms<'static>
-    ensures whole { some_atom_breaks result ≡ false }
-    ensures rendered { (s : Effective) (cursor : Cursor) → render_atoms s root_place result cursor ≡ render_version (Some (seen_version version)) cursor }
-{
     use IndicatorKind::*;
     use Atom::*;
-    if version.minor == 2 {
-        (Fixed(YamlDirective), Fixed(Version12), Line)
-    } else {
-        (Fixed(YamlDirective), Fixed(Version11), Line)
+    match version {
+        Some(version) if version.minor == 2 => {
+            let line = (Fixed(YamlDirective), Fixed(Version12), Line);
+            write_document_atoms(pen, settings, line)
+        }
+        Some(_) => {
+            let line = (Fixed(YamlDirective), Fixed(Version11), Line);
+            write_document_atoms(pen, settings, line)
+        }
+        None => pen.write_nothing(),
     }
 }

@@ -4,7 +4,7 @@ ghost use Rattle.std.specs.Prelude.{◌≡◌, ◌≤◌, true, false};
 ghost use Rattle.yaml_base.specs.Cursor.{Cursor, render_nothing, new_line, render_then};
 ghost use Rattle.yaml_base.specs.Indicators.{flow_key, flow_value, render_indicator};
 ghost use Rattle.yaml_base.specs.Layout as layout;
-ghost use Rattle.yaml_base.specs.Layout.{render_end, flow_break, render_flow_place, render_block_place, render_place};
+ghost use Rattle.yaml_base.specs.Layout.{render_end, flow_break, render_flow_place, render_place};
 ghost use Rattle.yaml_base.specs.Settings.{Effective};
 ghost use Rattle.yaml_pen.specs.Page.{IsReady};
 ghost use Rattle.yaml_pen.specs.Wrote.{Wrote};
@@ -62,13 +62,8 @@ fn write_flow_place<A: Allocator>(
         (Role::Root, _) => pen.write_nothing(),
         (Role::Item { first: true }, _) => write_entry(pen, settings, place, FlowSequenceStart),
         (Role::Item { first: false }, _) => write_entry(pen, settings, place, FlowEntry),
-        (Role::Key { first: true }, true) => write_simple_key(
-            pen,
-            settings,
-            place,
-            FlowMappingStart,
-        ),
-        (Role::Key { first: false }, true) => write_simple_key(pen, settings, place, FlowEntry),
+        (Role::Key { first: true }, true) => write_entry(pen, settings, place, FlowMappingStart),
+        (Role::Key { first: false }, true) => write_entry(pen, settings, place, FlowEntry),
         (Role::Key { first: true }, false) => write_long_key(
             pen,
             settings,
@@ -95,21 +90,6 @@ fn write_entry<A: Allocator>(
 {
     write_indicator(pen, atom)?;
     write_flow_line(pen, settings, place)
-}
-
-/// Writes what precedes a simple key in flow: a bracket or a comma, and a new line where one is due. It has no `?`.
-fn write_simple_key<A: Allocator>(
-    pen: &mut Pen<A>,
-    settings: &EffectiveSettings,
-    place: &Place,
-    atom: IndicatorKind,
-) -> Result<(), yaml_error_t>
-    requires { IsReady pen.old }
-    ensures { Wrote (λ cursor. render_then
-        (render_then (render_indicator (seen_indicator atom) cursor) (flow_break (seen_effective settings.now) place.now.column)) render_nothing)
-        pen.old pen.new result }
-{
-    write_entry(pen, settings, place, atom)
 }
 
 /// Writes what precedes any other key in flow: a bracket or a comma, a new line where one is due, and `?`.

@@ -14,7 +14,7 @@ ghost use Rattle.yaml_emitter.specs.SimpleAsciiScalars.{StandsPlain};
 ghost use Rattle.yaml_emitter.specs.WrittenAtoms.{seen_tag, spelled_count};
 
 use crate::effective::EffectiveSettings;
-use crate::place::Place;
+use crate::place::{Place, Role};
 use crate::writing::contents::{CollectionContent, ScalarContent};
 use crate::writing::spelling::SpelledTag;
 use yaml_scalar::holds_break;
@@ -56,7 +56,10 @@ pub(crate) fn is_simple_ascii_key(place: &Place, value: &str) -> bool
         ≡ (is_key (seen_place place.now).role
         && (not canonical && layout.is_simple_scalar canonical directives (seen_scalar content))) }
 {
-    place.role.is_key() && is_short_count(byte_count(value), 0, 0)
+    match place.role {
+        Role::Key { .. } => is_short_count(byte_count(value), 0, 0),
+        _ => false,
+    }
 }
 
 /// Returns whether a collection at a place, which may be empty, is a simple key, its tag spelled so.
