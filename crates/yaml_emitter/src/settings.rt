@@ -1,7 +1,7 @@
 //! What the caller sets, and what it comes to at the stream's start.
 
 ghost use Rattle.std.specs.Prelude.{◌≡◌, ◌≤◌, pos, ◌≤ℤ◌, IsSome, Some};
-ghost use Rattle.yaml_base.specs.Settings.{effective, effective_encoding, effective_indent, effective_width, nothing_given};
+ghost use Rattle.yaml_base.specs.Settings.{effective, effective_indent, effective_width, nothing_given};
 ghost use Rattle.yaml_base.specs.Seen.{seen_encoding, seen_break};
 ghost use Rattle.yaml_emitter.specs.Given.{seen_width, seen_settings, seen_effective};
 

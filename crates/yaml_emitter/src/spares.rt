@@ -8,7 +8,7 @@ use crate::emitter::WaitingEvents;
 use crate::queue::drop_first;
 use std::alloc::Allocator;
 use std::mem;
-use yaml_base::{YAML_SCALAR_EVENT, yaml_error_t, yaml_event_t};
+use yaml_base::{YAML_SCALAR_EVENT, yaml_error_t};
 
 /// Minimum capacity of a copy in bytes, so that most that follow fit it.
 const LEAST_BYTES: usize = 64;

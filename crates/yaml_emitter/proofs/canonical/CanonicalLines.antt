@@ -8,7 +8,7 @@ use Rattle.yaml_emitter.proofs.Common.{list_all-append, list_all, all_scalars, r
 use Rattle.yaml_emitter.proofs.Common.{Version, TagDirective, render_indicator, spaced, yaml_directive, render_closing_marker, render_version}
 use Rattle.yaml_emitter.proofs.Common.{render_tag_directive, render_tag_directives, render_document_marker, prefix_escaped, version_fault, exclamation_mark}
 use Rattle.yaml_emitter.proofs.Common.{prefix_fault, version_line, tag_line, document_begins, document_ends, free, tokens_from}
-use Rattle.yaml_base.proofs.Common.{slice_split-cons_yes, slice_split-cons_no, onto_first, slice_split, is_blank, is_read_break}
+use Rattle.yaml_base.proofs.Common.{slice_split, is_blank, is_read_break}
 use Rattle.yaml_base.proofs.PercentLaws.{decoded_prefix, prefix_begins}
 use Rattle.yaml_base.proofs.stream_documents.StreamHeadings.{handle_reads, version_of, version_form}
 use Rattle.yaml_base.specs.Indicators.{document_start, document_end}

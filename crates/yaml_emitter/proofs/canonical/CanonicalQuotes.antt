@@ -6,7 +6,7 @@ use Rattle.yaml_base.proofs.Common.{has_no_reading, Quoted, with_unit, after_ste
 use Rattle.yaml_base.proofs.Common.{letter_among, escape_after_backslash, escape_text, needs_escape, character_text, double_inside, render_quote}
 use lib.Utf8.{scalar}
 use Rattle.yaml_base.specs.Cursor.{render_text}
-use Rattle.yaml_base.specs.reading.CanonicalTokens.{Token, scalar_token, free, in_quotes, moves_to, step_between_tokens, quotes_step, tokens_from}
+use Rattle.yaml_base.specs.reading.CanonicalTokens.{Token, scalar_token, free, in_quotes, quotes_step, tokens_from}
 use Rattle.yaml_base.specs.reading.ReadDouble.{QuoteStep, quote_step, QuotedReading, double_quoted_prefix}
 use Rattle.yaml_base.specs.scalars.DoubleQuoted.{quote, ShortEscape, may_fold, space_kept, double_fold, double_character, double_quoted_body}
 use Rattle.yaml_base.specs.Characters.{backslash}

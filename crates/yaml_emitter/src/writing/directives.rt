@@ -1,6 +1,6 @@
 //! What stands before a document's root: `%YAML`, `%TAG` and `---` (YAML 1.1, sections 7.1 and 7.2).
 
-ghost use Rattle.std.specs.Prelude.{◌≡◌, ◌==◌, ◌||◌, ◌&&◌, option_map, is_some, map, length, chars, not, false};
+ghost use Rattle.std.specs.Prelude.{◌≡◌, ◌||◌, ◌&&◌, option_map, is_some, map, chars, not, false};
 ghost use Rattle.std.specs.List.{list_any};
 ghost use Rattle.yaml_base.specs.Characters.{is_break};
 ghost use Rattle.yaml_base.specs.Layout.{document_start_piece, root_place, render_tag_directive, render_tag_directives};
@@ -54,19 +54,13 @@ pub(crate) fn write_document_start<A: Allocator>(
         (seen_open_ended open_ended))
         pen.old pen.new result }
 {
-    let directed = has_directives(start);
+    let directed = start.version.is_some() || !start.directives.is_empty();
     let explicit = is_explicit(settings, first, start.implicit, directed);
     // Most documents have no lines before `---`.
     if !directed {
         return write_document_marker(pen, settings, explicit);
     }
     write_document_head(pen, settings, open_ended.is_open(), start, explicit)
-}
-
-fn has_directives<A: Allocator>(start: &StartContent<A>) -> bool
-    ensures { result ≡ (is_some (option_map seen_version start.now.version) || not (length (map seen_directive start.now.directives.now) == 0)) }
-{
-    start.version.is_some() || !start.directives.is_empty()
 }
 
 /// Returns whether `---` is written: where the event asks for it, after another document, in canonical and in portable

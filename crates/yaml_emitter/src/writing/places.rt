@@ -1,7 +1,7 @@
 //! What a place puts before its node, and what a collection's end writes.
 
 ghost use Rattle.std.specs.Prelude.{◌≡◌, ◌≤◌, true, false};
-ghost use Rattle.yaml_base.specs.Cursor.{Cursor, render_nothing, new_line, render_then};
+ghost use Rattle.yaml_base.specs.Cursor.{Cursor, new_line, render_then};
 ghost use Rattle.yaml_base.specs.Indicators.{flow_key, flow_value, render_indicator};
 ghost use Rattle.yaml_base.specs.Layout as layout;
 ghost use Rattle.yaml_base.specs.Layout.{render_end, flow_break, render_flow_place, render_place};

@@ -1,6 +1,6 @@
 //! Scalars: their style, what stands before them, and their text (YAML 1.1, chapter 9).
 
-ghost use Rattle.std.specs.Prelude.{◌≡◌, ◌&&◌, ◌||◌, false, true, not, IfOk, IsOk, chars, is_some, if◌then◌else◌};
+ghost use Rattle.std.specs.Prelude.{◌≡◌, ◌&&◌, ◌||◌, false, true, IfOk, IsOk, chars, is_some, if◌then◌else◌};
 ghost use Rattle.yaml_base.specs.scalars.Analysis as analysis;
 ghost use Rattle.yaml_base.specs.scalars.Analysis.{is_empty};
 ghost use Rattle.yaml_base.specs.Event.{double_quoted};
@@ -70,7 +70,7 @@ fn choose(
     let settings = site.settings;
     let asked = style_asked(site, content);
     if is_surely_double(settings.canonical, asked) {
-        let bare = needs_bare_tag(tag_written, content.quoted_implicit);
+        let bare = !tag_written && !content.quoted_implicit;
         return Ok((YAML_DOUBLE_QUOTED_SCALAR_STYLE, bare));
     }
     let data = allowed_styles(settings, content);
@@ -119,20 +119,13 @@ fn exactly_allowed(settings: &EffectiveSettings, content: &ScalarContent) -> sca
         settings.unicode,
         escapes_separators(settings),
     );
-    let single_quoted_allowed = takes_single_quotes(settings, &data);
+    let single_quoted_allowed = !settings.double_quotes && data.single_quoted_allowed;
     let block_allowed = takes_block(settings, content, &data);
     scalar_data_t {
         single_quoted_allowed,
         block_allowed,
         ..data
     }
-}
-
-/// Returns whether single quotes take a value, by what was found of it: never where double ones are asked for in their place.
-fn takes_single_quotes(settings: &EffectiveSettings, found: &scalar_data_t) -> bool
-    ensures { result ≡ (not settings.now.double_quotes && found.now.single_quoted_allowed) }
-{
-    !settings.double_quotes && found.single_quoted_allowed
 }
 
 /// Returns whether a block style takes a value, by what was found of it or, where blanks are literal, by what literal takes then.
@@ -186,13 +179,6 @@ fn is_surely_double(canonical: bool, style: yaml_scalar_style_t) -> bool
     ensures { result ≡ true → requested_style canonical (seen_scalar_style style) ≡ double_quoted }
 {
     canonical || matches!(style, YAML_DOUBLE_QUOTED_SCALAR_STYLE)
-}
-
-/// Returns whether a quoted scalar, which has no tag and no flag, gets the bare tag `!`.
-fn needs_bare_tag(tag_written: bool, quoted_implicit: bool) -> bool
-    ensures { result ≡ (not tag_written && not quoted_implicit) }
-{
-    !tag_written && !quoted_implicit
 }
 
 fn is_empty_value(value: &str) -> bool

@@ -1,6 +1,6 @@
 use Rattle.yaml_emitter.proofs.Common.{arith, common_steps, rules, ap, ◌∙◌}
-use Rattle.yaml_base.specs.{Event.scalar, Seen.seen_event}
-use Rattle.yaml_emitter.{proofs.events_done.ProcessedBy.processed_as, specs.BorrowedTexts.seen_scalar}
+use Rattle.yaml_base.specs.{Seen.seen_event}
+use Rattle.yaml_emitter.{proofs.events_done.ProcessedBy.processed_as}
 use Rattle.yaml_emitter.proofs.machine.Machine.process.Goals as goal
 
 pub returns-in-YAML_SCALAR_EVENT : goal.returns-in-YAML_SCALAR_EVENT

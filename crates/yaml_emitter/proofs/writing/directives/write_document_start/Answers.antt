@@ -1,4 +1,4 @@
-use Rattle.yaml_emitter.proofs.Common.{◌==◌, option_map, not, ◌&&◌, ◌||◌, map, ap, sym, ◌∙◌, Bool, DocumentStart, seen_version, seen_directive}
+use Rattle.yaml_emitter.proofs.Common.{arith, common_steps, rules, ◌≡◌, ◌==◌, is_some, length, option_map, not, ◌&&◌, ◌||◌, map, ap, sym, ◌∙◌, Bool, DocumentStart, seen_version, seen_directive}
 use Rattle.yaml_emitter.proofs.Common.{seen_effective, seen_open_ended}
 use Rattle.yaml_emitter.proofs.pieces.WritingPieces.{wrote_bare_start, wrote_document_start}
 use Rattle.yaml_emitter.proofs.writing.directives.write_document_start.Goals as goal
@@ -11,9 +11,11 @@ returns-then-not-directed g c =
       directives = map seen_directive c.args.start.now.directives.now;
       implicit = c.args.start.now.implicit;
     } in
-    wrote_bare_start s c.args.first start (seen_open_ended c.args.open_ended) (sym c.has_directives-directed.ensures ∙ c.if-not-directed.true)
+    let directed : c.if-is_some.directed ≡ (is_some start.version || not (length start.directives == 0)) =
+    first_of (search rules, grind (arith, common_steps)) in
+    wrote_bare_start s c.args.first start (seen_open_ended c.args.open_ended) (sym directed ∙ c.if-not-directed.true)
     (c.is_explicit-explicit.ensures
-    ∙ ap (λ (b : Bool). not start.implicit || not c.args.first || (s.canonical || s.portable) || b) c.has_directives-directed.ensures)
+    ∙ ap (λ (b : Bool). not start.implicit || not c.args.first || (s.canonical || s.portable) || b) directed)
     c.write_document_marker.ensures
 
 pub returns : goal.returns
@@ -24,9 +26,11 @@ returns g c =
       directives = map seen_directive c.args.start.now.directives.now;
       implicit = c.args.start.now.implicit;
     } in
+    let directed : c.if-is_some.directed ≡ (is_some start.version || not (length start.directives == 0)) =
+    first_of (search rules, grind (arith, common_steps)) in
     wrote_document_start s c.args.first start (seen_open_ended c.args.open_ended)
     (c.is_open.ensures
-    ∙ ap (λ (b : Bool). b && not (seen_open_ended c.args.open_ended == 0)) (sym c.if-not-directed.false ∙ c.has_directives-directed.ensures))
+    ∙ ap (λ (b : Bool). b && not (seen_open_ended c.args.open_ended == 0)) (sym c.if-not-directed.false ∙ directed))
     (c.is_explicit-explicit.ensures
-    ∙ ap (λ (b : Bool). not start.implicit || not c.args.first || (s.canonical || s.portable) || b) c.has_directives-directed.ensures)
+    ∙ ap (λ (b : Bool). not start.implicit || not c.args.first || (s.canonical || s.portable) || b) directed)
     c.write_document_head.ensures

@@ -1,5 +1,5 @@
 use Rattle.yaml_emitter.proofs.Common.{arith, common_steps, rules}
-use Rattle.yaml_emitter.proofs.Common.{render_if, render_closing_marker, wrote_as}
+use Rattle.yaml_emitter.proofs.Common.{wrote_as}
 use Rattle.yaml_emitter.proofs.writing.documents.write_closing_marker.Goals as goal
 
 pub returns-then-asked : goal.returns-then-asked

@@ -1,5 +1,5 @@
 use Rattle.yaml_emitter.proofs.Common.{render_place, seen_effective, seen_place, seen_role, wrote_as, ◌∙◌, ap}
-use Rattle.yaml_emitter.proofs.pieces.AtomsWritten.{flow_here, flow_at_line, block_here}
+use Rattle.yaml_emitter.proofs.pieces.AtomsWritten.{flow_here, flow_at_line}
 use Rattle.yaml_emitter.specs.declared.place.Role as kinds
 use Rattle.yaml_emitter.proofs.Common.{render_flow_place}
 use Rattle.yaml_emitter.proofs.writing.places.write_place.Goals as goal

@@ -1,5 +1,5 @@
 use Rattle.yaml_emitter.proofs.Common.{ap, ◌∙◌, deeper, seen_scalar_style, Choice, seen_scalar, seen_effective, seen_place, render_scalar_text}
-use Rattle.yaml_emitter.proofs.Common.{◌≡◌, false, chars, OnOk, false≢true, subst, seen_open_ended, style_fits, wrote_exit, wrote_then, wrote_failed}
+use Rattle.yaml_emitter.proofs.Common.{◌≡◌, chars, OnOk, false≢true, subst, seen_open_ended, style_fits, wrote_exit, wrote_then, wrote_failed}
 use Rattle.std.proofs.lemmas.Result.{IfOk-from_err}
 use Rattle.yaml_base.specs.Layout.{open_ended_after}
 use Rattle.yaml_emitter.proofs.pieces.WritingScalars.{chosen_fits, wrote_scalar}
