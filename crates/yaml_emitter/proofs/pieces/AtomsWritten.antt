@@ -7,7 +7,7 @@ use Rattle.yaml_emitter.proofs.Common.{render_spelled_tag, spelled_count, piece_
 use Rattle.yaml_base.specs.declared.errors.yaml_error_t.{yaml_error_t}
 use Rattle.yaml_emitter.{proofs.pieces.WritingPieces.wrote_lead, specs.declared.writing.spelling.SpelledTag.SpelledTag}
 
--- a place in flow, and one in a block
+-- a place in flow
 pub flow_here : (s : Effective) (place : Place) (simple : Bool) (cursor : Cursor) → place.in_flow ≡ true
     → render_flow_place s place.role simple place.column cursor ≡ render_place s place simple cursor
 flow_here s place simple cursor is =
@@ -26,12 +26,6 @@ flow_at_line s role simple line column cursor is =
     by_line (as_key first) = refl
     by_line (as_value true) = refl
     by_line (as_value false) = refl
-
-pub block_here : (s : Effective) (place : Place) (simple : Bool) (cursor : Cursor) → place.in_flow ≡ false
-    → render_block_place place.role simple place.column cursor ≡ render_place s place simple cursor
-block_here s place simple cursor is =
-    sym (ap (λ (b : Bool). if b then render_flow_place s place.role simple place.column cursor else render_block_place place.role simple place.column
-    cursor) is)
 
 -- the bytes of a tag are those of its spelling
 pub tag_count-spelled : (directives : List TagDirective) (tag : Option Text) → spelled_count (option_map (spelling directives) tag) ≡ tag_count directives tag

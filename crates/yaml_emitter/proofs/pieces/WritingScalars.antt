@@ -1,12 +1,12 @@
 -- Scalars: what the writers of the styles write is the text that the layout puts there, and with what stands before it
 -- the scalar's piece.
 use Rattle.yaml_emitter.proofs.Common.{ℕ, if◌then◌else◌, ◌==◌, option_map, Option, None, Result, Err, Ok, negsuc, pos, ℤ, length, Bool}
-use Rattle.yaml_emitter.proofs.Common.{false, not, true, ◌&&◌, ◌||◌, List, refl, ◌≡◌, append_assoc, inl, inr, ap, subst, sym, ◌∙◌, arith, and_parts, ints}
+use Rattle.yaml_emitter.proofs.Common.{false, not, true, ◌&&◌, List, refl, ◌≡◌, append_assoc, inl, inr, ap, subst, sym, ◌∙◌, arith, and_parts, ints}
 use Rattle.yaml_emitter.proofs.Common.{chars, Text, Cursor, Rendered, render_then, ScalarStyle, any_style, plain, single_quoted}
 use Rattle.yaml_emitter.proofs.Common.{double_quoted, literal, folded, TagDirective, Scalar, scalar_tag, render_anchor, render_properties, render_separation}
 use Rattle.yaml_emitter.proofs.Common.{render_body, allowed_under, charset_of, choice_of, scalar_piece, Place, deeper, render_place, Effective, Spelling}
 use Rattle.yaml_emitter.proofs.Common.{spelling, Charset}
-use Rattle.yaml_emitter.proofs.Common.{Allowances, is_empty, Choice, is_plain, requested_style, quoted_style, fitting_style, fits_plain, chosen}
+use Rattle.yaml_emitter.proofs.Common.{Allowances, is_empty, Choice, quoted_style, fitting_style}
 use Rattle.yaml_emitter.proofs.Common.{seen_effective, render_scalar_text, style_fits, render_spelled_tag, piece_at, wrote_as, Page, Wrote}
 use Rattle.yaml_base.proofs.Charsets.{literal_allowed}
 use Rattle.yaml_base.proofs.Common.{allows_literal, false≢true, [], ◌∷◌}
@@ -181,32 +181,6 @@ chosen_fits s place simple content =
     fitting_fits allowed _ _ _ content.value simple
     (λ fits. both allowed.block (not place.in_flow) (not simple) (not (is_empty content.value)) fits
     (λ block. literal_some (charset_of s) content.value (literal_allowed s content block)))
-
--- where double quotes are asked for in any case, they are chosen, whatever the value allows
-surely_asked : (canonical other : Bool) (asked : ScalarStyle) → requested_style canonical asked ≡ double_quoted
-    → requested_style (canonical || other) asked ≡ double_quoted
-surely_asked true other asked h = h
-surely_asked false true asked h = refl
-surely_asked false false asked h = h
-
-bare_in_quotes : (tag_written quoted_implicit : Bool)
-    → (not tag_written && not quoted_implicit && not (is_plain double_quoted)) ≡ (not tag_written && not quoted_implicit)
-bare_in_quotes true true = refl
-bare_in_quotes true false = refl
-bare_in_quotes false true = refl
-bare_in_quotes false false = refl
-
-pub chosen_surely : (allowed : Allowances) (asked : ScalarStyle) (empty tag_written plain_implicit quoted_implicit flow simple canonical : Bool)
-    → requested_style canonical asked ≡ double_quoted
-    → chosen allowed asked empty tag_written plain_implicit quoted_implicit flow simple canonical
-    ≡ record { style = double_quoted; bare = not tag_written && not quoted_implicit }
-chosen_surely allowed asked empty tag_written plain_implicit quoted_implicit flow simple canonical h =
-    let whole : ScalarStyle → Choice = λ style. record { style = style; bare = not tag_written && not quoted_implicit && not (is_plain style) } in
-    let quotes : Bool → Choice = λ bare. record { style = double_quoted; bare = bare } in
-    ap whole
-    (ap (fitting_style allowed (fits_plain allowed empty tag_written plain_implicit flow simple) (allowed.block && not flow && not simple))
-    (surely_asked canonical (simple && allowed.multiline) asked h))
-    ∙ ap quotes (bare_in_quotes tag_written quoted_implicit)
 
 module _ (s : Effective) (directives : List TagDirective) (place : Place) (simple : Bool) (content : Scalar) where
   -- what stands before a scalar's text, its tag as it is spelled, and the text

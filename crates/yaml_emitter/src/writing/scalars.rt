@@ -69,7 +69,8 @@ fn choose(
 {
     let settings = site.settings;
     let asked = style_asked(site, content);
-    if is_surely_double(settings.canonical, asked) {
+    // Double quotes are written, whatever the value holds.
+    if settings.canonical || matches!(asked, YAML_DOUBLE_QUOTED_SCALAR_STYLE) {
         let bare = !tag_written && !content.quoted_implicit;
         return Ok((YAML_DOUBLE_QUOTED_SCALAR_STYLE, bare));
     }
@@ -172,13 +173,6 @@ fn escapes_separators(settings: &EffectiveSettings) -> bool
     ensures { result ≡ in_force.escapes_separators (seen_effective settings.now) }
 {
     settings.breaks12 || settings.portable
-}
-
-/// Returns whether double quotes are written, whatever the value holds.
-fn is_surely_double(canonical: bool, style: yaml_scalar_style_t) -> bool
-    ensures { result ≡ true → requested_style canonical (seen_scalar_style style) ≡ double_quoted }
-{
-    canonical || matches!(style, YAML_DOUBLE_QUOTED_SCALAR_STYLE)
 }
 
 fn is_empty_value(value: &str) -> bool
