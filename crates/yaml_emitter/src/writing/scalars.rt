@@ -1,14 +1,13 @@
 //! Scalars: their style, what stands before them, and their text (YAML 1.1, chapter 9).
 
-ghost use Rattle.std.specs.Prelude.{◌≡◌, ◌&&◌, ◌||◌, false, true, IfOk, IsOk, chars, is_some, if◌then◌else◌};
+ghost use Rattle.std.specs.Prelude.{◌≡◌, ◌&&◌, ◌||◌, false, IfOk, IsOk, chars, is_some, if◌then◌else◌};
 ghost use Rattle.yaml_base.specs.scalars.Analysis as analysis;
 ghost use Rattle.yaml_base.specs.scalars.Analysis.{is_empty};
-ghost use Rattle.yaml_base.specs.Event.{double_quoted};
 ghost use Rattle.yaml_base.specs.Layout.{allowed_under, charset_of, choice_of, style_asked_at};
 ghost use Rattle.yaml_base.specs.Event.{scalar_tag};
 ghost use Rattle.yaml_base.specs.Seen.{seen_scalar_style};
 ghost use Rattle.yaml_base.specs.Settings as in_force;
-ghost use Rattle.yaml_base.specs.scalars.Style.{is_literal, lacks_tag_and_flags, requested_style};
+ghost use Rattle.yaml_base.specs.scalars.Style.{is_literal, lacks_tag_and_flags};
 ghost use Rattle.yaml_pen.specs.Page.{IsReady};
 ghost use Rattle.yaml_scalar.specs.ScalarData.{ChooseAlike, seen_choice, seen_data};
 ghost use Rattle.yaml_emitter.specs.BorrowedTexts.{seen_scalar};
