@@ -1,6 +1,6 @@
 //! Scalars: their style, what stands before them, and their text (YAML 1.1, chapter 9).
 
-ghost use Rattle.std.specs.Prelude.{◌≡◌, ◌&&◌, ◌||◌, false, IfOk, IsOk, chars, is_some, if◌then◌else◌};
+ghost use Rattle.std.specs.Prelude.{◌≡◌, ◌&&◌, false, IfOk, IsOk, chars, is_some, if◌then◌else◌};
 ghost use Rattle.yaml_base.specs.scalars.Analysis as analysis;
 ghost use Rattle.yaml_base.specs.scalars.Analysis.{is_empty};
 ghost use Rattle.yaml_base.specs.Layout.{allowed_under, charset_of, choice_of, style_asked_at};
@@ -92,7 +92,8 @@ fn choose(
 fn allowed_styles(settings: &EffectiveSettings, content: &ScalarContent) -> scalar_data_t
     ensures { ChooseAlike (seen_data result) (allowed_under (seen_effective settings.now) (seen_scalar content.now)) }
 {
-    if changes_styles(settings, content.style) {
+    // The settings change what an analysis finds: double quotes stand in place of single ones, or blanks are literal.
+    if settings.double_quotes || are_blanks_literal(settings, content.style) {
         return exactly_allowed(settings, content);
     }
     analyze_for_style(
@@ -100,13 +101,6 @@ fn allowed_styles(settings: &EffectiveSettings, content: &ScalarContent) -> scal
         settings.unicode,
         escapes_separators(settings),
     )
-}
-
-/// Returns whether the settings change what an analysis finds: double quotes stand in place of single ones, or blanks are literal.
-fn changes_styles(settings: &EffectiveSettings, style: yaml_scalar_style_t) -> bool
-    ensures { result ≡ (settings.now.double_quotes || (is_literal (seen_scalar_style style) && settings.now.literal_blanks)) }
-{
-    settings.double_quotes || are_blanks_literal(settings, style)
 }
 
 /// Returns exactly the styles that a value allows: no single quotes where double ones are asked for in their place, and where
