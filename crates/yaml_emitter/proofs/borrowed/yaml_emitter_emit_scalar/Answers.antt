@@ -1,4 +1,5 @@
-use Rattle.yaml_emitter.proofs.Common.{Result, Err, true, false, [], refl, ◌≡◌, ap, subst, sym, ◌∙◌, scalar, seen_events, seen_scalar, state_of, State, machine_of}
+use Rattle.yaml_emitter.proofs.Common.{Result, Err, true, false, [], refl, ◌≡◌, ap}
+use Rattle.yaml_emitter.proofs.Common.{subst, sym, ◌∙◌, scalar, seen_events, seen_scalar, state_of, State, machine_of}
 use Rattle.yaml_base.specs.declared.errors.{yaml_error_t.yaml_error_t}
 use Rattle.yaml_emitter.proofs.{standing.EmitterKept.has_output_inside, standing.EmitterKept.kept_emitting, standing.KeepsSet.with_machine}
 use Rattle.yaml_emitter.proofs.standing.EmittingEvents.{emits_alone, emits_failed, emits_stopped, starting, wrote_alone}

@@ -52,7 +52,8 @@ returns-in_err-write_simple_ascii_scalar g c = λ content stands same names empt
     let indent_fits : SFits w32 c.line_indent-indent.result = search rules in
     rw (← c.self.view_is)
     (processed_exit (scalar (seen_scalar content)) empty
-    (machine_state c.self.inside) _ c.in_err-write_simple_ascii_scalar.field-0.0 c.from_residual-in_err-write_simple_ascii_scalar.result c.from_residual-in_err-write_simple_ascii_scalar.ensures
+    (machine_state c.self.inside) _ c.in_err-write_simple_ascii_scalar.field-0.0
+    c.from_residual-in_err-write_simple_ascii_scalar.result c.from_residual-in_err-write_simple_ascii_scalar.ensures
     (scalar_cut (machine_state c.self.inside) c.self.inside.directives c.self.inside.frames
     (seen_scalar content) empty simple (seen_place place) c.write_simple_ascii_scalar.new.pen c.in_err-write_simple_ascii_scalar.field-0.0
     (seen_at_node c.self.inside (at_node_inside c.self.inside c.self.view_is c.requires.stage))
