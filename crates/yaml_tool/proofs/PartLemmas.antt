@@ -47,6 +47,10 @@ bad_all (Some all) None prefix error answer says end bad reported = absurd says
 bad_all (Some all) (Some left) prefix error answer says end bad reported =
     subst (IsFault answer) (sym (says ∙ ap (script_with prefix) end)) (reported (script_with prefix []) bad)
 
+pub no_memory : (given : Option (List ℕ)) → IfSome given (λ all. IsFault NoMemory (script_of all))
+no_memory None = tt
+no_memory (Some all) = tt
+
 pub bad_prefix : {A : Type 0} (given left : Option (List ℕ)) (prefix : ScriptPrefix A) (answer : run_answer_t) → StillSays given prefix left
     → IfSome left (λ bytes. IsFault answer (script_with prefix bytes)) → IfSome given (λ all. IsFault answer (script_of all))
 bad_prefix None left prefix answer says bad = tt

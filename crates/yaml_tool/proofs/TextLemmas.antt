@@ -112,7 +112,7 @@ reads_prefix (c ∷ prefix) behind no_exclamation no_backslash =
     go (Some more) = refl
 
 -- so does what stands before the first of them
-pub reads_skipped : (text behind prefix : List ℕ) → IsUtf8 text → SkipsTo quotation_mark backslash text behind → prefix ≡ prefix_of text behind
+reads_skipped : (text behind prefix : List ℕ) → IsUtf8 text → SkipsTo quotation_mark backslash text behind → prefix ≡ prefix_of text behind
     → ReadsPrefix (chars text) (chars prefix) (chars behind)
 reads_skipped text behind prefix is skipped begins =
     ap (text_from at_character) (passed_to text behind skipped.ends is skipped.is_end).all
@@ -120,7 +120,7 @@ reads_skipped text behind prefix is skipped begins =
     ∙ ap (λ (bytes : List ℕ). option_map (λ more. chars bytes ++ more) (text_from at_character (chars behind))) (sym begins)
 
 -- bytes that have grown by those of a prefix
-pub prefix_taken : (text grown prefix : List ℕ) (whole behind : Text) → IsUtf8 text → grown ≡ text ++ prefix → ReadsPrefix whole (chars prefix) behind
+prefix_taken : (text grown prefix : List ℕ) (whole behind : Text) → IsUtf8 text → grown ≡ text ++ prefix → ReadsPrefix whole (chars prefix) behind
     → option_map (λ more. chars text ++ more) (text_from at_character whole) ≡ option_map (λ more. chars grown ++ more) (text_from at_character behind)
 prefix_taken text grown prefix whole behind is grows reads = ap (option_map (λ more. chars text ++ more)) reads ∙ go (text_from at_character behind)
   where
@@ -131,3 +131,12 @@ prefix_taken text grown prefix whole behind is grows reads = ap (option_map (λ 
         ≡ option_map (λ more. chars grown ++ more) read
     go None = refl
     go (Some more) = ap (λ (t : Text). Some t) (sym (append_assoc (chars text) (chars prefix) more) ∙ ap (λ (t : Text). t ++ more) (sym seen))
+
+-- a string that has grown by what stands before the first of them
+pub skipped_taken : {A : Type 0} (text grown : String A) (rest behind prefix : List ℕ) → IsUtf8 rest → SkipsTo quotation_mark backslash rest behind
+    → prefix ≡ prefix_of rest behind → string_bytes grown ≡ string_bytes text ++ prefix
+    → option_map (λ more. seen_text text ++ more) (text_from at_character (chars rest))
+    ≡ option_map (λ more. seen_text grown ++ more) (text_from at_character (chars behind))
+skipped_taken text grown rest behind prefix is skipped begins grows =
+    prefix_taken (string_bytes text) (string_bytes grown) prefix (chars rest) (chars behind) (IsUtf8-string_bytes text) grows
+    (reads_skipped rest behind prefix is skipped begins)

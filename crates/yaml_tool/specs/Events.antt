@@ -1,11 +1,8 @@
 -- What contracts see of the fields of events.
-use Rattle.std.specs.Prelude.{Bool, Option, None, [], ◌∷◌, option_map, option_and_then, List, map, Vec, codes}
+use Rattle.std.specs.Prelude.{Bool, Option, None, [], ◌∷◌, option_map, option_and_then, List, codes}
 use Rattle.yaml_base.specs.Characters.{Text}
-use Rattle.yaml_base.specs.Event.{Event, ScalarStyle, Version, TagDirective, Collection, CollectionStyle, any_layout, block, flow, stream_end, sequence_start}
+use Rattle.yaml_base.specs.Event.{Event, ScalarStyle, Collection, CollectionStyle, any_layout, block, flow, stream_end, sequence_start}
 use Rattle.yaml_base.specs.Event.{sequence_end, mapping_start, mapping_end}
-use Rattle.yaml_base.specs.Seen.{seen_version, seen_directive}
-use Rattle.yaml_base.specs.declared.directives.yaml_version_directive_t.{yaml_version_directive_t}
-use Rattle.yaml_base.specs.declared.directives.yaml_tag_directive_t.{yaml_tag_directive_t}
 use Rattle.yaml_base.specs.scripts.Script.{Field, quoted, text_or_none, scalar_with, stream_start_of, alone, document_start_of, document_end_of}
 use Rattle.yaml_base.specs.scripts.Script.{alias_of, scalar_of, collection_of}
 use Rattle.yaml_base.specs.declared.kinds.CollectionKind.{CollectionKind}
@@ -57,11 +54,3 @@ seen_collection_style style.Flow = flow
 abbrev pub start_of : CollectionKind → Collection → Event
 start_of Sequence all = sequence_start all
 start_of Mapping all = mapping_start all
-
--- a version, or none, where it was read
-abbrev pub seen_versions : Option (Option yaml_version_directive_t) → Option (Option Version)
-seen_versions choice = option_map (λ version. option_map seen_version version) choice
-
--- directives, where they were read
-abbrev pub seen_directives : {A : Type 0} → Option (Vec (yaml_tag_directive_t A) A) → Option (List TagDirective)
-seen_directives choice = option_map (λ all. map seen_directive all.items) choice

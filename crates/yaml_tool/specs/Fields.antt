@@ -1,5 +1,5 @@
 -- What contracts see of the fields of a line, which are read one after another.
-use Rattle.std.specs.Prelude.{ℕ, suc, ◌≡◌, ⊤, false, Option, None, Some, List, [], ◌∷◌, length, option_map, codes}
+use Rattle.std.specs.Prelude.{ℕ, suc, ◌≡◌, ⊤, Option, None, Some, List, [], ◌∷◌, length, option_map, codes}
 use Rattle.std.specs.Borrow.{Bor}
 use Rattle.std.specs.List.{onto_first}
 use Rattle.std.specs.Str.{chars, IsUtf8}
@@ -68,11 +68,6 @@ no_text = bare (codes "-")
 abbrev pub field_of : Option Text → notation.Field
 field_of None = no_text
 field_of (Some text) = quoted text
-
--- the first field doesn't stand for no text
-abbrev pub HasNoDash : Option (List notation.Field) → Type 0
-HasNoDash (Some (bare word ∷ rest)) = notation.is_word word (codes "-") ≡ false
-HasNoDash _ = ⊤
 
 -- the first field stands for no text and for none
 abbrev pub HasNoChoice : Option (List notation.Field) → Type 0

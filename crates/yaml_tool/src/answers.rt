@@ -2,7 +2,6 @@
 ghost use Rattle.std.specs.Prelude.{◌≡◌, IsOk, OnOk, Some};
 ghost use Rattle.std.specs.Io.KnownBytes.{Appends};
 ghost use Rattle.yaml_tool.specs.Answers.{fault_text, answer_line, status_of};
-ghost use Rattle.yaml_tool.specs.Answers as answers;
 
 use std::io::Write;
 use std::{fmt, io};
@@ -70,19 +69,6 @@ impl fmt::Debug for Fault {
     }
 }
 
-fn fault_of(answer: &run_answer_t) -> Option<Fault>
-    ensures { result ≡ answers.answer_fault answer.now }
-{
-    match answer {
-        run_answer_t::Done => None,
-        run_answer_t::Refused(line, error) => Some(Fault::Refused(*line, *error)),
-        run_answer_t::BadLine(line) => Some(Fault::BadLine(*line)),
-        run_answer_t::ReadFailed => Some(Fault::ReadFailed),
-        run_answer_t::WriteFailed => Some(Fault::WriteFailed),
-        run_answer_t::NoMemory => Some(Fault::NoMemory),
-    }
-}
-
 /// Writes the line that reports a result, with a line break; nothing for `Done`.
 ///
 /// # Errors
@@ -92,8 +78,13 @@ pub fn write_line<W: Write>(answer: &run_answer_t, writer: &mut W) -> io::Result
     ensures done { answer.now ≡ run_answer_t.Done → IsOk result × (W.contents writer.new ≡ W.contents writer.old) }
     ensures line { OnOk result (Appends (W.contents writer.old) (W.contents writer.new) (answer_line answer.now)) }
 {
-    match fault_of(answer) {
-        None => Ok(()),
-        Some(fault) => writeln!(writer, "{fault}"),
-    }
+    let fault = match answer {
+        run_answer_t::Done => return Ok(()),
+        run_answer_t::Refused(line, error) => Fault::Refused(*line, *error),
+        run_answer_t::BadLine(line) => Fault::BadLine(*line),
+        run_answer_t::ReadFailed => Fault::ReadFailed,
+        run_answer_t::WriteFailed => Fault::WriteFailed,
+        run_answer_t::NoMemory => Fault::NoMemory,
+    };
+    writeln!(writer, "{fault}")
 }

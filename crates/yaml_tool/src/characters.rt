@@ -2,7 +2,6 @@
 ghost use Rattle.std.specs.Prelude.{◌≡◌, ◌++◌, ◌∷◌, ◌<◌, [], length, IfSome, MatchOption};
 ghost use Rattle.std.specs.Char.{encode_utf8};
 ghost use Rattle.std.specs.Str.{chars, IsUtf8};
-ghost use Rattle.memchr.specs.Find.{IsFirstByte, is_byte2};
 ghost use Rattle.yaml_tool.specs.Cuts.{IsFree, IsCut, EndsIn, SkipsTo, prefix_of};
 
 use memchr::memchr2;
@@ -41,27 +40,17 @@ pub fn from_delimiter(first: u8, second: u8, text: &str) -> &str
     }
 }
 
-/// Returns the place of the first of two bytes, looked for byte by byte.
-fn first_place_by_bytes(first: u8, second: u8, bytes: &[u8]) -> Option<usize>
-    ensures { IsFirstByte (is_byte2 first second) bytes.now result }
-{
-    for (index, byte) in bytes.iter().enumerate() {
-        if *byte == first || *byte == second {
-            return Some(index);
-        }
-    }
-    None
-}
-
-/// Returns the text from the first space or quotation mark on; empty if it contains neither. Words are too short for a wide
-/// search.
+/// Returns the text from the first space or quotation mark on; empty if it contains neither. Looks byte by byte: words are too
+/// short for a wide search.
 pub fn skip_word(text: &str) -> &str
     ensures { SkipsTo 0x20 0x22 text.now result.now }
 {
-    match first_place_by_bytes(b' ', b'"', text.as_bytes()) {
-        Some(place) => &text[place..],
-        None => "",
+    for (place, byte) in text.as_bytes().iter().enumerate() {
+        if *byte == b' ' || *byte == b'"' {
+            return &text[place..];
+        }
     }
+    ""
 }
 
 /// Returns the texts before and after the first occurrence of a character.

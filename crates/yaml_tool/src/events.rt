@@ -1,9 +1,8 @@
 //! The events of a script's lines.
 ghost use Rattle.std.specs.Prelude.{◌≡◌, Some, option_map, option_and_then, IfOk};
-ghost use Rattle.std.specs.Str.{chars};
 ghost use Rattle.yaml_base.specs.scripts.Script as notation;
-ghost use Rattle.yaml_base.specs.Seen.{seen_event, seen_text, seen_scalar_style, seen_sequence_style, seen_mapping_style};
-ghost use Rattle.yaml_tool.specs.Events.{event_by, scalar_from, start_of, seen_collection_style, seen_versions, seen_directives};
+ghost use Rattle.yaml_base.specs.Seen.{seen_event, seen_text, seen_scalar_style};
+ghost use Rattle.yaml_tool.specs.Events.{event_by, scalar_from, start_of, seen_collection_style};
 ghost use Rattle.yaml_tool.specs.Fields.{later_fields};
 
 use crate::directives::{directives_of, version_or_none};
@@ -13,10 +12,7 @@ use crate::words::{
     scalar_style_named,
 };
 use std::alloc::{AllocError, Allocator};
-use yaml_base::{
-    yaml_event_t, yaml_mapping_style_t, yaml_scalar_style_t, yaml_sequence_style_t,
-    yaml_tag_directive_t, yaml_version_directive_t,
-};
+use yaml_base::{yaml_event_t, yaml_mapping_style_t, yaml_scalar_style_t, yaml_sequence_style_t};
 use yaml_emitter::CollectionKind;
 
 /// Parses what follows `+STR`: an encoding.
@@ -25,28 +21,6 @@ fn stream_start_of<A: Allocator>(rest: Option<&str>) -> Option<yaml_event_t<A>>
 {
     let encoding = encoding_named(last_word(rest)?)?;
     Some(yaml_event_t::YAML_STREAM_START_EVENT { encoding })
-}
-
-/// Returns a document's start; `None` if one of its parts was not understood.
-fn document_start_with<A: Allocator>(
-    implicit: Option<bool>,
-    version_directive: Option<Option<yaml_version_directive_t>>,
-    tag_directives: Option<Vec<yaml_tag_directive_t<A>, A>>,
-) -> Option<yaml_event_t<A>>
-    ensures { option_map seen_event result ≡ notation.document_start_with implicit (seen_versions version_directive) (seen_directives tag_directives) }
-{
-    let (Some(implicit), Some(version_directive), Some(tag_directives)) = (
-        implicit,
-        version_directive,
-        tag_directives,
-    ) else {
-        return None;
-    };
-    Some(yaml_event_t::YAML_DOCUMENT_START_EVENT {
-        implicit,
-        version_directive,
-        tag_directives,
-    })
 }
 
 /// Parses what follows `+DOC`: whether it is implicit, a version, directives.
@@ -62,8 +36,18 @@ fn document_start_of<A: Allocator + Copy>(
     let Some((version, rest)) = word_after(rest) else {
         return Ok(None);
     };
-    let directives = directives_of(alloc, rest)?;
-    Ok(document_start_with(flag_named(implicit), version_or_none(version), directives))
+    let (Some(implicit), Some(version_directive), Some(tag_directives)) = (
+        flag_named(implicit),
+        version_or_none(version),
+        directives_of(alloc, rest)?,
+    ) else {
+        return Ok(None);
+    };
+    Ok(Some(yaml_event_t::YAML_DOCUMENT_START_EVENT {
+        implicit,
+        version_directive,
+        tag_directives,
+    }))
 }
 
 /// Parses what follows `-DOC`: whether it is implicit.
@@ -196,28 +180,6 @@ struct CollectionFields<A: Allocator> {
     tag: Option<String<A>>,
 }
 
-/// Parses a sequence's style.
-fn sequence_style(style: CollectionStyle) -> yaml_sequence_style_t
-    ensures { seen_sequence_style result ≡ seen_collection_style style }
-{
-    match style {
-        CollectionStyle::Any => yaml_sequence_style_t::YAML_ANY_SEQUENCE_STYLE,
-        CollectionStyle::Block => yaml_sequence_style_t::YAML_BLOCK_SEQUENCE_STYLE,
-        CollectionStyle::Flow => yaml_sequence_style_t::YAML_FLOW_SEQUENCE_STYLE,
-    }
-}
-
-/// Parses a mapping's style.
-fn mapping_style(style: CollectionStyle) -> yaml_mapping_style_t
-    ensures { seen_mapping_style result ≡ seen_collection_style style }
-{
-    match style {
-        CollectionStyle::Any => yaml_mapping_style_t::YAML_ANY_MAPPING_STYLE,
-        CollectionStyle::Block => yaml_mapping_style_t::YAML_BLOCK_MAPPING_STYLE,
-        CollectionStyle::Flow => yaml_mapping_style_t::YAML_FLOW_MAPPING_STYLE,
-    }
-}
-
 /// Returns a collection's start; `None` if its style or its flag was not understood.
 fn collection_with<A: Allocator>(
     kind: CollectionKind,
@@ -234,13 +196,21 @@ fn collection_with<A: Allocator>(
     let tag = fields.tag;
     Some(match kind {
         CollectionKind::Sequence => yaml_event_t::YAML_SEQUENCE_START_EVENT {
-            style: sequence_style(style),
+            style: match style {
+                CollectionStyle::Any => yaml_sequence_style_t::YAML_ANY_SEQUENCE_STYLE,
+                CollectionStyle::Block => yaml_sequence_style_t::YAML_BLOCK_SEQUENCE_STYLE,
+                CollectionStyle::Flow => yaml_sequence_style_t::YAML_FLOW_SEQUENCE_STYLE,
+            },
             implicit,
             anchor,
             tag,
         },
         CollectionKind::Mapping => yaml_event_t::YAML_MAPPING_START_EVENT {
-            style: mapping_style(style),
+            style: match style {
+                CollectionStyle::Any => yaml_mapping_style_t::YAML_ANY_MAPPING_STYLE,
+                CollectionStyle::Block => yaml_mapping_style_t::YAML_BLOCK_MAPPING_STYLE,
+                CollectionStyle::Flow => yaml_mapping_style_t::YAML_FLOW_MAPPING_STYLE,
+            },
             implicit,
             anchor,
             tag,

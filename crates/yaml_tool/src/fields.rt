@@ -5,8 +5,8 @@ ghost use Rattle.std.specs.Prelude.{◌≡◌, ◌<◌, ◌≤◌, true, false, 
 ghost use Rattle.std.specs.Str.{chars, IsUtf8};
 ghost use Rattle.yaml_base.specs.scripts.Script as notation;
 ghost use Rattle.yaml_base.specs.Seen.{seen_text};
-ghost use Rattle.yaml_tool.specs.Fields.{seen_field_state, SkipsRunTo, later_fields, left_length, prepend_field, no_text, field_of, only_word};
-ghost use Rattle.yaml_tool.specs.Fields.{HasField, HasNoWord, HasNoText, HasNoDash, HasNoChoice};
+ghost use Rattle.yaml_tool.specs.Fields.{seen_field_state, SkipsRunTo, later_fields, left_length, prepend_field, field_of, only_word};
+ghost use Rattle.yaml_tool.specs.Fields.{HasField, HasNoWord, HasNoText, HasNoChoice};
 
 use crate::characters::{first_character, from_delimiter, prefix_before, skip_word};
 use crate::texts::text_after_quote;
@@ -25,13 +25,6 @@ enum FieldState {
 }
 
 impl FieldState {
-    /// Returns whether a character in this state separates two fields.
-    fn separates(self, character: char) -> bool
-        ensures { result ≡ notation.separates (seen_field_state self) character }
-    {
-        matches!(self, FieldState::Outside) && character == ' '
-    }
-
     /// Skips characters that separate no fields and leave the state as it is.
     fn skip_run(self, text: &str) -> &str
         ensures { SkipsRunTo (seen_field_state self) text.now result.now }
@@ -43,16 +36,19 @@ impl FieldState {
         }
     }
 
-    /// Returns the state after a character.
-    fn after(self, character: char) -> FieldState
-        ensures { seen_field_state result ≡ notation.state_after (seen_field_state self) character }
+    /// Returns the state after a character, unless this separates two fields.
+    fn after(self, character: char) -> Option<FieldState>
+        ensures { MatchOption result (notation.separates (seen_field_state self) character ≡ true)
+            (λ next. (notation.separates (seen_field_state self) character ≡ false)
+            × (seen_field_state next ≡ notation.state_after (seen_field_state self) character)) }
     {
         match (self, character) {
-            (FieldState::Outside, '"') => FieldState::Inside,
-            (FieldState::Outside, _) => FieldState::Outside,
-            (FieldState::Inside, '"') => FieldState::Outside,
-            (FieldState::Inside, '\\') => FieldState::Escaped,
-            (FieldState::Inside | FieldState::Escaped, _) => FieldState::Inside,
+            (FieldState::Outside, ' ') => None,
+            (FieldState::Outside, '"') => Some(FieldState::Inside),
+            (FieldState::Outside, _) => Some(FieldState::Outside),
+            (FieldState::Inside, '"') => Some(FieldState::Outside),
+            (FieldState::Inside, '\\') => Some(FieldState::Escaped),
+            (FieldState::Inside | FieldState::Escaped, _) => Some(FieldState::Inside),
         }
     }
 }
@@ -75,10 +71,10 @@ fn first_field(line: &str) -> (&str, Option<&str>)
     let mut standing = FieldState::Outside;
     let mut rest = standing.skip_run(line);
     while let Some((character, after)) = first_character(rest) {
-        if standing.separates(character) {
+        let Some(next) = standing.after(character) else {
             return (prefix_before(line, rest), Some(after));
-        }
-        standing = standing.after(character);
+        };
+        standing = next;
         rest = standing.skip_run(after);
     }
     (line, None)
@@ -130,20 +126,6 @@ pub fn text_after<A: Allocator>(
     }
 }
 
-/// Returns what is left after the next field, if that is `-`.
-#[inline(always)]
-fn skip_dash(rest: Option<&str>) -> Option<Option<&str>>
-    ensures { MatchOption result (HasNoDash (later_fields rest.entry))
-        (λ others. later_fields rest.entry ≡ prepend_field no_text (later_fields others)) }
-{
-    let (word, others) = word_after(rest)?;
-    if is_word(word, "-") {
-        Some(others)
-    } else {
-        None
-    }
-}
-
 /// Returns the value of the next field and what is left, if that field is a text, or `-` for none.
 #[inline(always)]
 pub fn choice_after<A: Allocator>(
@@ -154,8 +136,12 @@ pub fn choice_after<A: Allocator>(
         MatchOption choice (HasNoChoice (later_fields rest.entry))
         (λ parts. later_fields rest.entry ≡ prepend_field (field_of (option_map seen_text parts.0)) (later_fields parts.1))) }
 {
-    if let Some(others) = skip_dash(rest) {
-        return Ok(Some((None, others)));
+    if let Some((word, others)) = word_after(rest) {
+        return if is_word(word, "-") {
+            Ok(Some((None, others)))
+        } else {
+            Ok(None)
+        };
     }
     match text_after(alloc, rest)? {
         Some((text, others)) => Ok(Some((Some(text), others))),

@@ -1,5 +1,5 @@
 //! Decimal numbers of a script's lines. Leading zeros are accepted.
-ghost use Rattle.std.specs.Prelude.{◌≡◌, ◌≤◌, pos, neg_ℤ, option_map};
+ghost use Rattle.std.specs.Prelude.{◌≡◌, ◌≤◌, pos, option_map};
 ghost use Rattle.std.specs.Str.{chars};
 ghost use Rattle.yaml_base.specs.scripts.Script as notation;
 ghost use Rattle.yaml_base.specs.Settings.{largest_i32};
@@ -48,20 +48,15 @@ pub fn natural_number(word: &str) -> Option<i32>
     number_up_to(LARGEST_I32, word).map(|number| number as i32)
 }
 
-fn negative(number: u32) -> i32
-    requires { number ≤ 2147483648 }
-    ensures { result ≡ neg_ℤ (pos number) }
-{
-    (-i64::from(number)) as i32
-}
-
 /// Parses a decimal `i32`: `-` stands before a negative one.
 pub fn signed_number(word: &str) -> Option<i32>
     ensures { result ≡ notation.signed_number (chars word.now) }
 {
     match first_character(word) {
         None => None,
-        Some(('-', rest)) => number_up_to(LARGEST_I32 + 1, rest).map(negative),
+        Some(('-', rest)) => {
+            number_up_to(LARGEST_I32 + 1, rest).map(|number| (-i64::from(number)) as i32)
+        }
         Some(_) => natural_number(word),
     }
 }

@@ -10,7 +10,6 @@ use crate::answers::run_answer_t;
 use crate::scripts::{Progress, Script, ScriptError, finish, take_lines};
 use memchr::memchr;
 use std::alloc::Allocator;
-use std::io;
 use std::io::{ErrorKind, Read};
 
 /// The number of bytes that are read at once.
@@ -84,28 +83,30 @@ impl<A: Allocator + Copy> ScriptPrefix<A> {
     }
 }
 
-/// Returns the result of a run whose script was not understood.
-fn answer_of(error: ScriptError) -> run_answer_t
-    ensures { (script : notation.Script) → IsFaultOf error script → IsFault result script }
-{
-    match error {
-        ScriptError::BadLine(line) => run_answer_t::BadLine(line),
-        ScriptError::OutOfMemory => run_answer_t::NoMemory,
-    }
-}
-
 /// Reads the input after a bad line to its end, and returns the result of the run.
 fn after_fault<R: Read>(reader: &mut R, error: ScriptError) -> run_answer_t
     ensures fault { (script : notation.Script) → IsFaultOf error script → IsFault result script }
     ensures read { ReadsAll result (R.remaining reader.new) }
 {
-    match error {
-        ScriptError::BadLine(line) => match skip_all(reader) {
-            Ok(()) => run_answer_t::BadLine(line),
-            Err(_) => run_answer_t::ReadFailed,
-        },
-        ScriptError::OutOfMemory => run_answer_t::NoMemory,
+    let ScriptError::BadLine(line) = error else {
+        return run_answer_t::NoMemory;
+    };
+    let mut part = [0; PART_SIZE];
+    // No reader promises to end, so the reads are counted.
+    let mut turns = u64::MAX;
+    while turns > 0 {
+        turns -= 1;
+        match reader.read(&mut part) {
+            Ok(0) => return run_answer_t::BadLine(line),
+            Ok(_) => {}
+            Err(error) => {
+                if error.kind() != ErrorKind::Interrupted {
+                    return run_answer_t::ReadFailed;
+                }
+            }
+        }
     }
+    run_answer_t::ReadFailed
 }
 
 /// Reads a part and parses it. Returns whether more may follow. After a bad line the input is read to its end.
@@ -153,31 +154,10 @@ pub fn read_script_from<A: Allocator + Copy, R: Read>(
         if !read_part(alloc, reader, &mut script)? {
             return match script.finish(alloc) {
                 Ok(script) => Ok(script),
-                Err(error) => Err(answer_of(error)),
+                Err(ScriptError::BadLine(line)) => Err(run_answer_t::BadLine(line)),
+                Err(ScriptError::OutOfMemory) => Err(run_answer_t::NoMemory),
             };
         }
     }
     Err(run_answer_t::ReadFailed)
-}
-
-/// Reads a reader to its end, and keeps nothing.
-fn skip_all<R: Read>(reader: &mut R) -> io::Result<()>
-    ensures { OnOk result (IsAtEnd (R.remaining reader.new)) }
-{
-    let mut part = [0; PART_SIZE];
-    // No reader promises to end, so the reads are counted.
-    let mut turns = u64::MAX;
-    while turns > 0 {
-        turns -= 1;
-        match reader.read(&mut part) {
-            Ok(0) => return Ok(()),
-            Ok(_) => {}
-            Err(error) => {
-                if error.kind() != ErrorKind::Interrupted {
-                    return Err(error);
-                }
-            }
-        }
-    }
-    Err(io::Error::from(ErrorKind::TimedOut))
 }

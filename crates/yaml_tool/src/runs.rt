@@ -1,9 +1,9 @@
 //! A whole run: a script is read, its events are emitted, and the output is written.
-ghost use Rattle.std.specs.Prelude.{◌≡◌, None, true, false, [], map, IfSome};
+ghost use Rattle.std.specs.Prelude.{◌≡◌, None, true, [], map, IfSome};
 ghost use Rattle.yaml_base.specs.scripts.Script as notation;
 ghost use Rattle.yaml_base.specs.Settings as given;
 ghost use Rattle.yaml_emitter.specs.StandsAfter.{StandsAfter};
-ghost use Rattle.yaml_tool.specs.Runs.{Emits, FlushesLast, AnswersScript, WritesNothing, ReadsAll};
+ghost use Rattle.yaml_tool.specs.Runs.{Emits, AnswersScript, WritesNothing, ReadsAll};
 ghost use Rattle.yaml_tool.specs.Scripts.{seen_numbered};
 
 use crate::answers::run_answer_t;
@@ -63,19 +63,9 @@ fn emit_all<A: Allocator + Copy>(
         }
         last = Some(line);
     }
-    match last {
-        Some(line) => flush_last(emitter, line),
-        None => run_answer_t::Done,
-    }
-}
-
-/// Flushes after the event of this line, which an error reports.
-fn flush_last<A: Allocator + Copy>(emitter: &mut yaml_emitter_t<A>, line: u64) -> run_answer_t
-    requires output { emitter.old.has_output ≡ true }
-    requires no_error { emitter.old.error ≡ None }
-    ensures flushed { FlushesLast line emitter.old result emitter.new }
-    ensures taken { emitter.new.page.taken ≡ emitter.old.page.taken }
-{
+    let Some(line) = last else {
+        return run_answer_t::Done;
+    };
     match yaml_emitter_flush(emitter) {
         Ok(()) => run_answer_t::Done,
         Err(error) => run_answer_t::Refused(line, error),

@@ -60,15 +60,6 @@ impl<A: Allocator + Copy> Progress<A> {
     }
 }
 
-impl<A: Allocator> Progress<A> {
-    /// Returns whether a setting is allowed there: no event and no setting of its name came before.
-    fn may_set(&self, setting: Setting) -> bool
-        ensures { result ≡ notation.may_be_set (seen_setting setting) (seen_progress self.now) }
-    {
-        self.events.is_empty() && !is_set(setting, self.settings.as_slice())
-    }
-}
-
 impl<A: Allocator + Copy> Progress<A> {
     /// Parses a line, and adds its setting or its event.
     ///
@@ -85,7 +76,8 @@ impl<A: Allocator + Copy> Progress<A> {
         match line {
             Some(Line::Nothing) => Ok(()),
             Some(Line::Sets(setting)) => {
-                if !self.may_set(setting) {
+                // No event and no setting of its name came before it.
+                if !self.events.is_empty() || is_set(setting, self.settings.as_slice()) {
                     return Err(ScriptError::BadLine(number));
                 }
                 match self.settings.push(setting) {

@@ -123,21 +123,14 @@ pub fn setting_of(name: &str, value: &str) -> Option<Setting>
     }
 }
 
-/// Returns the settings of a script that sets nothing.
-fn unset() -> Settings
-    ensures { seen_settings result ≡ notation.unset }
-{
-    Settings {
-        limit: 1_000_000_000,
-        ..Settings::default()
-    }
-}
-
-/// Returns the settings of several lines.
+/// Returns the settings of several lines. A script that sets nothing has a limit.
 pub fn settings_of(lines: &[Setting]) -> Settings
     ensures { seen_settings result ≡ notation.settings_of notation.unset (map seen_setting lines.now) }
 {
-    let mut settings = unset();
+    let mut settings = Settings {
+        limit: 1_000_000_000,
+        ..Settings::default()
+    };
     for line in lines {
         line.apply(&mut settings);
     }

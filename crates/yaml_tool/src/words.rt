@@ -1,27 +1,21 @@
 //! The words of a script's lines, and what they mean.
 ghost use Rattle.std.specs.Prelude.{◌≡◌, None, List, MatchOption, option_map, nat_lt, IsTrue};
 ghost use Rattle.std.specs.List.{list_all};
-ghost use Rattle.std.specs.Str.{bytes_eq, chars};
+ghost use Rattle.std.specs.Str.{chars};
 ghost use Rattle.yaml_base.specs.scripts.Script as notation;
 ghost use Rattle.yaml_base.specs.Seen.{seen_encoding, seen_break, seen_scalar_style};
 ghost use Rattle.yaml_tool.specs.Events.{event_word, seen_collection_style};
 
 use yaml_base::{yaml_break_t, yaml_encoding_t, yaml_scalar_style_t};
 
-/// Returns whether a word is this name, which is ASCII.
+/// Returns whether a word is this name, which is ASCII. Compares byte by byte, since the name is short and known when this is
+/// compiled.
 pub fn is_word(word: &str, name: &'static str) -> bool
     requires { IsTrue (list_all (λ byte. nat_lt byte 128) name.now) }
     ensures { result ≡ notation.is_word (chars word.now) name.now }
 {
-    is_same(word.as_bytes(), name.as_bytes())
-}
-
-/// Returns whether two texts are equal. Compares byte by byte, since the name is short and known when this is compiled.
-fn is_same(word: &[u8], name: &[u8]) -> bool
-    ensures { result ≡ bytes_eq word.now name.now }
-{
-    let mut left = word;
-    let mut named = name;
+    let mut left = word.as_bytes();
+    let mut named = name.as_bytes();
     loop {
         match (left, named) {
             ([byte, rest @ ..], [wanted, others @ ..]) => {

@@ -1,4 +1,4 @@
-use Rattle.yaml_tool.proofs.Common.{ℕ, false, true, List, [], ◌∷◌, ◌≡◌, ap, sym, ◌∙◌, arith, chars, outside, separates, pieces_from, field_read, field_and}
+use Rattle.yaml_tool.proofs.Common.{ℕ, List, [], ◌∷◌, ap, sym, ◌∙◌, arith, chars, outside, pieces_from, field_read, field_and}
 use Rattle.yaml_tool.proofs.Common.{fields_read, prefix_of, seen_field_state, prepend_to_first_piece}
 use Rattle.yaml_tool.proofs.CharacterLemmas.{nothing_passed, empty_prefix, one_passed, prefix_passed, all_passed}
 use Rattle.yaml_tool.proofs.FieldLemmas.{whole_line, stops_first, goes_first, further_on, skip_run, run_within, field_before, field_alone}
@@ -16,16 +16,16 @@ loop-character-init c =
       within = run_within outside line rest runs;
     }
 
-pub returns-then-separates-clause-cut : goal.returns-then-separates-clause-cut
-returns-then-separates-clause-cut c =
+pub returns-in_default-after-clause-cut : goal.returns-in_default-after-clause-cut
+returns-in_default-after-clause-cut c =
     let standing = seen_field_state c.loop-character.standing in
     let line = c.args.line.now in
     let rest = c.loop-character.rest.now in
     let after = chars c.in-Some.after.now in
     let prefix = chars (prefix_of line rest) in
-    let is : separates standing c.in-Some.character ≡ true = sym c.separates.ensures ∙ c.if-separates.true in
     field_before (chars line) prefix after
-    (c.loop-character.invariant.cut ∙ stops_first standing c.in-Some.character prefix (chars rest) after c.in-Some.ensures.characters is)
+    (c.loop-character.invariant.cut
+    ∙ stops_first standing c.in-Some.character prefix (chars rest) after c.in-Some.ensures.characters c.in_default-after.ensures)
     ∙ ap (λ (bytes : List ℕ). field_and (field_read (chars bytes)) (fields_read after)) (sym c.prefix_before.ensures)
 
 pub loop-character-preserved : goal.loop-character-preserved
@@ -38,14 +38,13 @@ loop-character-preserved c =
     let end = c.skip_run-rest-in-Some.result.now in
     let runs = c.skip_run-rest-in-Some.ensures in
     let standing = seen_field_state c.loop-character.standing in
-    let next = seen_field_state c.after-standing.result in
-    let is_not : separates standing character ≡ false = sym c.separates.ensures ∙ c.if-separates.false in
+    let next = seen_field_state c.in-Some-after.next in
     let passed = one_passed line rest after character before.passed c.in-Some.ensures.bytes in
     let cut =
     before.cut
-    ∙ goes_first standing character (chars (prefix_of line rest)) (chars (prefix_of line after)) (chars rest) (chars after) c.in-Some.ensures.characters is_not
-    (prefix_passed line rest after character before.passed c.in-Some.ensures.bytes)
-    ∙ ap (λ s. prepend_to_first_piece (chars (prefix_of line after)) (pieces_from s (chars after))) (sym c.after-standing.ensures) in record {
+    ∙ goes_first standing character (chars (prefix_of line rest)) (chars (prefix_of line after)) (chars rest) (chars after) c.in-Some.ensures.characters
+    c.in-Some-after.ensures.0 (prefix_passed line rest after character before.passed c.in-Some.ensures.bytes)
+    ∙ ap (λ s. prepend_to_first_piece (chars (prefix_of line after)) (pieces_from s (chars after))) (sym c.in-Some-after.ensures.1) in record {
       passed = skip_run next line after end passed runs;
       cut = further_on next line after end (pieces_from outside (chars line)) passed runs cut;
       within = omega (arith, before.within, c.in-Some.ensures.shorter, run_within next after end runs);

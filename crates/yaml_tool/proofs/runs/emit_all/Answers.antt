@@ -1,7 +1,9 @@
-use Rattle.yaml_tool.proofs.Common.{map, ap, subst, sym, ◌∙◌, into_iter_items, StandsAfter, events_in, LastLine, seen_numbered}
+use Rattle.yaml_tool.proofs.Common.{Result, Err, refl, map, ap, subst, sym, ◌∙◌, into_iter_items, StandsAfter, events_in, LastLine, seen_numbered}
 use Rattle.std.proofs.{Common.inl, lemmas.Iterator.Adapters.YieldsList-from_vec, lemmas.Iterator.Consumers.YieldsList-end, lemmas.List.map-id}
 use Rattle.std.proofs.Common.{rules}
 use Rattle.std.specs.Prelude.{[], Ok}
+use Rattle.yaml_base.specs.declared.errors.yaml_error_t.{yaml_error_t}
+use Rattle.yaml_tool.specs.declared.answers.run_answer_t.TheVariants.{Done, Refused}
 use Rattle.yaml_emitter.{proofs.standing.Moving.moves_nothing, proofs.standing.Moving.moves_then, specs.Moves.Moves}
 use Rattle.yaml_pen.proofs.Writing.{none_from_result}
 use Rattle.yaml_tool.proofs.RunLemmas.{events_more, parts_more, ends_more, refused_at, ended_with, ended_without}
@@ -42,8 +44,8 @@ loop-numbered-preserved g c =
       ends_more now.yielded c.in-Some.numbered,
     )
 
-pub returns-in-Some-last-clause-emits : goal.returns-in-Some-last-clause-emits
-returns-in-Some-last-clause-emits g c given stands =
+pub returns-in-Ok-clause-emits : goal.returns-in-Ok-clause-emits
+returns-in-Ok-clause-emits g c given stands =
     let now = c.loop-numbered in
     let road = YieldsList-from_vec {s = c.into_iter-numbered-iterator.result} c.args.events.items c.into_iter-numbered-iterator.ensures.into_iter_gives.0
     (c.into_iter-numbered-iterator.ensures.into_iter_gives.1 ∙ c.args.events.ok.0) in
@@ -51,13 +53,13 @@ returns-in-Some-last-clause-emits g c given stands =
     (sym (map-id now.yielded) ∙ (YieldsList-end road now.yielded now.numbered-iterator now.yielded_by c.next.result c.next.new.self c.in-None.is
     c.next.ensures.steps).0) in
     let stood = subst (λ all. StandsAfter given (events_in all) now.emitter) whole (now.invariant.4.stands given [] stands) in
-    ended_with given (map seen_numbered c.args.events.items) c.in-Some-last.line now.last c.flush_last.result now.emitter c.flush_last.new.emitter
+    ended_with given (map seen_numbered c.args.events.items) c.in-Some-last.line now.last Done now.emitter c.yaml_emitter_flush.new.emitter
     c.in-Some-last.is stood (c.standing_is_promised.ensures given (events_in (map seen_numbered c.args.events.items)) now.emitter stood)
     (none_from_result now.emitter.error now.invariant.4.answered)
-    (subst (λ all. LastLine all now.last now.emitter) whole now.invariant.5) c.flush_last.ensures.flushed
+    (subst (λ all. LastLine all now.last now.emitter) whole now.invariant.5) (c.in-Ok.ensures.moves, c.in-Ok.ensures.flushed)
 
-pub returns-in-None-last-clause-emits : goal.returns-in-None-last-clause-emits
-returns-in-None-last-clause-emits g c given stands =
+pub returns-in-Err-yaml_emitter_flush-clause-emits : goal.returns-in-Err-yaml_emitter_flush-clause-emits
+returns-in-Err-yaml_emitter_flush-clause-emits g c given stands =
     let now = c.loop-numbered in
     let road = YieldsList-from_vec {s = c.into_iter-numbered-iterator.result} c.args.events.items c.into_iter-numbered-iterator.ensures.into_iter_gives.0
     (c.into_iter-numbered-iterator.ensures.into_iter_gives.1 ∙ c.args.events.ok.0) in
@@ -65,19 +67,39 @@ returns-in-None-last-clause-emits g c given stands =
     (sym (map-id now.yielded) ∙ (YieldsList-end road now.yielded now.numbered-iterator now.yielded_by c.next.result c.next.new.self c.in-None.is
     c.next.ensures.steps).0) in
     let stood = subst (λ all. StandsAfter given (events_in all) now.emitter) whole (now.invariant.4.stands given [] stands) in
-    ended_without given (map seen_numbered c.args.events.items) now.last now.emitter c.in-None-last.is stood
+    ended_with given (map seen_numbered c.args.events.items) c.in-Some-last.line now.last
+    (Refused c.in-Some-last.line c.in-Err-yaml_emitter_flush.error) now.emitter c.yaml_emitter_flush.new.emitter
+    c.in-Some-last.is stood (c.standing_is_promised.ensures given (events_in (map seen_numbered c.args.events.items)) now.emitter stood)
+    (none_from_result now.emitter.error now.invariant.4.answered)
+    (subst (λ all. LastLine all now.last now.emitter) whole now.invariant.5) (
+      refl,
+      c.in-Err-yaml_emitter_flush.ensures.moves,
+      λ memory. c.in-Err-yaml_emitter_flush.ensures.unflushed
+          (ap (λ (e : yaml_error_t). let r : Result (Unit {0}) yaml_error_t = Err e in r) memory),
+    )
+
+pub returns-in_default-last-clause-emits : goal.returns-in_default-last-clause-emits
+returns-in_default-last-clause-emits g c given stands =
+    let now = c.loop-numbered in
+    let road = YieldsList-from_vec {s = c.into_iter-numbered-iterator.result} c.args.events.items c.into_iter-numbered-iterator.ensures.into_iter_gives.0
+    (c.into_iter-numbered-iterator.ensures.into_iter_gives.1 ∙ c.args.events.ok.0) in
+    let whole = ap (map seen_numbered)
+    (sym (map-id now.yielded) ∙ (YieldsList-end road now.yielded now.numbered-iterator now.yielded_by c.next.result c.next.new.self c.in-None.is
+    c.next.ensures.steps).0) in
+    let stood = subst (λ all. StandsAfter given (events_in all) now.emitter) whole (now.invariant.4.stands given [] stands) in
+    ended_without given (map seen_numbered c.args.events.items) now.last now.emitter c.in_default-last.is stood
     (c.standing_is_promised.ensures given (events_in (map seen_numbered c.args.events.items)) now.emitter stood)
     (none_from_result now.emitter.error now.invariant.4.answered)
     (subst (λ all. LastLine all now.last now.emitter) whole now.invariant.5)
 
-pub flush_last-requires-clause-no_error : goal.flush_last-requires-clause-no_error
-flush_last-requires-clause-no_error g c = none_from_result c.loop-numbered.emitter.error c.loop-numbered.invariant.4.answered
-
 pub returns-in-Err-clause-taken : goal.returns-in-Err-clause-taken
 returns-in-Err-clause-taken g c = c.yaml_emitter_emit.ensures.moves.set.taken ∙ c.loop-numbered.invariant.4.set.taken
 
-pub returns-in-Some-last-clause-taken : goal.returns-in-Some-last-clause-taken
-returns-in-Some-last-clause-taken g c = c.flush_last.ensures.taken ∙ c.loop-numbered.invariant.4.set.taken
+pub returns-in-Ok-clause-taken : goal.returns-in-Ok-clause-taken
+returns-in-Ok-clause-taken g c = c.in-Ok.ensures.moves.set.taken ∙ c.loop-numbered.invariant.4.set.taken
 
-pub returns-in-None-last-clause-taken : goal.returns-in-None-last-clause-taken
-returns-in-None-last-clause-taken g c = c.loop-numbered.invariant.4.set.taken
+pub returns-in-Err-yaml_emitter_flush-clause-taken : goal.returns-in-Err-yaml_emitter_flush-clause-taken
+returns-in-Err-yaml_emitter_flush-clause-taken g c = c.in-Err-yaml_emitter_flush.ensures.moves.set.taken ∙ c.loop-numbered.invariant.4.set.taken
+
+pub returns-in_default-last-clause-taken : goal.returns-in_default-last-clause-taken
+returns-in_default-last-clause-taken g c = c.loop-numbered.invariant.4.set.taken

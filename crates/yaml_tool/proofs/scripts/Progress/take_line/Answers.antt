@@ -7,6 +7,8 @@ use Rattle.std.specs.Result.{OnOk}
 use Rattle.yaml_tool.proofs.Common.{subst, IfErr}
 use Rattle.yaml_tool.specs.Scripts.{IsFaultAt}
 use Rattle.yaml_tool.proofs.scripts.Progress.take_line.Goals.{in-Ok-push-2, in-Err-push}
+use Rattle.yaml_tool.proofs.scripts.Progress.take_line.Goals.{then-not-is_empty-via-then-not-is_empty, then-not-is_empty-via-else-not-is_empty+then-is_set}
+use Rattle.std.proofs.{Common.arith, Common.true, Common.false, lemmas.Grind.common_steps}
 use Rattle.yaml_tool.proofs.scripts.Progress.take_line.Goals as goal
 
 -- a parsed line goes to those before it as what it says
@@ -26,19 +28,27 @@ pub returns-in-Some-Nothing-clause-taken : goal.returns-in-Some-Nothing-clause-t
 returns-in-Some-Nothing-clause-taken g c =
     line_goes c.args.number (seen_progress c.args.self.now) c.args.bytes.now _ _ _ c.in-Ok.ensures c.in-Some-Nothing.is c.in-Some-Nothing.field-0-is
 
-pub returns-then-not-may_set-clause-fault : goal.returns-then-not-may_set-clause-fault
-returns-then-not-may_set-clause-fault g c =
-    let before = seen_progress c.args.self.now in (
+pub returns-then-not-is_empty-clause-fault : goal.returns-then-not-is_empty-clause-fault
+returns-then-not-is_empty-clause-fault g c =
+    let before = seen_progress c.args.self.now in
+    let setting = seen_setting c.in-Some-Sets.setting in
+    let may_not : false ≡ may_be_set setting before =
+    elim c.then-not-is_empty.branch [
+      | then-not-is_empty-via-then-not-is_empty w ↦ grind (arith, common_steps)
+      | then-not-is_empty-via-else-not-is_empty+then-is_set w ↦ grind (arith, common_steps)
+    ] in (
       refl,
       line_goes c.args.number before c.args.bytes.now _ _ _ c.in-Ok.ensures c.in-Some-Sets.is c.in-Some-Sets.field-0-is
-          ∙ setting_goes c.args.number before (seen_setting c.in-Some-Sets.setting) _ _ c.may_set.ensures c.if-not-may_set.true,
+          ∙ setting_goes c.args.number before setting false false may_not refl,
     )
 
 pub returns-in-Ok-push-clause-taken : goal.returns-in-Ok-push-clause-taken
 returns-in-Ok-push-clause-taken g c =
     let before = seen_progress c.args.self.now in
+    let setting = seen_setting c.in-Some-Sets.setting in
+    let may : true ≡ may_be_set setting before = grind (arith, common_steps) in
     line_goes c.args.number before c.args.bytes.now _ _ _ c.in-Ok.ensures c.in-Some-Sets.is c.in-Some-Sets.field-0-is
-    ∙ setting_goes c.args.number before (seen_setting c.in-Some-Sets.setting) _ _ c.may_set.ensures c.if-not-may_set.false
+    ∙ setting_goes c.args.number before setting true true may refl
     ∙ ap (λ (settings : List notation.Setting). Some (record before { settings = settings }))
     (sym (map-append seen_setting c.args.self.now.settings.items (c.in-Some-Sets.setting ∷ [])) ∙ ap (map seen_setting) (sym c.in-Ok-push.ensures.items))
 

@@ -1,7 +1,7 @@
 use Rattle.yaml_tool.proofs.Common.{option_and_then, MatchOption-at_some, later_fields}
 use Rattle.yaml_tool.proofs.EventLemmas.{directive_read}
 use Rattle.yaml_base.specs.scripts.Script as notation
-use Rattle.yaml_tool.proofs.directives.push_directives.Goals as goal
+use Rattle.yaml_tool.proofs.directives.directives_of.Goals as goal
 
 pub loop-left-preserved : goal.loop-left-preserved
 loop-left-preserved g c =

@@ -1,4 +1,4 @@
-use Rattle.yaml_tool.proofs.parts.skip_all.Given as goal
+use Rattle.yaml_tool.proofs.parts.after_fault.Given as goal
 
 abbrev pub decreases-loop-turns : goal.decreases-loop-turns
 decreases-loop-turns g l = l.turns

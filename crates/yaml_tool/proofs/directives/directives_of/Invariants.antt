@@ -1,7 +1,7 @@
 use Rattle.yaml_tool.proofs.Common.{option_map, option_and_then, map, ◌++◌, ◌≡◌, seen_directive, later_fields}
 use Rattle.yaml_tool.specs.Fields.{left_length}
 use Rattle.yaml_base.specs.scripts.Script as notation
-use Rattle.yaml_tool.proofs.directives.push_directives.Given as goal
+use Rattle.yaml_tool.proofs.directives.directives_of.Given as goal
 
 abbrev pub invariant-loop-left : goal.invariant-loop-left
 invariant-loop-left g l =
