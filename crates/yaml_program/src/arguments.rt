@@ -1,7 +1,7 @@
 //! What a program's arguments ask for.
-ghost use Rattle.std.specs.Prelude.{◌≡◌, ◌&&◌, IfOk, map, not};
+ghost use Rattle.std.specs.Prelude.{◌≡◌, ◌&&◌, IfOk, not};
 ghost use Rattle.yaml_emitter.specs.Given.{is_double};
-ghost use Rattle.yaml_program.specs.Options.{AreCommonSettings, AreWriterSettings, files_named};
+ghost use Rattle.yaml_program.specs.Options.{AreCommonSettings, AreWriterSettings};
 ghost use Rattle.yaml_program.specs.Conversions.{IsAskedBy};
 
 use crate::options::command_of;
@@ -86,16 +86,6 @@ pub fn common_settings_of(matches: &ArgMatches<'_>) -> CommonSettings
     }
 }
 
-/// Returns the files that are named.
-fn files_of<'a>(alloc: Global, matches: &ArgMatches<'a>) -> Result<Vec<&'a str>, AllocError>
-    ensures { IfOk result (λ files. map (λ name. name.now) files.items ≡ files_named matches.now) }
-{
-    match matches.get_strs("files") {
-        Some(names) => Vec::from_slice(alloc, names),
-        None => Ok(Vec::new(alloc)),
-    }
-}
-
 /// Returns the conversion of texts in this format that the options ask for.
 ///
 /// # Errors
@@ -109,17 +99,18 @@ pub fn conversion_with<'a, F: Drop>(
     ensures asked { IfOk result (λ conversion. IsAskedBy matches.now conversion) }
     ensures format { IfOk result (λ conversion. conversion.format ≡ format) }
 {
-    match files_of(alloc, matches) {
-        Ok(files) => Ok(Conversion {
-            format,
-            heading: matches.get_str("heading"),
-            checks: matches.get_flag("check"),
-            each: matches.get_flag("each"),
-            output: matches.get_str("output"),
-            files,
-        }),
-        Err(error) => Err(error),
-    }
+    let files = match matches.get_strs("files") {
+        Some(names) => Vec::from_slice(alloc, names)?,
+        None => Vec::new(alloc),
+    };
+    Ok(Conversion {
+        format,
+        heading: matches.get_str("heading"),
+        checks: matches.get_flag("check"),
+        each: matches.get_flag("each"),
+        output: matches.get_str("output"),
+        files,
+    })
 }
 
 /// Returns what the options of a program are found to be in the arguments after its name.

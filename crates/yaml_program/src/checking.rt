@@ -1,5 +1,5 @@
 //! What is there, compared with what would be written.
-ghost use Rattle.std.specs.Prelude.{◌≡◌, ◌≤◌, ℕ, List, Some};
+ghost use Rattle.std.specs.Prelude.{◌≡◌, ◌≤◌};
 ghost use Rattle.yaml_program.specs.Conversions.{HaveYaml, IsThere, OfFiles, heading_of, names_of};
 
 use crate::arguments::Conversion;
@@ -19,29 +19,6 @@ fn tell_difference<W: Write>(name: &str, faults: &mut Messages<W>) -> u8
     1
 }
 
-/// Compares a file with some bytes, says where it differs, and returns the status.
-fn compare<S: Sources + AllocGlobal, W: Write>(
-    sources: &S,
-    yaml: &[u8],
-    name: &str,
-    faults: &mut Messages<W>,
-) -> u8
-    ensures known { result ≤ 3 }
-    ensures same { result ≡ 0 → (there : List ℕ) → S.bytes_of sources.now name.now ≡ Some there → yaml.now ≡ there }
-{
-    match read_file(sources, name) {
-        Ok(there) => {
-            if yaml == there.as_slice() {
-                0
-            } else {
-                tell_difference(name, faults)
-            }
-        }
-        Err(error) if error.kind() == ErrorKind::NotFound => tell_difference(name, faults),
-        Err(error) => give_up(Failure::ReadFailed(error), Some(name), faults),
-    }
-}
-
 /// Compares a file with what would be written to it, says what went wrong or where it differs, and returns the status.
 pub fn check<F: Format, S: Sources + AllocGlobal, W: Write>(
     sources: &S,
@@ -55,8 +32,18 @@ pub fn check<F: Format, S: Sources + AllocGlobal, W: Write>(
         name.now }
 {
     let mut yaml = Vec::new(sources.alloc());
-    match send_all(sources, conversion, &mut yaml) {
-        Ok(()) => compare(sources, yaml.as_slice(), name, faults),
-        Err(stop) => report(Err(stop), None, faults),
+    if let Err(stop) = send_all(sources, conversion, &mut yaml) {
+        return report(Err(stop), None, faults);
+    }
+    match read_file(sources, name) {
+        Ok(there) => {
+            if yaml.as_slice() == there.as_slice() {
+                0
+            } else {
+                tell_difference(name, faults)
+            }
+        }
+        Err(error) if error.kind() == ErrorKind::NotFound => tell_difference(name, faults),
+        Err(error) => give_up(Failure::ReadFailed(error), Some(name), faults),
     }
 }

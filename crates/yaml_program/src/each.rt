@@ -1,6 +1,6 @@
 //! Each file, converted by itself to one beside it.
-ghost use Rattle.std.specs.Prelude.{◌≡◌, ◌≤◌, ◌++◌, IfOk, false, map};
-ghost use Rattle.yaml_program.specs.Conversions.{ConvertsOne, EachIsDone, IsDoneBeside, names_of};
+ghost use Rattle.std.specs.Prelude.{◌≡◌, ◌≤◌, ◌++◌, IfOk, false};
+ghost use Rattle.yaml_program.specs.Conversions.{EachIsDone, IsDoneBeside, names_of};
 
 use crate::arguments::Conversion;
 use crate::faults::{Messages, run_out};
@@ -8,31 +8,11 @@ use crate::formats::Format;
 use crate::names::{stem_of, yaml_name};
 use crate::program::perform;
 use crate::sources::Sources;
-use std::alloc::{AllocError, Global};
+use std::alloc::AllocError;
 use std::io::{IsTerminal, Write};
 
 /// From so many files on a line tells how far the program is.
 const MANY: usize = 20;
-
-/// Returns the conversion of one file, as another conversion says.
-fn conversion_of_one<'a, F: Copy>(
-    alloc: Global,
-    conversion: &Conversion<'a, F>,
-    name: &'a str,
-) -> Result<Conversion<'a, F>, AllocError>
-    ensures { IfOk result (λ one. ConvertsOne conversion.now name.now one) }
-{
-    let mut files = Vec::new(alloc);
-    files.push(name)?;
-    Ok(Conversion {
-        format: conversion.format,
-        heading: conversion.heading,
-        checks: conversion.checks,
-        each: false,
-        output: None,
-        files,
-    })
-}
 
 /// Converts a file, whose name is a stem and the format's ending, to the one beside it.
 fn convert_stem<'a, F: Format + Copy + Drop, S: Sources + AllocGlobal, W: Write>(
@@ -48,7 +28,16 @@ fn convert_stem<'a, F: Format + Copy + Drop, S: Sources + AllocGlobal, W: Write>
 {
     let (name, stem) = names;
     let target = yaml_name(sources.alloc(), stem)?;
-    let one = conversion_of_one(sources.alloc(), conversion, name)?;
+    let mut files = Vec::new(sources.alloc());
+    files.push(name)?;
+    let one = Conversion {
+        format: conversion.format,
+        heading: conversion.heading,
+        checks: conversion.checks,
+        each: false,
+        output: None,
+        files,
+    };
     Ok(perform(rt, sources, &one, Some(target.as_str()), faults))
 }
 
@@ -104,17 +93,17 @@ fn tell_progress<W: Write>(done: usize, all: usize, faults: &mut Messages<W>)
     }
 }
 
-/// Converts these files, each to the one beside it.
-fn convert_names<'a, F: Format + Copy + Drop, S: Sources + AllocGlobal, W: Write>(
+/// Converts each file to the one beside it, says what went wrong, and returns the worst status.
+pub fn convert_each<F: Format + Copy + Drop, S: Sources + AllocGlobal, W: Write>(
     rt: &HostRuntime,
     sources: &S,
-    conversion: &Conversion<'a, F>,
-    names: &[&'a str],
+    conversion: &Conversion<'_, F>,
     faults: &mut Messages<W>,
 ) -> u8
     ensures known { result ≤ 3 }
-    ensures done { result ≡ 0 → EachIsDone F.is_yaml F.ending (S.bytes_of sources.now) conversion.now (map (λ name. name.now) names.now) }
+    ensures done { result ≡ 0 → EachIsDone F.is_yaml F.ending (S.bytes_of sources.now) conversion.now (names_of conversion.now) }
 {
+    let names = conversion.files.as_slice();
     let tells = names.len() >= MANY && rt.stderr().is_terminal();
     let mut status = 0;
     let mut done = 0usize;
@@ -127,17 +116,4 @@ fn convert_names<'a, F: Format + Copy + Drop, S: Sources + AllocGlobal, W: Write
         }
     }
     status
-}
-
-/// Converts each file to the one beside it, says what went wrong, and returns the worst status.
-pub fn convert_each<F: Format + Copy + Drop, S: Sources + AllocGlobal, W: Write>(
-    rt: &HostRuntime,
-    sources: &S,
-    conversion: &Conversion<'_, F>,
-    faults: &mut Messages<W>,
-) -> u8
-    ensures known { result ≤ 3 }
-    ensures done { result ≡ 0 → EachIsDone F.is_yaml F.ending (S.bytes_of sources.now) conversion.now (names_of conversion.now) }
-{
-    convert_names(rt, sources, conversion, conversion.files.as_slice(), faults)
 }

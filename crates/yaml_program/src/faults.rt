@@ -86,19 +86,6 @@ impl<W: Write> Messages<W> {
     }
 }
 
-/// Returns the program's status: 1 where a text isn't written as YAML, 3 where reading, writing or memory failed.
-fn status_of(error: &Failure) -> u8
-    ensures status { result ≡ statuses.failure_status error.now }
-    ensures some { 1 ≤ result }
-    ensures known { result ≤ 3 }
-{
-    match error {
-        Failure::Unwritten(yaml_error_t::Memory) => 3,
-        Failure::Refused { .. } | Failure::Unwritten(_) => 1,
-        Failure::ReadFailed(_) | Failure::WriteFailed(_) => 3,
-    }
-}
-
 /// Returns whether no memory was left.
 fn is_out_of_memory(error: &Failure) -> bool {
     match error {
@@ -110,40 +97,21 @@ fn is_out_of_memory(error: &Failure) -> bool {
     }
 }
 
-/// Returns whether nobody reads what is written.
-fn is_broken_pipe(error: &Failure) -> bool {
-    matches!(error, Failure::WriteFailed(error) if error.kind() == ErrorKind::BrokenPipe)
-}
-
-/// Returns the name of the file that an error is about, as a message shows it.
-fn shown<'a>(name: Option<&'a str>, error: &Failure) -> &'a str {
-    match name {
+/// Says in a line what went wrong, with the name of the file that can't be read or written, or whose text is refused.
+fn write_error<W: Write>(
+    error: &Failure,
+    name: Option<&str>,
+    faults: &mut Messages<W>,
+) -> io::Result<()> {
+    faults.end_line();
+    let program = faults.words.name;
+    let name = match name {
         Some(name) if name != STREAM => name,
         _ => match error {
             Failure::WriteFailed(_) => "standard output",
             _ => "standard input",
         },
-    }
-}
-
-/// Says in a line why a text is refused, with the name of its file.
-fn write_refusal<W: Write>(
-    place: &Option<(usize, usize)>,
-    reason: &Reason,
-    name: &str,
-    faults: &mut Messages<W>,
-) -> io::Result<()> {
-    let program = faults.words.name;
-    match place {
-        Some((line, column)) => writeln!(&mut faults.sink, "{name}:{line}:{column}: {reason}"),
-        None => writeln!(&mut faults.sink, "{program}: {name}: {reason}"),
-    }
-}
-
-/// Says in a line what went wrong, with the name of the file that can't be read or written, or whose text is refused.
-fn write_error<W: Write>(error: &Failure, name: &str, faults: &mut Messages<W>) -> io::Result<()> {
-    faults.end_line();
-    let program = faults.words.name;
+    };
     match error {
         Failure::ReadFailed(error) => {
             writeln!(&mut faults.sink, "{program}: cannot read {name}: {error}")
@@ -151,7 +119,14 @@ fn write_error<W: Write>(error: &Failure, name: &str, faults: &mut Messages<W>) 
         Failure::WriteFailed(error) => {
             writeln!(&mut faults.sink, "{program}: cannot write {name}: {error}")
         }
-        Failure::Refused { place, reason } => write_refusal(place, reason, name, faults),
+        Failure::Refused {
+            place: Some((line, column)),
+            reason,
+        } => writeln!(&mut faults.sink, "{name}:{line}:{column}: {reason}"),
+        Failure::Refused {
+            place: None,
+            reason,
+        } => writeln!(&mut faults.sink, "{program}: {name}: {reason}"),
         Failure::Unwritten(error) => writeln!(&mut faults.sink, "{program}: {name}: {error}"),
     }
 }
@@ -174,7 +149,8 @@ pub fn run_out<W: Write>(faults: &mut Messages<W>) -> u8
     3
 }
 
-/// Says what went wrong, unless it is that nobody reads what is written, and returns the status.
+/// Says what went wrong, unless it is that nobody reads what is written, and returns the status: 1 where a text isn't written as YAML,
+/// 3 where reading, writing or memory failed.
 pub fn give_up<W: Write>(error: Failure, name: Option<&str>, faults: &mut Messages<W>) -> u8
     ensures status { result ≡ statuses.failure_status error }
     ensures some { 1 ≤ result }
@@ -182,10 +158,15 @@ pub fn give_up<W: Write>(error: Failure, name: Option<&str>, faults: &mut Messag
 {
     if is_out_of_memory(&error) {
         run_out(faults);
-    } else if !is_broken_pipe(&error) {
-        let _reported = write_error(&error, shown(name, &error), faults);
+    } else if !matches!(&error, Failure::WriteFailed(error) if error.kind() == ErrorKind::BrokenPipe)
+    {
+        let _reported = write_error(&error, name, faults);
     }
-    status_of(&error)
+    match error {
+        Failure::Unwritten(yaml_error_t::Memory) => 3,
+        Failure::Refused { .. } | Failure::Unwritten(_) => 1,
+        Failure::ReadFailed(_) | Failure::WriteFailed(_) => 3,
+    }
 }
 
 /// Says what went wrong, if anything did, and returns the status.

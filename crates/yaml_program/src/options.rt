@@ -165,8 +165,8 @@ fn push_flags<'a>(
     Ok(())
 }
 
-/// Adds the files, and the options that have a value or depend on what else is there.
-fn push_settings<'a>(
+/// Adds the files and all options.
+fn push_arguments<'a>(
     alloc: Global,
     words: &Wording,
     arguments: &mut Vec<Arg<'a>>,
@@ -182,32 +182,18 @@ fn push_settings<'a>(
     ] {
         arguments.push(argument_of(alloc, words, setting)?)?;
     }
-    Ok(())
-}
-
-/// Adds the files and all options.
-fn push_arguments<'a>(
-    alloc: Global,
-    words: &Wording,
-    arguments: &mut Vec<Arg<'a>>,
-) -> Result<(), AllocError> {
-    push_settings(alloc, words, arguments)?;
     push_flags(alloc, words.flags, arguments)?;
     push_flags(alloc, words.own_flags, arguments)
-}
-
-/// Returns the command line without its arguments. Its words come without the program's name.
-fn bare_command<'a>(alloc: Global, words: &Wording) -> Command<'a> {
-    Command::new(alloc, words.name)
-        .version(VERSION)
-        .about(words.about)
-        .after_help(AFTER_HELP)
-        .no_binary_name(true)
 }
 
 /// Returns the command line of a program, whose words come without the program's name.
 pub fn command_of<'a>(alloc: Global, words: &Wording) -> Result<Command<'a>, AllocError> {
     let mut arguments = Vec::new(alloc);
     push_arguments(alloc, words, &mut arguments)?;
-    bare_command(alloc, words).args(arguments)
+    Command::new(alloc, words.name)
+        .version(VERSION)
+        .about(words.about)
+        .after_help(AFTER_HELP)
+        .no_binary_name(true)
+        .args(arguments)
 }

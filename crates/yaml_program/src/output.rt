@@ -24,21 +24,20 @@ pub fn is_written_in_place(rt: &HostRuntime, name: &str) -> bool {
     }
 }
 
-/// Returns the path that a link means: where it is relative, it begins at the folder that the link lies in.
-fn path_meant(rt: &HostRuntime, link: &str, path: &str) -> io::Result<String> {
-    let folder = match Path::new(link).parent() {
-        Some(folder) => folder,
-        None => Path::new(""),
-    };
-    Ok(folder.join(rt.alloc(), path)?.into_string())
-}
-
 /// Returns the file that is meant where this name is that of a link, also where there is no such file yet.
 fn target_of(rt: &HostRuntime, name: &str) -> io::Result<String> {
     let mut target = String::from_str(rt.alloc(), name)?;
     for _ in 0..MOST_LINKS {
         match fs::read_link(rt, target.as_str()) {
-            Ok(path) => target = path_meant(rt, target.as_str(), path.into_string().as_str())?,
+            Ok(path) => {
+                // (a relative path begins at the folder that the link lies in)
+                let folder = match Path::new(target.as_str()).parent() {
+                    Some(folder) => folder,
+                    None => Path::new(""),
+                };
+                let meant = folder.join(rt.alloc(), path.into_string().as_str())?;
+                target = meant.into_string();
+            }
             Err(error) => {
                 return match error.kind() {
                     // (it is no link, or there is nothing of this name)
@@ -61,20 +60,17 @@ fn temporary_name(
     Ok(format!(in rt.alloc(); "{target}.{program}-{number}.tmp")?)
 }
 
-/// Returns whether an open file still has this name.
-fn has_name(rt: &HostRuntime, file: &File, name: &str) -> bool {
-    match (file.metadata(), fs::symlink_metadata(rt, name)) {
-        (Ok(open), Ok(named)) => open.dev() == named.dev() && open.ino() == named.ino(),
-        _ => false,
-    }
-}
-
 /// Removes the temporary file of this name if a run that was cut off has left it: then it isn't locked.
 fn remove_if_left(rt: &HostRuntime, name: &str) -> io::Result<()> {
     if fs::symlink_metadata(rt, name)?.is_file() {
         let file = File::open(rt, name)?;
-        if file.try_lock().is_ok() && has_name(rt, &file, name) {
-            return fs::remove_file(rt, name);
+        if file.try_lock().is_ok() {
+            // (the name may be that of another file by now)
+            let open = file.metadata()?;
+            let named = fs::symlink_metadata(rt, name)?;
+            if open.dev() == named.dev() && open.ino() == named.ino() {
+                return fs::remove_file(rt, name);
+            }
         }
     }
     Ok(())
@@ -89,21 +85,18 @@ fn remove_all_left(rt: &HostRuntime, program: &str, target: &str) -> io::Result<
     Ok(())
 }
 
-/// Locks a new file, so that no other run removes it. Returns false where one has done so before, or is about to.
-fn is_kept(file: &File) -> bool {
-    if matches!(file.try_lock(), Err(TryLockError::WouldBlock)) {
-        return false;
-    }
-    match file.metadata() {
-        Ok(found) => found.nlink() > 0,
-        Err(_) => true,
-    }
-}
-
-/// Makes a file that no other run removes; `None` where there is one of this name, or another run has removed it.
+/// Makes a file and locks it, so that no other run removes it; `None` where there is one of this name, or another run has removed it, or
+/// is about to.
 fn create_kept(rt: &HostRuntime, name: &str) -> io::Result<Option<File>> {
     match File::create_new(rt, name) {
-        Ok(file) => Ok(if is_kept(&file) { Some(file) } else { None }),
+        Ok(file) => {
+            let is_kept = !matches!(file.try_lock(), Err(TryLockError::WouldBlock))
+                && match file.metadata() {
+                    Ok(found) => found.nlink() > 0,
+                    Err(_) => true,
+                };
+            Ok(if is_kept { Some(file) } else { None })
+        }
         Err(error) => {
             if error.kind() == ErrorKind::AlreadyExists {
                 Ok(None)
@@ -123,7 +116,8 @@ pub struct Beside {
 }
 
 impl Beside {
-    /// Makes a program's file beside the one of this name, with its permissions, which are set before anything is written.
+    /// Makes a program's file beside the one of this name, with its permissions, where there is one. They are set before anything is
+    /// written; where that fails, the new file is removed.
     #[inline(never)]
     pub fn create(rt: &HostRuntime, program: &str, name: &str) -> io::Result<Beside> {
         let target = target_of(rt, name)?;
@@ -132,23 +126,20 @@ impl Beside {
             let name = temporary_name(rt, program, target.as_str(), number)?;
             if let Some(file) = create_kept(rt, name.as_str())? {
                 let beside = Beside { file, name, target };
-                beside.take_permissions(rt)?;
-                return Ok(beside);
+                let given = match fs::metadata(rt, beside.target.as_str()) {
+                    Ok(found) => beside.file.set_permissions(found.permissions()),
+                    Err(_) => Ok(()),
+                };
+                return match given {
+                    Ok(()) => Ok(beside),
+                    Err(error) => {
+                        beside.remove(rt);
+                        Err(error)
+                    }
+                };
             }
         }
         Err(io::Error::from(ErrorKind::AlreadyExists))
-    }
-
-    /// Gives the file the permissions of the one that it is to replace, where there is one; where that fails, removes it.
-    fn take_permissions(&self, rt: &HostRuntime) -> io::Result<()> {
-        let given = match fs::metadata(rt, self.target.as_str()) {
-            Ok(found) => self.file.set_permissions(found.permissions()),
-            Err(_) => Ok(()),
-        };
-        if given.is_err() {
-            self.remove(rt);
-        }
-        given
     }
 
     /// Returns the file that is written.

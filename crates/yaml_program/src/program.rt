@@ -26,21 +26,6 @@ const DEPTH_REFUSED: &str =
 /// What is said where there is nothing to compare with.
 const CHECK_REFUSED: &str = "--check needs --each, or --output with a file";
 
-/// Writes what is to be converted to a device or a pipe, say, where it lies.
-fn send_in_place<'a, F: Format, S: Sources + AllocGlobal>(
-    rt: &HostRuntime,
-    sources: &S,
-    conversion: &Conversion<'a, F>,
-    name: &str,
-) -> Result<(), (Option<&'a str>, Failure)>
-    ensures { OnOk result (OfFiles (S.bytes_of sources.now) conversion.now (HaveYaml (F.is_yaml conversion.now.format))) }
-{
-    match fs::create(rt, name) {
-        Ok(file) => send_buffered(sources, conversion, file),
-        Err(error) => Err((None, Failure::WriteFailed(error))),
-    }
-}
-
 /// Writes what is to be converted to a file, which appears whole or not at all.
 fn send_to_file<'a, F: Format, S: Sources + AllocGlobal>(
     rt: &HostRuntime,
@@ -78,7 +63,10 @@ fn send<'a, F: Format, S: Sources + AllocGlobal>(
     match target {
         Some(name) if name != STREAM => {
             if is_written_in_place(rt, name) {
-                send_in_place(rt, sources, conversion, name)
+                match fs::create(rt, name) {
+                    Ok(file) => send_buffered(sources, conversion, file),
+                    Err(error) => Err((None, Failure::WriteFailed(error))),
+                }
             } else {
                 send_to_file(rt, sources, conversion, name)
             }
@@ -87,31 +75,22 @@ fn send<'a, F: Format, S: Sources + AllocGlobal>(
     }
 }
 
-/// Returns whether standard input is read.
-fn reads_stream<F>(conversion: &Conversion<'_, F>) -> bool {
-    conversion.files.is_empty() || conversion.files.contains(&STREAM)
-}
-
-/// Says that the program waits for what is typed.
-fn hint<F, I: IsTerminal, W: Write>(
+/// Where standard input is to be read, says on a terminal that the program waits for what is typed, and returns the system's error if it
+/// is closed. (A file that is opened before that is noticed has the number of standard input, and would be read in its place.)
+fn check_stream<F, I: IsTerminal + AsFd, W: Write>(
     conversion: &Conversion<'_, F>,
     stdin: &I,
     faults: &mut Messages<W>,
-) {
-    if reads_stream(conversion) && stdin.is_terminal() {
-        let name = faults.words.name;
-        let format = faults.words.format;
-        let _reported = writeln!(
-            &mut faults.sink,
-            "{name}: reading {format} from the terminal, up to Ctrl-D; {name} --help tells more"
-        );
-    }
-}
-
-/// Returns the system's error where standard input is to be read and is closed. (A file that is opened before that is noticed has the
-/// number of standard input, and would be read in its place.)
-fn check_stream<F, I: AsFd>(conversion: &Conversion<'_, F>, stdin: &I) -> io::Result<()> {
-    if reads_stream(conversion) {
+) -> io::Result<()> {
+    if conversion.files.is_empty() || conversion.files.contains(&STREAM) {
+        if stdin.is_terminal() {
+            let name = faults.words.name;
+            let format = faults.words.format;
+            let _reported = writeln!(
+                &mut faults.sink,
+                "{name}: reading {format} from the terminal, up to Ctrl-D; {name} --help tells more"
+            );
+        }
         let _open = stdin.as_fd().try_clone_to_owned()?;
     }
     Ok(())
@@ -148,8 +127,7 @@ fn convert<F: Format + Copy + Drop, S: Sources + AllocGlobal, I: IsTerminal + As
     ensures known { result ≤ 3 }
     ensures done { result ≡ 0 → AllDone F.is_yaml F.ending (S.bytes_of sources.now) conversion.now conversion.now.each }
 {
-    hint(conversion, stdin, faults);
-    if let Err(error) = check_stream(conversion, stdin) {
+    if let Err(error) = check_stream(conversion, stdin, faults) {
         return give_up(Failure::ReadFailed(error), None, faults);
     }
     if conversion.each {
@@ -187,13 +165,6 @@ fn answer<R: Runtime, W: Write>(rt: &R, error: &UsageError, faults: &mut Message
     }
 }
 
-/// Returns whether there is no file that what would be written can be compared with.
-fn lacks_target<F>(conversion: &Conversion<'_, F>) -> bool {
-    conversion.checks
-        && !conversion.each
-        && !matches!(conversion.output, Some(name) if name != STREAM)
-}
-
 /// Does what the arguments ask for, says on `faults` what went wrong, and returns the program's status.
 pub fn serve<F: Format + Copy + Drop, S: Sources + AllocGlobal, I: IsTerminal + AsFd, W: Write>(
     rt: &HostRuntime,
@@ -209,7 +180,13 @@ pub fn serve<F: Format + Copy + Drop, S: Sources + AllocGlobal, I: IsTerminal + 
 {
     match asked {
         Ok(conversion) if !conversion.format.is_bounded() => refuse(DEPTH_REFUSED, faults),
-        Ok(conversion) if lacks_target(conversion) => refuse(CHECK_REFUSED, faults),
+        // There is no file that what would be written can be compared with.
+        Ok(conversion)
+            if conversion.checks
+                && !conversion.each
+                && !matches!(conversion.output, Some(name) if name != STREAM) => {
+            refuse(CHECK_REFUSED, faults)
+        }
         Ok(conversion) => convert(rt, sources, conversion, stdin, faults),
         Err(error) => answer(rt, error, faults),
     }

@@ -2,7 +2,7 @@
 ghost use Rattle.std.specs.Prelude.{◌≡◌, ℕ, List, Some, OnOk, false, map};
 ghost use Rattle.yaml_writer.specs.Writing.{awaits_node};
 ghost use Rattle.yaml_program.specs.Conversions.{AreBytesOf, OfNames};
-ghost use Rattle.yaml_program.specs.Streams.{BeganDocument, Sending, SentBehind, SentFiles, SentStream, WroteLast};
+ghost use Rattle.yaml_program.specs.Streams.{BeganDocument, Sending, SentBehind, SentFiles, SentStream};
 
 use crate::faults::Failure;
 use crate::sources::{STREAM, Sources};
@@ -97,19 +97,6 @@ fn send_documents<'a, F: SendsFile, S: Sources + AllocGlobal, W: Write>(
     send_others(format, sources, others, writer, sink)
 }
 
-/// Ends the last document, and writes it.
-fn send_last<W: Write>(writer: Writer<Global>, sink: &mut W) -> Result<(), Failure>
-    ensures { OnOk result (WroteLast writer.emitter (W.contents sink.old) (W.contents sink.new)) }
-{
-    match writer.finish() {
-        Ok(bytes) => match sink.write_all(bytes.as_slice()) {
-            Ok(()) => Ok(()),
-            Err(error) => Err(Failure::WriteFailed(error)),
-        },
-        Err(error) => Err(Failure::Unwritten(error)),
-    }
-}
-
 /// Sends on the YAML of these files, or of standard input where there are none, as one stream, written by these settings.
 ///
 /// # Errors
@@ -132,8 +119,11 @@ pub fn send_stream<'a, F: SendsFile, S: Sources + AllocGlobal, W: Write>(
     if let Err(stop) = send_documents(format, sources, names, &mut writer, sink) {
         return Err(stop);
     }
-    match send_last(writer, sink) {
-        Ok(()) => Ok(()),
-        Err(error) => Err((None, error)),
+    match writer.finish() {
+        Ok(bytes) => match sink.write_all(bytes.as_slice()) {
+            Ok(()) => Ok(()),
+            Err(error) => Err((None, Failure::WriteFailed(error))),
+        },
+        Err(error) => Err((None, Failure::Unwritten(error))),
     }
 }
