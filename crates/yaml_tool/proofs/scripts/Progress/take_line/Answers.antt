@@ -19,10 +19,10 @@ line_goes number before bytes parsed given line reads is says =
     ap (option_and_then (with_line number before)) (sym reads ∙ ap (option_map seen_line) is) ∙ ap (λ line. with_line number before (seen_line line)) says
 
 -- a setting goes to them where it may stand
-setting_goes : (number : ℕ) (before : ScriptState) (setting : notation.Setting) (may stands : Bool) → may ≡ may_be_set setting before → may ≡ stands
-    → with_line number before (sets setting) ≡ (if stands then Some (record before { settings = before.settings ++ setting ∷ [] }) else None)
-setting_goes number before setting may stands by is =
-    ap (λ (b : Bool). if b then Some (record before { settings = before.settings ++ setting ∷ [] }) else None) (sym by ∙ is)
+setting_goes : (number : ℕ) (before : ScriptState) (setting : notation.Setting) (may : Bool) → may ≡ may_be_set setting before
+    → with_line number before (sets setting) ≡ (if may then Some (record before { settings = before.settings ++ setting ∷ [] }) else None)
+setting_goes number before setting may is =
+    ap (λ (b : Bool). if b then Some (record before { settings = before.settings ++ setting ∷ [] }) else None) (sym is)
 
 pub returns-in-Some-Nothing-clause-taken : goal.returns-in-Some-Nothing-clause-taken
 returns-in-Some-Nothing-clause-taken g c =
@@ -39,7 +39,7 @@ returns-then-not-is_empty-clause-fault g c =
     ] in (
       refl,
       line_goes c.args.number before c.args.bytes.now _ _ _ c.in-Ok.ensures c.in-Some-Sets.is c.in-Some-Sets.field-0-is
-          ∙ setting_goes c.args.number before setting false false may_not refl,
+          ∙ setting_goes c.args.number before setting false may_not,
     )
 
 pub returns-in-Ok-push-clause-taken : goal.returns-in-Ok-push-clause-taken
@@ -48,7 +48,7 @@ returns-in-Ok-push-clause-taken g c =
     let setting = seen_setting c.in-Some-Sets.setting in
     let may : true ≡ may_be_set setting before = grind (arith, common_steps) in
     line_goes c.args.number before c.args.bytes.now _ _ _ c.in-Ok.ensures c.in-Some-Sets.is c.in-Some-Sets.field-0-is
-    ∙ setting_goes c.args.number before setting true true may refl
+    ∙ setting_goes c.args.number before setting true may
     ∙ ap (λ (settings : List notation.Setting). Some (record before { settings = settings }))
     (sym (map-append seen_setting c.args.self.now.settings.items (c.in-Some-Sets.setting ∷ [])) ∙ ap (map seen_setting) (sym c.in-Ok-push.ensures.items))
 
