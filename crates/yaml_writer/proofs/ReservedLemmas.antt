@@ -12,7 +12,7 @@ abbrev listed : Text → List Text
 listed words = slice_split is_space words
 
 -- the groups are all reserved words
-in_groups : (text : Text) → list_any (is_word text) reserved_words ≡ is_reserved_word text
+pub in_groups : (text : Text) → list_any (is_word text) reserved_words ≡ is_reserved_word text
 in_groups text =
     one nothing_words
     (listed truth_words ++ (listed answer_words ++ (listed key_words ++ (listed special_float_words ++ (listed plus_words ++ listed minus_words)))))

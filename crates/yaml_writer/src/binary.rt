@@ -1,7 +1,5 @@
 //! Bytes, as base64.
-ghost use Rattle.std.specs.Prelude.{◌≡◌, IfOk, string_bytes};
-ghost use Rattle.base64.specs.Engines.{standard};
-ghost use Rattle.base64.specs.GeneralPurpose.{encode_of};
+ghost use Rattle.std.specs.Prelude.{◌≡◌};
 ghost use Rattle.yaml_writer.specs.Binary.{bytes_event};
 ghost use Rattle.yaml_writer.specs.Writing.{Gives};
 
@@ -9,14 +7,8 @@ use crate::scalars::style_of;
 use crate::tags::YAML_BINARY_TAG;
 use crate::writer::Writer;
 use base64::engine::general_purpose::STANDARD;
-use std::alloc::{AllocError, Allocator};
+use std::alloc::Allocator;
 use yaml_base::yaml_error_t;
-
-fn base64_of<A: Allocator>(alloc: A, bytes: &[u8]) -> Result<String<A>, AllocError>
-    ensures { IfOk result (λ text. string_bytes text ≡ encode_of standard bytes.now) }
-{
-    STANDARD.encode(alloc, bytes)
-}
 
 impl<A: Allocator + Copy> Writer<A> {
     /// Writes bytes as `!!binary`: their base64 by the standard alphabet, with padding. A tag that was given stands in place of
@@ -27,7 +19,7 @@ impl<A: Allocator + Copy> Writer<A> {
     pub fn bytes(&mut self, value: &[u8]) -> Result<(), yaml_error_t>
         ensures { Gives self.old (bytes_event self.old value.now) result self.new }
     {
-        match base64_of(self.alloc, value) {
+        match STANDARD.encode(self.alloc, value) {
             Ok(text) => {
                 let text = text.as_str();
                 self.scalar(Some(YAML_BINARY_TAG), text, style_of(text))

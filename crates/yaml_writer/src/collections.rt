@@ -5,10 +5,13 @@ ghost use Rattle.yaml_writer.specs.Writing.{Begins, EndsInnermost, GaveEvent, No
 ghost use Rattle.yaml_writer.specs.Writing.{collection_start_event, with_collection};
 ghost use Rattle.yaml_base.specs.declared.kinds.CollectionKind.TheVariants.{Mapping, Sequence};
 
-use crate::giving::{collection_start, give, give_end};
+use crate::giving::give;
 use crate::writer::Writer;
 use std::alloc::Allocator;
-use yaml_base::{yaml_error_t, yaml_mapping_style_t, yaml_sequence_style_t};
+use yaml_base::{
+    YAML_MAPPING_END_EVENT, YAML_MAPPING_START_EVENT, YAML_SEQUENCE_END_EVENT,
+    YAML_SEQUENCE_START_EVENT, yaml_error_t, yaml_mapping_style_t, yaml_sequence_style_t,
+};
 use yaml_emitter::CollectionKind;
 
 /// The kind and the style of a collection that starts.
@@ -66,7 +69,8 @@ impl<A: Allocator + Copy> Writer<A> {
         }
         match self.levels.pop() {
             None => Err(yaml_error_t::ExpectedDocumentEnd),
-            Some(kind) => give_end(&mut self.emitter, kind),
+            Some(CollectionKind::Mapping) => give(&mut self.emitter, YAML_MAPPING_END_EVENT),
+            Some(CollectionKind::Sequence) => give(&mut self.emitter, YAML_SEQUENCE_END_EVENT),
         }
     }
 
@@ -81,12 +85,28 @@ impl<A: Allocator + Copy> Writer<A> {
         }
     }
 
-    /// Gives the start of a collection to the emitter, with the properties of the next node.
+    /// Gives the start of a collection to the emitter, with the properties of the next node; where it has no tag, none need be
+    /// written.
     fn start(&mut self, start: CollectionStart) -> Result<(), yaml_error_t>
         ensures { GaveEvent self.old (collection_start_event self.old start) result self.new }
     {
         let anchor = self.anchor.take();
         let tag = self.tag.take();
-        give(&mut self.emitter, collection_start(anchor, tag, start))
+        let implicit = tag.is_none();
+        let event = match start {
+            CollectionStart::Mapping(style) => YAML_MAPPING_START_EVENT {
+                anchor,
+                tag,
+                implicit,
+                style,
+            },
+            CollectionStart::Sequence(style) => YAML_SEQUENCE_START_EVENT {
+                anchor,
+                tag,
+                implicit,
+                style,
+            },
+        };
+        give(&mut self.emitter, event)
     }
 }

@@ -3,7 +3,7 @@ ghost use Rattle.std.specs.Prelude.{◌≡◌, ◌++◌, false, true};
 ghost use Rattle.yaml_writer.specs.Dates as dates;
 ghost use Rattle.yaml_writer.specs.Dates.{calendar_date, is_calendar_date};
 
-use crate::digits::{push_four_digits, push_marked};
+use crate::digits::{push_marked, push_two_digits};
 use std::alloc::{AllocError, Allocator};
 use std::error::Error;
 use std::fmt;
@@ -31,30 +31,21 @@ impl fmt::Display for NoTimestamp {
 
 impl Error for NoTimestamp {}
 
-fn is_leap(year: u16) -> bool
-    ensures { result ≡ dates.is_leap year }
-{
-    year % 4 == 0 && (year % 100 != 0 || year % 400 == 0)
-}
-
 /// Returns how many days a month has.
 fn days_in(year: u16, month: u8) -> u8
     ensures { result ≡ dates.days_in year month }
 {
     if month == 2 {
-        if is_leap(year) { 29 } else { 28 }
+        if year % 4 == 0 && (year % 100 != 0 || year % 400 == 0) {
+            29
+        } else {
+            28
+        }
     } else if month == 4 || month == 6 || month == 9 || month == 11 {
         30
     } else {
         31
     }
-}
-
-fn is_date(year: u16, month: u8, day: u8) -> bool
-    ensures { result ≡ is_calendar_date (calendar_date year month day) }
-{
-    (1 <= year && year <= 9999)
-        && ((1 <= month && month <= 12) && (1 <= day && day <= days_in(year, month)))
 }
 
 impl Date {
@@ -66,7 +57,9 @@ impl Date {
         ensures { MatchOption result (is_calendar_date (calendar_date year month day) ≡ false)
             (λ date. seen_date date ≡ calendar_date year month day) }
     {
-        if is_date(year, month, day) {
+        if (1 <= year && year <= 9999)
+            && ((1 <= month && month <= 12) && (1 <= day && day <= days_in(year, month)))
+        {
             Some(Date { year, month, day })
         } else {
             None
@@ -77,7 +70,8 @@ impl Date {
     pub(crate) fn push<A: Allocator>(&self, text: &mut String<A>) -> Result<(), AllocError>
         ensures { IfOk result (λ _. string_bytes text.new ≡ string_bytes text.old ++ dates.date_text (seen_date self.now)) }
     {
-        push_four_digits(text, self.year)?;
+        push_two_digits(text, self.year / 100)?;
+        push_two_digits(text, self.year)?;
         push_marked(text, '-', self.month)?;
         push_marked(text, '-', self.day)
     }

@@ -13,7 +13,10 @@ fn push_digit<A: Allocator>(text: &mut String<A>, number: u16) -> Result<(), All
 }
 
 /// Appends the last two digits of a number.
-fn push_two_digits<A: Allocator>(text: &mut String<A>, number: u16) -> Result<(), AllocError>
+pub(crate) fn push_two_digits<A: Allocator>(
+    text: &mut String<A>,
+    number: u16,
+) -> Result<(), AllocError>
     ensures { IfOk result (λ _. string_bytes text.new ≡ string_bytes text.old ++ dates.two_digits number) }
 {
     push_digit(text, number / 10)?;
@@ -31,17 +34,6 @@ pub(crate) fn push_marked<A: Allocator>(
 {
     text.push(mark)?;
     push_two_digits(text, u16::from(number))
-}
-
-/// Appends the last four digits of a number.
-pub(crate) fn push_four_digits<A: Allocator>(
-    text: &mut String<A>,
-    number: u16,
-) -> Result<(), AllocError>
-    ensures { IfOk result (λ _. string_bytes text.new ≡ string_bytes text.old ++ dates.four_digits number) }
-{
-    push_two_digits(text, number / 100)?;
-    push_two_digits(text, number)
 }
 
 /// Appends the last three digits of a number.

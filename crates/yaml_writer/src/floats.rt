@@ -19,17 +19,6 @@ pub enum SpecialFloat {
     NotANumber,
 }
 
-/// Returns `.inf`, `-.inf` or `.nan`.
-fn special_word(value: SpecialFloat) -> &'static str
-    ensures { chars result.now ≡ special_text value }
-{
-    match value {
-        SpecialFloat::Infinity => ".inf",
-        SpecialFloat::NegativeInfinity => "-.inf",
-        SpecialFloat::NotANumber => ".nan",
-    }
-}
-
 fn special_of(is_nan: bool, is_negative: bool) -> SpecialFloat
     ensures { result ≡ (if is_nan then SpecialFloat.NotANumber else (if is_negative then SpecialFloat.NegativeInfinity else SpecialFloat.Infinity)) }
 {
@@ -85,6 +74,11 @@ impl<A: Allocator + Copy> Writer<A> {
     pub fn special_float(&mut self, value: SpecialFloat) -> Result<(), yaml_error_t>
         ensures { Gives self.old (special_event self.old value) result self.new }
     {
-        self.word(YAML_FLOAT_TAG, special_word(value))
+        let word = match value {
+            SpecialFloat::Infinity => ".inf",
+            SpecialFloat::NegativeInfinity => "-.inf",
+            SpecialFloat::NotANumber => ".nan",
+        };
+        self.word(YAML_FLOAT_TAG, word)
     }
 }

@@ -13,43 +13,14 @@ enum LineSpot {
     Within,
 }
 
-/// Returns whether a comment holds a character as itself.
-fn fits_comment(character: char) -> bool
-    ensures { result ≡ (class.is_printable character && not (class.is_break character)) }
-{
-    is_printable(character) && !is_break(character)
-}
-
 /// Returns a character of a comment; a space stands for what a line can't hold.
 fn in_comment(character: char) -> char
     ensures { result ≡ heading.in_comment character }
 {
-    if character == '\n' || fits_comment(character) {
+    if character == '\n' || (is_printable(character) && !is_break(character)) {
         character
     } else {
         ' '
-    }
-}
-
-/// Returns where the next character stands.
-fn spot_after(character: char) -> LineSpot
-    ensures { result ≡ heading.spot_after character }
-{
-    if character == '\n' {
-        LineSpot::Start
-    } else {
-        LineSpot::Within
-    }
-}
-
-/// Returns what stands before a character.
-fn comment_start(spot: LineSpot, character: char) -> &'static str
-    ensures { result.now ≡ heading.comment_start spot character }
-{
-    match spot {
-        LineSpot::Start if character == '\n' => "#",
-        LineSpot::Start => "# ",
-        LineSpot::Within => "",
     }
 }
 
@@ -61,7 +32,12 @@ fn push_commented<A: Allocator>(
 ) -> Result<(), AllocError>
     ensures { IfOk result (λ _. string_bytes lines.new ≡ string_bytes lines.old ++ heading.commented_bytes spot character) }
 {
-    lines.push_str(comment_start(spot, character))?;
+    let start = match spot {
+        LineSpot::Start if character == '\n' => "#",
+        LineSpot::Start => "# ",
+        LineSpot::Within => "",
+    };
+    lines.push_str(start)?;
     lines.push(in_comment(character))
 }
 
@@ -88,7 +64,11 @@ pub fn comment_lines<A: Allocator>(alloc: A, text: &str) -> Result<String<A>, Al
     let mut spot = LineSpot::Start;
     while let Some(character) = characters.next() {
         push_commented(&mut lines, spot, character)?;
-        spot = spot_after(character);
+        spot = if character == '\n' {
+            LineSpot::Start
+        } else {
+            LineSpot::Within
+        };
     }
     push_end(&mut lines, spot)?;
     Ok(lines)

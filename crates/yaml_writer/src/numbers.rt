@@ -120,16 +120,6 @@ fn exponent_cut(text: &str) -> (&str, Option<Exponent<'_>>)
     }
 }
 
-/// Returns the digits before and after the point of a mantissa.
-fn fraction_cut(text: &str) -> (&str, Option<&str>)
-    ensures { (result.0.now, option_map (λ fraction. fraction.now) result.1) ≡ parts.fraction_cut text.now }
-{
-    match cut_at(b'.', text) {
-        Some((whole, fraction)) => (whole, Some(fraction)),
-        None => (text, None),
-    }
-}
-
 fn minus_cut(text: &str) -> (bool, &str)
     ensures negative { result.0 ≡ schema.is_negative text.now }
     ensures rest { result.1.now ≡ parts.past_minus text.now }
@@ -146,7 +136,10 @@ fn parts_of(text: &str) -> Parts<'_>
 {
     let (negative, unsigned) = minus_cut(text);
     let (mantissa, exponent) = exponent_cut(unsigned);
-    let (whole, fraction) = fraction_cut(mantissa);
+    let (whole, fraction) = match cut_at(b'.', mantissa) {
+        Some((whole, fraction)) => (whole, Some(fraction)),
+        None => (mantissa, None),
+    };
     Parts {
         negative,
         whole,
@@ -155,16 +148,10 @@ fn parts_of(text: &str) -> Parts<'_>
     }
 }
 
-fn is_decimal(byte: u8) -> bool
-    ensures { result ≡ schema.is_decimal byte }
-{
-    char::from(byte).is_digit(10)
-}
-
 fn is_all_decimal(text: &str) -> bool
     ensures { result ≡ list_all schema.is_decimal text.now }
 {
-    text.as_bytes().iter().all(|byte| is_decimal(*byte))
+    text.as_bytes().iter().all(|byte| byte.is_ascii_digit())
 }
 
 /// Returns whether a text is decimal digits, one or more.
@@ -174,37 +161,15 @@ fn is_digits(text: &str) -> bool
     !text.is_empty() && is_all_decimal(text)
 }
 
-fn begins_with_zero(text: &str) -> bool
-    ensures { result ≡ schema.first_meets (λ c. c == 0x30) text.now }
-{
-    text.as_bytes().first().is_some_and(|first| *first == b'0')
-}
-
-/// Returns whether a text is `0`, or digits of which the first isn't 0.
-fn is_whole(text: &str) -> bool
-    ensures { result ≡ json.is_whole_part text.now }
-{
-    is_digits(text) && (!begins_with_zero(text) || text == "0")
-}
-
-fn is_fraction(fraction: Option<&str>) -> bool
-    ensures { result ≡ parts.is_fraction (option_map (λ digits. digits.now) fraction.entry) }
-{
-    fraction.is_none_or(is_digits)
-}
-
-fn is_exponent(exponent: Option<Exponent<'_>>) -> bool
-    ensures { result ≡ parts.is_exponent (option_map seen_exponent exponent.entry) }
-{
-    exponent.is_none_or(|exponent| is_digits(exponent.digits))
-}
-
 impl Parts<'_> {
     /// Returns whether every required digit run is non-empty, and the first digit isn't a needless 0.
     fn is_valid(&self) -> bool
         ensures { result ≡ json.is_json_number (seen_parts self.now) }
     {
-        is_whole(self.whole) && is_fraction(self.fraction) && is_exponent(self.exponent)
+        is_digits(self.whole)
+            && (self.whole.as_bytes().first() != Some(&b'0') || self.whole == "0")
+            && self.fraction.is_none_or(is_digits)
+            && self.exponent.is_none_or(|exponent| is_digits(exponent.digits))
     }
 }
 

@@ -1,13 +1,14 @@
 //! Properties of nodes, aliases, and further documents of a writer.
 ghost use Rattle.std.specs.Prelude.{◌≡◌, ◌⊎◌, IfErr, OnOk, Err, Some, [], ◌∷◌, true, false, chars};
 ghost use Rattle.yaml_base.specs.Event as event;
-ghost use Rattle.yaml_writer.specs.Writing.{NodeExpected, PassedEvents, awaits_node, is_implicit, plain_start};
+ghost use Rattle.yaml_writer.specs.Writing as writing;
+ghost use Rattle.yaml_writer.specs.Writing.{NodeExpected, PassedEvents, awaits_node};
 
-use crate::ends::DocumentEnd;
-use crate::giving::{give, give_next};
+use crate::ends::{DocumentEnd, is_implicit};
+use crate::giving::{give, plain_start};
 use crate::writer::Writer;
 use std::alloc::Allocator;
-use yaml_base::{YAML_ALIAS_EVENT, yaml_error_t};
+use yaml_base::{YAML_ALIAS_EVENT, YAML_DOCUMENT_END_EVENT, yaml_error_t};
 use yaml_emitter::copied_text;
 
 impl<A: Allocator + Copy> Writer<A> {
@@ -71,7 +72,7 @@ impl<A: Allocator + Copy> Writer<A> {
     /// root or a collection is open, and the other errors of the emitter.
     pub fn next_document(&mut self) -> Result<(), yaml_error_t>
         ensures awaited { awaits_node self.old ≡ true → NodeExpected self.old result self.new }
-        ensures passed { awaits_node self.old ≡ false → PassedEvents self.old (event.document_end true ∷ plain_start ∷ []) result self.new }
+        ensures passed { awaits_node self.old ≡ false → PassedEvents self.old (event.document_end true ∷ writing.plain_start ∷ []) result self.new }
     {
         self.next_document_after(DocumentEnd::Implicit)
     }
@@ -82,12 +83,14 @@ impl<A: Allocator + Copy> Writer<A> {
     /// Those of `next_document`.
     pub fn next_document_after(&mut self, end: DocumentEnd) -> Result<(), yaml_error_t>
         ensures awaited { awaits_node self.old ≡ true → NodeExpected self.old result self.new }
-        ensures passed { awaits_node self.old ≡ false → PassedEvents self.old (event.document_end (is_implicit end) ∷ plain_start ∷ []) result self.new }
+        ensures passed { awaits_node self.old ≡ false → PassedEvents self.old (event.document_end (writing.is_implicit end) ∷ writing.plain_start ∷ []) result self.new }
     {
         if self.awaits_node() {
-            Err(yaml_error_t::ExpectedNode)
-        } else {
-            give_next(self.alloc, &mut self.emitter, end)
+            return Err(yaml_error_t::ExpectedNode);
         }
+        let implicit = is_implicit(end);
+        // Its error is that of the next event.
+        let _ = give(&mut self.emitter, YAML_DOCUMENT_END_EVENT { implicit });
+        give(&mut self.emitter, plain_start(self.alloc))
     }
 }

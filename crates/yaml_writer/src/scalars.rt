@@ -25,13 +25,6 @@ pub(crate) fn own_tag(is_written: bool, tag: &str) -> Option<&str>
     if is_written { Some(tag) } else { None }
 }
 
-/// Returns `true` or `false`.
-fn word_of(value: bool) -> &'static str
-    ensures { chars result.now ≡ bool_text value }
-{
-    if value { "true" } else { "false" }
-}
-
 /// Returns the tag of a number's type.
 pub(crate) fn tag_of_number(number: &Number<'_>) -> &'static str
     ensures { chars result.now ≡ number_tag number.now }
@@ -56,19 +49,6 @@ pub(crate) fn style_of(text: &str) -> yaml_scalar_style_t
     }
 }
 
-/// Returns how a text is to stand for which a style is asked.
-fn style_for(asked: yaml_scalar_style_t, text: &str) -> yaml_scalar_style_t
-    ensures { seen_scalar_style result ≡ style_asked (seen_scalar_style asked) (chars text.now) }
-{
-    match asked {
-        yaml_scalar_style_t::YAML_ANY_SCALAR_STYLE => style_of(text),
-        yaml_scalar_style_t::YAML_PLAIN_SCALAR_STYLE if !is_surely_text(text) => {
-            YAML_SINGLE_QUOTED_SCALAR_STYLE
-        }
-        style => style,
-    }
-}
-
 impl<A: Allocator + Copy> Writer<A> {
     /// Writes `null`.
     ///
@@ -87,7 +67,8 @@ impl<A: Allocator + Copy> Writer<A> {
     pub fn bool(&mut self, value: bool) -> Result<(), yaml_error_t>
         ensures { Gives self.old (bool_event self.old value) result self.new }
     {
-        self.word(YAML_BOOL_TAG, word_of(value))
+        let word = if value { "true" } else { "false" };
+        self.word(YAML_BOOL_TAG, word)
     }
 
     /// Writes an integer in decimal digits.
@@ -119,7 +100,11 @@ impl<A: Allocator + Copy> Writer<A> {
         ensures { Gives self.old (number_event self.old number.now) result self.new }
     {
         if number.is_spelled() {
-            let own = self.number_tag(number);
+            let own = if self.canonical {
+                Some(tag_of_number(number))
+            } else {
+                None
+            };
             return self.scalar(own, number.as_str(), YAML_PLAIN_SCALAR_STYLE);
         }
         self.respelled_number(number)
@@ -132,17 +117,6 @@ impl<A: Allocator + Copy> Writer<A> {
         match number.spelling(self.alloc) {
             Ok(spelling) => self.word(tag_of_number(number), spelling.as_str()),
             Err(_) => Err(yaml_error_t::Memory),
-        }
-    }
-
-    /// Returns the tag of a number's type, where one is written.
-    fn number_tag(&self, number: &Number<'_>) -> Option<&'static str>
-        ensures { seen_name result ≡ tag_or_default None self.now.canonical (number_tag number.now) }
-    {
-        if self.canonical {
-            Some(tag_of_number(number))
-        } else {
-            None
         }
     }
 
@@ -171,7 +145,14 @@ impl<A: Allocator + Copy> Writer<A> {
     ) -> Result<(), yaml_error_t>
         ensures { Gives self.old (styled_event self.old (seen_scalar_style style) (chars value.now)) result self.new }
     {
-        self.scalar(None, value, style_for(style, value))
+        let style = match style {
+            yaml_scalar_style_t::YAML_ANY_SCALAR_STYLE => style_of(value),
+            yaml_scalar_style_t::YAML_PLAIN_SCALAR_STYLE if !is_surely_text(value) => {
+                YAML_SINGLE_QUOTED_SCALAR_STYLE
+            }
+            style => style,
+        };
+        self.scalar(None, value, style)
     }
 
     /// Writes a word of a type of YAML, plain.

@@ -27,22 +27,6 @@ impl<A: Allocator> Spelling<'_, A> {
     }
 }
 
-fn minus(negative: bool) -> &'static str
-    ensures { result.now ≡ json.minus negative }
-{
-    if negative { "-" } else { "" }
-}
-
-/// Returns what stands before the digits of an exponent.
-fn exponent_lead(sign: Option<Sign>) -> &'static str
-    ensures { result.now ≡ spellings.exponent_lead (option_map is_minus sign) }
-{
-    match sign {
-        Some(Sign::Minus) => "e-",
-        Some(Sign::Plus) | None => "e+",
-    }
-}
-
 fn push_exponent<A: Allocator>(
     text: &mut String<A>,
     exponent: Option<Exponent<'_>>,
@@ -52,17 +36,14 @@ fn push_exponent<A: Allocator>(
     match exponent {
         None => Ok(()),
         Some(exponent) => {
-            text.push_str(exponent_lead(exponent.sign))?;
+            let lead = match exponent.sign {
+                Some(Sign::Minus) => "e-",
+                Some(Sign::Plus) | None => "e+",
+            };
+            text.push_str(lead)?;
             text.push_str(exponent.digits)
         }
     }
-}
-
-fn is_spelled_exponent(exponent: Option<Exponent<'_>>) -> bool
-    ensures { result ≡ spellings.is_spelled_exponent (option_map seen_exponent exponent.entry) }
-{
-    exponent.is_none_or(|exponent| matches!(exponent.letter, ExponentLetter::Small)
-        && exponent.sign.is_some())
 }
 
 impl Parts<'_> {
@@ -79,42 +60,29 @@ impl Parts<'_> {
         !(self.negative && self.whole == "0")
     }
 
-    fn fraction_or_zero(&self) -> &str
-        ensures { result.now ≡ json.fraction_or_default (codes "0") (seen_parts self.now) }
-    {
-        match self.fraction {
-            None => "0",
-            Some(fraction) => fraction,
-        }
-    }
-
     /// Appends its fraction and its exponent.
     fn push_fraction<A: Allocator>(&self, text: &mut String<A>) -> Result<(), AllocError>
         ensures { IfOk result (λ _. string_bytes text.new ≡ string_bytes text.old
             ++ (codes "." ++ json.fraction_or_default (codes "0") (seen_parts self.now) ++ json.exponent_spelled (seen_parts self.now).exponent)) }
     {
+        let digits = match self.fraction {
+            None => "0",
+            Some(digits) => digits,
+        };
         text.push_str(".")?;
-        text.push_str(self.fraction_or_zero())?;
+        text.push_str(digits)?;
         push_exponent(text, self.exponent)
-    }
-
-    /// Appends what follows its whole part.
-    fn push_rest<A: Allocator>(&self, text: &mut String<A>) -> Result<(), AllocError>
-        ensures { IfOk result (λ _. string_bytes text.new ≡ string_bytes text.old ++ spellings.after_whole (seen_parts self.now)) }
-    {
-        if self.is_integer() {
-            return Ok(());
-        }
-        self.push_fraction(text)
     }
 
     fn spelled<A: Allocator>(&self, alloc: A) -> Result<String<A>, AllocError>
         ensures { IfOk result (λ text. string_bytes text ≡ json.yaml_number (seen_parts self.now)) }
     {
         let mut text = String::new(alloc);
-        text.push_str(minus(self.negative))?;
+        text.push_str(if self.negative { "-" } else { "" })?;
         text.push_str(self.whole)?;
-        self.push_rest(&mut text)?;
+        if !self.is_integer() {
+            self.push_fraction(&mut text)?;
+        }
         Ok(text)
     }
 
@@ -125,15 +93,10 @@ impl Parts<'_> {
         if self.is_integer() {
             return true;
         }
-        self.fraction.is_some() && is_spelled_exponent(self.exponent)
+        self.fraction.is_some()
+            && self.exponent.is_none_or(|exponent| matches!(exponent.letter, ExponentLetter::Small)
+                && exponent.sign.is_some())
     }
-}
-
-/// Returns whether a text is its own spelling if it is a number, since it has no exponent and isn't `-0`.
-fn is_surely_spelled(text: &str) -> bool
-    ensures { result ≡ true → spellings.is_spelled (number_in text.now) ≡ true }
-{
-    lacks_letters(text) && text != "-0"
 }
 
 impl<'a> Number<'a> {
@@ -144,11 +107,11 @@ impl<'a> Number<'a> {
         self.parts().is_integer()
     }
 
-    /// Returns whether its text is its spelling. Most texts tell it without their parts.
+    /// Returns whether its text is its spelling. Most texts tell it without their parts, as they have no exponent and aren't `-0`.
     pub(crate) fn is_spelled(&self) -> bool
         ensures { result ≡ spellings.is_spelled self.now }
     {
-        is_surely_spelled(self.text) || self.parts().is_spelled()
+        (lacks_letters(self.text) && self.text != "-0") || self.parts().is_spelled()
     }
 
     /// Returns its spelling, which the type repository of YAML 1.1 and the core schema of YAML 1.2 read as exactly this

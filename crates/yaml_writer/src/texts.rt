@@ -33,18 +33,12 @@ fn ascii_length(text: &[u8]) -> usize
     text.iter().take_while(|byte| byte.is_ascii()).count()
 }
 
-/// Returns the bytes before the first that isn't ASCII.
-fn ascii_prefix(text: &[u8]) -> &[u8]
-    ensures { result.now ≡ take_while is_ascii text.now }
-{
-    text.split_at(ascii_length(text)).0
-}
-
 /// Returns whether the first bytes of a text, up to one that isn't ASCII, are a reserved word in any case.
 fn begins_with_reserved_word(text: &[u8]) -> bool
     ensures { result ≡ list_any (is_word (surely.ascii_prefix text.now)) surely.reserved_words }
 {
-    is_reserved_word(ascii_prefix(head(text)))
+    let first = head(text);
+    is_reserved_word(first.split_at(ascii_length(first)).0)
 }
 
 /// Returns whether a byte is a space or a letter, or another byte of ASCII above them, that is neither the second nor the
@@ -94,69 +88,24 @@ fn is_reserved(text: &[u8]) -> bool
     }
 }
 
-/// Returns whether a text begins with `:`, as a symbol of Ruby does.
-fn is_symbol(text: &[u8]) -> bool
-    ensures { result ≡ surely.is_symbol text.now }
-{
-    match text.first() {
-        None => false,
-        Some(first) => *first == b':',
-    }
-}
-
-fn precedes_number(byte: u8) -> bool
-    ensures { result ≡ surely.precedes_number byte }
-{
-    matches!(byte, b'+' | b'-' | b'_')
-}
-
-fn names_base(byte: u8) -> bool
-    ensures { result ≡ surely.names_base byte }
-{
-    matches!(byte, b'_' | b'x' | b'X' | b'o' | b'O' | b'b' | b'B')
-}
-
-/// Returns whether a text begins with `0`, and then `_` or the letter of a base.
-fn begins_based(text: &[u8]) -> bool
-    ensures { result ≡ surely.begins_based text.now }
-{
-    text.len() > 1 && text[0] == b'0' && names_base(text[1])
-}
-
 /// Returns how many signs and underscores stand first.
 fn sign_count(text: &[u8]) -> usize
     ensures value { result ≡ prefix_len surely.precedes_number text.now }
     ensures few { result ≤ length text.now }
 {
     text.iter()
-        .take_while(|byte| precedes_number(**byte))
+        .take_while(|byte| matches!(**byte, b'+' | b'-' | b'_'))
         .count()
 }
 
-/// Returns the bytes past signs and underscores.
-fn past_signs(text: &[u8]) -> &[u8]
-    ensures { result.now ≡ past surely.precedes_number text.now }
-{
-    text.split_at(sign_count(text)).1
-}
-
-/// Returns whether a text is a number in a base.
+/// Returns whether a text is a number in a base: past signs and underscores `0`, and then `_` or the letter of a base.
 fn is_based(text: &[u8]) -> bool
     ensures { result ≡ surely.is_based text.now }
 {
-    begins_based(past_signs(text))
-}
-
-fn is_digit(byte: u8) -> bool
-    ensures { result ≡ is_decimal byte }
-{
-    byte.is_ascii_digit()
-}
-
-fn begins_number(byte: u8) -> bool
-    ensures { result ≡ surely.begins_number byte }
-{
-    is_digit(byte) || matches!(byte, b'.' | b'+' | b'-' | b'_' | b'e' | b'E')
+    let digits = text.split_at(sign_count(text)).1;
+    digits.len() > 1
+        && digits[0] == b'0'
+        && matches!(digits[1], b'_' | b'x' | b'X' | b'o' | b'O' | b'b' | b'B')
 }
 
 fn is_number_letter(byte: u8) -> bool
@@ -171,7 +120,7 @@ fn is_number_letter(byte: u8) -> bool
 fn in_number(byte: u8) -> bool
     ensures { result ≡ surely.in_number byte }
 {
-    is_digit(byte)
+    byte.is_ascii_digit()
         || is_number_letter(byte)
         || matches!(byte, b' ' | b'\t' | b'+' | b'-' | b'.' | b'_' | b':' | b',')
 }
@@ -182,7 +131,9 @@ fn begins_as_number(text: &[u8]) -> bool
 {
     match text.first() {
         None => false,
-        Some(first) => begins_number(*first),
+        Some(first) => {
+            first.is_ascii_digit() || matches!(*first, b'.' | b'+' | b'-' | b'_' | b'e' | b'E')
+        }
     }
 }
 
@@ -196,7 +147,7 @@ fn are_of_number(text: &[u8]) -> bool
         if !in_number(*byte) {
             return false;
         }
-        has_digit |= is_digit(*byte);
+        has_digit |= byte.is_ascii_digit();
         has_letter |= is_number_letter(*byte);
     }
     has_digit || !has_letter
@@ -225,17 +176,14 @@ fn begins_doubtful(byte: u8) -> bool
 fn is_doubtful(text: &[u8]) -> bool
     ensures { result ≡ surely.is_doubtful text.now }
 {
-    match text.first() {
-        None => true,
-        Some(first) => begins_doubtful(*first) && is_of_doubtful_form(text),
+    let Some(first) = text.first() else {
+        return true;
+    };
+    if !begins_doubtful(*first) {
+        return false;
     }
-}
-
-/// Returns whether a text is a reserved word, a symbol or a number.
-fn is_of_doubtful_form(text: &[u8]) -> bool
-    ensures { result ≡ surely.is_doubtful text.now }
-{
-    is_reserved(text) || is_symbol(text) || is_based_or_numeric(text)
+    // It is a reserved word, a number, or a symbol of Ruby, which begins with `:`.
+    is_reserved(text) || *first == b':' || is_based_or_numeric(text)
 }
 
 /// Returns whether a text, written plain, is read as a text by the type repository of YAML 1.1, by the core schema of YAML

@@ -45,12 +45,6 @@ pub struct Time {
     pub ghost is_time: { times.is_clock_reading hour minute second nanosecond ≡ true },
 }
 
-fn is_time(hour: u8, minute: u8, second: u8, nanosecond: u32) -> bool
-    ensures { result ≡ times.is_clock_reading hour minute second nanosecond }
-{
-    (hour <= 23 && minute <= 59) && (second <= 59 && nanosecond <= 999_999_999)
-}
-
 impl Time {
     ghost use Rattle.std.specs.Prelude.{MatchOption, false, option_map};
     ghost use Rattle.yaml_writer.specs.SeenTimes.{seen_offset, seen_time};
@@ -67,7 +61,7 @@ impl Time {
         ensures { MatchOption result (times.is_clock_reading hour minute second nanosecond ≡ false)
             (λ time. seen_time time ≡ times.clock_time hour minute second nanosecond (option_map seen_offset offset)) }
     {
-        if is_time(hour, minute, second, nanosecond) {
+        if (hour <= 23 && minute <= 59) && (second <= 59 && nanosecond <= 999_999_999) {
             Some(Time {
                 hour,
                 minute,

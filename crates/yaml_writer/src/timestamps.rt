@@ -23,10 +23,14 @@ pub struct Timestamp {
     pub time: Option<Time>,
 }
 
-/// Appends nanoseconds as decimals of a second.
-fn push_decimals<A: Allocator>(text: &mut String<A>, nanosecond: u32) -> Result<(), AllocError>
-    ensures { IfOk result (λ _. string_bytes text.new ≡ string_bytes text.old ++ times.decimals nanosecond) }
+/// Appends a point and nanoseconds as decimals of a second, where there are any.
+fn push_fraction<A: Allocator>(text: &mut String<A>, nanosecond: u32) -> Result<(), AllocError>
+    ensures { IfOk result (λ _. string_bytes text.new ≡ string_bytes text.old ++ times.fraction_text nanosecond) }
 {
+    if nanosecond == 0 {
+        return Ok(());
+    }
+    text.push('.')?;
     push_three_digits(text, (nanosecond / 1_000_000) as u16)?;
     if nanosecond % 1_000_000 == 0 {
         return Ok(());
@@ -38,42 +42,20 @@ fn push_decimals<A: Allocator>(text: &mut String<A>, nanosecond: u32) -> Result<
     push_three_digits(text, (nanosecond % 1000) as u16)
 }
 
-/// Appends a point and the decimals, where there are any.
-fn push_fraction<A: Allocator>(text: &mut String<A>, nanosecond: u32) -> Result<(), AllocError>
-    ensures { IfOk result (λ _. string_bytes text.new ≡ string_bytes text.old ++ times.fraction_text nanosecond) }
-{
-    if nanosecond == 0 {
-        return Ok(());
-    }
-    text.push('.')?;
-    push_decimals(text, nanosecond)
-}
-
-fn sign_char(sign: Sign) -> char
-    ensures value { result ≡ (if is_minus sign then 0x2D else 0x2B) }
-    ensures ascii { result < 128 }
-{
-    match sign {
-        Sign::Plus => '+',
-        Sign::Minus => '-',
-    }
-}
-
-/// Appends a sign, hours and minutes.
-fn push_offset<A: Allocator>(text: &mut String<A>, offset: &Offset) -> Result<(), AllocError>
-    ensures { IfOk result (λ _. string_bytes text.new ≡ string_bytes text.old ++ times.zone_text (Some (seen_offset offset.now))) }
-{
-    push_marked(text, sign_char(offset.sign), offset.hours)?;
-    push_marked(text, ':', offset.minutes)
-}
-
 /// Appends an offset, or `Z` for UTC.
 fn push_zone<A: Allocator>(text: &mut String<A>, offset: &Option<Offset>) -> Result<(), AllocError>
     ensures { IfOk result (λ _. string_bytes text.new ≡ string_bytes text.old ++ times.zone_text (option_map seen_offset offset.now)) }
 {
     match offset {
         None => text.push('Z'),
-        Some(offset) => push_offset(text, offset),
+        Some(offset) => {
+            let sign = match offset.sign {
+                Sign::Plus => '+',
+                Sign::Minus => '-',
+            };
+            push_marked(text, sign, offset.hours)?;
+            push_marked(text, ':', offset.minutes)
+        }
     }
 }
 
@@ -87,19 +69,6 @@ fn push_clock<A: Allocator>(text: &mut String<A>, time: &Time) -> Result<(), All
     push_fraction(text, time.nanosecond)
 }
 
-/// Appends `T` and a time, where there is one.
-fn push_time<A: Allocator>(text: &mut String<A>, time: &Option<Time>) -> Result<(), AllocError>
-    ensures { IfOk result (λ _. string_bytes text.new ≡ string_bytes text.old ++ times.time_text (option_map seen_time time.now)) }
-{
-    match time {
-        None => Ok(()),
-        Some(time) => {
-            push_clock(text, time)?;
-            push_zone(text, &time.offset)
-        }
-    }
-}
-
 impl Timestamp {
     /// Returns its bytes, which are ASCII.
     fn spelled<A: Allocator>(&self, alloc: A) -> Result<String<A>, AllocError>
@@ -107,7 +76,10 @@ impl Timestamp {
     {
         let mut text = String::new(alloc);
         self.date.push(&mut text)?;
-        push_time(&mut text, &self.time)?;
+        if let Some(time) = &self.time {
+            push_clock(&mut text, time)?;
+            push_zone(&mut text, &time.offset)?;
+        }
         Ok(text)
     }
 
@@ -125,13 +97,6 @@ impl Timestamp {
     }
 }
 
-/// Returns whether a timestamp's tag is written.
-fn needs_tag(canonical: bool, timestamp: &Timestamp) -> bool
-    ensures { result ≡ (canonical || is_some (seen_timestamp timestamp.now).time) }
-{
-    canonical || timestamp.time.is_some()
-}
-
 impl<A: Allocator + Copy> Writer<A> {
     /// Writes a timestamp of YAML 1.1, in its `text`: a date plain, and one with a time of day with the tag
     /// `tag:yaml.org,2002:timestamp`, as in flow its `:` keeps it from standing plain.
@@ -143,7 +108,8 @@ impl<A: Allocator + Copy> Writer<A> {
     {
         match timestamp.text(self.alloc) {
             Ok(text) => {
-                let tag = own_tag(needs_tag(self.canonical, timestamp), YAML_TIMESTAMP_TAG);
+                let needed = self.canonical | timestamp.time.is_some();
+                let tag = own_tag(needed, YAML_TIMESTAMP_TAG);
                 self.scalar(tag, text.as_str(), YAML_PLAIN_SCALAR_STYLE)
             }
             Err(_) => Err(yaml_error_t::Memory),

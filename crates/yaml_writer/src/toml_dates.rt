@@ -2,7 +2,7 @@
 ghost use Rattle.std.specs.Prelude.{◌≡◌, option_map};
 ghost use Rattle.yaml_writer.specs.TomlDates as spec;
 ghost use Rattle.yaml_writer.specs.SeenDates.{seen_date};
-ghost use Rattle.yaml_writer.specs.SeenTimes.{seen_offset, seen_time, seen_timestamp};
+ghost use Rattle.yaml_writer.specs.SeenTimes.{seen_offset, seen_time};
 
 use crate::dates::{Date, NoTimestamp};
 use crate::numbers::Sign;
@@ -14,19 +14,6 @@ fn date_of(date: toml_datetime::Date) -> Option<Date>
     ensures { option_map seen_date result ≡ spec.date_of date }
 {
     Date::new(date.year, date.month, date.day)
-}
-
-/// Returns how far a clock is from that of UTC.
-fn offset_of(minutes: i16) -> Option<Offset>
-    ensures { option_map seen_offset result ≡ spec.offset_of minutes }
-{
-    let far = minutes.unsigned_abs();
-    let sign = if minutes < 0 { Sign::Minus } else { Sign::Plus };
-    if far < 1440 {
-        Offset::new(sign, (far / 60) as u8, (far % 60) as u8)
-    } else {
-        None
-    }
 }
 
 fn time_by(time: toml_datetime::Time, offset: Option<Offset>) -> Option<Time>
@@ -46,33 +33,17 @@ fn time_of(time: toml_datetime::Time, offset: toml_datetime::Offset) -> Option<T
 {
     match offset {
         toml_datetime::Offset::Z => time_by(time, None),
-        toml_datetime::Offset::Custom { minutes } => match offset_of(minutes) {
-            Some(offset) => time_by(time, Some(offset)),
-            None => None,
-        },
-    }
-}
-
-fn timestamp_of(datetime: &Datetime) -> Option<Timestamp>
-    ensures { option_map seen_timestamp result ≡ spec.moment_of datetime.now }
-{
-    let date = match datetime.date {
-        Some(date) => match date_of(date) {
-            Some(date) => date,
-            None => return None,
-        },
-        None => return None,
-    };
-    match (datetime.time, datetime.offset) {
-        (None, None) => Some(Timestamp { date, time: None }),
-        (Some(time), Some(offset)) => match time_of(time, offset) {
-            Some(time) => Some(Timestamp {
-                date,
-                time: Some(time),
-            }),
-            None => None,
-        },
-        _ => None,
+        toml_datetime::Offset::Custom { minutes } => {
+            let far = minutes.unsigned_abs();
+            if far >= 1440 {
+                return None;
+            }
+            let sign = if minutes < 0 { Sign::Minus } else { Sign::Plus };
+            match Offset::new(sign, (far / 60) as u8, (far % 60) as u8) {
+                Some(offset) => time_by(time, Some(offset)),
+                None => None,
+            }
+        }
     }
 }
 
@@ -110,6 +81,22 @@ impl TryFrom<Datetime> for Timestamp {
     /// # Errors
     /// `NoTimestamp` for a time that has no offset or no date, and for what YAML 1.1 has no timestamp of: the year 0, and a second 60.
     fn try_from(datetime: Datetime) -> Result<Timestamp, NoTimestamp> {
-        timestamp_of(&datetime).ok_or(NoTimestamp)
+        let Some(date) = datetime.date else {
+            return Err(NoTimestamp);
+        };
+        let Some(date) = date_of(date) else {
+            return Err(NoTimestamp);
+        };
+        match (datetime.time, datetime.offset) {
+            (None, None) => Ok(Timestamp { date, time: None }),
+            (Some(time), Some(offset)) => match time_of(time, offset) {
+                Some(time) => Ok(Timestamp {
+                    date,
+                    time: Some(time),
+                }),
+                None => Err(NoTimestamp),
+            },
+            _ => Err(NoTimestamp),
+        }
     }
 }

@@ -73,10 +73,13 @@ pub fn typed_event<A: Allocator>(event: yaml_event_t<A>) -> yaml_event_t<A>
     }
 }
 
-/// Returns a scalar with this tag, and the flags and the style that keep the tag.
-fn typed_as<'a>(tag: &str, content: ScalarContent<'a>) -> ScalarContent<'a>
-    ensures { seen_scalar result ≡ typed.typed_as (chars tag.now) (seen_scalar content.entry) }
+/// Returns a scalar whose texts are borrowed as `typed_event` does its event.
+pub fn typed_content(content: ScalarContent<'_>) -> ScalarContent<'_>
+    ensures { seen_scalar result ≡ typed.typed_scalar (seen_scalar content.entry) }
 {
+    let Some(tag) = content.tag else {
+        return content;
+    };
     let is_text = is_string_tag(tag);
     let is_implied = implies_tag(content.value, tag);
     ScalarContent {
@@ -90,15 +93,5 @@ fn typed_as<'a>(tag: &str, content: ScalarContent<'a>) -> ScalarContent<'a>
         } else {
             content.style
         },
-    }
-}
-
-/// Returns a scalar whose texts are borrowed as `typed_event` does its event.
-pub fn typed_content(content: ScalarContent<'_>) -> ScalarContent<'_>
-    ensures { seen_scalar result ≡ typed.typed_scalar (seen_scalar content.entry) }
-{
-    match content.tag {
-        Some(tag) => typed_as(tag, content),
-        None => content,
     }
 }

@@ -12,14 +12,16 @@ ghost use Rattle.yaml_writer.specs.Unfinished.{IsUnfinished, IsUnfinishedBy};
 ghost use Rattle.yaml_writer.specs.Writing.{Finishes, FinishesBy, Gives, StandsTaken, TakesBytes, awaits_node, is_implicit, opening, scalar_event, writer_over};
 
 use crate::ends::DocumentEnd;
-use crate::giving::{bare_scalar, begin, finished, scalar_content, use_up};
+use crate::giving::{end_stream, give, plain_start, scalar_content, use_up};
 use std::alloc::Allocator;
 use std::io;
 use std::marker::Model;
-use yaml_base::{write_to_sink, yaml_error_t, yaml_scalar_style_t};
+use yaml_base::{
+    YAML_ANY_ENCODING, YAML_STREAM_START_EVENT, write_to_sink, yaml_error_t, yaml_scalar_style_t,
+};
 use yaml_emitter::{
-    CollectionKind, ScalarAnswer, Settings, yaml_emitter_consume_output, yaml_emitter_emit_scalar,
-    yaml_emitter_t, yaml_emitter_take_output,
+    CollectionKind, ScalarAnswer, ScalarContent, Settings, yaml_emitter_consume_output,
+    yaml_emitter_emit_scalar, yaml_emitter_t, yaml_emitter_take_output,
 };
 
 /// Writes values, one call each, into a vector of bytes.
@@ -73,7 +75,10 @@ impl<A: Allocator + Copy> Writer<A> {
         let Ok(mut emitter) = yaml_emitter_t::with_settings(alloc, settings) else {
             return Err(yaml_error_t::Memory);
         };
-        begin(alloc, &mut emitter);
+        let encoding = YAML_ANY_ENCODING;
+        // An error stays with the emitter.
+        let _ = give(&mut emitter, YAML_STREAM_START_EVENT { encoding });
+        let _ = give(&mut emitter, plain_start(alloc));
         Ok(Writer {
             alloc,
             emitter,
@@ -117,12 +122,12 @@ impl<A: Allocator + Copy> Writer<A> {
         emitter
     }
 
-    /// Gives a scalar to the emitter, with the properties of the next node, and this tag where none was given. Where it has to
-    /// wait and there is no memory to copy it, nothing changes.
-    pub(crate) fn scalar(
+    /// Gives a scalar to the emitter, with the properties of the next node, and this tag where none was given. Where it has no
+    /// tag, none need be written. Where it has to wait and there is no memory to copy it, nothing changes.
+    pub(crate) fn scalar<'a>(
         &mut self,
-        own: Option<&str>,
-        value: &str,
+        own: Option<&'a str>,
+        value: &'a str,
         style: yaml_scalar_style_t,
     ) -> Result<(), yaml_error_t>
         ensures { Gives self.old (scalar_event self.old (option_or self.old.tag (seen_name own.entry)) (chars value.now)
@@ -131,7 +136,16 @@ impl<A: Allocator + Copy> Writer<A> {
         if self.awaits_node() {
             return self.scalar_with_properties(own, value, style);
         }
-        yaml_emitter_emit_scalar(&mut self.emitter, &bare_scalar(own, value, style)).into_result()
+        let implicit = own.is_none();
+        let content = ScalarContent {
+            anchor: None,
+            tag: own,
+            value,
+            plain_implicit: implicit,
+            quoted_implicit: implicit,
+            style,
+        };
+        yaml_emitter_emit_scalar(&mut self.emitter, &content).into_result()
     }
 
     /// Does what `scalar` does where an anchor or a tag awaits its node. Out of line, so that `scalar` is inlined.
@@ -236,6 +250,9 @@ impl<A: Allocator + Copy> Writer<A> {
             return Err(yaml_error_t::ExpectedNode);
         }
         let mut emitter = self.into_emitter();
-        finished(&mut emitter, end)
+        match end_stream(&mut emitter, end) {
+            Ok(()) => Ok(yaml_emitter_take_output(&mut emitter)),
+            Err(error) => Err(error),
+        }
     }
 }

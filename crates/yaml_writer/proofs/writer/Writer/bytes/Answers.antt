@@ -9,7 +9,7 @@ pub returns-in-Ok : goal.returns-in-Ok
 returns-in-Ok g c =
     let before : WriterState = c.args.self.now in
     let given = chars c.as_str-text.result.now in
-    let text : given ≡ binary_text c.args.value.now = ap chars (c.as_str-text.ensures.value ∙ c.in-Ok.ensures) in
+    let text : given ≡ binary_text c.args.value.now = ap chars (c.as_str-text.ensures.value ∙ c.in-Ok.ensures.text) in
     given_as before c.scalar.new.self c.scalar.result
     (ap (λ (tag : Text). scalar_event before (option_or before.tag (Some tag)) given (seen_scalar_style c.style_of.result)) (chars-literal binary_tag refl)
     ∙ ap (λ (style : ScalarStyle). scalar_event before (option_or before.tag (Some binary_tag)) given style) c.style_of.ensures

@@ -1,16 +1,23 @@
-use Rattle.yaml_writer.proofs.Common.{Option, None, chars, is_none, is_some, false, ◌||◌, ◌≡◌, refl, ap, ap₂, subst, sym, ◌∙◌, option_or, Event, Text, scalar}
+use Rattle.yaml_writer.proofs.Common.{ℕ, Bool, List, Option, None, chars, is_none, is_some, false, true, not, ◌||◌, ◌≡◌, refl, ap, ap₂, subst, sym, ◌∙◌, option_or, Event, Text, scalar}
 use Rattle.yaml_writer.proofs.Common.{seen_scalar_style, writer_state_of, WriterState}
 use Rattle.yaml_base.proofs.Common.{Some, false≢true, or_parts}
+use Rattle.std.specs.Borrow.{Bor}
 use Rattle.std.specs.Prelude.{Result}
 use Rattle.yaml_base.specs.declared.errors.yaml_error_t.{yaml_error_t}
 use Rattle.yaml_base.specs.Event.{ScalarStyle}
-use Rattle.yaml_emitter.specs.{BorrowedTexts.seen_name, BorrowedTexts.seen_scalar, EmitsEvent.EmitsScalar}
+use Rattle.yaml_emitter.specs.{BorrowedTexts.seen_name, EmitsEvent.EmitsScalar}
 use Rattle.yaml_writer.{proofs.Taken.gave_bare, specs.Writing.Gives, specs.Writing.scalar_event}
 use Rattle.yaml_writer.proofs.writer.Writer.scalar.Goals as goal
 
 none_is : (text : Option Text) → is_some text ≡ false → text ≡ None
 none_is None h = refl
 none_is (Some text) h = absurd (false≢true (sym h))
+
+none_seen : (name : Option (Bor (List ℕ))) (lacks : Bool) → is_some name ≡ not lacks → lacks ≡ is_none (seen_name name)
+none_seen None true h = refl
+none_seen None false h = absurd (false≢true h)
+none_seen (Some text) true h = absurd (false≢true (sym h))
+none_seen (Some text) false h = refl
 
 -- the event of a scalar without properties
 bare_event : (writer : WriterState) (own : Option Text) (value : Text) (style : ScalarStyle) → writer.anchor ≡ None → writer.tag ≡ None
@@ -43,8 +50,10 @@ returns g c =
     (ap (λ (w : WriterState). is_some w.anchor || is_some w.tag) c.self.view_is ∙ sym c.awaits_node.ensures ∙ c.if-awaits_node.false) in
     let no_anchor = none_is before.anchor bare.0 in
     let no_tag = none_is before.tag bare.1 in
-    let same : scalar (seen_scalar c.bare_scalar.result) ≡ event c.args.self.now =
-    ap scalar c.bare_scalar.ensures ∙ bare_event before own value style no_anchor no_tag ∙ ap event c.self.view_is in
+    let bare_with = λ (none : Bool).
+    scalar (record { anchor = None; tag = own; value = value; plain_implicit = none; quoted_implicit = none; style = style }) in
+    let same : bare_with c.is_none-implicit.result ≡ event c.args.self.now =
+    ap bare_with (none_seen c.args.own c.is_none-implicit.result c.is_none-implicit.ensures) ∙ bare_event before own value style no_anchor no_tag ∙ ap event c.self.view_is in
     let emits = subst (λ (e : Event). EmitsScalar before.emitter e answer emitter) same c.yaml_emitter_emit_scalar.ensures.emits in
     subst (λ (r : Result (Unit {0}) yaml_error_t). Gives c.args.self.now (event c.args.self.now) r (record before { emitter = emitter }))
     (sym c.into_result.ensures)

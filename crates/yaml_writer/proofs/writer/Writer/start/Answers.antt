@@ -22,8 +22,9 @@ returns g c =
       style = style;
     } in
     let asked : (style : CollectionStyle) → given style ≡ next_collection c.args.self.now style = λ style. search rules in
+    let seen : seen_event c.match-start.event ≡ collection_start c.args.start given = search rules in
     let event = collection_start_event c.args.self.now c.args.start in
     gave_event (writer_state_of c.self.inside) c.args.self.now c.give.new.emitter (option_map seen_text c.take-anchor.new.self)
-    (option_map seen_text c.take-tag.new.self) (seen_event c.collection_start.result) event c.give.result c.self.view_is
-    (c.collection_start.ensures ∙ same_start c.args.start given (next_collection c.args.self.now) asked) c.give.ensures.moves
+    (option_map seen_text c.take-tag.new.self) (seen_event c.match-start.event) event c.give.result c.self.view_is
+    (seen ∙ same_start c.args.start given (next_collection c.args.self.now) asked) c.give.ensures.moves
     (ap (option_map seen_text) c.take-anchor.ensures.after) (ap (option_map seen_text) c.take-tag.ensures.after)

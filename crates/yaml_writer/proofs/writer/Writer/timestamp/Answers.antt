@@ -1,4 +1,4 @@
-use Rattle.yaml_writer.proofs.Common.{chars, Option, None, is_some, ◌||◌, refl, ◌≡◌, ap, ap₂, ◌∙◌, chars-literal, option_or, Text, plain}
+use Rattle.yaml_writer.proofs.Common.{Bool, chars, rules, Option, None, is_some, ◌||◌, refl, ◌≡◌, ap, ap₂, ◌∙◌, chars-literal, option_or, Text, plain}
 use Rattle.yaml_writer.proofs.Common.{WriterState}
 use Rattle.yaml_emitter.specs.BorrowedTexts.{seen_name}
 use Rattle.yaml_writer.proofs.Taken.{given_as, or_own}
@@ -11,8 +11,9 @@ pub returns-in-Ok : goal.returns-in-Ok
 returns-in-Ok g c =
     let before : WriterState = c.args.self.now in
     let moment : Moment = seen_timestamp c.args.timestamp.now in
-    let needed : c.needs_tag.result ≡ (before.canonical || is_some moment.time) =
-    c.needs_tag.ensures ∙ ap (λ (writer : WriterState). writer.canonical || is_some moment.time) c.self.view_is in
+    let timed : c.is_some.result ≡ is_some moment.time = search rules in
+    let needed : (c.self.inside.canonical || c.is_some.result) ≡ (before.canonical || is_some moment.time) =
+    ap (λ (b : Bool). c.self.inside.canonical || b) timed ∙ ap (λ (writer : WriterState). writer.canonical || is_some moment.time) c.self.view_is in
     let own : seen_name c.own_tag-tag.result ≡ tag_or_default None (before.canonical || is_some moment.time) timestamp_tag =
     c.own_tag-tag.ensures ∙ ap₂ (tag_or_default None) needed (chars-literal timestamp_tag refl) in
     let text : chars c.as_str.result.now ≡ timestamp_text moment = ap chars c.as_str.ensures.value ∙ c.in-Ok.ensures.text in
