@@ -1,8 +1,8 @@
 -- The spelling of a number of JSON, for callers.
-use Rattle.std.specs.Prelude.{◌≡◌, List, Bool, true, Option, None, Some, ◌&&◌, ◌||◌, not, is_some, ℕ, [], ◌++◌, codes, if◌then◌else◌}
+use Rattle.std.specs.Prelude.{◌≡◌, List, Bool, true, Option, None, Some, ◌&&◌, ◌||◌, not, is_some, ℕ}
 use Rattle.std.specs.String.{string_bytes}
 use Rattle.yaml_base.specs.Characters.{Text}
-use Rattle.yaml_base.specs.values.JsonNumbers.{JsonNumber, JsonExponent, is_json_integer, fraction_or_default, exponent_spelled, yaml_number}
+use Rattle.yaml_base.specs.values.JsonNumbers.{JsonNumber, JsonExponent, is_json_integer, yaml_number}
 use Rattle.yaml_writer.specs.NumberParts.{IsNumber}
 use Rattle.yaml_writer.specs.declared.spelling.Spelling.{Spelling}
 use Rattle.yaml_writer.specs.declared.spelling.Spelling.TheVariants.{Unchanged, Changed}
@@ -30,13 +30,3 @@ NeedsNoMemory text = (number : JsonNumber) → IsNumber text number → text ≡
 abbrev pub spelling_bytes : {A : Type 0} → Spelling A → List ℕ
 spelling_bytes (Unchanged text) = text.now
 spelling_bytes (Changed text) = string_bytes text
-
--- what stands before an exponent's digits
-abbrev pub exponent_lead : Option Bool → Text
-exponent_lead None = codes "e" ++ codes "+"
-exponent_lead (Some negative) = codes "e" ++ (if negative then codes "-" else codes "+")
-
--- what follows a number's whole part
-abbrev pub after_whole : JsonNumber → Text
-after_whole number =
-    if is_json_integer number then [] else codes "." ++ fraction_or_default (codes "0") number ++ exponent_spelled number.exponent

@@ -1,5 +1,4 @@
 //! Bytes, as base64.
-ghost use Rattle.std.specs.Prelude.{◌≡◌};
 ghost use Rattle.yaml_writer.specs.Binary.{bytes_event};
 ghost use Rattle.yaml_writer.specs.Writing.{Gives};
 

@@ -1,7 +1,7 @@
 //! Floats.
 ghost use Rattle.std.specs.Float.{binary32, binary64};
-ghost use Rattle.std.specs.Prelude.{◌≡◌, chars, if◌then◌else◌};
-ghost use Rattle.yaml_writer.specs.Floats.{GivesFloat, special_event, special_text};
+ghost use Rattle.std.specs.Prelude.{◌≡◌, if◌then◌else◌};
+ghost use Rattle.yaml_writer.specs.Floats.{GivesFloat, special_event};
 ghost use Rattle.yaml_writer.specs.NumberParts.{HasNumber, IsNumber};
 ghost use Rattle.yaml_writer.specs.Writing.{Gives};
 

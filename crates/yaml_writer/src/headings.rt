@@ -1,6 +1,5 @@
 //! Headings: lines of comments before a stream.
-ghost use Rattle.std.specs.Prelude.{◌≡◌, ◌++◌, ◌||◌, ◌&&◌, ◌==◌, IfOk, chars, encode_utf8_all, not, string_bytes};
-ghost use Rattle.yaml_base.specs.Characters as class;
+ghost use Rattle.std.specs.Prelude.{◌≡◌, ◌++◌, IfOk, chars, encode_utf8_all, string_bytes};
 ghost use Rattle.yaml_writer.specs.Headings as heading;
 
 use std::alloc::{AllocError, Allocator};

@@ -169,7 +169,9 @@ impl Parts<'_> {
         is_digits(self.whole)
             && (self.whole.as_bytes().first() != Some(&b'0') || self.whole == "0")
             && self.fraction.is_none_or(is_digits)
-            && self.exponent.is_none_or(|exponent| is_digits(exponent.digits))
+            && self
+                .exponent
+                .is_none_or(|exponent| is_digits(exponent.digits))
     }
 }
 

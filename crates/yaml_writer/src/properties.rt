@@ -83,7 +83,8 @@ impl<A: Allocator + Copy> Writer<A> {
     /// Those of `next_document`.
     pub fn next_document_after(&mut self, end: DocumentEnd) -> Result<(), yaml_error_t>
         ensures awaited { awaits_node self.old ≡ true → NodeExpected self.old result self.new }
-        ensures passed { awaits_node self.old ≡ false → PassedEvents self.old (event.document_end (writing.is_implicit end) ∷ writing.plain_start ∷ []) result self.new }
+        ensures passed { awaits_node self.old ≡ false
+            → PassedEvents self.old (event.document_end (writing.is_implicit end) ∷ writing.plain_start ∷ []) result self.new }
     {
         if self.awaits_node() {
             return Err(yaml_error_t::ExpectedNode);

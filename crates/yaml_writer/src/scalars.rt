@@ -1,10 +1,9 @@
 //! Scalars of a writer.
 ghost use Rattle.std.specs.Prelude.{◌≡◌, chars, None, pos};
 ghost use Rattle.yaml_base.specs.Seen.{seen_scalar_style};
-ghost use Rattle.yaml_base.specs.values.TypedValues.{bool_text};
 ghost use Rattle.yaml_emitter.specs.BorrowedTexts.{seen_name};
 ghost use Rattle.yaml_writer.specs.Writing.{Gives, bool_event, int_event, null_event, number_event, number_tag, tag_or_default};
-ghost use Rattle.yaml_writer.specs.Writing.{style_asked, styled_event, text_event, text_style};
+ghost use Rattle.yaml_writer.specs.Writing.{styled_event, text_event, text_style};
 ghost use Rattle.yaml_writer.specs.Writing.{word_event};
 
 use crate::numbers::Number;

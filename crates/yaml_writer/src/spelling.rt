@@ -1,8 +1,8 @@
 //! Numbers of JSON, spelled so that both schemas of YAML read the same number.
-ghost use Rattle.std.specs.Prelude.{◌≡◌, ◌++◌, [], codes, IfOk, IsOk, MatchOption, chars, string_bytes, option_map, true, if◌then◌else◌};
+ghost use Rattle.std.specs.Prelude.{◌≡◌, ◌++◌, codes, IfOk, IsOk, MatchOption, chars, string_bytes, option_map, true};
 ghost use Rattle.yaml_base.specs.values.JsonNumbers as json;
-ghost use Rattle.yaml_writer.specs.NumberParts.{IsNoNumber, number_in};
-ghost use Rattle.yaml_writer.specs.SeenNumbers.{is_minus, seen_exponent, seen_parts};
+ghost use Rattle.yaml_writer.specs.NumberParts.{IsNoNumber};
+ghost use Rattle.yaml_writer.specs.SeenNumbers.{seen_exponent, seen_parts};
 ghost use Rattle.yaml_writer.specs.Spellings as spellings;
 
 use crate::numbers::{Exponent, ExponentLetter, Number, Parts, Sign, lacks_letters, number_of};

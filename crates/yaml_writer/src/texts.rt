@@ -1,11 +1,10 @@
 //! Texts that are read as texts, whichever schema reads them. A text is looked at by its bytes: a character past ASCII has none
 //! that one of ASCII has.
 ghost use Rattle.std.specs.Prelude.{◌≡◌, ◌≤◌, ◌&&◌, ◌||◌, false, true, not, chars, length, take};
-ghost use Rattle.std.specs.List.{list_all, list_any, prefix_len, take_while};
+ghost use Rattle.std.specs.List.{list_all, list_any, prefix_len};
 ghost use Rattle.yaml_base.specs.Characters.{is_ascii};
 ghost use Rattle.yaml_base.specs.Words.{is_word};
 ghost use Rattle.yaml_base.specs.values.Resolved.{first_meets, is_decimal};
-ghost use Rattle.yaml_base.specs.values.SchemaOf11.{past};
 ghost use Rattle.yaml_base.specs.values.SurelyText as surely;
 ghost use Rattle.yaml_writer.specs.Words as words;
 

@@ -1,7 +1,6 @@
 //! Timestamps of YAML 1.1, and their texts.
-ghost use Rattle.std.specs.Prelude.{◌≡◌, ◌<◌, ◌||◌, ◌++◌, IfOk, codes, Some, if◌then◌else◌, is_some, option_map, string_bytes};
+ghost use Rattle.std.specs.Prelude.{◌≡◌, ◌++◌, IfOk, codes, Some, option_map, string_bytes};
 ghost use Rattle.yaml_base.specs.Seen.{seen_text};
-ghost use Rattle.yaml_writer.specs.SeenNumbers.{is_minus};
 ghost use Rattle.yaml_writer.specs.SeenTimes.{seen_offset, seen_time, seen_timestamp};
 ghost use Rattle.yaml_writer.specs.Times as times;
 ghost use Rattle.yaml_writer.specs.Writing.{Gives, timestamp_event};

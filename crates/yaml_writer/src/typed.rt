@@ -1,5 +1,5 @@
 //! Events that keep their nodes' tags, whichever schema reads what is written.
-ghost use Rattle.std.specs.Prelude.{◌≡◌, Some, chars, option_map, true};
+ghost use Rattle.std.specs.Prelude.{◌≡◌, Some, option_map, true};
 ghost use Rattle.yaml_base.specs.Event.{scalar};
 ghost use Rattle.yaml_base.specs.Seen.{seen_event, seen_scalar_style, seen_text};
 ghost use Rattle.yaml_emitter.specs.BorrowedTexts.{seen_scalar};
