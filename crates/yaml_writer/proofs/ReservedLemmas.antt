@@ -1,33 +1,8 @@
--- The reserved words in groups, by their first characters, and by the first bytes of a text.
-use Rattle.yaml_writer.proofs.Common.{suc, zero, ℕ, ◌<◌, if◌then◌else◌, ◌==◌, nat_lt, length, take, Bool, false, true, ◌&&◌, ◌||◌, List, [], map, ◌++◌, ◌∷◌}
+-- The reserved words by the first bytes of a text.
+use Rattle.yaml_writer.proofs.Common.{suc, zero, ℕ, ◌<◌, if◌then◌else◌, ◌==◌, nat_lt, length, take, Bool, false, true, ◌&&◌, ◌||◌, List, [], map, ◌∷◌}
 use Rattle.yaml_writer.proofs.Common.{refl, ◌≡◌, ltb-true, ap, sym, ◌∙◌, arith, and_parts, take_while-cons, to_ascii_lowercase, list_all}
-use Rattle.yaml_writer.proofs.Common.{list_any, take_while, Text, is_ascii, is_space, is_word, reserved_words, ascii_prefix, is_reserved_word}
-use Rattle.yaml_base.proofs.Common.{bytes_eq, list_any-append, slice_split}
-use Rattle.yaml_writer.specs.Words.{is_one_of, nothing_words, truth_words, answer_words, key_words, special_float_words, plus_words, minus_words}
-
--- ---- groups
-
--- words one space apart
-abbrev listed : Text → List Text
-listed words = slice_split is_space words
-
--- the groups are all reserved words
-pub in_groups : (text : Text) → list_any (is_word text) reserved_words ≡ is_reserved_word text
-in_groups text =
-    one nothing_words
-    (listed truth_words ++ (listed answer_words ++ (listed key_words ++ (listed special_float_words ++ (listed plus_words ++ listed minus_words)))))
-    ∙ ap (λ x. is_one_of nothing_words text || x)
-    (one truth_words (listed answer_words ++ (listed key_words ++ (listed special_float_words ++ (listed plus_words ++ listed minus_words))))
-    ∙ ap (λ x. is_one_of truth_words text || x)
-    (one answer_words (listed key_words ++ (listed special_float_words ++ (listed plus_words ++ listed minus_words)))
-    ∙ ap (λ x. is_one_of answer_words text || x) (one key_words (listed special_float_words ++ (listed plus_words ++ listed minus_words))
-    ∙ ap (λ x. is_one_of key_words text || x) (one special_float_words (listed plus_words ++ listed minus_words)
-    ∙ ap (λ x. is_one_of special_float_words text || x) (one plus_words (listed minus_words))))))
-  where
-    one : (words : Text) (others : List Text) → list_any (is_word text) (listed words ++ others) ≡ (is_one_of words text || list_any (is_word text) others)
-    one words others = list_any-append (is_word text) (listed words) others
-
--- ---- the first bytes
+use Rattle.yaml_writer.proofs.Common.{list_any, take_while, Text, is_ascii, is_word, reserved_words, ascii_prefix, is_reserved_word}
+use Rattle.yaml_base.proofs.Common.{bytes_eq}
 
 -- the prefix of a text, in lower case
 abbrev lowered : Text → Text
@@ -68,4 +43,4 @@ short_words text (word ∷ words) h =
 
 -- the first bytes tell a reserved word
 pub reserved_by_head : (text : Text) → is_reserved_word (lowered (take_while is_ascii (take 10 text))) ≡ list_any (is_word (ascii_prefix text)) reserved_words
-reserved_by_head text = sym (in_groups (lowered (take_while is_ascii (take 10 text)))) ∙ short_words text reserved_words refl
+reserved_by_head text = short_words text reserved_words refl
