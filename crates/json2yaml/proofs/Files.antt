@@ -6,14 +6,14 @@ use Rattle.json.specs.Json.{Json}
 use Rattle.yaml_pen.specs.Page.{output_left}
 use Rattle.yaml_emitter.specs.Given.{seen_settings}
 use Rattle.yaml_writer.specs.Writing.{StandsTaken, WriterState, opening}
-use Rattle.yaml_json.specs.Failing.{between}
+use Rattle.yaml_writer.specs.WasGiven.{between, WroteTaking}
+use Rattle.std.proofs.KnownBytes.{Appends-trans}
+use Rattle.yaml_writer.proofs.GivenAndTaken.{begun_taken, taking_then}
 use Rattle.yaml_json.specs.JsonEvents.{json_events}
 use Rattle.yaml_json.specs.Refused.{HaveNamesOnce}
-use Rattle.yaml_json.specs.Sent.{WroteTaking}
 use Rattle.yaml_json.specs.Texts.{texts_in}
 use Rattle.yaml_json.specs.Wrote.{AreJson, parts_events}
 use Rattle.yaml_json.specs.declared.settings.JsonSettings.{JsonSettings}
-use Rattle.yaml_json.proofs.GivenAndTaken.{appends_then, begun_taken, taking_then}
 use Rattle.yaml_json.proofs.TextsInTurn.{some_text}
 use Rattle.json2yaml.specs.Conversions.{IsYamlOfJsonFiles, SentJsonFile}
 use Rattle.yaml_program.specs.Conversions.{WroteStream}
@@ -108,8 +108,8 @@ module _ (settings : JsonSettings) where
         names = subst (HaveNamesOnce settings.unique_names) (sym joined)
             (both_names settings.unique_names (flat_map texts_in files) (flat_map texts_in (file ∷ [])) sent.names other.names);
         handed = (sent.handed ++ begins.bytes) ++ other.handed;
-        sends = appends_then start holds after (sent.handed ++ begins.bytes) other.handed
-            (appends_then start held holds sent.handed begins.bytes sent.sends begins.sends) other.sends;
+        sends = Appends-trans start holds after (sent.handed ++ begins.bytes) other.handed
+            (Appends-trans start held holds sent.handed begins.bytes sent.sends begins.sends) other.sends;
         wrote = subst (λ (events : List Event). WroteTaking was events ((sent.handed ++ begins.bytes) ++ other.handed) now)
             (both_events was.canonical settings.flow sent.first sent.rest other.first other.rest)
             (taking_then was begun now (parts_events was.canonical settings.flow parts ++ between) (parts_events was.canonical settings.flow more)
@@ -132,7 +132,7 @@ module _ (settings : JsonSettings) where
       let stood = subst (λ (c : Bool). StandsTaken given (opening ++ parts_events c settings.flow parts) sent.handed whole.last.emitter) whole.canonical
       (sent.wrote.adds given opening [] whole.stands) in (
         sent.handed ++ bytes,
-        appends_then before whole.held after sent.handed bytes sent.sends sends,
+        Appends-trans before whole.held after sent.handed bytes sent.sends sends,
         record {
           parts = parts;
           cut = sent.cut;

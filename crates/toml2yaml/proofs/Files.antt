@@ -6,9 +6,9 @@ use Rattle.yaml_base.proofs.Common.{map-append, Event}
 use Rattle.yaml_pen.specs.Page.{output_left}
 use Rattle.yaml_emitter.specs.Given.{seen_settings}
 use Rattle.yaml_writer.specs.Writing.{StandsTaken, WriterState, opening}
-use Rattle.yaml_json.specs.Failing.{between}
-use Rattle.yaml_json.specs.Sent.{WroteTaking}
-use Rattle.yaml_json.proofs.GivenAndTaken.{appends_nothing, appends_then, begun_taken, taking_then, taking_same, took_none}
+use Rattle.yaml_writer.specs.WasGiven.{between, WroteTaking}
+use Rattle.std.proofs.KnownBytes.{Appends-nil, Appends-trans}
+use Rattle.yaml_writer.proofs.GivenAndTaken.{begun_taken, taking_then, taking_same, took_none}
 use Rattle.yaml_program.specs.Conversions.{WroteStream}
 use Rattle.yaml_program.specs.Streams.{BeganDocument, SentStream}
 use Rattle.yaml_program.proofs.FilesInTurn.{each_sent}
@@ -61,7 +61,7 @@ module _ (settings : TomlSettings) where
         are = refl;
         each = ((utf8, wrote.read), tt);
         handed = [];
-        sends = subst (λ (holds : Option (List ℕ)). Appends held holds []) (sym same) (appends_nothing held);
+        sends = subst (λ (holds : Option (List ℕ)). Appends held holds []) (sym same) (Appends-nil held);
         wrote = took_none was now (root_events was.canonical settings.flow wrote.root) wrote.wrote;
       }
 
@@ -84,7 +84,7 @@ module _ (settings : TomlSettings) where
         each = both_toml parts (next ∷ []) sent.each ((utf8, one.read), tt);
         handed = handed;
         sends = subst (λ (all : Option (List ℕ)). Appends start all handed) (sym stays)
-            (appends_then start held holds sent.handed begins.bytes sent.sends begins.sends);
+            (Appends-trans start held holds sent.handed begins.bytes sent.sends begins.sends);
         wrote = taking_same was now ((before ++ between) ++ root_events was.canonical settings.flow one.root)
             (toml_parts_events was.canonical settings.flow (sent.first ∷ (sent.rest ++ next ∷ []))) (handed ++ []) handed
             (both_events was.canonical settings.flow sent.first sent.rest next) (append-nil handed)
@@ -108,7 +108,7 @@ module _ (settings : TomlSettings) where
       let stood = subst (λ (c : Bool). StandsTaken given (opening ++ toml_parts_events c settings.flow parts) sent.handed whole.last.emitter) whole.canonical
       (sent.wrote.adds given opening [] whole.stands) in (
         sent.handed ++ bytes,
-        appends_then before whole.held after sent.handed bytes sent.sends sends,
+        Appends-trans before whole.held after sent.handed bytes sent.sends sends,
         record {
           parts = parts;
           are = sent.are;

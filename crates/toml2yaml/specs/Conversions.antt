@@ -7,7 +7,7 @@ use Rattle.toml_ordered.specs.declared.tree.Origin.TheVariants.{Header}
 use Rattle.yaml_base.specs.Event.{Event}
 use Rattle.yaml_emitter.specs.Given.{seen_settings}
 use Rattle.yaml_writer.specs.Writing.{IsStream, WriterState, closing, opening}
-use Rattle.yaml_json.specs.Failing.{between}
+use Rattle.yaml_writer.specs.WasGiven.{between}
 use Rattle.yaml_toml.specs.Events.{toml_events}
 use Rattle.yaml_toml.specs.Walk.{WroteToml}
 use Rattle.yaml_toml.specs.declared.settings.TomlSettings.{TomlSettings}

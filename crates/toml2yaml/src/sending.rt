@@ -1,6 +1,6 @@
 //! What is sent on of a file of TOML: its YAML, by the settings that are asked for.
 ghost use Rattle.std.specs.Prelude.{◌≡◌, OnOk};
-ghost use Rattle.yaml_json.specs.Wrote.{IsBare};
+ghost use Rattle.yaml_writer.specs.WasGiven.{IsBare};
 ghost use Rattle.toml2yaml.specs.Conversions.{SentTomlFile, WroteFile};
 
 use crate::failures::{failure_of, refused};
@@ -8,7 +8,7 @@ use crate::formats::TomlFormat;
 use std::alloc::Global;
 use std::io::Write;
 use std::str;
-use yaml_json::place_of;
+use yaml_base::place_of;
 use yaml_program::{Failure, SendsFile, Sources, read_file};
 use yaml_toml::{TomlSettings, Writer, write_toml};
 

@@ -4,7 +4,8 @@ use Rattle.std.proofs.Common.{inr, subst}
 use Rattle.yaml_base.specs.declared.errors.yaml_error_t.{yaml_error_t}
 use Rattle.yaml_emitter.specs.State.{State}
 use Rattle.yaml_writer.specs.Writing.{WriterState, writer_over}
-use Rattle.yaml_json.specs.Failing.{HasErrorSaid, writers_error}
+use Rattle.yaml_json.specs.Failing.{writers_error}
+use Rattle.yaml_writer.specs.Failing.{HasErrorSaid}
 use Rattle.yaml_json.specs.WritingCalls.{WritesText}
 use Rattle.yaml_json.specs.declared.error.JsonError.{JsonError}
 use Rattle.yaml_json.specs.declared.settings.JsonSettings.{JsonSettings}

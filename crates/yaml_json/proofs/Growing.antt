@@ -8,7 +8,8 @@ use Rattle.yaml_json.specs.declared.error.StreamError.{StreamError}
 use Rattle.yaml_json.specs.declared.error.StreamError.TheVariants as faults
 use Rattle.yaml_emitter.specs.State.{with_all_taken}
 use Rattle.yaml_pen.{proofs.Composing.grows_itself, proofs.Composing.grows_then, proofs.Writing.none_from_result}
-use Rattle.yaml_json.{proofs.TextStops.said_as, specs.Failing.Grew, specs.Failing.HasErrorSaid, specs.Failing.Kept, specs.declared.values.Stop.Stop}
+use Rattle.yaml_json.{proofs.TextStops.said_as, specs.Failing.Grew, specs.Failing.Kept, specs.declared.values.Stop.Stop}
+use Rattle.yaml_writer.specs.Failing.{HasErrorSaid}
 
 pub grew_itself : (writer : WriterState) → Grew writer None writer
 grew_itself writer = record { grows = grows_itself writer.emitter.page; sound = λ none. none }

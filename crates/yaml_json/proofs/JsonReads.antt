@@ -1,15 +1,17 @@
 -- What the reader of whole streams finds in the bytes of a stream of JSON values.
-use Rattle.yaml_json.proofs.Common.{ℕ, None, Some, Bool, true, List, [], map, ◌++◌, ◌∷◌, ◌≡◌, take_all, append-nil, append_assoc, ap, sym, ◌∙◌, list_all}
+use Rattle.yaml_json.proofs.Common.{ℕ, None, Some, Bool, true, List, [], map, ◌++◌, ◌∷◌, ◌≡◌, append-nil, append_assoc, ap, sym, ◌∙◌, list_all}
 use Rattle.yaml_json.proofs.Common.{Json, HasNumbers, node_tree, Event, Documents, no_documents, documents_and, has_scalar_texts, IsAccepted, Settings}
 use Rattle.yaml_json.proofs.Common.{Effective, directives_in_force, Tree, resolved_by_core, resolved_by_11, Schema}
-use Rattle.yaml_base.proofs.Common.{stream_trees, root_place, settings_for, bytes_written, list_layout, encoding_asked, Piece, DocumentTree}
-use Rattle.yaml_base.proofs.{CallerLaws.breaks_agree, stream_documents.StreamWholeReads.document_trees, stream_nodes.StreamAgrees.document_tree}
+use Rattle.yaml_base.proofs.Common.{stream_trees, root_place, settings_for, DocumentTree}
+use Rattle.yaml_base.proofs.{stream_documents.StreamWholeReads.document_trees, stream_nodes.StreamAgrees.document_tree}
 use Rattle.yaml_emitter.proofs.layouts.StreamsReadBack.{stream_found}
-use Rattle.yaml_json.proofs.Meanings.{ReadsScalars, reads_by_11, reads_by_core, node_means}
+use Rattle.yaml_writer.proofs.WholeStreams.{IsWhole}
+use Rattle.yaml_json.proofs.Meanings.{node_means}
+use Rattle.yaml_writer.proofs.ScalarMeanings.{ReadsScalars, reads_by_11, reads_by_core}
+use Rattle.yaml_writer.specs.Means.{plain_document}
 use Rattle.yaml_json.proofs.Portable.{portable_events}
 use Rattle.yaml_json.proofs.Trees.{json_node, json_document, json_documents, json_stream, values_of, all_events, stream_flat}
-use Rattle.yaml_json.specs.Means.{AllMean, plain_document, ReadsAsValues, ReadsAsJson}
-use Rattle.yaml_writer.specs.Writing.{IsStream}
+use Rattle.yaml_json.specs.Means.{AllMean, ReadsAsValues, ReadsAsJson}
 
 -- each number of each value is one
 abbrev pub HaveNumbers : List Json → Type 0
@@ -38,23 +40,6 @@ module _ (s : Effective) (in_flow : Bool) where
   roots_mean schema reads [] numbers = tt
   roots_mean schema reads (json ∷ values) numbers =
       (node_means schema reads s (directives_in_force []) in_flow json numbers.0 root_place, roots_mean schema reads values numbers.1)
-
--- bytes are all that the layout says of some events
-abbrev pub IsWhole : Settings → List Event → List ℕ → Type 0
-IsWhole given all bytes = bytes ≡ bytes_written (settings_for given all) (list_layout (settings_for given all) all)
-
--- so are those of a stream
-pub stream_whole : (given : Settings) (all : List Event) (bytes : List ℕ) → IsStream given all bytes → IsWhole given all bytes
-stream_whole given all bytes is =
-    let s = settings_for given all in
-    is.output ∙ is.written.output ∙ take_all given.limit (bytes_written s (list_layout s all)) is.written.uncut
-
--- in portable mode with either kind of line breaks
-pub whole_by_either : (given : Settings) (breaks12 : Bool) (all : List Event) (bytes : List ℕ) → given.portable ≡ true → IsWhole given all bytes
-    → IsWhole (record given { breaks12 = breaks12 }) all bytes
-whole_by_either given breaks12 all bytes portable is =
-    is
-    ∙ ap (λ (pieces : List Piece). bytes_written (settings_for given all) pieces) (sym (breaks_agree given breaks12 (encoding_asked all) all portable))
 
 module _ (given : Settings) (in_flow : Bool) (part : List ℕ × Json) (rest : List (List ℕ × Json)) (bytes : List ℕ)
     (numbers : HaveNumbers (values_of (part ∷ rest)))

@@ -1,5 +1,4 @@
 pub mod Common
-pub mod WroteLemmas
 pub mod TokenLemmas
 pub mod Stopping
 pub mod NameLemmas
@@ -23,7 +22,7 @@ pub mod Portable
 pub mod JsonReads
 pub mod YamlOf
 pub mod TextsInTurn
-pub mod GivenAndTaken
+pub mod SentParts
 pub mod Sending
 pub mod SendingSteps
 pub mod Coming

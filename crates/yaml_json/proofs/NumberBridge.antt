@@ -1,13 +1,14 @@
 -- What a reader of JSON takes for a number is one by the definition of numbers.
 use Rattle.yaml_json.proofs.Common.{ℕ, if◌then◌else◌, ◌==◌, option_and_then, Option, None, Some, codes, drop, length, take, Bool, cond, false, not, true}
-use Rattle.yaml_json.proofs.Common.{◌&&◌, ◌||◌, [], ◌++◌, ◌∷◌, refl, ◌≡◌, eqb-true, take-append-drop, append-nil, append_assoc, ap, subst, sym, ◌∙◌, arith}
-use Rattle.yaml_json.proofs.Common.{and_parts, and_from, not_from_false, false≢true, list_all, Text, JsonNumber, minus, are_digits, number_found, number_in}
+use Rattle.yaml_json.proofs.Common.{◌&&◌, ◌||◌, [], ◌++◌, ◌∷◌, refl, ◌≡◌, eqb-true, take-append-drop, append-nil, append_assoc, ap, sym, ◌∙◌, arith}
+use Rattle.yaml_json.proofs.Common.{and_parts, and_from, not_from_false, false≢true, list_all, Text, JsonNumber, minus, are_digits, number_in}
 use Rattle.yaml_json.proofs.Common.{IsNumber}
 use Rattle.yaml_base.proofs.Common.{take_while-cons, leb-true, or_right, agree_below_at, take_while, nat_le, is_word, JsonExponent, is_decimal}
 use Rattle.std.{proofs.lemmas.List.Folds.length-prefix_len, specs.Char.is_ascii_digit, specs.List.prefix_len}
 use Rattle.json.specs.Word.{after_digits, after_minus, after_sign, after_whole, after_fraction, after_exponent, after_number}
 use Rattle.yaml_base.specs.values.JsonNumbers.{is_whole_part, exponent_text}
 use Rattle.json.specs.Print as json
+use Rattle.yaml_writer.proofs.PartLemmas.{number_in_text}
 
 -- Parts that were passed over
 
@@ -228,6 +229,4 @@ found_number text is =
 
 -- it is the number that the text's parts are
 pub number_is : (text : Text) → json.IsNumber text → IsNumber text (number_in text)
-number_is text is =
-    let found = found_number text is in
-    subst (IsNumber text) (sym (ap number_in found.1.text_is ∙ number_found found.0 found.1.valid)) found.1
+number_is text is = number_in_text text (found_number text is)

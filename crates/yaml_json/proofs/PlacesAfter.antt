@@ -12,7 +12,8 @@ use Rattle.std.specs.Fmt.{is_char_start}
 use Rattle.std.specs.List.{after_last, count_by, prefix_len, suffix_len}
 use Rattle.yaml_base.specs.values.LinesAndColumns.{column_of, is_line_feed, line_of}
 use Rattle.std.proofs.lemmas.List.{append-nil, take-append-drop}
-use Rattle.yaml_json.specs.Places.{AreOf, IsPlaceAfter, MovesPlace, many_bytes}
+use Rattle.yaml_json.specs.Places.{IsPlaceAfter, MovesPlace, many_bytes}
+use Rattle.yaml_writer.specs.Places.{AreOf}
 use Rattle.yaml_json.specs.declared.places.Place.{Place}
 
 count_more : {X : Type 0} (p : X → Bool) (xs ys : List X) → count_by p (xs ++ ys) ≡ count_by p xs + count_by p ys

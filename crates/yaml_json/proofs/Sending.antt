@@ -10,14 +10,16 @@ use Rattle.yaml_base.specs.declared.errors.yaml_error_t.{yaml_error_t}
 use Rattle.yaml_json.proofs.YamlOf.{sent_reads}
 use Rattle.yaml_json.specs.declared.error.StreamError.{StreamError}
 use Rattle.yaml_json.proofs.TextsInTurn.{ends_with, one_more, joined_more, text_names, more_names, some_text, begins_nothing}
-use Rattle.yaml_json.specs.Sent.{AddsTaking, AreUtf8, IsAllTaken, MayBeUnsent, WroteTaking, SentTexts, SentSoFar, BeginsNext, BeginsUnsent, SentDocuments}
+use Rattle.yaml_json.specs.Sent.{AreUtf8, MayBeUnsent, SentTexts, SentSoFar, SentDocuments}
+use Rattle.yaml_writer.specs.WasGiven.{AddsTaking, IsAllTaken, WroteTaking, BeginsNext, BeginsUnsent}
+use Rattle.yaml_writer.proofs.GivenLemmas.{adds_then}
+use Rattle.std.proofs.KnownBytes.{Appends-nil, Appends-trans}
+use Rattle.yaml_json.proofs.SentParts.{gives_all, separated}
+use Rattle.yaml_writer.proofs.GivenAndTaken.{took_nothing, adds_taking_then, adds_taking_more, taking_then, took_none, taking_same}
 use Rattle.yaml_json.specs.Sent.{StopsPartAt, StopsSending}
-use Rattle.yaml_json.proofs.WroteLemmas.{adds_then}
 use Rattle.yaml_json.specs.Places.{HasPlaceWithin}
 use Rattle.yaml_json.specs.declared.error.JsonError.TheVariants as errors
 use Rattle.yaml_json.specs.declared.error.StreamError.TheVariants as faults
-use Rattle.yaml_json.proofs.GivenAndTaken.{appends_nothing, appends_then, gives_all, took_nothing, adds_taking_then, adds_taking_more, taking_then, took_none}
-use Rattle.yaml_json.proofs.GivenAndTaken.{taking_same, separated}
 
 -- ---- the texts in turn
 
@@ -32,7 +34,7 @@ sending_begins depth in_flow unique text was held bare =
       utf8 = tt;
       names = tt;
       handed = [];
-      sends = appends_nothing held;
+      sends = Appends-nil held;
       wrote = took_nothing was bare;
       whole = inl (refl, refl);
     }
@@ -158,7 +160,7 @@ module _ (depth : ℕ) (in_flow unique : Bool) (text : List ℕ) (was : WriterSt
         utf8 = utf8_now;
         names = names_now;
         handed = sending.handed ++ next.bytes;
-        sends = appends_then start held holds sending.handed next.bytes sending.sends next.sends;
+        sends = Appends-trans start held holds sending.handed next.bytes sending.sends next.sends;
         wrote = taking_same was after (before ++ (events ++ between)) (events_with_separators was.canonical in_flow all_parts)
             (sending.handed ++ ([] ++ next.bytes)) (sending.handed ++ next.bytes) (separated was.canonical in_flow sending.parts (first, one.json)) refl
             (taking_then was now after before (events ++ between) sending.handed ([] ++ next.bytes) sending.wrote
@@ -221,7 +223,7 @@ module _ (depth : ℕ) (in_flow unique : Bool) (text : List ℕ) (was : WriterSt
         sends = (
           fails.sends.0,
           fails.sends.1,
-          appends_then start held holds sending.handed fails.sends.0 sending.sends fails.sends.2,
+          Appends-trans start held holds sending.handed fails.sends.0 sending.sends fails.sends.2,
         );
         then = fails.then;
         wrote = subst (λ (all : List Event). AddsTaking was.emitter all (sending.handed ++ fails.offered) fails.then)

@@ -11,12 +11,13 @@ use Rattle.yaml_json.specs.declared.cuts.Cut.{Cut}
 use Rattle.yaml_json.specs.declared.error.StreamError.{StreamError}
 use Rattle.yaml_json.specs.declared.error.JsonError.{JsonError}
 use Rattle.yaml_json.proofs.TextsInTurn.{some_text, begins_nothing}
-use Rattle.yaml_json.specs.Sent.{AddsTaking, SentSoFar, BeginsNext, FailsNext, IsByReader, StopsInPart, StopsPartAt, StopsSending, LeavesLast}
+use Rattle.yaml_json.specs.Sent.{SentSoFar, FailsNext, IsByReader, StopsInPart, StopsPartAt, StopsSending, LeavesLast}
+use Rattle.yaml_writer.specs.WasGiven.{AddsTaking, BeginsNext}
+use Rattle.yaml_writer.proofs.GivenAndTaken.{adds_taking_more}
 use Rattle.yaml_json.specs.Places.{HasPlaceWithin, IsPlaceAfter}
 use Rattle.yaml_json.specs.declared.places.Place.{Place}
 use Rattle.yaml_json.specs.declared.error.JsonError.TheVariants as errors
 use Rattle.yaml_json.specs.declared.error.StreamError.TheVariants as faults
-use Rattle.yaml_json.proofs.GivenAndTaken.{adds_taking_more}
 
 -- ---- errors
 

@@ -8,7 +8,7 @@ use Rattle.yaml_pen.{proofs.Composing.grows_itself, proofs.Composing.grows_then,
 use Rattle.yaml_json.specs.declared.values.Stop.TheVariants as stops
 use Rattle.yaml_json.proofs.Common.{FailedWith, FailedGiving, WriterState, end_event, with_collection, GaveEvent, EndsInnermost}
 use Rattle.yaml_base.specs.declared.errors.{yaml_error_t.yaml_error_t, yaml_error_t.TheVariants.Memory, yaml_error_t.TheVariants.ExpectedDocumentEnd}
-use Rattle.yaml_json.proofs.WroteLemmas.{none_more, on_err, same_last}
+use Rattle.yaml_writer.proofs.GivenLemmas.{none_more, on_err, same_last}
 use Rattle.yaml_base.specs.declared.kinds.CollectionKind.{CollectionKind}
 use Rattle.yaml_writer.specs.Writing.{Failed}
 use Rattle.yaml_json.proofs.Common.{AddsEvents}

@@ -9,7 +9,7 @@ use Rattle.yaml_base.specs.declared.errors.yaml_error_t.TheVariants.{Memory}
 use Rattle.yaml_json.proofs.Stopping.{end_failed, if_some}
 use Rattle.yaml_json.proofs.Stops.{unread_memory, adds_none}
 use Rattle.yaml_json.proofs.TokenLemmas.{some_then}
-use Rattle.yaml_json.proofs.WroteLemmas.{adds_then, ended}
+use Rattle.yaml_writer.proofs.GivenLemmas.{adds_then, ended}
 use Rattle.yaml_json.specs.Failing.{FailedAtEnd}
 use Rattle.yaml_json.specs.declared.values.Stop.{Stop}
 use Rattle.yaml_json.proofs.Walking.{longer, closed_stands, closes_value, value_begins, awaiting_item, awaiting_named, next_stands}
@@ -25,7 +25,7 @@ stood_nothing in_flow was bare =
     record {
       adds = adds_nothing was.emitter;
       canonical = refl;
-      levels_are = sym (append-nil was.levels);
+      levels = sym (append-nil was.levels);
       bare = bare;
     }
 
@@ -49,7 +49,7 @@ gives_scalar in_flow levels before after token event is wrote was so stood =
       adds = given_on in_flow was before after so token (event before.canonical) stood.adds
           (is was.canonical ∙ ap (λ c. event c ∷ []) (sym stood.canonical)) wrote.adds;
       canonical = wrote.canonical ∙ stood.canonical;
-      levels_are = wrote.levels ∙ stood.levels_are;
+      levels = wrote.levels ∙ stood.levels;
       bare = wrote.bare;
     }
 
@@ -66,7 +66,7 @@ gives_start in_flow levels before after kind gave was so stood =
       adds = given_on in_flow was before after so (opener kind) (start_event in_flow kind) stood.adds (opener_events kind was.canonical in_flow)
           (moves_add gave.moves);
       canonical = gave.canonical ∙ stood.canonical;
-      levels_are = gave.levels ∙ ap (λ (all : List CollectionKind). all ++ kind ∷ []) stood.levels_are ∙ append_assoc was.levels levels (kind ∷ []);
+      levels = gave.levels ∙ ap (λ (all : List CollectionKind). all ++ kind ∷ []) stood.levels ∙ append_assoc was.levels levels (kind ∷ []);
       bare = (gave.no_anchor, gave.no_tag);
     }
 
@@ -78,12 +78,12 @@ closer_events Mapping canonical in_flow = refl
 pub gives_end : (in_flow : Bool) (outer : List CollectionKind) (before after : WriterState) (kind : CollectionKind)
     → EndsInnermost before (Ok tt) after → GivesTaken in_flow (outer ++ kind ∷ []) before (closer kind ∷ []) outer after
 gives_end in_flow outer before after kind ends was so stood =
-    let end = ended (was.levels ++ outer) kind before after (stood.levels_are ∙ sym (append_assoc was.levels outer (kind ∷ []))) stood.bare ends in
+    let end = ended (was.levels ++ outer) kind before after (stood.levels ∙ sym (append_assoc was.levels outer (kind ∷ []))) stood.bare ends in
     record {
-      adds = given_on in_flow was before after so (closer kind) (end_event kind) stood.adds (closer_events kind was.canonical in_flow) end.0;
-      canonical = end.1 ∙ stood.canonical;
-      levels_are = end.2;
-      bare = end.3;
+      adds = given_on in_flow was before after so (closer kind) (end_event kind) stood.adds (closer_events kind was.canonical in_flow) end.adds;
+      canonical = end.canonical ∙ stood.canonical;
+      levels = end.levels;
+      bare = end.bare;
     }
 
 -- ---- the writer fails
@@ -116,7 +116,7 @@ pub fails_end : (in_flow : Bool) (outer : List CollectionKind) (before after : W
     → FailedWith was (tokens_events was.canonical in_flow (so ++ closer kind ∷ [])) error after
 fails_end in_flow outer before after kind error ends was so stood =
     (failed_on in_flow was before after so (closer kind) (end_event kind) error stood.adds (closer_events kind was.canonical in_flow)
-    (end_failed (was.levels ++ outer) kind before after error (stood.levels_are ∙ sym (append_assoc was.levels outer (kind ∷ []))) ends))
+    (end_failed (was.levels ++ outer) kind before after error (stood.levels ∙ sym (append_assoc was.levels outer (kind ∷ []))) ends))
 
 -- ---- one token
 

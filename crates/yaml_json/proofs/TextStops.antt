@@ -3,10 +3,12 @@ use Rattle.yaml_json.proofs.Common.{ℕ, IfSome, Option, None, Some, Err, Bool, 
 use Rattle.yaml_json.proofs.Common.{◌∙◌, ◌++◌, ◌⊎◌}
 use Rattle.yaml_json.proofs.Common.{WriterState, Token, ExplainsError, WhyStopped}
 use Rattle.yaml_base.specs.declared.errors.{yaml_error_t.yaml_error_t, yaml_error_t.TheVariants.Memory}
-use Rattle.yaml_json.specs.{Failing.HasErrorSaid, Failing.Kept, Failing.SoundAfter, Failing.writers_error, Refused.IsByText}
+use Rattle.yaml_json.specs.{Failing.Kept, Failing.SoundAfter, Failing.writers_error, Refused.IsByText}
+use Rattle.yaml_writer.specs.Failing.{HasErrorSaid}
+use Rattle.yaml_writer.specs.Places.{AreOf}
 use Rattle.yaml_json.specs.{Refused.TokensStopAt, Stopped.StopsInText, Walk.MatchesStop, Walk.StopsText, declared.error.JsonError.JsonError}
 use Rattle.yaml_json.proofs.Common.{◌+◌, ◌≤◌, [], arith, length}
-use Rattle.yaml_json.specs.{Offsets.StopsAtLexeme, Places.AreOf, Places.HasPlaceAfter, Places.HasPlaceWithin, Places.IsAt, Places.IsPlacedAt}
+use Rattle.yaml_json.specs.{Offsets.StopsAtLexeme, Places.HasPlaceAfter, Places.HasPlaceWithin, Places.IsAt, Places.IsPlacedAt}
 use Rattle.yaml_json.specs.Expected.{SaysExpected}
 use Rattle.std.specs.Str.{IsValidUpTo}
 use Rattle.yaml_json.specs.declared.error.StreamError.TheVariants as faults

@@ -10,7 +10,7 @@ use Rattle.yaml_json.{proofs.NameLemmas.once_is_unique, proofs.TokenLemmas.value
 use Rattle.yaml_json.specs.Texts.{texts_after, onto_first, cut_text_before, scan_first_byte}
 use Rattle.yaml_json.specs.declared.cuts.{Mode.TheVariants.Before, Scan.Scan}
 use Rattle.yaml_json.specs.declared.error.JsonError.TheVariants as errors
-use Rattle.yaml_json.{proofs.WroteLemmas.adds_then, proofs.WroteLemmas.wrote_nothing, proofs.WroteLemmas.wrote_then, proofs.WroteLemmas.wrote_same}
+use Rattle.yaml_writer.proofs.GivenLemmas.{adds_then, wrote_nothing, wrote_then, wrote_same}
 use Rattle.yaml_json.{proofs.YamlOf.last_reads}
 use Rattle.yaml_json.{specs.Refused.HasNamesOnce, specs.Stopped.StopsInText, specs.Stopped.StopsInTexts, specs.Places.HasPlaceAfter, specs.Wrote.WroteTexts}
 use Rattle.yaml_json.{specs.declared.error.JsonError.JsonError}

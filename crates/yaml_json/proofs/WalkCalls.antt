@@ -20,7 +20,7 @@ use Rattle.yaml_json.proofs.Taking.{fails_scalar, gives_scalar, innermost_gone, 
 use Rattle.yaml_json.proofs.Taking.{scalar_failed, step_closes, step_item, step_member, step_no_item, step_no_member, step_unclosed, step_unnamed}
 use Rattle.yaml_json.proofs.Taking.{step_unread, step_without_memory}
 use Rattle.yaml_json.proofs.Walking.{longer}
-use Rattle.yaml_json.proofs.WroteLemmas.{on_err, on_ok, text_is, wrote_event}
+use Rattle.yaml_writer.proofs.GivenLemmas.{on_err, on_ok, text_is, wrote_event}
 use Rattle.yaml_json.specs.Failing.{IsWritersAnswer, Kept}
 use Rattle.yaml_json.specs.Nests.{IsNesting}
 use Rattle.yaml_json.specs.Reached.{Reader}

@@ -112,7 +112,7 @@ module _ (depth : ℕ) (in_flow : Bool) (start : List Token) (was : WriterState)
             adds = subst (λ (events : List Event). AddsEvents was.emitter events now.emitter)
                 (ap (tokens_events was.canonical in_flow) same ∙ value_given found.0 was.canonical in_flow) stood.adds;
             canonical = stood.canonical;
-            levels = stood.levels_are ∙ append-nil was.levels;
+            levels = stood.levels ∙ append-nil was.levels;
             bare = stood.bare;
           };
         }

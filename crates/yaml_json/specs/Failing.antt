@@ -1,18 +1,20 @@
 -- Why a writer fails that is given the events of a text, and what it was given until then.
-use Rattle.std.specs.Prelude.{◌≡◌, ◌≢◌, ◌⊎◌, ℕ, ◌<◌, ◌≤◌, Bool, true, Option, None, Some, unwrap_or, Result, Ok, Err, List, [], ◌∷◌, ◌++◌, flat_map}
+use Rattle.std.specs.Prelude.{◌≡◌, ◌≢◌, ◌⊎◌, ℕ, ◌<◌, ◌≤◌, Bool, Option, None, Some, unwrap_or, Result, Ok, Err, List, [], ◌++◌, flat_map}
 use Rattle.json.specs.Token.{Token}
 use Rattle.json.specs.Lex.{tokens}
 use Rattle.json.specs.Json.{Json, value}
 use Rattle.json.specs.Tree.{depth as nesting}
-use Rattle.yaml_base.specs.Event.{Event, document_end}
+use Rattle.yaml_base.specs.Event.{Event}
 use Rattle.yaml_base.specs.Refusal.{most_open}
 use Rattle.yaml_base.specs.Settings.{Settings}
 use Rattle.yaml_base.specs.declared.errors.yaml_error_t.{yaml_error_t}
 use Rattle.yaml_base.specs.declared.errors.yaml_error_t.TheVariants.{Memory}
 use Rattle.yaml_pen.specs.Wrote.{Grows}
 use Rattle.yaml_emitter.specs.Uncut.{IsUncut}
+use Rattle.yaml_writer.specs.Failing.{FailedWith, HasErrorSaid, StaysSound}
 use Rattle.yaml_writer.specs.Unfinished.{FailsBy, PassesLimit}
-use Rattle.yaml_writer.specs.Writing.{AddsEvents, EndedCollection, WriterState, closing, opening, plain_start}
+use Rattle.yaml_writer.specs.WasGiven.{between}
+use Rattle.yaml_writer.specs.Writing.{EndedCollection, WriterState, closing, opening}
 use Rattle.yaml_json.specs.Begins.{BeginsWithinDepth}
 use Rattle.yaml_json.specs.JsonEvents.{json_events}
 use Rattle.yaml_json.specs.TokenEvents.{tokens_events}
@@ -58,15 +60,6 @@ writers_error (errors.Emitter error) = Some error
 
 -- ---- what was given
 
--- these events were given to the emitter, which has this error now; or an allocation failed after them
-pub record FailedWith (was : WriterState) (events : List Event) (error : yaml_error_t) (now : WriterState) : Type 0 where
-  pub adds : AddsEvents was.emitter events now.emitter
-  pub is_error : (error ≡ Memory) ⊎ (now.emitter.error ≡ Some error)
-
--- an allocation failed, and nothing changed; or this event was given to the emitter, which has this error now
-abbrev pub FailedGiving : WriterState → Event → yaml_error_t → WriterState → Type 0
-FailedGiving was event error now = ((error ≡ Memory) × (now ≡ was)) ⊎ FailedWith was (event ∷ []) error now
-
 -- the innermost collection was ended, and the emitter has this error now; or none was open, and nothing changed
 abbrev pub FailedAtEnd : WriterState → yaml_error_t → WriterState → Type 0
 FailedAtEnd was error now = ((was.levels ≡ []) × (now ≡ was)) ⊎ EndedCollection was (Err error) now
@@ -87,19 +80,11 @@ FailedInValue depth in_flow ahead was error now =
 abbrev pub FailedInText : (depth : ℕ) → (in_flow : Bool) → (text : List ℕ) → WriterState → yaml_error_t → WriterState → Type 0
 FailedInText depth in_flow text was error now = FailedInValue depth in_flow (tokens text) was error now
 
--- what separates two documents
-abbrev pub between : List Event
-between = document_end true ∷ plain_start ∷ []
-
 -- the events of some texts, after each of which a document begins
 abbrev pub events_with_separators : (canonical in_flow : Bool) → List (List ℕ × Json) → List Event
 events_with_separators canonical in_flow parts = flat_map (λ part. json_events canonical in_flow part.1 ++ between) parts
 
 -- ---- what a call returned
-
--- the emitter has no error that it hadn't before
-abbrev pub StaysSound : WriterState → WriterState → Type 0
-StaysSound was now = was.emitter.error ≡ None → now.emitter.error ≡ None
 
 -- the emitter has no error after a success, and none more after the text stopped the writing, or an allocation of the call's own
 abbrev pub SoundAfter : WriterState → Result (Unit {0}) Stop → WriterState → Type 0
@@ -113,13 +98,7 @@ pub record Kept (was : WriterState) (result : Result (Unit {0}) Stop) (now : Wri
   pub grows : Grows was.emitter.page now.emitter.page
   pub sound : SoundAfter was result now
 
--- an error that is the emitter's is the one that it has now, or tells of an allocation of the call's own; where there is none, the
--- emitter has none that it hadn't before
-abbrev pub HasErrorSaid : WriterState → Option yaml_error_t → WriterState → Type 0
-HasErrorSaid was None now = StaysSound was now
-HasErrorSaid was (Some code) now = ((code ≡ Memory) × StaysSound was now) ⊎ (now.emitter.error ≡ Some code)
-
--- and its text and its output only grow
+-- the error is the one that the emitter has now, as is said; and its text and its output only grow
 pub record Grew (was : WriterState) (found : Option yaml_error_t) (now : WriterState) : Type 0 where
   pub grows : Grows was.emitter.page now.emitter.page
   pub sound : HasErrorSaid was found now

@@ -1,36 +1,12 @@
--- What a tree that was read means by a schema, and when that is a value of JSON. This names no writer and no event.
-pub use Rattle.yaml_base.specs.values.CanonicalTags.{Schema, canonical_tag, scalar_meant}
-use Rattle.std.specs.Prelude.{◌≡◌, ℕ, Bool, true, None, Some, List, [], ◌∷◌, ◌++◌, map}
-use Rattle.std.specs.Str.{chars}
+-- When what a tree that was read means by a schema is a value of JSON. This names no writer and no event.
+use Rattle.std.specs.Prelude.{◌≡◌, ℕ, Bool, None, Some, List, [], ◌∷◌, map}
 use Rattle.json.specs.Json.{Json, null, boolean, number, string, array, object, Items, no_items, item, Members, no_members, member}
-use Rattle.yaml_base.specs.values.JsonNumbers.{JsonNumber, json_value, means_number}
-use Rattle.yaml_base.specs.values.Resolved.{Resolved, meant_null, meant_boolean, meant_text}
+use Rattle.yaml_base.specs.values.Resolved.{meant_null, meant_boolean}
 use Rattle.yaml_base.specs.values.SchemaCore.{resolved_by_core}
 use Rattle.yaml_base.specs.values.SchemaOf11.{resolved_by_11}
-use Rattle.yaml_base.specs.streams.StreamContent.{DocumentTree, Tree, scalar_tree, sequence_tree, mapping_tree}
-use Rattle.yaml_base.specs.streams.StreamContent.{Trees, no_trees, trees_and, TreePairs, no_tree_pairs, tree_pairs_and}
+use Rattle.yaml_base.specs.streams.StreamContent.{Tree, scalar_tree, sequence_tree, mapping_tree}
 use Rattle.yaml_base.specs.streams.StreamReader.{stream_trees}
-use Rattle.yaml_writer.specs.NumberParts.{IsNumber}
-
--- trees and pairs of trees, in order
-abbrev pub trees_in_order : Trees → List Tree
-trees_in_order no_trees = []
-trees_in_order (trees_and trees tree) = trees_in_order trees ++ tree ∷ []
-
-abbrev pub pairs_in_order : TreePairs → List (Tree × Tree)
-pairs_in_order no_tree_pairs = []
-pairs_in_order (tree_pairs_and pairs key value) = pairs_in_order pairs ++ (key, value) ∷ []
-
--- a scalar means this number
-pub record MeansNumber (text : List ℕ) (meant : Resolved) : Type 0 where
-  pub parts : JsonNumber
-  pub is_number : IsNumber text parts
-  pub means : means_number (json_value parts) meant ≡ true
-
--- a tree means this text
-abbrev pub MeansText : Schema → List ℕ → Tree → Type 0
-MeansText schema text (scalar_tree anchor tagging value) = (scalar_meant schema tagging value ≡ meant_text) × (value ≡ chars text)
-MeansText schema text _ = ⊥
+use Rattle.yaml_writer.specs.Means.{MeansNumber, MeansText, Schema, pairs_in_order, plain_document, scalar_meant, trees_in_order}
 
 -- a tree means this value: nothing, this boolean, exactly this number, this text; an array's items and an object's keys and
 -- values, all of them in order
@@ -60,10 +36,6 @@ abbrev pub AllMean : Schema → List Json → List Tree → Type 0
 AllMean schema [] [] = Unit {0}
 AllMean schema (json ∷ values) (tree ∷ trees) = Means schema json tree × AllMean schema values trees
 AllMean schema _ _ = ⊥
-
--- a document without directives
-abbrev pub plain_document : Tree → DocumentTree
-plain_document root = record { version = None; directives = []; root = root }
 
 -- what a reader of whole streams finds in some bytes: for each of these values one document without directives, in order, whose
 -- root means the value by the type repository of YAML 1.1 and by the core schema of YAML 1.2

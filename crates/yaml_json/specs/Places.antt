@@ -5,7 +5,7 @@ use Rattle.json.specs.Json.{Json}
 use Rattle.json.specs.Lex.{Lexeme, between, fresh, lex, punctuate}
 use Rattle.json.specs.Strict.{HasUniqueKeys}
 use Rattle.json.specs.Tree.{depth as nesting, json_tokens}
-use Rattle.yaml_base.specs.values.LinesAndColumns.{column_of, line_of}
+use Rattle.yaml_writer.specs.Places.{AreOf}
 use Rattle.yaml_json.specs.Ahead.{IsTrimmed}
 use Rattle.yaml_json.specs.Expected.{expected_at}
 use Rattle.yaml_json.specs.Lexing.{MayBegin, mode_over}
@@ -15,10 +15,6 @@ use Rattle.yaml_json.specs.declared.error.JsonError.TheVariants as errors
 use Rattle.yaml_json.specs.declared.error.StreamError.{StreamError}
 use Rattle.yaml_json.specs.declared.error.StreamError.TheVariants as faults
 use Rattle.yaml_json.specs.declared.places.Place.{Place}
-
--- the line and the column are those of an offset in a text
-abbrev pub AreOf : (text : List ℕ) → (at line column : ℕ) → Type 0
-AreOf text at line column = (line ≡ line_of text at) × (column ≡ column_of text at)
 
 -- the error, where it has a place, is at this offset of the text
 abbrev pub IsAt : (text : List ℕ) → (at : ℕ) → JsonError → Type 0

@@ -5,10 +5,10 @@ use Rattle.yaml_pen.specs.Wrote.{Grows}
 use Rattle.yaml_writer.specs.Writing.{WriterState}
 use Rattle.yaml_json.specs.Failing.{Grew}
 use Rattle.yaml_json.specs.Places.{IsPlaceAfter, MovesPlace}
-use Rattle.yaml_json.specs.Sent.{Advances, BeginsNext, FailsNext, HasCome, IsByReader, IsIncoming, IsScanned, IsSoundSending, LeavesLast}
+use Rattle.yaml_json.specs.Sent.{Advances, FailsNext, HasCome, IsByReader, IsIncoming, IsScanned, IsSoundSending, LeavesLast}
+use Rattle.yaml_writer.specs.WasGiven.{BeginsNext, IsBare}
 use Rattle.yaml_json.specs.Sent.{SentTexts, StopsInPart, StopsSending, StopsWithin, emitter_error}
 use Rattle.yaml_json.specs.WalkSteps.{TextGiven}
-use Rattle.yaml_json.specs.Wrote.{IsBare}
 use Rattle.yaml_json.specs.declared.cuts.Cut.{Cut}
 use Rattle.yaml_json.specs.declared.error.StreamError.{StreamError}
 use Rattle.yaml_json.specs.declared.places.Place.{Place}

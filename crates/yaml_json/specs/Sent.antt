@@ -5,39 +5,27 @@ use Rattle.std.specs.Io.KnownBytes.{Appends, Consumes}
 use Rattle.json.specs.Json.{Json}
 use Rattle.json.specs.Lex.{tokens}
 use Rattle.json.specs.Token.{Token}
-use Rattle.yaml_base.specs.Event.{Event}
 use Rattle.yaml_base.specs.Prefix.{IsPrefix}
 use Rattle.yaml_base.specs.Settings.{Settings}
 use Rattle.yaml_base.specs.declared.errors.yaml_error_t.{yaml_error_t}
 use Rattle.yaml_base.specs.declared.errors.yaml_error_t.TheVariants.{Memory}
 use Rattle.yaml_emitter.specs.State.{State}
-use Rattle.yaml_base.specs.Sinks.{AppendsFirst}
+use Rattle.yaml_writer.specs.Failing.{FailedWith, HasErrorSaid}
+use Rattle.yaml_writer.specs.WasGiven.{AddsTaking, BeginsUnsent, IsAllTaken, WroteTaking, between}
 use Rattle.yaml_writer.specs.Writing.{AddsEvents, Finishes, StandsTaken, WriterState, opening}
 use Rattle.yaml_json.specs.Cuts.{HasScanned}
-use Rattle.yaml_json.specs.Failing.{FailedWith, HasErrorSaid, between, events_with_separators, writers_error}
+use Rattle.yaml_json.specs.Failing.{events_with_separators, writers_error}
 use Rattle.yaml_json.specs.Places.{HasPlaceWithin, IsPlaceAfter}
 use Rattle.yaml_json.specs.Refused.{HaveNamesOnce, IsOfText, TokensStopAt}
 use Rattle.yaml_json.specs.Texts.{texts_in}
 use Rattle.yaml_json.specs.TokenEvents.{tokens_events}
-use Rattle.yaml_json.specs.Wrote.{AreJson, IsBare, IsYamlOfTexts, parts_events}
+use Rattle.yaml_json.specs.Wrote.{AreJson, IsYamlOfTexts, parts_events}
 use Rattle.yaml_json.specs.declared.cuts.Cut.{Cut}
 use Rattle.yaml_json.specs.declared.stream.Incoming.{Incoming}
 use Rattle.yaml_json.specs.declared.error.JsonError.TheVariants as errors
 use Rattle.yaml_json.specs.declared.error.StreamError.{StreamError}
 use Rattle.yaml_json.specs.declared.error.StreamError.TheVariants as faults
 use Rattle.yaml_json.specs.declared.places.Place.{Place}
-
--- wherever the emitter stood, it stands after these events more, and these bytes are taken more
-abbrev pub AddsTaking : State → List Event → List ℕ → State → Type 0
-AddsTaking before events bytes after =
-    (given : Settings) (all : List Event) (sent : List ℕ) → StandsTaken given all sent before → StandsTaken given (all ++ events) (sent ++ bytes) after
-
--- these events were given, and these bytes were taken; the next node has no anchor and no tag
-pub record WroteTaking (before : WriterState) (events : List Event) (bytes : List ℕ) (after : WriterState) : Type 0 where
-  pub adds : AddsTaking before.emitter events bytes after.emitter
-  pub canonical : after.canonical ≡ before.canonical
-  pub levels : after.levels ≡ before.levels
-  pub bare : IsBare after
 
 -- each of some texts is UTF-8
 abbrev pub AreUtf8 : List (List ℕ × Json) → Type 0
@@ -61,10 +49,6 @@ pub record SentTexts (depth : ℕ) (unique in_flow : Bool) (text : List ℕ) (wa
   pub reads : (given : Settings) (sent bytes : List ℕ) → StandsTaken given opening sent was.emitter → was.canonical ≡ given.canonical
       → Finishes now.emitter bytes → IsYamlOfTexts given in_flow depth text ((sent ++ handed) ++ bytes)
 
--- an emitter without an error, whose output is all taken
-abbrev pub IsAllTaken : State → Type 0
-IsAllTaken emitter = (emitter.error ≡ None) × (emitter.page.taken ≡ length emitter.page.output)
-
 -- of these bytes, these are left: the texts before them were given, a document begun after each, and the sink was given what was
 -- written of the documents
 pub record SentSoFar (depth : ℕ) (in_flow unique : Bool) (text : List ℕ) (was : WriterState) (before : Option (List ℕ)) (rest : List ℕ) (now : WriterState)
@@ -85,22 +69,6 @@ abbrev pub Advances : (depth : ℕ) → (in_flow unique : Bool) → List ℕ →
 Advances depth in_flow unique ahead before held left now holds =
     (text : List ℕ) (was : WriterState) (start : Option (List ℕ)) (more : List ℕ)
     → SentSoFar depth in_flow unique text was start (ahead ++ more) before held → SentSoFar depth in_flow unique text was start (left ++ more) now holds
-
--- the next document was begun, and the sink was given all that was written before
-pub record BeginsNext (before : WriterState) (held : Option (List ℕ)) (after : WriterState) (holds : Option (List ℕ)) : Type 0 where
-  pub bytes : List ℕ
-  pub sends : Appends held holds bytes
-  pub wrote : WroteTaking before between bytes after
-  pub whole : IsAllTaken after.emitter
-
--- a writer was given the start of the next document, and the sink a beginning of all that was written before; nothing was taken
-pub record BeginsUnsent (before : WriterState) (held : Option (List ℕ)) (after : WriterState) (holds : Option (List ℕ)) : Type 0 where
-  pub offered : List ℕ
-  pub sends : AppendsFirst held holds offered
-  pub adds : AddsEvents before.emitter between after.emitter
-  pub then : State
-  pub wrote : AddsTaking before.emitter between offered then
-  pub whole : IsAllTaken then
 
 -- the writer failed at the start of the next document, and nothing was given to the sink; or the sink failed
 abbrev pub FailsNext : WriterState → Option (List ℕ) → StreamError → WriterState → Option (List ℕ) → Type 0

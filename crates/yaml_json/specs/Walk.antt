@@ -11,13 +11,13 @@ use Rattle.yaml_writer.specs.Writing.{AddsEvents, WriterState}
 use Rattle.yaml_base.specs.declared.kinds.CollectionKind.{CollectionKind}
 use Rattle.yaml_base.specs.declared.kinds.CollectionKind.TheVariants.{Mapping, Sequence}
 use Rattle.yaml_json.specs.Begins.{BeginsAllowed, BeginsSome, BeginsWithinDepth}
-use Rattle.yaml_json.specs.Failing.{FailedWith}
+use Rattle.yaml_writer.specs.Failing.{FailedWith}
+use Rattle.yaml_writer.specs.WasGiven.{GivenLeaving}
 use Rattle.yaml_json.specs.Refused.{TokensBreakAt, NamesTwiceAt, OpensTooDeepAt, is_marked}
 use Rattle.yaml_json.specs.HeldNames.{HaveNames, HoldsNames}
 use Rattle.yaml_json.specs.Names.{NamesOnce, all_names_after, outer_names}
 use Rattle.yaml_json.specs.declared.names.Names.{Names}
 use Rattle.yaml_json.specs.TokenEvents.{tokens_events}
-use Rattle.yaml_json.specs.Wrote.{IsBare}
 use Rattle.yaml_json.specs.declared.error.JsonError.{JsonError}
 use Rattle.yaml_json.specs.declared.error.JsonError.TheVariants as errors
 use Rattle.yaml_json.specs.declared.values.Spot.{Spot}
@@ -101,11 +101,8 @@ BeginsValueBy depth levels token now =
 -- ---- the writer
 
 -- the events of these tokens were given, and these collections are open within those that were
-pub record GaveTokens (in_flow : Bool) (was : WriterState) (taken : List Token) (levels : List CollectionKind) (now : WriterState) : Type 0 where
-  pub adds : AddsEvents was.emitter (tokens_events was.canonical in_flow taken) now.emitter
-  pub canonical : now.canonical ≡ was.canonical
-  pub levels_are : now.levels ≡ was.levels ++ levels
-  pub bare : IsBare now
+abbrev pub GaveTokens : (in_flow : Bool) → WriterState → List Token → List CollectionKind → WriterState → Type 0
+GaveTokens in_flow was taken levels now = GivenLeaving was (tokens_events was.canonical in_flow taken) (was.levels ++ levels) now
 
 -- wherever the writer stood, the events of these tokens were given more
 abbrev pub GivesTaken : (in_flow : Bool) → List CollectionKind → WriterState → List Token → List CollectionKind → WriterState → Type 0

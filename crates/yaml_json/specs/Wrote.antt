@@ -1,37 +1,15 @@
 -- What a value of JSON comes to for the writer that it is given to, and what is left of the reader's tokens.
-use Rattle.std.specs.Prelude.{◌≡◌, ℕ, Bool, None, Some, List, [], ◌∷◌, ◌++◌, flat_map, map, true}
+use Rattle.std.specs.Prelude.{◌≡◌, ℕ, Bool, Some, List, [], ◌∷◌, ◌++◌, flat_map, map, true}
 use Rattle.json.specs.Token.{Token}
 use Rattle.json.specs.Lex.{tokens}
 use Rattle.json.specs.Json.{Json, value}
-use Rattle.yaml_base.specs.Event.{Event, document_end, mapping_start, sequence_start}
+use Rattle.yaml_base.specs.Event.{Event, document_end}
 use Rattle.yaml_base.specs.Settings.{Settings}
-use Rattle.yaml_writer.specs.Writing.{AddsEvents, Finishes, IsStream, StandsTaken, WriterState, closing, opening, plain_start}
-use Rattle.yaml_base.specs.declared.kinds.CollectionKind.{CollectionKind}
-use Rattle.yaml_base.specs.declared.kinds.CollectionKind.TheVariants.{Mapping, Sequence}
-use Rattle.yaml_writer.specs.Contents.{collection_in}
+use Rattle.yaml_writer.specs.WasGiven.{WasGiven}
+use Rattle.yaml_writer.specs.Writing.{Finishes, IsStream, StandsTaken, WriterState, closing, opening, plain_start}
 use Rattle.yaml_json.specs.JsonEvents.{json_events}
 use Rattle.yaml_json.specs.Texts.{texts_in}
 use Rattle.yaml_json.specs.Means.{ReadsAsJson, ReadsAsValues}
-
--- the next node has no anchor and no tag
-abbrev pub IsBare : WriterState → Type 0
-IsBare writer = (writer.anchor ≡ None) × (writer.tag ≡ None)
-
--- these events were given, wherever the writer's emitter stood; the next node has no anchor and no tag
-pub record WasGiven (before : WriterState) (events : List Event) (after : WriterState) : Type 0 where
-  pub adds : AddsEvents before.emitter events after.emitter
-  pub canonical : after.canonical ≡ before.canonical
-  pub levels : after.levels ≡ before.levels
-  pub bare : IsBare after
-
--- one event was given
-abbrev pub WroteEvent : WriterState → Event → WriterState → Type 0
-WroteEvent before event after = WasGiven before (event ∷ []) after
-
--- the event with which a collection begins
-abbrev pub start_event : (in_flow : Bool) → CollectionKind → Event
-start_event in_flow Sequence = sequence_start (collection_in in_flow)
-start_event in_flow Mapping = mapping_start (collection_in in_flow)
 
 -- the first of these tokens are a value nested at most `depth` deep; its events were given
 pub record WroteValue (depth : ℕ) (in_flow : Bool) (before : List Token) (was : WriterState) (after : List Token) (now : WriterState) : Type 0 where

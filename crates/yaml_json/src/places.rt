@@ -5,7 +5,8 @@ ghost use Rattle.json.specs.Word.{head};
 ghost use Rattle.yaml_json.specs.Ahead.{IsTrimmed};
 ghost use Rattle.yaml_json.specs.Lexing.{EndsWord};
 ghost use Rattle.yaml_json.specs.Offsets.{IsOffset, PassesLexeme};
-ghost use Rattle.yaml_json.specs.Places.{AreOf, IsPlaceAfter, many_bytes};
+ghost use Rattle.yaml_json.specs.Places.{IsPlaceAfter, many_bytes};
+ghost use Rattle.yaml_writer.specs.Places.{AreOf};
 
 use crate::lexemes::{after_string, skip_blanks};
 use crate::values::{Spot, Stop};

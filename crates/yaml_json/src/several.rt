@@ -1,6 +1,6 @@
 //! JSON texts that follow one another in a text.
 ghost use Rattle.yaml_json.specs.WritingCalls.{WritesTexts};
-ghost use Rattle.yaml_json.specs.Wrote.{IsBare};
+ghost use Rattle.yaml_writer.specs.WasGiven.{IsBare};
 
 use crate::cuts::first_cut;
 use crate::error::JsonError;

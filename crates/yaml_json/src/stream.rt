@@ -6,7 +6,7 @@ ghost use Rattle.yaml_json.specs.Cuts.{HasScanned};
 ghost use Rattle.yaml_json.specs.Places.{HasPlaceWithin, IsPlaceAfter, MovesPlace};
 ghost use Rattle.yaml_json.specs.SendingCalls.{BytesStep, CompleteStep, DropStep, LastStep, NextStep, ReadStep, SendsTexts};
 ghost use Rattle.yaml_json.specs.Sent.{IsIncoming, IsScanned, StopsPartAt, emitter_error};
-ghost use Rattle.yaml_json.specs.Wrote.{IsBare};
+ghost use Rattle.yaml_writer.specs.WasGiven.{IsBare};
 
 use crate::cuts::{Cut, find_end, new_cut};
 use crate::error::{JsonError, StreamError};

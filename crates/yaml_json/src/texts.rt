@@ -8,7 +8,7 @@ ghost use Rattle.yaml_json.specs.Refused.{is_marked};
 ghost use Rattle.yaml_json.specs.Walk.{MatchesStop};
 ghost use Rattle.yaml_json.specs.WalkSteps.{TextStep};
 ghost use Rattle.yaml_json.specs.WritingCalls.{ReturnsYaml, WritesText};
-ghost use Rattle.yaml_json.specs.Wrote.{IsBare};
+ghost use Rattle.yaml_writer.specs.WasGiven.{IsBare};
 
 use crate::error::JsonError;
 use crate::expecting::expected_at;

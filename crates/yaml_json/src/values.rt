@@ -8,7 +8,7 @@ ghost use Rattle.yaml_writer.specs.Contents.{style_of};
 ghost use Rattle.yaml_json.specs.Nests.{HasNoneOpen, IsNesting};
 ghost use Rattle.yaml_json.specs.Walk.{IsInnermost, LeavesNames, ReadsNone, closes, opener};
 ghost use Rattle.yaml_json.specs.WalkSteps.{FirstStep, OnlyStep, TokenStep, ValueStep, WalkStep, at};
-ghost use Rattle.yaml_json.specs.Wrote.{IsBare, start_event};
+ghost use Rattle.yaml_writer.specs.WasGiven.{IsBare, start_event};
 ghost use Rattle.yaml_writer.specs.Writing.{Begins, EndsInnermost};
 
 use crate::names::Names;

@@ -6,7 +6,7 @@ use Rattle.json.specs.Token.{Token}
 use Rattle.yaml_base.specs.declared.errors.yaml_error_t.TheVariants.{Memory}
 use Rattle.yaml_base.specs.values.TypedValues.{TypedValue, most_nested, nesting}
 use Rattle.yaml_emitter.specs.Given.{seen_settings}
-use Rattle.yaml_json.specs.Places.{AreOf}
+use Rattle.yaml_writer.specs.Places.{AreOf}
 use Rattle.yaml_json.specs.Reached.{AreFrom}
 use Rattle.yaml_json.specs.WritingCalls.{HasNoYaml, HasYaml}
 use Rattle.yaml_json.specs.declared.error.JsonError.{JsonError}

@@ -11,7 +11,7 @@ use Rattle.json.specs.Strict.{HasUniqueKeys}
 use Rattle.json.specs.Token.{Token}
 use Rattle.yaml_base.specs.values.TypedValues.{TypedValue, null_value, bool_value, int_value, text_value, list_value, map_value, TypedValues, no_values}
 use Rattle.yaml_base.specs.values.TypedValues.{values_and, TypedPairs, no_value_pairs, value_pairs_and, WritesValue, most_nested}
-use Rattle.yaml_json.specs.Places.{AreOf}
+use Rattle.yaml_writer.specs.Places.{AreOf}
 use Rattle.yaml_json.specs.Reached.{AreFrom}
 use Rattle.yaml_json.specs.WritingCalls.{HasNoYaml}
 use Rattle.yaml_json.specs.declared.error.JsonError.{JsonError}

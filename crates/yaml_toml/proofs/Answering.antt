@@ -1,17 +1,17 @@
 -- What a call of a writer says to the walk.
-use Rattle.yaml_json.proofs.Common.{◌≡◌, ◌⊎◌, ◌∷◌, ◌++◌, [], List, Bool, Option, None, Some, Result, Ok, Err, IfErr, OnOk, inl, inr, refl, ap, subst, sym, ◌∙◌}
-use Rattle.yaml_json.proofs.Common.{append-nil, append_assoc}
-use Rattle.yaml_json.proofs.Common.{Event, State, WriterState, GaveEvent, WroteEvent, IsBare, end_event, with_collection, EndsInnermost}
-use Rattle.yaml_json.proofs.Common.{AddsEvents}
-use Rattle.yaml_json.proofs.WroteLemmas.{adds_then, ended, none_more, on_ok, same_last, wrote_event}
+use Rattle.yaml_toml.proofs.Common.{◌≡◌, ◌⊎◌, ◌∷◌, ◌++◌, [], List, Bool, Option, None, Some, Result, Ok, Err, IfErr, OnOk, inl, inr, refl, ap, subst, sym, ◌∙◌}
+use Rattle.yaml_toml.proofs.Common.{append-nil, append_assoc}
+use Rattle.yaml_toml.proofs.Common.{Event, State, WriterState, GaveEvent, WroteEvent, IsBare, end_event, with_collection, EndsInnermost}
+use Rattle.yaml_toml.proofs.Common.{AddsEvents}
+use Rattle.yaml_writer.proofs.GivenLemmas.{begun, ended, gave_then, leaves_same, none_more, on_ok, same_last, wrote_event}
+use Rattle.yaml_writer.specs.Failing.{HasErrorSaid}
 use Rattle.yaml_writer.proofs.Taken.{gives_ok, gives_err, moves_add}
 use Rattle.toml_ordered.specs.Data.{TomlNode}
 use Rattle.yaml_pen.{proofs.Composing.grows_itself, proofs.Composing.grows_then, proofs.Writing.none_from_result, specs.Wrote.Grows}
 use Rattle.yaml_emitter.proofs.Common.{some_from_result}
 use Rattle.yaml_base.specs.declared.errors.{yaml_error_t.yaml_error_t, yaml_error_t.TheVariants.Memory}
 use Rattle.yaml_base.specs.declared.kinds.CollectionKind.{CollectionKind}
-use Rattle.yaml_json.specs.Failing.{HasErrorSaid}
-use Rattle.yaml_json.proofs.Common.{ap₂, Text, Scalar, scalar, plain, is_none, is_some, ◌||◌}
+use Rattle.yaml_toml.proofs.Common.{ap₂, Text, Scalar, scalar, plain, is_none, is_some, ◌||◌}
 use Rattle.yaml_writer.specs.Times.{Moment, timestamp_text}
 use Rattle.yaml_writer.specs.Writing.{Gives, tag_or_default, timestamp_event, timestamp_tag}
 use Rattle.yaml_toml.specs.Depth.{toml_nesting}
@@ -109,57 +109,39 @@ kept_then before between after result one other =
 -- an event that leaves what is open
 pub moved_event : (before after : WriterState) (event : Event) (kinds : List CollectionKind) → WroteEvent before event after
     → Moved before (event ∷ []) kinds kinds after
-moved_event before after event kinds wrote =
-    record { adds = wrote.adds; canonical = wrote.canonical; levels = λ outer is. wrote.levels ∙ is; bare = wrote.bare }
+moved_event before after event kinds wrote outer is = leaves_same before after (event ∷ []) before.levels (outer ++ kinds) is wrote
 
 -- the start of a collection
 pub moved_start : (before after : WriterState) (event same : Event) (kind : CollectionKind) → event ≡ same
     → GaveEvent (with_collection before kind) event (Ok tt) after → Moved before (same ∷ []) [] (kind ∷ []) after
-moved_start before after event same kind is gave = subst (λ (e : Event). Moved before (e ∷ []) [] (kind ∷ []) after) is (record {
-  adds = moves_add gave.moves;
-  canonical = gave.canonical;
-  levels = λ outer levels. gave.levels ∙ ap (λ (ks : List CollectionKind). ks ++ kind ∷ []) (levels ∙ append-nil outer);
-  bare = (gave.no_anchor, gave.no_tag);
-})
+moved_start before after event same kind is gave outer levels =
+    leaves_same before after (same ∷ []) (before.levels ++ kind ∷ []) (outer ++ kind ∷ [])
+    (ap (λ (kinds : List CollectionKind). kinds ++ kind ∷ []) (levels ∙ append-nil outer))
+    (begun before after same kind (subst (λ (e : Event). GaveEvent (with_collection before kind) e (Ok tt) after) is gave))
 
 -- the end of one
-pub moved_end : (before after : WriterState) (outer : List CollectionKind) (kind : CollectionKind) → before.levels ≡ outer ++ kind ∷ [] → IsBare before
-    → EndsInnermost before (Ok tt) after → Moved before (end_event kind ∷ []) (kind ∷ []) [] after
-moved_end before after outer kind levels bare ends =
-    let all = ended outer kind before after levels bare ends in
-    record {
-      adds = all.0;
-      canonical = all.1;
-      levels = λ others is. (ended others kind before after is bare ends).2 ∙ sym (append-nil others);
-      bare = all.3;
-    }
+pub moved_end : (before after : WriterState) (kind : CollectionKind) → IsBare before → EndsInnermost before (Ok tt) after
+    → Moved before (end_event kind ∷ []) (kind ∷ []) [] after
+moved_end before after kind bare ends outer levels =
+    leaves_same before after (end_event kind ∷ []) outer (outer ++ []) (sym (append-nil outer)) (ended outer kind before after levels bare ends)
 
 -- within others that are open
 pub moved_within : (before after : WriterState) (events : List Event) (opened these those : List CollectionKind) → Moved before events these those after
     → Moved before events (opened ++ these) (opened ++ those) after
-moved_within before after events opened these those moved =
-    record {
-      adds = moved.adds;
-      canonical = moved.canonical;
-      levels = λ outer is. moved.levels (outer ++ opened) (is ∙ sym (append_assoc outer opened these)) ∙ append_assoc outer opened those;
-      bare = moved.bare;
-    }
+moved_within before after events opened these those moved outer is =
+    leaves_same before after events ((outer ++ opened) ++ those) (outer ++ (opened ++ those)) (append_assoc outer opened those)
+    (moved (outer ++ opened) (is ∙ sym (append_assoc outer opened these)))
 
 pub moved_then : (before between after : WriterState) (first second : List Event) (these middle those : List CollectionKind)
     → Moved before first these middle between → Moved between second middle those after → Moved before (first ++ second) these those after
-moved_then before between after first second these middle those one other =
-    record {
-      adds = adds_then before.emitter between.emitter after.emitter first second one.adds other.adds;
-      canonical = other.canonical ∙ one.canonical;
-      levels = λ outer is. other.levels outer (one.levels outer is);
-      bare = other.bare;
-    }
+moved_then before between after first second these middle those one other outer is =
+    let first_given = one outer is in
+    gave_then before between after first second (outer ++ middle) (outer ++ those) first_given (other outer first_given.levels)
 
-pub on_end : (before after : WriterState) (answer : Result (Unit {0}) yaml_error_t) (outer : List CollectionKind) (kind : CollectionKind)
-    → before.levels ≡ outer ++ kind ∷ [] → IsBare before → EndsInnermost before answer after
-    → OnOk answer (Moved before (end_event kind ∷ []) (kind ∷ []) [] after)
-on_end before after (Ok done) outer kind levels bare ends = moved_end before after outer kind levels bare ends
-on_end before after (Err error) outer kind levels bare ends = tt
+pub on_end : (before after : WriterState) (answer : Result (Unit {0}) yaml_error_t) (kind : CollectionKind) → IsBare before
+    → EndsInnermost before answer after → OnOk answer (Moved before (end_event kind ∷ []) (kind ∷ []) [] after)
+on_end before after (Ok done) kind bare ends = moved_end before after kind bare ends
+on_end before after (Err error) kind bare ends = tt
 
 -- ---- timestamps
 

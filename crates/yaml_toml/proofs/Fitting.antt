@@ -1,6 +1,6 @@
 -- What is left fits what is allowed, as collections are begun and go on.
-use Rattle.yaml_json.proofs.Common.{◌≡◌, ℕ, suc, ◌+◌, ◌-◌, ◌<◌, ◌≤◌, arith, ◌∷◌, ◌++◌, [], List, Option, None, Some, Result, Ok, Err, IfSome, refl, ap, subst}
-use Rattle.yaml_json.proofs.Common.{sym, ◌∙◌, length, length-append, cases_lt, inl, inr}
+use Rattle.yaml_toml.proofs.Common.{◌≡◌, ℕ, suc, ◌+◌, ◌-◌, ◌<◌, ◌≤◌, arith, ◌∷◌, ◌++◌, [], List, Option, None, Some, Result, Ok, Err, IfSome, refl, ap, subst}
+use Rattle.yaml_toml.proofs.Common.{sym, ◌∙◌, length, length-append, cases_lt, inl, inr}
 use Rattle.std.specs.Prelude.{◌↔◌, max}
 use Rattle.yaml_base.specs.declared.errors.{yaml_error_t.yaml_error_t}
 use Rattle.toml_ordered.specs.Data.{TomlNodes}

@@ -19,10 +19,10 @@ use Rattle.toml_parser.specs.declared.scalar.Scalar.{Scalar}
 use Rattle.toml_parser.specs.declared.scalar.Scalar.TheVariants as scalar
 use Rattle.yaml_base.specs.Characters.{Text}
 use Rattle.yaml_base.specs.Words.{is_word}
-use Rattle.yaml_base.specs.values.JsonNumbers.{JsonExponent, JsonNumber, exponent_text, is_json_number, is_whole_part, json_text, minus}
+use Rattle.yaml_base.specs.values.JsonNumbers.{JsonExponent, exponent_text, is_json_number, is_whole_part, json_text, minus}
 use Rattle.yaml_base.specs.values.Resolved.{are_digits}
-use Rattle.yaml_writer.proofs.PartLemmas.{number_found}
-use Rattle.yaml_writer.specs.NumberParts.{IsNumber, number_in}
+use Rattle.yaml_writer.proofs.PartLemmas.{number_in_text}
+use Rattle.yaml_writer.specs.NumberParts.{HasNumber}
 use Rattle.yaml_toml.specs.Events.{json_word}
 use Rattle.yaml_toml.specs.Walk.{IsJsonWord}
 
@@ -231,16 +231,16 @@ whole_of (c ∷ rest) some lone =
     and_from (are_digits 10 (c ∷ rest)) (is_word (c ∷ rest) (codes "0") || not (c == 48)) some
     (first_digit c rest (or_cases (length (c ∷ rest) == 1) (not (c == 48)) lone))
 
--- a text is a number of JSON
-abbrev HasNumber : List ℕ → Type 0
-HasNumber text = (number : JsonNumber) × (is_json_number number ≡ true) × (text ≡ json_text number)
-
 number_from : (negative : Bool) (bs digits : List ℕ) (a : ℕ) → bs ≡ digits ++ drop a bs → is_whole_part digits ≡ true → FractionAt bs a
     → HasNumber (minus negative ++ bs)
 number_from negative bs digits a cut whole more = (
   record { negative = negative; whole = digits; fraction = more.fraction; exponent = more.exponent },
-  valid_by more.fraction more.exponent more.valid more.exponent_valid_is,
-  ap (λ (rest : List ℕ). minus negative ++ rest) (cut ∙ ap (λ (rest : List ℕ). digits ++ rest) more.text) ∙ text_by more.fraction more.exponent,
+  record {
+    valid = valid_by more.fraction more.exponent more.valid more.exponent_valid_is;
+    text_is =
+        ap (λ (rest : List ℕ). minus negative ++ rest) (cut ∙ ap (λ (rest : List ℕ). digits ++ rest) more.text)
+        ∙ text_by more.fraction more.exponent;
+  },
 )
   where
     valid_by : (fraction : Option Text) (exponent : Option JsonExponent) → fraction_valid fraction ≡ true → exponent_valid exponent ≡ true
@@ -351,11 +351,6 @@ unsigned_word word x = by (radix_of word == 10) (first word == 45) refl (first w
     by true false d true p read finite number = float_scanned false (drop 1 word) x read finite number
     by true false d false p read finite number = float_scanned false word x read finite number
 
-number_is : (text : List ℕ) → HasNumber text → IsNumber text (number_in text)
-number_is text (number, valid, spelled_so) =
-    let same = ap number_in spelled_so ∙ number_found number valid in
-    record { valid = subst (λ (n : JsonNumber). is_json_number n ≡ true) (sym same) valid; text_is = spelled_so ∙ ap json_text (sym same) }
-
 pub float_word : (word : List ℕ) (x : Float) → plain_number word ≡ Some (scalar.Float x) → bytes_eq (past_sign word) (codes "inf") ≡ false
     → bytes_eq (past_sign word) (codes "nan") ≡ false → IsJsonWord word
-float_word word x read finite number = number_is (json_word word) (unsigned_word word x read finite number)
+float_word word x read finite number = number_in_text (json_word word) (unsigned_word word x read finite number)

@@ -1,3 +1,4 @@
+pub mod Common
 pub mod Answering
 pub mod Accepting
 pub mod Fitting

@@ -1,5 +1,5 @@
 -- How deep some documents nest, computed.
-use Rattle.yaml_json.proofs.Common.{◌≡◌, codes, refl}
+use Rattle.yaml_toml.proofs.Common.{◌≡◌, codes, refl}
 use Rattle.std.specs.Prelude.{pos}
 use Rattle.toml_ordered.specs.Data.{integer, array, table, tables, no_items, item, no_nodes, node}
 use Rattle.toml_ordered.specs.declared.tree.Origin.TheVariants.{Closed}

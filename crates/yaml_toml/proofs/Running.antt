@@ -1,13 +1,14 @@
 -- The walk from its start to where it is.
-use Rattle.yaml_json.proofs.Common.{◌≡◌, ℕ, suc, zero, length, ◌≤◌, ◌∷◌, ◌++◌, [], List, Bool, Ok, refl, ap, subst, sym, ◌∙◌, append-nil, append_assoc, arith}
-use Rattle.yaml_json.proofs.Common.{Event, WriterState, WasGiven}
+use Rattle.yaml_toml.proofs.Common.{◌≡◌, ℕ, suc, zero, length, ◌≤◌, ◌∷◌, ◌++◌, [], List, Bool, Ok, refl, ap, subst, sym, ◌∙◌, append-nil, append_assoc, arith}
+use Rattle.yaml_toml.proofs.Common.{Event, WriterState, WasGiven}
 use Rattle.yaml_base.specs.declared.kinds.CollectionKind.{CollectionKind}
 use Rattle.toml_ordered.specs.Data.{TomlNodes, table}
 use Rattle.toml_ordered.specs.declared.tree.Origin.TheVariants.{Header}
 use Rattle.yaml_toml.specs.Events.{toml_events}
 use Rattle.yaml_base.proofs.Common.{sequence_start, sequence_end, mapping_start, mapping_end, open_count}
 use Rattle.yaml_emitter.proofs.AcceptedLists.{Stays, after_event, few_open}
-use Rattle.yaml_json.proofs.WroteLemmas.{adds_then}
+use Rattle.yaml_writer.proofs.GivenLemmas.{adds_then, leaves_same}
+use Rattle.yaml_writer.specs.WasGiven.{GivenLeaving}
 use Rattle.yaml_toml.specs.Failing.{GaveFirst}
 use Rattle.yaml_toml.specs.OpenCounts.{OpensAtMost, count_after}
 use Rattle.yaml_toml.specs.Walk.{Moved, GaveSome, StepsStop, KeptAfterStop, KeysHaveNumbers, PendingHaveNumbers, RestHasNumbers, kinds_of, rest_kind}
@@ -66,6 +67,11 @@ pub record Running (most : ℕ) (in_flow : Bool) (start : WriterState) (all : Li
   pub kept : KeptAfterStop start (Ok tt) now
   pub few : OpensAtMost most 0 given (length (kinds_of opened))
 
+-- what was given leaves these collections open, within those that were
+pub so_given : (most : ℕ) (in_flow : Bool) (start now : WriterState) (all : List Event) (numbers : Type 0) (opened : List Rest)
+    → (so : Running most in_flow start all numbers now opened) → GivenLeaving start so.given (start.levels ++ kinds_of opened) now
+so_given most in_flow start now all numbers opened so = so.moved start.levels (sym (append-nil start.levels))
+
 -- its root table was begun
 module _ (settings : TomlSettings) (start now : WriterState) (root : TomlNodes) (after : List Rest) where
   abbrev pub root_due : List Event
@@ -104,8 +110,11 @@ module _ (settings : TomlSettings) (start now : WriterState) (root : TomlNodes) 
 
 module _ (most : ℕ) (in_flow : Bool) (start between now : WriterState) (all : List Event) (numbers : Type 0) (left after : List Rest) (r : Rest)
     (so : Running most in_flow start all numbers between (left ++ r ∷ [])) where
+  so_far : GivenLeaving start so.given (start.levels ++ kinds_of (left ++ r ∷ [])) between
+  so_far = so_given most in_flow start between all numbers (left ++ r ∷ []) so
+
   same : between.canonical ≡ start.canonical
-  same = so.moved.canonical
+  same = so_far.canonical
 
   due_is : so.given ++ (rest_events between.canonical in_flow r ++ pending between.canonical in_flow left) ≡ all
   due_is =
@@ -130,7 +139,7 @@ module _ (most : ℕ) (in_flow : Bool) (start between now : WriterState) (all : 
         few =
             few_of most few.0 (so.given ++ stop.given)
             (opens_then most 0 (length (kinds_of left ++ rest_kind r ∷ [])) few.0 so.given stop.given so_few few.1);
-        adds = adds_then start.emitter between.emitter now.emitter so.given stop.given so.moved.adds stop.adds;
+        adds = adds_then start.emitter between.emitter now.emitter so.given stop.given so_far.adds stop.adds;
       }
 
   pub runs_on : (size : ℕ)
@@ -153,14 +162,11 @@ module _ (most : ℕ) (in_flow : Bool) (start between now : WriterState) (all : 
   -- the innermost is of its kind
   pub innermost : HasInnermost between (kinds_of left) (rest_kind r)
   innermost =
-      (start.levels, so.moved.levels start.levels (sym (append-nil start.levels)) ∙ ap (λ (ks : List CollectionKind). start.levels ++ ks) (kinds-push left r))
+      (start.levels, so_far.levels ∙ ap (λ (ks : List CollectionKind). start.levels ++ ks) (kinds-push left r))
 
 -- nothing is left
 pub runs_out : (most : ℕ) (in_flow : Bool) (start now : WriterState) (all : List Event) (numbers : Type 0) → Running most in_flow start all numbers now []
     → WasGiven start all now
-runs_out most in_flow start now all numbers so = subst (λ (events : List Event). WasGiven start events now) (sym (append-nil so.given) ∙ so.parts) (record {
-  adds = so.moved.adds;
-  canonical = so.moved.canonical;
-  levels = so.moved.levels start.levels (sym (append-nil start.levels)) ∙ append-nil start.levels;
-  bare = so.moved.bare;
-})
+runs_out most in_flow start now all numbers so =
+    subst (λ (events : List Event). WasGiven start events now) (sym (append-nil so.given) ∙ so.parts)
+    (leaves_same start now so.given (start.levels ++ []) start.levels (append-nil start.levels) (so_given most in_flow start now all numbers [] so))

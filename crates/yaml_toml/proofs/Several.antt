@@ -1,9 +1,9 @@
 -- The streams of several documents of TOML, and what is read in them.
-use Rattle.yaml_json.proofs.Common.{ℕ, flat_map, None, Some, Option, Bool, true, false, not, List, [], map, ◌++◌, ◌∷◌, refl, ◌≡◌, append-nil, append_assoc, ap}
-use Rattle.yaml_json.proofs.Common.{subst, sym, ◌∙◌}
-use Rattle.yaml_json.proofs.Common.{and_from, not_from_false, list_any, list_all, unwrap_or, Event, Document, Documents, no_documents, documents_and, Stream}
-use Rattle.yaml_json.proofs.Common.{directives_in_force}
-use Rattle.yaml_json.proofs.Common.{opening, closing, has_scalar_texts, IsAccepted, Settings, Effective, Tree, StandsTaken, node_tree}
+use Rattle.yaml_toml.proofs.Common.{ℕ, flat_map, None, Some, Option, Bool, true, false, not, List, [], map, ◌++◌, ◌∷◌, refl, ◌≡◌, append-nil, append_assoc, ap}
+use Rattle.yaml_toml.proofs.Common.{subst, sym, ◌∙◌}
+use Rattle.yaml_toml.proofs.Common.{and_from, not_from_false, list_any, list_all, unwrap_or, Event, Document, Documents, no_documents, documents_and, Stream}
+use Rattle.yaml_toml.proofs.Common.{directives_in_force}
+use Rattle.yaml_toml.proofs.Common.{opening, closing, has_scalar_texts, IsAccepted, Settings, Effective, Tree, StandsTaken, node_tree}
 use Rattle.yaml_base.proofs.Common.{stream_start, stream_end, document_end, document_events, documents_events, stream_events, and_right, or_from, option_map}
 use Rattle.yaml_base.proofs.Common.{tree_of}
 use Rattle.yaml_base.proofs.Common.{is_explicit, is_written_as_nothing, loses_document, document_has_flow_indicator, all_read_alike, reads_alike}
@@ -12,8 +12,8 @@ use Rattle.yaml_base.proofs.Common.{stream_trees, root_place, settings_for, Docu
 use Rattle.yaml_base.proofs.Trees.{tree_of-stream_events}
 use Rattle.yaml_base.proofs.{stream_documents.StreamWholeReads.document_trees, stream_nodes.StreamAgrees.document_tree}
 use Rattle.yaml_emitter.proofs.layouts.StreamsReadBack.{stream_found}
-use Rattle.yaml_json.proofs.JsonReads.{IsWhole, stream_whole, whole_by_either}
-use Rattle.yaml_json.specs.Means.{plain_document}
+use Rattle.yaml_writer.proofs.WholeStreams.{IsWhole, stream_whole, whole_by_either}
+use Rattle.yaml_writer.specs.Means.{plain_document}
 use Rattle.yaml_writer.proofs.Common.{plain_start}
 use Rattle.toml_ordered.specs.Data as toml
 use Rattle.yaml_toml.specs.Events.{toml_events}

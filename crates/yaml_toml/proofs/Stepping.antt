@@ -1,13 +1,13 @@
 -- The calls of a walk over a document, from what the calls of its writer and of its list do.
-use Rattle.yaml_json.proofs.Common.{◌≡◌, ℕ, suc, length, ◌+◌, ◌<◌, ◌≤◌, arith, ◌∷◌, ◌++◌, [], List, Bool, Result, Ok, Err, OnOk, refl, ap, subst, sym, ◌∙◌}
-use Rattle.yaml_json.proofs.Common.{append_assoc, Event, Scalar, scalar, WriterState, WroteEvent, start_event, end_event}
+use Rattle.yaml_toml.proofs.Common.{◌≡◌, ℕ, suc, length, ◌+◌, ◌<◌, ◌≤◌, arith, ◌∷◌, ◌++◌, [], List, Bool, Result, Ok, Err, OnOk, refl, ap, subst, sym, ◌∙◌}
+use Rattle.yaml_toml.proofs.Common.{append_assoc, Event, Scalar, scalar, WriterState, WroteEvent, start_event, end_event}
 use Rattle.std.specs.Prelude.{◌↔◌, max, pred}
 use Rattle.toml_ordered.specs.Data.{TomlNode}
 use Rattle.toml_ordered.specs.declared.tree.Origin.{Origin}
 use Rattle.yaml_base.specs.declared.errors.yaml_error_t.{yaml_error_t}
 use Rattle.yaml_base.specs.declared.kinds.CollectionKind.{CollectionKind}
 use Rattle.yaml_base.specs.declared.kinds.CollectionKind.TheVariants.{Mapping, Sequence}
-use Rattle.yaml_json.proofs.WroteLemmas.{on_ok}
+use Rattle.yaml_writer.proofs.GivenLemmas.{on_ok}
 use Rattle.yaml_toml.specs.Depth.{toml_nesting}
 use Rattle.yaml_toml.specs.Events.{toml_events}
 use Rattle.yaml_toml.specs.Fitting.{NodeFits, PendingFits, RestFits, rest_nesting}

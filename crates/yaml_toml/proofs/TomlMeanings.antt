@@ -1,21 +1,20 @@
 -- What the tree of a TOML value means, wherever each scalar stands.
-use Rattle.yaml_json.proofs.Common.{ℕ, Option, None, Some, codes, Bool, false, true, List, [], ◌++◌, ◌∷◌, refl, ◌≡◌, if◌then◌else◌, is_some}
-use Rattle.yaml_json.proofs.Common.{append-nil, append_assoc, ap, subst, sym, ◌∙◌, and_parts, chars, node_tree, Text}
-use Rattle.yaml_json.proofs.Common.{plain, Scalar, scalar_tag, collection_tag, scalar_node, Nodes, Pairs, no_nodes, nodes_and, no_pairs}
-use Rattle.yaml_json.proofs.Common.{pairs_and, Effective, is_empty, is_plain, Tree, JsonNumber, is_json_number, is_json_integer, number_in, fraction_or_default}
-use Rattle.yaml_json.proofs.Common.{yaml_number, resolved_by_core, resolved_by_11, int_tag, text_content, collection_in, float_tag, number_tag}
+use Rattle.yaml_toml.proofs.Common.{Option, None, Some, codes, Bool, false, true, List, [], ◌++◌, ◌∷◌, refl, ◌≡◌, if◌then◌else◌, is_some}
+use Rattle.yaml_toml.proofs.Common.{append-nil, append_assoc, ap, subst, sym, ◌∙◌, and_parts, chars, node_tree, Text}
+use Rattle.yaml_toml.proofs.Common.{plain, Scalar, scalar_tag, scalar_node, Nodes, Pairs, no_nodes, nodes_and, no_pairs}
+use Rattle.yaml_toml.proofs.Common.{pairs_and, Effective, is_empty, is_plain, Tree}
+use Rattle.yaml_toml.proofs.Common.{int_tag, text_content, collection_in, float_tag}
 use Rattle.yaml_base.proofs.Common.{TagDirective, as_item, as_key, as_value, Place, has_no_nodes, has_no_pairs, is_simple, is_simple_at, charset_of}
 use Rattle.yaml_base.proofs.Common.{style_asked_at, choice_of}
 use Rattle.yaml_base.proofs.Common.{allowed_under, is_written_in_flow, entry_place, allowances, chosen, stood_plain, stood_quoted, Tagging, without_tag}
 use Rattle.yaml_base.proofs.Common.{sequence_tree, mapping_tree}
-use Rattle.yaml_base.proofs.Common.{mapping_node, json_value, number_meant, means_number, meant_integer, meant_decimal, signed, digits_value}
-use Rattle.yaml_base.{proofs.JsonSpelling.spelling_keeps_value, specs.values.JsonNumbers.value_with}
+use Rattle.yaml_base.proofs.Common.{mapping_node, meant_integer}
 use Rattle.yaml_base.proofs.PlainUnderQuotes.{plain_under}
 use Rattle.yaml_base.proofs.stream_nodes.StreamAgrees.{tagging_in, nodes_tree, pairs_tree}
-use Rattle.json.specs.Json as json
-use Rattle.yaml_json.proofs.Meanings.{ReadsScalars, reads_by_11, reads_by_core, word_means, node_means as json_means}
-use Rattle.yaml_json.specs.Means.{canonical_tag, trees_in_order, pairs_in_order, MeansText}
-use Rattle.yaml_writer.proofs.{PlainNumbers.written_numbers, DateLemmas.dates_read, DateLemmas.dates_plain, TimeLemmas.timestamps_read}
+use Rattle.yaml_writer.proofs.ScalarMeanings.{IsPlainWord, ReadsScalars, flag_at, number_at, plain_word, reads_by_11, reads_by_core, text_at}
+use Rattle.yaml_writer.proofs.ScalarMeanings.{untagged, word_at}
+use Rattle.yaml_writer.specs.Means.{canonical_tag, trees_in_order, pairs_in_order}
+use Rattle.yaml_writer.proofs.{DateLemmas.dates_read, DateLemmas.dates_plain, FloatLemmas.special_floats_read, TimeLemmas.timestamps_read}
 use Rattle.yaml_writer.specs.Dates.{CalendarDate, date_text, is_calendar_date}
 use Rattle.yaml_writer.specs.Times.{Moment, ClockTime, is_moment, moment_in, timestamp_text}
 use Rattle.yaml_writer.specs.Floats.{special_text, special_meaning}
@@ -27,7 +26,7 @@ use Rattle.toml_datetime.specs.Text.{datetime_text}
 use Rattle.toml_datetime.specs.declared.datetime.Datetime.{Datetime}
 use Rattle.toml_ordered.specs.Data as toml
 use Rattle.yaml_writer.specs.TomlDates.{moment_of}
-use Rattle.yaml_toml.specs.Events.{json_word, integer_content, decimal_content, infinite, special_content, moment_content, date_content}
+use Rattle.yaml_toml.specs.Events.{json_word, infinite, moment_content, date_content}
 use Rattle.yaml_toml.specs.Means.{SchemaReader, by_11, by_core, IsDated, MeansDate, MeansToml, ItemsMeanToml, KeysMean}
 use Rattle.yaml_toml.specs.Walk.{HasNumbers, ItemsHaveNumbers, KeysHaveNumbers}
 use Rattle.yaml_toml.proofs.Moments.{valid_moment, core_date}
@@ -40,104 +39,27 @@ pub record ReadsToml (reader : SchemaReader) : Type 0 where
   pub specials : (value : SpecialFloat) → reader.schema (special_text value) ≡ special_meaning value
   pub dates : (date : CalendarDate) → is_calendar_date date ≡ true → reader.schema (date_text date) ≡ reader.date
 
-specials_11 : (value : SpecialFloat) → resolved_by_11 (special_text value) ≡ special_meaning value
-specials_11 Infinity = refl
-specials_11 NegativeInfinity = refl
-specials_11 NotANumber = refl
-
-specials_core : (value : SpecialFloat) → resolved_by_core (special_text value) ≡ special_meaning value
-specials_core Infinity = refl
-specials_core NegativeInfinity = refl
-specials_core NotANumber = refl
-
 pub toml_by_11 : ReadsToml by_11
-toml_by_11 = record { reads = reads_by_11; specials = specials_11; dates = λ date valid. (dates_read date valid).0 }
+toml_by_11 = record { reads = reads_by_11; specials = λ value. (special_floats_read value).0; dates = λ date valid. (dates_read date valid).0 }
 
 pub toml_by_core : ReadsToml by_core
-toml_by_core = record { reads = reads_by_core; specials = specials_core; dates = core_date }
+toml_by_core = record { reads = reads_by_core; specials = λ value. (special_floats_read value).1; dates = core_date }
 
 -- ---- words that stand plain
 
-abbrev stands : Text → (unicode breaks12 flow simple : Bool) → Bool
-stands word unicode breaks12 flow simple =
-    is_plain (chosen (allowances (record { unicode = unicode; breaks12 = breaks12 }) word) plain (is_empty word) false true true flow simple false).style
-
-special_plain : (value : SpecialFloat) (unicode breaks12 flow simple : Bool) → stands (special_text value) unicode breaks12 flow simple ≡ true
-special_plain Infinity true true true true = refl
-special_plain Infinity true true true false = refl
-special_plain Infinity true true false true = refl
-special_plain Infinity true true false false = refl
-special_plain Infinity true false true true = refl
-special_plain Infinity true false true false = refl
-special_plain Infinity true false false true = refl
-special_plain Infinity true false false false = refl
-special_plain Infinity false true true true = refl
-special_plain Infinity false true true false = refl
-special_plain Infinity false true false true = refl
-special_plain Infinity false true false false = refl
-special_plain Infinity false false true true = refl
-special_plain Infinity false false true false = refl
-special_plain Infinity false false false true = refl
-special_plain Infinity false false false false = refl
-special_plain NegativeInfinity true true true true = refl
-special_plain NegativeInfinity true true true false = refl
-special_plain NegativeInfinity true true false true = refl
-special_plain NegativeInfinity true true false false = refl
-special_plain NegativeInfinity true false true true = refl
-special_plain NegativeInfinity true false true false = refl
-special_plain NegativeInfinity true false false true = refl
-special_plain NegativeInfinity true false false false = refl
-special_plain NegativeInfinity false true true true = refl
-special_plain NegativeInfinity false true true false = refl
-special_plain NegativeInfinity false true false true = refl
-special_plain NegativeInfinity false true false false = refl
-special_plain NegativeInfinity false false true true = refl
-special_plain NegativeInfinity false false true false = refl
-special_plain NegativeInfinity false false false true = refl
-special_plain NegativeInfinity false false false false = refl
-special_plain NotANumber true true true true = refl
-special_plain NotANumber true true true false = refl
-special_plain NotANumber true true false true = refl
-special_plain NotANumber true true false false = refl
-special_plain NotANumber true false true true = refl
-special_plain NotANumber true false true false = refl
-special_plain NotANumber true false false true = refl
-special_plain NotANumber true false false false = refl
-special_plain NotANumber false true true true = refl
-special_plain NotANumber false true true false = refl
-special_plain NotANumber false true false true = refl
-special_plain NotANumber false true false false = refl
-special_plain NotANumber false false true true = refl
-special_plain NotANumber false false true false = refl
-special_plain NotANumber false false false true = refl
-special_plain NotANumber false false false false = refl
+special_plain : (value : SpecialFloat) → IsPlainWord (special_text value)
+special_plain Infinity = plain_word (codes ".inf") refl
+special_plain NegativeInfinity = plain_word (codes "-.inf") refl
+special_plain NotANumber = plain_word (codes ".nan") refl
 
 special_tagged : (value : SpecialFloat) → float_tag ≡ canonical_tag (special_meaning value)
 special_tagged Infinity = refl
 special_tagged NegativeInfinity = refl
 special_tagged NotANumber = refl
 
-number_plain : (parts : JsonNumber) → is_json_number parts ≡ true → (unicode breaks12 flow simple : Bool) → stands (yaml_number parts) unicode breaks12 flow simple ≡ true
-number_plain parts valid unicode breaks12 flow simple =
-    ap is_plain (written_numbers parts (record { unicode = unicode; breaks12 = breaks12 }) false true true flow simple valid refl).0
-
-number_tagged : (parts : JsonNumber) → number_tag parts ≡ canonical_tag (number_meant parts)
-number_tagged parts = by (is_json_integer parts)
-  where
-    by : (x : Bool) → (if x then int_tag else float_tag)
-        ≡ canonical_tag (if x then meant_integer (signed parts.negative (digits_value 10 parts.whole)) else meant_decimal
-        (value_with parts (fraction_or_default (codes "0") parts)))
-    by true = refl
-    by false = refl
-
 infinite_meant : (negative : Bool) → special_meaning (infinite negative) ≡ meant_infinity negative
 infinite_meant true = refl
 infinite_meant false = refl
-
--- a collection has no tag in any form
-untagged : (canonical in_flow : Bool) → collection_tag canonical (collection_in in_flow) ≡ None
-untagged true in_flow = refl
-untagged false in_flow = refl
 
 -- ---- dates
 
@@ -172,9 +94,6 @@ module _ (reader : SchemaReader) (reads : ReadsToml reader) (s : Effective) (pla
 -- ---- values
 
 module _ (reader : SchemaReader) (reads : ReadsToml reader) (s : Effective) (directives : List TagDirective) (in_flow : Bool) where
-  abbrev simple_at : Place → Scalar → Bool
-  simple_at place content = is_simple_at place s.canonical directives (scalar_node content)
-
   abbrev ItemsAfter : toml.Items → Nodes → (flow : Bool) → Type 0
   ItemsAfter items before flow =
       (trees : List Tree)
@@ -189,40 +108,29 @@ module _ (reader : SchemaReader) (reads : ReadsToml reader) (s : Effective) (dir
       (pairs_tree before s directives flow) ++ trees)
       × KeysMean reader keys trees
 
-  text_at : (text : List ℕ) (place : Place) → MeansText reader.schema text (node_tree (scalar_node (text_content (chars text))) s directives place)
-  text_at text place = json_means reader.schema reads.reads s directives in_flow (json.string text) tt place
-
   date_at : (date : Datetime) (place : Place) (found : Option Moment) → moment_of date ≡ found
       → MeansDate reader date found (node_tree (scalar_node (date_content s.canonical date found)) s directives place)
-  date_at date place None is = text_at (datetime_text date) place
+  date_at date place None is = text_at reader.schema reads.reads s directives (datetime_text date) place
   date_at date place (Some moment) is =
-      moment_means reader reads s place (simple_at place (moment_content s.canonical moment)) moment (valid_moment date moment is)
+      moment_means reader reads s place (is_simple_at place s.canonical directives (scalar_node (moment_content s.canonical moment))) moment
+      (valid_moment date moment is)
 
   mutual
     pub node_means : (x : toml.TomlNode) → HasNumbers x → (place : Place) → MeansToml reader x (node_tree (toml_node x s.canonical in_flow) s directives place)
-    node_means (toml.string text) numbers place = text_at text place
+    node_means (toml.string text) numbers place = text_at reader.schema reads.reads s directives text place
     node_means (toml.integer z) fits place =
-        word_means reader.schema s place (simple_at place (integer_content s.canonical z)) int_tag (signed_decimal z) (meant_integer z)
-        (integer_read reader.schema reads.reads z fits) refl (integer_plain z fits)
-    node_means (toml.decimal word) is place =
-        let parts = number_in (json_word word) in
-        record {
-          parts = parts;
-          is_number = is;
-          means =
-              ap (means_number (json_value parts))
-              (word_means reader.schema s place (simple_at place (decimal_content s.canonical word)) (number_tag parts) (yaml_number parts) (number_meant parts)
-              (reads.reads.numbers parts is.valid) (number_tagged parts) (number_plain parts is.valid))
-              ∙ spelling_keeps_value parts;
-        }
+        word_at reader.schema reads.reads s directives int_tag (signed_decimal z) (meant_integer z) (integer_read reader.schema reads.reads z fits) refl
+        (integer_plain z fits) place
+    node_means (toml.decimal word) is place = number_at reader.schema reads.reads s directives (json_word word) is place
     node_means (toml.infinity negative) numbers place =
-        word_means reader.schema s place (simple_at place (special_content s.canonical (infinite negative))) float_tag (special_text (infinite negative))
-        (special_meaning (infinite negative)) (reads.specials (infinite negative)) (special_tagged (infinite negative)) (special_plain (infinite negative))
+        let value = infinite negative in
+        word_at reader.schema reads.reads s directives float_tag (special_text value) (special_meaning value) (reads.specials value) (special_tagged value)
+        (special_plain value) place
         ∙ infinite_meant negative
     node_means toml.not_a_number numbers place =
-        word_means reader.schema s place (simple_at place (special_content s.canonical NotANumber)) float_tag (special_text NotANumber)
-        (special_meaning NotANumber) (reads.specials NotANumber) refl (special_plain NotANumber)
-    node_means (toml.boolean flag) numbers place = json_means reader.schema reads.reads s directives in_flow (json.boolean flag) tt place
+        word_at reader.schema reads.reads s directives float_tag (special_text NotANumber) (special_meaning NotANumber) (reads.specials NotANumber) refl
+        (special_plain NotANumber) place
+    node_means (toml.boolean flag) numbers place = flag_at reader.schema reads.reads s directives flag place
     node_means (toml.datetime date) numbers place = date_at date place (moment_of date) refl
     node_means (toml.array items) numbers place =
         let flow = is_written_in_flow s place (collection_in in_flow) (has_no_nodes (items_nodes items s.canonical in_flow no_nodes)) in
@@ -278,5 +186,5 @@ module _ (reader : SchemaReader) (reads : ReadsToml reader) (s : Effective) (dir
         let after = keys_mean keys numbers.1 (pairs_and before named node) flow in (
           pair ∷ after.0,
           after.1 ∙ append_assoc (pairs_in_order (pairs_tree before s directives flow)) (pair ∷ []) after.0,
-          (text_at key key_place, node_means x numbers.0 place, after.2),
+          (text_at reader.schema reads.reads s directives key key_place, node_means x numbers.0 place, after.2),
         )

@@ -1,15 +1,15 @@
 -- Why a writer failed that was given the events of a document.
-use Rattle.yaml_json.proofs.Common.{ℕ, ◌+◌, ◌≤◌, ◌<◌, Option, None, Some, Bool, true, List, [], ◌++◌, ◌∷◌, refl, ◌≡◌, append-nil, append_assoc, inl, inr}
-use Rattle.yaml_json.proofs.Common.{ap, subst, sym, ◌∙◌}
-use Rattle.yaml_json.proofs.Common.{arith, cond, unwrap_or, IfSome, Event, IsPrefix, Settings, State, WriterState, most_open, list_all, is_sound, Stream}
-use Rattle.yaml_json.proofs.Common.{open_count, begins_collection}
-use Rattle.yaml_json.proofs.Common.{opening, closing, StandsTaken}
+use Rattle.yaml_toml.proofs.Common.{ℕ, ◌+◌, ◌≤◌, ◌<◌, Option, None, Some, Bool, true, List, [], ◌++◌, ◌∷◌, refl, ◌≡◌, append-nil, append_assoc, inl, inr}
+use Rattle.yaml_toml.proofs.Common.{ap, subst, sym, ◌∙◌}
+use Rattle.yaml_toml.proofs.Common.{arith, cond, unwrap_or, IfSome, Event, IsPrefix, Settings, State, WriterState, most_open, list_all, is_sound, Stream}
+use Rattle.yaml_toml.proofs.Common.{open_count, begins_collection}
+use Rattle.yaml_toml.proofs.Common.{opening, closing, StandsTaken}
 use Rattle.yaml_base.proofs.Common.{stream_start, stream_events, sum_by-append, count_by, ends_collection}
 use Rattle.yaml_base.specs.declared.errors.{yaml_error_t.yaml_error_t, yaml_error_t.TheVariants.Memory, yaml_error_t.TheVariants.WriteError}
 use Rattle.yaml_base.specs.declared.errors.{yaml_error_t.TheVariants.TooDeep}
 use Rattle.yaml_emitter.proofs.Common.{IsRefusal, StandsAfter}
 use Rattle.yaml_emitter.proofs.standing.{StandingPromises.promises_refusal}
-use Rattle.yaml_json.specs.Failing.{HasErrorSaid}
+use Rattle.yaml_writer.specs.Failing.{HasErrorSaid}
 use Rattle.yaml_writer.proofs.Common.{plain_start}
 use Rattle.yaml_writer.proofs.WhyFailed.{NeverPasses, fails_by, first_passes, overflowed_more, refused_deeper, refused_depth, unfinished_deeper}
 use Rattle.yaml_writer.proofs.WhyFailed.{unfinished_depth}

@@ -1,11 +1,11 @@
 -- The stream of a TOML document, and what is read in it.
-use Rattle.yaml_json.proofs.Common.{ℕ, None, Some, Bool, true, List, [], ◌++◌, ◌∷◌, refl, ◌≡◌, ap, subst, ◌∙◌, and_from, list_all-append, list_all}
-use Rattle.yaml_json.proofs.Common.{Event, has_scalar_texts, IsAccepted, Settings, Effective, directives_in_force, Tree, WriterState, opening, closing}
-use Rattle.yaml_json.proofs.Common.{StandsTaken, node_tree}
+use Rattle.yaml_toml.proofs.Common.{ℕ, None, Some, Bool, true, List, [], ◌++◌, ◌∷◌, refl, ◌≡◌, ap, subst, ◌∙◌, and_from, list_all-append, list_all}
+use Rattle.yaml_toml.proofs.Common.{Event, has_scalar_texts, IsAccepted, Settings, Effective, directives_in_force, Tree, WriterState, opening, closing}
+use Rattle.yaml_toml.proofs.Common.{StandsTaken, node_tree}
 use Rattle.yaml_base.proofs.Common.{stream_trees, root_place, settings_for}
 use Rattle.yaml_emitter.proofs.layouts.StreamsReadBack.{stream_found}
-use Rattle.yaml_json.proofs.JsonReads.{IsWhole, stream_whole, whole_by_either}
-use Rattle.yaml_json.specs.Means.{plain_document}
+use Rattle.yaml_writer.proofs.WholeStreams.{IsWhole, stream_whole, whole_by_either}
+use Rattle.yaml_writer.specs.Means.{plain_document}
 use Rattle.yaml_writer.specs.Writing.{Finishes}
 use Rattle.toml_ordered.specs.Data as toml
 use Rattle.yaml_toml.specs.Events.{toml_events}

@@ -14,7 +14,7 @@ use Rattle.yaml_base.specs.streams.StreamReader.{stream_trees}
 use Rattle.yaml_base.specs.values.Resolved.{Resolved, meant_boolean, meant_integer, meant_infinity, meant_nan, meant_text, meant_timestamp}
 use Rattle.yaml_base.specs.values.SchemaCore.{resolved_by_core}
 use Rattle.yaml_base.specs.values.SchemaOf11.{resolved_by_11}
-use Rattle.yaml_json.specs.Means.{Schema, scalar_meant, trees_in_order, pairs_in_order, MeansNumber, MeansText, plain_document}
+use Rattle.yaml_writer.specs.Means.{Schema, scalar_meant, trees_in_order, pairs_in_order, MeansNumber, MeansText, plain_document}
 use Rattle.yaml_writer.specs.Times.{Moment, moment_in}
 use Rattle.yaml_writer.specs.Writing.{IsStream, opening, closing, timestamp_tag}
 use Rattle.yaml_writer.specs.TomlDates.{moment_of}

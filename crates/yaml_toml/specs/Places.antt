@@ -1,7 +1,7 @@
 -- Where an error says that a text is refused.
 use Rattle.std.specs.Prelude.{ℕ, ◌-◌, List, length, string_bytes}
 use Rattle.toml_ordered.specs.Places.{Conflict, StopsAtExpression}
-use Rattle.yaml_json.specs.Places.{AreOf}
+use Rattle.yaml_writer.specs.Places.{AreOf}
 use Rattle.yaml_toml.specs.Walk.{DeniesToml}
 use Rattle.yaml_toml.specs.declared.error.TomlError.{TomlError}
 use Rattle.yaml_toml.specs.declared.error.TomlError.TheVariants as errors

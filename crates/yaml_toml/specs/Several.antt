@@ -7,9 +7,8 @@ use Rattle.yaml_base.specs.Event.{Event}
 use Rattle.yaml_base.specs.Settings.{Settings}
 use Rattle.yaml_base.specs.streams.StreamContent.{Tree}
 use Rattle.yaml_base.specs.streams.StreamReader.{stream_trees}
-use Rattle.yaml_json.specs.Failing.{between}
-use Rattle.yaml_json.specs.Means.{plain_document}
-use Rattle.yaml_json.specs.Sent.{AddsTaking}
+use Rattle.yaml_writer.specs.WasGiven.{between, AddsTaking}
+use Rattle.yaml_writer.specs.Means.{plain_document}
 use Rattle.yaml_writer.specs.Writing.{Finishes, IsStream, StandsTaken, WriterState, closing, opening}
 use Rattle.yaml_toml.specs.Events.{toml_events}
 use Rattle.yaml_toml.specs.Walk.{KeysHaveNumbers}

@@ -16,9 +16,9 @@ use Rattle.yaml_pen.specs.Wrote.{Grows}
 use Rattle.yaml_base.specs.declared.kinds.CollectionKind.{CollectionKind}
 use Rattle.yaml_base.specs.declared.kinds.CollectionKind.TheVariants.{Mapping, Sequence}
 use Rattle.yaml_base.specs.Prefix.{IsPrefix}
-use Rattle.yaml_json.specs.Failing.{FailedGiving, HasErrorSaid, StaysSound}
+use Rattle.yaml_writer.specs.Failing.{FailedGiving, HasErrorSaid, StaysSound}
+use Rattle.yaml_writer.specs.WasGiven.{GivenLeaving, WasGiven, WroteEvent}
 use Rattle.yaml_writer.specs.Contents.{collection_in}
-use Rattle.yaml_json.specs.Wrote.{IsBare, WasGiven, WroteEvent}
 use Rattle.yaml_writer.specs.NumberParts.{IsNumber, number_in}
 use Rattle.yaml_writer.specs.Writing.{AddsEvents, WriterState}
 use Rattle.yaml_toml.specs.Events.{toml_events, toml_items_events, keys_events, json_word}
@@ -131,12 +131,9 @@ HasInnermost writer kinds kind = (outer : List CollectionKind) × (writer.levels
 
 -- ---- what was given
 
--- these events were given, and these collections are open in place of those
-pub record Moved (was : WriterState) (events : List Event) (before after : List CollectionKind) (now : WriterState) : Type 0 where
-  pub adds : AddsEvents was.emitter events now.emitter
-  pub canonical : now.canonical ≡ was.canonical
-  pub levels : (outer : List CollectionKind) → was.levels ≡ outer ++ before → now.levels ≡ outer ++ after
-  pub bare : IsBare now
+-- these events were given, and these collections are open in place of those, within others
+abbrev pub Moved : WriterState → List Event → (before after : List CollectionKind) → WriterState → Type 0
+Moved was events before after now = (outer : List CollectionKind) → was.levels ≡ outer ++ before → GivenLeaving was events (outer ++ after) now
 
 -- some of the events that were due were given, and the others are pending; where all decimals that are pending are numbers, all that
 -- were due are; less than this is left; no more collections than the most are open meanwhile

@@ -6,7 +6,7 @@ use Rattle.toml_ordered.specs.declared.tree.Origin.TheVariants.{Header}
 use Rattle.yaml_base.specs.Event.{Event, Scalar, scalar}
 use Rattle.yaml_base.specs.declared.errors.yaml_error_t.{yaml_error_t}
 use Rattle.yaml_base.specs.declared.kinds.CollectionKind.{CollectionKind}
-use Rattle.yaml_json.specs.Wrote.{WasGiven, start_event}
+use Rattle.yaml_writer.specs.WasGiven.{WasGiven, start_event}
 use Rattle.yaml_writer.specs.Writing.{WriterState}
 use Rattle.yaml_toml.specs.Depth.{toml_nesting}
 use Rattle.yaml_toml.specs.Events.{toml_events}

@@ -2,7 +2,7 @@
 ghost use Rattle.std.specs.Prelude.{◌≡◌, OnOk, chars, option_map};
 ghost use Rattle.toml_ordered.specs.Data.{node_view};
 ghost use Rattle.yaml_writer.specs.Contents.{text_content};
-ghost use Rattle.yaml_json.specs.Wrote.{IsBare};
+ghost use Rattle.yaml_writer.specs.WasGiven.{IsBare};
 ghost use Rattle.yaml_toml.specs.Events.{date_content, decimal_content, infinite, json_word};
 ghost use Rattle.yaml_toml.specs.Walk.{GivesScalar, IsJsonWord};
 ghost use Rattle.yaml_toml.specs.WalkSteps.{IsNoCollection, WroteScalar};

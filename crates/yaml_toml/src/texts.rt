@@ -1,8 +1,8 @@
 //! TOML documents as YAML.
 ghost use Rattle.std.specs.Prelude.{◌≡◌, ◌-◌, IfSome, length};
 ghost use Rattle.toml_ordered.specs.Places.{IsConflict, place_left};
-ghost use Rattle.yaml_json.specs.Places.{AreOf};
-ghost use Rattle.yaml_json.specs.Wrote.{IsBare};
+ghost use Rattle.yaml_writer.specs.Places.{AreOf};
+ghost use Rattle.yaml_writer.specs.WasGiven.{IsBare};
 ghost use Rattle.yaml_toml.specs.Places.{HasConflict, IsBeforeLeft};
 ghost use Rattle.yaml_toml.specs.Walk.{DeniesToml, fault_error, stop_error, toml_writers_error};
 ghost use Rattle.yaml_toml.specs.WritingCalls.{ReturnsTomlYaml, WritesToml};
@@ -12,7 +12,7 @@ use crate::settings::TomlSettings;
 use crate::walk::{Stop, write_root};
 use std::alloc::{Allocator, Global};
 use toml_ordered::{Fault, read_document};
-use yaml_json::place_of;
+use yaml_base::place_of;
 use yaml_writer::{Writer, yaml_error_t};
 
 /// Returns the line and the column at which this much of a text is left.

@@ -6,7 +6,7 @@ ghost use Rattle.yaml_base.specs.declared.kinds.CollectionKind.TheVariants.{Mapp
 ghost use Rattle.yaml_base.specs.Seen.{seen_mapping_style, seen_sequence_style};
 ghost use Rattle.yaml_base.specs.declared.kinds.CollectionKind.{CollectionKind};
 ghost use Rattle.yaml_writer.specs.Contents.{style_of};
-ghost use Rattle.yaml_json.specs.Wrote.{IsBare, start_event};
+ghost use Rattle.yaml_writer.specs.WasGiven.{IsBare, start_event};
 ghost use Rattle.yaml_toml.specs.Walk.{Answers, HasInnermost, IsOwnMemory, IsStopOf, Moved, kinds_of, rest_kind};
 ghost use Rattle.yaml_toml.specs.WalkSteps.{IsRestOf, RootStep, TomlStep, collection_due, rest_due, value_due, walk_at};
 ghost use Rattle.yaml_toml.specs.declared.walk.Rest.TheVariants as rests;
@@ -118,8 +118,7 @@ fn begin<A: Allocator + Copy>(
 /// Ends the innermost collection.
 fn end_innermost<A: Allocator + Copy>(writer: &mut Writer<A>) -> Result<(), yaml_error_t>
     requires { IsBare writer.old }
-    ensures ended { (outer : List CollectionKind) (kind : CollectionKind) → writer.old.levels ≡ outer ++ kind ∷ []
-        → OnOk result (Moved writer.old (end_event kind ∷ []) (kind ∷ []) [] writer.new) }
+    ensures ended { (kind : CollectionKind) → OnOk result (Moved writer.old (end_event kind ∷ []) (kind ∷ []) [] writer.new) }
     ensures kept { (outer : List CollectionKind) (kind : CollectionKind) → writer.old.levels ≡ outer ++ kind ∷ []
         → Answers writer.old (end_event kind) result writer.new }
 {

@@ -1,13 +1,19 @@
--- How floats are given.
-use Rattle.yaml_writer.proofs.Common.{Result, true, false, ◌≡◌, true≢false, subst, sym, if◌then◌else◌, JsonNumber, WriterState}
+-- How floats are given, and what is read of those that are no numbers.
+use Rattle.yaml_writer.proofs.Common.{refl, Result, true, false, ◌≡◌, true≢false, subst, sym, if◌then◌else◌, JsonNumber, WriterState}
 use Rattle.std.specs.Float.{float_is_finite, float_zero}
 use Rattle.std.specs.Float.Ieee.{Float, Format, nan, inf, fin, lt}
 use Rattle.std.specs.Prelude.{is_nan}
 use Rattle.yaml_base.specs.declared.errors.yaml_error_t.{yaml_error_t}
-use Rattle.yaml_writer.specs.Floats.{GivesFloat, ReadsAsFloat, special_event}
+use Rattle.yaml_writer.specs.Floats.{GivesFloat, ReadsAsFloat, SpecialFloatsAreRead, special_event}
 use Rattle.yaml_writer.specs.Writing.{Gives, number_event}
 use Rattle.yaml_writer.specs.declared.floats.SpecialFloat.{SpecialFloat}
 use Rattle.yaml_writer.specs.declared.floats.SpecialFloat.TheVariants.{Infinity, NegativeInfinity, NotANumber}
+
+-- both schemas read their words
+pub special_floats_read : SpecialFloatsAreRead
+special_floats_read Infinity = (refl, refl)
+special_floats_read NegativeInfinity = (refl, refl)
+special_floats_read NotANumber = (refl, refl)
 
 -- a finite float, by its number
 pub gives_number : (format : Format) (before after : WriterState) (float : Float) (answer : Result (Unit {0}) yaml_error_t) → float_is_finite float ≡ true

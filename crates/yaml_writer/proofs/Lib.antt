@@ -11,11 +11,15 @@ pub mod SpellingLemmas
 pub mod UnchangedSpellings
 pub mod Overflow
 pub mod Taken
+pub mod GivenAndTaken
 pub mod MissingNodes
 pub mod Finishing
+pub mod GivenLemmas
+pub mod WholeStreams
 pub mod WaitingStarts
 pub mod PlainLemmas
 pub mod PlainNumbers
+pub mod ScalarMeanings
 pub mod PlainTagLemmas
 pub mod TypedTrees
 pub mod Pushed

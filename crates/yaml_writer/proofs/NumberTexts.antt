@@ -49,7 +49,7 @@ first_of [] more h = absurd (omega arith)
 first_of (d ∷ digits) more h = h
 
 -- no integer but 0 begins with `0`
-first_digit : (n : ℕ) → n < 10 ^ 64 → 0 < n → 48 < get_or (decimal n) 0 0
+pub first_digit : (n : ℕ) → n < 10 ^ 64 → 0 < n → 48 < get_or (decimal n) 0 0
 first_digit n h = decimal_by_steps_wide (λ (m : ℕ) (digits : Text). 0 < m → 48 < get_or digits 0 0) one more n h
   where
     one : (m : ℕ) → m < 10 → 0 < m → 48 < get_or ((48 + m) ∷ []) 0 0
@@ -66,8 +66,11 @@ whole_decimal : (n : ℕ) → n < 10 ^ 64 → is_whole_part (decimal n) ≡ true
 whole_decimal n h = let digits = decimal_is_IsNumeral_wide n h in whole_is (decimal n) digits.0.0 digits.0.1 (lone_zero n h)
 
 -- an integer by its sign and its digits
-abbrev integer : Bool → Text → JsonNumber
+abbrev pub integer : Bool → Text → JsonNumber
 integer negative digits = record { negative = negative; whole = digits; fraction = None; exponent = None }
+
+pub valid_integer : (negative : Bool) (n : ℕ) → n < 10 ^ 64 → is_json_number (integer negative (decimal n)) ≡ true
+valid_integer negative n h = all_true (is_whole_part (decimal n)) true true (whole_decimal n h) refl refl
 
 nothing_after : (text : Text) → text ≡ text ++ [] ++ []
 nothing_after text = sym (append-nil (text ++ []) ∙ append-nil text)
@@ -76,7 +79,7 @@ pub has_decimal : (n : ℕ) → n < 10 ^ 64 → HasNumber (decimal n)
 has_decimal n h = (
   integer false (decimal n),
   record {
-    valid = all_true (is_whole_part (decimal n)) true true (whole_decimal n h) refl refl;
+    valid = valid_integer false n h;
     text_is = nothing_after (decimal n);
   },
 )
@@ -86,7 +89,7 @@ has_signed (pos n) h = has_decimal n (omega (arith, h))
 has_signed (negsuc n) h = (
   integer true (decimal (suc n)),
   record {
-    valid = all_true (is_whole_part (decimal (suc n))) true true (whole_decimal (suc n) (omega (arith, h))) refl refl;
+    valid = valid_integer true (suc n) (omega (arith, h));
     text_is = nothing_after (45 ∷ decimal (suc n));
   },
 )

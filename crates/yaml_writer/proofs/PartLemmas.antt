@@ -4,10 +4,11 @@ use Rattle.yaml_writer.proofs.Common.{◌++◌, ◌∷◌, refl, ◌≡◌, eqb-
 use Rattle.yaml_writer.proofs.Common.{not_from_false, not-true, list_all-append, list_all, digit_unlike, Text, is_word, JsonExponent, JsonNumber, is_whole_part}
 use Rattle.yaml_writer.proofs.Common.{is_json_number, minus, exponent_text, json_text, is_decimal, are_digits, IsNumber, IsNoNumber, is_fraction, is_exponent}
 use Rattle.yaml_base.proofs.Common.{⊤, slice_index_or as get_or, eq-eqb, ne_eqb, past_sign, is_negative}
-use Rattle.std.proofs.Common.{◌≢◌}
+use Rattle.std.proofs.Common.{◌≢◌, subst}
 use Rattle.yaml_base.proofs.NumberCuts.{minus_read}
 use Rattle.yaml_writer.proofs.ValidNumbers.{Valid, valid_parts}
 use Rattle.yaml_writer.specs.NumberParts.{cut_at_first, past_minus, sign_of, exponent_in, around, exponent_cut, around_point, fraction_cut, number_in}
+use Rattle.yaml_writer.specs.NumberParts.{HasNumber}
 
 -- Cuts
 
@@ -296,6 +297,10 @@ number_found number h =
   where
     valid : Valid number
     valid = valid_parts number h
+
+-- a text that is some number is the one in it
+pub number_in_text : (text : Text) → HasNumber text → IsNumber text (number_in text)
+number_in_text text (number, is) = subst (IsNumber text) (sym (ap number_in is.text_is ∙ number_found number is.valid)) is
 
 -- Both ways
 

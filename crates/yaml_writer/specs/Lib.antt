@@ -8,6 +8,10 @@ pub mod Unfinished
 pub mod Contents
 pub mod Floats
 pub mod Binary
+pub mod WasGiven
+pub mod Failing
+pub mod Means
+pub mod Places
 pub mod Inside
 pub mod PlainTexts
 pub mod ReadNumbers

@@ -1,7 +1,8 @@
 use Rattle.yaml_json.proofs.Common.{None, Some, between, sym}
 use Rattle.std.proofs.Common.{ℕ, List, ◌≡◌, ◌+◌, length, length-append, flat_map, rules, arith, ap, ◌∙◌}
 use Rattle.json.specs.Json.{Json}
-use Rattle.yaml_json.{proofs.TextStops.placed_after, proofs.TextStops.text_stopped, proofs.WroteLemmas.bare_awaits_none, specs.Failing.writers_error}
+use Rattle.yaml_json.{proofs.TextStops.placed_after, proofs.TextStops.text_stopped, specs.Failing.writers_error}
+use Rattle.yaml_writer.proofs.GivenLemmas.{bare_awaits_none}
 use Rattle.yaml_json.proofs.Growing.{grew_itself, grew_then, grew_kept, grew_said, grew_passed, grew_failing}
 use Rattle.yaml_json.proofs.TextsInTurn.{texts_begin, texts_go_on, next_failed, texts_done, texts_names, texts_read, no_more, is_more, some_more}
 use Rattle.yaml_json.proofs.TextsInTurn.{texts_stopped}

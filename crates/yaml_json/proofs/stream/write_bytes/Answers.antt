@@ -1,6 +1,8 @@
 use Rattle.yaml_json.proofs.Common.{List, ℕ, [], refl, subst, sym, tokens}
-use Rattle.yaml_json.proofs.{Growing.grew_itself, Growing.grew_said, GivenAndTaken.part_stopped, TextStops.placed_as, TextStops.placed_first}
-use Rattle.yaml_json.proofs.{TextStops.placed_no_text, TextStops.text_stopped, WroteLemmas.wrote_nothing}
+use Rattle.yaml_json.proofs.{Growing.grew_itself, Growing.grew_said, TextStops.placed_as, TextStops.placed_first}
+use Rattle.yaml_json.proofs.SentParts.{part_stopped}
+use Rattle.yaml_writer.proofs.GivenLemmas.{wrote_nothing}
+use Rattle.yaml_json.proofs.{TextStops.placed_no_text, TextStops.text_stopped}
 use Rattle.std.specs.Prelude.{IsUtf8}
 use Rattle.std.specs.Str.{IsValidUpTo}
 use Rattle.yaml_json.specs.{Failing.writers_error, Sent.StopsInPart, WalkSteps.TextGiven}

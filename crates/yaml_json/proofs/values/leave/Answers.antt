@@ -1,4 +1,4 @@
-use Rattle.yaml_json.proofs.WroteLemmas.{bare_awaits_none}
+use Rattle.yaml_writer.proofs.GivenLemmas.{bare_awaits_none}
 use Rattle.yaml_json.proofs.values.leave.Goals as goal
 
 pub returns-clause-ends : goal.returns-clause-ends

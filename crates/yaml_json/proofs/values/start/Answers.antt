@@ -1,7 +1,7 @@
 use Rattle.yaml_json.proofs.Common.{Event, subst}
 use Rattle.yaml_base.specs.Seen.{seen_sequence_style, seen_mapping_style}
 use Rattle.yaml_base.specs.declared.kinds.CollectionKind.TheVariants.{Mapping, Sequence}
-use Rattle.yaml_json.proofs.WroteLemmas.{sequence_is, mapping_is}
+use Rattle.yaml_writer.proofs.GivenLemmas.{sequence_is, mapping_is}
 use Rattle.yaml_writer.specs.Writing.{Begins}
 use Rattle.yaml_json.proofs.values.start.Goals as goal
 

@@ -3,7 +3,7 @@ use Rattle.yaml_json.proofs.Common.{text_content, text_event, number_event, numb
 use Rattle.json.specs.{Print.IsPrintable, declared.token.Token.Token}
 use Rattle.yaml_json.proofs.Closing.{name_refused, token_refused}
 use Rattle.yaml_json.proofs.{NumberBridge.number_is, WalkCalls.refused_step, WalkCalls.scalar_step}
-use Rattle.yaml_json.proofs.WroteLemmas.{number_event_is, text_is, word_is}
+use Rattle.yaml_writer.proofs.GivenLemmas.{number_event_is, text_is, word_is}
 use Rattle.yaml_json.specs.WalkSteps.{TokenStep, at}
 use Rattle.yaml_json.specs.declared.values.Spot.TheVariants.{At, PastString}
 use Rattle.yaml_writer.specs.Writing.{bool_event, null_event}

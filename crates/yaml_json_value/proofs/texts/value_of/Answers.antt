@@ -1,6 +1,6 @@
 use Rattle.std.proofs.Common.{◌≡◌, Err, List, ℕ, rules, subst, ◌∙◌}
 use Rattle.yaml_value.specs.SeenValues.{seen_value}
-use Rattle.yaml_json.specs.Places.{AreOf}
+use Rattle.yaml_writer.specs.Places.{AreOf}
 use Rattle.yaml_json_value.specs.Typed.{typed_value}
 use Rattle.yaml_json_value.specs.Walked.{IsRoot, StopsAtOther}
 use Rattle.yaml_json_value.specs.declared.error.Stop.{Stop}

@@ -1,7 +1,7 @@
-use Rattle.yaml_json.proofs.Common.{◌≡◌, ℕ, List, Option, scalar, chars, ap, ◌∙◌, text_content, text_event, arith}
+use Rattle.yaml_toml.proofs.Common.{◌≡◌, ℕ, List, Option, scalar, chars, ap, ◌∙◌, text_content, text_event, arith}
 use Rattle.std.proofs.lemmas.Grind.{common_steps}
 use Rattle.toml_datetime.specs.Text.{datetime_text}
-use Rattle.yaml_json.proofs.WroteLemmas.{text_is}
+use Rattle.yaml_writer.proofs.GivenLemmas.{text_is}
 use Rattle.yaml_toml.proofs.Answering.{gives_scalar, scalar_memory, timestamp_is}
 use Rattle.yaml_writer.specs.TomlDates.{moment_of}
 use Rattle.yaml_toml.specs.Events.{date_content}

@@ -1,5 +1,5 @@
-use Rattle.yaml_json.proofs.Common.{List, ℕ, ap, ◌∙◌, scalar, number_content, number_event}
-use Rattle.yaml_json.proofs.WroteLemmas.{number_event_is}
+use Rattle.yaml_toml.proofs.Common.{List, ℕ, ap, ◌∙◌, scalar, number_content, number_event}
+use Rattle.yaml_writer.proofs.GivenLemmas.{number_event_is}
 use Rattle.yaml_writer.specs.NumberParts.{number_in}
 use Rattle.yaml_toml.specs.Events.{decimal_content}
 use Rattle.yaml_toml.proofs.Answering.{gives_scalar, scalar_memory}

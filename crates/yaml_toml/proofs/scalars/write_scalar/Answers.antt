@@ -1,5 +1,5 @@
-use Rattle.yaml_json.proofs.Common.{◌∷◌, [], ℕ, List, refl, ap, subst, ◌∙◌, scalar, chars, text_content, bool_content, bool_tag, bool_text, int_tag, float_tag}
-use Rattle.yaml_json.proofs.WroteLemmas.{always, on_ok, word_is}
+use Rattle.yaml_toml.proofs.Common.{◌∷◌, [], ℕ, List, refl, ap, subst, ◌∙◌, scalar, chars, text_content, bool_content, bool_tag, bool_text, int_tag, float_tag}
+use Rattle.yaml_writer.proofs.GivenLemmas.{always, on_ok, word_is}
 use Rattle.std.specs.Prelude.{string_bytes, FitsSigned}
 use Rattle.std.proofs.Common.{ℤ, rules, w64}
 use Rattle.std.proofs.lemmas.Int.{to_z-of_z}

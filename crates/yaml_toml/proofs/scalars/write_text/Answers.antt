@@ -1,5 +1,5 @@
-use Rattle.yaml_json.proofs.Common.{chars, text_content, text_event}
-use Rattle.yaml_json.proofs.WroteLemmas.{text_is}
+use Rattle.yaml_toml.proofs.Common.{chars, text_content, text_event}
+use Rattle.yaml_writer.proofs.GivenLemmas.{text_is}
 use Rattle.yaml_toml.proofs.Answering.{gives_scalar}
 use Rattle.yaml_toml.proofs.scalars.write_text.Goals as goal
 

@@ -1,8 +1,8 @@
-use Rattle.yaml_json.proofs.Common.{◌≡◌, Option, Some, subst, sym}
+use Rattle.yaml_toml.proofs.Common.{◌≡◌, Option, Some, subst, sym}
 use Rattle.toml_ordered.specs.Data.{entries_view}
 use Rattle.toml_ordered.specs.Grammar.{ordered_document}
 use Rattle.yaml_base.specs.declared.errors.{yaml_error_t.yaml_error_t}
-use Rattle.yaml_json.specs.Failing.{HasErrorSaid}
+use Rattle.yaml_writer.specs.Failing.{HasErrorSaid}
 use Rattle.yaml_pen.proofs.Composing.{grows_itself}
 use Rattle.yaml_toml.proofs.WhyFailed.{stops_read, stops_unread}
 use Rattle.yaml_toml.proofs.Fitting.{fault_explained, stop_explained}

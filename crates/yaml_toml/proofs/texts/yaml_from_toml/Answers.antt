@@ -1,5 +1,5 @@
-use Rattle.yaml_json.proofs.Common.{refl, inl}
-use Rattle.yaml_json.proofs.WroteLemmas.{bare_awaits_none}
+use Rattle.yaml_toml.proofs.Common.{refl, inl}
+use Rattle.yaml_writer.proofs.GivenLemmas.{bare_awaits_none}
 use Rattle.yaml_toml.proofs.WhyFailed.{finish_failed, text_failed}
 use Rattle.yaml_emitter.specs.Given.{seen_settings}
 use Rattle.yaml_toml.proofs.YamlOf.{yaml_of}

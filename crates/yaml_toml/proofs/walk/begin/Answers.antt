@@ -1,6 +1,6 @@
-use Rattle.yaml_json.proofs.Common.{refl, with_collection, start_event, mapping_event, sequence_event}
+use Rattle.yaml_toml.proofs.Common.{refl, with_collection, start_event, mapping_event, sequence_event}
 use Rattle.yaml_base.specs.Seen.{seen_sequence_style, seen_mapping_style}
-use Rattle.yaml_json.proofs.WroteLemmas.{on_ok, sequence_is, mapping_is}
+use Rattle.yaml_writer.proofs.GivenLemmas.{on_ok, sequence_is, mapping_is}
 use Rattle.yaml_base.specs.declared.kinds.CollectionKind.TheVariants.{Mapping, Sequence}
 use Rattle.yaml_toml.proofs.Answering.{answers_event, moved_start}
 use Rattle.yaml_writer.proofs.Taken.{begins_ok, begins_err}

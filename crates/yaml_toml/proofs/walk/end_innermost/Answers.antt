@@ -1,4 +1,4 @@
-use Rattle.yaml_json.proofs.WroteLemmas.{bare_awaits_none}
+use Rattle.yaml_writer.proofs.GivenLemmas.{bare_awaits_none}
 use Rattle.yaml_toml.proofs.Answering.{answers_end, on_end}
 use Rattle.yaml_toml.proofs.walk.end_innermost.Goals as goal
 
@@ -8,6 +8,6 @@ returns g c =
     let after = c.end.new.self in
     let ends = c.end.ensures.ended (bare_awaits_none writer c.requires) in
     record {
-      ended = λ outer kind levels. on_end writer after c.end.result outer kind levels c.requires ends;
+      ended = λ kind. on_end writer after c.end.result kind c.requires ends;
       kept = λ outer kind levels. answers_end writer after c.end.result outer kind levels ends;
     }

@@ -1,4 +1,4 @@
-use Rattle.yaml_json.proofs.Common.{arith}
+use Rattle.yaml_toml.proofs.Common.{arith}
 use Rattle.std.proofs.lemmas.Grind.{common_steps}
 use Rattle.yaml_toml.specs.WalkSteps.{collection_due}
 use Rattle.yaml_toml.proofs.Stepping.{step_enter, step_memory}

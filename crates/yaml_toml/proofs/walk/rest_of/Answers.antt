@@ -1,4 +1,4 @@
-use Rattle.yaml_json.proofs.Common.{List, ℕ, ap, sym, ◌∙◌}
+use Rattle.yaml_toml.proofs.Common.{List, ℕ, ap, sym, ◌∙◌}
 use Rattle.std.specs.Prelude.{String}
 use Rattle.std.specs.declared.alloc.Global.{Global}
 use Rattle.toml_ordered.specs.Data as toml

@@ -1,4 +1,4 @@
-use Rattle.yaml_json.proofs.Common.{◌≡◌, ◌∷◌, ◌++◌, [], ◌+◌, List, refl, ap, subst, sym, ◌∙◌, append_assoc, arith}
+use Rattle.yaml_toml.proofs.Common.{◌≡◌, ◌∷◌, ◌++◌, [], ◌+◌, List, refl, ap, subst, sym, ◌∙◌, append_assoc, arith}
 use Rattle.std.proofs.lemmas.Grind.{common_steps}
 use Rattle.toml_ordered.specs.Data.{items_view, node_view}
 use Rattle.toml_ordered.specs.declared.tree.Node.{Node as CodeNode}
@@ -23,7 +23,7 @@ returns-in-None g c =
     step_end s was c.end_innermost.new.writer opened (rest.Items a.items) c.end_innermost.result c.stop_of.result
     (ap (λ (xs : List CodeNode). items_left was.canonical s.flow xs) none) (subst (λ (xs : List CodeNode). ItemsHaveNumbers (items_view xs)) none tt)
     (ap (λ (xs : List CodeNode). 1 + items_size (items_view xs)) none) (ap (λ (xs : List CodeNode). items_nesting (items_view xs)) none) c.stop_of.ensures
-    (c.end_innermost.ensures.kept (outer ++ kinds_of opened) Sequence within) (c.end_innermost.ensures.ended (outer ++ kinds_of opened) Sequence within)
+    (c.end_innermost.ensures.kept (outer ++ kinds_of opened) Sequence within) (c.end_innermost.ensures.ended Sequence)
 
 pub returns-in-Err : goal.returns-in-Err
 returns-in-Err g c =

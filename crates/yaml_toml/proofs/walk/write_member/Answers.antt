@@ -1,5 +1,5 @@
-use Rattle.yaml_json.proofs.Common.{◌≡◌, ◌∷◌, ◌++◌, [], ◌+◌, ℕ, List, Result, refl, ap, subst, sym, ◌∙◌, append_assoc, arith, Event}
-use Rattle.yaml_json.proofs.Common.{scalar, chars, text_content}
+use Rattle.yaml_toml.proofs.Common.{◌≡◌, ◌∷◌, ◌++◌, [], ◌+◌, ℕ, List, Result, refl, ap, subst, sym, ◌∙◌, append_assoc, arith, Event}
+use Rattle.yaml_toml.proofs.Common.{scalar, chars, text_content}
 use Rattle.std.proofs.lemmas.Grind.{common_steps}
 use Rattle.std.specs.Prelude.{String, string_bytes}
 use Rattle.std.specs.declared.alloc.Global.{Global}
@@ -31,7 +31,7 @@ returns-in-None g c =
     step_end s was c.end_innermost.new.writer opened (rest.Members a.keys) c.end_innermost.result c.stop_of.result
     (ap (λ (ms : List Entry). keys_left was.canonical s.flow ms) none) (subst (λ (ms : List Entry). KeysHaveNumbers (entries_view ms)) none tt)
     (ap (λ (ms : List Entry). 1 + keys_size (entries_view ms)) none) (ap (λ (ms : List Entry). keys_nesting (entries_view ms)) none) c.stop_of.ensures
-    (c.end_innermost.ensures.kept (outer ++ kinds_of opened) Mapping within) (c.end_innermost.ensures.ended (outer ++ kinds_of opened) Mapping within)
+    (c.end_innermost.ensures.kept (outer ++ kinds_of opened) Mapping within) (c.end_innermost.ensures.ended Mapping)
 
 pub returns-in-Err : goal.returns-in-Err
 returns-in-Err g c =

@@ -1,5 +1,5 @@
-use Rattle.yaml_json.proofs.Common.{◌≡◌, ◌∷◌, ◌++◌, [], List, refl, ap, subst, sym, ◌∙◌, append_assoc, mapping_start, mapping_end, sequence_end}
-use Rattle.yaml_json.proofs.Common.{collection_in, arith, Event}
+use Rattle.yaml_toml.proofs.Common.{◌≡◌, ◌∷◌, ◌++◌, [], List, refl, ap, subst, sym, ◌∙◌, append_assoc, mapping_start, mapping_end, sequence_end}
+use Rattle.yaml_toml.proofs.Common.{collection_in, arith, Event}
 use Rattle.std.proofs.lemmas.List.{nil_from_length}
 use Rattle.std.specs.Prelude.{max, suc}
 use Rattle.toml_ordered.specs.Data.{items_view, entries_view, node_view}

@@ -1,4 +1,4 @@
-use Rattle.yaml_json.proofs.Common.{◌≡◌, ◌+◌, [], ℕ, List, Result, Ok, Err, Event, WriterState, subst, ap, sym, arith}
+use Rattle.yaml_toml.proofs.Common.{◌≡◌, ◌+◌, ◌++◌, ◌∷◌, [], ℕ, List, Result, Ok, Err, Event, WriterState, subst, ap, sym, arith}
 use Rattle.std.specs.Prelude.{String}
 use Rattle.std.specs.declared.alloc.Global.{Global}
 use Rattle.toml_ordered.specs.Data.{TomlNodes, entries_view, table}
@@ -14,7 +14,7 @@ use Rattle.yaml_toml.specs.declared.walk.Stop.{Stop}
 use Rattle.yaml_toml.proofs.Answering.{kept_then}
 use Rattle.yaml_toml.proofs.Pending.{size-push}
 use Rattle.yaml_toml.proofs.Fitting.{DocumentFits, nests_on, nests_stopped}
-use Rattle.yaml_toml.proofs.Running.{Running, innermost, runs_first, runs_on, runs_out, runs_stopped, stopped_first}
+use Rattle.yaml_toml.proofs.Running.{Running, innermost, runs_first, runs_on, runs_out, runs_stopped, so_given, stopped_first}
 use Rattle.yaml_toml.proofs.Stepping.{step_begun}
 use Rattle.yaml_toml.proofs.walk.write_root.Goals as goal
 
@@ -56,6 +56,17 @@ write_rest-requires-clause-innermost g c =
     let depth = c.args.settings.now.depth in
     let so = subst (λ (opened : List Rest). Running depth flow start all numbers c.rests.writer opened) c.in-Some.ensures c.rests.invariant.1 in
     innermost depth flow start c.rests.writer c.rests.writer all numbers left left c.in-Some.rest so
+
+pub write_rest-requires-clause-bare : goal.write_rest-requires-clause-bare
+write_rest-requires-clause-bare g c =
+    let start = c.args.writer.now in
+    let flow = c.args.settings.now.flow in
+    let all : List Event = toml_events start.canonical flow (table Header (entries_view c.args.root.now.items)) in
+    let numbers : Type 0 = KeysHaveNumbers (entries_view c.args.root.now.items) in
+    let left = c.take_innermost.new.opened.items in
+    let depth = c.args.settings.now.depth in
+    let so = subst (λ (opened : List Rest). Running depth flow start all numbers c.rests.writer opened) c.in-Some.ensures c.rests.invariant.1 in
+    (so_given depth flow start c.rests.writer all numbers (left ++ c.in-Some.rest ∷ []) so).bare
 
 pub rests-smaller : goal.rests-smaller
 rests-smaller g c =

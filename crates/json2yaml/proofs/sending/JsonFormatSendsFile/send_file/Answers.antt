@@ -1,5 +1,5 @@
 use Rattle.std.proofs.Common.{ℕ, Option, List, Some, IfSome, ◌≡◌, subst}
-use Rattle.yaml_json.proofs.WroteLemmas.{bare_awaits_none}
+use Rattle.yaml_writer.proofs.GivenLemmas.{bare_awaits_none}
 use Rattle.json2yaml.specs.Conversions.{SentJsonFile}
 use Rattle.json2yaml.proofs.sending.JsonFormatSendsFile.send_file.Goals as goal
 

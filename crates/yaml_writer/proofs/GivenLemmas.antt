@@ -1,11 +1,14 @@
 -- What a writer was given, call by call.
-use Rattle.yaml_json.proofs.Common.{ℕ, is_none, IfErr, OnOk, Option, Result, Err, Ok, Bool, false, List, [], ◌++◌, ◌∷◌, refl, ◌≡◌}
-use Rattle.yaml_json.proofs.Common.{inl, inr, ap, ap₂, subst, sym, ◌∙◌, Text, ScalarStyle, plain, Event, scalar, sequence_start, mapping_start}
-use Rattle.yaml_json.proofs.Common.{JsonNumber, yaml_number, State, word_content, number_content, text_content, collection_in, IsBare, WasGiven, WroteEvent}
-use Rattle.yaml_json.proofs.Common.{start_event, number_found, number_in, IsNumber, WriterState, number_tag, number_event, text_style, text_event}
-use Rattle.yaml_json.proofs.Common.{mapping_event, sequence_event, end_event, with_collection, AddsEvents, GaveEvent, EndsInnermost}
+use Rattle.yaml_writer.proofs.Common.{ℕ, is_none, IfErr, OnOk, Option, Result, Err, Ok, Bool, false, List, [], ◌++◌, ◌∷◌, refl, ◌≡◌, inr, ap, ap₂}
+use Rattle.yaml_writer.proofs.Common.{subst, sym, ◌∙◌, Text, plain, Event, scalar, sequence_start, mapping_start, JsonNumber, yaml_number, State}
+use Rattle.yaml_writer.proofs.Common.{IsNumber, WriterState, end_event, AddsEvents, GaveEvent}
+use Rattle.yaml_base.proofs.Common.{inl, ScalarStyle}
+use Rattle.yaml_writer.specs.WasGiven.{GivenLeaving, IsBare, WasGiven, WroteEvent, start_event}
+use Rattle.yaml_writer.proofs.PartLemmas.{number_found}
+use Rattle.yaml_writer.specs.NumberParts.{number_in}
+use Rattle.yaml_writer.specs.Writing.{number_tag, number_event, text_style, text_event, mapping_event, sequence_event, with_collection, EndsInnermost}
 use Rattle.yaml_base.specs.Event.{CollectionStyle}
-use Rattle.yaml_writer.specs.Contents.{style_of}
+use Rattle.yaml_writer.specs.Contents.{style_of, word_content, number_content, text_content, collection_in}
 use Rattle.yaml_writer.proofs.Finishing.{nothing_awaited}
 use Rattle.yaml_writer.specs.Writing.{tag_or_default, word_event, awaits_node}
 use Rattle.yaml_base.specs.declared.kinds.CollectionKind.{CollectionKind}
@@ -47,15 +50,26 @@ pub adds_then : (before between after : State) (first second : List Event) → A
     → AddsEvents before (first ++ second) after
 adds_then before between after first second one other = moves_then one other
 
-pub wrote_then : (before between after : WriterState) (first second : List Event) → WasGiven before first between → WasGiven between second after
-    → WasGiven before (first ++ second) after
-wrote_then before between after first second one other =
+pub gave_then : (before between after : WriterState) (first second : List Event) (middle opened : List CollectionKind)
+    → GivenLeaving before first middle between → GivenLeaving between second opened after → GivenLeaving before (first ++ second) opened after
+gave_then before between after first second middle opened one other =
     record {
       adds = adds_then before.emitter between.emitter after.emitter first second one.adds other.adds;
       canonical = other.canonical ∙ one.canonical;
-      levels = other.levels ∙ one.levels;
+      levels = other.levels;
       bare = other.bare;
     }
+
+-- the same collections are open
+pub leaves_same : (before after : WriterState) (events : List Event) (opened same : List CollectionKind) → opened ≡ same
+    → GivenLeaving before events opened after → GivenLeaving before events same after
+leaves_same before after events opened same is = subst (λ (kinds : List CollectionKind). GivenLeaving before events kinds after) is
+
+pub wrote_then : (before between after : WriterState) (first second : List Event) → WasGiven before first between → WasGiven between second after
+    → WasGiven before (first ++ second) after
+wrote_then before between after first second one other =
+    gave_then before between after first second before.levels before.levels one
+    (leaves_same between after second between.levels before.levels one.levels other)
 
 -- the events are these
 pub wrote_same : (before after : WriterState) (events same : List Event) → events ≡ same → WasGiven before events after → WasGiven before same after
@@ -95,13 +109,15 @@ pub sequence_is : (writer : WriterState) (in_flow : Bool) (style : CollectionSty
     → sequence_event writer style ≡ sequence_start (collection_in in_flow)
 sequence_is writer in_flow style is bare =
     ap (sequence_event writer) is
-    ∙ ap₂ (λ (anchor tag : Option Text). sequence_start (record { anchor = anchor; tag = tag; implicit = is_none tag; style = style_of in_flow })) bare.0 bare.1
+    ∙ ap₂ (λ (anchor tag : Option Text). sequence_start (record { anchor = anchor; tag = tag; implicit = is_none tag; style = style_of in_flow }))
+    bare.0 bare.1
 
 pub mapping_is : (writer : WriterState) (in_flow : Bool) (style : CollectionStyle) → style ≡ style_of in_flow → IsBare writer
     → mapping_event writer style ≡ mapping_start (collection_in in_flow)
 mapping_is writer in_flow style is bare =
     ap (mapping_event writer) is
-    ∙ ap₂ (λ (anchor tag : Option Text). mapping_start (record { anchor = anchor; tag = tag; implicit = is_none tag; style = style_of in_flow })) bare.0 bare.1
+    ∙ ap₂ (λ (anchor tag : Option Text). mapping_start (record { anchor = anchor; tag = tag; implicit = is_none tag; style = style_of in_flow }))
+    bare.0 bare.1
 
 -- Collections
 
@@ -129,19 +145,24 @@ same_last (first ∷ outer) (next ∷ others) kind other is =
 
 -- a collection that was begun is the innermost, and its end is of its kind
 pub ended : (outer : List CollectionKind) (kind : CollectionKind) (before after : WriterState) → before.levels ≡ outer ++ kind ∷ [] → IsBare before
-    → EndsInnermost before (Ok tt) after → (AddsEvents before.emitter (end_event kind ∷ []) after.emitter) × (after.canonical ≡ before.canonical)
-    × (after.levels ≡ outer)
-    × IsBare after
+    → EndsInnermost before (Ok tt) after → GivenLeaving before (end_event kind ∷ []) outer after
 ended outer kind before after levels bare (inl none) = absurd (none_more outer kind (sym levels ∙ none.0))
 ended outer kind before after levels bare (inr end) =
-    let same = same_last end.outer outer end.kind kind (sym end.levels ∙ levels) in (
-      subst (λ (k : CollectionKind). AddsEvents before.emitter (end_event k ∷ []) after.emitter) same.1 (moves_add end.moves),
-      ap (λ (w : WriterState). w.canonical) end.rest,
-      ap (λ (w : WriterState). w.levels) end.rest ∙ same.0,
-      (ap (λ (w : WriterState). w.anchor) end.rest ∙ bare.0, ap (λ (w : WriterState). w.tag) end.rest ∙ bare.1),
-    )
+    let same = same_last end.outer outer end.kind kind (sym end.levels ∙ levels) in
+    record {
+      adds = subst (λ (k : CollectionKind). AddsEvents before.emitter (end_event k ∷ []) after.emitter) same.1 (moves_add end.moves);
+      canonical = ap (λ (w : WriterState). w.canonical) end.rest;
+      levels = ap (λ (w : WriterState). w.levels) end.rest ∙ same.0;
+      bare = (ap (λ (w : WriterState). w.anchor) end.rest ∙ bare.0, ap (λ (w : WriterState). w.tag) end.rest ∙ bare.1);
+    }
 
 -- a collection was begun
+pub begun : (before after : WriterState) (event : Event) (kind : CollectionKind) → GaveEvent (with_collection before kind) event (Ok tt) after
+    → GivenLeaving before (event ∷ []) (before.levels ++ kind ∷ []) after
+begun before after event kind gave =
+    record { adds = moves_add gave.moves; canonical = gave.canonical; levels = gave.levels; bare = (gave.no_anchor, gave.no_tag) }
+
+-- whose start is this
 pub starts_with : (in_flow : Bool) (kind : CollectionKind) (before after : WriterState) (event : Event) → event ≡ start_event in_flow kind
     → GaveEvent (with_collection before kind) event (Ok tt) after → GaveEvent (with_collection before kind) (start_event in_flow kind) (Ok tt) after
 starts_with in_flow kind before after event is = subst (λ (e : Event). GaveEvent (with_collection before kind) e (Ok tt) after) is
