@@ -1,5 +1,5 @@
 -- Events emitted one after another, and streams opened and closed.
-use Rattle.yaml_base.proofs.Common.{if◌then◌else◌, None, Some, length, Bool, false, true, ◌||◌, List, [], map, ◌++◌, ◌∷◌, refl, ◌≡◌, stream_start, stream_end}
+use Rattle.yaml_base.proofs.Common.{if◌then◌else◌, None, Some, Bool, false, true, ◌||◌, List, [], map, ◌++◌, ◌∷◌, refl, ◌≡◌, stream_start, stream_end}
 use Rattle.yaml_pen.proofs.Composing.{grows_itself}
 use Rattle.yaml_base.proofs.Common.{append_assoc, inl, inr, ap, subst, sym, ◌∙◌, or-true, false≢true, Event}
 use Rattle.yaml_emitter.proofs.Common.{State, StandsAfter, Promised}

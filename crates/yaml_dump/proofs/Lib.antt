@@ -2,6 +2,7 @@ pub mod Common
 pub mod AnchorLemmas
 pub mod ChildLemmas
 pub mod Emissions
+pub mod Formed
 pub mod EqualBytesLemmas
 pub mod EventLemmas
 pub mod GraphTreeLemmas

@@ -1,11 +1,11 @@
 -- What is read of documents that were dumped with their types unfolds their graphs with all tags.
-use Rattle.yaml_dump.proofs.Common.{if◌then◌else◌, unwrap_or, Option, None, Some, drop, length, Bool, false, true, List, [], map, ◌++◌, ◌∷◌, refl, ◌≡◌, ap}
+use Rattle.yaml_dump.proofs.Common.{unwrap_or, Option, None, Some, drop, length, false, true, List, [], map, ◌∷◌, refl, ◌≡◌, ap}
 use Rattle.yaml_dump.proofs.Common.{subst}
-use Rattle.yaml_dump.proofs.Common.{sym, ◌∙◌, false≢true, list_all, dumped_stream, Text, Event, stream_end, Settings, AreDumped, Graph, DocumentTree, Promised}
-use Rattle.yaml_dump.proofs.Common.{StandsAfter, State, TreesUnfold}
+use Rattle.yaml_dump.proofs.Common.{sym, ◌∙◌, false≢true, list_all, dumped_stream, Text, Event, Settings, AreDumped, Graph, DocumentTree, Promised}
+use Rattle.yaml_dump.proofs.Common.{StandsAfter, State}
 use Rattle.yaml_base.proofs.Common.{ℕ, option_map, is_some, and_parts, and_from, scalar, sequence_start, mapping_start, scalar_tag, Stream, stream_events}
 use Rattle.yaml_base.proofs.Common.{stream_start}
-use Rattle.yaml_base.proofs.Common.{documents_events, written, IsAccepted, agrees, stream_trees, effective, bytes_written, list_layout, encoding_asked}
+use Rattle.yaml_base.proofs.Common.{documents_events, written, IsAccepted, agrees, stream_trees, bytes_written, list_layout, encoding_asked}
 use Rattle.yaml_base.proofs.Common.{settings_for}
 use Rattle.yaml_base.proofs.Common.{resolved_by_core, resolved_by_11, reads_alike}
 use Rattle.std.proofs.Common.{take_all}
@@ -19,13 +19,6 @@ use Rattle.yaml_writer.proofs.TypedTrees.{typed_stream, stream_typed, typed_read
 use Rattle.yaml_writer.specs.TypedEvents.{typed_event, document_by, says_tag, ReadsTags}
 use Rattle.yaml_dump.proofs.GraphTreeLemmas.{has_kept_tag, dumped_keep, dumped_trees_unfold}
 use Rattle.yaml_dump.specs.TypedDumps.{TypesReadBack, TypedDumpsReadBack}
-
--- ---- typed events
-
--- none are only of none
-pub none_typed : (events : List Event) → map typed_event events ≡ [] → events ≡ []
-none_typed [] none = refl
-none_typed (event ∷ events) none = cc
 
 -- ---- each event of dumped graphs says its node's tag
 

@@ -9,6 +9,7 @@ pub mod WalkState
 pub mod WalkSteps
 pub mod DumpsTell
 pub mod TypedDumps
+pub mod EventForms
 pub mod InOrder
 pub mod Composition
 pub mod SeenComposer

@@ -7,9 +7,11 @@ ghost use Rattle.yaml_base.specs.Seen.{seen_event};
 ghost use Rattle.yaml_base.specs.graphs.Unfolding.{EventsUnfold};
 ghost use Rattle.yaml_pen.specs.Page.{result_of_error};
 ghost use Rattle.yaml_dump.specs.Dumps.{Dumps, OpensFrom};
+ghost use Rattle.yaml_dump.specs.EventForms.{DumpsInForm};
+ghost use Rattle.yaml_dump.specs.TypedDumps.{DumpsTyped};
 
 use crate::copies::copied_nodes;
-use crate::emitting::emit_each;
+use crate::emitting::{EventForm, emit_in_form};
 use crate::events::events_of_walk;
 use crate::outlines::outline_of;
 use crate::streams::{yaml_emitter_close, yaml_emitter_open};
@@ -64,7 +66,7 @@ fn events_of_copies<A: Allocator + Copy>(
 }
 
 /// Returns the events of a document, into which its texts are moved; none where it has no nodes.
-pub(crate) fn moved_events<A: Allocator + Copy>(
+fn moved_events<A: Allocator + Copy>(
     alloc: A,
     document: yaml_document_t<A>,
 ) -> Result<Vec<yaml_event_t<A>, A>, AllocError>
@@ -81,9 +83,7 @@ pub(crate) fn moved_events<A: Allocator + Copy>(
 }
 
 /// Opens the stream where it isn't opened.
-pub(crate) fn open_if_needed<A: Allocator + Copy>(
-    emitter: &mut yaml_emitter_t<A>,
-) -> Result<(), yaml_error_t>
+fn open_if_needed<A: Allocator + Copy>(emitter: &mut yaml_emitter_t<A>) -> Result<(), yaml_error_t>
     requires { emitter.old.has_output ≡ true }
     ensures { OpensFrom emitter.old.opened emitter.old result emitter.new }
 {
@@ -111,6 +111,40 @@ pub fn yaml_emitter_dump<A: Allocator + Copy>(
     ensures opened { OnOk result (emitter.new.opened ≡ true) }
     ensures output { emitter.new.has_output ≡ true }
 {
+    dump_in_form(alloc, emitter, document, &EventForm::Same)
+}
+
+/// Emits a document's events as `yaml_emitter_dump` does, with the flags that keep each scalar's tag (`typed_event`): what is read back has
+/// the tag of each node, whichever schema gives tags to what is written without one, the type repository of YAML 1.1 or the core schema of
+/// YAML 1.2 (`typed_dumps_read_back`). So a string `no` stands in quotes, and an integer `3` stands plain.
+///
+/// # Errors
+/// Those of `yaml_emitter_dump`, in the same cases.
+pub fn yaml_emitter_dump_typed<A: Allocator + Copy>(
+    alloc: A,
+    emitter: &mut yaml_emitter_t<A>,
+    document: yaml_document_t<A>,
+) -> Result<(), yaml_error_t>
+    requires { emitter.old.has_output ≡ true }
+    ensures failed { IsSome emitter.old.error → (emitter.new ≡ emitter.old) × (result ≡ result_of_error emitter.old.error) }
+    ensures dumps { emitter.old.error ≡ None → DumpsTyped (graph_of document) emitter.old result emitter.new }
+    ensures opened { OnOk result (emitter.new.opened ≡ true) }
+    ensures output { emitter.new.has_output ≡ true }
+{
+    dump_in_form(alloc, emitter, document, &EventForm::Typed)
+}
+
+/// Emits a document's events, each in this form, after opening the stream where it isn't opened; a document without nodes
+/// closes the stream.
+fn dump_in_form<A: Allocator + Copy>(
+    alloc: A,
+    emitter: &mut yaml_emitter_t<A>,
+    document: yaml_document_t<A>,
+    form: &EventForm,
+) -> Result<(), yaml_error_t>
+    requires { emitter.old.has_output ≡ true }
+    ensures { DumpsInForm form.now (graph_of document) emitter.old result emitter.new }
+{
     if let Some(error) = emitter.error() {
         return Err(error);
     }
@@ -124,5 +158,5 @@ pub fn yaml_emitter_dump<A: Allocator + Copy>(
     if is_empty {
         return yaml_emitter_close(emitter);
     }
-    emit_each(emitter, events)
+    emit_in_form(emitter, events, form)
 }

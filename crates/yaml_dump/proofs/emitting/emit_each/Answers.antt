@@ -1,67 +1,9 @@
-use Rattle.yaml_dump.proofs.Common.{[], map, ◌++◌, ◌∷◌, refl, ap, subst, sym, ◌∙◌, into_iter_items, Event, seen_event}
-use Rattle.yaml_dump.proofs.Common.{none_from_result, Ok, List, map-append}
-use Rattle.std.proofs.lemmas.{Iterator.Adapters.YieldsList-from_vec, Iterator.Consumers.YieldsList-end, List.map-id}
-use Rattle.yaml_dump.proofs.Emissions.{parts_more, some_more}
-use Rattle.yaml_emitter.{proofs.standing.Moving.moves_nothing, proofs.standing.Moving.moves_then, specs.Moves.Moves}
+use Rattle.yaml_dump.proofs.Common.{List, Event, subst, seen_event, map}
+use Rattle.std.proofs.lemmas.List.{map-id}
+use Rattle.yaml_dump.specs.Dumps.{EmitsEach}
 use Rattle.yaml_dump.proofs.emitting.emit_each.Goals as goal
 
-pub returns-in-Err : goal.returns-in-Err
-returns-in-Err g c =
-    let now = c.loop-event in
-    record {
-      emits =
-          record {
-            earlier = map seen_event now.yielded;
-            event = seen_event c.in-Some.event;
-            later = map seen_event (into_iter_items c.next.new.self);
-            parts =
-                sym (map-append seen_event now.yielded (c.in-Some.event ∷ into_iter_items c.next.new.self))
-                ∙ ap (λ left. map seen_event (now.yielded ++ left)) (sym c.in-Some.ensures.steps.0) ∙ ap (map seen_event) now.invariant.4;
-            between = now.emitter;
-            moved = now.invariant.5;
-            failed = c.in-Err.ensures.moves;
-          };
-      output = c.yaml_emitter_emit.ensures.output;
-    }
-
-pub loop-event-preserved : goal.loop-event-preserved
-loop-event-preserved g c =
-    let now = c.loop-event in (
-      tt,
-      tt,
-      c.yaml_emitter_emit.ensures.output,
-      none_from_result c.yaml_emitter_emit.new.emitter.error c.in_default.ensures.moves.answered,
-      parts_more now.yielded c.in-Some.event (into_iter_items c.next.new.self)
-          (into_iter_items now.event-iterator) c.args.events.items now.invariant.4 c.in-Some.ensures.steps.0,
-      subst (λ (events : List Event). Moves c.args.emitter.now events (Ok tt) c.yaml_emitter_emit.new.emitter)
-          (sym (map-append seen_event now.yielded (c.in-Some.event ∷ []))) (moves_then now.invariant.5 c.in_default.ensures.moves),
-      λ none. absurd (some_more seen_event now.yielded c.in-Some.event none),
-    )
-
-pub loop-event-init : goal.loop-event-init
-loop-event-init g c = (
-  tt,
-  tt,
-  c.requires.output,
-  c.requires.no_error,
-  c.into_iter-event-iterator.ensures.into_iter_gives.0,
-  moves_nothing c.args.emitter.now c.requires.no_error,
-  λ none. refl,
-)
-
-pub returns : goal.returns
-returns g c =
-    let now = c.loop-event in
-    let road = YieldsList-from_vec {s = c.into_iter-event-iterator.result} c.args.events.items c.into_iter-event-iterator.ensures.into_iter_gives.0
-    (c.into_iter-event-iterator.ensures.into_iter_gives.1 ∙ c.args.events.ok.0) in
-    let whole = ap (map seen_event)
-    (sym (map-id now.yielded) ∙ (YieldsList-end road now.yielded now.event-iterator now.yielded_by c.next.result c.next.new.self c.in-None.is
-    c.next.ensures.steps).0) in
-    record {
-      emits =
-          record {
-            moves = subst (λ (events : List Event). Moves c.args.emitter.now events (Ok tt) now.emitter) whole now.invariant.5;
-            unchanged = λ none. now.invariant.6 (whole ∙ none);
-          };
-      output = now.invariant.2;
-    }
+pub returns-clause-emits : goal.returns-clause-emits
+returns-clause-emits g c =
+    subst (λ (events : List Event). EmitsEach c.args.emitter.now events c.emit_in_form.result c.emit_in_form.new.emitter)
+    (map-id (map seen_event c.args.events.items)) c.emit_in_form.ensures.emits

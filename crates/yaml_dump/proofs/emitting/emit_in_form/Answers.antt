@@ -2,13 +2,14 @@ use Rattle.yaml_dump.proofs.Common.{[], map, ◌++◌, ◌∷◌, refl, ap, subs
 use Rattle.yaml_dump.proofs.Common.{none_from_result, Err, Ok, List, map-append}
 use Rattle.std.proofs.lemmas.{Iterator.Adapters.YieldsList-from_vec, Iterator.Consumers.YieldsList-end, List.map-id}
 use Rattle.yaml_dump.proofs.Emissions.{parts_more, some_more}
-use Rattle.yaml_dump.proofs.TypedDumpLemmas.{none_typed}
+use Rattle.yaml_dump.proofs.Formed.{none_formed}
 use Rattle.yaml_emitter.{proofs.standing.Moving.moves_nothing, proofs.standing.Moving.moves_then, specs.Moves.Moves}
-use Rattle.yaml_writer.specs.TypedEvents.{typed_event}
-use Rattle.yaml_dump.proofs.typed.emit_each_typed.Goals as goal
+use Rattle.yaml_dump.specs.EventForms.{event_in_form}
+use Rattle.yaml_dump.proofs.emitting.emit_in_form.Goals as goal
 
 pub returns-in-Err : goal.returns-in-Err
 returns-in-Err g c =
+    let form = c.args.form.now in
     let now = c.loop-event in
     let before = map seen_event now.yielded in
     let next = seen_event c.in-Some.event in
@@ -16,18 +17,18 @@ returns-in-Err g c =
     record {
       emits =
           record {
-            earlier = map typed_event before;
-            event = typed_event next;
-            later = map typed_event later;
+            earlier = map (event_in_form form) before;
+            event = event_in_form form next;
+            later = map (event_in_form form) later;
             parts =
-                sym (map-append typed_event before (next ∷ later))
-                ∙ ap (λ (events : List Event). map typed_event events)
+                sym (map-append (event_in_form form) before (next ∷ later))
+                ∙ ap (λ (events : List Event). map (event_in_form form) events)
                 (sym (map-append seen_event now.yielded (c.in-Some.event ∷ into_iter_items c.next.new.self))
                 ∙ ap (λ left. map seen_event (now.yielded ++ left)) (sym c.in-Some.ensures.steps.0) ∙ ap (map seen_event) now.invariant.4);
             between = now.emitter;
             moved = now.invariant.5;
             failed =
-                subst (λ (event : Event). Moves now.emitter (event ∷ []) (Err c.in-Err.error) c.yaml_emitter_emit.new.emitter) c.typed_event.ensures
+                subst (λ (event : Event). Moves now.emitter (event ∷ []) (Err c.in-Err.error) c.yaml_emitter_emit.new.emitter) c.event.ensures
                 c.in-Err.ensures.moves;
           };
       output = c.yaml_emitter_emit.ensures.output;
@@ -35,6 +36,7 @@ returns-in-Err g c =
 
 pub loop-event-preserved : goal.loop-event-preserved
 loop-event-preserved g c =
+    let form = c.args.form.now in
     let now = c.loop-event in
     let before = map seen_event now.yielded in
     let next = seen_event c.in-Some.event in (
@@ -46,10 +48,10 @@ loop-event-preserved g c =
           (into_iter_items now.event-iterator) c.args.events.items now.invariant.4 c.in-Some.ensures.steps.0,
       subst (λ (events : List Event). Moves c.args.emitter.now events (Ok tt) c.yaml_emitter_emit.new.emitter)
           (sym
-          (ap (λ (events : List Event). map typed_event events) (map-append seen_event now.yielded (c.in-Some.event ∷ []))
-          ∙ map-append typed_event before (next ∷ [])))
+          (ap (λ (events : List Event). map (event_in_form form) events) (map-append seen_event now.yielded (c.in-Some.event ∷ []))
+          ∙ map-append (event_in_form form) before (next ∷ [])))
           (moves_then now.invariant.5
-          (subst (λ (event : Event). Moves now.emitter (event ∷ []) (Ok tt) c.yaml_emitter_emit.new.emitter) c.typed_event.ensures
+          (subst (λ (event : Event). Moves now.emitter (event ∷ []) (Ok tt) c.yaml_emitter_emit.new.emitter) c.event.ensures
           c.in_default.ensures.moves)),
       λ none. absurd (some_more seen_event now.yielded c.in-Some.event none),
     )
@@ -67,6 +69,7 @@ loop-event-init g c = (
 
 pub returns : goal.returns
 returns g c =
+    let form = c.args.form.now in
     let now = c.loop-event in
     let road = YieldsList-from_vec {s = c.into_iter-event-iterator.result} c.args.events.items c.into_iter-event-iterator.ensures.into_iter_gives.0
     (c.into_iter-event-iterator.ensures.into_iter_gives.1 ∙ c.args.events.ok.0) in
@@ -77,8 +80,8 @@ returns g c =
       emits =
           record {
             moves =
-                subst (λ (events : List Event). Moves c.args.emitter.now (map typed_event events) (Ok tt) now.emitter) whole now.invariant.5;
-            unchanged = λ none. now.invariant.6 (whole ∙ none_typed (map seen_event c.args.events.items) none);
+                subst (λ (events : List Event). Moves c.args.emitter.now (map (event_in_form form) events) (Ok tt) now.emitter) whole now.invariant.5;
+            unchanged = λ none. now.invariant.6 (whole ∙ none_formed form (map seen_event c.args.events.items) none);
           };
       output = now.invariant.2;
     }

@@ -1,0 +1,52 @@
+-- Documents dumped in a form.
+use Rattle.yaml_dump.proofs.Common.{◌==◌, Option, None, Some, length, true, [], List, map, ◌∷◌, refl, ◌≡◌, ap, subst, sym, false≢true, Event}
+use Rattle.yaml_dump.proofs.Common.{Graph, State, Result, OnOk, document_event_list}
+use Rattle.std.specs.Prelude.{IsSome}
+use Rattle.yaml_base.specs.declared.errors.yaml_error_t.{yaml_error_t}
+use Rattle.yaml_pen.specs.Page.{result_of_error}
+use Rattle.yaml_dump.proofs.Emissions.{keeps_dumping, opened_by}
+use Rattle.yaml_dump.specs.Dumps.{DumpsEvents}
+use Rattle.yaml_dump.specs.EventForms.{event_in_form, DumpsFrom, DumpsInForm}
+use Rattle.yaml_dump.specs.TypedDumps.{typed_event_list}
+use Rattle.std.proofs.lemmas.List.{map-id}
+use Rattle.yaml_dump.specs.declared.emitting.EventForm.{EventForm}
+use Rattle.yaml_dump.specs.declared.emitting.EventForm.TheVariants.{Same, Typed}
+
+-- none are only of none
+pub none_formed : (form : EventForm) (events : List Event) → map (event_in_form form) events ≡ [] → events ≡ []
+none_formed form [] none = refl
+none_formed form (event ∷ events) none = cc
+
+-- what a dump says to its caller
+pub record Told (error : Option yaml_error_t) (graph : Graph) (document : List Event) (before : State) (answer : Result (Unit {0}) yaml_error_t) (after : State)
+    : Type 0 where
+  pub failed : IsSome error → (after ≡ before) × (answer ≡ result_of_error error)
+  pub dumps : error ≡ None → DumpsEvents (length graph.nodes == 0) document before answer after
+  pub opened : OnOk answer (after.opened ≡ true)
+  pub output : after.has_output ≡ before.has_output
+
+told : (error : Option yaml_error_t) (graph : Graph) (document : List Event) (before after : State) (answer : Result (Unit {0}) yaml_error_t)
+    → DumpsFrom error graph document before answer after → Told error graph document before answer after
+told (Some error) graph document before after answer from = record {
+  failed = λ some. from;
+  dumps = λ none. cc;
+  opened = subst (λ (a : Result (Unit {0}) yaml_error_t). OnOk a (after.opened ≡ true)) (sym from.1) tt;
+  output = ap (λ (s : State). s.has_output) from.0;
+}
+told None graph document before after answer from = record {
+  failed = λ some. absurd (false≢true some);
+  dumps = λ none. from;
+  opened = opened_by (length graph.nodes == 0) document before after answer from;
+  output = (keeps_dumping (length graph.nodes == 0) document before after answer from).set.has_output;
+}
+
+-- of typed events, and of events as they are
+pub typed_told : (graph : Graph) (before after : State) (answer : Result (Unit {0}) yaml_error_t) → DumpsInForm Typed graph before answer after
+    → Told before.error graph (typed_event_list graph) before answer after
+typed_told graph before after answer from = told before.error graph (typed_event_list graph) before after answer from
+
+pub same_told : (graph : Graph) (before after : State) (answer : Result (Unit {0}) yaml_error_t) → DumpsInForm Same graph before answer after
+    → Told before.error graph (document_event_list graph) before answer after
+same_told graph before after answer from =
+    told before.error graph (document_event_list graph) before after answer
+    (subst (λ (events : List Event). DumpsFrom before.error graph events before answer after) (map-id (document_event_list graph)) from)
