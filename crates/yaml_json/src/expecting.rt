@@ -1,6 +1,6 @@
 //! What could stand where a JSON text breaks off, found in the bytes before. It is looked for where there is an error, and needs no
 //! memory: the open brackets are counted first, and then the last that makes as many is the innermost.
-ghost use Rattle.std.specs.Prelude.{◌≡◌, ◌+◌, ◌<◌, ◌≤◌, ◌^◌, List, None, Some, false, true};
+ghost use Rattle.std.specs.Prelude.{◌≡◌, ◌+◌, ◌<◌, ◌≤◌, ◌^◌, List, None, true};
 ghost use Rattle.yaml_json.specs.Expected as meaning;
 
 use crate::cuts::{closes, opens};
@@ -98,29 +98,7 @@ pub(crate) struct Front {
     pub(crate) depth: Depth,
 }
 
-fn quoting_after(quoting: Quoting, byte: u8) -> Quoting
-    ensures { result ≡ meaning.quoting_after quoting byte }
-{
-    match quoting {
-        Quoting::Outside if byte == b'"' => Quoting::Inside,
-        Quoting::Outside => Quoting::Outside,
-        Quoting::Inside if byte == b'\\' => Quoting::Escaped,
-        Quoting::Inside if byte == b'"' => Quoting::Outside,
-        Quoting::Inside => Quoting::Inside,
-        Quoting::Escaped => Quoting::Inside,
-    }
-}
-
-/// Returns what stands last after a byte of a string or of a word.
-fn begun(last: Last) -> Last
-    ensures { result ≡ meaning.after_word_byte last }
-{
-    match last {
-        Last::Opener | Last::Comma | Last::First => Last::First,
-        Last::Nothing | Last::Colon | Last::Value => Last::Value,
-    }
-}
-
+/// Returns what stands last after a byte that is outside of strings, or that begins one.
 fn last_after(last: Last, byte: u8) -> Last
     ensures { result ≡ meaning.last_after last byte }
 {
@@ -135,41 +113,14 @@ fn last_after(last: Last, byte: u8) -> Last
     } else if byte == b':' {
         Last::Colon
     } else {
-        begun(last)
-    }
-}
-
-fn kind_opened(byte: u8) -> Option<CollectionKind>
-    ensures { result ≡ meaning.kind_opened byte }
-{
-    match byte {
-        b'[' => Some(CollectionKind::Sequence),
-        b'{' => Some(CollectionKind::Mapping),
-        _ => None,
-    }
-}
-
-/// Returns the depth where one bracket more is open.
-fn deeper(depth: Depth, deep: usize, kind: CollectionKind) -> Depth
-    requires { depth.count + 1 < 2 ^ 64 }
-    ensures is { (kinds : List CollectionKind) → meaning.IsDepth deep kinds depth → meaning.IsDepth deep (meaning.open_by (Some kind) false kinds) result }
-    ensures few { result.count ≤ depth.count + 1 }
-{
-    let count = depth.count + 1;
-    if count == deep {
-        Depth {
-            count,
-            kind: Some(kind),
-        }
-    } else {
-        Depth {
-            count,
-            kind: depth.kind,
+        match last {
+            Last::Opener | Last::Comma | Last::First => Last::First,
+            Last::Nothing | Last::Colon | Last::Value => Last::Value,
         }
     }
 }
 
-/// Returns the depth where one fewer is.
+/// Returns the depth where one bracket fewer is open.
 fn shallower(depth: Depth, deep: usize) -> Depth
     ensures is { (kinds : List CollectionKind) → meaning.IsDepth deep kinds depth → meaning.IsDepth deep (meaning.open_by None true kinds) result }
     ensures few { result.count ≤ depth.count + 1 }
@@ -185,21 +136,25 @@ fn shallower(depth: Depth, deep: usize) -> Depth
     }
 }
 
+/// Returns the depth after a byte that is outside of strings.
 fn depth_after(depth: Depth, deep: usize, byte: u8) -> Depth
     requires { depth.count + 1 < 2 ^ 64 }
     ensures is { (kinds : List CollectionKind) → meaning.IsDepth deep kinds depth → meaning.IsDepth deep (meaning.open_after kinds byte) result }
     ensures few { result.count ≤ depth.count + 1 }
 {
-    match kind_opened(byte) {
-        Some(kind) => deeper(depth, deep, kind),
-        None => {
-            if closes(byte) {
-                shallower(depth, deep)
-            } else {
-                depth
-            }
-        }
-    }
+    let opened = match byte {
+        b'[' => CollectionKind::Sequence,
+        b'{' => CollectionKind::Mapping,
+        _ if closes(byte) => return shallower(depth, deep),
+        _ => return depth,
+    };
+    let count = depth.count + 1;
+    let kind = if count == deep {
+        Some(opened)
+    } else {
+        depth.kind
+    };
+    Depth { count, kind }
 }
 
 fn front_after(front: Front, deep: usize, byte: u8) -> Front
@@ -208,18 +163,31 @@ fn front_after(front: Front, deep: usize, byte: u8) -> Front
         → meaning.IsFront deep (meaning.standing_after standing byte) result }
     ensures few { result.depth.count ≤ front.depth.count + 1 }
 {
-    let quoting = quoting_after(front.quoting, byte);
-    match front.quoting {
-        Quoting::Outside => Front {
-            quoting,
-            last: last_after(front.last, byte),
-            depth: depth_after(front.depth, deep, byte),
-        },
-        _ => Front {
-            quoting,
-            last: front.last,
-            depth: front.depth,
-        },
+    let Front {
+        quoting,
+        last,
+        depth,
+    } = front;
+    let quoting = match quoting {
+        Quoting::Outside => {
+            return Front {
+                quoting: if byte == b'"' {
+                    Quoting::Inside
+                } else {
+                    Quoting::Outside
+                },
+                last: last_after(last, byte),
+                depth: depth_after(depth, deep, byte),
+            };
+        }
+        Quoting::Inside if byte == b'\\' => Quoting::Escaped,
+        Quoting::Inside if byte == b'"' => Quoting::Outside,
+        Quoting::Inside | Quoting::Escaped => Quoting::Inside,
+    };
+    Front {
+        quoting,
+        last,
+        depth,
     }
 }
 
@@ -243,38 +211,20 @@ fn front_of(bytes: &[u8], deep: usize) -> Front
     front
 }
 
-fn after_value(kind: Option<CollectionKind>) -> Expected
-    ensures { result ≡ meaning.after_value kind }
-{
-    match kind {
-        None => Expected::End,
-        Some(CollectionKind::Sequence) => Expected::CommaOrBracket,
-        Some(CollectionKind::Mapping) => Expected::CommaOrBrace,
-    }
-}
-
-fn expected_in_object(last: Last) -> Expected
-    ensures { result ≡ meaning.expected_by last (Some CollectionKind.Mapping) }
-{
-    match last {
-        Last::Opener => Expected::NameOrEnd,
-        Last::Comma => Expected::Name,
-        Last::Nothing | Last::Colon => Expected::Value,
-        Last::First => Expected::Colon,
-        Last::Value => Expected::CommaOrBrace,
-    }
-}
-
+/// Returns what could stand after what stands last, within a bracket of this kind.
 fn expected_by(last: Last, kind: Option<CollectionKind>) -> Expected
     ensures { result ≡ meaning.expected_by last kind }
 {
-    if let Some(CollectionKind::Mapping) = kind {
-        return expected_in_object(last);
-    }
-    match last {
-        Last::Opener => Expected::ItemOrEnd,
-        Last::Nothing | Last::Comma | Last::Colon => Expected::Value,
-        Last::First | Last::Value => after_value(kind),
+    match (last, kind) {
+        (Last::Nothing | Last::Colon, _) => Expected::Value,
+        (Last::Opener, Some(CollectionKind::Mapping)) => Expected::NameOrEnd,
+        (Last::Opener, _) => Expected::ItemOrEnd,
+        (Last::Comma, Some(CollectionKind::Mapping)) => Expected::Name,
+        (Last::Comma, _) => Expected::Value,
+        (Last::First, Some(CollectionKind::Mapping)) => Expected::Colon,
+        (Last::Value, Some(CollectionKind::Mapping)) => Expected::CommaOrBrace,
+        (Last::First | Last::Value, Some(CollectionKind::Sequence)) => Expected::CommaOrBracket,
+        (Last::First | Last::Value, None) => Expected::End,
     }
 }
 
@@ -284,25 +234,17 @@ fn is_nothing(last: Last) -> bool
     matches!(last, Last::Nothing)
 }
 
-/// Returns what could stand after these bytes of a text.
-fn expected_after(front: &[u8]) -> (Last, Expected)
-    ensures last { result.0 ≡ (meaning.standing_over meaning.start front.now).last }
-    ensures expected { result.1 ≡ meaning.expected_by result.0 (meaning.innermost (meaning.standing_over meaning.start front.now).kinds) }
-{
-    let deep = front_of(front, 0).depth.count;
-    let found = front_of(front, deep);
-    (found.last, expected_by(found.last, found.depth.kind))
-}
-
 /// Returns what could stand at an offset of a text.
 pub(crate) fn expected_at(text: &str, at: usize) -> Expected
     ensures { result ≡ meaning.expected_at text.now at }
 {
     let bytes = text.as_bytes();
-    let (last, expected) = expected_after(&bytes[..at.min(bytes.len())]);
-    if is_nothing(last) && at >= bytes.len() {
+    let before = &bytes[..at.min(bytes.len())];
+    let deep = front_of(before, 0).depth.count;
+    let front = front_of(before, deep);
+    if is_nothing(front.last) && at >= bytes.len() {
         Expected::Text
     } else {
-        expected
+        expected_by(front.last, front.depth.kind)
     }
 }

@@ -1,5 +1,5 @@
 //! JSON texts that follow one another, read part by part and sent on as they are complete.
-ghost use Rattle.std.specs.Prelude.{◌≡◌, ◌<◌, ◌≤◌, ◌-◌, ℕ, Bool, List, [], OnOk, drop, length};
+ghost use Rattle.std.specs.Prelude.{◌≡◌, ◌≤◌, ◌-◌, ℕ, Bool, List, [], OnOk, drop, length};
 ghost use Rattle.json.specs.Token.{Token};
 ghost use Rattle.yaml_json.specs.Nests.{AwaitsText};
 ghost use Rattle.yaml_json.specs.Cuts.{HasScanned};
@@ -59,30 +59,6 @@ impl<A: Allocator + Copy> Incoming<A> {
     }
 }
 
-/// Reads a part by a buffer. Returns whether more may follow.
-fn read_part<A: Allocator + Copy, R: Read>(
-    reader: &mut R,
-    part: &mut [u8],
-    incoming: &mut Incoming<A>,
-) -> Result<bool, StreamError>
-    requires room { 0 < length part.old }
-    requires scanned { IsScanned incoming.old }
-    ensures { ReadStep incoming.old (R.remaining reader.old) result incoming.new (R.remaining reader.new) }
-{
-    match reader.read(part) {
-        Ok(0) => Ok(false),
-        Ok(count) => match incoming.held.extend_from_slice(&part[..count]) {
-            Ok(()) => Ok(true),
-            Err(_) => Err(NO_MEMORY),
-        },
-        Err(error) => match error.kind() {
-            ErrorKind::Interrupted => Ok(true),
-            ErrorKind::OutOfMemory => Err(NO_MEMORY),
-            _ => Err(StreamError::ReadFailed(error)),
-        },
-    }
-}
-
 /// Reads a part. Returns whether more may follow.
 fn read_more<A: Allocator + Copy, R: Read>(
     alloc: A,
@@ -93,9 +69,21 @@ fn read_more<A: Allocator + Copy, R: Read>(
     ensures { ReadStep incoming.old (R.remaining reader.old) result incoming.new (R.remaining reader.new) }
 {
     let mut part = Vec::new(alloc);
-    match part.resize(PART_SIZE, 0) {
-        Ok(()) => read_part(reader, part.as_mut_slice(), incoming),
-        Err(_) => Err(NO_MEMORY),
+    if let Err(_) = part.resize(PART_SIZE, 0) {
+        return Err(NO_MEMORY);
+    }
+    let bytes = part.as_mut_slice();
+    match reader.read(bytes) {
+        Ok(0) => Ok(false),
+        Ok(count) => match incoming.held.extend_from_slice(&bytes[..count]) {
+            Ok(()) => Ok(true),
+            Err(_) => Err(NO_MEMORY),
+        },
+        Err(error) => match error.kind() {
+            ErrorKind::Interrupted => Ok(true),
+            ErrorKind::OutOfMemory => Err(NO_MEMORY),
+            _ => Err(StreamError::ReadFailed(error)),
+        },
     }
 }
 

@@ -4,7 +4,6 @@ ghost use Rattle.yaml_json.specs.Expected.{SaysExpected};
 ghost use Rattle.yaml_json.specs.Failing.{failure_of, writers_error};
 ghost use Rattle.yaml_json.specs.Nests.{AwaitsText};
 ghost use Rattle.yaml_json.specs.Places.{IsAt};
-ghost use Rattle.yaml_json.specs.Refused.{is_marked};
 ghost use Rattle.yaml_json.specs.Walk.{MatchesStop};
 ghost use Rattle.yaml_json.specs.WalkSteps.{TextStep};
 ghost use Rattle.yaml_json.specs.WritingCalls.{ReturnsYaml, WritesText};
@@ -24,13 +23,6 @@ use yaml_writer::{Writer, yaml_error_t};
 /// The byte order mark in UTF-8. No JSON text begins with it.
 const MARK: &[u8] = b"\xef\xbb\xbf";
 
-/// Returns whether a text begins with a byte order mark.
-fn is_marked(text: &str) -> bool
-    ensures { result ≡ is_marked text.now }
-{
-    text.as_bytes().starts_with(MARK)
-}
-
 /// Returns the error that tells a caller of a stop in this part of a text, at this offset in the text, and at that in the part.
 pub(crate) fn error_of<A: Allocator + Copy>(
     writer: &Writer<A>,
@@ -48,7 +40,7 @@ pub(crate) fn error_of<A: Allocator + Copy>(
     match stop {
         Stop::NotJson(_) => {
             let (line, column) = place_of(text.as_bytes(), at);
-            if is_marked(part) {
+            if part.as_bytes().starts_with(MARK) {
                 JsonError::Marked { line, column }
             } else {
                 let expected = expected_at(part, offset);

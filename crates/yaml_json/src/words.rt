@@ -5,7 +5,7 @@ ghost use Rattle.std.specs.Char.{is_ascii_digit};
 ghost use Rattle.std.specs.List.{prefix_len};
 ghost use Rattle.std.specs.Simd.Lanes.{mask_l};
 ghost use Rattle.json.specs.Reads.{token_of};
-ghost use Rattle.json.specs.Word.{after_digits, after_exponent, after_fraction, after_minus, after_number, after_sign, after_whole, ends_word, head};
+ghost use Rattle.json.specs.Word.{after_digits, after_exponent, after_fraction, after_number, after_sign, after_whole, ends_word, head};
 ghost use Rattle.json.specs.Word.{is_operator, is_space, literal, number_before, word};
 ghost use Rattle.json.specs.Token.{bad};
 ghost use Rattle.yaml_json.specs.Lexing.{EndsWord};
@@ -128,18 +128,12 @@ fn exponent_end(text: &[u8], from: usize) -> Option<usize>
     }
 }
 
-fn minus_end(text: &[u8]) -> usize
-    ensures minus { drop result text.now ≡ after_minus text.now }
-    ensures within { result ≤ length text.now }
-{
-    if byte_at(text, 0) == b'-' { 1 } else { 0 }
-}
-
 /// Returns where a number ends.
 fn number_end(text: &[u8]) -> Option<usize>
     ensures { LeavesAt text.now result (after_number text.now) }
 {
-    let point = whole_end(text, minus_end(text))?;
+    let from = if byte_at(text, 0) == b'-' { 1 } else { 0 };
+    let point = whole_end(text, from)?;
     let power = fraction_end(text, point)?;
     exponent_end(text, power)
 }

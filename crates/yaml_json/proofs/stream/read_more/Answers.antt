@@ -3,7 +3,7 @@ use Rattle.std.proofs.Common.{rules}
 use Rattle.yaml_json.proofs.Coming.{none_came}
 use Rattle.yaml_json.proofs.Cutting.{still_scanned}
 use Rattle.std.specs.Io.KnownBytes.{Consumes}
-use Rattle.yaml_json.proofs.stream.read_part.Goals as goal
+use Rattle.yaml_json.proofs.stream.read_more.Goals as goal
 
 pub returns-in-Ok-eq0 : goal.returns-in-Ok-eq0
 returns-in-Ok-eq0 g c =
@@ -14,7 +14,7 @@ returns-in-Ok-eq0 g c =
         subst (λ (count : ℕ). Consumes (g.R.Read.remaining c.args.reader.now) (g.R.Read.remaining c.read.new.self) (take count c.read.new.buf))
             c.in-Ok-eq0.field-0-test c.in-Ok-eq0.ensures.bytes.0,
       );
-      incoming = c.requires.scanned.0;
+      incoming = c.requires.0;
       place = refl;
       end = λ none. (c.in-Ok-eq0.ensures.bytes.1 c.in-Ok-eq0.field-0-test (search rules), refl);
     }
@@ -24,7 +24,7 @@ returns-in-Ok-extend_from_slice g c =
     record {
       come = (take c.in-Ok.count c.read.new.buf, c.in-Ok-extend_from_slice.ensures.items, c.in-Ok.ensures.bytes.0);
       incoming = subst (λ (held : List ℕ). HasScanned held c.args.incoming.now.reading.cut) (sym c.in-Ok-extend_from_slice.ensures.items)
-          (still_scanned c.args.incoming.now.held.items (take c.in-Ok.count c.read.new.buf) c.args.incoming.now.reading.cut c.requires.scanned.0);
+          (still_scanned c.args.incoming.now.held.items (take c.in-Ok.count c.read.new.buf) c.args.incoming.now.reading.cut c.requires.0);
       place = refl;
       end = λ none. absurd (false≢true (sym none));
     }
@@ -33,7 +33,7 @@ pub returns-in-Interrupted : goal.returns-in-Interrupted
 returns-in-Interrupted g c =
     record {
       come = ([], sym (append-nil c.args.incoming.now.held.items), none_came (g.R.Read.remaining c.args.reader.now) (g.R.Read.remaining c.read.new.self) (search rules));
-      incoming = c.requires.scanned.0;
+      incoming = c.requires.0;
       place = refl;
       end = λ none. absurd (false≢true (sym none));
     }
