@@ -1,7 +1,6 @@
 //! Tables while a document is read. Each has an index of its keys, so that none is searched for one by one.
-ghost use Rattle.std.specs.Prelude.{◌≡◌, ◌<◌, ℕ, [], ◌∷◌, ◌++◌, IfErr, IfOk, IfSome, List, MatchOption, None, OnOk, Some, bytes_eq, length, string_bytes};
+ghost use Rattle.std.specs.Prelude.{◌≡◌, ◌<◌, [], ◌∷◌, ◌++◌, IfErr, IfOk, IfSome, MatchOption, None, Some, length, string_bytes};
 ghost use Rattle.std.specs.BTreeMap.{get_by_text};
-ghost use Rattle.std.specs.Map.{update};
 ghost use Rattle.toml_ordered.specs.Data.{entries_view, no_nodes, node_view};
 ghost use Rattle.toml_ordered.specs.Drafts as spec;
 ghost use Rattle.toml_ordered.specs.Drafts.{IsIndexedAt, draft_view, keys_view};
@@ -91,16 +90,8 @@ pub(crate) fn append(
         (Some (append (keys_view keys.old.items index.old) (string_bytes key) (draft_view draft))) }
 {
     let at = keys.len();
-    note(index, &key, at)?;
-    keys.push((key, draft, left))?;
-    Ok(())
-}
-
-/// Notes the place of a key.
-fn note(index: &mut Index, key: &String, at: usize) -> Result<(), AllocError>
-    ensures { OnOk result ((k : List ℕ) → get_by_text index.new k ≡ update bytes_eq (get_by_text index.old) (string_bytes key.now) (Some at) k) }
-{
     index.insert(key.clone()?, at)?;
+    keys.push((key, draft, left))?;
     Ok(())
 }
 

@@ -183,22 +183,18 @@ fn scalar_node(alloc: Global, word: &[u8], scalar: Scalar) -> Result<Node, Alloc
         Scalar::Boolean(flag) => Ok(Node::Boolean(flag)),
         Scalar::Integer(integer) => Ok(Node::Integer(integer)),
         Scalar::Datetime(datetime) => Ok(Node::Datetime(datetime)),
-        Scalar::Float(_) => float_node(plain_word(alloc, word)?),
-    }
-}
-
-/// Returns a float, by its word.
-fn float_node(word: String) -> Result<Node, AllocError>
-    ensures { IfOk result (λ node. node_view node ≡ spec.float_node (string_bytes word)) }
-{
-    let name = past_sign(word.as_str());
-    if name == "inf" {
-        let negative = first(word.as_str()) == b'-';
-        Ok(Node::Infinity { negative })
-    } else if name == "nan" {
-        Ok(Node::NotANumber)
-    } else {
-        Ok(Node::Decimal(word))
+        Scalar::Float(_) => {
+            let plain = plain_word(alloc, word)?;
+            let name = past_sign(plain.as_str());
+            if name == "inf" {
+                let negative = first(plain.as_str()) == b'-';
+                Ok(Node::Infinity { negative })
+            } else if name == "nan" {
+                Ok(Node::NotANumber)
+            } else {
+                Ok(Node::Decimal(plain))
+            }
+        }
     }
 }
 

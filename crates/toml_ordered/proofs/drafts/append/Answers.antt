@@ -1,5 +1,6 @@
-use Rattle.std.proofs.Common.{◌≡◌, ℕ, List, Some, length, string_bytes, bytes_eq, sym, ap, ◌∙◌, arith}
+use Rattle.std.proofs.Common.{◌≡◌, ℕ, List, Some, length, string_bytes, bytes_eq, subst, sym, ap, ◌∙◌, arith}
 use Rattle.std.proofs.lemmas.Grind.{common_steps}
+use Rattle.std.proofs.lemmas.Map.Text.{btree_map_updates_text}
 use Rattle.std.specs.BTreeMap.{get_by_text}
 use Rattle.std.specs.Map.{update}
 use Rattle.toml_ordered.proofs.DraftKeys.{Draft, appended}
@@ -11,10 +12,12 @@ pub returns-clause-value : goal.returns-clause-value
 returns-clause-value c =
     let es = c.args.keys.now.items in
     let before = c.args.index.now in
-    let after = c.note.new.index in
+    let after = c.insert.new.self in
     let count : c.len-at.result ≡ length es = grind (arith, common_steps) in
+    let same : string_bytes c.in_ok-clone.field-0 ≡ string_bytes c.args.key = grind (arith, common_steps) in
     let noted : (k : List ℕ) → get_by_text after k ≡ update bytes_eq (get_by_text before) (string_bytes c.args.key) (Some (length es)) k = λ k.
-    c.in_ok-note.ensures k
+    subst (λ (l : List ℕ). get_by_text after k ≡ update bytes_eq (get_by_text before) l (Some c.len-at.result) k) same
+    (btree_map_updates_text (string_bytes c.in_ok-clone.field-0) before after _ c.in_ok-insert.ensures.updates k)
     ∙ ap (λ (n : ℕ). update bytes_eq (get_by_text before) (string_bytes c.args.key) (Some n) k) count in
     ap (λ (ns : TomlNodes). Some ns) (sym (appended before after es (c.args.key, c.args.draft, c.args.left) c.requires noted))
     ∙ ap (λ (ds : List Draft). Some (keys_view ds after)) (sym c.in_ok-push.ensures.items)
