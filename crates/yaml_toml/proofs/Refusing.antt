@@ -9,7 +9,7 @@ use Rattle.toml_ordered.specs.Reading.{IsMemory}
 use Rattle.toml_ordered.specs.declared.fault.Fault.{Fault}
 use Rattle.toml_ordered.specs.declared.fault.Fault.TheVariants as fault
 use Rattle.yaml_toml.specs.Walk.{DeniesToml, fault_error, toml_writers_error}
-use Rattle.yaml_toml.specs.Places.{HasConflict, HasTomlPlace, IsBeforeLeft}
+use Rattle.yaml_toml.specs.Places.{HasTomlPlace, IsBeforeLeft}
 use Rattle.yaml_toml.specs.declared.error.TomlError.{TomlError}
 use Rattle.yaml_toml.specs.declared.error.TomlError.TheVariants as errors
 
@@ -46,10 +46,3 @@ pub placed_of : (text : List ℕ) (found : Fault) (error : TomlError) → toml_w
 placed_of text fault.Memory error is stops at = λ denies. absurd (denied fault.Memory error is denies refl)
 placed_of text (fault.NotToml left) error is stops at = λ denies. (left, stops, at)
 placed_of text (fault.DefinedAgain key first second) error is stops at = λ denies. (second, stops, at)
-
--- an error of another kind has none
-pub no_conflict : (text : List ℕ) (error : TomlError) → (DeniesToml error → ⊥) → HasConflict text error
-no_conflict text (errors.NotToml line column) denies = tt
-no_conflict text (errors.DefinedAgain key first_line first_column line column) denies = absurd (denies tt)
-no_conflict text errors.TooDeep denies = tt
-no_conflict text (errors.Emitter error) denies = tt

@@ -1,12 +1,11 @@
 //! Scalars of TOML, given to a writer.
-ghost use Rattle.std.specs.Prelude.{◌≡◌, OnOk, chars, option_map};
+ghost use Rattle.std.specs.Prelude.{◌≡◌, OnOk, chars};
 ghost use Rattle.toml_ordered.specs.Data.{node_view};
 ghost use Rattle.yaml_writer.specs.Contents.{text_content};
 ghost use Rattle.yaml_writer.specs.WasGiven.{IsBare};
 ghost use Rattle.yaml_toml.specs.Events.{date_content, decimal_content, infinite, json_word};
 ghost use Rattle.yaml_toml.specs.Walk.{GivesScalar, IsJsonWord};
 ghost use Rattle.yaml_toml.specs.WalkSteps.{IsNoCollection, WroteScalar};
-ghost use Rattle.yaml_writer.specs.SeenTimes.{seen_timestamp};
 ghost use Rattle.yaml_writer.specs.TomlDates.{moment_of};
 
 use std::alloc::{Allocator, Global};
@@ -84,13 +83,6 @@ fn write_decimal<A: Allocator + Copy>(
     }
 }
 
-/// Returns a date, or a date and a time with its offset, as a timestamp of YAML 1.1, where it has one.
-fn timestamp_of(datetime: &Datetime) -> Option<Timestamp>
-    ensures { option_map seen_timestamp result ≡ moment_of datetime.now }
-{
-    Timestamp::try_from(*datetime).ok()
-}
-
 /// Writes a date or a time: a timestamp, where YAML 1.1 has it, else a text.
 fn write_datetime<A: Allocator + Copy>(
     alloc: Global,
@@ -100,7 +92,7 @@ fn write_datetime<A: Allocator + Copy>(
     requires { IsBare writer.old }
     ensures { GivesScalar writer.old (date_content writer.old.canonical datetime.now (moment_of datetime.now)) result writer.new }
 {
-    match timestamp_of(datetime) {
+    match Timestamp::try_from(*datetime).ok() {
         Some(timestamp) => writer.timestamp(&timestamp),
         None => match format!(in alloc; "{datetime}") {
             Ok(text) => writer.text(text.as_str()),

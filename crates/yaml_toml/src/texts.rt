@@ -4,7 +4,7 @@ ghost use Rattle.toml_ordered.specs.Places.{IsConflict, place_left};
 ghost use Rattle.yaml_writer.specs.Places.{AreOf};
 ghost use Rattle.yaml_writer.specs.WasGiven.{IsBare};
 ghost use Rattle.yaml_toml.specs.Places.{HasConflict, IsBeforeLeft};
-ghost use Rattle.yaml_toml.specs.Walk.{DeniesToml, fault_error, stop_error, toml_writers_error};
+ghost use Rattle.yaml_toml.specs.Walk.{fault_error, toml_writers_error};
 ghost use Rattle.yaml_toml.specs.WritingCalls.{ReturnsTomlYaml, WritesToml};
 
 use crate::error::TomlError;
@@ -48,17 +48,6 @@ fn error_of(text: &str, fault: Fault) -> TomlError
     }
 }
 
-/// Returns the error that tells a caller why a document isn't written.
-fn error_of_stop(stop: Stop) -> TomlError
-    ensures error { toml_writers_error result ≡ stop_error stop }
-    ensures text { DeniesToml result → ⊥ }
-{
-    match stop {
-        Stop::TooDeep => TomlError::TooDeep,
-        Stop::Failed(error) => TomlError::Emitter(error),
-    }
-}
-
 /// Gives a writer the events of a TOML document, by all of these settings but those of a writer. Arrays and tables may nest
 /// `settings.depth` deep, the root table among them. Each of them stands in flow if `settings.flow` is set, else in a block, where it
 /// isn't empty. The keys of each table come in the order in which the document first defines them. Comments are dropped.
@@ -85,7 +74,8 @@ pub fn write_toml<A: Allocator + Copy>(
     };
     match write_root(alloc, writer, &root, &settings) {
         Ok(()) => Ok(()),
-        Err(stop) => Err(error_of_stop(stop)),
+        Err(Stop::TooDeep) => Err(TomlError::TooDeep),
+        Err(Stop::Failed(error)) => Err(TomlError::Emitter(error)),
     }
 }
 

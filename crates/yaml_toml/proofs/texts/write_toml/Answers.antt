@@ -1,12 +1,12 @@
-use Rattle.yaml_toml.proofs.Common.{◌≡◌, Option, Some, subst, sym}
+use Rattle.yaml_toml.proofs.Common.{◌≡◌, Some, refl}
 use Rattle.toml_ordered.specs.Data.{entries_view}
 use Rattle.toml_ordered.specs.Grammar.{ordered_document}
-use Rattle.yaml_base.specs.declared.errors.{yaml_error_t.yaml_error_t}
-use Rattle.yaml_writer.specs.Failing.{HasErrorSaid}
 use Rattle.yaml_pen.proofs.Composing.{grows_itself}
 use Rattle.yaml_toml.proofs.WhyFailed.{stops_read, stops_unread}
 use Rattle.yaml_toml.proofs.Fitting.{fault_explained, stop_explained}
-use Rattle.yaml_toml.proofs.Refusing.{denied, no_conflict, placed_of, said_of}
+use Rattle.yaml_toml.proofs.Refusing.{denied, placed_of, said_of}
+use Rattle.yaml_toml.specs.declared.error.TomlError.TheVariants as errors
+use Rattle.yaml_toml.specs.declared.walk.Stop.TheVariants as stop
 use Rattle.yaml_toml.proofs.texts.write_toml.Goals as goal
 
 pub returns-in-Err : goal.returns-in-Err
@@ -40,6 +40,25 @@ returns-in-Ok-write_root g c =
       nests = record { root = root; read = read; within = step.nests };
     }
 
+pub returns-in-Err-TooDeep : goal.returns-in-Err-TooDeep
+returns-in-Err-TooDeep g c =
+    let s = c.args.settings in
+    let text = c.args.text.now in
+    let was = c.args.writer.now in
+    let now = c.write_root.new.writer in
+    let root = entries_view c.in-Ok.root.items in
+    let read : ordered_document text ≡ Some root = c.in-Ok.ensures.value in
+    let step = rw c.in-Err-TooDeep.field-0-is at c.in-Err-TooDeep.ensures in
+    record {
+      grows = step.kept.grows;
+      sound = step.kept.sound;
+      refused = λ denies. absurd denies;
+      deep = stop_explained s.depth text root stop.TooDeep errors.TooDeep read refl step.nests;
+      stopped = stops_read s.depth s.flow text was errors.TooDeep now root read step.stopped;
+      place = λ denies. absurd denies;
+      conflict = tt;
+    }
+
 pub returns : goal.returns
 returns g c =
     let s = c.args.settings in
@@ -48,15 +67,13 @@ returns g c =
     let now = c.write_root.new.writer in
     let root = entries_view c.in-Ok.root.items in
     let read : ordered_document text ≡ Some root = c.in-Ok.ensures.value in
-    let step = c.in-Err-write_root.ensures in
-    let error = c.error_of_stop.result in
-    let says = c.error_of_stop.ensures in
+    let step = rw c.in-Err-Failed.field-0-is at c.in-Err-Failed.ensures in
     record {
       grows = step.kept.grows;
-      sound = subst (λ (said : Option yaml_error_t). HasErrorSaid was said now) (sym says.error) step.kept.sound;
-      refused = λ denies. absurd (says.text denies);
-      deep = stop_explained s.depth text root c.in-Err-write_root.stop error read says.error step.nests;
-      stopped = stops_read s.depth s.flow text was error now root read step.stopped;
-      place = λ denies. absurd (says.text denies);
-      conflict = no_conflict text error says.text;
+      sound = step.kept.sound;
+      refused = λ denies. absurd denies;
+      deep = stop_explained s.depth text root (stop.Failed c.in-Err-Failed.error) (errors.Emitter c.in-Err-Failed.error) read refl step.nests;
+      stopped = stops_read s.depth s.flow text was (errors.Emitter c.in-Err-Failed.error) now root read step.stopped;
+      place = λ denies. absurd denies;
+      conflict = tt;
     }
