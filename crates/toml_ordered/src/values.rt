@@ -185,9 +185,15 @@ fn scalar_node(alloc: Global, word: &[u8], scalar: Scalar) -> Result<Node, Alloc
         Scalar::Datetime(datetime) => Ok(Node::Datetime(datetime)),
         Scalar::Float(_) => {
             let plain = plain_word(alloc, word)?;
-            let name = past_sign(plain.as_str());
+            let sign = first(plain.as_str());
+            let signed = sign == b'+' || sign == b'-';
+            let name = if signed {
+                skip(plain.as_str(), 1)
+            } else {
+                plain.as_str()
+            };
             if name == "inf" {
-                let negative = first(plain.as_str()) == b'-';
+                let negative = sign == b'-';
                 Ok(Node::Infinity { negative })
             } else if name == "nan" {
                 Ok(Node::NotANumber)
@@ -195,16 +201,6 @@ fn scalar_node(alloc: Global, word: &[u8], scalar: Scalar) -> Result<Node, Alloc
                 Ok(Node::Decimal(plain))
             }
         }
-    }
-}
-
-fn past_sign(word: &str) -> &str
-    ensures { result.now ≡ spec.without_sign word.now }
-{
-    if first(word) == b'+' || first(word) == b'-' {
-        skip(word, 1)
-    } else {
-        word
     }
 }
 
