@@ -1,9 +1,9 @@
 -- What a call of a writer says to the walk.
-use Rattle.yaml_toml.proofs.Common.{◌≡◌, ◌⊎◌, ◌∷◌, ◌++◌, [], List, Bool, Option, None, Some, Result, Ok, Err, IfErr, OnOk, inl, inr, refl, ap, subst, sym, ◌∙◌}
+use Rattle.yaml_toml.proofs.Common.{◌≡◌, ◌⊎◌, ◌∷◌, ◌++◌, [], List, Bool, Option, None, Some, Result, Ok, Err, IfErr, OnOk, inl, inr, refl, subst, sym, ◌∙◌}
 use Rattle.yaml_toml.proofs.Common.{append-nil, append_assoc}
-use Rattle.yaml_toml.proofs.Common.{Event, State, WriterState, GaveEvent, WroteEvent, IsBare, end_event, with_collection, EndsInnermost}
+use Rattle.yaml_toml.proofs.Common.{Event, State, WriterState, GaveEvent, WroteEvent, IsBare, end_event, EndsInnermost}
 use Rattle.yaml_toml.proofs.Common.{AddsEvents}
-use Rattle.yaml_writer.proofs.GivenLemmas.{begun, ended, gave_then, leaves_same, none_more, on_ok, same_last, wrote_event}
+use Rattle.yaml_writer.proofs.GivenLemmas.{ended, gave_then, leaves_same, none_more, on_ok, same_last, wrote_event}
 use Rattle.yaml_writer.specs.Failing.{HasErrorSaid}
 use Rattle.yaml_writer.proofs.Taken.{gives_ok, gives_err, moves_add}
 use Rattle.toml_ordered.specs.Data.{TomlNode}
@@ -110,14 +110,6 @@ kept_then before between after result one other =
 pub moved_event : (before after : WriterState) (event : Event) (kinds : List CollectionKind) → WroteEvent before event after
     → Moved before (event ∷ []) kinds kinds after
 moved_event before after event kinds wrote outer is = leaves_same before after (event ∷ []) before.levels (outer ++ kinds) is wrote
-
--- the start of a collection
-pub moved_start : (before after : WriterState) (event same : Event) (kind : CollectionKind) → event ≡ same
-    → GaveEvent (with_collection before kind) event (Ok tt) after → Moved before (same ∷ []) [] (kind ∷ []) after
-moved_start before after event same kind is gave outer levels =
-    leaves_same before after (same ∷ []) (before.levels ++ kind ∷ []) (outer ++ kind ∷ [])
-    (ap (λ (kinds : List CollectionKind). kinds ++ kind ∷ []) (levels ∙ append-nil outer))
-    (begun before after same kind (subst (λ (e : Event). GaveEvent (with_collection before kind) e (Ok tt) after) is gave))
 
 -- the end of one
 pub moved_end : (before after : WriterState) (kind : CollectionKind) → IsBare before → EndsInnermost before (Ok tt) after

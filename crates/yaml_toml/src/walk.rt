@@ -3,9 +3,7 @@
 ghost use Rattle.std.specs.Prelude.{◌≡◌, List, [], ◌∷◌, ◌++◌, IfErr, MatchOption, OnOk};
 ghost use Rattle.toml_ordered.specs.Data.{entries_view, node_view};
 ghost use Rattle.yaml_base.specs.declared.kinds.CollectionKind.TheVariants.{Mapping, Sequence};
-ghost use Rattle.yaml_base.specs.Seen.{seen_mapping_style, seen_sequence_style};
 ghost use Rattle.yaml_base.specs.declared.kinds.CollectionKind.{CollectionKind};
-ghost use Rattle.yaml_writer.specs.Contents.{style_of};
 ghost use Rattle.yaml_writer.specs.WasGiven.{IsBare, start_event};
 ghost use Rattle.yaml_toml.specs.Walk.{Answers, HasInnermost, IsOwnMemory, IsStopOf, Moved, kinds_of, rest_kind};
 ghost use Rattle.yaml_toml.specs.WalkSteps.{IsRestOf, RootStep, TomlStep, collection_due, rest_due, value_due, walk_at};
@@ -18,8 +16,7 @@ use std::alloc::{Allocator, Global};
 use toml_ordered::{Node, Nodes};
 use yaml_writer::{
     CollectionKind, Writer, YAML_BLOCK_MAPPING_STYLE, YAML_BLOCK_SEQUENCE_STYLE,
-    YAML_FLOW_MAPPING_STYLE, YAML_FLOW_SEQUENCE_STYLE, yaml_error_t, yaml_mapping_style_t,
-    yaml_sequence_style_t,
+    YAML_FLOW_MAPPING_STYLE, YAML_FLOW_SEQUENCE_STYLE, yaml_error_t,
 };
 
 /// Why a document isn't written.
@@ -79,26 +76,6 @@ fn take_innermost<'a>(opened: &mut Vec<Rest<'a>>) -> Option<Rest<'a>>
     opened.pop()
 }
 
-fn sequence_style(in_flow: bool) -> yaml_sequence_style_t
-    ensures { seen_sequence_style result ≡ style_of in_flow }
-{
-    if in_flow {
-        YAML_FLOW_SEQUENCE_STYLE
-    } else {
-        YAML_BLOCK_SEQUENCE_STYLE
-    }
-}
-
-fn mapping_style(in_flow: bool) -> yaml_mapping_style_t
-    ensures { seen_mapping_style result ≡ style_of in_flow }
-{
-    if in_flow {
-        YAML_FLOW_MAPPING_STYLE
-    } else {
-        YAML_BLOCK_MAPPING_STYLE
-    }
-}
-
 /// Begins a collection.
 fn begin<A: Allocator + Copy>(
     writer: &mut Writer<A>,
@@ -110,8 +87,22 @@ fn begin<A: Allocator + Copy>(
     ensures kept { Answers writer.old (start_event in_flow kind) result writer.new }
 {
     match kind {
-        CollectionKind::Sequence => writer.begin_sequence(sequence_style(in_flow)),
-        CollectionKind::Mapping => writer.begin_mapping(mapping_style(in_flow)),
+        CollectionKind::Sequence => {
+            let style = if in_flow {
+                YAML_FLOW_SEQUENCE_STYLE
+            } else {
+                YAML_BLOCK_SEQUENCE_STYLE
+            };
+            writer.begin_sequence(style)
+        }
+        CollectionKind::Mapping => {
+            let style = if in_flow {
+                YAML_FLOW_MAPPING_STYLE
+            } else {
+                YAML_BLOCK_MAPPING_STYLE
+            };
+            writer.begin_mapping(style)
+        }
     }
 }
 
