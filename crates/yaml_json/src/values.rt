@@ -2,9 +2,7 @@
 ghost use Rattle.std.specs.Prelude.{◌≡◌, ◌≢◌, [], ◌∷◌, ◌-◌, length, take, IfErr, IfOk, MatchOption};
 ghost use Rattle.json.specs.Print.{IsPrintable};
 ghost use Rattle.json.specs.Reads.{token_of};
-ghost use Rattle.yaml_base.specs.Seen.{seen_mapping_style, seen_sequence_style};
 ghost use Rattle.yaml_json.specs.Failing.{IsWritersAnswer};
-ghost use Rattle.yaml_writer.specs.Contents.{style_of};
 ghost use Rattle.yaml_json.specs.Nests.{HasNoneOpen, IsNesting};
 ghost use Rattle.yaml_json.specs.Walk.{IsInnermost, LeavesNames, ReadsNone, closes, opener};
 ghost use Rattle.yaml_json.specs.WalkSteps.{FirstStep, OnlyStep, TokenStep, ValueStep, WalkStep, at};
@@ -18,8 +16,7 @@ use json::Token;
 use std::alloc::Allocator;
 use yaml_writer::{
     CollectionKind, Number, Writer, YAML_BLOCK_MAPPING_STYLE, YAML_BLOCK_SEQUENCE_STYLE,
-    YAML_FLOW_MAPPING_STYLE, YAML_FLOW_SEQUENCE_STYLE, yaml_error_t, yaml_mapping_style_t,
-    yaml_sequence_style_t,
+    YAML_FLOW_MAPPING_STYLE, YAML_FLOW_SEQUENCE_STYLE, yaml_error_t,
 };
 
 /// Where a token is that can't stand there, by where the last token that was read begins.
@@ -79,26 +76,6 @@ fn answer_of(answer: Result<(), yaml_error_t>) -> Result<(), Stop>
     }
 }
 
-fn sequence_style(in_flow: bool) -> yaml_sequence_style_t
-    ensures { seen_sequence_style result ≡ style_of in_flow }
-{
-    if in_flow {
-        YAML_FLOW_SEQUENCE_STYLE
-    } else {
-        YAML_BLOCK_SEQUENCE_STYLE
-    }
-}
-
-fn mapping_style(in_flow: bool) -> yaml_mapping_style_t
-    ensures { seen_mapping_style result ≡ style_of in_flow }
-{
-    if in_flow {
-        YAML_FLOW_MAPPING_STYLE
-    } else {
-        YAML_BLOCK_MAPPING_STYLE
-    }
-}
-
 /// Gives a writer the start of a collection.
 fn start<A: Allocator + Copy>(
     writer: &mut Writer<A>,
@@ -109,8 +86,22 @@ fn start<A: Allocator + Copy>(
     ensures { Begins kind writer.old (start_event in_flow kind) result writer.new }
 {
     match kind {
-        CollectionKind::Sequence => writer.begin_sequence(sequence_style(in_flow)),
-        CollectionKind::Mapping => writer.begin_mapping(mapping_style(in_flow)),
+        CollectionKind::Sequence => {
+            let style = if in_flow {
+                YAML_FLOW_SEQUENCE_STYLE
+            } else {
+                YAML_BLOCK_SEQUENCE_STYLE
+            };
+            writer.begin_sequence(style)
+        }
+        CollectionKind::Mapping => {
+            let style = if in_flow {
+                YAML_FLOW_MAPPING_STYLE
+            } else {
+                YAML_BLOCK_MAPPING_STYLE
+            };
+            writer.begin_mapping(style)
+        }
     }
 }
 
