@@ -11,8 +11,7 @@ use Rattle.toml_ordered.specs.Data.{TomlNode, TomlNodes}
 use Rattle.toml_ordered.specs.Firsts.{Firsts, no_firsts, HasFirst, AddsFirsts, IfAgain, IsAgain}
 use Rattle.toml_ordered.specs.Grammar.{keyval, line, val}
 use Rattle.toml_ordered.specs.Places.{EndsWith, after_pairs, ReadsUpTo, ExpressionAt, FirstDefines, PairAt, PairFirstDefines, PairsConflict, IsConflict}
-use Rattle.toml_ordered.specs.Places.{moved_to}
-use Rattle.toml_ordered.specs.Places.{moved_within, key_parts, whole_path}
+use Rattle.toml_ordered.specs.Places.{moved_to, moved_within, key_parts, whole_path}
 use Rattle.toml_ordered.specs.Reading.{IsMemory}
 use Rattle.toml_ordered.specs.Tables.{TomlDocument, Expression, define, put}
 

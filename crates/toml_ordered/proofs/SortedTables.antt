@@ -9,9 +9,8 @@ use Rattle.toml.specs.Tables as t
 use Rattle.toml_ordered.specs.Data.{TomlNode, string, integer, decimal, infinity, not_a_number, boolean, datetime, array, table, tables}
 use Rattle.toml_ordered.specs.Data.{Items, no_items, item, TomlNodes, no_nodes, node, push_item}
 use Rattle.toml_ordered.specs.Sorted.{put_sorted, sorted_value, sorted_items, sorted_keys}
-use Rattle.toml_ordered.specs.Tables.{get_node, append, replace, Edit, passed, at_step, along, steps_by, steps_along, Definition, key_value, std_table}
-use Rattle.toml_ordered.specs.Tables.{array_table}
-use Rattle.toml_ordered.specs.Tables.{new_node, redefine, at_found, at_key, put, TomlDocument, define}
+use Rattle.toml_ordered.specs.Tables.{get_node, append, replace, Edit, passed, at_step, along, steps_by, steps_along, Definition, key_value, std_table, at_key}
+use Rattle.toml_ordered.specs.Tables.{array_table, new_node, redefine, at_found, put, TomlDocument, define}
 use Rattle.toml_ordered.specs.declared.route.Way.TheVariants as way
 use Rattle.toml_ordered.specs.declared.tree.Origin.{Origin}
 use Rattle.toml_ordered.specs.declared.tree.Origin.TheVariants.{Implicit, Dotted, Header, Closed}

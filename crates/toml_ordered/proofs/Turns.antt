@@ -1,17 +1,15 @@
 -- The loops of the grammar, a turn at a time.
 use Rattle.std.proofs.Common.{◌≡◌, ℕ, zero, suc, ◌-◌, ◌<◌, true, false, ◌||◌, ◌==◌, List, [], ◌∷◌, length, drop, Option, Some, None, Result, Ok, Err, refl, ap}
-use Rattle.std.proofs.Common.{◌∙◌, arith}
-use Rattle.std.proofs.Common.{take, take_all, length-drop, option_map, cond, Bool, sym, subst, inl, inr, ◌⊎◌, ◌≤◌, bytes_eq, codes}
+use Rattle.std.proofs.Common.{◌∙◌, arith, take, take_all, length-drop, option_map, cond, Bool, sym, subst, inl, inr, ◌⊎◌, ◌≤◌, bytes_eq, codes}
 use Rattle.std.proofs.lemmas.Bool.{cases_Bool, cases_lt}
 use Rattle.std.specs.Result.{IsErrAnd}
 use Rattle.toml_parser.specs.Numbers.{unquoted, word_len, word_value}
-use Rattle.toml_parser.specs.Strings.{starts_string, quoted}
+use Rattle.toml_parser.specs.Strings.{starts_string, quoted, Key}
 use Rattle.toml_parser.specs.declared.scalar.Scalar.{Scalar}
 use Rattle.toml_parser.specs.declared.scalar.Scalar.TheVariants as scalar
 use Rattle.toml_parser.specs.declared.error.ParseError.{ParseError}
 use Rattle.toml_parser.specs.declared.error.ParseError.TheVariants as parse
 use Rattle.toml_parser.specs.Lexical.{Read, first, skip_blank}
-use Rattle.toml_parser.specs.Strings.{Key}
 use Rattle.toml.specs.Parse.{read_map, after_element, key_equals, skip_bom}
 use Rattle.toml_ordered.specs.Data.{TomlNode, string, decimal, infinity, not_a_number, Items, no_items, array, table, push_item, TomlNodes, no_nodes}
 use Rattle.toml_ordered.specs.Drafts.{sealed}

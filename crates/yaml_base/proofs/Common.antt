@@ -19,13 +19,12 @@ pub use Rattle.std.specs.Prelude.{◌∷◌, ◌≡◌, ◌≤◌, ◌⊎◌, if
 pub use Rattle.std.specs.Prelude.{option_and_then, bytes_eq, fold, count_by}
 pub use lib.Utf8.{scalar_cases, scalars}
 pub use Rattle.yaml_base.specs.{Encoding.encode, Encoding.cut, Indicators.version_1_1, Indicators.version_1_2, Places.most_key_bytes, TidyBodies.BodyIsTidy}
-pub use Rattle.yaml_base.specs.{Words.is_word, Words.named, WrittenTexts.BodiesAreTidy, graphs.Dumped.AreDumped, graphs.Isomorphic.label_at}
+pub use Rattle.yaml_base.specs.{Words.is_word, Words.named, WrittenTexts.BodiesAreTidy, graphs.Dumped.AreDumped, graphs.Isomorphic.label_at, scalars.Plain.runs}
 pub use Rattle.yaml_base.specs.{graphs.Isomorphic.Isomorphic, graphs.SeenNodes.numbers_of_pairs, graphs.SeenNodes.all_numbers, graphs.SeenNodes.first_outside}
-pub use Rattle.yaml_base.specs.{reading.ReadBytes.characters_read, reading.ReadFolding.FoldUnit, reading.ReadFolding.unit_of}
-pub use Rattle.yaml_base.specs.{reading.ReadFolding.folding_read, reading.ReadPercent.is_uri_character, reading.ReadPercent.percent_read}
-pub use Rattle.yaml_base.specs.{reading.ReadSingle.unquoted, reading.ReadSingle.read_single, scalars.Folded.folded_parts, scalars.Lines.parts}
-pub use Rattle.yaml_base.specs.{scalars.Plain.runs, scalars.Plain.render_runs, scalars.SingleQuoted.quotes_doubled, scalars.SingleQuoted.single_quote}
-pub use Rattle.yaml_base.specs.{streams.StreamReader.stream_trees}
+pub use Rattle.yaml_base.specs.{reading.ReadBytes.characters_read, reading.ReadFolding.FoldUnit, reading.ReadFolding.unit_of, reading.ReadFolding.folding_read}
+pub use Rattle.yaml_base.specs.{reading.ReadPercent.is_uri_character, reading.ReadPercent.percent_read, reading.ReadSingle.unquoted, scalars.Lines.parts}
+pub use Rattle.yaml_base.specs.{reading.ReadSingle.read_single, scalars.Folded.folded_parts, scalars.Plain.render_runs, scalars.SingleQuoted.quotes_doubled}
+pub use Rattle.yaml_base.specs.{scalars.SingleQuoted.single_quote, streams.StreamReader.stream_trees}
 pub use Rattle.yaml_base.specs.Characters.{Text, is_among, is_between, line_feed, carriage_return, next_line, line_separator, paragraph_separator, space, tab}
 pub use Rattle.yaml_base.specs.Characters.{is_alpha, is_ascii, is_space, is_blank, is_break, is_printable, hex_digit, hex_digits}
 pub use Rattle.yaml_base.specs.Cursor.{Cursor, Rendered, first_cursor, render_nothing, render_then, column_after, breaks_line, new_line, space_if, indicator}
@@ -35,20 +34,18 @@ pub use Rattle.yaml_base.specs.Event.{TagDirective, DocumentStart, Scalar, Colle
 pub use Rattle.yaml_base.specs.Event.{scalar, sequence_start, sequence_end, mapping_start, mapping_end, scalar_tag, collection_tag}
 pub use Rattle.yaml_base.specs.Grammar.{Node, alias_node, scalar_node, Nodes, sequence_node, Pairs, mapping_node, no_nodes, nodes_and, no_pairs, pairs_and}
 pub use Rattle.yaml_base.specs.Grammar.{Document, Documents, no_documents, documents_and, Stream, node_events, nodes_events, pairs_events, document_events}
-pub use Rattle.yaml_base.specs.Grammar.{documents_events, stream_events, Level, at_item, at_key, at_value, Partial, before_stream, between_documents}
-pub use Rattle.yaml_base.specs.Grammar.{within_document, after_root, after_stream, with_node, closed, push_within, push, pushed, partial_of, finished}
-pub use Rattle.yaml_base.specs.Grammar.{tree_of}
+pub use Rattle.yaml_base.specs.Grammar.{documents_events, stream_events, Level, at_item, at_key, at_value, Partial, before_stream, between_documents, with_node}
+pub use Rattle.yaml_base.specs.Grammar.{within_document, after_root, after_stream, closed, push_within, push, pushed, partial_of, finished, tree_of}
 pub use Rattle.yaml_base.specs.Layout.{Role, Body, as_root, as_item, as_key, render_if, as_value, Piece, Place, is_key, render_closing_marker, piece_text}
-pub use Rattle.yaml_base.specs.Layout.{is_in_mapping, text_of, is_undented, bodies_of, render_version, line_column, Standing, deeper, RenderedPiece}
-pub use Rattle.yaml_base.specs.Layout.{entries_column, RenderedPieces, one_piece, byte_count, then_pieces, render_tag_directives, name_count}
-pub use Rattle.yaml_base.specs.Layout.{piece_without_body, tag_count, has_directives, is_explicit, render_anchor, is_short, render_document_marker}
-pub use Rattle.yaml_base.specs.Layout.{is_simple_scalar, render_document_start, is_simple_collection, has_no_nodes, document_start_piece, has_no_pairs}
-pub use Rattle.yaml_base.specs.Layout.{is_simple, document_end_piece, render_properties, root_place, render_alias, render_document, is_simple_at, flow_break}
-pub use Rattle.yaml_base.specs.Layout.{render_separation, has_no_documents, opening_or_comma, render_body, render_documents, key_indicator, render_flow_place}
-pub use Rattle.yaml_base.specs.Layout.{first_standing, stream_end_piece, open_ended_after, charset_of, style_asked_at, choice_of, layout, body_at, render_place}
-pub use Rattle.yaml_base.specs.Layout.{start_piece, allowed_by_quotes, allowed_by_blanks, allowed_under}
-pub use Rattle.yaml_base.specs.Layout.{asks_flow, is_written_in_flow, Brackets, square, curly, empty_or_comma, render_end, entry_place, render_node}
-pub use Rattle.yaml_base.specs.Layout.{render_nodes, render_pairs}
+pub use Rattle.yaml_base.specs.Layout.{is_in_mapping, text_of, is_undented, bodies_of, render_version, line_column, Standing, deeper, RenderedPiece, one_piece}
+pub use Rattle.yaml_base.specs.Layout.{entries_column, RenderedPieces, byte_count, then_pieces, render_tag_directives, name_count, piece_without_body, is_short}
+pub use Rattle.yaml_base.specs.Layout.{tag_count, has_directives, is_explicit, render_anchor, render_document_marker, is_simple_scalar, render_document_start}
+pub use Rattle.yaml_base.specs.Layout.{is_simple_collection, has_no_nodes, document_start_piece, has_no_pairs, is_simple, document_end_piece, render_properties}
+pub use Rattle.yaml_base.specs.Layout.{root_place, render_alias, render_document, is_simple_at, flow_break, render_separation, has_no_documents, render_body}
+pub use Rattle.yaml_base.specs.Layout.{opening_or_comma, render_documents, key_indicator, render_flow_place, first_standing, stream_end_piece, open_ended_after}
+pub use Rattle.yaml_base.specs.Layout.{charset_of, style_asked_at, choice_of, layout, body_at, render_place, start_piece, allowed_by_quotes, allowed_by_blanks}
+pub use Rattle.yaml_base.specs.Layout.{allowed_under, asks_flow, is_written_in_flow, Brackets, square, curly, empty_or_comma, render_end, entry_place}
+pub use Rattle.yaml_base.specs.Layout.{render_node, render_nodes, render_pairs}
 pub use Rattle.yaml_base.specs.LineBreaks.{break_text, with_breaks_written, with_line_breaks_read, is_read_break, is_rendered_text, is_indented_text}
 pub use Rattle.yaml_base.specs.Meaning.{read_in_style, has_scalar_values, MeaningIsKept, directive_scalars, has_scalar_texts}
 pub use Rattle.yaml_base.specs.Output.{encoding_asked, settings_for, text_written, bytes_written, output_of}
@@ -73,9 +70,8 @@ pub use Rattle.yaml_base.specs.graphs.Meetings.{first_of_each, shared_nodes, num
 pub use Rattle.yaml_base.specs.graphs.Meetings.{opening_event_of, opening_events, closing_event_of, closing_events, step_events, document_event_list}
 pub use Rattle.yaml_base.specs.graphs.Unfolding.{scalar_kind, sequence_kind, mapping_kind, Label, Shape, no_shapes, node_shape_of, nodes_shapes, pairs_shapes}
 pub use Rattle.yaml_base.specs.graphs.Unfolding.{Placed, alias_placed, PlacedNodes, node_placed, none_placed, placed_and, number_at, numbers_at, label_of}
-pub use Rattle.yaml_base.specs.graphs.Unfolding.{HasShape, HaveShapes, Occurrence, alias_occurrence, node_occurrence, occurrences, occurrences_below}
-pub use Rattle.yaml_base.specs.graphs.Unfolding.{has_anchor, is_occurrence_of, NamesItsNode, NameTheirNodes, IsReached, first_reached, child_reached}
-pub use Rattle.yaml_base.specs.graphs.Unfolding.{TreeUnfolds}
+pub use Rattle.yaml_base.specs.graphs.Unfolding.{HasShape, HaveShapes, Occurrence, alias_occurrence, node_occurrence, occurrences, occurrences_below, IsReached}
+pub use Rattle.yaml_base.specs.graphs.Unfolding.{has_anchor, is_occurrence_of, NamesItsNode, NameTheirNodes, first_reached, child_reached, TreeUnfolds}
 pub use Rattle.yaml_base.specs.graphs.Unfolding.{ContentUnfolds, IsWholeGraph}
 pub use Rattle.yaml_base.specs.reading.CanonicalReader.{shorthand_read, verbatim_read, tag_read, canonical_content}
 pub use Rattle.yaml_base.specs.reading.Content.{tagged, untagged, Content, scalar_content, sequence_content, mapping_content, no_contents, contents_and}
@@ -84,8 +80,7 @@ pub use Rattle.yaml_base.specs.reading.ReadBlock.{elements, strip, digit_first, 
 pub use Rattle.yaml_base.specs.reading.ReadBlock.{read_block}
 pub use Rattle.yaml_base.specs.reading.ReadDouble.{QuotePlace, between, goes_on, gives, ends_quotes, has_no_reading, Quoted, with_unit, after_step}
 pub use Rattle.yaml_base.specs.reading.ReadDouble.{quoted_from, quoted_reading, value_before, value_alone, read_double}
-pub use Rattle.yaml_base.specs.reading.ReadPlain.{is_read_white, begins_white, begins_with_three, begins_no_plain, begins_with_hash, holds_no_plain}
-pub use Rattle.yaml_base.specs.reading.ReadPlain.{read_plain}
+pub use Rattle.yaml_base.specs.reading.ReadPlain.{is_read_white, begins_white, begins_with_three, begins_no_plain, begins_with_hash, holds_no_plain, read_plain}
 pub use Rattle.yaml_base.specs.reading.ReadTags.{ParsedTag, bare_parsed, name_parsed, CutText, prefix_among, directives_assumed, cut_after_exclamation}
 pub use Rattle.yaml_base.specs.reading.ReadTags.{name_joined, without_closing_angle, tag_parsed}
 pub use Rattle.yaml_base.specs.reading.TidyText.{begins_with_spaces, begins_with_blank_line, begins_with_deep_line, has_deep_lines, has_no_space_before_break}
@@ -100,11 +95,10 @@ pub use Rattle.yaml_base.specs.scalars.Style.{fits_plain, chosen}
 pub use Rattle.yaml_base.specs.streams.StreamContent.{Stood, stood_plain, stood_quoted, stood_bare, Tagging, with_tag, without_tag, Tree, alias_tree}
 pub use Rattle.yaml_base.specs.streams.StreamContent.{scalar_tree, Trees, sequence_tree, TreePairs, mapping_tree, no_trees, trees_and, no_tree_pairs}
 pub use Rattle.yaml_base.specs.streams.StreamContent.{tree_pairs_and, DocumentTree, document_agrees, documents_in_order, agrees}
-pub use Rattle.yaml_base.specs.streams.StreamDocuments.{begins_with_marker, start_marker, end_marker, no_exclamation, marker_of, Section, Sections}
-pub use Rattle.yaml_base.specs.streams.StreamDocuments.{sections_of, Heading, no_heading, heading_read, stands_at_margin, root_below, after_heading}
-pub use Rattle.yaml_base.specs.streams.StreamDocuments.{with_read_document, with_heading, section_by_kind, directive_lines, document_lines}
-pub use Rattle.yaml_base.specs.streams.StreamDocuments.{begins_with_percent, prefix_kind, lines_before_marker_read, documents_at_end, sections_read}
-pub use Rattle.yaml_base.specs.streams.StreamDocuments.{documents_of}
+pub use Rattle.yaml_base.specs.streams.StreamDocuments.{begins_with_marker, start_marker, end_marker, no_exclamation, marker_of, Section, Sections, sections_of}
+pub use Rattle.yaml_base.specs.streams.StreamDocuments.{Heading, no_heading, heading_read, stands_at_margin, root_below, after_heading, with_read_document}
+pub use Rattle.yaml_base.specs.streams.StreamDocuments.{with_heading, section_by_kind, directive_lines, document_lines, begins_with_percent, prefix_kind}
+pub use Rattle.yaml_base.specs.streams.StreamDocuments.{lines_before_marker_read, documents_at_end, sections_read, documents_of}
 pub use Rattle.yaml_base.specs.streams.StreamFlow.{is_alias, longest_key, is_key_text, no_key, key_due, key_held, OpenFlow, in_sequence, in_mapping, at_once}
 pub use Rattle.yaml_base.specs.streams.StreamFlow.{after_blank, after_white, Awaited, collection_awaited, entry_awaited, node_awaited, comma_awaited}
 pub use Rattle.yaml_base.specs.streams.StreamFlow.{colon_awaited, FlowReading, failed, done, within, with_tree, word_step, level_opened, opened, flow_step}
@@ -112,12 +106,11 @@ pub use Rattle.yaml_base.specs.streams.StreamFlow.{tree_at_end, flow_read}
 pub use Rattle.yaml_base.specs.streams.StreamLines.{Line, prepend_to_first_line, prepend_character, lines_of, text_of_lines, is_spaces, without_blank_lines}
 pub use Rattle.yaml_base.specs.streams.StreamLines.{first_line_is_blank, ends_indicator, begins_with_indicator, belongs_to_entry, all_deeper, Indented}
 pub use Rattle.yaml_base.specs.streams.StreamLines.{indented_step, past_indentation, spaces, blanked}
-pub use Rattle.yaml_base.specs.streams.StreamNodes.{SimpleKey, without_last_space, word_but_alias, word_of_alias, key_of_text, key_ends, key_from}
-pub use Rattle.yaml_base.specs.streams.StreamNodes.{key_of_line, LinesReader, key_entry, value_entry, simple_entry, prepend_to_trimmed, trimmed, word_text}
-pub use Rattle.yaml_base.specs.streams.StreamNodes.{is_space_or_break}
-pub use Rattle.yaml_base.specs.streams.StreamNodes.{kind_of_text, text_by_kind, text_read, NodeKind, begins_sequence, begins_mapping, begins_text}
-pub use Rattle.yaml_base.specs.streams.StreamNodes.{kind_of_node, ReadsText, node_by_kind, node_at, node_lines, begins_properties, after_properties}
-pub use Rattle.yaml_base.specs.streams.StreamNodes.{text_or_properties, node_read}
+pub use Rattle.yaml_base.specs.streams.StreamNodes.{SimpleKey, without_last_space, word_but_alias, word_of_alias, key_of_text, key_ends, key_from, key_of_line}
+pub use Rattle.yaml_base.specs.streams.StreamNodes.{LinesReader, key_entry, value_entry, simple_entry, prepend_to_trimmed, trimmed, word_text, kind_of_text}
+pub use Rattle.yaml_base.specs.streams.StreamNodes.{is_space_or_break, text_by_kind, text_read, NodeKind, begins_sequence, begins_mapping, begins_text, node_at}
+pub use Rattle.yaml_base.specs.streams.StreamNodes.{kind_of_node, ReadsText, node_by_kind, node_lines, begins_properties, after_properties, text_or_properties}
+pub use Rattle.yaml_base.specs.streams.StreamNodes.{node_read}
 pub use Rattle.yaml_base.specs.streams.StreamScalars.{Rules, Properties, no_properties, PropertiesRead, cut_before_space, name_read, anchor_of_word}
 pub use Rattle.yaml_base.specs.streams.StreamScalars.{tag_of_word, tag_first, properties_read, collection_tag_parsed, tagging_parsed}
 pub use Rattle.yaml_base.specs.streams.StreamScalars.{style_of_first_character, stood_in_style, scalar_parsed, scalar_of_style, an_alias, empty_sequence}

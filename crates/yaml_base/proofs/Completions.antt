@@ -1,9 +1,8 @@
 -- The completion of a list that begins a stream is a stream.
-use Rattle.yaml_base.proofs.Common.{nat_tests, arith, option_and_then, Option, None, Some, true, List, [], ◌++◌, ◌∷◌, refl, ◌≡◌, any_style, DocumentStart}
-use Rattle.yaml_base.proofs.Common.{Event, Node, scalar_node, sequence_node, mapping_node, no_nodes, nodes_and, no_pairs, pairs_and}
-use Rattle.yaml_base.proofs.Common.{Documents, no_documents, documents_and, Stream, Level, at_item, at_key, at_value, Partial, before_stream, between_documents}
-use Rattle.yaml_base.proofs.Common.{within_document, after_root, after_stream, with_node, push, pushed, partial_of, outer_missing, levels_missing, missing}
-use Rattle.yaml_base.proofs.Common.{completion, Encoding}
+use Rattle.yaml_base.proofs.Common.{nat_tests, arith, option_and_then, Option, None, Some, true, List, [], ◌++◌, ◌∷◌, refl, ◌≡◌, any_style, DocumentStart, Node}
+use Rattle.yaml_base.proofs.Common.{Event, scalar_node, sequence_node, mapping_node, no_nodes, nodes_and, no_pairs, pairs_and, Documents, no_documents, Stream}
+use Rattle.yaml_base.proofs.Common.{documents_and, Level, at_item, at_key, at_value, Partial, before_stream, between_documents, within_document, after_root}
+use Rattle.yaml_base.proofs.Common.{after_stream, with_node, push, pushed, partial_of, outer_missing, levels_missing, missing, completion, Encoding}
 use Rattle.std.specs.Prelude.{flat_map}
 
 append_next : (a b : List Event) (next : Option Partial) → ((q : Partial) → pushed q (a ++ b) ≡ option_and_then (λ r. pushed r b) (pushed q a))

@@ -1,12 +1,11 @@
 -- The content of a tree that unfolds a graph unfolds it but for its styles; graphs dumped one after another are a stream
 -- of such documents.
-use Rattle.yaml_base.proofs.Common.{arith, All, option_map, Option, None, Some, Bool, false, true, List, [], ◌++◌, ◌∷◌, refl, ◌≡◌, append-nil, append_assoc}
-use Rattle.yaml_base.proofs.Common.{ap, sym, ◌∙◌, All-head, All-tail, Text, Event, stream_start, stream_end, Node, alias_node, scalar_node, Nodes}
-use Rattle.yaml_base.proofs.Common.{sequence_node, Pairs, mapping_node, no_nodes, nodes_and, no_pairs, pairs_and, Documents, no_documents, documents_and}
-use Rattle.yaml_base.proofs.Common.{Stream, documents_events, stream_events, AreDumped, Held, GraphNode, Graph, document_event_list, scalar_kind}
-use Rattle.yaml_base.proofs.Common.{sequence_kind, mapping_kind, Label, node_shape_of, nodes_shapes, pairs_shapes, Placed, alias_placed, PlacedNodes}
-use Rattle.yaml_base.proofs.Common.{node_placed, none_placed, placed_and, label_of, HasShape, HaveShapes, TreeUnfolds, ContentUnfolds, IsWholeGraph}
-use Rattle.yaml_base.proofs.Common.{DocumentContent, node_content, nat_tests}
+use Rattle.yaml_base.proofs.Common.{arith, All, option_map, Option, None, Some, Bool, false, true, List, [], ◌++◌, ◌∷◌, refl, ◌≡◌, append-nil, append_assoc, ap}
+use Rattle.yaml_base.proofs.Common.{sym, ◌∙◌, All-head, All-tail, Text, Event, stream_start, stream_end, Node, alias_node, scalar_node, Nodes, sequence_node}
+use Rattle.yaml_base.proofs.Common.{Pairs, mapping_node, no_nodes, nodes_and, no_pairs, pairs_and, Documents, no_documents, documents_and, Stream, AreDumped}
+use Rattle.yaml_base.proofs.Common.{documents_events, stream_events, Held, GraphNode, Graph, document_event_list, scalar_kind, sequence_kind, mapping_kind}
+use Rattle.yaml_base.proofs.Common.{Label, node_shape_of, nodes_shapes, pairs_shapes, Placed, alias_placed, PlacedNodes, node_placed, none_placed, placed_and}
+use Rattle.yaml_base.proofs.Common.{label_of, HasShape, HaveShapes, TreeUnfolds, ContentUnfolds, IsWholeGraph, DocumentContent, node_content, nat_tests}
 use Rattle.std.specs.Prelude.{flat_map}
 use Rattle.yaml_base.{proofs.DocumentsUnfold.document_unfolds, proofs.Trees.tree_of-stream_events, specs.graphs.Dumped.ContentsUnfold}
 use Rattle.yaml_base.specs.graphs.Unfolding.{StyledKind, explicit_tag, content_shape, contents_shapes, content_pairs_shapes, kind_held}

@@ -2,7 +2,7 @@
 use Rattle.std.proofs.Common.{◌≡◌, List, [], ◌∷◌, refl, Option, None, Some, is_some, true}
 use lib.Dec.{T}
 use seplogic.Ra.Ura.{Ura}
-use mir.Syntax.{ty_ptr}
+use mir.Syntax.{ty_ptr, Sym, ty_struct}
 use mir.Val.{Val, WT, has_ty, vcons, vnil, vstruct}
 use types.Logic.{Logic}
 use denote.RawPtr.{Ptr, ptr_val, rawptr_Lawful}
@@ -11,7 +11,6 @@ use denote.Laws.{Is}
 use denote.RattleType.{RattleType}
 use denote.Steps.{owned}
 use denote.Struct.Struct.{Shape, Struct, Struct-Makes, as_fields, to_tys}
-use mir.Syntax.{Sym, ty_struct}
 use types.Kit.{Goal, Item, Step, ‵}
 
 abbrev pub pointer_val : Ptr → Val

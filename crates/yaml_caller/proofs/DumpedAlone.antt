@@ -1,8 +1,7 @@
 -- What a dump and the stream's end come to on an unopened emitter.
-use Rattle.yaml_caller.proofs.Common.{if◌then◌else◌, ◌==◌, OnOk, None, Result, Err, Ok, length, Bool, false, ◌||◌, List, [], ◌++◌, ◌∷◌, ◌≡◌}
-use Rattle.yaml_caller.proofs.Common.{append-nil, append_assoc, inl, inr, ap, subst, sym, ◌∙◌, All-nil, All-cons, Event, stream_start, stream_end}
-use Rattle.yaml_caller.proofs.Common.{AreDumped, IsWholeGraph, Settings, Graph, document_event_list, graph_events}
-use Rattle.yaml_caller.proofs.Common.{opening_unless, closing_unless, Dumps, StandsAfter, State}
+use Rattle.yaml_caller.proofs.Common.{if◌then◌else◌, ◌==◌, OnOk, None, Result, Err, Ok, length, Bool, false, ◌||◌, List, [], ◌++◌, ◌∷◌, ◌≡◌, append-nil, inl}
+use Rattle.yaml_caller.proofs.Common.{append_assoc, inr, ap, subst, sym, ◌∙◌, All-nil, All-cons, Event, stream_start, stream_end, AreDumped, IsWholeGraph}
+use Rattle.yaml_caller.proofs.Common.{Settings, Graph, document_event_list, graph_events, opening_unless, closing_unless, Dumps, StandsAfter, State}
 use Rattle.yaml_base.specs.declared.errors.yaml_error_t.{yaml_error_t}
 use Rattle.yaml_dump.proofs.{Emissions.closing_move, Emissions.closing_promised, Emissions.fails_error, Emissions.fails_promised}
 use Rattle.yaml_dump.proofs.GraphLemmas.{written_whole}

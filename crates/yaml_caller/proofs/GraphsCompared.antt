@@ -1,8 +1,7 @@
 -- Two graphs are isomorphic exactly where their bytes are the same.
-use Rattle.yaml_caller.proofs.Common.{ℕ, ◌<◌, ◌==◌, Decides, is_none, bytes_eq, None, Result}
-use Rattle.yaml_caller.proofs.Common.{Err, Ok, length, Bool, false, true, List, [], map, ◌++◌, ◌∷◌, ◌⊎◌, refl, ◌≡◌, append_assoc, inl, inr}
-use Rattle.yaml_caller.proofs.Common.{ap, subst, sym, ◌∙◌, arith, bytes_eq-Decides, GraphsRead, State}
-use Rattle.yaml_caller.proofs.Common.{bare, GraphNode, Graph, IsWholeGraph, typed_settings, graph_events, IsRefused}
+use Rattle.yaml_caller.proofs.Common.{ℕ, ◌<◌, ◌==◌, Decides, is_none, bytes_eq, None, Result, Err, Ok, length, Bool, false, true, List, [], map, ◌++◌, ◌∷◌, ◌⊎◌}
+use Rattle.yaml_caller.proofs.Common.{refl, ◌≡◌, append_assoc, inl, inr, ap, subst, sym, ◌∙◌, arith, bytes_eq-Decides, GraphsRead, State, bare, GraphNode}
+use Rattle.yaml_caller.proofs.Common.{Graph, IsWholeGraph, typed_settings, graph_events, IsRefused}
 use Rattle.yaml_base.proofs.Common.{suc, zero, option_map, eqb-true, ne_eqb, false≢true, label_at, Isomorphic, node_numbered, numbers_in, is_whole, label_of}
 use Rattle.yaml_base.proofs.Common.{IsReached, first_reached, child_reached}
 use Rattle.std.specs.Prelude.{slice_get}

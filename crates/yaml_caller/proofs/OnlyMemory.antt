@@ -1,9 +1,7 @@
 -- Why an emitter fails that has the first events of an accepted list: for want of memory, or because the list's bytes pass the
 -- limit. Where they don't, memory alone can give out.
-use Rattle.yaml_caller.proofs.Common.{ℕ, ◌<◌, ◌≤◌, IsErrAnd, IfErr, IsErr, Some, Result, Err, Ok, length, List, [], ◌++◌, ◌∷◌, ◌⊎◌}
-use Rattle.yaml_caller.proofs.Common.{refl, ◌≡◌, append_assoc, inl, inr, ap, subst, sym, ◌∙◌, arith, Event}
-use Rattle.yaml_caller.proofs.Common.{most_open, open_count, IsAccepted, Settings}
-use Rattle.yaml_caller.proofs.Common.{RefusedAt, Promised, State}
+use Rattle.yaml_caller.proofs.Common.{ℕ, ◌<◌, ◌≤◌, IsErrAnd, IfErr, IsErr, Some, Result, Err, Ok, length, List, [], ◌++◌, ◌∷◌, ◌⊎◌, refl, ◌≡◌, append_assoc, ap}
+use Rattle.yaml_caller.proofs.Common.{inl, inr, subst, sym, ◌∙◌, arith, Event, most_open, open_count, IsAccepted, Settings, RefusedAt, Promised, State}
 use Rattle.yaml_base.proofs.Common.{◌+◌, ◌-◌, count_by, cond, sum_by-append, settings_for, bytes_written, list_layout, begins_collection}
 use Rattle.yaml_base.proofs.Common.{ends_collection, true≢false}
 use Rattle.std.{proofs.Common.lt_of_not-le}

@@ -1,23 +1,18 @@
 -- Which node a name stands for, at each point of a walk.
-use Rattle.yaml_base.proofs.Common.{suc, ℕ, ◌+◌, ◌<◌, ◌≤◌, ◌==◌, count_by, option_map, unwrap_or, Option, None, Some, length, Bool, cond, false, not, true}
-use Rattle.yaml_base.proofs.Common.{◌||◌}
-use Rattle.yaml_base.proofs.Common.{List, [], ◌++◌, ◌∷◌, refl, ◌≡◌, eq-eqb, eqb-true, append-nil, append_assoc, inl, inr, ap, subst, sym}
-use Rattle.yaml_base.proofs.Common.{◌∙◌, arith, filter_map, filter_map-append, list_any, list_any-append, position, position_or_len, Text, Graph, Step, enters}
-use Rattle.yaml_base.proofs.Common.{meets_again, is_entry_of}
-use Rattle.yaml_base.proofs.Common.{slice_index_or as get_or, node_met_again, shared_nodes, numbered_name, anchor_of, or-true, or_cases}
-use Rattle.std.proofs.lemmas.List.Quantifiers.{position-Some}
+use Rattle.yaml_base.proofs.Common.{suc, ℕ, ◌+◌, ◌<◌, ◌≤◌, ◌==◌, count_by, option_map, unwrap_or, Option, None, Some, length, Bool, cond, false, not, true, []}
+use Rattle.yaml_base.proofs.Common.{◌||◌, List, ◌++◌, ◌∷◌, refl, ◌≡◌, eq-eqb, eqb-true, append-nil, append_assoc, inl, inr, ap, subst, sym, ◌∙◌, arith, Text}
+use Rattle.yaml_base.proofs.Common.{filter_map, filter_map-append, list_any, list_any-append, position, position_or_len, Graph, Step, enters, meets_again}
+use Rattle.yaml_base.proofs.Common.{is_entry_of, slice_index_or as get_or, node_met_again, shared_nodes, numbered_name, anchor_of, or-true, or_cases}
+use Rattle.std.proofs.{lemmas.List.Quantifiers.position-Some, Math.Bool.or-false}
 use Rattle.std.proofs.Common.{get_or-set_other, get_or-set_same, length-set}
 use Rattle.std.specs.Prelude.{slice_set}
-use Rattle.std.proofs.Math.Bool.{or-false}
-use Rattle.yaml_base.specs.Settings.{largest_usize}
-use Rattle.yaml_base.specs.graphs.Meetings.{graph_steps}
+use Rattle.yaml_base.specs.{Settings.largest_usize, graphs.Meetings.graph_steps}
 use Rattle.yaml_base.proofs.SharedNodes.{has, shared_named}
 use Rattle.yaml_base.proofs.UnfoldSteps.{FollowEntries, IsOrderly}
 use Rattle.yaml_base.proofs.DocumentsUnfold.{count_cons}
 use Rattle.yaml_dump.specs.InOrder.{entered_nodes, number_in_order}
 use Rattle.yaml_dump.specs.Composition.{number_of_anchor, number_in_name}
-use Rattle.yaml_dump.proofs.InOrderLemmas.{entered_has}
-use Rattle.yaml_dump.proofs.NameNumbers.{name_read}
+use Rattle.yaml_dump.proofs.{InOrderLemmas.entered_has, NameNumbers.name_read}
 
 -- ---- a node's place is that of its entry
 

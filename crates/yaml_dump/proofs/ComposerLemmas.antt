@@ -1,26 +1,15 @@
 -- What the composer's lists are, as they are seen.
 use Rattle.yaml_base.proofs.Common.{suc, ℕ, ℤ, ◌+◌, ◌*◌, ◌<◌, ◌≤◌, length, replicate, drop, slice_index_or as get_or, List, [], map, ◌∷◌, ◌++◌, refl, ◌≡◌, ap}
-use Rattle.yaml_base.proofs.Common.{sym, ◌∙◌, arith, pos, zero}
-use Rattle.yaml_base.proofs.Common.{map-append, append_assoc, append-nil, length-map}
-use Rattle.yaml_base.specs.declared.nodes.yaml_node_pair_t.{yaml_node_pair_t}
-use Rattle.yaml_base.specs.graphs.SeenNodes.{seen_pair}
-use Rattle.std.specs.Prelude.{take, fold}
-use Rattle.std.proofs.Common.{to_z, of_z}
-use Rattle.std.proofs.lemmas.List.Sums.{fold-append}
-use Rattle.yaml_base.specs.Seen.{seen_event}
-use Rattle.yaml_base.specs.declared.events.yaml_event_t.{yaml_event_t}
-use Rattle.yaml_dump.specs.Composition.{composed}
-use Rattle.std.specs.Prelude.{FitsSigned, slice_set, reverse}
-use Rattle.std.proofs.Common.{w32, drop-cons}
+use Rattle.yaml_base.proofs.Common.{sym, ◌∙◌, arith, pos, zero, map-append, append_assoc, append-nil, length-map}
+use Rattle.yaml_base.specs.{declared.nodes.yaml_node_pair_t.yaml_node_pair_t, Seen.seen_event, declared.events.yaml_event_t.yaml_event_t}
+use Rattle.yaml_base.specs.graphs.SeenNodes.{seen_pair, seen_number, seen_node}
+use Rattle.std.specs.Prelude.{take, fold, FitsSigned, slice_set, reverse}
+use Rattle.std.proofs.Common.{to_z, of_z, w32, drop-cons}
+use Rattle.std.proofs.{lemmas.List.Sums.fold-append, lemmas.Int.to_z-of_z}
+use Rattle.yaml_base.specs.{graphs.Meetings.NumberPair, declared.nodes.yaml_node_t.yaml_node_t}
+use Rattle.yaml_dump.specs.Composition.{composed, filled, node_with, node_at_place, Composition, nothing_composed, paired}
 use Rattle.std.proofs.lemmas.List.{length-drop, map-set, take_more}
-use Rattle.yaml_dump.specs.Composition.{filled, node_with, node_at_place}
-use Rattle.std.proofs.lemmas.Int.{to_z-of_z}
-use Rattle.yaml_base.specs.graphs.Meetings.{NumberPair}
-use Rattle.yaml_base.specs.graphs.SeenNodes.{seen_number, seen_node}
-use Rattle.yaml_base.specs.declared.nodes.yaml_node_t.{yaml_node_t}
-use Rattle.yaml_dump.specs.Composition.{Composition, nothing_composed, paired}
-use Rattle.yaml_dump.specs.SeenComposer.{seen_unended}
-use Rattle.yaml_dump.specs.declared.composer.Unended.{Unended}
+use Rattle.yaml_dump.specs.{SeenComposer.seen_unended, declared.composer.Unended.Unended}
 
 pub carrier_set : (carriers : List ℤ) (number : ℕ) (carrier : ℤ) → FitsSigned w32 carrier
     → map seen_number (slice_set carriers number (to_z w32 (of_z w32 carrier))) ≡ slice_set (map seen_number carriers) number (seen_number carrier)

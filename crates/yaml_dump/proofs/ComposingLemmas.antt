@@ -1,37 +1,20 @@
 -- The document that a list of events composes.
 use Rattle.yaml_base.proofs.Common.{suc, zero, ℕ, ℤ, pos, negsuc, ◌+◌, ◌-◌, ◌≤◌, ◌&&◌, nat_le, option_map, Option, None, Some, length, Bool, cond, true, not}
-use Rattle.yaml_base.proofs.Common.{slice_index_or as get_or}
-use Rattle.yaml_base.proofs.Common.{List, [], map, ◌++◌, ◌∷◌, refl, ◌≡◌, and_parts, ap, sym, ◌∙◌, arith, length-append, length-map, flat_map, list_all}
-use Rattle.yaml_base.proofs.Common.{if◌then◌else◌}
-use Rattle.yaml_base.proofs.Common.{Event, DocumentStart, document_start, document_end, Graph, GraphNode, numbers_held, is_whole, IsWholeGraph}
-use Rattle.yaml_base.proofs.Common.{document_event_list, step_events, fold}
-use Rattle.yaml_base.proofs.Common.{numbers_of_pairs, all_numbers, first_outside, option_or}
-use Rattle.std.proofs.Math.ListN.{get_or-map}
-use Rattle.std.proofs.lemmas.List.Folds.{find-append}
-use Rattle.std.proofs.Math.Seq.{get_or-append_seam}
+use Rattle.yaml_base.proofs.Common.{slice_index_or as get_or, List, [], map, ◌++◌, ◌∷◌, refl, ◌≡◌, and_parts, ap, sym, ◌∙◌, arith, length-append, length-map}
+use Rattle.yaml_base.proofs.Common.{flat_map, list_all, if◌then◌else◌, Event, DocumentStart, document_start, document_end, Graph, GraphNode, numbers_held, fold}
+use Rattle.yaml_base.proofs.Common.{is_whole, IsWholeGraph, document_event_list, step_events, numbers_of_pairs, all_numbers, first_outside, option_or}
+use Rattle.std.proofs.{Math.ListN.get_or-map, lemmas.List.Folds.find-append, Math.Seq.get_or-append_seam, lemmas.Result.IfOk-weaker}
 use Rattle.std.specs.Prelude.{IfOk, Result}
-use Rattle.yaml_base.specs.Seen.{seen_event}
-use Rattle.yaml_base.specs.Settings.{largest_usize}
-use Rattle.yaml_base.specs.declared.events.yaml_event_t.{yaml_event_t}
-use Rattle.yaml_base.specs.declared.nodes.yaml_node_data_t.{yaml_node_data_t}
-use Rattle.yaml_base.specs.declared.nodes.yaml_node_pair_t.{yaml_node_pair_t}
-use Rattle.yaml_base.specs.declared.nodes.yaml_node_t.{yaml_node_t}
-use Rattle.yaml_base.specs.graphs.Meetings.{graph_steps}
-use Rattle.yaml_base.specs.graphs.SeenNodes.{seen_number, seen_pair, seen_held, seen_node, names_node, numbers_of}
-use Rattle.std.proofs.lemmas.Result.{IfOk-weaker}
-use Rattle.yaml_base.specs.Seen.{seen_version, seen_directive}
-use Rattle.yaml_base.specs.declared.directives.yaml_tag_directive_t.{yaml_tag_directive_t}
-use Rattle.yaml_base.specs.declared.directives.yaml_version_directive_t.{yaml_version_directive_t}
-use Rattle.yaml_base.specs.declared.documents.yaml_document_t.{yaml_document_t}
-use Rattle.yaml_base.specs.graphs.Documents.{graph_of}
-use Rattle.yaml_base.specs.graphs.SeenNodes.{seen_document}
-use Rattle.yaml_dump.specs.Composing.{seen_heading}
-use Rattle.yaml_dump.specs.declared.composing.Heading.{Heading}
+use Rattle.yaml_base.specs.Seen.{seen_event, seen_version, seen_directive}
+use Rattle.yaml_base.specs.{Settings.largest_usize, declared.events.yaml_event_t.yaml_event_t, declared.nodes.yaml_node_data_t.yaml_node_data_t}
+use Rattle.yaml_base.specs.{declared.nodes.yaml_node_pair_t.yaml_node_pair_t, declared.nodes.yaml_node_t.yaml_node_t, graphs.Meetings.graph_steps}
+use Rattle.yaml_base.specs.{declared.directives.yaml_tag_directive_t.yaml_tag_directive_t, declared.documents.yaml_document_t.yaml_document_t}
+use Rattle.yaml_base.specs.{declared.directives.yaml_version_directive_t.yaml_version_directive_t, graphs.Documents.graph_of}
+use Rattle.yaml_base.specs.graphs.SeenNodes.{seen_number, seen_pair, seen_held, seen_node, names_node, numbers_of, seen_document}
+use Rattle.yaml_dump.specs.{Composing.seen_heading, declared.composing.Heading.Heading, InOrder.in_order}
 use Rattle.yaml_dump.specs.Composition.{composed, nothing_composed}
-use Rattle.yaml_dump.specs.InOrder.{in_order}
-use Rattle.yaml_dump.proofs.InOrderLemmas.{walk_of}
+use Rattle.yaml_dump.proofs.{InOrderLemmas.walk_of, CompositionRuns.document_composes}
 use Rattle.yaml_dump.proofs.InOrderEvents.{in_order_document, in_order_events}
-use Rattle.yaml_dump.proofs.CompositionRuns.{document_composes}
 
 -- ---- the numbers of a whole graph name its nodes
 

@@ -1,14 +1,11 @@
 -- The events of a document compose its nodes, in the order of its walk.
-use Rattle.yaml_base.proofs.Common.{suc, ℕ, ◌+◌, unwrap_or, Option, Some, length}
-use Rattle.yaml_base.proofs.Common.{List, [], map, ◌++◌, ◌∷◌, refl, ◌≡◌, length-append, append-nil, append_assoc, ap, subst, sym, ◌∙◌, arith, map-append}
-use Rattle.yaml_base.proofs.Common.{flat_map, flat_map-append, filter_map-append, fold, Text, Graph, GraphNode, NumberPair, Held, scalar_held, sequence_held}
-use Rattle.yaml_base.proofs.Common.{mapping_held, numbers_held}
-use Rattle.yaml_base.proofs.Common.{Step, enters, leaves, meets_again, anchor_of, node_numbered, children}
-use Rattle.yaml_base.proofs.Common.{alias, opening_event_of, opening_events, closing_event_of, closing_events, step_events}
-use Rattle.yaml_base.proofs.Common.{PlacedNodes, none_placed, placed_and, number_at, numbers_at}
+use Rattle.yaml_base.proofs.Common.{suc, ℕ, ◌+◌, unwrap_or, Option, Some, length, List, [], map, ◌++◌, ◌∷◌, refl, ◌≡◌, length-append, append-nil, append_assoc}
+use Rattle.yaml_base.proofs.Common.{ap, subst, sym, ◌∙◌, arith, map-append, flat_map, flat_map-append, filter_map-append, fold, Text, Graph, GraphNode, Held}
+use Rattle.yaml_base.proofs.Common.{NumberPair, scalar_held, sequence_held, mapping_held, numbers_held, Step, enters, leaves, meets_again, anchor_of, children}
+use Rattle.yaml_base.proofs.Common.{node_numbered, alias, opening_event_of, opening_events, closing_event_of, closing_events, step_events, PlacedNodes}
+use Rattle.yaml_base.proofs.Common.{none_placed, placed_and, number_at, numbers_at}
 use Rattle.std.specs.Prelude.{slice_set}
-use Rattle.std.proofs.lemmas.List.Sums.{fold-append}
-use Rattle.std.proofs.Math.Seq.{set-append_seam}
+use Rattle.std.proofs.{lemmas.List.Sums.fold-append, Math.Seq.set-append_seam}
 use Rattle.yaml_base.specs.graphs.Meetings.{graph_steps}
 use Rattle.yaml_base.proofs.UnfoldSteps.{IsOrderly}
 use Rattle.yaml_dump.specs.InOrder.{entered_nodes, number_in_order, held_by, node_by, numbered_node, nodes_in}

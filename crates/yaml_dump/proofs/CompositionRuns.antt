@@ -1,27 +1,19 @@
 -- The events of a document compose the nodes that its walk enters.
-use Rattle.yaml_base.proofs.Common.{suc, ℕ, ◌<◌, ◌≤◌, ◌==◌, Option, None, Some, length, replicate, Bool, false, true, if◌then◌else◌, cond, not}
-use Rattle.yaml_base.proofs.Common.{List, [], map, ◌++◌, ◌∷◌, refl, ◌≡◌, length-append, append-nil, append_assoc, ap, subst, sym, ◌∙◌, arith, map-append}
-use Rattle.yaml_base.proofs.Common.{flat_map, filter, filter_map, fold, Text, Graph, GraphNode, Held, scalar_held, sequence_held, mapping_held, numbers_held}
-use Rattle.yaml_base.proofs.Common.{document_event_list}
-use Rattle.yaml_base.proofs.Common.{Step, enters, leaves, meets_again, anchor_of, shared_nodes, first_of_each, node_met_again, node_numbered, children}
-use Rattle.yaml_base.proofs.Common.{step_events}
-use Rattle.yaml_base.proofs.Common.{Event, document_start, document_end}
-use Rattle.yaml_base.proofs.Common.{Placed, alias_placed, node_placed, PlacedNodes, none_placed, placed_and, number_at, numbers_at, IsWholeGraph}
-use Rattle.yaml_base.specs.Settings.{largest_usize}
-use Rattle.std.proofs.lemmas.List.Sums.{fold-append}
-use Rattle.yaml_base.proofs.Common.{ScalarStyle, opening_event_of, closing_event_of}
-use Rattle.yaml_dump.specs.Composition.{node_begun}
-use Rattle.std.proofs.lemmas.List.{length-replicate}
-use Rattle.yaml_base.specs.graphs.Meetings.{graph_steps}
+use Rattle.yaml_base.proofs.Common.{suc, ℕ, ◌<◌, ◌≤◌, ◌==◌, Option, None, Some, length, replicate, Bool, false, true, if◌then◌else◌, cond, not, List, [], map}
+use Rattle.yaml_base.proofs.Common.{◌++◌, ◌∷◌, refl, ◌≡◌, length-append, append-nil, append_assoc, ap, subst, sym, ◌∙◌, arith, map-append, flat_map, filter}
+use Rattle.yaml_base.proofs.Common.{filter_map, fold, Text, Graph, GraphNode, Held, scalar_held, sequence_held, mapping_held, numbers_held, document_event_list}
+use Rattle.yaml_base.proofs.Common.{Step, enters, leaves, meets_again, anchor_of, shared_nodes, first_of_each, node_met_again, node_numbered, children, Event}
+use Rattle.yaml_base.proofs.Common.{step_events, document_start, document_end, Placed, alias_placed, node_placed, PlacedNodes, none_placed, placed_and}
+use Rattle.yaml_base.proofs.Common.{number_at, numbers_at, IsWholeGraph, ScalarStyle, opening_event_of, closing_event_of}
+use Rattle.yaml_base.specs.{Settings.largest_usize, graphs.Meetings.graph_steps}
+use Rattle.std.proofs.{lemmas.List.Sums.fold-append, lemmas.List.length-replicate}
+use Rattle.yaml_dump.specs.Composition.{node_begun, Composition, collection_begun, ended, composed, nothing_composed}
 use Rattle.yaml_base.proofs.UnfoldSteps.{IsOrderly}
 use Rattle.yaml_base.proofs.UnfoldTrees.{placed_steps, below_steps, Fits, AllFit}
 use Rattle.yaml_dump.specs.InOrder.{entered_nodes, number_in_order, nodes_in, in_order}
-use Rattle.yaml_dump.specs.Composition.{Composition, collection_begun, ended, composed, nothing_composed}
-use Rattle.yaml_dump.proofs.InOrderLemmas.{walk_of}
-use Rattle.yaml_dump.proofs.CarrierLemmas.{carries_none}
-use Rattle.yaml_dump.proofs.CompositionLemmas.{order_of, StandsBehind, Composes, composes_none, composes_then, alias_composes, scalar_composes, emptied}
-use Rattle.yaml_dump.proofs.CompositionLemmas.{collection_composes}
-use Rattle.yaml_dump.proofs.CompositionLemmas.{opened_stands, behind, behind_both, behind_entry, behind_leave, none_below}
+use Rattle.yaml_dump.proofs.{InOrderLemmas.walk_of, CarrierLemmas.carries_none}
+use Rattle.yaml_dump.proofs.CompositionLemmas.{order_of, StandsBehind, Composes, composes_none, composes_then, alias_composes, scalar_composes, emptied, behind}
+use Rattle.yaml_dump.proofs.CompositionLemmas.{collection_composes, opened_stands, behind_both, behind_entry, behind_leave, none_below}
 
 -- the steps of a node, and those after them
 abbrev over_node : ℕ → PlacedNodes → List Step

@@ -1,11 +1,10 @@
 -- Events emitted one after another, and streams opened and closed.
 use Rattle.yaml_base.proofs.Common.{if◌then◌else◌, None, Some, Bool, false, true, ◌||◌, List, [], map, ◌++◌, ◌∷◌, refl, ◌≡◌, stream_start, stream_end}
-use Rattle.yaml_pen.proofs.Composing.{grows_itself}
+use Rattle.yaml_pen.proofs.{Composing.grows_itself, Writing.some_from_result}
 use Rattle.yaml_base.proofs.Common.{append_assoc, inl, inr, ap, subst, sym, ◌∙◌, or-true, false≢true, Event}
 use Rattle.yaml_emitter.proofs.Common.{State, StandsAfter, Promised}
 use Rattle.yaml_base.specs.Settings.{Settings}
 use Rattle.std.specs.Prelude.{is_ok}
-use Rattle.yaml_pen.proofs.Writing.{some_from_result}
 use Rattle.yaml_emitter.proofs.standing.Moving.{moved_promised, moves_flagged, moves_nothing, moves_then, moves_under}
 use Rattle.yaml_emitter.proofs.standing.StandingFlagged.{stands_flagged}
 use Rattle.yaml_emitter.specs.Moves.{Moves}

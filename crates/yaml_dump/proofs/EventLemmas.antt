@@ -1,14 +1,11 @@
 -- The events of a walk, one more step at a time.
-use Rattle.yaml_dump.proofs.Common.{suc, zero, ℕ, ◌+◌, ◌-◌, ◌<◌, flat_map, unwrap_or, Option, None, Some, nat_le}
-use Rattle.yaml_dump.proofs.Common.{length, slice_index_or as get_or, take, Bool, false, true, ◌&&◌}
-use Rattle.yaml_dump.proofs.Common.{List, [], map, ◌++◌, ◌∷◌, refl, ◌≡◌, append-nil, append_assoc, ap, sym}
-use Rattle.yaml_dump.proofs.Common.{◌∙◌, arith, nat_tests, map-append, Text, Event, seen_event}
-use Rattle.yaml_dump.proofs.Common.{seen_events, Graph, Step, graph_steps, enters, meets_again, numbered_name, document_start, opening_events}
-use Rattle.yaml_dump.proofs.Common.{step_events, IsNumbered, is_numbered, anchor_of_place, HasPlaces}
-use Rattle.yaml_dump.proofs.Common.{seen_events_of, step_number, AreNamed, seen_step}
+use Rattle.yaml_dump.proofs.Common.{suc, zero, ℕ, ◌+◌, ◌-◌, ◌<◌, flat_map, unwrap_or, Option, None, Some, nat_le, length, slice_index_or as get_or, take, Bool}
+use Rattle.yaml_dump.proofs.Common.{false, true, ◌&&◌, List, [], map, ◌++◌, ◌∷◌, refl, ◌≡◌, append-nil, append_assoc, ap, sym, ◌∙◌, arith, nat_tests, Text}
+use Rattle.yaml_dump.proofs.Common.{map-append, Event, seen_event, seen_events, Graph, Step, graph_steps, enters, meets_again, numbered_name, document_start}
+use Rattle.yaml_dump.proofs.Common.{opening_events, step_events, IsNumbered, is_numbered, anchor_of_place, HasPlaces, seen_events_of, step_number, AreNamed}
+use Rattle.yaml_dump.proofs.Common.{seen_step}
 use Rattle.yaml_base.proofs.Common.{flat_map-append, node_numbered, alias, document_end}
-use Rattle.yaml_base.specs.declared.events.yaml_event_t.{yaml_event_t}
-use Rattle.yaml_base.specs.declared.events.yaml_event_t.TheVariants.{YAML_DOCUMENT_END_EVENT}
+use Rattle.yaml_base.specs.{declared.events.yaml_event_t.yaml_event_t, declared.events.yaml_event_t.TheVariants.YAML_DOCUMENT_END_EVENT}
 use Rattle.yaml_dump.specs.{Events.walk_events, Outlines.IsOutline, declared.outlines.Outline.Outline}
 use Rattle.yaml_dump.proofs.AnchorLemmas.{anchor_placed, seen_more}
 use Rattle.yaml_dump.specs.declared.steps.Step as declared

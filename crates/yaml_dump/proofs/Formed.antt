@@ -5,11 +5,9 @@ use Rattle.std.specs.Prelude.{IsSome}
 use Rattle.yaml_base.specs.declared.errors.yaml_error_t.{yaml_error_t}
 use Rattle.yaml_pen.specs.Page.{result_of_error}
 use Rattle.yaml_dump.proofs.Emissions.{keeps_dumping, opened_by}
-use Rattle.yaml_dump.specs.Dumps.{DumpsEvents}
+use Rattle.yaml_dump.specs.{Dumps.DumpsEvents, TypedDumps.typed_event_list, declared.emitting.EventForm.EventForm}
 use Rattle.yaml_dump.specs.EventForms.{event_in_form, DumpsFrom, DumpsInForm}
-use Rattle.yaml_dump.specs.TypedDumps.{typed_event_list}
 use Rattle.std.proofs.lemmas.List.{map-id}
-use Rattle.yaml_dump.specs.declared.emitting.EventForm.{EventForm}
 use Rattle.yaml_dump.specs.declared.emitting.EventForm.TheVariants.{Same, Typed}
 
 -- none are only of none

@@ -1,9 +1,8 @@
 -- A document's events unfold its graph, and so does what is read back of them.
-use Rattle.yaml_dump.proofs.Common.{ℕ, ◌==◌, if◌then◌else◌, Option, None, Some, Result, Err, Ok, Vec, drop}
-use Rattle.yaml_dump.proofs.Common.{length, Bool, false, true, List, [], map, ◌++◌}
-use Rattle.yaml_dump.proofs.Common.{◌∷◌, refl, ◌≡◌, ap, subst, sym, ◌∙◌, false≢true, dumped_stream, document_unfolds, Event, stream_end, seen_event}
-use Rattle.yaml_dump.proofs.Common.{length-map, is_numbered, seen_step, seen_events, Settings, AreDumped, Graph, graph_steps, document_event_list}
-use Rattle.yaml_dump.proofs.Common.{DocumentTree, Promised, StandsAfter, State, append_assoc, none_from_result}
+use Rattle.yaml_dump.proofs.Common.{ℕ, ◌==◌, if◌then◌else◌, Option, None, Some, Result, Err, Ok, Vec, drop, length, Bool, false, true, List, [], map, ◌++◌, ◌∷◌}
+use Rattle.yaml_dump.proofs.Common.{refl, ◌≡◌, ap, subst, sym, ◌∙◌, false≢true, dumped_stream, document_unfolds, Event, stream_end, seen_event, length-map}
+use Rattle.yaml_dump.proofs.Common.{is_numbered, seen_step, seen_events, Settings, AreDumped, Graph, graph_steps, document_event_list, DocumentTree, Promised}
+use Rattle.yaml_dump.proofs.Common.{StandsAfter, State, append_assoc, none_from_result}
 use Rattle.yaml_base.proofs.Common.{written, IsWholeGraph, agrees, stream_trees}
 use Rattle.std.{proofs.Math.Seq.drop-length, specs.Prelude.IfOk}
 use Rattle.yaml_base.{proofs.QueueLaws.stream_written, specs.declared.events.yaml_event_t.yaml_event_t}

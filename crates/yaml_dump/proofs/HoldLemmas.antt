@@ -1,17 +1,14 @@
 -- What is left of a graph's nodes while the steps of a walk become events, and where a node is entered.
-use Rattle.yaml_dump.proofs.Common.{suc, zero, ℕ, ◌+◌, ◌-◌, ◌<◌, ◌≤◌, ◌==◌, option_map, Option}
-use Rattle.yaml_dump.proofs.Common.{None, Some, drop, length, slice_index_or as get_or, slice_set as set}
-use Rattle.yaml_dump.proofs.Common.{slice_get, take, Bool, cond, false, true, ◌||◌, List, [], map, ◌++◌, ◌∷◌, ◌≢◌, refl, ◌≡◌, length-set, get_or-set_same, ap}
-use Rattle.yaml_dump.proofs.Common.{subst, sym, ◌∙◌, arith, nat_tests, length-map, map-append, list_any, Text, GraphNode}
-use Rattle.yaml_dump.proofs.Common.{Graph, Step, enters, is_entry_of, graph_steps}
-use Rattle.yaml_dump.proofs.Common.{opening_events, get_or-map, seen_step, IsNamed}
+use Rattle.yaml_dump.proofs.Common.{suc, zero, ℕ, ◌+◌, ◌-◌, ◌<◌, ◌≤◌, ◌==◌, option_map, Option, None, Some, drop, length, slice_index_or as get_or, slice_get}
+use Rattle.yaml_dump.proofs.Common.{slice_set as set, take, Bool, cond, false, true, ◌||◌, List, [], map, ◌++◌, ◌∷◌, ◌≢◌, refl, ◌≡◌, length-set, ap, subst, sym}
+use Rattle.yaml_dump.proofs.Common.{get_or-set_same, ◌∙◌, arith, nat_tests, length-map, map-append, list_any, Text, GraphNode, Graph, Step, enters, is_entry_of}
+use Rattle.yaml_dump.proofs.Common.{graph_steps, opening_events, get_or-map, seen_step, IsNamed}
 use Rattle.yaml_base.proofs.Common.{count_by, node_numbered, opening_event_of, closing_event_of, closing_events, first_reached, Held}
 use Rattle.yaml_base.proofs.Common.{scalar_held, sequence_held, mapping_held}
 use Rattle.yaml_base.proofs.UnfoldSteps.{any_added, orderly_steps}
 use Rattle.yaml_base.specs.{Seen.seen_text, graphs.SeenNodes.seen_held, graphs.SeenNodes.seen_node, declared.nodes.yaml_node_t.yaml_node_t}
-use Rattle.std.proofs.lemmas.{Bool.or_parts, List.take-append-drop, List.take-map, List.Sums.count_by_more_yes, List.Sums.sum_by-append}
-use Rattle.std.proofs.lemmas.{List.Sums.sum_by-cons, List.take_more, Option.get_or_from_slice_get, Option.slice_get-map, Option.slice_get_read}
-use Rattle.std.proofs.lemmas.{Option.slice_get_within}
+use Rattle.std.proofs.lemmas.{Bool.or_parts, List.take-append-drop, List.take-map, List.Sums.count_by_more_yes, List.Sums.sum_by-append, List.Sums.sum_by-cons}
+use Rattle.std.proofs.lemmas.{List.take_more, Option.get_or_from_slice_get, Option.slice_get-map, Option.slice_get_read, Option.slice_get_within}
 use Rattle.yaml_dump.specs.declared.steps.Step as declared
 use Rattle.yaml_dump.specs.Events.{HoldsTexts, IsFirstEntry, held_without_children, without_children}
 

@@ -1,15 +1,11 @@
 -- The graph in the order of its walk is a document with the same events.
-use Rattle.yaml_base.proofs.Common.{suc, zero, ℕ, ◌==◌, Contains, unwrap_or, Option, None, Some, nat_le, length, Bool, false, true, ◌||◌, ◌&&◌}
-use Rattle.yaml_base.proofs.Common.{List, [], map, ◌++◌, ◌∷◌, refl, ◌≡◌, le-leb, inl, inr, ap, sym, if◌then◌else◌}
-use Rattle.yaml_base.proofs.Common.{◌∙◌, arith, length-map, Contains-append_right, flat_map}
-use Rattle.yaml_base.proofs.Common.{list_all, Graph, GraphNode, children, is_whole, Step, enters, leaves}
-use Rattle.yaml_base.proofs.Common.{meets_again, Event, document_start, document_end, alias, step_events, document_event_list}
-use Rattle.yaml_base.proofs.Common.{IsReached, first_reached, child_reached, IsWholeGraph, and_from, numbers_held, node_numbered, opening_events}
-use Rattle.yaml_base.proofs.Common.{closing_events}
-use Rattle.yaml_base.proofs.Common.{eq-eqb, ne_eqb, or-true}
+use Rattle.yaml_base.proofs.Common.{suc, zero, ℕ, ◌==◌, Contains, unwrap_or, Option, None, Some, nat_le, length, Bool, false, true, ◌||◌, ◌&&◌, List, [], map}
+use Rattle.yaml_base.proofs.Common.{◌++◌, ◌∷◌, refl, ◌≡◌, le-leb, inl, inr, ap, sym, if◌then◌else◌, ◌∙◌, arith, length-map, Contains-append_right, flat_map}
+use Rattle.yaml_base.proofs.Common.{list_all, Graph, GraphNode, children, is_whole, Step, enters, leaves, meets_again, Event, document_start, document_end}
+use Rattle.yaml_base.proofs.Common.{alias, step_events, document_event_list, IsReached, first_reached, child_reached, IsWholeGraph, and_from, numbers_held}
+use Rattle.yaml_base.proofs.Common.{node_numbered, opening_events, closing_events, eq-eqb, ne_eqb, or-true}
 use Rattle.yaml_base.specs.graphs.Meetings.{graph_steps}
-use Rattle.yaml_base.proofs.SharedNodes.{has}
-use Rattle.yaml_base.proofs.DocumentsUnfold.{some_nodes}
+use Rattle.yaml_base.proofs.{SharedNodes.has, DocumentsUnfold.some_nodes}
 use Rattle.yaml_base.proofs.SameWalks.{node_of_step, AllReached, renumbered, same_walks, anchors_alike}
 use Rattle.yaml_dump.specs.InOrder.{entered_nodes, number_in_order, node_by, numbered_node, in_order}
 use Rattle.yaml_dump.proofs.InOrderLemmas.{HasWalk, walk_of, entered_has, place_within, numbers_by, opening_by, closing_by, node_placed_at, isomorphic_in_order}

@@ -1,20 +1,16 @@
 -- A graph and the same in the order of its walk are isomorphic, styles and all, so they have the same events.
-use Rattle.yaml_base.proofs.Common.{suc, zero, ℕ, ◌+◌, ◌≤◌, ◌==◌, Contains, option_map, unwrap_or, Option, None, Some, length, Bool, cond, false, not, true}
-use Rattle.yaml_base.proofs.Common.{◌||◌}
-use Rattle.yaml_base.proofs.Common.{List, [], map, ◌++◌, ◌∷◌, refl, ◌≡◌, eq-eqb, eqb-true, inl, inr, ap, subst, sym}
-use Rattle.yaml_base.proofs.Common.{◌∙◌, arith, same_from_decides, Contains-append_right, nat_tests, flat_map, ltb-true}
-use Rattle.yaml_base.proofs.Common.{list_any, position_or_len, Text, Isomorphic, Graph, GraphNode, children, Step, enters, leaves}
-use Rattle.yaml_base.proofs.Common.{meets_again, is_entry_of, anchor_of, Placed, alias_placed, slice_index_or as get_or}
-use Rattle.yaml_base.proofs.Common.{PlacedNodes, node_placed, none_placed, placed_and, number_at, IsReached, first_reached, child_reached, IsWholeGraph}
-use Rattle.yaml_base.proofs.Common.{or_cases}
-use Rattle.yaml_base.proofs.Common.{Held, scalar_held, sequence_held, mapping_held, NumberPair, numbers_held, node_numbered, label_at, opening_event_of}
-use Rattle.yaml_base.proofs.Common.{closing_event_of, label_of}
+use Rattle.yaml_base.proofs.Common.{suc, zero, ℕ, ◌+◌, ◌≤◌, ◌==◌, Contains, option_map, unwrap_or, Option, None, Some, length, Bool, cond, false, not, true, []}
+use Rattle.yaml_base.proofs.Common.{◌||◌, List, map, ◌++◌, ◌∷◌, refl, ◌≡◌, eq-eqb, eqb-true, inl, inr, ap, subst, sym, ◌∙◌, arith, same_from_decides, nat_tests}
+use Rattle.yaml_base.proofs.Common.{Contains-append_right, flat_map, ltb-true, list_any, position_or_len, Text, Isomorphic, Graph, GraphNode, children, Step}
+use Rattle.yaml_base.proofs.Common.{enters, leaves, meets_again, is_entry_of, anchor_of, Placed, alias_placed, slice_index_or as get_or, PlacedNodes, number_at}
+use Rattle.yaml_base.proofs.Common.{node_placed, none_placed, placed_and, IsReached, first_reached, child_reached, IsWholeGraph, or_cases, Held, scalar_held}
+use Rattle.yaml_base.proofs.Common.{sequence_held, mapping_held, NumberPair, numbers_held, node_numbered, label_at, opening_event_of, closing_event_of}
+use Rattle.yaml_base.proofs.{Common.label_of, DocumentsUnfold.some_nodes}
 use Rattle.std.specs.List.{slice_get}
 use Rattle.yaml_base.specs.graphs.Meetings.{graph_steps}
 use Rattle.yaml_base.proofs.SharedNodes.{has, has_position}
 use Rattle.yaml_base.proofs.UnfoldSteps.{is_meeting_of, FollowEntries, IsOrderly, orderly_steps, none_added}
 use Rattle.yaml_base.proofs.UnfoldTrees.{placed_steps, below_steps, HasNode, Fits, AllFit, Walks, walk_placed, root_met, children_met}
-use Rattle.yaml_base.proofs.DocumentsUnfold.{some_nodes}
 use Rattle.yaml_dump.specs.InOrder.{entered_nodes, number_in_order, held_by, node_by, numbered_node, in_order}
 
 -- ---- places in an order

@@ -1,9 +1,7 @@
 -- The name that a dump gives the node of a place tells its number.
 use Rattle.yaml_base.proofs.Common.{suc, zero, ℕ, ◌+◌, ◌-◌, ◌*◌, ◌/◌, ◌%◌, ◌<◌, ◌≤◌, ◌==◌, length, replicate, cond, false, true, List, [], ◌∷◌, ◌++◌, refl, ◌≡◌}
-use Rattle.yaml_base.proofs.Common.{eqb-true, ap, ◌∙◌}
-use Rattle.yaml_base.proofs.Common.{arith, nat_tests, digit_glyph, digits_onto, numbered_name, fold}
-use Rattle.yaml_base.specs.graphs.Meetings.{decimal_digits}
-use Rattle.yaml_base.specs.Settings.{largest_usize}
+use Rattle.yaml_base.proofs.Common.{eqb-true, ap, ◌∙◌, arith, nat_tests, digit_glyph, digits_onto, numbered_name, fold}
+use Rattle.yaml_base.specs.{graphs.Meetings.decimal_digits, Settings.largest_usize}
 use Rattle.yaml_dump.specs.Composition.{with_digit, number_in_name}
 
 -- a digit that fits

@@ -4,25 +4,19 @@ use Rattle.std.proofs.lemmas.{Bool.Decides.Decides-at, Bool.Decides.Decides-like
 use Rattle.std.proofs.lemmas.{Bool.Decides.Decides-int_eq, Slice.Eq.bytes_eq-Decides, Str.encodes-chars}
 use Rattle.std.proofs.lemmas.Str.{IsUtf8-string_bytes}
 use Rattle.std.specs.{Bool.Decides, Cmp.booleans_Decides, Cmp.Lexicographic.pointwise, Option.option_eq, String.string_eq, String.string_bytes, Str.chars}
-use Rattle.std.specs.Str.{encode_utf8_all}
-use Rattle.std.specs.Prelude.{String}
-use Rattle.std.specs.declared.alloc.Allocator.{Ghosts}
+use Rattle.std.specs.{Str.encode_utf8_all, Prelude.String, declared.alloc.Allocator.Ghosts}
 use Rattle.yaml_base.specs.Event.{Version, TagDirective, DocumentStart, Scalar, Collection}
 use Rattle.yaml_base.specs.{Event.stream_start, Event.document_start, Event.document_end, Event.alias, Event.scalar, Event.sequence_start, Event.mapping_start}
 use Rattle.yaml_base.specs.Seen.{seen_text, seen_version, seen_directive, seen_encoding, seen_scalar_style, seen_sequence_style, seen_mapping_style}
-use Rattle.yaml_base.specs.declared.encodings.yaml_encoding_t.{yaml_encoding_t}
+use Rattle.yaml_base.specs.{declared.encodings.yaml_encoding_t.yaml_encoding_t, declared.styles.yaml_scalar_style_t.yaml_scalar_style_t}
 use Rattle.yaml_base.specs.declared.encodings.yaml_encoding_t.TheVariants.{YAML_ANY_ENCODING, YAML_UTF8_ENCODING, YAML_UTF16LE_ENCODING, YAML_UTF16BE_ENCODING}
-use Rattle.yaml_base.specs.declared.styles.yaml_scalar_style_t.{yaml_scalar_style_t}
+use Rattle.yaml_base.specs.{declared.styles.yaml_scalar_style_t.TheVariants.YAML_FOLDED_SCALAR_STYLE, declared.styles.yaml_mapping_style_t.yaml_mapping_style_t}
 use Rattle.yaml_base.specs.declared.styles.yaml_scalar_style_t.TheVariants.{YAML_ANY_SCALAR_STYLE, YAML_PLAIN_SCALAR_STYLE, YAML_SINGLE_QUOTED_SCALAR_STYLE}
 use Rattle.yaml_base.specs.declared.styles.yaml_scalar_style_t.TheVariants.{YAML_DOUBLE_QUOTED_SCALAR_STYLE, YAML_LITERAL_SCALAR_STYLE}
-use Rattle.yaml_base.specs.declared.styles.yaml_scalar_style_t.TheVariants.{YAML_FOLDED_SCALAR_STYLE}
-use Rattle.yaml_base.specs.declared.styles.yaml_sequence_style_t.{yaml_sequence_style_t}
+use Rattle.yaml_base.specs.{declared.styles.yaml_sequence_style_t.yaml_sequence_style_t, declared.directives.yaml_version_directive_t.yaml_version_directive_t}
+use Rattle.yaml_base.specs.{declared.directives.yaml_tag_directive_t.yaml_tag_directive_t, declared.events.yaml_event_t.yaml_event_t}
 use Rattle.yaml_base.specs.declared.styles.yaml_sequence_style_t.TheVariants.{YAML_ANY_SEQUENCE_STYLE, YAML_BLOCK_SEQUENCE_STYLE, YAML_FLOW_SEQUENCE_STYLE}
-use Rattle.yaml_base.specs.declared.styles.yaml_mapping_style_t.{yaml_mapping_style_t}
 use Rattle.yaml_base.specs.declared.styles.yaml_mapping_style_t.TheVariants.{YAML_ANY_MAPPING_STYLE, YAML_BLOCK_MAPPING_STYLE, YAML_FLOW_MAPPING_STYLE}
-use Rattle.yaml_base.specs.declared.directives.yaml_version_directive_t.{yaml_version_directive_t}
-use Rattle.yaml_base.specs.declared.directives.yaml_tag_directive_t.{yaml_tag_directive_t}
-use Rattle.yaml_base.specs.declared.events.yaml_event_t.{yaml_event_t}
 use Rattle.yaml_base.specs.declared.events.yaml_event_t.TheVariants.{YAML_STREAM_START_EVENT, YAML_STREAM_END_EVENT, YAML_DOCUMENT_START_EVENT}
 use Rattle.yaml_base.specs.declared.events.yaml_event_t.TheVariants.{YAML_DOCUMENT_END_EVENT, YAML_ALIAS_EVENT, YAML_SCALAR_EVENT, YAML_SEQUENCE_START_EVENT}
 use Rattle.yaml_base.specs.declared.events.yaml_event_t.TheVariants.{YAML_SEQUENCE_END_EVENT, YAML_MAPPING_START_EVENT, YAML_MAPPING_END_EVENT}

@@ -1,19 +1,12 @@
 -- What is read of documents that were dumped with their types unfolds their graphs with all tags.
-use Rattle.yaml_dump.proofs.Common.{unwrap_or, Option, None, Some, drop, length, false, true, List, [], map, ◌∷◌, refl, ◌≡◌, ap}
-use Rattle.yaml_dump.proofs.Common.{subst}
-use Rattle.yaml_dump.proofs.Common.{sym, ◌∙◌, false≢true, list_all, dumped_stream, Text, Event, Settings, AreDumped, Graph, DocumentTree, Promised}
-use Rattle.yaml_dump.proofs.Common.{StandsAfter, State}
+use Rattle.yaml_dump.proofs.Common.{unwrap_or, Option, None, Some, drop, length, false, true, List, [], map, ◌∷◌, refl, ◌≡◌, ap, subst, sym, ◌∙◌, false≢true}
+use Rattle.yaml_dump.proofs.Common.{list_all, dumped_stream, Text, Event, Settings, AreDumped, Graph, DocumentTree, Promised, StandsAfter, State}
 use Rattle.yaml_base.proofs.Common.{ℕ, option_map, is_some, and_parts, and_from, scalar, sequence_start, mapping_start, scalar_tag, Stream, stream_events}
-use Rattle.yaml_base.proofs.Common.{stream_start}
-use Rattle.yaml_base.proofs.Common.{documents_events, written, IsAccepted, agrees, stream_trees, bytes_written, list_layout, encoding_asked}
-use Rattle.yaml_base.proofs.Common.{settings_for}
-use Rattle.yaml_base.proofs.Common.{resolved_by_core, resolved_by_11, reads_alike}
-use Rattle.std.proofs.Common.{take_all}
-use Rattle.std.proofs.Math.Seq.{drop-length}
+use Rattle.yaml_base.proofs.Common.{stream_start, documents_events, written, IsAccepted, agrees, stream_trees, bytes_written, list_layout, encoding_asked}
+use Rattle.yaml_base.proofs.Common.{settings_for, resolved_by_core, resolved_by_11, reads_alike}
+use Rattle.std.proofs.{Common.take_all, Math.Seq.drop-length}
 use Rattle.yaml_base.proofs.QueueLaws.{stream_written}
-use Rattle.yaml_base.specs.graphs.Meetings.{string_tag}
-use Rattle.yaml_base.specs.streams.StreamContent.{is_same_text}
-use Rattle.yaml_base.specs.values.CanonicalTags.{Schema}
+use Rattle.yaml_base.specs.{graphs.Meetings.string_tag, streams.StreamContent.is_same_text, values.CanonicalTags.Schema}
 use Rattle.yaml_emitter.{proofs.EndedStreams.ends_last, specs.Promises.HasRoomAndMemory, specs.Promises.IsWritten, specs.Promises.ends_stream}
 use Rattle.yaml_writer.proofs.TypedTrees.{typed_stream, stream_typed, typed_read}
 use Rattle.yaml_writer.specs.TypedEvents.{typed_event, document_by, says_tag, ReadsTags}

@@ -1,54 +1,50 @@
 -- The names that most proofs here cite, passed on from one place. Declares nothing.
-pub use Rattle.yaml_base.proofs.Common.{suc, zero, ℕ, ◌%◌, ◌+◌, ◌-◌, ◌/◌, ◌<◌, ◌≤◌, if◌then◌else◌, ◌==◌, fold, count_by, is_some, unwrap_or, option_map}
-pub use Rattle.yaml_base.proofs.Common.{option_and_then, Option, None, Some, codes, nat_le, nat_lt, negsuc, pos, ℤ, drop, length, replicate, slice_index_or}
-pub use Rattle.yaml_base.proofs.Common.{take, Bool, cond, false, not, true, ◌&&◌, ◌||◌, List, [], map, ◌++◌, ◌∷◌, ◌⊎◌, refl, ◌≡◌, eqb-true, le-ltb, ne_eqb}
-pub use Rattle.yaml_base.proofs.Common.{length-append, true≢false, append-nil, append_assoc, inl, inr, ap, subst, sym, ◌∙◌, arith, and_parts, and_from}
-pub use Rattle.yaml_base.proofs.Common.{or_parts, false≢true, nat_tests, flat_map-append, length-map, map-append, list_all-append, chars-IsAscii, list_all}
-pub use Rattle.yaml_base.proofs.Common.{list_any, option_or, all_scalars, chars, Text, line_feed, carriage_return, next_line, space, is_alpha, is_space}
-pub use Rattle.yaml_base.proofs.Common.{is_break, is_printable, Cursor, Rendered, render_nothing, render_then, new_line, space_if, indicator, is_past_width}
-pub use Rattle.yaml_base.proofs.Common.{encode, cut, ScalarStyle, any_style, plain, single_quoted, double_quoted, literal, folded, any_layout, Version}
-pub use Rattle.yaml_base.proofs.Common.{TagDirective, DocumentStart, Scalar, Collection, Event, stream_start, stream_end, document_start, document_end, alias}
-pub use Rattle.yaml_base.proofs.Common.{scalar, sequence_start, sequence_end, mapping_start, mapping_end, scalar_tag, collection_tag, Node, alias_node}
-pub use Rattle.yaml_base.proofs.Common.{scalar_node, Nodes, sequence_node, Pairs, mapping_node, no_nodes, nodes_and, no_pairs, pairs_and, Document, Documents}
-pub use Rattle.yaml_base.proofs.Common.{no_documents, documents_and, Stream, node_events, documents_events, stream_events, at_item, at_key, at_value, Partial}
-pub use Rattle.yaml_base.proofs.Common.{before_stream, within_document, after_stream, push, pushed, partial_of, render_if, render_closing_marker}
-pub use Rattle.yaml_base.proofs.Common.{render_version, render_tag_directives, has_directives, is_explicit, render_document_marker, render_document_start}
-pub use Rattle.yaml_base.proofs.Common.{document_start_piece, document_end_piece, root_place, first_standing, stream_end_piece, layout, Piece, piece_text}
-pub use Rattle.yaml_base.proofs.Common.{text_of, Standing, RenderedPieces, render_anchor, render_properties, render_alias, render_separation, render_body}
-pub use Rattle.yaml_base.proofs.Common.{allowed_by_quotes, allowed_by_blanks, allowed_under}
-pub use Rattle.yaml_base.proofs.Common.{charset_of, style_asked_at, choice_of, body_at, start_piece, is_written_in_flow, Brackets, square, curly, render_end}
-pub use Rattle.yaml_base.proofs.Common.{render_node, Role, as_root, as_item, as_key, as_value, Place, is_key, line_column, deeper, byte_count, name_count}
-pub use Rattle.yaml_base.proofs.Common.{entry_place}
+pub use Rattle.yaml_base.proofs.Common.{suc, zero, ℕ, ◌%◌, ◌+◌, ◌-◌, ◌/◌, ◌<◌, ◌≤◌, if◌then◌else◌, ◌==◌, fold, count_by, is_some, unwrap_or, option_map, Option}
+pub use Rattle.yaml_base.proofs.Common.{option_and_then, None, Some, codes, nat_le, nat_lt, negsuc, pos, ℤ, drop, length, replicate, slice_index_or, take, Bool}
+pub use Rattle.yaml_base.proofs.Common.{cond, false, not, true, ◌&&◌, ◌||◌, List, [], map, ◌++◌, ◌∷◌, ◌⊎◌, refl, ◌≡◌, eqb-true, le-ltb, ne_eqb, length-append}
+pub use Rattle.yaml_base.proofs.Common.{true≢false, append-nil, append_assoc, inl, inr, ap, subst, sym, ◌∙◌, arith, and_parts, and_from, or_parts, false≢true}
+pub use Rattle.yaml_base.proofs.Common.{nat_tests, flat_map-append, length-map, map-append, list_all-append, chars-IsAscii, list_all, list_any, option_or, Text}
+pub use Rattle.yaml_base.proofs.Common.{all_scalars, chars, line_feed, carriage_return, next_line, space, is_alpha, is_space, is_break, is_printable, Cursor}
+pub use Rattle.yaml_base.proofs.Common.{Rendered, render_nothing, render_then, new_line, space_if, indicator, is_past_width, encode, cut, ScalarStyle, plain}
+pub use Rattle.yaml_base.proofs.Common.{any_style, single_quoted, double_quoted, literal, folded, any_layout, Version, TagDirective, DocumentStart, Scalar}
+pub use Rattle.yaml_base.proofs.Common.{Collection, Event, stream_start, stream_end, document_start, document_end, alias, scalar, sequence_start, sequence_end}
+pub use Rattle.yaml_base.proofs.Common.{mapping_start, mapping_end, scalar_tag, collection_tag, Node, alias_node, scalar_node, Nodes, sequence_node, Pairs}
+pub use Rattle.yaml_base.proofs.Common.{mapping_node, no_nodes, nodes_and, no_pairs, pairs_and, Document, Documents, no_documents, documents_and, Stream, push}
+pub use Rattle.yaml_base.proofs.Common.{node_events, documents_events, stream_events, at_item, at_key, at_value, Partial, before_stream, within_document, Piece}
+pub use Rattle.yaml_base.proofs.Common.{after_stream, pushed, partial_of, render_if, render_closing_marker, render_version, render_tag_directives, is_explicit}
+pub use Rattle.yaml_base.proofs.Common.{has_directives, render_document_marker, render_document_start, document_start_piece, document_end_piece, root_place}
+pub use Rattle.yaml_base.proofs.Common.{first_standing, stream_end_piece, layout, piece_text, text_of, Standing, RenderedPieces, render_anchor, render_alias}
+pub use Rattle.yaml_base.proofs.Common.{render_properties, render_separation, render_body, allowed_by_quotes, allowed_by_blanks, allowed_under, charset_of}
+pub use Rattle.yaml_base.proofs.Common.{style_asked_at, choice_of, body_at, start_piece, is_written_in_flow, Brackets, square, curly, render_end, render_node}
+pub use Rattle.yaml_base.proofs.Common.{Role, as_root, as_item, as_key, as_value, Place, is_key, line_column, deeper, byte_count, name_count, entry_place, utf8}
 pub use Rattle.yaml_base.proofs.Common.{tag_count, is_short, is_simple_scalar, has_no_nodes, has_no_pairs, flow_break, opening_or_comma, render_flow_place}
-pub use Rattle.yaml_base.proofs.Common.{render_place, break_text, with_breaks_written, is_rendered_text, has_scalar_values, directive_scalars}
-pub use Rattle.yaml_base.proofs.Common.{has_scalar_texts, encoding_asked, settings_for, text_written, bytes_written, output_of, percent_escaped}
-pub use Rattle.yaml_base.proofs.Common.{suffix_escaped, prefix_escaped, completion, list_layout, first_ends_collection, awaited, is_balanced}
-pub use Rattle.yaml_base.proofs.Common.{nonempty_prefixes, is_ready, written, some_if, name_or_tag_fault, content_fault, most_open, begins_collection}
-pub use Rattle.yaml_base.proofs.Common.{ends_collection, refusal_at, refusal, is_sound, open_count, IsAccepted, Encoding, utf8, utf16_little, utf16_big}
-pub use Rattle.yaml_base.proofs.Common.{LineBreak, carriage_return_break, line_feed_break, both_break, Settings, Effective, effective, Frame, Stage}
-pub use Rattle.yaml_base.proofs.Common.{at_stream, at_document, at_node, at_document_end, at_nothing, next_place, stage_after, step, ends_next, Steps, steps}
-pub use Rattle.yaml_base.proofs.Common.{reads_alike, name_fault, anchor_fault, alias_fault, tag_fault, version_fault, exclamation_mark, handle_fault}
-pub use Rattle.yaml_base.proofs.Common.{prefix_fault, directive_fault, gives_handle, next_directive_fault, directives_fault_after, directives_fault}
-pub use Rattle.yaml_base.proofs.Common.{directives_in_force, Spelling, verbatim, spelling, spelled, canonical_content, DocumentContent, Charset, Allowances}
-pub use Rattle.yaml_base.proofs.Common.{is_empty, is_special, allowances, needs_escape, Choice, lacks_tag_and_flags, is_plain, requested_style, quoted_style}
-pub use Rattle.yaml_base.proofs.Common.{fitting_style, fits_plain, chosen, agrees, stream_trees}
+pub use Rattle.yaml_base.proofs.Common.{render_place, break_text, with_breaks_written, is_rendered_text, has_scalar_values, directive_scalars, has_scalar_texts}
+pub use Rattle.yaml_base.proofs.Common.{encoding_asked, settings_for, text_written, bytes_written, output_of, percent_escaped, suffix_escaped, prefix_escaped}
+pub use Rattle.yaml_base.proofs.Common.{completion, list_layout, first_ends_collection, awaited, is_balanced, nonempty_prefixes, is_ready, written, some_if}
+pub use Rattle.yaml_base.proofs.Common.{name_or_tag_fault, content_fault, most_open, begins_collection, ends_collection, refusal_at, refusal, is_sound, Frame}
+pub use Rattle.yaml_base.proofs.Common.{open_count, IsAccepted, Encoding, utf16_little, utf16_big, LineBreak, carriage_return_break, line_feed_break, Settings}
+pub use Rattle.yaml_base.proofs.Common.{both_break, Effective, effective, Stage, at_stream, at_document, at_node, at_document_end, at_nothing, next_place, step}
+pub use Rattle.yaml_base.proofs.Common.{stage_after, ends_next, Steps, steps, reads_alike, name_fault, anchor_fault, alias_fault, tag_fault, version_fault}
+pub use Rattle.yaml_base.proofs.Common.{exclamation_mark, handle_fault, prefix_fault, directive_fault, gives_handle, next_directive_fault, directives_fault}
+pub use Rattle.yaml_base.proofs.Common.{directives_fault_after, directives_in_force, Spelling, verbatim, spelling, spelled, canonical_content, DocumentContent}
+pub use Rattle.yaml_base.proofs.Common.{Charset, Allowances, is_empty, is_special, allowances, needs_escape, Choice, lacks_tag_and_flags, is_plain, fits_plain}
+pub use Rattle.yaml_base.proofs.Common.{requested_style, quoted_style, fitting_style, chosen, agrees, stream_trees}
 pub use Rattle.std.proofs.Common.{add-one, drop-cons, drop-drop, length-take-le, of_z, rules, take-append-drop, take_all, take_at, to_z, w32, zero-add}
 pub use Rattle.std.proofs.lemmas.{Grind.common_steps, Grind.elements, Int.ints, Int.to_z-of_z, List.drop-map, List.Elements.All-nil, List.Elements.All-cons}
 pub use Rattle.std.proofs.lemmas.{List.Sums.fold-append, Result.err_from_is_err_and}
 pub use Rattle.std.specs.List.{All}
 pub use Rattle.std.specs.Prelude.{Err, FitsSigned, Ok, Result, vec_len, vec_capacity, filter, IsErrAnd, IsSome, IsErr, OnOk}
-pub use Rattle.yaml_base.{proofs.Accepted.stands_from_begins, proofs.Accepted.refused_exactly, proofs.BreakLaws.rendered-append}
-pub use Rattle.yaml_base.{proofs.Completions.pushed-append, proofs.Completions.prefix_is_partial, proofs.NoFaults.neither, proofs.Prefixes.prefix_same}
-pub use Rattle.yaml_base.{proofs.Prefixes.prefix_then, proofs.Progress.written-append, proofs.QueueLaws.written_within, proofs.QueueLaws.open_at_written}
-pub use Rattle.yaml_base.{proofs.Trees.stream_pushed, proofs.Trees.tree_of-stream_events, proofs.stream_documents.StreamEachDocument.all_of_both}
-pub use Rattle.yaml_base.{specs.Encoding.text_bytes, specs.Indicators.render_indicator, specs.Indicators.spaced, specs.Indicators.yaml_directive}
-pub use Rattle.yaml_base.{specs.Meaning.BodyMeans, specs.Meaning.option_scalars, specs.Output.flushes, specs.Output.last_flushes, specs.Pieces.pieces}
-pub use Rattle.yaml_base.{specs.Pieces.last_begins_collection, specs.Prefix.IsPrefix, specs.Ready.held_back, specs.Refusal.properties_fault}
+pub use Rattle.yaml_base.{proofs.Accepted.stands_from_begins, proofs.Accepted.refused_exactly, proofs.BreakLaws.rendered-append, proofs.NoFaults.neither}
+pub use Rattle.yaml_base.{proofs.Completions.pushed-append, proofs.Completions.prefix_is_partial, proofs.Prefixes.prefix_same, proofs.Prefixes.prefix_then}
+pub use Rattle.yaml_base.{proofs.Progress.written-append, proofs.QueueLaws.written_within, proofs.QueueLaws.open_at_written, proofs.Trees.stream_pushed}
+pub use Rattle.yaml_base.{proofs.Trees.tree_of-stream_events, proofs.stream_documents.StreamEachDocument.all_of_both, specs.Encoding.text_bytes}
+pub use Rattle.yaml_base.{specs.Indicators.render_indicator, specs.Indicators.spaced, specs.Indicators.yaml_directive, specs.Meaning.BodyMeans}
+pub use Rattle.yaml_base.{specs.Meaning.option_scalars, specs.Output.flushes, specs.Output.last_flushes, specs.Pieces.pieces, specs.Prefix.IsPrefix}
+pub use Rattle.yaml_base.{specs.Pieces.last_begins_collection, specs.Ready.held_back, specs.Refusal.properties_fault, specs.Refusal.BeginsAccepted}
 pub use Rattle.yaml_base.specs.Settings.{nothing_given}
-pub use Rattle.yaml_base.{specs.Refusal.BeginsAccepted, specs.Tags.last_from, specs.Tags.without_last, specs.Tags.default_directives}
-pub use Rattle.yaml_base.{specs.WrittenTexts.HoldsRaw, specs.reading.Content.documents_content, specs.scalars.Analysis.begins_with}
-pub use Rattle.yaml_base.{specs.scalars.Analysis.allows_plain, specs.scalars.DoubleQuoted.quote, specs.Characters.backslash}
-pub use Rattle.yaml_base.{specs.scalars.DoubleQuoted.double_quoted_body}
+pub use Rattle.yaml_base.{specs.Tags.last_from, specs.Tags.without_last, specs.Tags.default_directives, specs.WrittenTexts.HoldsRaw, specs.Characters.backslash}
+pub use Rattle.yaml_base.{specs.reading.Content.documents_content, specs.scalars.Analysis.begins_with, specs.scalars.Analysis.allows_plain}
+pub use Rattle.yaml_base.{specs.scalars.DoubleQuoted.quote, specs.scalars.DoubleQuoted.double_quoted_body}
 pub use Rattle.yaml_base.proofs.PieceLaws.{steps-append, steps_same, list_layout_steps, prefix_layout}
 pub use Rattle.yaml_base.proofs.TagForms.{IsHandle, handle_form, AreFound, spelling_is, in_force_found}
 pub use Rattle.yaml_base.specs.Layout.{render_tag_directive, is_simple_alias, render_handle, render_spelling, render_tag, stream_start_piece}
@@ -59,14 +55,12 @@ pub use Rattle.yaml_base.specs.reading.CanonicalReader.{node_awaited, Head, Read
 pub use Rattle.yaml_base.specs.reading.CanonicalTokens.{Token, version_line, tag_line, document_begins, document_ends, anchor_token, alias_token, tag_token}
 pub use Rattle.yaml_base.specs.reading.CanonicalTokens.{scalar_token, opens_sequence, closes_sequence, opens_mapping, closes_mapping, key_token, value_token}
 pub use Rattle.yaml_base.specs.reading.CanonicalTokens.{comma, free, moves_to, step_between_tokens, tokens_from}
-pub use Rattle.yaml_emitter.specs.{Atoms.name_breaks, Atoms.some_handle_breaks, BorrowedTexts.seen_name, BorrowedTexts.seen_scalar}
-pub use Rattle.yaml_emitter.specs.{BorrowedTexts.seen_collection, Given.seen_effective, Inside.state_of, Inside.IsEmitter}
-pub use Rattle.yaml_emitter.specs.{MachineInside.machine_state, MachineInside.IsMachine, NodeEvents.start_of_kind, NodeEvents.end_of_kind}
-pub use Rattle.yaml_emitter.specs.{NodeEvents.brackets_of}
-pub use Rattle.yaml_emitter.specs.{Queue.is_head_ready, ScalarTexts.render_scalar_text, ScalarTexts.style_fits, Stages.seen_stage, StaysFlushed.StaysFlushed}
-pub use Rattle.yaml_emitter.specs.{StaysFlushed.whole_documents, StaysFlushed.KeepsDocuments, Uncut.IsUncut, SimpleAsciiScalars.StandsPlain}
-pub use Rattle.yaml_emitter.specs.{WrittenPieces.piece_at}
-pub use Rattle.yaml_emitter.specs.{WrittenPieces.seen_open_ended, WrittenPieces.render_document_end}
+pub use Rattle.yaml_emitter.specs.{Atoms.name_breaks, Atoms.some_handle_breaks, BorrowedTexts.seen_name, BorrowedTexts.seen_scalar, Given.seen_effective}
+pub use Rattle.yaml_emitter.specs.{BorrowedTexts.seen_collection, Inside.state_of, Inside.IsEmitter, MachineInside.machine_state, MachineInside.IsMachine}
+pub use Rattle.yaml_emitter.specs.{NodeEvents.start_of_kind, NodeEvents.end_of_kind, NodeEvents.brackets_of, Queue.is_head_ready, ScalarTexts.style_fits}
+pub use Rattle.yaml_emitter.specs.{ScalarTexts.render_scalar_text, Stages.seen_stage, StaysFlushed.StaysFlushed, StaysFlushed.whole_documents, Uncut.IsUncut}
+pub use Rattle.yaml_emitter.specs.{StaysFlushed.KeepsDocuments, SimpleAsciiScalars.StandsPlain, WrittenPieces.piece_at, WrittenPieces.seen_open_ended}
+pub use Rattle.yaml_emitter.specs.{WrittenPieces.render_document_end}
 pub use Rattle.yaml_emitter.specs.Places.{is_mapping, seen_role, seen_place, seen_frame}
 pub use Rattle.yaml_emitter.specs.Processing.{closes_at_once, event_stepped, render_event, refusal_now, Keeps, WritesPage, WritesEvent, CutPage, unwritten}
 pub use Rattle.yaml_emitter.specs.Processing.{partly_written, CutShort, Processed}

@@ -1,11 +1,8 @@
 -- The text that an offset is in, of the texts in a text.
-use Rattle.yaml_json.proofs.Common.{ℕ, ◌+◌, ◌-◌, ◌<◌, ◌≤◌, List, [], ◌∷◌, ◌++◌, drop, take, length, refl, ◌≡◌, append-nil, append_assoc, ap, sym, ◌∙◌}
-use Rattle.yaml_json.proofs.Common.{arith, flat_map, texts_in, HasScanned, CutsAt}
-use Rattle.yaml_json.proofs.Common.{flat_map-append, length-take-le, take-append-drop}
-use Rattle.yaml_json.proofs.Cutting.{whole_text}
-use Rattle.yaml_json.proofs.SendingSteps.{suffix_on}
-use Rattle.yaml_json.specs.Places.{HasInText}
-use Rattle.yaml_json.specs.declared.cuts.Cut.{Cut}
+use Rattle.yaml_json.proofs.Common.{ℕ, ◌+◌, ◌-◌, ◌<◌, ◌≤◌, List, [], ◌∷◌, ◌++◌, drop, take, length, refl, ◌≡◌, append-nil, append_assoc, ap, sym, ◌∙◌, arith}
+use Rattle.yaml_json.proofs.Common.{flat_map, texts_in, HasScanned, CutsAt, flat_map-append, length-take-le, take-append-drop}
+use Rattle.yaml_json.proofs.{Cutting.whole_text, SendingSteps.suffix_on}
+use Rattle.yaml_json.specs.{Places.HasInText, declared.cuts.Cut.Cut}
 
 abbrev pub joined : List (List ℕ) → List ℕ
 joined texts = flat_map (λ (text : List ℕ). text) texts

@@ -1,24 +1,17 @@
 -- The parts of JSON texts as they come, and the last of the texts.
 use Rattle.yaml_json.proofs.Sending.{sending_begins, sending_same, all_given}
 use Rattle.yaml_json.proofs.SendingSteps.{stops_here, stops_next_text}
-use Rattle.yaml_json.proofs.Common.{ℕ, IfSome, Option, None, Some, length, Bool, true, List, [], ◌++◌, refl, ◌≡◌, append-nil, append_assoc, ap}
-use Rattle.yaml_json.proofs.Common.{subst, sym, ◌∙◌, Appends, Token, tokens, HasScanned, NamesOnce, Advances, StopsWithin, IsBare, WroteText, WriterState, Ok}
-use Rattle.yaml_json.proofs.Common.{Err, Result}
-use Rattle.yaml_json.specs.Failing.{Grew}
+use Rattle.yaml_json.proofs.Common.{ℕ, IfSome, Option, None, Some, length, Bool, true, List, [], ◌++◌, refl, ◌≡◌, append-nil, append_assoc, ap, subst, sym, ◌∙◌}
+use Rattle.yaml_json.proofs.Common.{Appends, Token, tokens, HasScanned, NamesOnce, Advances, StopsWithin, IsBare, WroteText, WriterState, Ok, Err, Result}
+use Rattle.yaml_json.specs.{Failing.Grew, declared.cuts.Cut.Cut, declared.error.StreamError.StreamError, declared.places.Place.Place}
 use Rattle.yaml_json.specs.SendingCalls.{LastStep, SendsTexts}
-use Rattle.yaml_json.proofs.Growing.{grew_then}
+use Rattle.yaml_json.proofs.{Growing.grew_then, Cutting.whole_text, Stopping.if_some}
 use Rattle.yaml_pen.proofs.Composing.{grows_then}
 use Rattle.std.specs.Io.KnownBytes.{Keeps, Consumes, IsAtEnd}
 use Rattle.std.specs.Prelude.{IsUtf8}
-use Rattle.yaml_json.proofs.Cutting.{whole_text}
-use Rattle.yaml_json.specs.declared.cuts.Cut.{Cut}
-use Rattle.yaml_json.specs.declared.error.StreamError.{StreamError}
+use Rattle.yaml_json.specs.{declared.stream.Incoming.Incoming, declared.settings.JsonSettings.JsonSettings}
 use Rattle.yaml_json.specs.Sent.{SentTexts, SentSoFar, StopsInPart, StopsPartAt, StopsSending, HasCome, emitter_error}
-use Rattle.yaml_json.proofs.Stopping.{if_some}
 use Rattle.yaml_json.specs.Places.{HasPlaceWithin, IsPlaceAfter, MovesPlace}
-use Rattle.yaml_json.specs.declared.places.Place.{Place}
-use Rattle.yaml_json.specs.declared.stream.Incoming.{Incoming}
-use Rattle.yaml_json.specs.declared.settings.JsonSettings.{JsonSettings}
 
 -- ---- parts
 

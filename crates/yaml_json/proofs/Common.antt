@@ -22,20 +22,18 @@ pub use Rattle.yaml_base.{specs.values.JsonNumbers.fraction_or_default, specs.va
 pub use Rattle.yaml_base.specs.values.TypedValues.{null_tag, bool_tag, int_tag, bool_text}
 pub use Rattle.yaml_emitter.{proofs.Common.some_from_result, specs.Promises.RefusedAt, specs.StandsAfter.StateStands, specs.State.State}
 pub use Rattle.yaml_json.specs.{Begins.BeginsWithinDepth, Begins.NoneGoesOn, Cuts.HasScanned, Cuts.CutsAt, HeldNames.HaveNames, HeldNames.HoldsNames}
-pub use Rattle.yaml_json.specs.{HeldNames.AddsName, Texts.after_byte, Texts.texts_in, Texts.CutsFirstText, TokenEvents.token_events}
+pub use Rattle.yaml_json.specs.{HeldNames.AddsName, Texts.after_byte, Texts.texts_in, Texts.CutsFirstText, TokenEvents.token_events, TokenEvents.tokens_events}
 pub use Rattle.yaml_writer.specs.Means.{Schema}
 pub use Rattle.yaml_writer.specs.Failing.{FailedWith, FailedGiving}
 pub use Rattle.yaml_writer.specs.WasGiven.{between, IsBare, WasGiven, WroteEvent, start_event}
-pub use Rattle.yaml_json.specs.{TokenEvents.tokens_events}
 pub use Rattle.yaml_json.specs.Failing.{failure_of, emitter_error_of, FailedInText, events_with_separators}
 pub use Rattle.yaml_json.specs.JsonEvents.{json_events, items_events, members_events}
 pub use Rattle.yaml_writer.specs.Contents.{word_content, null_content, bool_content, number_content, text_content, collection_in}
 pub use Rattle.yaml_json.specs.Names.{IsNewName, inner_names, names_after, NamesOnce, all_names_after}
 pub use Rattle.yaml_json.specs.Refused.{RefusesText, TokensBreakOff, OpensTooDeep, NamesTwice, ExplainsError, HaveNamesOnce}
 pub use Rattle.yaml_json.specs.Sent.{Advances, StopsWithin, IsScanned}
-pub use Rattle.yaml_json.specs.Walk.{unwind, LeavesOpen, IsScalar, opener, closer, KeepsNames, FitsNames, KeepsNamesAfter, HasUniqueNames, BeganValue}
-pub use Rattle.yaml_json.specs.Walk.{BeginFailed}
-pub use Rattle.yaml_json.specs.Walk.{RefusesToken, BeganFirstValue, FirstFailed, RefusesFirst, WhyStopped, Refuses, WalkProgress}
+pub use Rattle.yaml_json.specs.Walk.{unwind, LeavesOpen, IsScalar, opener, closer, KeepsNames, FitsNames, KeepsNamesAfter, HasUniqueNames, BeganValue, Refuses}
+pub use Rattle.yaml_json.specs.Walk.{BeginFailed, RefusesToken, BeganFirstValue, FirstFailed, RefusesFirst, WhyStopped, WalkProgress}
 pub use Rattle.yaml_json.specs.Wrote.{WroteText, AreJson, parts_events, ReadsTexts}
 pub use Rattle.yaml_writer.{specs.NumberParts.number_in, specs.NumberParts.IsNumber}
 pub use Rattle.yaml_writer.specs.Writing.{WriterState, opening, closing, float_tag, number_tag, number_event, text_style, text_event, mapping_event}

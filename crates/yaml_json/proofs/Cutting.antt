@@ -15,9 +15,6 @@ onto_text : (bytes text : List ℕ) (texts : List (List ℕ)) → all_onto bytes
 onto_text [] text texts = refl
 onto_text (first ∷ bytes) text texts = ap (onto_first first) (onto_text bytes text texts)
 
-pub scan_begins : Scanned [] (record { mode = Before; levels = 0 })
-scan_begins = record { texts = λ more. refl; few = omega arith; fresh = λ none. refl }
-
 step_few : (mode : Mode) (levels byte : ℕ) (next : Scan) → after_byte (record { mode = mode; levels = levels }) byte ≡ Some next → next.levels ≤ suc levels
 step_few Before levels byte next is = grind arith
 step_few Within levels byte next is = grind arith

@@ -3,13 +3,10 @@ use Rattle.std.proofs.Common.{◌≡◌, ℕ, ◌<◌, ◌≤◌, Bool, true, fa
 use Rattle.std.proofs.Common.{append_assoc, append-nil, take-append-drop}
 use Rattle.std.proofs.lemmas.Bool.{cases_lt, true≢false}
 use Rattle.std.proofs.lemmas.List.{append_cancel_right, drop_all}
-use Rattle.json.specs.Json.{Json}
+use Rattle.json.specs.{Json.Json, Strict.HasUniqueKeys, Tree.json_tokens, Word.head}
 use Rattle.json.specs.Lex.{Lexeme, Place, after_key, after_value, begins_colon, between, colon, comma, fresh, if_allowed, in_word, lex, place_token}
 use Rattle.json.specs.Lex.{may_begin, punctuate, token, tokens}
-use Rattle.json.specs.Strict.{HasUniqueKeys}
 use Rattle.json.specs.Token.{Token, bad, key, string}
-use Rattle.json.specs.Tree.{json_tokens}
-use Rattle.json.specs.Word.{head}
 use Rattle.yaml_base.specs.Prefix.{IsPrefix}
 use Rattle.yaml_json.specs.Ahead.{FollowsAs, IsTidy, IsTrimmed, ahead, place_of}
 use Rattle.yaml_json.specs.Begins.{BeginsSome, NoneGoesOn}
@@ -21,11 +18,9 @@ use Rattle.yaml_json.specs.Walk.{IsBeginner, NoStringNext}
 use Rattle.yaml_json.specs.declared.tokens.Stage.{Stage}
 use Rattle.yaml_json.specs.declared.tokens.Stage.TheVariants.{Open, Behind, Owed, Over}
 use Rattle.yaml_json.proofs.FirstLexemes.{EndsValue, IsOfString, IsOfValue, as_string, comma_first, ends_good, first_of, of_string, of_value, some_token}
-use Rattle.yaml_json.proofs.LexSteps.{lex-none}
-use Rattle.yaml_json.proofs.ModeSteps.{goes_on}
+use Rattle.yaml_json.proofs.{LexSteps.lex-none, ModeSteps.goes_on, Refusing.nothing_past}
 use Rattle.yaml_json.proofs.PunctuateSteps.{as_placed, lex-stray, put-key, put-string}
 use Rattle.yaml_json.proofs.Reaching.{is_placed, no_key_place}
-use Rattle.yaml_json.proofs.Refusing.{nothing_past}
 use Rattle.yaml_json.proofs.Spelling.{AllGood, AreSpelled, are_spelled, due_at, goes_on_at, good_back, good_front, json_ends, json_good, last_same}
 use Rattle.yaml_json.proofs.Spelling.{nothing_left, spelled, spelled_colon}
 

@@ -2,14 +2,12 @@
 use Rattle.std.proofs.Common.{◌≡◌, ℕ, Bool, true, false, cond, ◌==◌, List, [], ◌∷◌, refl, sym, subst, ap, ◌∙◌}
 use Rattle.std.proofs.lemmas.Bool.{true≢false, false_from_ne_true}
 use Rattle.json.specs.Ascii as ascii
-use Rattle.json.specs.Lex.{Lexeme, Mode, Place, after_comma, after_key, after_value, backslash, begins_colon, between, colon, comma, fresh, if_allowed}
-use Rattle.json.specs.Lex.{in_string}
-use Rattle.json.specs.Lex.{in_word, lex, lex_byte, may_begin, may_close, operator, other, place_token, punctuate, quote, space, string_token, token}
+use Rattle.json.specs.Lex.{Lexeme, Mode, Place, after_comma, after_key, after_value, backslash, begins_colon, between, colon, comma, fresh, if_allowed, in_word}
+use Rattle.json.specs.Lex.{in_string, lex, lex_byte, may_begin, may_close, operator, other, place_token, punctuate, quote, space, string_token, token}
 use Rattle.json.specs.Text.{content, plain}
 use Rattle.json.specs.Token.{Token, begin_object, end_object, begin_array, end_array, key, string, number, boolean, null, bad}
 use Rattle.json.specs.Word.{head, is_operator, is_space, word}
-use Rattle.yaml_json.specs.Ahead.{IsTrimmed}
-use Rattle.yaml_json.specs.Walk.{NoStringNext}
+use Rattle.yaml_json.specs.{Ahead.IsTrimmed, Walk.NoStringNext}
 use Rattle.yaml_json.proofs.LexSteps.{each_operator}
 use Rattle.yaml_json.proofs.PunctuateSteps.{as_placed, put-end_array, put-end_object, put-string, put-word}
 

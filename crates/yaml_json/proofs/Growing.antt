@@ -1,8 +1,7 @@
 -- A writer's text and output only grow, and its emitter has no error but the one that is said.
-use Rattle.yaml_json.proofs.Common.{[], append-nil, subst, sym, Option, None, Some, Ok, Err, List, ◌≡◌, inl, inr, some_from_result, Event, failure_of}
+use Rattle.yaml_json.proofs.Common.{[], append-nil, subst, sym, Option, None, Some, Ok, Err, List, ◌≡◌, inl, inr, some_from_result, Event, failure_of, refl}
 use Rattle.yaml_json.proofs.Common.{WriterState, PassedEvents}
 use Rattle.yaml_base.specs.declared.errors.yaml_error_t.{yaml_error_t}
-use Rattle.yaml_json.proofs.Common.{refl}
 use Rattle.yaml_json.specs.{Failing.writers_error, Sent.IsByReader, Sent.emitter_error, declared.error.JsonError.JsonError}
 use Rattle.yaml_json.specs.declared.error.StreamError.{StreamError}
 use Rattle.yaml_json.specs.declared.error.StreamError.TheVariants as faults

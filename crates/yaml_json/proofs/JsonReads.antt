@@ -6,10 +6,9 @@ use Rattle.yaml_base.proofs.Common.{stream_trees, root_place, settings_for, Docu
 use Rattle.yaml_base.proofs.{stream_documents.StreamWholeReads.document_trees, stream_nodes.StreamAgrees.document_tree}
 use Rattle.yaml_emitter.proofs.layouts.StreamsReadBack.{stream_found}
 use Rattle.yaml_writer.proofs.WholeStreams.{IsWhole}
-use Rattle.yaml_json.proofs.Meanings.{node_means}
+use Rattle.yaml_json.proofs.{Meanings.node_means, Portable.portable_events}
 use Rattle.yaml_writer.proofs.ScalarMeanings.{ReadsScalars, reads_by_11, reads_by_core}
 use Rattle.yaml_writer.specs.Means.{plain_document}
-use Rattle.yaml_json.proofs.Portable.{portable_events}
 use Rattle.yaml_json.proofs.Trees.{json_node, json_document, json_documents, json_stream, values_of, all_events, stream_flat}
 use Rattle.yaml_json.specs.Means.{AllMean, ReadsAsValues, ReadsAsJson}
 

@@ -1,10 +1,8 @@
 -- The lexer's mode, byte by byte.
-use Rattle.std.proofs.Common.{◌≡◌, ℕ, zero, suc, ◌+◌, ◌-◌, ◌<◌, ◌≤◌, Bool, true, false, cond, ◌||◌, ◌==◌, List, [], ◌∷◌, ◌++◌, drop, get_or, length, refl}
-use Rattle.std.proofs.Common.{sym, ap, ◌∙◌}
-use Rattle.std.proofs.Common.{subst, arith, append_assoc, inl, inr}
-use Rattle.std.proofs.lemmas.Bool.{true≢false, or_parts}
+use Rattle.std.proofs.Common.{◌≡◌, ℕ, zero, suc, ◌+◌, ◌-◌, ◌<◌, ◌≤◌, Bool, true, false, cond, ◌||◌, ◌==◌, List, [], ◌∷◌, ◌++◌, drop, get_or, length, refl, sym}
+use Rattle.std.proofs.Common.{ap, ◌∙◌, subst, arith, append_assoc, inl, inr}
+use Rattle.std.proofs.lemmas.Bool.{true≢false, or_parts, cases_lt}
 use Rattle.std.proofs.lemmas.List.{drop_all, drop_more}
-use Rattle.std.proofs.lemmas.Bool.{cases_lt}
 use Rattle.json.specs.Word.{head, is_operator, is_space}
 use Rattle.json.specs.Lex.{Class, Mode, backslash, between, class, in_escape, in_string, in_word, operator, other, quote, space}
 use Rattle.yaml_json.proofs.LexSteps.{each_operator, each_space}

@@ -1,22 +1,19 @@
 -- One lexeme is passed.
-use Rattle.std.proofs.Common.{◌≡◌, ℕ, ◌+◌, ◌-◌, ◌<◌, ◌≤◌, true, false, ◌||◌, List, [], ◌∷◌, ◌++◌, drop, get_or, length, refl, sym, subst, ap, ◌∙◌, arith}
-use Rattle.std.proofs.Common.{append_assoc, inr}
-use Rattle.std.proofs.Common.{take, take-append-drop}
+use Rattle.std.proofs.Common.{◌≡◌, ℕ, ◌+◌, ◌-◌, ◌<◌, ◌≤◌, true, false, ◌||◌, List, [], ◌∷◌, ◌++◌, drop, get_or, length, refl, sym, subst, ap, ◌∙◌, arith, inr}
+use Rattle.std.proofs.Common.{append_assoc, take, take-append-drop}
 use Rattle.std.proofs.lemmas.Bool.{true≢false}
 use Rattle.std.proofs.lemmas.List.{drop_all, drop_more}
 use Rattle.json.specs.Lex.{Lexeme, between, colon, comma, in_string, in_word, lex, string_token, token}
 use Rattle.json.specs.Text.{content, plain}
 use Rattle.json.specs.Token.{begin_array, begin_object, end_array, end_object}
 use Rattle.json.specs.Word.{ends_word, head, is_operator, is_space, word}
-use Rattle.yaml_json.specs.Ahead.{IsTrimmed}
+use Rattle.yaml_json.specs.{Ahead.IsTrimmed, Offsets.PassesLexeme}
 use Rattle.yaml_json.specs.Lexing.{EndsWord, Leads, LeadsFrom}
-use Rattle.yaml_json.specs.Offsets.{PassesLexeme}
 use Rattle.yaml_json.proofs.LexSteps.{each_operator, each_space, lex-delimiter, lex-in_word, lex-none}
 use Rattle.yaml_json.proofs.ModeSteps.{goes_by_one_at, goes_nowhere, goes_on, leads_on, leads_past, or_case, quote_leads}
 use Rattle.yaml_json.proofs.PunctuateSteps.{begins_word, lex-string, lex-word}
-use Rattle.yaml_json.proofs.Reaching.{last_is}
+use Rattle.yaml_json.proofs.{Reaching.last_is, WordSteps.other_inner}
 use Rattle.yaml_json.proofs.WordModes.{InWord, byte_stays, one_goes, then_goes, word_leads}
-use Rattle.yaml_json.proofs.WordSteps.{other_inner}
 
 pub head_at : (d : List ℕ) (i : ℕ) → i < length d → head (drop i d) ≡ get_or d i 0
 head_at d i h = ap head (drop_more d i 0 h)

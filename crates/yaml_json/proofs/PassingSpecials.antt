@@ -2,10 +2,8 @@
 use Rattle.yaml_json.proofs.Common.{false, suc, zero, ℕ, ◌+◌, ◌-◌, ◌<◌, ◌≤◌, Some, length, slice_index_or as get_or, List, ◌≡◌, inl, inr, ap}
 use Rattle.yaml_json.proofs.Common.{subst, sym, ◌∙◌, arith, HasScanned, after_byte, cases_lt}
 use Rattle.std.proofs.Common.{◌^◌, w64, bit_and}
-use Rattle.std.proofs.lemmas.Bool.{true≢false}
-use Rattle.std.proofs.lemmas.Nat.{and_le_r}
+use Rattle.std.proofs.{lemmas.Bool.true≢false, lemmas.Nat.and_le_r, lemmas.Simd.get_or-chunk}
 use Rattle.std.proofs.lemmas.Nat.Bits.{bit_at-trailing_zeros, bit_at_above, bit_at-zero}
-use Rattle.std.proofs.lemmas.Simd.{get_or-chunk}
 use lib.Lanes.{chunk}
 use Rattle.std.specs.Int.{bit_at, trailing_zeros}
 use Rattle.yaml_json.specs.declared.{cuts.Cut.Cut, cuts.Scan.Scan}

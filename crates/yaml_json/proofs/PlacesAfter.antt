@@ -4,14 +4,13 @@ use Rattle.std.proofs.Common.{◌≡◌, ◌⊎◌, ℕ, ◌+◌, ◌-◌, ◌<�
 use Rattle.std.proofs.Common.{ap, ◌∙◌, arith, inl, inr}
 use Rattle.std.proofs.Math.Seq.{drop-append-add, take-append-add, take-length}
 use Rattle.std.proofs.lemmas.Bool.{cases_lt, ne_eqb}
-use Rattle.std.proofs.lemmas.List.{drop-append-le, length-append, length-drop, length-reverse, length-take-le, reverse-append}
+use Rattle.std.proofs.lemmas.List.{drop-append-le, length-append, length-drop, length-reverse, length-take-le, reverse-append, append-nil, take-append-drop}
 use Rattle.std.proofs.lemmas.List.Folds.{prefix_len-append}
 use Rattle.std.proofs.lemmas.List.Sums.{count_by-le-length, suffix_len-le-length, sum_by-append}
 use mathlib.Core.List.{reverse}
 use Rattle.std.specs.Fmt.{is_char_start}
 use Rattle.std.specs.List.{after_last, count_by, prefix_len, suffix_len}
 use Rattle.yaml_base.specs.values.LinesAndColumns.{column_of, is_line_feed, line_of}
-use Rattle.std.proofs.lemmas.List.{append-nil, take-append-drop}
 use Rattle.yaml_json.specs.Places.{IsPlaceAfter, MovesPlace, many_bytes}
 use Rattle.yaml_writer.specs.Places.{AreOf}
 use Rattle.yaml_json.specs.declared.places.Place.{Place}

@@ -1,24 +1,19 @@
 -- Where the writing is stopped, by why it is.
-use Rattle.std.proofs.Common.{◌≡◌, ℕ, ◌≤◌, Bool, true, false, List, [], ◌∷◌, ◌++◌, drop, refl, sym, subst, ap, ◌∙◌, arith, inl, inr}
-use Rattle.std.proofs.Common.{append_assoc, append-nil}
-use Rattle.json.specs.Json.{Json}
+use Rattle.std.proofs.Common.{◌≡◌, ℕ, ◌≤◌, Bool, true, false, List, [], ◌∷◌, ◌++◌, drop, refl, sym, subst, ap, ◌∙◌, arith, inl, inr, append_assoc, append-nil}
+use Rattle.json.specs.{Json.Json, Strict.HasUniqueKeys}
 use Rattle.json.specs.Lex.{between, lex, tokens}
-use Rattle.json.specs.Strict.{HasUniqueKeys}
 use Rattle.json.specs.Token.{Token, key}
 use Rattle.json.specs.Tree.{depth as nesting, json_tokens}
 use Rattle.yaml_base.specs.Prefix.{IsPrefix}
 use Rattle.yaml_json.specs.Begins.{BeginsAllowed, NoneGoesOn}
-use Rattle.yaml_json.specs.Offsets.{IsOffset, IsPast}
+use Rattle.yaml_json.specs.Offsets.{IsOffset, IsPast, StopsAtLexeme}
 use Rattle.yaml_json.specs.Places.{CannotStandAt, IsAny, IsWithinDepth}
-use Rattle.yaml_json.specs.Reached.{AreFrom}
+use Rattle.yaml_json.specs.{Reached.AreFrom, declared.values.Stop.Stop}
 use Rattle.yaml_json.specs.Refused.{TokensBreakAt, NamesTwiceAt, OpensTooDeepAt}
 use Rattle.yaml_writer.specs.Writing.{WriterState}
-use Rattle.yaml_json.specs.Offsets.{StopsAtLexeme}
-use Rattle.yaml_json.specs.Walk.{TextStopsWriting}
+use Rattle.yaml_json.specs.Walk.{TextStopsWriting, CouldStandOther, GoesOn, NoStringNext, NoStringStands}
 use Rattle.yaml_json.specs.declared.values.Spot.TheVariants.{At, PastString, PastValue}
-use Rattle.yaml_json.specs.declared.values.Stop.{Stop}
 use Rattle.yaml_json.specs.declared.values.Stop.TheVariants as stops
-use Rattle.yaml_json.specs.Walk.{CouldStandOther, GoesOn, NoStringNext, NoStringStands}
 use Rattle.yaml_json.proofs.Faults.{StandsHere, at_token, none_again, none_here, past_string, past_value, some_append, stands_here}
 
 no_value : (left taken : List Token) → NoneGoesOn taken left → (json : Json) → taken ++ left ≡ json_tokens json → ⊥

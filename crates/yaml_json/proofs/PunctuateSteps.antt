@@ -1,8 +1,7 @@
 -- The rules for commas and colons, token by token.
 use Rattle.std.proofs.Common.{◌≡◌, ℕ, Bool, true, false, cond, ◌&&◌, ◌==◌, ◌-◌, List, [], ◌∷◌, length, take, drop, Option, Some, None, refl, sym, ap, ◌∙◌}
 use Rattle.std.proofs.Common.{arith}
-use Rattle.std.specs.List.{starts_with}
-use Rattle.std.specs.Prelude.{nat_eq}
+use Rattle.std.specs.{List.starts_with, Prelude.nat_eq}
 use Rattle.std.proofs.lemmas.Bool.{true≢false, ne_eqb, false_from_ne_true}
 use Rattle.json.specs.Ascii as ascii
 use Rattle.json.specs.Token.{Token, begin_object, end_object, begin_array, end_array, key, string, number, boolean, null, bad}

@@ -1,18 +1,14 @@
 -- The reader of tokens, from token to token.
 use Rattle.std.proofs.Common.{◌≡◌, ◌⊎◌, ℕ, ◌+◌, ◌-◌, List, [], ◌∷◌, ◌++◌, drop, length, refl, sym, subst, ap, ◌∙◌, append_assoc, arith, inl, inr}
 use Rattle.std.proofs.lemmas.Bool.{true≢false}
-use Rattle.yaml_json.proofs.Common.{length-append}
+use Rattle.yaml_json.proofs.{Common.length-append, ModeSteps.goes_on}
 use Rattle.json.specs.Lex.{Place, after_comma, after_key, after_value, between, fresh, lex, punctuate, token}
-use Rattle.json.specs.Reads.{token_of}
-use Rattle.json.specs.Token.{Token}
+use Rattle.json.specs.{Reads.token_of, Token.Token}
 use Rattle.yaml_json.specs.Ahead.{IsTidy, IsTrimmed, Passes, PassesOrEnds, ReadsFirst, ahead, place_of}
-use Rattle.yaml_json.specs.Lexing.{Leads}
+use Rattle.yaml_json.specs.{Lexing.Leads, declared.tokens.Stage.Stage, declared.tokens.Step.Step}
 use Rattle.yaml_json.specs.Reached.{HasReadTokens, HaveTokens, IsReader, LastRead, Passed, Reader, last_bytes}
-use Rattle.yaml_json.specs.declared.tokens.Stage.{Stage}
 use Rattle.yaml_json.specs.declared.tokens.Stage.TheVariants.{Open, Behind, Owed, Over}
-use Rattle.yaml_json.specs.declared.tokens.Step.{Step}
 use Rattle.yaml_json.proofs.FirstLexemes.{some_after_comma, some_ahead}
-use Rattle.yaml_json.proofs.ModeSteps.{goes_on}
 
 -- ---- what is left is the text's end
 

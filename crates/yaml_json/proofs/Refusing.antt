@@ -1,22 +1,19 @@
 -- Why the walk over the tokens of a value is stopped by them.
-use Rattle.yaml_json.proofs.Common.{suc, ℕ, ◌-◌, ◌<◌, ◌≤◌, IfErr, None, Some, Result, Err, Ok, length, Bool, true, List, [], ◌++◌, ◌∷◌, ◌⊎◌, refl, ◌≡◌}
-use Rattle.yaml_json.proofs.Common.{append-nil, append_assoc, inl, inr, ap, subst, sym, ◌∙◌, arith, le-max_left, le-max_right, append_cancel_right, left}
-use Rattle.yaml_json.proofs.Common.{value_is, members_no_key, value-depth, Json, read_key, value, skip_value, tokens, Token, json_tokens, depth as nesting}
-use Rattle.yaml_json.proofs.Common.{IsPrefix, NoneGoesOn, IsNewName, inner_names, NamesOnce, all_names_after, RefusesText, TokensBreakOff, OpensTooDeep}
-use Rattle.yaml_json.proofs.Common.{ExplainsError, unwind, LeavesOpen, opener, HasUniqueNames, RefusesToken, RefusesFirst, WhyStopped}
+use Rattle.yaml_json.proofs.Common.{suc, ℕ, ◌-◌, ◌<◌, ◌≤◌, IfErr, None, Some, Result, Err, Ok, length, Bool, true, List, [], ◌++◌, ◌∷◌, ◌⊎◌, refl, ◌≡◌, inl, ap}
+use Rattle.yaml_json.proofs.Common.{append-nil, append_assoc, inr, subst, sym, ◌∙◌, arith, le-max_left, le-max_right, append_cancel_right, left, value_is, Json}
+use Rattle.yaml_json.proofs.Common.{members_no_key, value-depth, read_key, value, skip_value, tokens, Token, json_tokens, depth as nesting, IsPrefix, IsNewName}
+use Rattle.yaml_json.proofs.Common.{NoneGoesOn, inner_names, NamesOnce, all_names_after, RefusesText, TokensBreakOff, OpensTooDeep, ExplainsError, unwind, zero}
+use Rattle.yaml_json.proofs.Common.{LeavesOpen, opener, HasUniqueNames, RefusesToken, RefusesFirst, WhyStopped, ◌+◌, IsScalar}
 use Rattle.std.specs.Prelude.{max}
 use Rattle.json.proofs.Printed.Trees.{value-json_tokens}
 use Rattle.yaml_json.{proofs.TokenLemmas.value_spelled, specs.Refused.DeniesJson, specs.Refused.IsNotJson, specs.Walk.BeginsNone}
 use Rattle.yaml_json.specs.Refused.{TokensBreakAt, OpensTooDeepAt, NamesTwiceAt}
 use Rattle.yaml_json.{specs.declared.error.JsonError.JsonError, specs.declared.values.Stop.Stop}
-use Rattle.yaml_json.proofs.NameLemmas.{once_first, once_second, once_is_unique, unique_is_once}
+use Rattle.yaml_json.proofs.NameLemmas.{once_first, once_second, once_is_unique, unique_is_once, once_both}
 use Rattle.yaml_json.proofs.Walking.{unwind_none, unwind_inner, Awaits, opener_too_deep, next_stands_at, closes_value, closes_allowed, value_begins_at}
 use Rattle.yaml_json.proofs.Walking.{value_closes, Awaiting, Closes, awaiting_named, next_stands}
-use Rattle.yaml_json.proofs.NameLemmas.{once_both}
-use Rattle.yaml_json.proofs.Common.{zero, ◌+◌, IsScalar}
-use Rattle.yaml_json.specs.Begins.{BeginsSome}
+use Rattle.yaml_json.specs.{Begins.BeginsSome, declared.values.Spot.Spot}
 use Rattle.yaml_json.specs.Walk.{CouldStandOther, GoesOn, IsSpot, NoStringNext, NoStringStands, WhereStopped, spot_of}
-use Rattle.yaml_json.specs.declared.values.Spot.{Spot}
 use Rattle.yaml_base.specs.declared.kinds.CollectionKind.{CollectionKind}
 use Rattle.yaml_base.specs.declared.kinds.CollectionKind.TheVariants.{Mapping, Sequence}
 use Rattle.yaml_json.specs.declared.error.JsonError.TheVariants as errors

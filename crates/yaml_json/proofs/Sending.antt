@@ -1,23 +1,19 @@
 -- JSON texts that come part by part, in turn.
-use Rattle.yaml_json.proofs.Common.{ℕ, flat_map, Option, Bool, true, List, [], map, ◌++◌, ◌∷◌, ◌⊎◌, refl, ◌≡◌, append-nil, append_assoc, inl, inr}
-use Rattle.yaml_json.proofs.Common.{ap, subst, sym, ◌∙◌, arith, map-append, Appends, Event, Json, tokens, FailedWith, between, events_with_separators}
-use Rattle.yaml_json.proofs.Common.{json_events, NamesOnce, HaveNamesOnce, texts_in, IsBare, WasGiven, WroteText, AreJson, AddsEvents, parts_events, State}
-use Rattle.yaml_json.proofs.Common.{WriterState}
+use Rattle.yaml_json.proofs.Common.{ℕ, flat_map, Option, Bool, true, List, [], map, ◌++◌, ◌∷◌, ◌⊎◌, refl, ◌≡◌, append-nil, append_assoc, inl, inr, ap, subst}
+use Rattle.yaml_json.proofs.Common.{sym, ◌∙◌, arith, map-append, Appends, Event, Json, tokens, FailedWith, between, events_with_separators, json_events, IsBare}
+use Rattle.yaml_json.proofs.Common.{NamesOnce, HaveNamesOnce, texts_in, WasGiven, WroteText, AreJson, AddsEvents, parts_events, State, WriterState}
 use Rattle.std.proofs.lemmas.Str.{IsUtf8-append, IsUtf8-nil}
-use Rattle.std.specs.Prelude.{IsUtf8}
-use Rattle.std.specs.declared.io.Error.{Error}
+use Rattle.std.specs.{Prelude.IsUtf8, declared.io.Error.Error}
 use Rattle.yaml_base.specs.declared.errors.yaml_error_t.{yaml_error_t}
 use Rattle.yaml_json.proofs.YamlOf.{sent_reads}
-use Rattle.yaml_json.specs.declared.error.StreamError.{StreamError}
+use Rattle.yaml_json.specs.{declared.error.StreamError.StreamError, Places.HasPlaceWithin}
 use Rattle.yaml_json.proofs.TextsInTurn.{ends_with, one_more, joined_more, text_names, more_names, some_text, begins_nothing}
-use Rattle.yaml_json.specs.Sent.{AreUtf8, MayBeUnsent, SentTexts, SentSoFar, SentDocuments}
+use Rattle.yaml_json.specs.Sent.{AreUtf8, MayBeUnsent, SentTexts, SentSoFar, SentDocuments, StopsPartAt, StopsSending}
 use Rattle.yaml_writer.specs.WasGiven.{AddsTaking, IsAllTaken, WroteTaking, BeginsNext, BeginsUnsent}
 use Rattle.yaml_writer.proofs.GivenLemmas.{adds_then}
 use Rattle.std.proofs.KnownBytes.{Appends-nil, Appends-trans}
 use Rattle.yaml_json.proofs.SentParts.{gives_all, separated}
 use Rattle.yaml_writer.proofs.GivenAndTaken.{took_nothing, adds_taking_then, adds_taking_more, taking_then, took_none, taking_same}
-use Rattle.yaml_json.specs.Sent.{StopsPartAt, StopsSending}
-use Rattle.yaml_json.specs.Places.{HasPlaceWithin}
 use Rattle.yaml_json.specs.declared.error.JsonError.TheVariants as errors
 use Rattle.yaml_json.specs.declared.error.StreamError.TheVariants as faults
 

@@ -7,15 +7,12 @@ use Rattle.yaml_json.proofs.Common.{append_cancel_right}
 use Rattle.std.proofs.lemmas.List.{drop-drop}
 use Rattle.std.specs.Prelude.{IsUtf8}
 use Rattle.yaml_base.specs.declared.errors.yaml_error_t.TheVariants.{Memory}
-use Rattle.yaml_json.specs.declared.cuts.Cut.{Cut}
-use Rattle.yaml_json.specs.declared.error.StreamError.{StreamError}
-use Rattle.yaml_json.specs.declared.error.JsonError.{JsonError}
+use Rattle.yaml_json.specs.{declared.cuts.Cut.Cut, declared.error.StreamError.StreamError, declared.error.JsonError.JsonError, declared.places.Place.Place}
 use Rattle.yaml_json.proofs.TextsInTurn.{some_text, begins_nothing}
 use Rattle.yaml_json.specs.Sent.{SentSoFar, FailsNext, IsByReader, StopsInPart, StopsPartAt, StopsSending, LeavesLast}
 use Rattle.yaml_writer.specs.WasGiven.{AddsTaking, BeginsNext}
 use Rattle.yaml_writer.proofs.GivenAndTaken.{adds_taking_more}
 use Rattle.yaml_json.specs.Places.{HasPlaceWithin, IsPlaceAfter}
-use Rattle.yaml_json.specs.declared.places.Place.{Place}
 use Rattle.yaml_json.specs.declared.error.JsonError.TheVariants as errors
 use Rattle.yaml_json.specs.declared.error.StreamError.TheVariants as faults
 

@@ -3,9 +3,8 @@ use Rattle.yaml_json.proofs.Common.{ℕ, Option, Bool, List, [], ◌++◌, ◌�
 use Rattle.yaml_json.proofs.Common.{Event, Token, between, events_with_separators, json_events, WriterState}
 use Rattle.std.specs.Prelude.{IsUtf8}
 use Rattle.yaml_json.specs.{Stopped.StopsInText, declared.error.JsonError.JsonError}
-use Rattle.yaml_json.specs.Places.{HasPlaceWithin}
+use Rattle.yaml_json.specs.{Places.HasPlaceWithin, declared.error.StreamError.StreamError}
 use Rattle.yaml_json.specs.Sent.{GivesSink, StopsInPart, StopsPartAt}
-use Rattle.yaml_json.specs.declared.error.StreamError.{StreamError}
 use Rattle.yaml_json.specs.declared.error.StreamError.TheVariants as faults
 
 -- whichever error there is, where all bytes were given

@@ -6,9 +6,7 @@ use Rattle.json.specs.Json as json
 use Rattle.json.specs.Tree.{items_tokens, json_tokens, members_tokens}
 use Rattle.json.specs.Lex.{Lexeme, Place, after_comma, after_key, after_value, begins_colon, colon, comma, fresh, may_begin, may_close, punctuate, token}
 use Rattle.json.specs.Token.{Token, begin_object, end_object, begin_array, end_array, key, string, number, boolean, null, bad}
-use Rattle.yaml_json.specs.Ahead.{place_of}
-use Rattle.yaml_json.specs.Walk.{IsBeginner}
-use Rattle.yaml_json.specs.declared.tokens.Stage.{Stage}
+use Rattle.yaml_json.specs.{Ahead.place_of, Walk.IsBeginner, declared.tokens.Stage.Stage}
 use Rattle.yaml_json.specs.declared.tokens.Stage.TheVariants.{Open, Behind, Owed, Over}
 use Rattle.yaml_json.proofs.PunctuateSteps.{put-begin_array, put-begin_object, put-end_array, put-end_object, put-key, put-string, put-word}
 use Rattle.yaml_json.proofs.FirstLexemes.{EndsValue, boolean_good, null_good, number_good}

@@ -1,11 +1,9 @@
 -- A token and what it leaves, from what its parts are.
 use Rattle.std.proofs.Common.{◌≡◌, ℕ, ◌+◌, ◌-◌, ◌<◌, Bool, true, false, ◌⊎◌, inl, inr, List, [], ◌∷◌, ◌++◌, take, drop, get_or, length, Some, None, refl, sym}
-use Rattle.std.proofs.Common.{subst}
-use Rattle.std.proofs.Common.{ap, ◌∙◌, arith}
+use Rattle.std.proofs.Common.{subst, ap, ◌∙◌, arith}
 use Rattle.std.proofs.lemmas.Bool.{true≢false, false_from_ne_true}
 use Rattle.json.specs.Lex.{Lexeme, Place, after_comma, after_value, begins_colon, between, class, colon, fresh, in_string, in_word, lex, may_begin, may_close}
-use Rattle.json.specs.Lex.{other, punctuate}
-use Rattle.json.specs.Lex.{string_token, token}
+use Rattle.json.specs.Lex.{other, punctuate, string_token, token}
 use Rattle.json.specs.Reads.{token_of}
 use Rattle.json.specs.Text.{content, plain}
 use Rattle.json.specs.Token.{Token, begin_array, begin_object, end_array, end_object, key, string, bad}
@@ -16,10 +14,8 @@ use Rattle.json.specs.declared.token.Token as variants
 use Rattle.json.specs.declared.token.Token.TheVariants as tokens
 use Rattle.json.proofs.Numbered.{ArePrintableOrBad-tokens_at}
 use Rattle.yaml_json.specs.Ahead.{Ends, FollowsAs, IsTidy, IsTrimmed, Opens, Passes, ReadsFirst, StepsFrom, ahead, begins_here, closes_here, place_of}
-use Rattle.yaml_json.specs.Lexemes.{ArePlain}
-use Rattle.yaml_json.specs.declared.tokens.Stage.{Stage}
+use Rattle.yaml_json.specs.{Lexemes.ArePlain, declared.tokens.Stage.Stage, declared.tokens.Step.Step}
 use Rattle.yaml_json.specs.declared.tokens.Stage.TheVariants.{Open, Behind, Owed, Over}
-use Rattle.yaml_json.specs.declared.tokens.Step.{Step}
 use Rattle.yaml_json.proofs.LexSteps.{plain_over, quote_at}
 use Rattle.yaml_json.proofs.ContentSteps.{closes_here as string_closes, prepend-nothing, run_more}
 use Rattle.yaml_json.proofs.PunctuateSteps.{IsWord, IsWord-word, lex-begin_array, lex-begin_object, lex-colon, lex-end_array, lex-end_object, lex-string}

@@ -1,17 +1,15 @@
 -- What a writer was given when it failed.
-use Rattle.yaml_json.proofs.Common.{IfSome, IfErr, OnOk, Option, None, Some, Result, Ok, Err, List, [], ◌++◌, ◌∷◌, ◌⊎◌, ◌≡◌, inl, inr, subst, sym, ◌∙◌}
-use Rattle.yaml_json.proofs.Common.{unwrap_or, Event, some_from_result, failure_of, emitter_error_of, RefusesText}
+use Rattle.yaml_json.proofs.Common.{IfSome, IfErr, OnOk, Option, None, Some, Result, Ok, Err, List, [], ◌++◌, ◌∷◌, ◌⊎◌, ◌≡◌, inl, inr, subst, sym, ◌∙◌, Event}
+use Rattle.yaml_json.proofs.Common.{unwrap_or, some_from_result, failure_of, emitter_error_of, RefusesText, Token, refl, ap, State, FailedWith, FailedGiving}
 use Rattle.yaml_json.specs.{Failing.FailedAtEnd, Failing.IsWritersAnswer, Failing.Kept, Failing.SoundAfter, Failing.TellsOf, Refused.IsByText}
 use Rattle.yaml_json.specs.{Walk.ReadsNone, declared.values.Stop.Stop}
-use Rattle.yaml_json.proofs.Common.{Token, refl, ap, State}
+use Rattle.yaml_json.proofs.Common.{WriterState, end_event, with_collection, GaveEvent, EndsInnermost, AddsEvents}
 use Rattle.yaml_pen.{proofs.Composing.grows_itself, proofs.Composing.grows_then, proofs.Writing.none_from_result, specs.Wrote.Grows}
 use Rattle.yaml_json.specs.declared.values.Stop.TheVariants as stops
-use Rattle.yaml_json.proofs.Common.{FailedWith, FailedGiving, WriterState, end_event, with_collection, GaveEvent, EndsInnermost}
 use Rattle.yaml_base.specs.declared.errors.{yaml_error_t.yaml_error_t, yaml_error_t.TheVariants.Memory, yaml_error_t.TheVariants.ExpectedDocumentEnd}
 use Rattle.yaml_writer.proofs.GivenLemmas.{none_more, on_err, same_last}
 use Rattle.yaml_base.specs.declared.kinds.CollectionKind.{CollectionKind}
 use Rattle.yaml_writer.specs.Writing.{Failed}
-use Rattle.yaml_json.proofs.Common.{AddsEvents}
 use Rattle.yaml_writer.proofs.Taken.{moves_add}
 
 -- what follows of a value, where there is one

@@ -1,19 +1,16 @@
 -- The stops of the walk, turn by turn.
 use Rattle.yaml_json.proofs.Common.{ℕ, Bool, false, true, List, [], ◌++◌, ◌∷◌, ◌≡◌, ap, append-nil, subst, sym, ◌∙◌, Token, HoldsNames, AddsName, FitsNames}
-use Rattle.yaml_json.proofs.Common.{IfSome, failure_of, refl, WriterState, RefusesToken, RefusesFirst, WhyStopped, Refuses, tokens_events, AddsEvents}
+use Rattle.yaml_json.proofs.Common.{IfSome, failure_of, refl, WriterState, RefusesToken, RefusesFirst, WhyStopped, Refuses, tokens_events, AddsEvents, IsScalar}
 use Rattle.yaml_json.proofs.Common.{LeavesOpen, KeepsNames}
-use Rattle.yaml_json.specs.{Refused.IsByText, Walk.GivesTaken, Walk.GaveTokens}
+use Rattle.yaml_json.specs.{Refused.IsByText, Walk.GivesTaken, Walk.GaveTokens, Walk.ReadsNone, declared.names.Names.Names, declared.values.Stop.Stop}
 use Rattle.yaml_json.proofs.KeepingNames.{keeps_name, name_again, names_once}
 use Rattle.yaml_json.proofs.Refusing.{IsNoKey, first_placed, first_refused, key_could_stand, key_refused, member_goes_on, name_refused, no_member_left}
 use Rattle.yaml_json.proofs.Refusing.{no_string_stands}
 use Rattle.yaml_json.proofs.Walking.{Awaiting, awaiting_item, awaiting_named, awaiting_no_item, awaiting_whole}
-use Rattle.yaml_json.proofs.Common.{IsScalar}
 use Rattle.yaml_json.specs.Walk.{StopsInside, NoStringNext, TextStopsWriting, WereLeft, WhereStopped, spot_of}
 use Rattle.yaml_json.specs.declared.values.Spot.{Spot}
 use Rattle.yaml_json.specs.declared.values.Spot.TheVariants.{At, PastString, PastValue}
-use Rattle.yaml_base.specs.declared.errors.yaml_error_t.TheVariants.{Memory}
-use Rattle.yaml_json.specs.{Walk.ReadsNone, declared.names.Names.Names, declared.values.Stop.Stop}
-use Rattle.yaml_base.specs.declared.kinds.CollectionKind.{CollectionKind}
+use Rattle.yaml_base.specs.{declared.errors.yaml_error_t.TheVariants.Memory, declared.kinds.CollectionKind.CollectionKind}
 use Rattle.yaml_base.specs.declared.kinds.CollectionKind.TheVariants.{Mapping, Sequence}
 use Rattle.yaml_json.specs.declared.values.Stop.TheVariants as stops
 

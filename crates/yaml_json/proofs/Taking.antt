@@ -4,17 +4,15 @@ use Rattle.yaml_json.proofs.Common.{arith, Token, Event, BeginsWithinDepth, Fail
 use Rattle.yaml_json.proofs.Common.{closer, BeganValue, BeginFailed, BeganFirstValue, FirstFailed, IsBare, WroteEvent, start_event, IfSome, failure_of}
 use Rattle.yaml_json.proofs.Common.{WriterState, end_event, AddsEvents, GaveEvent, with_collection, Ok, EndsInnermost}
 use Rattle.std.proofs.Math.Seq.{take-append_seam}
-use Rattle.yaml_base.specs.declared.errors.yaml_error_t.{yaml_error_t}
-use Rattle.yaml_base.specs.declared.errors.yaml_error_t.TheVariants.{Memory}
+use Rattle.yaml_base.specs.{declared.errors.yaml_error_t.yaml_error_t, declared.errors.yaml_error_t.TheVariants.Memory}
+use Rattle.yaml_base.specs.{declared.kinds.CollectionKind.CollectionKind}
 use Rattle.yaml_json.proofs.Stopping.{end_failed, if_some}
 use Rattle.yaml_json.proofs.Stops.{unread_memory, adds_none}
 use Rattle.yaml_json.proofs.TokenLemmas.{some_then}
 use Rattle.yaml_writer.proofs.GivenLemmas.{adds_then, ended}
-use Rattle.yaml_json.specs.Failing.{FailedAtEnd}
-use Rattle.yaml_json.specs.declared.values.Stop.{Stop}
+use Rattle.yaml_json.specs.{Failing.FailedAtEnd, declared.values.Stop.Stop}
 use Rattle.yaml_json.proofs.Walking.{longer, closed_stands, closes_value, value_begins, awaiting_item, awaiting_named, next_stands}
 use Rattle.yaml_json.specs.Walk.{ReadsNone, GaveTokens, GivesTaken, FailsGiving, WalkedOn, StepFailed}
-use Rattle.yaml_base.specs.declared.kinds.CollectionKind.{CollectionKind}
 use Rattle.yaml_base.specs.declared.kinds.CollectionKind.TheVariants.{Mapping, Sequence}
 use Rattle.yaml_writer.proofs.Taken.{adds_nothing, moves_add}
 

@@ -1,18 +1,14 @@
 -- What an error says of a text, and of the writer that was given its first tokens.
 use Rattle.yaml_json.proofs.Common.{ℕ, IfSome, Option, None, Some, Err, Bool, List, ◌≡◌, refl, inl, inr, subst, sym, unwrap_or, failure_of, FailedInText, ap}
-use Rattle.yaml_json.proofs.Common.{◌∙◌, ◌++◌, ◌⊎◌}
-use Rattle.yaml_json.proofs.Common.{WriterState, Token, ExplainsError, WhyStopped}
+use Rattle.yaml_json.proofs.Common.{◌∙◌, ◌++◌, ◌⊎◌, WriterState, Token, ExplainsError, WhyStopped, ◌+◌, ◌≤◌, [], arith, length}
 use Rattle.yaml_base.specs.declared.errors.{yaml_error_t.yaml_error_t, yaml_error_t.TheVariants.Memory}
 use Rattle.yaml_json.specs.{Failing.Kept, Failing.SoundAfter, Failing.writers_error, Refused.IsByText}
-use Rattle.yaml_writer.specs.Failing.{HasErrorSaid}
-use Rattle.yaml_writer.specs.Places.{AreOf}
+use Rattle.yaml_writer.specs.{Failing.HasErrorSaid, Places.AreOf}
 use Rattle.yaml_json.specs.{Refused.TokensStopAt, Stopped.StopsInText, Walk.MatchesStop, Walk.StopsText, declared.error.JsonError.JsonError}
-use Rattle.yaml_json.proofs.Common.{◌+◌, ◌≤◌, [], arith, length}
 use Rattle.yaml_json.specs.{Offsets.StopsAtLexeme, Places.HasPlaceAfter, Places.HasPlaceWithin, Places.IsAt, Places.IsPlacedAt}
-use Rattle.yaml_json.specs.Expected.{SaysExpected}
+use Rattle.yaml_json.specs.{Expected.SaysExpected, declared.values.Stop.Stop}
 use Rattle.std.specs.Str.{IsValidUpTo}
 use Rattle.yaml_json.specs.declared.error.StreamError.TheVariants as faults
-use Rattle.yaml_json.specs.declared.values.Stop.{Stop}
 use Rattle.yaml_json.specs.declared.error.JsonError.TheVariants as errors
 use Rattle.yaml_json.specs.declared.values.Stop.TheVariants as stops
 

@@ -11,9 +11,8 @@ use Rattle.yaml_json.specs.Texts.{texts_after, onto_first, cut_text_before, scan
 use Rattle.yaml_json.specs.declared.cuts.{Mode.TheVariants.Before, Scan.Scan}
 use Rattle.yaml_json.specs.declared.error.JsonError.TheVariants as errors
 use Rattle.yaml_writer.proofs.GivenLemmas.{adds_then, wrote_nothing, wrote_then, wrote_same}
-use Rattle.yaml_json.{proofs.YamlOf.last_reads}
-use Rattle.yaml_json.{specs.Refused.HasNamesOnce, specs.Stopped.StopsInText, specs.Stopped.StopsInTexts, specs.Places.HasPlaceAfter, specs.Wrote.WroteTexts}
-use Rattle.yaml_json.{specs.declared.error.JsonError.JsonError}
+use Rattle.yaml_json.{proofs.YamlOf.last_reads, specs.Refused.HasNamesOnce, specs.Stopped.StopsInText, specs.Stopped.StopsInTexts, specs.Places.HasPlaceAfter}
+use Rattle.yaml_json.{specs.Wrote.WroteTexts, specs.declared.error.JsonError.JsonError}
 use Rattle.yaml_writer.proofs.Taken.{moves_add}
 
 -- the events of some texts, after each of which a document begins, and then those of one more, the last

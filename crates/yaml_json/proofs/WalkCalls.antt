@@ -1,37 +1,25 @@
 -- The calls of a walk over the tokens of a text, from what the calls of its writer and its lists do.
 use Rattle.yaml_json.proofs.Common.{suc, ℕ, ◌-◌, ◌<◌, IfSome, OnOk, Result, Ok, Err, length, take, Bool, true, List, [], ◌++◌, ◌∷◌, refl, ◌≡◌, inl, inr, ap}
-use Rattle.yaml_json.proofs.Common.{sym, ◌∙◌, arith, chars, Event, scalar, Token, token_events, HoldsNames, AddsName, text_content, failure_of}
-use Rattle.yaml_json.proofs.Common.{emitter_error_of, FailedGiving, RefusesText, IsScalar, opener, closer, KeepsNamesAfter, BeganValue, BeginFailed}
-use Rattle.yaml_json.proofs.Common.{RefusesToken, Refuses}
-use Rattle.yaml_json.proofs.Common.{append-nil, subst, Some, NamesOnce, IsBare, WroteEvent, start_event, WriterState, text_event, with_collection}
-use Rattle.yaml_json.proofs.Common.{EndsInnermost, GaveEvent}
-use Rattle.yaml_base.specs.declared.errors.yaml_error_t.{yaml_error_t}
-use Rattle.yaml_base.specs.declared.kinds.CollectionKind.{CollectionKind}
+use Rattle.yaml_json.proofs.Common.{sym, ◌∙◌, arith, chars, Event, scalar, Token, token_events, HoldsNames, AddsName, text_content, failure_of, FailedGiving}
+use Rattle.yaml_json.proofs.Common.{emitter_error_of, RefusesText, IsScalar, opener, closer, KeepsNamesAfter, BeganValue, BeginFailed, RefusesToken, Refuses}
+use Rattle.yaml_json.proofs.Common.{append-nil, subst, Some, NamesOnce, IsBare, WroteEvent, start_event, WriterState, text_event, with_collection, GaveEvent}
+use Rattle.yaml_json.proofs.{Common.EndsInnermost, Reaching.one_read, Refusing.unrefused, Stopping.start_failed, Walking.longer}
+use Rattle.yaml_base.specs.{declared.errors.yaml_error_t.yaml_error_t, declared.kinds.CollectionKind.CollectionKind}
 use Rattle.yaml_base.specs.declared.kinds.CollectionKind.TheVariants.{Mapping, Sequence}
 use Rattle.yaml_writer.proofs.Taken.{begins_err, begins_ok, gives_err, gives_ok}
 use Rattle.yaml_writer.specs.Writing.{Begins, Gives}
 use Rattle.yaml_json.proofs.KeepingNames.{keeps_closer, keeps_name, keeps_scalar, keeps_then}
-use Rattle.yaml_json.proofs.Reaching.{one_read}
-use Rattle.yaml_json.proofs.Refusing.{unrefused}
 use Rattle.yaml_json.proofs.Stopping.{answered_at, answered_end, event_failed, if_some, kept_end, kept_event, kept_memory, kept_same, kept_then, kept_unread}
-use Rattle.yaml_json.proofs.Stopping.{start_failed}
 use Rattle.yaml_json.proofs.Stops.{first_stopped, first_unread, item_stopped, named_stopped, unread, unread_memory}
 use Rattle.yaml_json.proofs.Taking.{fails_scalar, gives_scalar, innermost_gone, opener_began, opener_failed, opener_without_memory, scalar_began}
 use Rattle.yaml_json.proofs.Taking.{scalar_failed, step_closes, step_item, step_member, step_no_item, step_no_member, step_unclosed, step_unnamed}
 use Rattle.yaml_json.proofs.Taking.{step_unread, step_without_memory}
-use Rattle.yaml_json.proofs.Walking.{longer}
 use Rattle.yaml_writer.proofs.GivenLemmas.{on_err, on_ok, text_is, wrote_event}
 use Rattle.yaml_json.specs.Failing.{IsWritersAnswer, Kept}
-use Rattle.yaml_json.specs.Nests.{IsNesting}
-use Rattle.yaml_json.specs.Reached.{Reader}
-use Rattle.yaml_json.specs.Refused.{IsByText}
+use Rattle.yaml_json.specs.{Nests.IsNesting, Reached.Reader, Refused.IsByText, declared.names.Names.Names, declared.settings.JsonSettings.JsonSettings}
+use Rattle.yaml_json.specs.{declared.values.Nesting.Nesting, declared.values.Spot.Spot, declared.values.Stop.Stop}
 use Rattle.yaml_json.specs.Walk.{GivesTaken as GivesTokens, LeavesNames, ReadsNone, StepFailed}
 use Rattle.yaml_json.specs.WalkSteps.{FirstStep, OnlyGiven, TokenStep, ValueGiven, JsonWalk, WalkStep, at}
-use Rattle.yaml_json.specs.declared.names.Names.{Names}
-use Rattle.yaml_json.specs.declared.settings.JsonSettings.{JsonSettings}
-use Rattle.yaml_json.specs.declared.values.Nesting.{Nesting}
-use Rattle.yaml_json.specs.declared.values.Spot.{Spot}
-use Rattle.yaml_json.specs.declared.values.Stop.{Stop}
 use Rattle.yaml_json.specs.declared.values.Stop.TheVariants as stops
 
 -- ---- by their results

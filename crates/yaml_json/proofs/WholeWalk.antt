@@ -1,20 +1,15 @@
 -- The whole walk over the tokens of a value.
-use Rattle.yaml_json.proofs.Taking.{stood_nothing}
+use Rattle.yaml_json.proofs.{Taking.stood_nothing, KeepingNames.NamesSoFar}
 use Rattle.yaml_json.proofs.Common.{ℕ, Bool, List, [], ◌++◌, ◌∷◌, refl, ◌≡◌, append-nil, append_assoc, inl, inr, ap, subst, sym, ◌∙◌, arith}
 use Rattle.yaml_json.proofs.Common.{append_cancel_right, left_some, value, skip_value, Token, json_tokens, Event, BeginsWithinDepth, tokens_events, LeavesOpen}
 use Rattle.yaml_json.proofs.Common.{KeepsNames, BeganFirstValue, FirstFailed, Refuses, WalkProgress, IsBare, WriterState, AddsEvents}
-use Rattle.yaml_base.specs.declared.errors.yaml_error_t.{yaml_error_t}
-use Rattle.yaml_base.specs.declared.errors.yaml_error_t.TheVariants.{Memory}
-use Rattle.yaml_json.proofs.KeepingNames.{NamesSoFar}
+use Rattle.yaml_base.specs.{declared.errors.yaml_error_t.yaml_error_t, declared.errors.yaml_error_t.TheVariants.Memory}
+use Rattle.yaml_base.specs.{declared.kinds.CollectionKind.CollectionKind}
 use Rattle.yaml_json.proofs.Stops.{adds_none, all_left}
 use Rattle.yaml_json.proofs.TokenLemmas.{value_spelled, value_given}
-use Rattle.yaml_json.specs.Failing.{FailedInValue}
-use Rattle.yaml_json.specs.Wrote.{WroteValue}
-use Rattle.yaml_json.specs.declared.names.Names.{Names}
-use Rattle.yaml_json.specs.declared.values.Stop.{Stop}
+use Rattle.yaml_json.specs.{Failing.FailedInValue, Wrote.WroteValue, declared.names.Names.Names, declared.values.Stop.Stop}
 use Rattle.yaml_json.proofs.Walking.{closes_value, value_begins, awaiting_whole, next_stands}
 use Rattle.yaml_json.specs.Walk.{GaveTokens, TextStopsWriting, FailsGiving, WalkedOn, StepFailed}
-use Rattle.yaml_base.specs.declared.kinds.CollectionKind.{CollectionKind}
 
 module _ (depth : ℕ) (in_flow : Bool) (start : List Token) (was : WriterState) where
   -- the first token of the value was given

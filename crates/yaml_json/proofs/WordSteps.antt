@@ -1,7 +1,6 @@
 -- The lexer over a word: a number, or the name of a value.
-use Rattle.std.proofs.Common.{◌≡◌, ℕ, suc, ◌+◌, Bool, true, false, cond, ◌||◌, ◌==◌, List, [], ◌∷◌, drop, length, Option, Some, None}
-use Rattle.std.proofs.Common.{option_and_then, refl, sym}
-use Rattle.std.proofs.Common.{ap, ◌∙◌, ◌&&◌, ◌-◌, subst, arith, nat_eq, take, length-drop}
+use Rattle.std.proofs.Common.{◌≡◌, ℕ, suc, ◌+◌, Bool, true, false, cond, ◌||◌, ◌==◌, List, [], ◌∷◌, drop, length, Option, Some, None, option_and_then, refl, ap}
+use Rattle.std.proofs.Common.{sym, ◌∙◌, ◌&&◌, ◌-◌, subst, arith, nat_eq, take, length-drop}
 use Rattle.std.proofs.lemmas.Bool.{true≢false, eqb-true, ne_eqb, or_parts, and_parts}
 use Rattle.std.proofs.lemmas.Bool.Decides.{nat_tests}
 use Rattle.std.specs.Char.{is_ascii_digit}

@@ -5,9 +5,8 @@ use Rattle.yaml_json.proofs.Common.{parts_events, ReadsTexts, WriterState, openi
 use Rattle.json.proofs.Numbered.{ArePrintableOrBad-tokens, value-HasNumbers}
 use Rattle.yaml_json.{proofs.JsonReads.HaveNumbers, proofs.JsonReads.reads_as_values, proofs.JsonReads.reads_as_json, proofs.Trees.values_of}
 use Rattle.yaml_writer.proofs.WholeStreams.{stream_whole, whole_by_either}
-use Rattle.yaml_writer.specs.WasGiven.{AddsTaking}
+use Rattle.yaml_writer.specs.{WasGiven.AddsTaking, Writing.Finishes}
 use Rattle.yaml_json.{specs.Wrote.IsYamlOfTexts, specs.Wrote.IsYamlOf}
-use Rattle.yaml_writer.specs.Writing.{Finishes}
 use Rattle.yaml_writer.proofs.Taken.{moves_taken}
 
 -- each number of a value that was read is one

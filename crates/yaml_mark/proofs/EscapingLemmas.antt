@@ -1,11 +1,10 @@
 -- Escaping by bytes is escaping by characters.
-use Rattle.yaml_mark.proofs.Common.{suc, ℕ, ◌%◌, ◌+◌, ◌<◌, ◌==◌, flat_map, MatchOption, IsUtf8, Option, None, Some, Err, Ok, drop, length}
-use Rattle.yaml_mark.proofs.Common.{slice_index_or as get_or, take, encode_utf8_all as encodes, Bool, cond, false, not, true, ◌||◌, List, [], ◌++◌, ◌∷◌, ◌≢◌}
-use Rattle.yaml_mark.proofs.Common.{refl, ◌≡◌, ne_eqb, lit<, take-append-drop, ⊎_elim, ap, subst, sym, ◌∙◌, arith, cases_lt, and_parts, and_from}
-use Rattle.yaml_mark.proofs.Common.{prefix_len-le-length, encode_ascii, IsCharBoundary-before_ascii, IsUtf8-past_char, encodes-chars, chars_past_char}
-use Rattle.yaml_mark.proofs.Common.{list_all, list_any, position_or_len, IsCharBoundary, chars, Text, is_break, hex_digit, render_text}
-use Rattle.yaml_mark.proofs.Common.{is_tag_character, byte_escaped, percent_escaped, suffix_escaped, prefix_escaped, exclamation_mark, IsPrefixRun}
-use Rattle.yaml_mark.proofs.Common.{wrote_text_then, wrote_cut, Wrote}
+use Rattle.yaml_mark.proofs.Common.{suc, ℕ, ◌%◌, ◌+◌, ◌<◌, ◌==◌, flat_map, MatchOption, IsUtf8, Option, None, Some, Err, Ok, drop, length, take, Bool, cond, []}
+use Rattle.yaml_mark.proofs.Common.{slice_index_or as get_or, encode_utf8_all as encodes, false, not, true, ◌||◌, List, ◌++◌, ◌∷◌, ◌≢◌, refl, ◌≡◌, ne_eqb, lit<}
+use Rattle.yaml_mark.proofs.Common.{take-append-drop, ⊎_elim, ap, subst, sym, ◌∙◌, arith, cases_lt, and_parts, and_from, prefix_len-le-length, encode_ascii}
+use Rattle.yaml_mark.proofs.Common.{IsCharBoundary-before_ascii, IsUtf8-past_char, encodes-chars, chars_past_char, list_all, list_any, position_or_len, chars}
+use Rattle.yaml_mark.proofs.Common.{IsCharBoundary, Text, is_break, hex_digit, render_text, is_tag_character, byte_escaped, percent_escaped, suffix_escaped}
+use Rattle.yaml_mark.proofs.Common.{prefix_escaped, exclamation_mark, IsPrefixRun, wrote_text_then, wrote_cut, Wrote}
 use Rattle.yaml_base.proofs.Common.{◌/◌, ◌≤◌, if◌then◌else◌, codes, nat_le, ◌&&◌, leb-true, true≢false, append-nil, inl, inr, not-true, nat_tests}
 use Rattle.yaml_base.proofs.Common.{flat_map-append, chars-IsAscii, is_among, space, Cursor, Rendered, render_then, column_after, space_if, indicator}
 use Rattle.yaml_base.proofs.Common.{character_written, is_suffix_character}

@@ -1,9 +1,8 @@
 -- What a text's bytes say of the refusals of names and handles, which go by its characters.
-use Rattle.yaml_mark.proofs.Common.{ℕ, ◌<◌, ◌==◌, IsUtf8, Option, None, Some, length, slice_index_or as get_or, encode_utf8 as encode}
-use Rattle.yaml_mark.proofs.Common.{encode_utf8_all as encodes, Bool, cond, false, true, List, [], ◌++◌, ◌∷◌, ◌≢◌, refl, ◌≡◌, eqb-true, ne_eqb, lit<}
-use Rattle.yaml_mark.proofs.Common.{length-append, ap, subst, sym, ◌∙◌, arith, take-append_seam, chars-nil, encode_ascii, encodes-append}
-use Rattle.yaml_mark.proofs.Common.{IsCharBoundary-before_ascii, IsUtf8-past_char, encodes-chars, chars-append, chars_past_char, list_all, Text}
-use Rattle.yaml_mark.proofs.Common.{exclamation_mark}
+use Rattle.yaml_mark.proofs.Common.{ℕ, ◌<◌, ◌==◌, IsUtf8, Option, None, Some, length, slice_index_or as get_or, encode_utf8 as encode, Bool, cond, false, true}
+use Rattle.yaml_mark.proofs.Common.{encode_utf8_all as encodes, List, [], ◌++◌, ◌∷◌, ◌≢◌, refl, ◌≡◌, eqb-true, ne_eqb, lit<, length-append, ap, subst, sym, ◌∙◌}
+use Rattle.yaml_mark.proofs.Common.{arith, take-append_seam, chars-nil, encode_ascii, encodes-append, IsCharBoundary-before_ascii, IsUtf8-past_char, list_all}
+use Rattle.yaml_mark.proofs.Common.{encodes-chars, chars-append, chars_past_char, Text, exclamation_mark}
 use Rattle.yaml_base.proofs.Common.{option_or, is_alpha, name_fault, handle_fault, prefix_fault}
 use Rattle.std.{proofs.lemmas.Grind.common_steps, proofs.lemmas.Str.IsUtf8-take, specs.Str.chars}
 use Rattle.yaml_base.proofs.TagForms.{last-append, without_last-append, prefix_and_last}

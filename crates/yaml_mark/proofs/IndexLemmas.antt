@@ -1,24 +1,16 @@
 -- The first that passes a test, and what an index finds.
 use Rattle.yaml_mark.proofs.Common.{suc, ℕ, ◌+◌, ◌<◌, ◌==◌, bytes_eq, Option, None, Some, drop, length, slice_index_or as get_or, take, Bool, cond, false, true}
-use Rattle.yaml_mark.proofs.Common.{◌||◌}
-use Rattle.yaml_mark.proofs.Common.{List, [], ◌++◌, ◌∷◌, refl, ◌≡◌, ap, sym, subst, ◌∙◌, arith, and_parts, and_from, same_from_decides, bytes_eq-Decides}
-use Rattle.yaml_mark.proofs.Common.{list_all, list_any}
-use Rattle.yaml_mark.proofs.Common.{length-append, take-append-drop, IsUtf8, IsUtf8-string_bytes, IsCharBoundary, string_bytes, position, position_or_len}
+use Rattle.yaml_mark.proofs.Common.{◌||◌, List, [], ◌++◌, ◌∷◌, refl, ◌≡◌, ap, sym, subst, ◌∙◌, arith, and_parts, and_from, same_from_decides, bytes_eq-Decides}
+use Rattle.yaml_mark.proofs.Common.{list_all, list_any, length-append, take-append-drop, IsUtf8, IsUtf8-string_bytes, IsCharBoundary, string_bytes, position}
+use Rattle.yaml_mark.proofs.Common.{position_or_len}
 use Rattle.yaml_base.proofs.Common.{◌≤◌, ◌-◌, ◌&&◌, if◌then◌else◌, nat_lt, option_map, option_or, is_some, le-ltb, lt-ltb, ltb-true, nat_tests, true≢false}
 use Rattle.std.proofs.lemmas.List.Folds.{list_any-append, list_all-append, list_any_more}
 use Rattle.std.proofs.lemmas.List.{length-take-le, take_all, length-drop, drop-append-le}
-use Rattle.std.proofs.Math.Seq.{drop-length}
-use Rattle.std.proofs.lemmas.Str.{IsCharBoundary-from_take}
-use Rattle.std.proofs.Common.{Box}
-use Rattle.std.proofs.lemmas.Bool.{le-leb}
-use Rattle.std.proofs.lemmas.Bool.Decides.{Decides-eqb}
-use Rattle.std.specs.BTreeMap.{get_by_text}
-use Rattle.std.specs.List.{slice_range}
-use Rattle.std.specs.BTreeSet.{contains_text}
+use Rattle.std.proofs.{Math.Seq.drop-length, lemmas.Str.IsCharBoundary-from_take, Common.Box, lemmas.Bool.le-leb, lemmas.Bool.Decides.Decides-eqb}
+use Rattle.std.specs.{BTreeMap.get_by_text, List.slice_range, BTreeSet.contains_text}
 use Rattle.yaml_base.specs.declared.directives.yaml_tag_directive_t.{yaml_tag_directive_t}
 use Rattle.yaml_mark.specs.Index.{Finds, IsIndexed, earlier, fits_by, has_handle, has_prefix, is_prefix_length}
-use Rattle.yaml_mark.specs.Spelled.{begins_and_is_shorter}
-use Rattle.yaml_mark.specs.declared.index.Index.{Index}
+use Rattle.yaml_mark.specs.{Spelled.begins_and_is_shorter, declared.index.Index.Index}
 use Rattle.yaml_mark.proofs.TagLemmas.{first_place, position-first}
 
 -- The first of two lists, and by two tests.

@@ -1,10 +1,9 @@
 -- The names that most proofs here cite, passed on from one place. Declares nothing.
-pub use Rattle.yaml_base.proofs.Common.{suc, zero, ℕ, ◌+◌, ◌-◌, ◌<◌, ◌≤◌, if◌then◌else◌, ◌==◌, unwrap_or, Option, None, Some, length, replicate}
-pub use Rattle.yaml_base.proofs.Common.{slice_index_or, take, Bool, false, true, List, [], ◌++◌, ◌∷◌, refl, ◌≡◌, length-append, append-nil, append_assoc, inl}
-pub use Rattle.yaml_base.proofs.Common.{inr, ap, subst, sym, ◌∙◌, arith, and_from, or_parts, false≢true, nat_tests, chars-IsAscii, len_utf8, list_any}
-pub use Rattle.yaml_base.proofs.Common.{all_scalars, chars, encode_utf8_all, Text, line_feed, space, is_break, Cursor, Rendered, render_nothing, render_then}
-pub use Rattle.yaml_base.proofs.Common.{column_after, encode, break_text, with_breaks_written, Encoding, utf8, utf16_little, utf16_big, LineBreak}
-pub use Rattle.yaml_base.proofs.Common.{line_feed_break}
+pub use Rattle.yaml_base.proofs.Common.{suc, zero, ℕ, ◌+◌, ◌-◌, ◌<◌, ◌≤◌, if◌then◌else◌, ◌==◌, unwrap_or, Option, None, Some, length, replicate, slice_index_or}
+pub use Rattle.yaml_base.proofs.Common.{take, Bool, false, true, List, [], ◌++◌, ◌∷◌, refl, ◌≡◌, length-append, append-nil, append_assoc, inl, inr, ap, subst}
+pub use Rattle.yaml_base.proofs.Common.{sym, ◌∙◌, arith, and_from, or_parts, false≢true, nat_tests, chars-IsAscii, len_utf8, list_any, all_scalars, chars, Text}
+pub use Rattle.yaml_base.proofs.Common.{encode_utf8_all, line_feed, space, is_break, Cursor, Rendered, render_nothing, render_then, column_after, encode, utf8}
+pub use Rattle.yaml_base.proofs.Common.{break_text, with_breaks_written, Encoding, utf16_little, utf16_big, LineBreak, line_feed_break}
 pub use Rattle.std.{proofs.Common.add-one, proofs.lemmas.Bool.cases_lt, proofs.lemmas.Grind.elements, proofs.lemmas.List.nil_from_length}
 pub use Rattle.std.{proofs.lemmas.List.take-replicate, specs.Fmt.is_char_start, specs.Str.IsAscii, specs.Str.Iter.chars_rest}
 pub use Rattle.std.proofs.lemmas.Str.{chars-nil, IsUtf8-from_ascii, encodes-chars, scalars-chars}

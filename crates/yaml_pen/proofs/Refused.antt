@@ -1,7 +1,6 @@
 -- What a pen does whose bytes are refused.
-use Rattle.yaml_pen.proofs.Common.{IsSome, Option, None, Some, Err, List, ℕ, Bool, if◌then◌else◌, [], refl, ◌≡◌, append-nil, ap, subst, sym, ◌∙◌}
-use Rattle.yaml_pen.proofs.Common.{Cursor, Rendered}
-use Rattle.yaml_pen.proofs.Common.{decode, encode, seen_encoding, Bytes, Page, IsReady, IsFlushedOutput, page_of, IsPen, named_text, Wrote}
+use Rattle.yaml_pen.proofs.Common.{IsSome, Option, None, Some, Err, List, ℕ, Bool, if◌then◌else◌, [], refl, ◌≡◌, append-nil, ap, subst, sym, ◌∙◌, Cursor, Bytes}
+use Rattle.yaml_pen.proofs.Common.{Rendered, decode, encode, seen_encoding, Page, IsReady, IsFlushedOutput, page_of, IsPen, named_text, Wrote}
 use Rattle.yaml_base.specs.{declared.encodings.yaml_break_t.yaml_break_t, declared.encodings.yaml_encoding_t.yaml_encoding_t}
 use Rattle.yaml_base.specs.declared.errors.yaml_error_t.{yaml_error_t}
 use Rattle.yaml_pen.{proofs.Writing.some_from_result, specs.Outlet.Appended}

@@ -99,13 +99,6 @@ pub record IsDoneBeside {F : Type 0} (is_yaml : F → List (List ℕ) → List �
   pub beside : IsBeside ending name target
   pub done : IsDoneAs bytes_of (is_yaml conversion.format) (heading_of conversion) conversion.checks (name ∷ []) (Some target)
 
--- a conversion of one file, otherwise as another conversion
-pub record ConvertsOne {F : Type 0} (conversion : Conversion F) (name : List ℕ) (one : Conversion F) : Type 0 where
-  pub format : one.format ≡ conversion.format
-  pub heading : heading_of one ≡ heading_of conversion
-  pub checks : one.checks ≡ conversion.checks
-  pub names : names_of one ≡ name ∷ []
-
 abbrev pub HoldsOfEach : (List ℕ → Type 0) → List (List ℕ) → Type 0
 HoldsOfEach holds [] = Unit {0}
 HoldsOfEach holds (name ∷ names) = holds name × HoldsOfEach holds names

@@ -1,12 +1,11 @@
 -- All styles are looked at in one loop over a value's characters.
-use Rattle.yaml_scalar.proofs.Common.{arith, ℕ, if◌then◌else◌, ◌==◌, chars, IsUtf8, codes, length, Bool, false, not, true, ◌&&◌, ◌||◌, List, [], ◌++◌, ◌∷◌}
-use Rattle.yaml_scalar.proofs.Common.{refl, ◌≡◌, eqb-true, ap, sym, ◌∙◌, and_parts, and_right, or_parts, or_from, not-true, nil_from_length, chars-nil}
-use Rattle.yaml_scalar.proofs.Common.{chars_past_char, encode_utf8, list_all, Text, is_among, line_separator, paragraph_separator, space, tab, is_ascii}
-use Rattle.yaml_scalar.proofs.Common.{is_space, is_break, is_printable, Charset, begins_with, is_empty, is_gap, ends_word, is_special, is_trailing_space}
-use Rattle.yaml_scalar.proofs.Common.{Barred, barred_by, barred_in, none_barred, either, is_quiet, barred_by_space, last_from}
+use Rattle.yaml_scalar.proofs.Common.{arith, ℕ, if◌then◌else◌, ◌==◌, chars, IsUtf8, codes, length, Bool, false, not, true, ◌&&◌, ◌||◌, List, [], ◌++◌, ◌∷◌, ◌≡◌}
+use Rattle.yaml_scalar.proofs.Common.{refl, eqb-true, ap, sym, ◌∙◌, and_parts, and_right, or_parts, or_from, not-true, nil_from_length, chars-nil, encode_utf8}
+use Rattle.yaml_scalar.proofs.Common.{chars_past_char, list_all, Text, is_among, line_separator, paragraph_separator, space, tab, is_ascii, is_space, is_break}
+use Rattle.yaml_scalar.proofs.Common.{is_printable, Charset, begins_with, is_empty, is_gap, ends_word, is_special, is_trailing_space, Barred, barred_by, either}
+use Rattle.yaml_scalar.proofs.Common.{barred_in, none_barred, is_quiet, barred_by_space, last_from, ◌≤◌, nat_tests, and_from, or_left, le-leb, false≢true}
 use Rattle.yaml_base.proofs.Common.{and_left}
-use Rattle.yaml_scalar.proofs.Common.{◌≤◌, nat_tests, and_from, or_left, le-leb, false_from_ne_true, false≢true, line_feed, carriage_return, next_line}
-use Rattle.yaml_scalar.proofs.Common.{is_ordinary}
+use Rattle.yaml_scalar.proofs.Common.{false_from_ne_true, line_feed, carriage_return, next_line, is_ordinary}
 use Rattle.yaml_base.specs.scalars.Analysis.{is_key_or_comment}
 use Rattle.yaml_scalar.specs.Barred.{with_indicator}
 

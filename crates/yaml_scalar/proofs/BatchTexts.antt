@@ -1,9 +1,8 @@
 -- Characters between double quotes whose texts are written at once: they are of ASCII, and none becomes a fold.
 use Rattle.yaml_scalar.proofs.Common.{ℕ, if◌then◌else◌, chars, Option, Some, Result, Err, Ok, nat_lt, Bool, false, not, true, ◌&&◌, ◌||◌, List, [], ◌++◌, ◌∷◌}
-use Rattle.yaml_scalar.proofs.Common.{refl, ◌≡◌, append-nil, append_assoc, ap, subst, sym, ◌∙◌, arith, and_parts, and_from, not-true, nat_tests}
-use Rattle.yaml_scalar.proofs.Common.{list_all-append, list_all, Text, is_ascii, is_space, Cursor, Rendered, render_then, column_after, render_text}
-use Rattle.yaml_scalar.proofs.Common.{is_past_width, escape_text, needs_escape, character_text, may_fold, double_fold, double_inside, Page, Wrote, AreBatched}
-use Rattle.yaml_scalar.proofs.Common.{is_unbroken_ascii, last_from}
+use Rattle.yaml_scalar.proofs.Common.{refl, ◌≡◌, append-nil, append_assoc, ap, subst, sym, ◌∙◌, arith, and_parts, and_from, not-true, nat_tests, list_all, Text}
+use Rattle.yaml_scalar.proofs.Common.{list_all-append, is_ascii, is_space, Cursor, Rendered, render_then, column_after, render_text, is_past_width, escape_text}
+use Rattle.yaml_scalar.proofs.Common.{needs_escape, character_text, may_fold, double_fold, double_inside, Page, Wrote, AreBatched, is_unbroken_ascii, last_from}
 use Rattle.std.{proofs.Common.IsErrAnd, proofs.Common.IsErr, proofs.lemmas.Result.err_from_is_err_and, specs.Borrow.Bor}
 use Rattle.yaml_base.specs.declared.errors.yaml_error_t.{yaml_error_t}
 use Rattle.yaml_pen.proofs.Writing.{column_after-append}

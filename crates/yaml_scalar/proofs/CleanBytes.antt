@@ -3,8 +3,7 @@ use Rattle.yaml_scalar.proofs.Common.{ℕ, suc, ◌+◌, ◌-◌, ◌%◌, ◌<�
 use Rattle.yaml_scalar.proofs.Common.{true≢false, inl, inr, ap, sym, ◌∙◌, arith, and_from, agree_below_at, nat_tests, list_all, list_any, is_break, is_free}
 use Rattle.yaml_scalar.proofs.Common.{IsFreeRun, stays_in_line}
 use Rattle.std.proofs.Common.{◌^◌, map, cond, ltb, leb, replicate, ap₂}
-use Rattle.std.proofs.lemmas.Bool.{cases_lt}
-use Rattle.std.proofs.lemmas.List.{length-map}
+use Rattle.std.proofs.{lemmas.Bool.cases_lt, lemmas.List.length-map}
 use Rattle.std.proofs.lemmas.Simd.{zip2_splat, map-map, bitmask_splat, none_from_empty_mask}
 use Rattle.std.specs.Str.{chars}
 use lib.Bits.{bit_xor}

@@ -1,20 +1,19 @@
 -- The names that most proofs here cite, passed on from one place. Declares nothing.
-pub use Rattle.yaml_base.proofs.Common.{suc, zero, ℕ, ◌%◌, ◌+◌, ◌-◌, ◌/◌, ◌<◌, ◌≤◌, if◌then◌else◌, ◌==◌, slice_index, option_map, Option, None, Some, codes}
-pub use Rattle.yaml_base.proofs.Common.{nat_le, nat_lt, negsuc, pos, ℤ, length, replicate, take, Bool, false, not, true, ◌&&◌, ◌||◌, List, [], map, ◌++◌, ◌∷◌}
-pub use Rattle.yaml_base.proofs.Common.{◌⊎◌, refl, ◌≡◌, eqb-true, le-leb, le-ltb, leb-true, lt-ltb, true≢false, append-nil, append_assoc, inl, inr, ap, subst}
-pub use Rattle.yaml_base.proofs.Common.{sym, ◌∙◌, arith, and_parts, and_from, and_right, or_parts, or_from, or_left, or_right, not_from_false, agree_below_at}
-pub use Rattle.yaml_base.proofs.Common.{not-false, not-true, false≢true, nat_tests, list_all-append, list_any-append, list_all, list_any, all_scalars, Text}
-pub use Rattle.yaml_base.proofs.Common.{is_among, is_between, line_feed, carriage_return, next_line, line_separator, paragraph_separator, space, tab}
-pub use Rattle.yaml_base.proofs.Common.{is_ascii, is_space, is_blank, is_break, is_printable, hex_digit, hex_digits, Cursor, Rendered, first_cursor}
-pub use Rattle.yaml_base.proofs.Common.{render_then, column_after, breaks_line, new_line, space_if, indicator, is_past_width, with_breaks_written}
-pub use Rattle.yaml_base.proofs.Common.{with_line_breaks_read, is_read_break, is_rendered_text, is_indented_text, LineBreak, elements, read_block, between}
-pub use Rattle.yaml_base.proofs.Common.{with_unit, quoted_from, read_double, FoldUnit, unit_of, folding_read, is_read_white, begins_no_plain, holds_no_plain}
-pub use Rattle.yaml_base.proofs.Common.{read_plain, read_single, begins_with_spaces, begins_with_blank_line, begins_with_deep_line, has_deep_lines, Charset}
-pub use Rattle.yaml_base.proofs.Common.{Allowances, somewhere, is_empty, is_special, bars_block, allows_block, allowances, ending, indentation_hint}
-pub use Rattle.yaml_base.proofs.Common.{is_special_but_tab, is_blank_to_line_end, begins_with_blanks_alone, bars_literal, allows_literal}
-pub use Rattle.yaml_base.proofs.Common.{ending_hint, render_hint, short_escapes, letter_among, escape_after_backslash, escape_text, needs_escape}
-pub use Rattle.yaml_base.proofs.Common.{character_text, double_inside, render_quote, folded_parts, parts, runs, render_runs, quotes_doubled, single_quote}
-pub use Rattle.yaml_base.proofs.Common.{Choice, chosen}
+pub use Rattle.yaml_base.proofs.Common.{suc, zero, ℕ, ◌%◌, ◌+◌, ◌-◌, ◌/◌, ◌<◌, ◌≤◌, if◌then◌else◌, ◌==◌, slice_index, option_map, Option, None, Some, codes, ℤ}
+pub use Rattle.yaml_base.proofs.Common.{nat_le, nat_lt, negsuc, pos, length, replicate, take, Bool, false, not, true, ◌&&◌, ◌||◌, List, [], map, ◌++◌, ◌∷◌, ◌⊎◌}
+pub use Rattle.yaml_base.proofs.Common.{refl, ◌≡◌, eqb-true, le-leb, le-ltb, leb-true, lt-ltb, true≢false, append-nil, append_assoc, inl, inr, ap, subst, sym}
+pub use Rattle.yaml_base.proofs.Common.{◌∙◌, arith, and_parts, and_from, and_right, or_parts, or_from, or_left, or_right, not_from_false, agree_below_at, Text}
+pub use Rattle.yaml_base.proofs.Common.{not-false, not-true, false≢true, nat_tests, list_all-append, list_any-append, list_all, list_any, all_scalars, is_among}
+pub use Rattle.yaml_base.proofs.Common.{is_between, line_feed, carriage_return, next_line, line_separator, paragraph_separator, space, tab, is_ascii, is_space}
+pub use Rattle.yaml_base.proofs.Common.{is_blank, is_break, is_printable, hex_digit, hex_digits, Cursor, Rendered, first_cursor, render_then, column_after}
+pub use Rattle.yaml_base.proofs.Common.{breaks_line, new_line, space_if, indicator, is_past_width, with_breaks_written, with_line_breaks_read, is_read_break}
+pub use Rattle.yaml_base.proofs.Common.{is_rendered_text, is_indented_text, LineBreak, elements, read_block, between, with_unit, quoted_from, read_double, runs}
+pub use Rattle.yaml_base.proofs.Common.{FoldUnit, unit_of, folding_read, is_read_white, begins_no_plain, holds_no_plain, read_plain, read_single, Charset}
+pub use Rattle.yaml_base.proofs.Common.{begins_with_spaces, begins_with_blank_line, begins_with_deep_line, has_deep_lines, Allowances, somewhere, is_empty}
+pub use Rattle.yaml_base.proofs.Common.{is_special, bars_block, allows_block, allowances, ending, indentation_hint, is_special_but_tab, is_blank_to_line_end}
+pub use Rattle.yaml_base.proofs.Common.{begins_with_blanks_alone, bars_literal, allows_literal, ending_hint, render_hint, short_escapes, letter_among, parts}
+pub use Rattle.yaml_base.proofs.Common.{escape_after_backslash, escape_text, needs_escape, character_text, double_inside, render_quote, folded_parts, Choice}
+pub use Rattle.yaml_base.proofs.Common.{render_runs, quotes_doubled, single_quote, chosen}
 pub use Rattle.std.{proofs.Math.Bool.and-false, proofs.Math.Bool.and-true, proofs.Math.Utf8.scalar, proofs.lemmas.Bool.false_from_ne_true}
 pub use Rattle.std.{proofs.lemmas.Bool.cases_Bool, proofs.lemmas.Int.ints, proofs.lemmas.Int.to_z-of_z, proofs.lemmas.List.nil_from_length}
 pub use Rattle.std.{proofs.lemmas.Result.IfOk-from_err, specs.Char.encode_utf8, specs.Str.IsAscii, specs.Str.IsCharBoundary, specs.Str.Iter.chars_rest}
@@ -41,10 +40,9 @@ pub use Rattle.yaml_base.specs.scalars.Plain.{Kind, spaces, breaks, others, kind
 pub use Rattle.yaml_pen.{proofs.Cuts.chars-cut, specs.Page.Page, specs.Page.natural, specs.Wrote.Wrote}
 pub use Rattle.yaml_pen.proofs.Composing.{wrote_all, wrote_then, wrote_failed, wrote_as, wrote_changing, wrote_text_then, wrote_text_failed, wrote_exit}
 pub use Rattle.yaml_pen.proofs.Composing.{wrote_failed_as}
-pub use Rattle.yaml_scalar.specs.{Batch.AreBatched, BlockCode.is_folded, ByteClasses.is_free, ByteClasses.IsFreeRun, ByteClasses.ImpliesTest}
+pub use Rattle.yaml_scalar.specs.{Batch.AreBatched, BlockCode.is_folded, ByteClasses.is_free, ByteClasses.IsFreeRun, ByteClasses.ImpliesTest, Width.limit_of}
 pub use Rattle.yaml_scalar.specs.{EscapeBytes.is_unbroken_ascii, ReadsBack.ReadsBack, ScalarData.seen_charset, ShortRuns.most_short, ShortRuns.IsShortRun}
-pub use Rattle.yaml_scalar.specs.{ShortRuns.IsShortLine, SimpleAsciiTexts.has_simple_ascii_ends, SimpleAsciiTexts.is_simple_ascii_character, Width.limit_of}
-pub use Rattle.yaml_scalar.specs.{Width.limit_where}
+pub use Rattle.yaml_scalar.specs.{ShortRuns.IsShortLine, SimpleAsciiTexts.has_simple_ascii_ends, SimpleAsciiTexts.is_simple_ascii_character, Width.limit_where}
 pub use Rattle.yaml_scalar.specs.Barred.{Barred, seen_barred, barred_by, barred_in, none_barred, either, is_ordinary, is_quiet, barred_by_space, allowed_by}
 pub use Rattle.yaml_scalar.specs.BlockSteps.{place_after, render_content, render_inner, is_doubled, render_block_break, render_step, stays_at, lines_from}
 pub use Rattle.yaml_scalar.specs.BlockSteps.{separated_header, header_end}

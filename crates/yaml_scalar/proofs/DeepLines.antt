@@ -1,9 +1,8 @@
 -- Texts whose lines after the first stand at least so many spaces deep, and in which no space stands before a break: how they
 -- are put together.
-use Rattle.yaml_scalar.proofs.Common.{suc, zero, ℕ, ◌≤◌, ◌==◌, replicate, Bool, false, not, true, [], ◌++◌, ◌∷◌, refl, ◌≡◌, eqb-true, ap, arith}
-use Rattle.yaml_scalar.proofs.Common.{◌∙◌, ◌||◌, ◌&&◌, or_from, tab, is_blank}
-use Rattle.yaml_scalar.proofs.Common.{and_from, or_left, or_right, false≢true, Text, space, is_read_break, begins_with_spaces, begins_with_blank_line}
-use Rattle.yaml_scalar.proofs.Common.{begins_with_deep_line, has_deep_lines, begins_with_break}
+use Rattle.yaml_scalar.proofs.Common.{suc, zero, ℕ, ◌≤◌, ◌==◌, replicate, Bool, false, not, true, [], ◌++◌, ◌∷◌, refl, ◌≡◌, eqb-true, ap, arith, ◌∙◌, ◌||◌, tab}
+use Rattle.yaml_scalar.proofs.Common.{◌&&◌, or_from, is_blank, and_from, or_left, or_right, false≢true, Text, space, is_read_break, begins_with_spaces}
+use Rattle.yaml_scalar.proofs.Common.{begins_with_blank_line, begins_with_deep_line, has_deep_lines, begins_with_break}
 use Rattle.yaml_base.proofs.Common.{has_no_space_before_break}
 
 -- neither a blank nor a break of a reader

@@ -1,8 +1,7 @@
 -- A text's first characters, as they are taken one after another.
 use Rattle.yaml_scalar.proofs.Common.{arith, ℕ, ◌==◌, chars, IsUtf8, length, false, true, ◌&&◌, ◌||◌, List, [], ◌++◌, ◌∷◌, refl, ◌≡◌, eqb-true, true≢false, ap}
 use Rattle.yaml_scalar.proofs.Common.{sym, ◌∙◌, chars-nil, IsUtf8-past_char, chars_past_char, encode_utf8, Text, begins_like_marker, begins_unlike_plain}
-use Rattle.yaml_scalar.proofs.Common.{is_ordinary}
-use Rattle.yaml_scalar.proofs.ByteRuns.{false_unless}
+use Rattle.yaml_scalar.proofs.{Common.is_ordinary, ByteRuns.false_unless}
 
 no-characters : (bs : List ℕ) → length bs ≡ 0 → chars bs ≡ []
 no-characters [] e = chars-nil

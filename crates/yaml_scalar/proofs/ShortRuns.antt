@@ -1,8 +1,7 @@
 -- A short text of ASCII is rendered as it is.
-use Rattle.yaml_scalar.proofs.Common.{ℕ, ◌≤◌, IsUtf8, Option, None, length, Bool, false, true, List, [], ◌≡◌, take_all, append-nil, ap, sym, ◌∙◌}
-use Rattle.yaml_scalar.proofs.Common.{encodes-chars, list_all, Text, Cursor, Rendered, render_text, double_inside, spaces, IsFreeRun, ImpliesTest}
-use Rattle.yaml_scalar.proofs.Common.{is_unbroken_ascii}
-use Rattle.yaml_scalar.proofs.Common.{written_as, render_steps, most_short, IsShortRun, IsShortLine, stays, stays_where, has_limit, subst}
+use Rattle.yaml_scalar.proofs.Common.{ℕ, ◌≤◌, IsUtf8, Option, None, length, Bool, false, true, List, [], ◌≡◌, take_all, append-nil, ap, sym, ◌∙◌, encodes-chars}
+use Rattle.yaml_scalar.proofs.Common.{list_all, Text, Cursor, Rendered, render_text, double_inside, spaces, IsFreeRun, ImpliesTest, is_unbroken_ascii, stays}
+use Rattle.yaml_scalar.proofs.Common.{written_as, render_steps, most_short, IsShortRun, IsShortLine, stays_where, has_limit, subst}
 use Rattle.std.{proofs.lemmas.Str.encodes-IsAscii, specs.Str.chars}
 use Rattle.yaml_scalar.proofs.{ByteRuns.free_passes, EscapeBytes.plain-ascii, InsideSteps.inside_stays, InsideSteps.ascii_stays}
 use Rattle.yaml_scalar.proofs.{InsideSteps.ascii_stays_plain, StaysInLine.line_at}

@@ -1,11 +1,10 @@
 -- Tests that spare printable ASCII and LF: what a style writes holds no character that meets such a test, where the value's
 -- own characters that stand raw don't.
 use Rattle.yaml_scalar.proofs.Common.{suc, zero, ℕ, ◌%◌, ◌/◌, if◌then◌else◌, ◌==◌, Option, None, Some, nat_le, replicate, Bool, false, true, ◌&&◌, List, []}
-use Rattle.yaml_scalar.proofs.Common.{◌∷◌, refl, ◌≡◌, arith, and_parts, and_from, agree_below_at, list_all-append, list_all, list_any, Text}
-use Rattle.yaml_scalar.proofs.Common.{is_between, line_feed, space, is_space, hex_digit, hex_digits, Cursor, render_text, new_line}
-use Rattle.yaml_scalar.proofs.Common.{is_past_width, quote, backslash, ShortEscape, short_escapes, letter_among, escape_after_backslash, escape_text}
-use Rattle.yaml_scalar.proofs.Common.{needs_escape, character_text, may_fold, space_kept, double_fold, double_character, double_inside, render_quote}
-use Rattle.yaml_scalar.proofs.Common.{double_quoted_body, plain_body, single_quoted_body}
+use Rattle.yaml_scalar.proofs.Common.{◌∷◌, refl, ◌≡◌, arith, and_parts, and_from, agree_below_at, list_all-append, list_all, list_any, Text, is_between, space}
+use Rattle.yaml_scalar.proofs.Common.{line_feed, is_space, hex_digit, hex_digits, Cursor, render_text, new_line, is_past_width, quote, backslash, ShortEscape}
+use Rattle.yaml_scalar.proofs.Common.{short_escapes, letter_among, escape_after_backslash, escape_text, needs_escape, character_text, may_fold, space_kept}
+use Rattle.yaml_scalar.proofs.Common.{double_fold, double_character, double_inside, render_quote, double_quoted_body, plain_body, single_quoted_body}
 use Rattle.yaml_scalar.proofs.{PlainReads.body-lines, SingleReads.body-inside, SingleReads.any_doubled}
 use Rattle.yaml_scalar.proofs.LineTexts.{any_cond, any_both, any_one, any_indentation, any_bare}
 

@@ -1,12 +1,11 @@
 -- Block scalars have deep lines: each line after the header holds a character that is no blank, and stands at its indentation.
-use Rattle.yaml_scalar.proofs.Common.{arith, suc, zero, ℕ, ◌+◌, ◌≤◌, if◌then◌else◌, Option, replicate, Bool, false, not, true, List, [], ◌++◌}
-use Rattle.yaml_scalar.proofs.Common.{◌∷◌, ◌⊎◌, refl, ◌≡◌, true≢false, append_assoc, inl, inr, ap, sym, ◌∙◌, and_from, or_parts, or_right, not-true, Text}
-use Rattle.yaml_scalar.proofs.Common.{or_from, and-false, tab, ◌==◌, ◌&&◌, ◌||◌, is_blank, is_special, is_special_but_tab, is_blank_to_line_end}
-use Rattle.yaml_scalar.proofs.Common.{begins_with_blanks_alone, bars_literal, allows_literal}
-use Rattle.yaml_scalar.proofs.Common.{line_feed, space, is_space, is_break, Cursor, is_read_break, begins_with_spaces, begins_with_blank_line}
-use Rattle.yaml_scalar.proofs.Common.{begins_with_deep_line, has_deep_lines, Charset, somewhere, begins_with, is_empty, bars_block, allows_block, Ending}
-use Rattle.yaml_scalar.proofs.Common.{without_break, one_break, more_breaks, ending, begins_blank, ending_hint, block_body, folds, cut_from, cut_line}
-use Rattle.yaml_scalar.proofs.Common.{folded_parts, folded_body, Part, line, line_break, begun, parts, indented, literal_body}
+use Rattle.yaml_scalar.proofs.Common.{arith, suc, zero, ℕ, ◌+◌, ◌≤◌, if◌then◌else◌, Option, replicate, Bool, false, not, true, List, [], ◌++◌, ◌∷◌, ◌⊎◌, refl}
+use Rattle.yaml_scalar.proofs.Common.{◌≡◌, true≢false, append_assoc, inl, inr, ap, sym, ◌∙◌, and_from, or_parts, or_right, not-true, Text, or_from, and-false}
+use Rattle.yaml_scalar.proofs.Common.{tab, ◌==◌, ◌&&◌, ◌||◌, is_blank, is_special, is_special_but_tab, is_blank_to_line_end, begins_with_blanks_alone, space}
+use Rattle.yaml_scalar.proofs.Common.{bars_literal, allows_literal, line_feed, is_space, is_break, Cursor, is_read_break, begins_with_spaces, has_deep_lines}
+use Rattle.yaml_scalar.proofs.Common.{begins_with_blank_line, begins_with_deep_line, Charset, somewhere, begins_with, is_empty, bars_block, allows_block, folds}
+use Rattle.yaml_scalar.proofs.Common.{Ending, without_break, one_break, more_breaks, ending, begins_blank, ending_hint, block_body, cut_from, cut_line, Part}
+use Rattle.yaml_scalar.proofs.Common.{folded_parts, folded_body, line, line_break, begun, parts, indented, literal_body}
 use Rattle.yaml_scalar.proofs.{Sparing.is_graph, SparingBlocks.one_digit, TidyQuoted.graph_no_break, blocks.BlockFolds.fold-spaced}
 use Rattle.yaml_scalar.proofs.DeepLines.{Unbroken, unblank_line, space_unbroken, enough_spaces, deep_break, deep_unbroken, spaces_unbroken, deep_after}
 use Rattle.yaml_base.proofs.Charsets.{special_tab}

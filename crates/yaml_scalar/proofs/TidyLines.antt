@@ -1,12 +1,11 @@
 -- Plain and single-quoted texts are tidy: their lines after the first stand at their indentation, and no space stands before a
 -- break; a plain text has no blank and no break at its edges.
-use Rattle.yaml_scalar.proofs.Common.{ℕ, ◌≤◌, if◌then◌else◌, ◌==◌, Option, Bool, false, not, true, ◌&&◌, ◌||◌, [], ◌++◌, ◌∷◌, refl, ◌≡◌, eqb-true}
-use Rattle.yaml_scalar.proofs.Common.{true≢false, append-nil, append_assoc, ap, subst, sym, ◌∙◌, and_parts, and_from, or_parts, or_from, not-true, false≢true}
-use Rattle.yaml_scalar.proofs.Common.{Text, line_feed, space, tab, is_space, is_blank, is_break, Cursor, render_text, is_past_width, is_read_break}
-use Rattle.yaml_scalar.proofs.Common.{and-true, is_read_white}
-use Rattle.yaml_scalar.proofs.Common.{begins_with_break, Charset, somewhere, begins_with, is_empty, is_special, begins_unlike_plain, bars_plain}
-use Rattle.yaml_scalar.proofs.Common.{bars_single_quoted, allows_plain, allows_single_quoted, Kind, spaces, breaks, others, kind_of, is_same_kind, indentation}
-use Rattle.yaml_scalar.proofs.Common.{plain_body, quotes_doubled, single_quote, single_quoted_body, begins_kind, step_text, render_steps}
+use Rattle.yaml_scalar.proofs.Common.{ℕ, ◌≤◌, if◌then◌else◌, ◌==◌, Option, Bool, false, not, true, ◌&&◌, ◌||◌, [], ◌++◌, ◌∷◌, refl, ◌≡◌, eqb-true, true≢false}
+use Rattle.yaml_scalar.proofs.Common.{append-nil, append_assoc, ap, subst, sym, ◌∙◌, and_parts, and_from, or_parts, or_from, not-true, false≢true, Text, space}
+use Rattle.yaml_scalar.proofs.Common.{line_feed, tab, is_space, is_blank, is_break, Cursor, render_text, is_past_width, is_read_break, and-true, is_read_white}
+use Rattle.yaml_scalar.proofs.Common.{begins_with_break, Charset, somewhere, begins_with, is_empty, is_special, begins_unlike_plain, bars_plain, allows_plain}
+use Rattle.yaml_scalar.proofs.Common.{bars_single_quoted, allows_single_quoted, Kind, spaces, breaks, others, kind_of, is_same_kind, indentation, plain_body}
+use Rattle.yaml_scalar.proofs.Common.{quotes_doubled, single_quote, single_quoted_body, begins_kind, step_text, render_steps}
 use Rattle.yaml_base.proofs.{Charsets.special_tab, Common.ends_white, Common.has_clean_edges}
 use Rattle.yaml_scalar.proofs.{LineIndents.others_only, LineRuns.runs_by_steps, SingleReads.doubled_writes, blocks.BlockReads.ordinary}
 use Rattle.yaml_scalar.proofs.LineFolds.{spaces_only, breaks_only}

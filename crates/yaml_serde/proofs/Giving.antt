@@ -1,8 +1,7 @@
 -- A document goes on with each call of its writer.
-use Rattle.yaml_serde.proofs.Common.{ℕ, ◌<◌, ◌≤◌, OnOk, Option, None, Some, Result, Err, Ok, length, take, Bool, false, true, List, [], ◌++◌, ◌∷◌}
-use Rattle.yaml_serde.proofs.Common.{refl, ◌≡◌, append-nil, ap, subst, sym, ◌∙◌, arith, Appends, ∥∥₁_map, Text, Event, State}
-use Rattle.yaml_serde.proofs.Common.{Grows, IsWriterEvent, IsDocument, GivesEvents, is_kept, HandsOn, WriterState}
-use Rattle.yaml_serde.proofs.Common.{opening, with_collection, awaits_node, StandsTaken}
+use Rattle.yaml_serde.proofs.Common.{ℕ, ◌<◌, ◌≤◌, OnOk, Option, None, Some, Result, Err, Ok, length, take, Bool, false, true, List, [], ◌++◌, ◌∷◌, refl, ◌≡◌}
+use Rattle.yaml_serde.proofs.Common.{append-nil, ap, subst, sym, ◌∙◌, arith, Appends, ∥∥₁_map, Text, Event, State, Grows, IsWriterEvent, IsDocument, is_kept}
+use Rattle.yaml_serde.proofs.Common.{GivesEvents, HandsOn, WriterState, opening, with_collection, awaits_node, StandsTaken}
 use mathlib.Core.Logic.{∥∥₁_elim}
 use Rattle.yaml_base.proofs.Common.{inl, inr, length-append, ◌⊎◌}
 use Rattle.yaml_base.proofs.Prefixes.{prefix_then}

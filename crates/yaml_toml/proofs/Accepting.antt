@@ -1,9 +1,7 @@
 -- The events of a document that doesn't nest too deep are an accepted list.
-use Rattle.yaml_toml.proofs.Common.{suc, ℕ, ◌+◌, ◌≤◌, Bool, false, true, Option, None, Some, List, [], ◌++◌, ◌∷◌, refl, ◌≡◌, append-nil}
-use Rattle.yaml_toml.proofs.Common.{append_assoc, subst, sym, arith}
-use Rattle.yaml_toml.proofs.Common.{chars, Event, scalar, sequence_start, sequence_end, mapping_start, mapping_end}
-use Rattle.yaml_toml.proofs.Common.{most_open, is_sound, IsAccepted, is_json_integer, yaml_number, bool_tag, bool_text, word_content}
-use Rattle.yaml_toml.proofs.Common.{text_content, collection_in, number_in, closing}
+use Rattle.yaml_toml.proofs.Common.{suc, ℕ, ◌+◌, ◌≤◌, Bool, false, true, Option, None, Some, List, [], ◌++◌, ◌∷◌, refl, ◌≡◌, append-nil, append_assoc, subst}
+use Rattle.yaml_toml.proofs.Common.{sym, arith, chars, Event, scalar, sequence_start, sequence_end, mapping_start, mapping_end, most_open, is_sound, IsAccepted}
+use Rattle.yaml_toml.proofs.Common.{is_json_integer, yaml_number, bool_tag, bool_text, word_content, text_content, collection_in, number_in, closing}
 use Rattle.std.specs.Fmt.{signed_decimal}
 use Rattle.toml_datetime.specs.Text.{datetime_text}
 use Rattle.toml_datetime.specs.declared.datetime.Datetime.{Datetime}

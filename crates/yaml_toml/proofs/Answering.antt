@@ -1,8 +1,7 @@
 -- What a call of a writer says to the walk.
-use Rattle.yaml_toml.proofs.Common.{◌≡◌, ◌⊎◌, ◌∷◌, ◌++◌, [], List, Bool, Option, None, Some, Result, Ok, Err, IfErr, OnOk, inl, inr, refl, subst, sym, ◌∙◌}
-use Rattle.yaml_toml.proofs.Common.{append-nil, append_assoc}
-use Rattle.yaml_toml.proofs.Common.{Event, State, WriterState, GaveEvent, WroteEvent, IsBare, end_event, EndsInnermost}
-use Rattle.yaml_toml.proofs.Common.{AddsEvents}
+use Rattle.yaml_toml.proofs.Common.{◌≡◌, ◌⊎◌, ◌∷◌, ◌++◌, [], List, Bool, Option, None, Some, Result, Ok, Err, IfErr, OnOk, inl, inr, refl, subst, sym, ◌∙◌, ap₂}
+use Rattle.yaml_toml.proofs.Common.{append-nil, append_assoc, Event, State, WriterState, GaveEvent, WroteEvent, IsBare, end_event, EndsInnermost, AddsEvents}
+use Rattle.yaml_toml.proofs.Common.{Text, Scalar, scalar, plain, is_none, is_some, ◌||◌}
 use Rattle.yaml_writer.proofs.GivenLemmas.{ended, gave_then, leaves_same, none_more, on_ok, same_last, wrote_event}
 use Rattle.yaml_writer.specs.Failing.{HasErrorSaid}
 use Rattle.yaml_writer.proofs.Taken.{gives_ok, gives_err, moves_add}
@@ -11,7 +10,6 @@ use Rattle.yaml_pen.{proofs.Composing.grows_itself, proofs.Composing.grows_then,
 use Rattle.yaml_emitter.proofs.Common.{some_from_result}
 use Rattle.yaml_base.specs.declared.errors.{yaml_error_t.yaml_error_t, yaml_error_t.TheVariants.Memory}
 use Rattle.yaml_base.specs.declared.kinds.CollectionKind.{CollectionKind}
-use Rattle.yaml_toml.proofs.Common.{ap₂, Text, Scalar, scalar, plain, is_none, is_some, ◌||◌}
 use Rattle.yaml_writer.specs.Times.{Moment, timestamp_text}
 use Rattle.yaml_writer.specs.Writing.{Gives, tag_or_default, timestamp_event, timestamp_tag}
 use Rattle.yaml_toml.specs.Depth.{toml_nesting}

@@ -1,12 +1,11 @@
 -- The names that most proofs here cite, passed on from one place. Declares nothing.
-pub use Rattle.yaml_base.proofs.Common.{suc, ℕ, ◌+◌, ◌≤◌, Bool, false, true, Option, None, Some, List, [], ◌++◌, ◌∷◌, refl, ◌≡◌, append-nil}
-pub use Rattle.yaml_base.proofs.Common.{append_assoc, subst, sym, arith, chars, Event, scalar, sequence_start, sequence_end, mapping_start}
-pub use Rattle.yaml_base.proofs.Common.{mapping_end, most_open, is_sound, IsAccepted, yaml_number, ◌⊎◌, inl, inr, ap, ◌∙◌, Text, Scalar, plain}
-pub use Rattle.yaml_base.proofs.Common.{is_none, is_some, ◌||◌, ◌-◌, ◌<◌, length, length-append, ◌==◌, codes, not, ◌&&◌, and_from, not_from_false}
-pub use Rattle.yaml_base.proofs.Common.{list_all, are_digits, is_json_number, JsonNumber, is_empty, is_plain, if◌then◌else◌, and_parts, false≢true}
-pub use Rattle.yaml_base.proofs.Common.{cond, option_and_then, resolved_by_core, zero, map, list_any, unwrap_or, Document, Documents, no_documents}
-pub use Rattle.yaml_base.proofs.Common.{documents_and, Stream, directives_in_force, has_scalar_texts, Settings, Effective, Tree, scalar_tag}
-pub use Rattle.yaml_base.proofs.Common.{collection_tag, scalar_node, Nodes, Pairs, no_nodes, nodes_and, no_pairs, pairs_and, resolved_by_11}
+pub use Rattle.yaml_base.proofs.Common.{suc, ℕ, ◌+◌, ◌≤◌, Bool, false, true, Option, None, Some, List, [], ◌++◌, ◌∷◌, refl, ◌≡◌, append-nil, append_assoc, sym}
+pub use Rattle.yaml_base.proofs.Common.{subst, arith, chars, Event, scalar, sequence_start, sequence_end, mapping_start, mapping_end, most_open, is_sound, ◌⊎◌}
+pub use Rattle.yaml_base.proofs.Common.{IsAccepted, yaml_number, inl, inr, ap, ◌∙◌, Text, Scalar, plain, is_none, is_some, ◌||◌, ◌-◌, ◌<◌, length, ◌==◌, codes}
+pub use Rattle.yaml_base.proofs.Common.{length-append, not, ◌&&◌, and_from, not_from_false, list_all, are_digits, is_json_number, JsonNumber, is_empty, cond}
+pub use Rattle.yaml_base.proofs.Common.{is_plain, if◌then◌else◌, and_parts, false≢true, option_and_then, resolved_by_core, zero, map, list_any, unwrap_or, Tree}
+pub use Rattle.yaml_base.proofs.Common.{Document, Documents, no_documents, documents_and, Stream, directives_in_force, has_scalar_texts, Settings, Effective}
+pub use Rattle.yaml_base.proofs.Common.{scalar_tag, collection_tag, scalar_node, Nodes, Pairs, no_nodes, nodes_and, no_pairs, pairs_and, resolved_by_11}
 pub use Rattle.yaml_base.proofs.Common.{open_count, begins_collection, list_all-append}
 pub use Rattle.std.proofs.lemmas.Bool.{cases_lt}
 pub use Rattle.std.specs.Prelude.{IfSome, flat_map}
@@ -20,5 +19,4 @@ pub use Rattle.yaml_writer.specs.Failing.{FailedGiving}
 pub use Rattle.yaml_writer.specs.Means.{Schema}
 pub use Rattle.yaml_writer.specs.NumberParts.{number_in}
 pub use Rattle.yaml_writer.specs.WasGiven.{IsBare, WasGiven, WroteEvent, start_event}
-pub use Rattle.yaml_writer.specs.Writing.{EndsInnermost, closing, mapping_event, number_event, number_tag, opening, sequence_event, text_event}
-pub use Rattle.yaml_writer.specs.Writing.{with_collection}
+pub use Rattle.yaml_writer.specs.Writing.{EndsInnermost, closing, mapping_event, number_event, number_tag, opening, sequence_event, text_event, with_collection}

@@ -1,8 +1,7 @@
 -- What was given where a walk stops.
-use Rattle.yaml_toml.proofs.Common.{◌≡◌, ℕ, suc, ◌≤◌, arith, ◌∷◌, [], List, Result, Ok, Err, inl, inr, refl, ap, subst, sym}
-use Rattle.yaml_toml.proofs.Common.{length}
+use Rattle.yaml_toml.proofs.Common.{◌≡◌, ℕ, suc, ◌≤◌, arith, ◌∷◌, [], List, Result, Ok, Err, inl, inr, refl, ap, subst, sym, length, Event, Scalar, scalar}
+use Rattle.yaml_toml.proofs.Common.{WriterState, WroteEvent, FailedGiving}
 use Rattle.std.specs.Prelude.{OnErr, pred, zero}
-use Rattle.yaml_toml.proofs.Common.{Event, Scalar, scalar, WriterState, WroteEvent, FailedGiving}
 use Rattle.yaml_writer.proofs.GivenLemmas.{adds_then}
 use Rattle.yaml_base.specs.declared.errors.yaml_error_t.{yaml_error_t}
 use Rattle.yaml_base.specs.declared.kinds.CollectionKind.{CollectionKind}

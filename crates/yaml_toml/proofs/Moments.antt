@@ -2,8 +2,7 @@
 use Rattle.yaml_toml.proofs.Common.{ℕ, ◌==◌, Option, None, Some, codes, Bool, false, not, true, ◌&&◌, ◌||◌, [], ◌++◌, ◌∷◌, refl, ◌≡◌, arith, ap, subst}
 use Rattle.yaml_toml.proofs.Common.{and_parts, and_from, false≢true, cond, list_all, option_and_then, Text, are_digits, resolved_by_core, if◌then◌else◌}
 use Rattle.yaml_base.proofs.Common.{is_decimal, is_point, is_exponent_letter, past_sign, first_reading, core_integer, core_based, core_decimal, Resolved}
-use Rattle.yaml_base.proofs.Common.{meant_text, slice_split}
-use Rattle.yaml_base.proofs.Common.{or_from, nat_tests}
+use Rattle.yaml_base.proofs.Common.{meant_text, slice_split, or_from, nat_tests}
 use Rattle.yaml_base.proofs.NumberCuts.{digit_unlike, no_word_of_core}
 use Rattle.yaml_base.specs.values.Resolved.{some_if}
 use Rattle.std.proofs.lemmas.List.{Splits.slice_split_none, Sums.AllPass-from_list_all}

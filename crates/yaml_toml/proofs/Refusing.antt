@@ -1,7 +1,6 @@
 -- What an error says of the text and of the writer.
-use Rattle.yaml_toml.proofs.Common.{◌≡◌, List, ℕ, Option, None, Some, refl, ap, subst, sym, ◌∙◌, WriterState}
+use Rattle.yaml_toml.proofs.Common.{◌≡◌, List, ℕ, Option, None, Some, refl, ap, subst, sym, ◌∙◌, WriterState, inl}
 use Rattle.yaml_base.specs.declared.errors.{yaml_error_t.yaml_error_t, yaml_error_t.TheVariants.Memory}
-use Rattle.yaml_toml.proofs.Common.{inl}
 use Rattle.yaml_writer.specs.Failing.{HasErrorSaid}
 use Rattle.std.specs.Prelude.{IfSome}
 use Rattle.toml_ordered.specs.Places.{FaultIsPlaced, place_left}

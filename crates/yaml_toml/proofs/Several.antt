@@ -1,14 +1,11 @@
 -- The streams of several documents of TOML, and what is read in them.
 use Rattle.yaml_toml.proofs.Common.{ℕ, flat_map, None, Some, Option, Bool, true, false, not, List, [], map, ◌++◌, ◌∷◌, refl, ◌≡◌, append-nil, append_assoc, ap}
-use Rattle.yaml_toml.proofs.Common.{subst, sym, ◌∙◌}
-use Rattle.yaml_toml.proofs.Common.{and_from, not_from_false, list_any, list_all, unwrap_or, Event, Document, Documents, no_documents, documents_and, Stream}
-use Rattle.yaml_toml.proofs.Common.{directives_in_force}
-use Rattle.yaml_toml.proofs.Common.{opening, closing, has_scalar_texts, IsAccepted, Settings, Effective, Tree, StandsTaken, node_tree}
+use Rattle.yaml_toml.proofs.Common.{subst, sym, ◌∙◌, and_from, not_from_false, list_any, list_all, unwrap_or, Event, Document, Documents, no_documents, Stream}
+use Rattle.yaml_toml.proofs.Common.{documents_and, directives_in_force, opening, closing, has_scalar_texts, IsAccepted, Settings, Effective, Tree, StandsTaken}
+use Rattle.yaml_toml.proofs.Common.{node_tree}
 use Rattle.yaml_base.proofs.Common.{stream_start, stream_end, document_end, document_events, documents_events, stream_events, and_right, or_from, option_map}
-use Rattle.yaml_base.proofs.Common.{tree_of}
-use Rattle.yaml_base.proofs.Common.{is_explicit, is_written_as_nothing, loses_document, document_has_flow_indicator, all_read_alike, reads_alike}
-use Rattle.yaml_base.proofs.Common.{documents_in_order}
-use Rattle.yaml_base.proofs.Common.{stream_trees, root_place, settings_for, DocumentTree}
+use Rattle.yaml_base.proofs.Common.{tree_of, is_explicit, is_written_as_nothing, loses_document, document_has_flow_indicator, all_read_alike, reads_alike}
+use Rattle.yaml_base.proofs.Common.{documents_in_order, stream_trees, root_place, settings_for, DocumentTree}
 use Rattle.yaml_base.proofs.Trees.{tree_of-stream_events}
 use Rattle.yaml_base.proofs.{stream_documents.StreamWholeReads.document_trees, stream_nodes.StreamAgrees.document_tree}
 use Rattle.yaml_emitter.proofs.layouts.StreamsReadBack.{stream_found}

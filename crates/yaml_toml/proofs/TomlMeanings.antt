@@ -1,18 +1,13 @@
 -- What the tree of a TOML value means, wherever each scalar stands.
-use Rattle.yaml_toml.proofs.Common.{Option, None, Some, codes, Bool, false, true, List, [], ◌++◌, ◌∷◌, refl, ◌≡◌, if◌then◌else◌, is_some}
-use Rattle.yaml_toml.proofs.Common.{append-nil, append_assoc, ap, subst, sym, ◌∙◌, and_parts, chars, node_tree, Text}
-use Rattle.yaml_toml.proofs.Common.{plain, Scalar, scalar_tag, scalar_node, Nodes, Pairs, no_nodes, nodes_and, no_pairs}
-use Rattle.yaml_toml.proofs.Common.{pairs_and, Effective, is_empty, is_plain, Tree}
-use Rattle.yaml_toml.proofs.Common.{int_tag, text_content, collection_in, float_tag}
-use Rattle.yaml_base.proofs.Common.{TagDirective, as_item, as_key, as_value, Place, has_no_nodes, has_no_pairs, is_simple, is_simple_at, charset_of}
-use Rattle.yaml_base.proofs.Common.{style_asked_at, choice_of}
-use Rattle.yaml_base.proofs.Common.{allowed_under, is_written_in_flow, entry_place, allowances, chosen, stood_plain, stood_quoted, Tagging, without_tag}
-use Rattle.yaml_base.proofs.Common.{sequence_tree, mapping_tree}
-use Rattle.yaml_base.proofs.Common.{mapping_node, meant_integer}
+use Rattle.yaml_toml.proofs.Common.{Option, None, Some, codes, Bool, false, true, List, [], ◌++◌, ◌∷◌, refl, ◌≡◌, if◌then◌else◌, is_some, append-nil, ap, subst}
+use Rattle.yaml_toml.proofs.Common.{append_assoc, sym, ◌∙◌, and_parts, chars, node_tree, Text, plain, Scalar, scalar_tag, scalar_node, Nodes, Pairs, no_nodes}
+use Rattle.yaml_toml.proofs.Common.{nodes_and, no_pairs, pairs_and, Effective, is_empty, is_plain, Tree, int_tag, text_content, collection_in, float_tag}
+use Rattle.yaml_base.proofs.Common.{TagDirective, as_item, as_key, as_value, Place, has_no_nodes, has_no_pairs, is_simple, is_simple_at, charset_of, choice_of}
+use Rattle.yaml_base.proofs.Common.{style_asked_at, allowed_under, is_written_in_flow, entry_place, allowances, chosen, stood_plain, stood_quoted, Tagging}
+use Rattle.yaml_base.proofs.Common.{without_tag, sequence_tree, mapping_tree, mapping_node, meant_integer}
 use Rattle.yaml_base.proofs.PlainUnderQuotes.{plain_under}
 use Rattle.yaml_base.proofs.stream_nodes.StreamAgrees.{tagging_in, nodes_tree, pairs_tree}
-use Rattle.yaml_writer.proofs.ScalarMeanings.{IsPlainWord, ReadsScalars, flag_at, number_at, plain_word, reads_by_11, reads_by_core, text_at}
-use Rattle.yaml_writer.proofs.ScalarMeanings.{untagged, word_at}
+use Rattle.yaml_writer.proofs.ScalarMeanings.{IsPlainWord, ReadsScalars, flag_at, number_at, plain_word, reads_by_11, reads_by_core, text_at, untagged, word_at}
 use Rattle.yaml_writer.specs.Means.{canonical_tag, trees_in_order, pairs_in_order}
 use Rattle.yaml_writer.proofs.{DateLemmas.dates_read, DateLemmas.dates_plain, FloatLemmas.special_floats_read, TimeLemmas.timestamps_read}
 use Rattle.yaml_writer.specs.Dates.{CalendarDate, date_text, is_calendar_date}

@@ -1,10 +1,8 @@
 -- The tree of the events of a TOML document, which is written alike in every mode.
 use Rattle.yaml_toml.proofs.Common.{None, Some, Option, Bool, true, false, not, List, [], ◌++◌, ◌∷◌, ◌||◌, refl, ◌≡◌, append-nil, append_assoc, ap, sym, ◌∙◌}
-use Rattle.yaml_toml.proofs.Common.{chars}
-use Rattle.yaml_toml.proofs.Common.{if◌then◌else◌, and_from, not_from_false, list_any, unwrap_or, Event, scalar, sequence_start, sequence_end, mapping_start}
-use Rattle.yaml_toml.proofs.Common.{mapping_end, scalar_node, Nodes, Pairs, no_nodes, nodes_and, no_pairs}
-use Rattle.yaml_toml.proofs.Common.{pairs_and, Document, no_documents, documents_and, Stream, collection_tag, directives_in_force, text_content, bool_content}
-use Rattle.yaml_toml.proofs.Common.{collection_in, opening, closing, Text}
+use Rattle.yaml_toml.proofs.Common.{chars, if◌then◌else◌, and_from, not_from_false, list_any, unwrap_or, Event, scalar, sequence_start, sequence_end, Nodes}
+use Rattle.yaml_toml.proofs.Common.{mapping_start, mapping_end, scalar_node, Pairs, no_nodes, nodes_and, no_pairs, pairs_and, Document, no_documents, Stream}
+use Rattle.yaml_toml.proofs.Common.{documents_and, collection_tag, directives_in_force, text_content, bool_content, collection_in, opening, closing, Text}
 use Rattle.yaml_toml.proofs.Common.{bool_tag, bool_text, int_tag, float_tag, number_tag, number_in, yaml_number, is_json_integer, word_content}
 use Rattle.yaml_base.proofs.Common.{stream_start, stream_end, document_end, Node, sequence_node, mapping_node, node_events, nodes_events, pairs_events}
 use Rattle.yaml_base.proofs.Common.{stream_events, and_right, or_from, option_map, tree_of, is_explicit, is_written_as_nothing, loses_document}

@@ -1,9 +1,7 @@
 -- Why a writer failed that was given the events of a document.
-use Rattle.yaml_toml.proofs.Common.{ℕ, ◌+◌, ◌≤◌, ◌<◌, Option, None, Some, Bool, true, List, [], ◌++◌, ◌∷◌, refl, ◌≡◌, append-nil, append_assoc, inl, inr}
-use Rattle.yaml_toml.proofs.Common.{ap, subst, sym, ◌∙◌}
-use Rattle.yaml_toml.proofs.Common.{arith, cond, unwrap_or, IfSome, Event, IsPrefix, Settings, State, WriterState, most_open, list_all, is_sound, Stream}
-use Rattle.yaml_toml.proofs.Common.{open_count, begins_collection}
-use Rattle.yaml_toml.proofs.Common.{opening, closing, StandsTaken}
+use Rattle.yaml_toml.proofs.Common.{ℕ, ◌+◌, ◌≤◌, ◌<◌, Option, None, Some, Bool, true, List, [], ◌++◌, ◌∷◌, refl, ◌≡◌, append-nil, append_assoc, inl, inr, ap}
+use Rattle.yaml_toml.proofs.Common.{subst, sym, ◌∙◌, arith, cond, unwrap_or, IfSome, Event, IsPrefix, Settings, State, WriterState, most_open, list_all, Stream}
+use Rattle.yaml_toml.proofs.Common.{is_sound, open_count, begins_collection, opening, closing, StandsTaken}
 use Rattle.yaml_base.proofs.Common.{stream_start, stream_events, sum_by-append, count_by, ends_collection}
 use Rattle.yaml_base.specs.declared.errors.{yaml_error_t.yaml_error_t, yaml_error_t.TheVariants.Memory, yaml_error_t.TheVariants.WriteError}
 use Rattle.yaml_base.specs.declared.errors.{yaml_error_t.TheVariants.TooDeep}

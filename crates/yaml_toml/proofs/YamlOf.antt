@@ -9,11 +9,10 @@ use Rattle.yaml_writer.specs.Means.{plain_document}
 use Rattle.yaml_writer.specs.Writing.{Finishes}
 use Rattle.toml_ordered.specs.Data as toml
 use Rattle.yaml_toml.specs.Events.{toml_events}
-use Rattle.yaml_toml.specs.Means.{ReadsAsToml, IsYamlOfToml}
+use Rattle.yaml_toml.specs.Means.{ReadsAsToml, IsYamlOfToml, by_11, by_core}
 use Rattle.yaml_toml.specs.Walk.{KeysHaveNumbers, WroteToml}
 use Rattle.yaml_toml.proofs.TomlTrees.{toml_node, root_of, toml_stream, all_events, stream_flat, portable_events}
 use Rattle.yaml_toml.proofs.TomlMeanings.{node_means, toml_by_11, toml_by_core}
-use Rattle.yaml_toml.specs.Means.{by_11, by_core}
 use Rattle.yaml_writer.proofs.Taken.{moves_taken}
 
 module _ (given : Settings) (in_flow : Bool) (keys : toml.TomlNodes) (bytes : List ℕ) (numbers : KeysHaveNumbers keys)

@@ -1,8 +1,7 @@
 -- What a search of bytes tells of the prefix before the byte that it found.
-use Rattle.yaml_tool.proofs.Common.{suc, ℕ, ◌+◌, ◌-◌, ◌<◌, ◌≤◌, ◌==◌, drop, length, take, Bool, false, true, ◌||◌, List, [], ◌++◌, ◌∷◌, refl, ◌≡◌}
-use Rattle.yaml_tool.proofs.Common.{take-append-drop, append-nil, ap, subst, sym, ◌∙◌, add-one, arith, nat_tests, list_any-append, IsUtf8-take, encodes-chars}
-use Rattle.yaml_tool.proofs.Common.{encode_utf8, list_any, IsUtf8, chars, encode_utf8_all, Nowhere, NoneBefore, Passes, is_byte2, line_feed, IsFree, IsCut}
-use Rattle.yaml_tool.proofs.Common.{SkipsTo}
+use Rattle.yaml_tool.proofs.Common.{suc, ℕ, ◌+◌, ◌-◌, ◌<◌, ◌≤◌, ◌==◌, drop, length, take, Bool, false, true, ◌||◌, List, [], ◌++◌, ◌∷◌, refl, ◌≡◌, append-nil}
+use Rattle.yaml_tool.proofs.Common.{take-append-drop, ap, subst, sym, ◌∙◌, add-one, arith, nat_tests, list_any-append, IsUtf8-take, encodes-chars, encode_utf8}
+use Rattle.yaml_tool.proofs.Common.{list_any, IsUtf8, chars, encode_utf8_all, Nowhere, NoneBefore, Passes, is_byte2, line_feed, IsFree, IsCut, SkipsTo}
 use Rattle.yaml_base.proofs.Common.{zero, slice_index, eqb-true, false≢true}
 use Rattle.std.proofs.{Common.le_refl, Common.take_all, Math.Seq.drop-cons, lemmas.List.take_rest, lemmas.List.Folds.list_any_more}
 use Rattle.std.proofs.lemmas.Str.{IsUtf8-drop, encode_ascii, IsCharBoundary-before_ascii, IsUtf8-nil}

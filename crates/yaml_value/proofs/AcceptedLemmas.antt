@@ -1,9 +1,8 @@
 -- The events of a value that isn't nested too deep are an accepted list.
-use Rattle.yaml_value.proofs.Common.{max, suc, ℕ, ◌+◌, ◌≤◌, true, List, [], ◌++◌, ◌∷◌, refl, ◌≡◌, append_assoc, ap, subst, sym, ◌∙◌, arith, le-max_left}
-use Rattle.yaml_value.proofs.Common.{le-max_right, Event, node_events, nodes_events, pairs_events, IsAccepted, TypedValue, null_value, bool_value, int_value}
+use Rattle.yaml_value.proofs.Common.{max, suc, ℕ, ◌+◌, ◌≤◌, true, List, [], ◌++◌, ◌∷◌, refl, ◌≡◌, append_assoc, ap, subst, sym, ◌∙◌, arith, le-max_left, Event}
+use Rattle.yaml_value.proofs.Common.{le-max_right, node_events, nodes_events, pairs_events, IsAccepted, TypedValue, null_value, bool_value, int_value, nesting}
 use Rattle.yaml_value.proofs.Common.{text_value, TypedValues, list_value, TypedPairs, map_value, no_values, values_and, no_value_pairs, value_pairs_and}
-use Rattle.yaml_value.proofs.Common.{nesting, values_nesting, value_pairs_nesting, most_nested, value_node, value_nodes, value_pairs, value_stream}
-use Rattle.yaml_value.proofs.Common.{value_events}
+use Rattle.yaml_value.proofs.Common.{values_nesting, value_pairs_nesting, most_nested, value_node, value_nodes, value_pairs, value_stream, value_events}
 use Rattle.yaml_base.proofs.Common.{stream_end, document_end, sequence_end, mapping_end, most_open, open_count}
 use Rattle.yaml_emitter.proofs.AcceptedLists.{sound, both_sound, Stays, few_open}
 

@@ -1,11 +1,8 @@
 -- How the count of a list or a map grows by one more item or pair, and the count of a value by each step of a walk over it.
-use Rattle.yaml_value.proofs.Common.{min, ℕ, ◌+◌, ◌<◌, ◌≤◌, length, slice_index_or as get_or, take, List, [], map, ◌++◌}
-use Rattle.yaml_value.proofs.Common.{◌∷◌, ◌⊎◌, refl, ◌≡◌, inr, ap, ap₂, sym, ◌∙◌, arith, map-append}
-use Rattle.yaml_value.proofs.Common.{largest_usize, TypedValue, TypedValues, TypedPairs, no_values, values_and, no_value_pairs, value_pairs_and, values_count}
-use Rattle.yaml_value.proofs.Common.{value_pairs_count, values_of, pairs_of, seen_value, seen_values}
-use Rattle.yaml_value.proofs.Common.{seen_pairs}
-use Rattle.std.proofs.{Common.inl, Math.Nat.min-eq_left, Math.Nat.min-eq_right, Math.Nat.min-le_right, lemmas.Bool.cases_lt}
-use Rattle.std.proofs.{lemmas.List.take_more}
+use Rattle.yaml_value.proofs.Common.{min, ℕ, ◌+◌, ◌<◌, ◌≤◌, length, slice_index_or as get_or, take, List, [], map, ◌++◌, ◌∷◌, ◌⊎◌, refl, ◌≡◌, inr, ap, ap₂, sym}
+use Rattle.yaml_value.proofs.Common.{◌∙◌, arith, map-append, largest_usize, TypedValue, TypedValues, TypedPairs, no_values, values_and, no_value_pairs}
+use Rattle.yaml_value.proofs.Common.{value_pairs_and, values_count, value_pairs_count, values_of, pairs_of, seen_value, seen_values, seen_pairs}
+use Rattle.std.proofs.{Common.inl, Math.Nat.min-eq_left, Math.Nat.min-eq_right, Math.Nat.min-le_right, lemmas.Bool.cases_lt, lemmas.List.take_more}
 use Rattle.yaml_base.specs.values.TypedValues.{value_count}
 use Rattle.yaml_value.specs.declared.value.Value.{Value}
 use Rattle.yaml_value.specs.Walk.{CountsEntered, Left, count_all, count_left, entered, split}

@@ -1,10 +1,10 @@
 -- The layout of a value's events, under the settings of canonical values, is its canonical text.
 use Rattle.yaml_base.proofs.Common.{ℕ, ◌+◌, ◌==◌, Bool, true, false, not, ◌&&◌, ◌||◌, Option, None, Some, List, [], ◌∷◌, ◌++◌, refl, ◌≡◌, ap, subst, sym, ◌∙◌}
-use Rattle.yaml_base.proofs.Common.{append_assoc, append-nil, codes, if◌then◌else◌, true≢false, Text, space, Cursor, Rendered, render_then, render_nothing}
+use Rattle.yaml_base.proofs.Common.{append_assoc, append-nil, codes, if◌then◌else◌, true≢false, Text, space, Cursor, Rendered, render_then, render_nothing, cut}
 use Rattle.yaml_base.proofs.Common.{Standing, RenderedPieces, Piece, text_of, piece_text, one_piece, then_pieces, Place, root_place, entry_place, Role, as_item}
 use Rattle.yaml_base.proofs.Common.{as_key, as_value, is_key, render_place, line_column, deeper, is_written_in_flow, has_no_nodes, has_no_pairs, render_node}
 use Rattle.yaml_base.proofs.Common.{render_nodes, render_pairs, layout, Effective, effective, directives_in_force, TagDirective, character_text, double_inside}
-use Rattle.yaml_base.proofs.Common.{flat_map, flat_map-append, is_simple, Brackets, square, curly, start_piece, is_undented, render_properties, line_feed}
+use Rattle.yaml_base.proofs.Common.{flat_map, flat_map-append, is_simple, Brackets, square, curly, start_piece, is_undented, render_properties, line_feed, utf8}
 use Rattle.yaml_base.specs.Cursor.{render_text, space_if}
 use Rattle.yaml_base.specs.Event.{Collection, Scalar, any_style}
 use Rattle.yaml_base.specs.Grammar.{scalar_node}
@@ -16,8 +16,7 @@ use Rattle.yaml_base.specs.values.TypedValues.{TypedValue, null_value, bool_valu
 use Rattle.yaml_base.specs.values.TypedValues.{values_and, TypedPairs, no_value_pairs, value_pairs_and, null_tag, bool_tag, int_tag, bool_text, value_node}
 use Rattle.yaml_base.specs.values.TypedValues.{value_nodes, value_pairs, value_stream, typed_settings, tagged_collection, value_events, typed_output}
 use Rattle.yaml_base.proofs.Common.{document_start_piece, document_end_piece, stream_end_piece, first_standing, Stream, list_layout, stream_events, tree_of}
-use Rattle.yaml_base.proofs.Common.{with_breaks_written}
-use Rattle.yaml_base.proofs.Common.{line_feed_break, encode, cut, utf8, option_map, unwrap_or, bytes_written, eqb-true}
+use Rattle.yaml_base.proofs.Common.{with_breaks_written, line_feed_break, encode, option_map, unwrap_or, bytes_written, eqb-true, arith, length, nat_tests}
 use Rattle.yaml_base.proofs.Trees.{tree_of-stream_events}
 use Rattle.std.specs.Fmt.{signed_decimal}
 use Rattle.std.specs.Prelude.{◌<◌, Err, IfOk, Ok, Result, Vec}
@@ -25,11 +24,9 @@ use Rattle.std.proofs.lemmas.List.{length-take, take_all}
 use Rattle.yaml_base.specs.Settings.{largest_usize}
 use Rattle.yaml_base.specs.declared.errors.yaml_error_t.{yaml_error_t}
 use Rattle.yaml_base.specs.values.TypedValues.{WritesValue}
-use Rattle.yaml_base.proofs.Common.{arith, length, nat_tests}
 use Rattle.yaml_value.proofs.WritingLemmas.{below_limit}
 use Rattle.yaml_base.specs.values.ValueText.{in_quotes, scalar_text, line_at, has_no_values, has_no_value_pairs, entry_lead, entries_end, value_text}
-use Rattle.yaml_base.specs.values.ValueText.{items_text, pairs_text}
-use Rattle.yaml_base.specs.values.ValueText.{document_text}
+use Rattle.yaml_base.specs.values.ValueText.{items_text, pairs_text, document_text}
 
 -- the settings of canonical values, and the directives in force
 abbrev s : Effective

@@ -1,10 +1,9 @@
 -- A walk over a value: what it has left to visit holds the values, the events and the depth that the value has left.
-use Rattle.yaml_value.proofs.Common.{max, ℕ, suc, ◌+◌, ◌≤◌, nat_le, length, List, [], map, ◌++◌, ◌∷◌, refl, ◌≡◌, append_assoc, ap, ap₂, sym}
-use Rattle.yaml_value.proofs.Common.{◌∙◌, arith, nat_tests, Event, node_events, nodes_events, pairs_events, TypedValue, null_value}
-use Rattle.yaml_value.proofs.Common.{bool_value, int_value, text_value, TypedValues, list_value, TypedPairs, map_value, no_values, values_and, no_value_pairs}
-use Rattle.yaml_value.proofs.Common.{value_pairs_and, values_count, value_pairs_count, nesting, values_nesting, value_pairs_nesting, Has64Bits}
-use Rattle.yaml_value.proofs.Common.{Have64Bits, PairsHave64Bits, value_node, value_nodes, value_pairs, values_of, pairs_of, seen_value, seen_values}
-use Rattle.yaml_value.proofs.Common.{◌<◌, subst, map-append, seen_pairs}
+use Rattle.yaml_value.proofs.Common.{max, ℕ, suc, ◌+◌, ◌≤◌, nat_le, length, List, [], map, ◌++◌, ◌∷◌, refl, ◌≡◌, append_assoc, ap, ap₂, sym, ◌∙◌, arith, Event}
+use Rattle.yaml_value.proofs.Common.{nat_tests, node_events, nodes_events, pairs_events, TypedValue, null_value, bool_value, int_value, text_value, TypedValues}
+use Rattle.yaml_value.proofs.Common.{list_value, TypedPairs, map_value, no_values, values_and, no_value_pairs, value_pairs_and, values_count, value_pairs_count}
+use Rattle.yaml_value.proofs.Common.{nesting, values_nesting, value_pairs_nesting, Has64Bits, Have64Bits, PairsHave64Bits, value_node, value_nodes, value_pairs}
+use Rattle.yaml_value.proofs.Common.{values_of, pairs_of, seen_value, seen_values, ◌<◌, subst, map-append, seen_pairs}
 use Rattle.yaml_base.proofs.Common.{append-nil, length-append, Option, false}
 use Rattle.yaml_base.specs.Event.{sequence_end, mapping_end}
 use Rattle.yaml_base.specs.values.TypedValues.{value_count}

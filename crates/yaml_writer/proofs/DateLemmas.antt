@@ -5,9 +5,8 @@ use Rattle.yaml_writer.proofs.Common.{Text, is_decimal, first_meets, digit_unlik
 use Rattle.yaml_base.proofs.Common.{agree_below_at, nat_tests, slice_split, past, is_hyphen, in_date, is_date, is_time_after_date, meant_timestamp}
 use Rattle.yaml_base.proofs.Common.{Resolved, first_reading, resolved_by_11, numbers_11, past_sign, is_negative}
 use Rattle.std.proofs.lemmas.List.{Splits.slice_split_at, Sums.AllPass-from_list_all}
-use Rattle.std.specs.List.{All}
+use Rattle.std.specs.{List.All, Str.Parse.digits_value}
 use Rattle.std.specs.Prelude.{if◌then◌else◌, nat_le, ◌+◌, ◌/◌, ◌%◌}
-use Rattle.std.specs.Str.Parse.{digits_value}
 use Rattle.yaml_base.proofs.NumberCuts.{no_word_of_11, uncut}
 use Rattle.yaml_base.proofs.no_numbers.NoNumbers.{past_cons}
 use Rattle.yaml_base.specs.values.Resolved.{counted_digits, some_if}

@@ -1,8 +1,7 @@
 -- A text whose first bytes are those of nothing doubtful is not doubtful.
-use Rattle.yaml_writer.proofs.Common.{ℕ, ◌<◌, if◌then◌else◌, ◌==◌, Bool, false, not, true, ◌&&◌, ◌||◌, List, [], map, ◌∷◌, refl, ◌≡◌, eqb-true, true≢false}
-use Rattle.yaml_writer.proofs.Common.{ap, sym, ◌∙◌, and_parts, and_right, ascii_prefix, codes, is_among, or_from, not-true}
-use Rattle.yaml_writer.proofs.Common.{take_while-cons, to_ascii_lowercase, list_all, list_any, take_while, Text}
-use Rattle.yaml_writer.proofs.Common.{is_ascii, is_word, reserved_words, is_doubtful}
+use Rattle.yaml_writer.proofs.Common.{ℕ, ◌<◌, if◌then◌else◌, ◌==◌, Bool, false, not, true, ◌&&◌, ◌||◌, List, [], map, ◌∷◌, refl, ◌≡◌, eqb-true, true≢false, ap}
+use Rattle.yaml_writer.proofs.Common.{sym, ◌∙◌, and_parts, and_right, ascii_prefix, codes, is_among, or_from, not-true, take_while-cons, to_ascii_lowercase}
+use Rattle.yaml_writer.proofs.Common.{list_all, list_any, take_while, Text, is_ascii, is_word, reserved_words, is_doubtful}
 use Rattle.yaml_base.proofs.Common.{agree_below_at, arith, bytes_eq, bytes_eq-Decides, le-leb, leb-true, ltb-true, nat_le, nat_lt}
 use Rattle.yaml_base.proofs.Common.{slice_index_or as get_or, length, nat_tests, or_parts}
 use Rattle.yaml_base.specs.values.Resolved.{first_meets, is_decimal, is_exponent_letter}

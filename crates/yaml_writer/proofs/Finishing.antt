@@ -1,8 +1,7 @@
 -- What it comes to that a document and its stream are ended.
 use Rattle.yaml_writer.proofs.Common.{ℕ, ◌<◌, ◌≤◌, is_some, Option, None, Some, length, Bool, false, true, ◌||◌, List, [], ◌++◌, ◌∷◌, refl, ◌≡◌, append_assoc}
-use Rattle.yaml_writer.proofs.Common.{ap, ap₂, subst, sym, ◌∙◌, arith, nil_from_length, Text, Event, stream_end, document_end, IsAccepted, Settings}
-use Rattle.yaml_writer.proofs.Common.{ends_last, IsRefusal, HasRoomAndMemory, Promised, StandsAfter, State, output_left, RefusesOne, IsUnfinishedBy}
-use Rattle.yaml_writer.proofs.Common.{WriterState}
+use Rattle.yaml_writer.proofs.Common.{ap, ap₂, subst, sym, ◌∙◌, arith, nil_from_length, Text, Event, stream_end, document_end, IsAccepted, Settings, ends_last}
+use Rattle.yaml_writer.proofs.Common.{IsRefusal, HasRoomAndMemory, Promised, StandsAfter, State, output_left, RefusesOne, IsUnfinishedBy, WriterState}
 use Rattle.yaml_writer.proofs.Common.{closing_by, StandsTaken}
 use Rattle.yaml_emitter.proofs.Common.{RefusedAt, ends_stream}
 use Rattle.std.specs.Prelude.{unwrap_or, IsSome}

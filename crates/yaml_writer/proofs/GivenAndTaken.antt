@@ -1,10 +1,8 @@
 -- What several calls gave to a writer and took from it.
-use Rattle.yaml_writer.proofs.Common.{ℕ, Option, Err, Ok, length, List, [], ◌++◌, refl, ◌≡◌, append-nil, append_assoc, inr, ap, subst, sym, ◌∙◌}
-use Rattle.yaml_writer.proofs.Common.{Event, State, output_left, none_from_result, some_from_result, AddsEvents, PassedEvents, StandsTaken, TakesBytes}
-use Rattle.yaml_writer.proofs.Common.{WriterState}
+use Rattle.yaml_writer.proofs.Common.{ℕ, Option, Err, Ok, length, List, [], ◌++◌, refl, ◌≡◌, append-nil, append_assoc, inr, ap, subst, sym, ◌∙◌, Event, State}
+use Rattle.yaml_writer.proofs.Common.{output_left, none_from_result, some_from_result, AddsEvents, PassedEvents, StandsTaken, TakesBytes, WriterState}
 use Rattle.std.specs.Io.KnownBytes.{Appends}
-use Rattle.yaml_base.specs.Sinks.{AppendsFirst}
-use Rattle.yaml_base.specs.declared.errors.yaml_error_t.{yaml_error_t}
+use Rattle.yaml_base.specs.{Sinks.AppendsFirst, declared.errors.yaml_error_t.yaml_error_t}
 use Rattle.yaml_emitter.{proofs.Common.with_all_taken, proofs.standing.Taking.stands_taken}
 use Rattle.yaml_writer.proofs.Taken.{left_taken, moves_add, moves_taken}
 use Rattle.yaml_writer.specs.Failing.{FailedWith}

@@ -4,14 +4,12 @@ use Rattle.yaml_writer.proofs.Common.{subst, sym, ◌∙◌, Text, plain, Event,
 use Rattle.yaml_writer.proofs.Common.{IsNumber, WriterState, end_event, AddsEvents, GaveEvent}
 use Rattle.yaml_base.proofs.Common.{inl, ScalarStyle}
 use Rattle.yaml_writer.specs.WasGiven.{GivenLeaving, IsBare, WasGiven, WroteEvent, start_event}
-use Rattle.yaml_writer.proofs.PartLemmas.{number_found}
+use Rattle.yaml_writer.proofs.{PartLemmas.number_found, Finishing.nothing_awaited}
 use Rattle.yaml_writer.specs.NumberParts.{number_in}
 use Rattle.yaml_writer.specs.Writing.{number_tag, number_event, text_style, text_event, mapping_event, sequence_event, with_collection, EndsInnermost}
-use Rattle.yaml_base.specs.Event.{CollectionStyle}
+use Rattle.yaml_base.specs.{Event.CollectionStyle, declared.kinds.CollectionKind.CollectionKind}
 use Rattle.yaml_writer.specs.Contents.{style_of, word_content, number_content, text_content, collection_in}
-use Rattle.yaml_writer.proofs.Finishing.{nothing_awaited}
 use Rattle.yaml_writer.specs.Writing.{tag_or_default, word_event, awaits_node}
-use Rattle.yaml_base.specs.declared.kinds.CollectionKind.{CollectionKind}
 use Rattle.yaml_emitter.proofs.standing.Moving.{moves_then}
 use Rattle.yaml_writer.proofs.Taken.{adds_nothing, moves_add}
 
@@ -104,20 +102,6 @@ pub number_event_is : (writer : WriterState) (text : List ℕ) (parts : JsonNumb
 number_event_is writer text parts is bare =
     word_is writer (number_tag parts) (yaml_number parts) bare
     ∙ ap (λ (found : JsonNumber). scalar (number_content writer.canonical found)) (sym (ap number_in is.text_is ∙ number_found parts is.valid))
-
-pub sequence_is : (writer : WriterState) (in_flow : Bool) (style : CollectionStyle) → style ≡ style_of in_flow → IsBare writer
-    → sequence_event writer style ≡ sequence_start (collection_in in_flow)
-sequence_is writer in_flow style is bare =
-    ap (sequence_event writer) is
-    ∙ ap₂ (λ (anchor tag : Option Text). sequence_start (record { anchor = anchor; tag = tag; implicit = is_none tag; style = style_of in_flow }))
-    bare.0 bare.1
-
-pub mapping_is : (writer : WriterState) (in_flow : Bool) (style : CollectionStyle) → style ≡ style_of in_flow → IsBare writer
-    → mapping_event writer style ≡ mapping_start (collection_in in_flow)
-mapping_is writer in_flow style is bare =
-    ap (mapping_event writer) is
-    ∙ ap₂ (λ (anchor tag : Option Text). mapping_start (record { anchor = anchor; tag = tag; implicit = is_none tag; style = style_of in_flow }))
-    bare.0 bare.1
 
 -- Collections
 

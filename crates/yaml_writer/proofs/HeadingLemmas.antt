@@ -1,18 +1,15 @@
 -- Headings are passed over; and they are written character by character.
 use Rattle.yaml_writer.proofs.Common.{ℕ, ◌==◌, if◌then◌else◌, codes, None, Bool, false, not, true, ◌&&◌, ◌||◌, List, [], ◌++◌, ◌∷◌, refl, ◌≡◌, append_assoc, ap}
-use Rattle.yaml_writer.proofs.Common.{sym, ◌∙◌}
-use Rattle.yaml_writer.proofs.Common.{encode_utf8_all, Text, is_break}
+use Rattle.yaml_writer.proofs.Common.{sym, ◌∙◌, encode_utf8_all, Text, is_break}
 use Rattle.std.specs.Prelude.{Some, IsUtf8, chars, encode_utf8, option_and_then}
 use Rattle.std.proofs.lemmas.Str.{IsUtf8-append, chars-append, chars_from_encodes, encodes-append, encodes-chars, is_utf8-from_IsUtf8, scalars-chars}
 use Rattle.yaml_base.proofs.Decoding.{text_bytes-utf8}
-use Rattle.yaml_base.specs.Settings.{utf8}
+use Rattle.yaml_base.specs.{Settings.utf8, streams.StreamReader.text_trees}
 use Rattle.yaml_base.specs.reading.ReadBytes.{characters_read, utf8_read}
 use Rattle.yaml_base.specs.Characters.{carriage_return, is_printable, line_feed, line_separator, next_line, paragraph_separator, space}
-use Rattle.yaml_base.specs.streams.StreamReader.{text_trees}
 use Rattle.yaml_emitter.proofs.canonical.CanonicalBytes.{characters_back}
 use Rattle.yaml_writer.specs.Headings.{HeadingsArePassedOver, after_comments, begins_with_comment, comment_end, comment_lines, comment_start, commented}
-use Rattle.yaml_writer.specs.Headings.{commented_bytes}
-use Rattle.yaml_writer.specs.Headings.{in_comment, spot_after, trees_behind_heading, utf8_trees_behind_heading}
+use Rattle.yaml_writer.specs.Headings.{commented_bytes, in_comment, spot_after, trees_behind_heading, utf8_trees_behind_heading}
 use Rattle.yaml_writer.specs.declared.headings.LineSpot.{LineSpot}
 use Rattle.yaml_writer.specs.declared.headings.LineSpot.TheVariants.{Start, Within}
 

@@ -3,8 +3,7 @@ use Rattle.yaml_writer.proofs.Common.{suc, ℕ, ◌<◌, ◌≤◌, ◌==◌, op
 use Rattle.yaml_writer.proofs.Common.{◌≡◌, true≢false, ap, subst, sym, ◌∙◌, arith, and_parts, list_all, Text}
 use Rattle.yaml_base.proofs.Common.{nat_tests, if◌then◌else◌, nat_lt, slice_index_or as get_or, eq-eqb, eqb-true}
 use Rattle.std.proofs.Common.{◌+◌, drop, add-one, drop-cons, take_all, take-append-drop}
-use Rattle.std.proofs.lemmas.List.{get_or-take}
-use Rattle.std.proofs.lemmas.List.Folds.{length-prefix_len}
+use Rattle.std.proofs.{lemmas.List.get_or-take, lemmas.List.Folds.length-prefix_len}
 use Rattle.std.proofs.lemmas.List.Sums.{prefix_len_passes, prefix_len_stops}
 use Rattle.std.specs.List.{prefix_len}
 use Rattle.yaml_writer.proofs.PartLemmas.{lacks, cut_none, cut_found, lacks_each}

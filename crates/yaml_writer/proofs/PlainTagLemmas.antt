@@ -1,31 +1,20 @@
 -- Texts that have a plain tag: where they stand, and how they are read.
 use Rattle.yaml_writer.proofs.Common.{if◌then◌else◌, Option, None, Some, option_map, option_or, codes, Bool, false, not, true, ◌&&◌, ◌||◌, List, [], map, ◌++◌}
 use Rattle.yaml_writer.proofs.Common.{◌∷◌, refl, ◌≡◌, ℕ, chars, ap, subst, sym, ◌∙◌, and_parts, not-true, list_all, list_any, IsUtf8, Text, is_word, is_space}
-use Rattle.yaml_writer.proofs.Common.{JsonNumber, is_json_number, yaml_number, is_json_integer, fraction_or_default, is_spelled, IsNumber}
-use Rattle.yaml_writer.proofs.Common.{IsNoNumber}
-use Rattle.yaml_writer.proofs.Common.{float_tag, int_tag, encode_utf8_all, encodes-chars}
-use Rattle.yaml_base.proofs.Common.{bytes_eq, bytes_eq-Decides, list_any-append, named, slice_split, Resolved}
-use Rattle.yaml_base.proofs.Common.{words_of_core, resolved_by_core, resolved_by_11, number_meant, meant_integer, meant_decimal, signed}
-use Rattle.yaml_base.proofs.Common.{digits_value}
-use Rattle.yaml_base.proofs.Common.{is_empty}
+use Rattle.yaml_writer.proofs.Common.{JsonNumber, is_json_number, yaml_number, is_json_integer, fraction_or_default, is_spelled, IsNumber, IsNoNumber, int_tag}
+use Rattle.yaml_writer.proofs.Common.{float_tag, encode_utf8_all, encodes-chars}
+use Rattle.yaml_base.proofs.Common.{bytes_eq, bytes_eq-Decides, list_any-append, named, slice_split, Resolved, words_of_core, resolved_by_core, resolved_by_11}
+use Rattle.yaml_base.proofs.Common.{number_meant, meant_integer, meant_decimal, signed, digits_value, is_empty}
 use Rattle.yaml_base.proofs.AsciiWords.{is_ascii_text, ascii_of, same_word}
-use Rattle.yaml_base.proofs.NumbersByCore.{found}
-use Rattle.yaml_base.proofs.NumbersRead.{spelling_read}
-use Rattle.yaml_base.proofs.SchemaWords.{named_unlike}
-use Rattle.yaml_base.specs.Options.{some_if}
-use Rattle.yaml_base.specs.scalars.Analysis.{begins_unlike_plain}
-use Rattle.yaml_base.specs.values.CanonicalTags.{canonical_tag}
-use Rattle.yaml_base.specs.values.JsonNumbers.{value_with}
+use Rattle.yaml_base.proofs.{NumbersByCore.found, NumbersRead.spelling_read, SchemaWords.named_unlike}
+use Rattle.yaml_base.specs.{Options.some_if, scalars.Analysis.begins_unlike_plain, values.CanonicalTags.canonical_tag, values.JsonNumbers.value_with}
 use Rattle.yaml_base.specs.values.Resolved.{meant_null, meant_boolean, meant_infinity, meant_nan, words_of_repository}
 use Rattle.yaml_base.specs.values.TypedValues.{null_tag, bool_tag}
 use Rattle.yaml_writer.proofs.PartLemmas.{number_found, parts_join, text_is_number}
 use Rattle.yaml_writer.proofs.PlainNumbers.{is_harmless, stands_plain, written_numbers}
 use Rattle.yaml_writer.proofs.SpellingLemmas.{same_spelling}
-use Rattle.yaml_writer.specs.NumberParts.{number_in}
-use Rattle.yaml_writer.specs.PlainTags.{word_meant, spelled_number, null_words, bool_words, float_words, IsWrittenPlain}
-use Rattle.yaml_writer.specs.PlainTags.{PlainTagsAreRead}
-use Rattle.yaml_writer.specs.Words.{is_one_of}
-use Rattle.yaml_writer.specs.Writing.{number_tag}
+use Rattle.yaml_writer.specs.{NumberParts.number_in, Words.is_one_of, Writing.number_tag}
+use Rattle.yaml_writer.specs.PlainTags.{word_meant, spelled_number, null_words, bool_words, float_words, IsWrittenPlain, PlainTagsAreRead}
 
 -- equal options hold the same
 some_same : {A : Type 0} {a b : A} → Some a ≡ Some b → a ≡ b

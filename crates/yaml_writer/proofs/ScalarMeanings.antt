@@ -7,18 +7,12 @@ use Rattle.yaml_base.proofs.Common.{is_plain, resolved_by_core, resolved_by_11, 
 use Rattle.yaml_base.proofs.Common.{folded, TagDirective, Place, is_simple_at, charset_of, style_asked_at, choice_of, allowances, allowed_under}
 use Rattle.yaml_base.proofs.Common.{is_block, Choice, chosen, Stood, stood_plain, stood_quoted, Tagging, with_tag, without_tag, json_value}
 use Rattle.yaml_base.proofs.Common.{number_meant, means_number, Resolved, meant_integer, meant_decimal, meant_text, signed}
-use Rattle.yaml_base.proofs.JsonSpelling.{spelling_keeps_value}
-use Rattle.yaml_base.proofs.NumbersRead.{spelling_read}
-use Rattle.yaml_base.proofs.PlainUnderQuotes.{still_plain}
+use Rattle.yaml_base.proofs.{JsonSpelling.spelling_keeps_value, NumbersRead.spelling_read, PlainUnderQuotes.still_plain}
 use Rattle.yaml_base.proofs.stream_nodes.StreamAgrees.{node_tree, standing_in, tagging_in}
-use Rattle.yaml_base.specs.Places.{is_root}
-use Rattle.yaml_base.specs.Settings.{escapes_separators}
-use Rattle.yaml_base.specs.scalars.BlockHeader.{begins_blank}
-use Rattle.yaml_base.specs.values.JsonNumbers.{value_with}
+use Rattle.yaml_base.specs.{Places.is_root, Settings.escapes_separators, scalars.BlockHeader.begins_blank, values.JsonNumbers.value_with}
 use Rattle.yaml_base.specs.values.Resolved.{meant_null, meant_boolean, meant_by_nobody}
 use Rattle.yaml_base.specs.values.TypedValues.{null_tag, bool_tag, bool_text}
-use Rattle.yaml_writer.proofs.PlainLemmas.{plain_texts}
-use Rattle.yaml_writer.proofs.PlainNumbers.{written_numbers}
+use Rattle.yaml_writer.proofs.{PlainLemmas.plain_texts, PlainNumbers.written_numbers}
 use Rattle.yaml_writer.specs.Contents.{word_content, null_content, bool_content, number_content, text_content, collection_in}
 use Rattle.yaml_writer.specs.Means.{Schema, canonical_tag, scalar_meant, MeansNumber, MeansText}
 use Rattle.yaml_writer.specs.NumberParts.{number_in}

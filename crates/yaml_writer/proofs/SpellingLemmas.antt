@@ -1,11 +1,10 @@
 -- Which characters stand in a number's text and in its spelling: ASCII, so by bytes and by characters they are the same; and
 -- when both are the same.
-use Rattle.yaml_writer.proofs.Common.{ℕ, if◌then◌else◌, ◌==◌, is_some, Option, None, Some, codes, nat_lt, length, Bool, false, not, true, ◌&&◌, ◌||◌, List}
-use Rattle.yaml_writer.proofs.Common.{[], ◌++◌, ◌∷◌, refl, ◌≡◌, ltb-true, true≢false, append-nil, append_assoc, ap, sym, ◌∙◌, arith, and_parts, and_from}
-use Rattle.yaml_writer.proofs.Common.{list_all-append, encodes-chars, digit_from_value, digit_value, list_all, IsUtf8, encode_utf8_all, Text, is_word}
-use Rattle.yaml_writer.proofs.Common.{JsonExponent, JsonNumber, is_json_number, minus, exponent_text, json_text, fraction_or_default, is_json_integer}
-use Rattle.yaml_writer.proofs.Common.{exponent_spelled, yaml_number, is_decimal, first_meets, are_digits, IsNumber, IsNoNumber, is_fraction, is_exponent}
-use Rattle.yaml_writer.proofs.Common.{is_spelled}
+use Rattle.yaml_writer.proofs.Common.{ℕ, if◌then◌else◌, ◌==◌, is_some, Option, None, Some, codes, nat_lt, length, Bool, false, not, true, ◌&&◌, ◌||◌, List, []}
+use Rattle.yaml_writer.proofs.Common.{◌++◌, ◌∷◌, refl, ◌≡◌, ltb-true, true≢false, append-nil, append_assoc, ap, sym, ◌∙◌, arith, and_parts, and_from, list_all}
+use Rattle.yaml_writer.proofs.Common.{list_all-append, encodes-chars, digit_from_value, digit_value, IsUtf8, encode_utf8_all, Text, is_word, JsonExponent}
+use Rattle.yaml_writer.proofs.Common.{JsonNumber, is_json_number, minus, exponent_text, json_text, fraction_or_default, is_json_integer, exponent_spelled}
+use Rattle.yaml_writer.proofs.Common.{yaml_number, is_decimal, first_meets, are_digits, IsNumber, IsNoNumber, is_fraction, is_exponent, is_spelled}
 use Rattle.std.{proofs.lemmas.Bool.lt-ltb, proofs.lemmas.Str.encodes-IsAscii, proofs.lemmas.Str.chars-IsAscii, specs.Str.chars}
 use Rattle.yaml_base.{proofs.AsciiWords.is_ascii_text, proofs.AsciiWords.ascii_of, specs.values.JsonNumbers.exponent_negative}
 use Rattle.yaml_writer.{proofs.ValidNumbers.Valid, proofs.ValidNumbers.valid_parts, specs.Spellings.is_spelled_exponent}

@@ -1,9 +1,8 @@
 -- Of the events of a stream, each of which is in order, none is refused but for its depth.
-use Rattle.yaml_base.proofs.Common.{◌≤◌, is_none, unwrap_or, option_and_then, Option, None, Some, length, Bool, false, not, true, ◌&&◌, List, [], ◌++◌}
-use Rattle.yaml_base.proofs.Common.{◌∷◌, refl, ◌≡◌, append_assoc, ap, sym, ◌∙◌, and_parts, list_all-append, list_all}
-use Rattle.yaml_base.proofs.Common.{Event, Stream, after_stream, partial_of, most_open, begins_collection, open_count, is_sound}
-use Rattle.yaml_base.proofs.Common.{option_or, nat_lt, Partial, before_stream, push, pushed, some_if, name_or_tag_fault, content_fault, expected, place_fault}
-use Rattle.yaml_base.proofs.Common.{open_levels, depth_fault, refusal_at, refusal, stream_events}
+use Rattle.yaml_base.proofs.Common.{◌≤◌, is_none, unwrap_or, option_and_then, Option, None, Some, length, Bool, false, not, true, ◌&&◌, List, [], ◌++◌, ◌∷◌, ap}
+use Rattle.yaml_base.proofs.Common.{refl, ◌≡◌, append_assoc, sym, ◌∙◌, and_parts, list_all-append, list_all, Event, Stream, after_stream, partial_of, most_open}
+use Rattle.yaml_base.proofs.Common.{begins_collection, open_count, is_sound, option_or, nat_lt, Partial, before_stream, push, pushed, some_if, content_fault}
+use Rattle.yaml_base.proofs.Common.{name_or_tag_fault, expected, place_fault, open_levels, depth_fault, refusal_at, refusal, stream_events}
 use Rattle.yaml_base.{proofs.Accepted.begins_from_stands, proofs.Trees.stream_pushed}
 use Rattle.yaml_base.{proofs.Completions.pushed-append, proofs.Completions.prefix_is_partial, proofs.NoFaults.neither, proofs.NoFaults.is_none_none}
 use Rattle.yaml_base.specs.Refusal.{BeginsAccepted}

@@ -1,21 +1,16 @@
 -- What the calls of a writer come to for what its caller has taken, and what is left.
-use Rattle.yaml_writer.proofs.Common.{ℕ, IfErr, OnOk, Option, None, Some, Result, Err, Ok, drop, length, Bool, true, List, [], ◌++◌, ◌∷◌}
-use Rattle.yaml_writer.proofs.Common.{refl, ◌≡◌, ap, subst, sym, inr}
-use Rattle.yaml_writer.proofs.Common.{◌∙◌, prefix_then, Text, Event, Settings, StandsAfter, State, output_left}
-use Rattle.yaml_writer.proofs.Common.{Grows, WriterState, StandsTaken, AddsEvents, PassedEvents, GaveEvent}
-use Rattle.yaml_base.proofs.Common.{inl, ◌⊎◌}
+use Rattle.yaml_writer.proofs.Common.{ℕ, IfErr, OnOk, Option, None, Some, Result, Err, Ok, drop, length, Bool, true, List, [], ◌++◌, ◌∷◌, refl, ◌≡◌, ap, subst}
+use Rattle.yaml_writer.proofs.Common.{sym, inr, ◌∙◌, prefix_then, Text, Event, Settings, StandsAfter, State, output_left, Grows, WriterState, StandsTaken}
+use Rattle.yaml_writer.proofs.Common.{AddsEvents, PassedEvents, GaveEvent, option_or}
+use Rattle.yaml_base.proofs.Common.{inl, ◌⊎◌, append-nil}
 use Rattle.yaml_emitter.{proofs.Common.with_all_taken, proofs.Common.KeepsSet, specs.EmitsEvent.EmitsEvent, specs.EmitsEvent.EmitsScalar}
 use Rattle.yaml_emitter.specs.EmitsEvent.{CopyFailed, result_of_answer}
-use Rattle.yaml_emitter.specs.Moves.{Moves}
-use Rattle.yaml_base.proofs.Common.{append-nil}
+use Rattle.yaml_emitter.specs.{Moves.Moves, declared.borrowed.ScalarAnswer.ScalarAnswer}
 use Rattle.yaml_pen.proofs.Composing.{grows_itself}
-use Rattle.yaml_emitter.specs.declared.borrowed.ScalarAnswer.{ScalarAnswer}
 use Rattle.yaml_emitter.specs.declared.borrowed.ScalarAnswer.TheVariants.{Taken, NotTaken}
 use Rattle.yaml_base.{proofs.Prefixes.prefix_same, specs.declared.errors.yaml_error_t.yaml_error_t}
-use Rattle.yaml_writer.proofs.Common.{option_or}
 use Rattle.yaml_writer.specs.Writing.{Begins, Failed, Gives, tag_or_default, with_collection}
-use Rattle.yaml_base.specs.declared.kinds.CollectionKind.{CollectionKind}
-use Rattle.yaml_base.specs.declared.errors.yaml_error_t.TheVariants.{Memory}
+use Rattle.yaml_base.specs.{declared.kinds.CollectionKind.CollectionKind, declared.errors.yaml_error_t.TheVariants.Memory}
 
 -- a call of the emitter keeps what was taken
 pub still_taken : (given : Settings) (all more : List Event) (sent : List ℕ) (before after : State) → StandsTaken given all sent before

@@ -1,38 +1,28 @@
 -- What is read of typed events has the tags of the events.
-use Rattle.yaml_writer.proofs.Common.{if◌then◌else◌, is_some, option_map, Option, None, Some, Bool, false, not, true, ◌&&◌, ◌||◌, List, [], map, ◌++◌}
-use Rattle.yaml_writer.proofs.Common.{◌∷◌}
-use Rattle.yaml_writer.proofs.Common.{refl, ◌≡◌, ap, sym, ◌∙◌, and_parts, and_from, list_all-append, list_all, Text, Event, stream_end}
-use Rattle.yaml_writer.proofs.Common.{document_end}
-use Rattle.yaml_writer.proofs.Common.{sequence_start, mapping_start, Effective, surely_text}
+use Rattle.yaml_writer.proofs.Common.{if◌then◌else◌, is_some, option_map, Option, None, Some, Bool, false, not, true, ◌&&◌, ◌||◌, List, [], map, ◌++◌, ◌∷◌, ◌≡◌}
+use Rattle.yaml_writer.proofs.Common.{refl, ap, sym, ◌∙◌, and_parts, and_from, list_all-append, list_all, Text, Event, stream_end, document_end, sequence_start}
+use Rattle.yaml_writer.proofs.Common.{mapping_start, Effective, surely_text}
 use Rattle.yaml_base.proofs.Common.{bytes_eq, bytes_eq-Decides, false≢true, map-append, unwrap_or, ScalarStyle, stream_start, document_start, sequence_end}
-use Rattle.yaml_base.proofs.Common.{mapping_end}
-use Rattle.yaml_base.proofs.Common.{Scalar, TagDirective, scalar_tag, collection_tag, Node, alias_node, scalar_node, Nodes, sequence_node, Pairs, mapping_node}
-use Rattle.yaml_base.proofs.Common.{no_nodes, nodes_and, no_pairs, pairs_and, Document, Documents, no_documents, documents_and, Stream, node_events}
-use Rattle.yaml_base.proofs.Common.{nodes_events}
-use Rattle.yaml_base.proofs.Common.{pairs_events, document_events, documents_events, stream_events, Place, Choice, charset_of, style_asked_at}
-use Rattle.yaml_base.proofs.Common.{choice_of}
-use Rattle.yaml_base.proofs.Common.{allowed_under, allowances, is_empty, chosen, is_simple_at, is_simple, entry_place, as_item, as_key, as_value, has_no_nodes}
-use Rattle.yaml_base.proofs.Common.{has_no_pairs}
-use Rattle.yaml_base.proofs.Common.{is_written_in_flow, is_plain, stood_plain, stood_quoted, stood_bare, Tagging, with_tag, without_tag}
-use Rattle.yaml_base.proofs.Common.{DocumentTree, document_agrees, documents_in_order, agrees, resolved_by_core, resolved_by_11, meant_text}
-use Rattle.yaml_base.proofs.Common.{Collection, effective, directives_in_force, root_place}
-use Rattle.yaml_base.proofs.PlainUnderQuotes.{plain_under}
+use Rattle.yaml_base.proofs.Common.{mapping_end, Scalar, TagDirective, scalar_tag, collection_tag, Node, alias_node, scalar_node, Nodes, sequence_node, Pairs}
+use Rattle.yaml_base.proofs.Common.{mapping_node, no_nodes, nodes_and, no_pairs, pairs_and, Document, Documents, no_documents, documents_and, Stream, Place}
+use Rattle.yaml_base.proofs.Common.{node_events, nodes_events, pairs_events, document_events, documents_events, stream_events, Choice, charset_of, choice_of}
+use Rattle.yaml_base.proofs.Common.{style_asked_at, allowed_under, allowances, is_empty, chosen, is_simple_at, is_simple, entry_place, as_item, as_key, Tagging}
+use Rattle.yaml_base.proofs.Common.{as_value, has_no_nodes, has_no_pairs, is_written_in_flow, is_plain, stood_plain, stood_quoted, stood_bare, with_tag, agrees}
+use Rattle.yaml_base.proofs.Common.{without_tag, DocumentTree, document_agrees, documents_in_order, resolved_by_core, resolved_by_11, meant_text, Collection}
+use Rattle.yaml_base.proofs.Common.{effective, directives_in_force, root_place}
+use Rattle.yaml_base.proofs.{PlainUnderQuotes.plain_under, stream_nodes.StreamAgrees.document_tree_agrees}
 use Rattle.yaml_base.proofs.Trees.{tree_of-stream_events, one_tree}
 use Rattle.yaml_base.proofs.stream_documents.{StreamLawStands.agree_more, StreamWholeReads.document_trees}
 use Rattle.yaml_base.proofs.stream_nodes.StreamAgrees.{standing_in, tagging_in, node_tree, nodes_tree, pairs_tree, document_tree, node_agrees}
-use Rattle.yaml_base.proofs.stream_nodes.StreamAgrees.{document_tree_agrees}
 use Rattle.yaml_base.specs.graphs.Meetings.{string_tag, sequence_tag, mapping_tag}
-use Rattle.yaml_base.specs.streams.StreamContent.{is_same_text, tagging_agrees, tree_agrees, trees_agree, tree_pairs_agree, is_same_version}
-use Rattle.yaml_base.specs.streams.StreamContent.{are_same_directives}
-use Rattle.yaml_base.specs.streams.StreamContent.{documents_agree}
+use Rattle.yaml_base.specs.streams.StreamContent.{is_same_text, tagging_agrees, tree_agrees, trees_agree, tree_pairs_agree, is_same_version, documents_agree}
+use Rattle.yaml_base.specs.{streams.StreamContent.are_same_directives, values.SurelyText.is_surely_text}
 use Rattle.yaml_base.specs.values.CanonicalTags.{Schema, canonical_tag, tag_meant}
-use Rattle.yaml_base.specs.values.SurelyText.{is_surely_text}
 use Rattle.yaml_emitter.proofs.layouts.StreamsReadBack.{stream_found}
 use Rattle.yaml_writer.proofs.PlainTagLemmas.{plain_tags_read}
 use Rattle.yaml_writer.specs.PlainTags.{plain_tag, implies_tag, IsWrittenPlain}
 use Rattle.yaml_writer.specs.TypedEvents.{typed_by, typed_as, typed_from, typed_scalar, typed_event, tree_by, trees_by, pairs_by, document_by, says_tag}
-use Rattle.yaml_writer.specs.TypedEvents.{ReadsTags}
-use Rattle.yaml_writer.specs.TypedEvents.{TypedEventsAreRead}
+use Rattle.yaml_writer.specs.TypedEvents.{ReadsTags, TypedEventsAreRead}
 
 -- ---- typed trees, and their events
 

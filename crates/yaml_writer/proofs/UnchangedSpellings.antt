@@ -1,8 +1,7 @@
 -- A number's text is its spelling only where it stands as it is spelled.
-use Rattle.yaml_writer.proofs.Common.{ℕ, if◌then◌else◌, Option, None, Some, codes, length, Bool, false, not, true, ◌&&◌, ◌||◌, [], ◌++◌, ◌∷◌, refl, ◌≡◌}
-use Rattle.yaml_writer.proofs.Common.{length-append, true≢false, append_assoc, inr, ap, ◌∙◌, arith, Text, is_word, JsonExponent, JsonNumber, minus, json_text}
-use Rattle.yaml_writer.proofs.Common.{yaml_number, is_spelled}
-use Rattle.yaml_writer.proofs.Common.{◌==◌, list_all, nat_lt, and_parts}
+use Rattle.yaml_writer.proofs.Common.{ℕ, if◌then◌else◌, Option, None, Some, codes, length, Bool, false, not, true, ◌&&◌, ◌||◌, [], ◌++◌, ◌∷◌, refl, ◌≡◌, inr}
+use Rattle.yaml_writer.proofs.Common.{length-append, true≢false, append_assoc, ap, ◌∙◌, arith, Text, is_word, JsonExponent, JsonNumber, minus, json_text, ◌==◌}
+use Rattle.yaml_writer.proofs.Common.{yaml_number, is_spelled, list_all, nat_lt, and_parts}
 use Rattle.yaml_base.proofs.Common.{bytes_eq}
 use Rattle.yaml_writer.proofs.PlaceCuts.{no_letter_uncut}
 use Rattle.yaml_writer.specs.NumberParts.{around_point, cut_at_first, exponent_cut, fraction_cut, number_in}

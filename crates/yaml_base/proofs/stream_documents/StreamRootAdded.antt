@@ -7,9 +7,8 @@ use Rattle.yaml_base.proofs.Common.{is_spaces, without_blank_lines, node_read, R
 use Rattle.yaml_base.{proofs.stream_nodes.StreamAgrees.document_tree, specs.streams.StreamDocuments.after_root}
 use Rattle.yaml_base.proofs.stream_documents.{StreamDocumentReads.Headed, StreamDocumentReads.heading_parsed, StreamDocumentReads.nothing_parsed}
 use Rattle.yaml_base.proofs.stream_documents.{StreamRootLines.begins_shown, StreamRootLines.stands_below, StreamRootLines.Stood, StreamRootStood.root_tree}
-use Rattle.yaml_base.proofs.stream_documents.{StreamRoots.root_reads, StreamRoots.root_with_marker_reads, StreamRootsStand.rules_of}
-use Rattle.yaml_base.proofs.stream_documents.{StreamRootsStand.root_cursor}
-use Rattle.yaml_base.proofs.stream_documents.{StreamRootsStand.render_root, StreamSoFar.WalkProgress, StreamSoFar.prefix_alone, StreamSoFar.one_more}
+use Rattle.yaml_base.proofs.stream_documents.{StreamRoots.root_reads, StreamRoots.root_with_marker_reads, StreamRootsStand.rules_of, StreamSoFar.WalkProgress}
+use Rattle.yaml_base.proofs.stream_documents.{StreamRootsStand.root_cursor, StreamRootsStand.render_root, StreamSoFar.prefix_alone, StreamSoFar.one_more}
 use Rattle.yaml_base.proofs.stream_lines.{StreamSections.is_markerless, StreamSections.AllMarkerless, StreamTidyLaws.lines_after_first}
 use Rattle.yaml_base.proofs.stream_lines.{StreamUnread.read_markerless, StreamUnread.read_no_percent}
 use Rattle.yaml_base.proofs.stream_lines.StreamClosed.{closed, lines_behind, lines_broken, closed_behind, closed_both}

@@ -1,8 +1,7 @@
 -- A simple key in quotes is found where its text ends, before the `:` that follows it.
-use Rattle.yaml_base.proofs.Common.{arith, ℕ, if◌then◌else◌, ◌==◌, option_map, option_and_then, Option, None, Some, nat_le, length, Bool, false}
-use Rattle.yaml_base.proofs.Common.{true, ◌&&◌, [], ◌++◌, ◌∷◌, refl, ◌≡◌, append_assoc, ap, sym, ◌∙◌, option_or, Text, space}
-use Rattle.yaml_base.proofs.Common.{Stood, Tree, longest_key, ends_indicator, SimpleKey, without_last_space, word_but_alias, word_of_alias}
-use Rattle.yaml_base.proofs.Common.{key_of_text, key_ends, key_from, Rules, Properties, scalar_parsed}
+use Rattle.yaml_base.proofs.Common.{arith, ℕ, if◌then◌else◌, ◌==◌, option_map, option_and_then, Option, None, Some, nat_le, length, Bool, false, true, ◌&&◌, []}
+use Rattle.yaml_base.proofs.Common.{◌++◌, ◌∷◌, refl, ◌≡◌, append_assoc, ap, sym, ◌∙◌, option_or, Text, space, Stood, Tree, longest_key, ends_indicator, Rules}
+use Rattle.yaml_base.proofs.Common.{SimpleKey, without_last_space, word_but_alias, word_of_alias, key_of_text, key_ends, key_from, Properties, scalar_parsed}
 
 -- no `:` inside a text ends a key, where so much stands before it and a `:` after it
 abbrev pub NoKey : Rules → Text → Text → Text → Type 0

@@ -1,8 +1,7 @@
 -- The canonical reader makes the documents' contents of a stream's tokens.
 use Rattle.yaml_emitter.proofs.Common.{fold, Option, None, Some, Bool, false, not, true, ◌&&◌, List, [], ◌++◌, ◌∷◌, refl, ◌≡◌, append-nil, append_assoc, ap}
-use Rattle.yaml_emitter.proofs.Common.{sym, ◌∙◌, fold-append, Version, TagDirective, Document, Documents, no_documents, documents_and, has_directives}
-use Rattle.yaml_emitter.proofs.Common.{node_awaited, Head, Reading, within, token_read, documents_read, Token, document_begins, DocumentContent}
-use Rattle.yaml_emitter.proofs.Common.{documents_content}
+use Rattle.yaml_emitter.proofs.Common.{sym, ◌∙◌, fold-append, Version, TagDirective, Document, Documents, no_documents, documents_and, has_directives, Head}
+use Rattle.yaml_emitter.proofs.Common.{node_awaited, Reading, within, token_read, documents_read, Token, document_begins, DocumentContent, documents_content}
 use Rattle.yaml_base.specs.reading.{CanonicalReader.outside, CanonicalReader.no_head, CanonicalReader.canonical_documents_at_end, Content.document_content}
 use Rattle.yaml_emitter.proofs.canonical.{CanonicalEvents.EachNode, CanonicalFold.TagOf, CanonicalFold.node_fold}
 use Rattle.yaml_emitter.proofs.canonical.CanonicalTokens.{node_tokens, version_tokens, tag_line_tokens, end_tokens, document_tokens, left_open}

@@ -1,5 +1,5 @@
 -- What document markers and directives say to the canonical reader.
-use Rattle.yaml_base.proofs.Common.{and-false}
+use Rattle.yaml_base.proofs.Common.{and-false, slice_split, is_blank, is_read_break}
 use Rattle.yaml_base.proofs.AllPass.{all_pass, uncut_by}
 use Rattle.std.proofs.lemmas.List.Splits.{slice_split_at, slice_split_none}
 use Rattle.yaml_emitter.proofs.Common.{ℕ, ◌==◌, filter, Option, None, Some, codes, length, replicate, Bool, false, not, true, ◌||◌, List, [], ◌++◌, ◌∷◌, ◌⊎◌}
@@ -8,7 +8,6 @@ use Rattle.yaml_emitter.proofs.Common.{list_all-append, list_all, all_scalars, r
 use Rattle.yaml_emitter.proofs.Common.{Version, TagDirective, render_indicator, spaced, yaml_directive, render_closing_marker, render_version}
 use Rattle.yaml_emitter.proofs.Common.{render_tag_directive, render_tag_directives, render_document_marker, prefix_escaped, version_fault, exclamation_mark}
 use Rattle.yaml_emitter.proofs.Common.{prefix_fault, version_line, tag_line, document_begins, document_ends, free, tokens_from}
-use Rattle.yaml_base.proofs.Common.{slice_split, is_blank, is_read_break}
 use Rattle.yaml_base.proofs.PercentLaws.{decoded_prefix, prefix_begins}
 use Rattle.yaml_base.proofs.stream_documents.StreamHeadings.{handle_reads, version_of, version_form}
 use Rattle.yaml_base.specs.Indicators.{document_start, document_end}

@@ -1,26 +1,22 @@
 -- What the text of a node says to the canonical reader, after any text before it.
 use Rattle.yaml_base.proofs.Common.{and-false}
-use Rattle.yaml_emitter.proofs.Common.{ℕ, ◌≤◌, if◌then◌else◌, is_some, Option, None, Some, codes, Bool, false, not, true, ◌&&◌, List, [], ◌++◌, ◌∷◌, refl}
-use Rattle.yaml_emitter.proofs.Common.{◌≡◌, true≢false, append-nil, append_assoc, ap, subst, sym, ◌∙◌, arith, flat_map-append, all_scalars, Text, space}
-use Rattle.yaml_emitter.proofs.Common.{Cursor, render_then, new_line, space_if, indicator, TagDirective, Scalar, Collection, Event, alias, scalar}
-use Rattle.yaml_emitter.proofs.Common.{sequence_start, mapping_start, Node, alias_node, scalar_node, Nodes, sequence_node, Pairs, mapping_node, no_nodes}
-use Rattle.yaml_emitter.proofs.Common.{nodes_and, no_pairs, pairs_and, Piece, piece_text, text_of, Standing, RenderedPieces, render_properties, choice_of}
-use Rattle.yaml_emitter.proofs.Common.{scalar_lead, scalar_piece, alias_piece, start_piece, is_written_in_flow, Brackets, square, curly, render_end}
-use Rattle.yaml_emitter.proofs.Common.{end_piece, render_node, as_item, as_key, as_value, is_key, line_column, deeper, has_no_nodes, has_no_pairs}
-use Rattle.yaml_emitter.proofs.Common.{render_place, Effective, directives_fault, directives_in_force, Token, alias_token, scalar_token, opens_sequence}
-use Rattle.yaml_emitter.proofs.Common.{closes_sequence, opens_mapping, closes_mapping, double_quoted_body}
+use Rattle.yaml_emitter.proofs.Common.{ℕ, ◌≤◌, if◌then◌else◌, is_some, Option, None, Some, codes, Bool, false, not, true, ◌&&◌, List, [], ◌++◌, ◌∷◌, refl, ◌≡◌}
+use Rattle.yaml_emitter.proofs.Common.{true≢false, append-nil, append_assoc, ap, subst, sym, ◌∙◌, arith, flat_map-append, all_scalars, Text, space, Cursor}
+use Rattle.yaml_emitter.proofs.Common.{render_then, new_line, space_if, indicator, TagDirective, Scalar, Collection, Event, alias, scalar, sequence_start, Node}
+use Rattle.yaml_emitter.proofs.Common.{mapping_start, alias_node, scalar_node, Nodes, sequence_node, Pairs, mapping_node, no_nodes, nodes_and, no_pairs, Piece}
+use Rattle.yaml_emitter.proofs.Common.{pairs_and, piece_text, text_of, Standing, RenderedPieces, render_properties, choice_of, scalar_lead, scalar_piece, curly}
+use Rattle.yaml_emitter.proofs.Common.{alias_piece, start_piece, is_written_in_flow, Brackets, square, render_end, end_piece, render_node, as_item, as_key}
+use Rattle.yaml_emitter.proofs.Common.{as_value, is_key, line_column, deeper, has_no_nodes, has_no_pairs, render_place, Effective, directives_fault, Token}
+use Rattle.yaml_emitter.proofs.Common.{directives_in_force, alias_token, scalar_token, opens_sequence, closes_sequence, opens_mapping, closes_mapping, comma}
+use Rattle.yaml_emitter.proofs.{Common.double_quoted_body, canonical.CanonicalText.symbol_says, canonical.CanonicalTokens.pairs_tokens}
 use Rattle.yaml_base.specs.Layout.{is_undented, one_piece, is_simple, render_collection, render_nodes, render_pairs}
 use Rattle.yaml_emitter.proofs.canonical.{CanonicalEvents.EachNode, CanonicalEvents.EachItem, CanonicalEvents.EachPair, CanonicalNames.IsName}
 use Rattle.yaml_emitter.proofs.canonical.{CanonicalNames.alias_says, CanonicalQuotes.body_says}
-use Rattle.yaml_emitter.proofs.canonical.CanonicalPlaces.{in_canonical, Spot, place_of, spot_tokens, Fits, Entered, Follows}
-use Rattle.yaml_emitter.proofs.canonical.CanonicalPlaces.{place_says, opening_opens, place_opens, AnchorOk, demand_of}
-use Rattle.yaml_emitter.proofs.canonical.CanonicalPlaces.{properties_say, properties_fit}
+use Rattle.yaml_emitter.proofs.canonical.CanonicalPlaces.{in_canonical, Spot, place_of, spot_tokens, Fits, Entered, Follows, place_says, opening_opens}
+use Rattle.yaml_emitter.proofs.canonical.CanonicalPlaces.{place_opens, AnchorOk, demand_of, properties_say, properties_fit}
 use Rattle.yaml_emitter.proofs.canonical.CanonicalText.{Demand, anything, name_ends, space_next, Says, Opens, opens_append, opens_any, says_then, says_after}
 use Rattle.yaml_emitter.proofs.canonical.CanonicalText.{says_text, says_tokens, says_less, says_white, space_if-white, new_line-white, indicator_says}
-use Rattle.yaml_emitter.proofs.canonical.CanonicalText.{symbol_says}
-use Rattle.yaml_emitter.proofs.Common.{comma}
 use Rattle.yaml_emitter.proofs.canonical.CanonicalTokens.{anchor_tokens, tag_tokens, properties_tokens, entry_indicator, node_tokens, nodes_tokens}
-use Rattle.yaml_emitter.proofs.canonical.CanonicalTokens.{pairs_tokens}
 
 -- what an event's names and value must be
 abbrev pub EventOk : Event → Type 0

@@ -1,10 +1,8 @@
 -- What the indicators of places and the properties of nodes say to the canonical reader.
 use Rattle.yaml_emitter.proofs.Common.{ℕ, Option, None, Some, codes, Bool, false, true, List, [], ◌++◌, ◌∷◌, refl, ◌≡◌, append-nil, append_assoc, subst, sym}
-use Rattle.yaml_emitter.proofs.Common.{Text, Cursor, new_line, space_if, indicator, TagDirective, root_place, render_anchor, render_spelling}
-use Rattle.yaml_emitter.proofs.Common.{render_properties, entry_place, Role, as_root, as_item, as_key, as_value, Place, opening_or_comma, render_place}
-use Rattle.yaml_emitter.proofs.Common.{Effective, directives_fault, directives_in_force, spelling}
-use Rattle.yaml_emitter.proofs.Common.{spelled, Token, tag_token, opens_sequence, opens_mapping, key_token, value_token}
-use Rattle.yaml_emitter.proofs.Common.{comma}
+use Rattle.yaml_emitter.proofs.Common.{Text, Cursor, new_line, space_if, indicator, TagDirective, root_place, render_anchor, render_spelling, render_properties}
+use Rattle.yaml_emitter.proofs.Common.{entry_place, Role, as_root, as_item, as_key, as_value, Place, opening_or_comma, render_place, Effective, spelling, Token}
+use Rattle.yaml_emitter.proofs.Common.{directives_fault, directives_in_force, spelled, tag_token, opens_sequence, opens_mapping, key_token, value_token, comma}
 use Rattle.yaml_base.proofs.stream_nodes.StreamLeads.{spelling_text, spelling_ended}
 use Rattle.yaml_emitter.proofs.canonical.CanonicalNames.{IsName, anchor_says, IsTagText, tag_says, tag_text}
 use Rattle.yaml_emitter.proofs.canonical.CanonicalText.{Demand, anything, name_ends, space_next, Says, Opens, opens_append, opens_any, says_then, says_after}

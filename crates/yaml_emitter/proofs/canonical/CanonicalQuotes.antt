@@ -5,11 +5,10 @@ use Rattle.yaml_base.proofs.Common.{Text, is_space, hex_digit, hex_digits, Curso
 use Rattle.yaml_base.proofs.Common.{has_no_reading, Quoted, with_unit, after_step, quoted_from, quoted_reading, FoldUnit, folding_read, short_escapes}
 use Rattle.yaml_base.proofs.Common.{letter_among, escape_after_backslash, escape_text, needs_escape, character_text, double_inside, render_quote}
 use lib.Utf8.{scalar}
-use Rattle.yaml_base.specs.Cursor.{render_text}
+use Rattle.yaml_base.specs.{Cursor.render_text, Characters.backslash}
 use Rattle.yaml_base.specs.reading.CanonicalTokens.{Token, scalar_token, free, in_quotes, quotes_step, tokens_from}
 use Rattle.yaml_base.specs.reading.ReadDouble.{QuoteStep, quote_step, QuotedReading, double_quoted_prefix}
 use Rattle.yaml_base.specs.scalars.DoubleQuoted.{quote, ShortEscape, may_fold, space_kept, double_fold, double_character, double_quoted_body}
-use Rattle.yaml_base.specs.Characters.{backslash}
 use Rattle.yaml_emitter.proofs.canonical.CanonicalText.{anything, Says, scalars-append, says_white, new_line-white, step_fixed}
 use Rattle.yaml_scalar.proofs.DoubleReads.{double-prefix, double-rendered}
 

@@ -7,11 +7,10 @@ use Rattle.yaml_emitter.proofs.Common.{result_of_error, Wrote, OnOk}
 use Rattle.std.specs.Result.{IfErr}
 use Rattle.yaml_base.specs.{Event.CollectionStyle, Layout.entries_column, Layout.is_simple_collection, Steps.node_allowed}
 use Rattle.yaml_base.specs.Steps.{at_stream, at_document, at_document_end, at_nothing, stage_allows}
-use Rattle.yaml_emitter.specs.NodeEvents.{is_at_node}
+use Rattle.yaml_emitter.specs.NodeEvents.{is_at_node, first_entry, starts_undented}
 use Rattle.yaml_base.specs.{declared.errors.yaml_error_t.yaml_error_t, declared.errors.yaml_error_t.TheVariants.ExpectedNode}
 use Rattle.yaml_base.specs.{declared.errors.yaml_error_t.TheVariants.Memory, declared.errors.yaml_error_t.TheVariants.TooDeep}
 use Rattle.yaml_emitter.proofs.events_done.ProcessedBy.{IsInStream, processed_refused_at, processed_written_at, processed_cut_at, processed_after_writing}
-use Rattle.yaml_emitter.specs.NodeEvents.{first_entry, starts_undented}
 
 -- Starts of collections
 

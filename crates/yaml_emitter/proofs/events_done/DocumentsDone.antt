@@ -1,17 +1,15 @@
 -- A document's start, as a step of the emitter.
-use Rattle.yaml_emitter.proofs.Common.{if◌then◌else◌, ◌==◌, option_and_then, Option, None, Some, Err, Ok, nat_lt, Bool, false, not, true, ◌&&◌, ◌||◌, List}
-use Rattle.yaml_emitter.proofs.Common.{[], ◌++◌, ◌∷◌, refl, ◌≡◌, ap, sym, ◌∙◌, list_all, option_or, Text, is_alpha, Version, TagDirective, DocumentStart}
-use Rattle.yaml_emitter.proofs.Common.{Event, document_start, alias, scalar, sequence_start}
-use Rattle.yaml_emitter.proofs.Common.{mapping_start, scalar_tag, collection_tag, document_start_piece, some_if, properties_fault}
-use Rattle.yaml_emitter.proofs.Common.{name_or_tag_fault, content_fault, most_open, begins_collection, Frame, Stage, at_document, at_node, stage_refusal}
-use Rattle.yaml_emitter.proofs.Common.{name_fault, anchor_fault, tag_fault, version_fault, exclamation_mark, last_from, without_last, handle_fault}
-use Rattle.yaml_emitter.proofs.Common.{prefix_fault, directive_fault, gives_handle, next_directive_fault, directives_fault_after, directives_fault}
-use Rattle.yaml_emitter.proofs.Common.{directives_in_force, Processed, MachineState, piece_at, Page, Wrote}
+use Rattle.yaml_emitter.proofs.Common.{if◌then◌else◌, ◌==◌, option_and_then, Option, None, Some, Err, Ok, nat_lt, Bool, false, not, true, ◌&&◌, ◌||◌, List, []}
+use Rattle.yaml_emitter.proofs.Common.{◌++◌, ◌∷◌, refl, ◌≡◌, ap, sym, ◌∙◌, list_all, option_or, Text, is_alpha, Version, TagDirective, DocumentStart, Event}
+use Rattle.yaml_emitter.proofs.Common.{document_start, alias, scalar, sequence_start, mapping_start, scalar_tag, collection_tag, document_start_piece, some_if}
+use Rattle.yaml_emitter.proofs.Common.{properties_fault, name_or_tag_fault, content_fault, most_open, begins_collection, Frame, Stage, at_document, at_node}
+use Rattle.yaml_emitter.proofs.Common.{stage_refusal, name_fault, anchor_fault, tag_fault, version_fault, exclamation_mark, last_from, without_last, Processed}
+use Rattle.yaml_emitter.proofs.Common.{handle_fault, prefix_fault, directive_fault, gives_handle, next_directive_fault, directives_fault_after, MachineState}
+use Rattle.yaml_emitter.proofs.Common.{directives_fault, directives_in_force, piece_at, Page, Wrote}
 use Rattle.std.proofs.Common.{◌≢◌}
 use Rattle.yaml_base.specs.{Steps.stage_allows, Steps.stage_expected, Steps.frame_count, Tags.equals_integer, declared.errors.yaml_error_t.yaml_error_t}
-use Rattle.yaml_base.specs.declared.errors.yaml_error_t.TheVariants.{AliasAlphabet, AliasEmpty, AnchorAlphabet, AnchorEmpty, DuplicateDirective}
-use Rattle.yaml_base.specs.declared.errors.yaml_error_t.TheVariants.{IncompatibleVersion, Memory, TagHandleAlphabet, TagHandleEnd, TagHandleStart, TooDeep}
-use Rattle.yaml_base.specs.declared.errors.yaml_error_t.TheVariants.{WriteError}
+use Rattle.yaml_base.specs.declared.errors.yaml_error_t.TheVariants.{AliasAlphabet, AliasEmpty, AnchorAlphabet, AnchorEmpty, DuplicateDirective, Memory}
+use Rattle.yaml_base.specs.declared.errors.yaml_error_t.TheVariants.{IncompatibleVersion, TagHandleAlphabet, TagHandleEnd, TagHandleStart, TooDeep, WriteError}
 use Rattle.yaml_emitter.proofs.events_done.ProcessedBy.{processed_unwritten, processed_refused_at, processed_written_at, processed_cut_at}
 
 -- a fault other than that of the output's limit

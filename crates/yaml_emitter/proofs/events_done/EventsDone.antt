@@ -1,8 +1,7 @@
 -- Each event's work, as a step of the emitter.
-use Rattle.yaml_emitter.proofs.Common.{ℕ, if◌then◌else◌, ◌==◌, unwrap_or, IsSome, Option, None, Some, Err, Ok, Bool, false, true, refl, ◌≡◌, ap, sym, ◌∙◌}
-use Rattle.yaml_emitter.proofs.Common.{stream_start, stream_end, document_end, document_end_piece, stream_end_piece, Encoding, Effective, effective}
-use Rattle.yaml_emitter.proofs.Common.{at_stream, at_document, at_document_end, at_nothing, step, stage_refusal, Processed, MachineState, piece_at, Page}
-use Rattle.yaml_emitter.proofs.Common.{encoded, Wrote}
+use Rattle.yaml_emitter.proofs.Common.{ℕ, if◌then◌else◌, ◌==◌, unwrap_or, IsSome, Option, None, Some, Err, Ok, Bool, false, true, refl, ◌≡◌, ap, sym, ◌∙◌, step}
+use Rattle.yaml_emitter.proofs.Common.{stream_start, stream_end, document_end, document_end_piece, stream_end_piece, Encoding, Effective, effective, at_stream}
+use Rattle.yaml_emitter.proofs.Common.{at_document, at_document_end, at_nothing, stage_refusal, Processed, MachineState, piece_at, Page, encoded, Wrote}
 use Rattle.yaml_base.specs.declared.errors.yaml_error_t.{yaml_error_t}
 use Rattle.yaml_emitter.proofs.events_done.ProcessedBy.{processed_written_at, processed_cut_at}
 

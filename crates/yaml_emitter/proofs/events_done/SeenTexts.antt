@@ -3,8 +3,7 @@ use Rattle.yaml_emitter.proofs.Common.{option_map, Option, None, Some, true, Lis
 use Rattle.yaml_emitter.proofs.Common.{Event, scalar, has_scalar_values, option_scalars, directive_scalars, has_scalar_texts, seen_directive, seen_event}
 use Rattle.std.{proofs.Common.String, proofs.lemmas.Str.IsUtf8-string_bytes, proofs.lemmas.Str.scalars-chars, specs.String.string_bytes}
 use Rattle.yaml_base.specs.{Seen.seen_text, declared.directives.yaml_tag_directive_t.yaml_tag_directive_t, declared.events.yaml_event_t.yaml_event_t}
-use Rattle.yaml_base.specs.declared.events.yaml_event_t.TheVariants.{YAML_DOCUMENT_START_EVENT}
-use Rattle.yaml_base.specs.declared.events.yaml_event_t.TheVariants.{YAML_MAPPING_START_EVENT, YAML_SCALAR_EVENT}
+use Rattle.yaml_base.specs.declared.events.yaml_event_t.TheVariants.{YAML_DOCUMENT_START_EVENT, YAML_MAPPING_START_EVENT, YAML_SCALAR_EVENT}
 use Rattle.yaml_base.specs.declared.events.yaml_event_t.TheVariants.{YAML_SEQUENCE_START_EVENT}
 
 string_scalars : {A : Type 0} (text : String A) → all_scalars (seen_text text) ≡ true

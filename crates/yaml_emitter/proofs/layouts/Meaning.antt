@@ -1,13 +1,11 @@
 -- What holds of each body that a value allows holds of all bodies of a stream's layout: so each scalar of it reads back as
 -- exactly its value.
-use Rattle.yaml_emitter.proofs.Common.{ℕ, if◌then◌else◌, unwrap_or, option_map, Option, None, Some, nat_le, negsuc, pos, ℤ, Bool, false, true, ◌&&◌}
-use Rattle.yaml_emitter.proofs.Common.{List, [], ◌∷◌, refl, ◌≡◌, ap, subst, sym, ◌∙◌, arith, and_parts, All-nil, All-cons, All, list_all}
-use Rattle.yaml_emitter.proofs.Common.{tree_of-stream_events, Cursor, ScalarStyle, TagDirective, Scalar, Event, stream_start, stream_end, document_start}
-use Rattle.yaml_emitter.proofs.Common.{document_end, scalar, sequence_end, mapping_end, Stream, stream_events, first_standing, layout, Piece}
-use Rattle.yaml_emitter.proofs.Common.{Standing, render_body, choice_of, scalar_lead, body_at, scalar_piece, Place, deeper}
-use Rattle.yaml_emitter.proofs.Common.{BodyMeans}
-use Rattle.yaml_emitter.proofs.Common.{has_scalar_values, list_layout, IsAccepted, Effective, effective, Frame, Stage, at_stream, at_document, at_node}
-use Rattle.yaml_emitter.proofs.Common.{at_document_end, node_step, step, ends_next, steps}
+use Rattle.yaml_emitter.proofs.Common.{ℕ, if◌then◌else◌, unwrap_or, option_map, Option, None, Some, nat_le, negsuc, pos, ℤ, Bool, false, true, ◌&&◌, List, []}
+use Rattle.yaml_emitter.proofs.Common.{◌∷◌, refl, ◌≡◌, ap, subst, sym, ◌∙◌, arith, and_parts, All-nil, All-cons, All, list_all, tree_of-stream_events, Cursor}
+use Rattle.yaml_emitter.proofs.Common.{ScalarStyle, TagDirective, Scalar, Event, stream_start, stream_end, document_start, document_end, scalar, sequence_end}
+use Rattle.yaml_emitter.proofs.Common.{mapping_end, Stream, stream_events, first_standing, layout, Piece, Standing, render_body, choice_of, scalar_lead, Place}
+use Rattle.yaml_emitter.proofs.Common.{body_at, scalar_piece, deeper, BodyMeans, has_scalar_values, list_layout, IsAccepted, Effective, effective, Frame, Stage}
+use Rattle.yaml_emitter.proofs.Common.{at_stream, at_document, at_node, at_document_end, node_step, step, ends_next, steps}
 use Rattle.yaml_base.proofs.Common.{leb-true, Body, bodies_of, MeaningIsKept, effective_indent}
 use Rattle.yaml_base.proofs.StepLaws.{stream_steps}
 use Rattle.yaml_emitter.proofs.layouts.{MeaningBodies.IsIndent, MeaningBodies.body_means, MeaningStyles.AllowsUnder, MeaningStyles.choice_allowed}

@@ -1,9 +1,8 @@
 -- The style that is chosen for a scalar is one that its value allows where it stands.
-use Rattle.yaml_emitter.proofs.Common.{allowed_by_quotes, allowed_by_blanks, if◌then◌else◌, Bool, false, not, true, ◌&&◌, ◌||◌, refl, ◌≡◌, and_parts}
-use Rattle.yaml_emitter.proofs.Common.{ScalarStyle, any_style, plain, single_quoted}
-use Rattle.yaml_emitter.proofs.Common.{double_quoted, literal, folded, Allowances, requested_style, quoted_style, fitting_style, fits_plain, chosen}
-use Rattle.yaml_emitter.proofs.Common.{is_some, subst, sym, ◌∙◌, false≢true, Text, Scalar, scalar_tag, charset_of, style_asked_at, choice_of, Place, Effective}
-use Rattle.yaml_emitter.proofs.Common.{is_empty, allowances, inl, inr}
+use Rattle.yaml_emitter.proofs.Common.{allowed_by_quotes, allowed_by_blanks, if◌then◌else◌, Bool, false, not, true, ◌&&◌, ◌||◌, refl, ◌≡◌, and_parts, any_style}
+use Rattle.yaml_emitter.proofs.Common.{ScalarStyle, plain, single_quoted, double_quoted, literal, folded, Allowances, requested_style, quoted_style, fits_plain}
+use Rattle.yaml_emitter.proofs.Common.{fitting_style, chosen, is_some, subst, sym, ◌∙◌, false≢true, Text, Scalar, scalar_tag, charset_of, style_asked_at, Place}
+use Rattle.yaml_emitter.proofs.Common.{choice_of, Effective, is_empty, allowances, inl, inr}
 use Rattle.yaml_base.proofs.{Charsets.literal_of_block, Common.allows_block, Common.allows_literal, Common.is_literal, Common.is_block, Common.true≢false}
 use Rattle.yaml_base.proofs.Common.{◌⊎◌}
 use Rattle.yaml_base.specs.{Places.is_root, scalars.BlockHeader.begins_blank}

@@ -13,8 +13,7 @@ use Rattle.yaml_emitter.proofs.Common.{exclamation_mark, Spelling, spelling, any
 use Rattle.yaml_base.proofs.Common.{version_1_1, version_1_2, empty_or_comma, key_indicator}
 use Rattle.yaml_base.specs.{Cursor.render_name, Indicators.document_start, Indicators.document_end, Indicators.tag_directive, Layout.then_line_end}
 use Rattle.yaml_base.specs.{Layout.version_word}
-use Rattle.yaml_emitter.proofs.canonical.CanonicalNames.{is_written, all_written, alphas-written, escaped-written, suffix-written, prefix-written}
-use Rattle.yaml_emitter.proofs.canonical.CanonicalNames.{handle_text}
+use Rattle.yaml_emitter.proofs.canonical.CanonicalNames.{is_written, all_written, alphas-written, escaped-written, suffix-written, prefix-written, handle_text}
 use Rattle.yaml_emitter.proofs.canonical.CanonicalPlaces.{AnchorOk}
 use Rattle.yaml_scalar.proofs.{LineTexts.any_cond, Sparing.lacks_graph}
 

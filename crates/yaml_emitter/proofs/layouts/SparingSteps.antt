@@ -1,16 +1,14 @@
 -- The pieces of a stream's events hold no character that meets a test which spares printable ASCII and LF, where no body that a
 -- value allows does.
-use Rattle.yaml_emitter.proofs.Common.{ℕ, if◌then◌else◌, ◌==◌, option_and_then, Option, None, Bool, false, not, true, ◌&&◌, List, [], ◌++◌, ◌∷◌}
-use Rattle.yaml_emitter.proofs.Common.{refl, ◌≡◌, and_parts, list_all, list_any, neither, AreFound, in_force_found, Text, is_alpha, Cursor, Rendered}
-use Rattle.yaml_emitter.proofs.Common.{render_then, new_line, ScalarStyle, TagDirective, Scalar, Collection, Event, stream_start, stream_end, document_start}
-use Rattle.yaml_emitter.proofs.Common.{document_end, alias, scalar, sequence_start, sequence_end, mapping_start, mapping_end, scalar_tag, collection_tag}
-use Rattle.yaml_emitter.proofs.Common.{render_if, render_closing_marker, render_document_start, document_end_piece, Piece, piece_text, text_of, Standing}
-use Rattle.yaml_emitter.proofs.Common.{render_properties, render_alias, render_separation, render_body, choice_of, scalar_lead}
-use Rattle.yaml_emitter.proofs.Common.{scalar_piece}
-use Rattle.yaml_emitter.proofs.Common.{start_piece, Brackets, square, curly, render_end, end_piece, Place, is_key, deeper, is_simple_alias, render_place}
-use Rattle.yaml_emitter.proofs.Common.{name_or_tag_fault, content_fault, is_sound, Effective, Frame, Stage, at_stream, at_document, at_node, at_document_end}
-use Rattle.yaml_emitter.proofs.Common.{next_place, stage_after, is_first, node_step, step, ends_next, steps, version_fault, directives_fault}
-use Rattle.yaml_emitter.proofs.Common.{any_both, Spares, lacks_line}
+use Rattle.yaml_emitter.proofs.Common.{ℕ, if◌then◌else◌, ◌==◌, option_and_then, Option, None, Bool, false, not, true, ◌&&◌, List, [], ◌++◌, ◌∷◌, refl, ◌≡◌}
+use Rattle.yaml_emitter.proofs.Common.{and_parts, list_all, list_any, neither, AreFound, in_force_found, Text, is_alpha, Cursor, Rendered, render_then, Scalar}
+use Rattle.yaml_emitter.proofs.Common.{new_line, ScalarStyle, TagDirective, Collection, Event, stream_start, stream_end, document_start, document_end, alias}
+use Rattle.yaml_emitter.proofs.Common.{scalar, sequence_start, sequence_end, mapping_start, mapping_end, scalar_tag, collection_tag, render_if, Piece, text_of}
+use Rattle.yaml_emitter.proofs.Common.{render_closing_marker, render_document_start, document_end_piece, piece_text, Standing, render_properties, render_alias}
+use Rattle.yaml_emitter.proofs.Common.{render_separation, render_body, choice_of, scalar_lead, scalar_piece, start_piece, Brackets, square, curly, render_end}
+use Rattle.yaml_emitter.proofs.Common.{end_piece, Place, is_key, deeper, is_simple_alias, render_place, name_or_tag_fault, content_fault, is_sound, Effective}
+use Rattle.yaml_emitter.proofs.Common.{Frame, Stage, at_stream, at_document, at_node, at_document_end, next_place, stage_after, is_first, node_step, step}
+use Rattle.yaml_emitter.proofs.Common.{ends_next, steps, version_fault, directives_fault, any_both, Spares, lacks_line}
 use Rattle.yaml_base.proofs.NoFaults.{is_none_none}
 use Rattle.yaml_base.specs.declared.errors.yaml_error_t.TheVariants.{AliasAlphabet, AliasEmpty}
 use Rattle.yaml_emitter.proofs.canonical.{CanonicalPlaces.AnchorOk, CanonicalSound.name_is, CanonicalSound.anchor_is}

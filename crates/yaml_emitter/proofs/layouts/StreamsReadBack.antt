@@ -1,7 +1,6 @@
 -- Every stream reads back, in every mode.
-use Rattle.yaml_emitter.proofs.Common.{Option, Some, not, true, List, ◌≡◌, ap, sym, ◌∙◌, list_all, literal, Event, Piece, text_of, charset_of}
-use Rattle.yaml_emitter.proofs.Common.{has_scalar_texts, text_written, bytes_written, list_layout, IsAccepted, Encoding, Settings, effective, reads_alike}
-use Rattle.yaml_emitter.proofs.Common.{agrees, stream_trees}
+use Rattle.yaml_emitter.proofs.Common.{Option, Some, not, true, List, ◌≡◌, ap, sym, ◌∙◌, list_all, literal, Event, Piece, text_of, charset_of, has_scalar_texts}
+use Rattle.yaml_emitter.proofs.Common.{text_written, bytes_written, list_layout, IsAccepted, Encoding, Settings, effective, reads_alike, agrees, stream_trees}
 use Rattle.yaml_base.proofs.Common.{is_tidy_character}
 use Rattle.yaml_base.proofs.{CallerLaws.breaks_agree, stream_documents.StreamLawStands.stream_read_back, stream_documents.StreamWholeReads.document_trees}
 use Rattle.yaml_base.proofs.stream_documents.StreamAllStand.{LayoutsAreShown, LayoutsAreRead, StreamsStand, streams_stand, streams_read_back}

@@ -1,13 +1,11 @@
 -- A scalar that stands plain as it is: plain is chosen for it, and nothing but its place stands before it.
-use Rattle.yaml_emitter.proofs.Common.{ℕ, ◌+◌, if◌then◌else◌, is_some, option_map, Option, None, Some, Result, Bool, false, not, true, ◌&&◌, ◌||◌, List, []}
-use Rattle.yaml_emitter.proofs.Common.{◌∷◌, refl, ◌≡◌, ap, subst, sym, ◌∙◌}
-use Rattle.yaml_emitter.proofs.Common.{and_parts, false≢true, Text, Cursor, Rendered, render_then, ScalarStyle, any_style}
+use Rattle.yaml_emitter.proofs.Common.{ℕ, ◌+◌, if◌then◌else◌, is_some, option_map, Option, None, Some, Result, Bool, false, not, true, ◌&&◌, ◌||◌, List, [], ap}
+use Rattle.yaml_emitter.proofs.Common.{◌∷◌, refl, ◌≡◌, subst, sym, ◌∙◌, and_parts, false≢true, Text, Cursor, Rendered, render_then, ScalarStyle, any_style}
 use Rattle.yaml_emitter.proofs.Common.{plain, single_quoted, double_quoted, literal, folded, TagDirective, scalar_tag, render_anchor, charset_of, choice_of}
-use Rattle.yaml_emitter.proofs.Common.{allowed_by_quotes, allowed_by_blanks, allowed_under}
-use Rattle.yaml_emitter.proofs.Common.{scalar_piece, Place, deeper, byte_count, name_count, tag_count, is_short, is_simple_scalar, render_place}
-use Rattle.yaml_emitter.proofs.Common.{seen_scalar_style, Effective, Spelling, spelling, Charset, Allowances, is_empty, allows_plain, Choice}
-use Rattle.yaml_emitter.proofs.Common.{lacks_tag_and_flags, is_plain, requested_style, quoted_style, fitting_style, fits_plain, chosen, seen_name}
-use Rattle.yaml_emitter.proofs.Common.{seen_scalar, render_scalar_text, StandsPlain, render_spelled_tag, piece_at, Page, Wrote}
+use Rattle.yaml_emitter.proofs.Common.{allowed_by_quotes, allowed_by_blanks, allowed_under, scalar_piece, Place, deeper, byte_count, name_count, tag_count}
+use Rattle.yaml_emitter.proofs.Common.{is_short, is_simple_scalar, render_place, seen_scalar_style, Effective, Spelling, spelling, Charset, Allowances, Choice}
+use Rattle.yaml_emitter.proofs.Common.{is_empty, allows_plain, lacks_tag_and_flags, is_plain, requested_style, quoted_style, fitting_style, fits_plain, chosen}
+use Rattle.yaml_emitter.proofs.Common.{seen_name, seen_scalar, render_scalar_text, StandsPlain, render_spelled_tag, piece_at, Page, Wrote}
 use Rattle.std.proofs.{Common.chars, lemmas.Bool.not-true}
 use Rattle.yaml_base.proofs.Common.{Scalar, is_literal}
 use Rattle.yaml_base.specs.{Places.is_root, scalars.BlockHeader.begins_blank, scalars.Style.is_block}

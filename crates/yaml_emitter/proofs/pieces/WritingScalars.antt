@@ -1,20 +1,17 @@
 -- Scalars: what the writers of the styles write is the text that the layout puts there, and with what stands before it
 -- the scalar's piece.
-use Rattle.yaml_emitter.proofs.Common.{ℕ, if◌then◌else◌, ◌==◌, option_map, Option, None, Result, Err, Ok, negsuc, pos, ℤ, length, Bool}
-use Rattle.yaml_emitter.proofs.Common.{false, not, true, ◌&&◌, List, refl, ◌≡◌, append_assoc, inl, inr, ap, subst, sym, ◌∙◌, arith, and_parts, ints}
-use Rattle.yaml_emitter.proofs.Common.{chars, Text, Cursor, Rendered, render_then, ScalarStyle, any_style, plain, single_quoted}
-use Rattle.yaml_emitter.proofs.Common.{double_quoted, literal, folded, TagDirective, Scalar, scalar_tag, render_anchor, render_properties, render_separation}
-use Rattle.yaml_emitter.proofs.Common.{render_body, allowed_under, charset_of, choice_of, scalar_piece, Place, deeper, render_place, Effective, Spelling}
-use Rattle.yaml_emitter.proofs.Common.{spelling, Charset}
-use Rattle.yaml_emitter.proofs.Common.{Allowances, is_empty, Choice, quoted_style, fitting_style}
-use Rattle.yaml_emitter.proofs.Common.{seen_effective, render_scalar_text, style_fits, render_spelled_tag, piece_at, wrote_as, Page, Wrote}
+use Rattle.yaml_emitter.proofs.Common.{ℕ, if◌then◌else◌, ◌==◌, option_map, Option, None, Result, Err, Ok, negsuc, pos, ℤ, length, Bool, false, not, true, ◌&&◌}
+use Rattle.yaml_emitter.proofs.Common.{List, refl, ◌≡◌, append_assoc, inl, inr, ap, subst, sym, ◌∙◌, arith, and_parts, ints, chars, Text, Cursor, Rendered}
+use Rattle.yaml_emitter.proofs.Common.{render_then, ScalarStyle, any_style, plain, single_quoted, double_quoted, literal, folded, TagDirective, Scalar, Place}
+use Rattle.yaml_emitter.proofs.Common.{scalar_tag, render_anchor, render_properties, render_separation, render_body, allowed_under, charset_of, choice_of, Page}
+use Rattle.yaml_emitter.proofs.Common.{scalar_piece, deeper, render_place, Effective, Spelling, spelling, Charset, Allowances, is_empty, Choice, quoted_style}
+use Rattle.yaml_emitter.proofs.Common.{fitting_style, seen_effective, render_scalar_text, style_fits, render_spelled_tag, piece_at, wrote_as, Wrote}
 use Rattle.yaml_base.proofs.Charsets.{literal_allowed}
 use Rattle.yaml_base.proofs.Common.{allows_literal, false≢true, [], ◌∷◌}
 use Rattle.yaml_scalar.proofs.Common.{limit_of, limit_where}
 use Rattle.std.{proofs.Common.◌≤ℤ◌, proofs.lemmas.Bool.cases_Bool, specs.Result.IfOk, specs.Result.MatchResult, specs.Str.IsUtf8}
-use Rattle.yaml_base.specs.declared.errors.yaml_error_t.{yaml_error_t}
+use Rattle.yaml_base.specs.{declared.errors.yaml_error_t.yaml_error_t, scalars.SingleQuoted.render_single_quoted}
 use Rattle.yaml_base.specs.scalars.{DoubleQuoted.render_double_quoted, Folded.render_folded, Literal.render_literal, Plain.render_plain}
-use Rattle.yaml_base.specs.scalars.SingleQuoted.{render_single_quoted}
 use Rattle.yaml_base.specs.{Layout.open_ended_after, Seen.seen_scalar_style, declared.styles.yaml_scalar_style_t.yaml_scalar_style_t}
 use Rattle.yaml_base.specs.declared.styles.yaml_scalar_style_t.TheVariants.{YAML_ANY_SCALAR_STYLE, YAML_PLAIN_SCALAR_STYLE}
 use Rattle.yaml_base.specs.declared.styles.yaml_scalar_style_t.TheVariants.{YAML_SINGLE_QUOTED_SCALAR_STYLE, YAML_DOUBLE_QUOTED_SCALAR_STYLE}

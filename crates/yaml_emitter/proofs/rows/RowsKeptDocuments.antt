@@ -1,11 +1,10 @@
 -- Worked rows: two documents, and what follows them. An output that keeps what was flushed begins with all bytes of the two, whatever
 -- comes in the third: an event that is refused, a want of memory, a limit that is passed. So it isn't empty.
-use Rattle.yaml_emitter.proofs.Common.{ℕ, ◌≤◌, None, Some, codes, length, false, true, List, [], ◌++◌, ◌∷◌, refl, ◌≡◌, subst, arith, Text, any_style}
-use Rattle.yaml_emitter.proofs.Common.{DocumentStart, Event, document_start, mapping_end, scalar_node, Document, Documents, no_documents, documents_and}
-use Rattle.yaml_emitter.proofs.Common.{settings_for, bytes_written, pieces, IsPrefix, refusal, nothing_given, BeginsOutput, State, StaysFlushed}
-use Rattle.yaml_emitter.proofs.Common.{whole_documents, KeepsDocuments}
+use Rattle.yaml_emitter.proofs.Common.{ℕ, ◌≤◌, None, Some, codes, length, false, true, List, [], ◌++◌, ◌∷◌, refl, ◌≡◌, subst, arith, Text, any_style, Event}
+use Rattle.yaml_emitter.proofs.Common.{DocumentStart, document_start, mapping_end, scalar_node, Document, Documents, no_documents, documents_and, settings_for}
+use Rattle.yaml_emitter.proofs.Common.{bytes_written, pieces, IsPrefix, refusal, nothing_given, BeginsOutput, State, StaysFlushed, whole_documents, Option}
+use Rattle.yaml_emitter.proofs.Common.{KeepsDocuments, stream_end, BeginsAccepted, most_open, Promised}
 use Rattle.yaml_base.specs.declared.errors.{yaml_error_t.yaml_error_t, yaml_error_t.TheVariants.ExpectedDocumentStart, yaml_error_t.TheVariants.ExpectedNode}
-use Rattle.yaml_emitter.proofs.Common.{Option, stream_end, BeginsAccepted, most_open, Promised}
 use Rattle.yaml_emitter.proofs.{AcceptedLists.few_open, standing.KeptDocuments.documents_kept}
 use Rattle.yaml_emitter.specs.{KeptDocuments.DocumentsStay, KeptDocuments.KeepsAcceptedDocuments}
 

@@ -1,15 +1,12 @@
 -- What an emitter keeps true.
-use Rattle.yaml_emitter.proofs.Common.{ℕ, ◌<◌, ◌≤◌, vec_len, vec_capacity, length, false, true, List, [], map, ◌++◌, ◌∷◌, refl, ◌≡◌, ap, sym}
-use Rattle.yaml_emitter.proofs.Common.{◌∙◌, arith, length-map, map-append, Event, Scalar, scalar, seen_event, seen_events, Settings, state_of, IsEmitter}
-use Rattle.yaml_emitter.proofs.Common.{is_head_ready, State, MachineState}
-use Rattle.yaml_emitter.proofs.Common.{Option, None, Some, Bool, true, false≢true, is_ready, ◌==◌, ◌&&◌, ◌||◌, nat_lt, list_any, is_balanced}
-use Rattle.yaml_emitter.proofs.Common.{and_parts, eqb-true, nonempty_prefixes, awaited, document_start, sequence_start, mapping_start}
+use Rattle.yaml_emitter.proofs.Common.{ℕ, ◌<◌, ◌≤◌, vec_len, vec_capacity, length, false, true, List, [], map, ◌++◌, ◌∷◌, refl, ◌≡◌, ap, sym, ◌∙◌, arith, Event}
+use Rattle.yaml_emitter.proofs.Common.{length-map, map-append, Scalar, scalar, seen_event, seen_events, Settings, state_of, IsEmitter, is_head_ready, State}
+use Rattle.yaml_emitter.proofs.Common.{MachineState, Option, None, Some, Bool, false≢true, is_ready, ◌==◌, ◌&&◌, ◌||◌, nat_lt, list_any, is_balanced, and_parts}
+use Rattle.yaml_emitter.proofs.Common.{eqb-true, nonempty_prefixes, awaited, document_start, sequence_start, mapping_start}
 use Rattle.yaml_base.proofs.ReadyLaws.{ready_stays}
 use Rattle.yaml_base.specs.Event.{any_style}
 use Rattle.yaml_emitter.proofs.standing.StandingPromises.{held_few, most_few}
-use Rattle.yaml_emitter.specs.EmitsEvent.{StillWait}
-use Rattle.yaml_emitter.specs.Queue.{StandsLast}
-use Rattle.yaml_emitter.specs.declared.emitter.yaml_emitter_t.TheInside.{Inside}
+use Rattle.yaml_emitter.specs.{EmitsEvent.StillWait, Queue.StandsLast, declared.emitter.yaml_emitter_t.TheInside.Inside}
 
 -- Where the first event that waits isn't ready, at most three wait.
 pub waiting_few : {E : Type 0} (seen : E → Event) (xs : List E) → is_head_ready (map seen xs) ≡ false → length xs ≤ 3

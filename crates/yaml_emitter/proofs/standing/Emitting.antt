@@ -1,8 +1,7 @@
 -- The events that wait are written one after another.
-use Rattle.yaml_emitter.proofs.Common.{suc, ℕ, ◌+◌, ◌-◌, ◌≤◌, if◌then◌else◌, None, Result, Err, Ok, drop, length, take, Bool, false, true, List, []}
-use Rattle.yaml_emitter.proofs.Common.{map, ◌++◌, ◌∷◌, refl, ◌≡◌, drop-drop, ap, subst, sym, ◌∙◌, arith, drop-map, length-map, written-append, Event}
-use Rattle.yaml_emitter.proofs.Common.{sequence_start, mapping_start}
-use Rattle.yaml_emitter.proofs.Common.{is_ready, written, held_back, Settings, closes_at_once, Processed, is_head_ready, StandsWithoutError}
+use Rattle.yaml_emitter.proofs.Common.{suc, ℕ, ◌+◌, ◌-◌, ◌≤◌, if◌then◌else◌, None, Result, Err, Ok, drop, length, take, Bool, false, true, List, [], map, ◌++◌}
+use Rattle.yaml_emitter.proofs.Common.{◌∷◌, refl, ◌≡◌, drop-drop, ap, subst, sym, ◌∙◌, arith, drop-map, length-map, written-append, Event, sequence_start}
+use Rattle.yaml_emitter.proofs.Common.{mapping_start, is_ready, written, held_back, Settings, closes_at_once, Processed, is_head_ready, StandsWithoutError}
 use Rattle.yaml_emitter.proofs.Common.{MachineStands, StateStands, HasReached, ReachedOn, ProcessedFirst, State, MachineState, machine_of}
 use Rattle.std.proofs.lemmas.List.{length-drop, take_rest}
 use Rattle.yaml_base.specs.declared.errors.{yaml_error_t.yaml_error_t, yaml_error_t.TheVariants.Memory, yaml_error_t.TheVariants.WriteError}

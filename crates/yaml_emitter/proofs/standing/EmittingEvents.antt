@@ -1,8 +1,7 @@
 -- A call that gives an event, from what its steps did.
 use Rattle.yaml_emitter.proofs.Common.{IsSome, ℕ, Bool, Option, None, Some, Result, Err, Ok, take, drop, false, true, List, [], ◌++◌, ◌∷◌, refl, ◌≡◌, ap, subst}
 use Rattle.yaml_emitter.proofs.Common.{sym, ◌∙◌, arith, KeepsGiven, failed_by, false≢true, Event, has_scalar_texts, written, Settings, is_head_ready, Processed}
-use Rattle.yaml_emitter.proofs.Common.{MachineStands, HasReached, StateStands}
-use Rattle.yaml_emitter.proofs.Common.{StandsAfter, State, MachineState, machine_of, KeepsSet, result_of_error, Grows}
+use Rattle.yaml_emitter.proofs.Common.{MachineStands, HasReached, StateStands, StandsAfter, State, MachineState, machine_of, KeepsSet, result_of_error, Grows}
 use Rattle.std.specs.Prelude.{IsOk}
 use Rattle.yaml_base.specs.declared.errors.{yaml_error_t.yaml_error_t}
 use Rattle.yaml_emitter.specs.StandsAfter.{FailedReady}

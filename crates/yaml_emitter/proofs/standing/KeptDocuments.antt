@@ -1,12 +1,11 @@
 -- The bytes of whole documents are in the output, and stay there.
 use Rattle.yaml_emitter.proofs.Common.{ℕ, ◌≤◌, Option, None, length, take, true, List, [], ◌++◌, ◌∷◌, refl, ◌≡◌, take_at, append_assoc, ap, subst, sym, ◌∙◌}
 use Rattle.yaml_emitter.proofs.Common.{arith, prefix_then, Event, stream_start, document_start, document_end, Document, Documents, documents_and, node_events}
-use Rattle.yaml_emitter.proofs.Common.{documents_events, last_flushes, IsPrefix, written, Encoding, Settings, BeginsOutput, OutputBegins, Promised, State}
-use Rattle.yaml_emitter.proofs.Common.{whole_documents, KeepsDocuments, RefusedAt, IsRefusal, IsAccepted, BeginsAccepted}
+use Rattle.yaml_emitter.proofs.Common.{documents_events, last_flushes, IsPrefix, written, Encoding, Settings, BeginsOutput, OutputBegins, Promised, State, inl}
+use Rattle.yaml_emitter.proofs.Common.{whole_documents, KeepsDocuments, RefusedAt, IsRefusal, IsAccepted, BeginsAccepted, inr}
 use Rattle.std.proofs.lemmas.Bool.{cases_lt}
 use Rattle.std.specs.Prelude.{◌<◌, Some}
 use Rattle.yaml_base.specs.declared.errors.yaml_error_t.TheVariants.{Memory, WriteError}
-use Rattle.yaml_emitter.proofs.Common.{inl, inr}
 use Rattle.yaml_emitter.specs.{Promises.StopsWriting, Promises.stops_before, Promises.stops_within, KeptDocuments.DocumentsStay}
 use Rattle.yaml_emitter.specs.{KeptDocuments.KeepsFirstDocuments, KeptDocuments.KeepsAcceptedDocuments}
 use Rattle.yaml_base.{proofs.QueueLaws.documents_whole, specs.declared.errors.yaml_error_t.yaml_error_t}

@@ -2,9 +2,7 @@
 use Rattle.yaml_emitter.proofs.Common.{append_assoc, append-nil, ap, subst, sym, ◌∙◌, refl, Result, List}
 use Rattle.yaml_emitter.proofs.Common.{[], ◌++◌, ◌∷◌, ◌≡◌, Event, State, Bool, StandsAfter, None, Ok}
 use Rattle.std.specs.Prelude.{IfErr}
-use Rattle.yaml_base.specs.Settings.{Settings}
-use Rattle.yaml_base.specs.declared.errors.yaml_error_t.{yaml_error_t}
-use Rattle.yaml_base.specs.declared.errors.yaml_error_t.TheVariants.{Memory}
+use Rattle.yaml_base.specs.{Settings.Settings, declared.errors.yaml_error_t.yaml_error_t, declared.errors.yaml_error_t.TheVariants.Memory}
 use Rattle.yaml_pen.{proofs.Composing.grows_then, proofs.Composing.grows_itself, specs.Page.result_of_error}
 use Rattle.yaml_emitter.specs.{Moves.Moves, Moves.MovesTell, Moves.started_by, Promises.FitsLimit, Promises.Promised}
 use Rattle.yaml_emitter.proofs.standing.{Promising.promised, PromisingRoom.memory_only, StandingFlagged.stands_flagged}

@@ -1,15 +1,14 @@
 -- A machine stands after its events: as one more comes, as each that is ready is written, and when no more is ready.
 use Rattle.yaml_emitter.proofs.Common.{◌+◌, option_and_then, Option, None, Some, Result, Ok, length, take, Bool, false, true, ◌&&◌, List, [], ◌++◌, ◌∷◌, refl}
-use Rattle.yaml_emitter.proofs.Common.{◌≡◌, length-append, take-append-drop, length-take-le, append-nil, append_assoc, inl, ap, subst, sym, ◌∙◌, arith}
-use Rattle.yaml_emitter.proofs.Common.{flat_map-append, stands_from_begins, refused_exactly, steps-append, steps_same, written-append, written_within}
-use Rattle.yaml_emitter.proofs.Common.{open_at_written, Cursor, Rendered, Event, stream_start, sequence_start, sequence_end, mapping_start, mapping_end}
-use Rattle.yaml_emitter.proofs.Common.{at_item, at_key, at_value, Partial, before_stream, within_document, push, pushed, partial_of, first_standing}
-use Rattle.yaml_emitter.proofs.Common.{stream_start_piece, Piece, piece_text, text_of, Standing, with_breaks_written, encoding_asked, settings_for}
-use Rattle.yaml_emitter.proofs.Common.{text_written, last_flushes, last_begins_collection, first_ends_collection, written, held_back, begins_collection}
-use Rattle.yaml_emitter.proofs.Common.{ends_collection, refusal, BeginsAccepted, Encoding, Settings, Effective, effective, at_stream, step, Steps, steps}
-use Rattle.yaml_emitter.proofs.Common.{stage_refusal, closes_at_once, render_event, refusal_now, WritesPage, WritesEvent, IsPage, HoldsPieces, HasProgress}
-use Rattle.yaml_emitter.proofs.Common.{StandsWithoutError, closes_last, HasReached, MachineState, standing_of, StaysFlushed, wrote_all, Page, encoded, new_page}
-use Rattle.yaml_emitter.proofs.Common.{Wrote}
+use Rattle.yaml_emitter.proofs.Common.{◌≡◌, length-append, take-append-drop, length-take-le, append-nil, append_assoc, inl, ap, subst, sym, ◌∙◌, arith, Cursor}
+use Rattle.yaml_emitter.proofs.Common.{flat_map-append, stands_from_begins, refused_exactly, steps-append, steps_same, written-append, written_within, Rendered}
+use Rattle.yaml_emitter.proofs.Common.{open_at_written, Event, stream_start, sequence_start, sequence_end, mapping_start, mapping_end, at_item, at_key, Partial}
+use Rattle.yaml_emitter.proofs.Common.{at_value, before_stream, within_document, push, pushed, partial_of, first_standing, stream_start_piece, Piece, text_of}
+use Rattle.yaml_emitter.proofs.Common.{piece_text, Standing, with_breaks_written, encoding_asked, settings_for, text_written, last_flushes, written, held_back}
+use Rattle.yaml_emitter.proofs.Common.{last_begins_collection, first_ends_collection, begins_collection, ends_collection, refusal, BeginsAccepted, Encoding}
+use Rattle.yaml_emitter.proofs.Common.{Settings, Effective, effective, at_stream, step, Steps, steps, stage_refusal, closes_at_once, render_event, refusal_now}
+use Rattle.yaml_emitter.proofs.Common.{WritesPage, WritesEvent, IsPage, HoldsPieces, HasProgress, StandsWithoutError, closes_last, HasReached, MachineState}
+use Rattle.yaml_emitter.proofs.Common.{standing_of, StaysFlushed, wrote_all, Page, encoded, new_page, Wrote}
 use Rattle.yaml_base.proofs.Common.{Stepped}
 use Rattle.yaml_base.{proofs.Pushes.partial_of_events, proofs.Stages.stage_refusal_after, specs.declared.errors.yaml_error_t.yaml_error_t}
 use Rattle.yaml_emitter.proofs.standing.Flushing.{flushed_none, flushed_first, flushed_grown}

@@ -1,11 +1,10 @@
 -- What an emitter that stands promises at the stream's end, and of a list that is written whole.
-use Rattle.yaml_emitter.proofs.Common.{suc, zero, ℕ, ◌≤◌, option_and_then, Option, None, Some, drop, length, take, Bool, false, List, [], ◌++◌, ◌∷◌, refl}
-use Rattle.yaml_emitter.proofs.Common.{◌≡◌, take-append-drop, append-nil, append_assoc, ap, subst, sym, ◌∙◌, arith, stands_from_begins, pushed-append}
-use Rattle.yaml_emitter.proofs.Common.{prefix_is_partial, list_layout_steps, stream_pushed, encode, cut, Event, stream_end, Stream, stream_events, at_item}
-use Rattle.yaml_emitter.proofs.Common.{at_key, at_value, Partial, before_stream, within_document, after_stream, pushed, partial_of, first_standing}
-use Rattle.yaml_emitter.proofs.Common.{settings_for, text_written, bytes_written, output_of, list_layout, written, IsAccepted, BeginsAccepted, Settings}
-use Rattle.yaml_emitter.proofs.Common.{Effective, at_stream, steps, RefusedAt, EndsExactly, HoldsPiecesWith, StandsWithoutError, StateStands, State}
-use Rattle.yaml_emitter.proofs.Common.{machine_of, Page, encoded}
+use Rattle.yaml_emitter.proofs.Common.{suc, zero, ℕ, ◌≤◌, option_and_then, Option, None, Some, drop, length, take, Bool, false, List, [], ◌++◌, ◌∷◌, refl, ◌≡◌}
+use Rattle.yaml_emitter.proofs.Common.{take-append-drop, append-nil, append_assoc, ap, subst, sym, ◌∙◌, arith, stands_from_begins, pushed-append, stream_pushed}
+use Rattle.yaml_emitter.proofs.Common.{prefix_is_partial, list_layout_steps, encode, cut, Event, stream_end, Stream, stream_events, at_item, at_key, at_value}
+use Rattle.yaml_emitter.proofs.Common.{Partial, before_stream, within_document, after_stream, pushed, partial_of, first_standing, settings_for, text_written}
+use Rattle.yaml_emitter.proofs.Common.{bytes_written, output_of, list_layout, written, IsAccepted, BeginsAccepted, Settings, Effective, at_stream, steps, State}
+use Rattle.yaml_emitter.proofs.Common.{RefusedAt, EndsExactly, HoldsPiecesWith, StandsWithoutError, StateStands, machine_of, Page, encoded}
 use Rattle.yaml_base.{proofs.QueueLaws.stream_written, specs.Grammar.between_documents, specs.declared.errors.yaml_error_t.yaml_error_t}
 use Rattle.yaml_emitter.{proofs.standing.StandingFull.drop-all, proofs.standing.StandingFull.take-length, proofs.standing.StandingPromises.stands_well}
 use Rattle.yaml_emitter.{proofs.standing.StandingPromises.promises_refusal, proofs.standing.StandingTexts.holds_text, specs.Promises.HasRoomAndMemory}

@@ -11,9 +11,8 @@ use Rattle.yaml_emitter.proofs.Common.{StandsFailed, MachineStands, StateStands,
 use Rattle.yaml_base.proofs.{PieceLaws.steps_count, Progress.progress_pieces, QueueLaws.held_waits, QueueLaws.held_is_short}
 use Rattle.yaml_base.specs.declared.errors.{yaml_error_t.yaml_error_t, yaml_error_t.TheVariants.Memory, yaml_error_t.TheVariants.WriteError}
 use Rattle.yaml_emitter.proofs.standing.{Standing.open_last, Standing.end_next, StandingFailed.own_accepted, StandingSteps.closes_last-append}
-use Rattle.yaml_emitter.proofs.standing.{StandingSteps.awaits_few}
+use Rattle.yaml_emitter.proofs.{standing.StandingSteps.awaits_few, standing.StandingTexts.holds_output}
 use Rattle.yaml_emitter.proofs.standing.StandingTexts.{holds_text, pieces_prefix, begin_take, prefix_longer, ContinuesScript, goes_on, output_begins}
-use Rattle.yaml_emitter.proofs.standing.StandingTexts.{holds_output}
 use Rattle.yaml_emitter.specs.Promises.{HasText, begins_with_start, most_held, QueuesUnready, StopsWriting, stops_before, stops_within}
 
 pub stands_well : (given : Settings) (all : List Event) (state : State) → StateStands given all state → state.error ≡ None

@@ -7,8 +7,7 @@ use Rattle.yaml_emitter.proofs.Common.{after_stream, push, pushed, partial_of, f
 use Rattle.yaml_emitter.proofs.Common.{pieces, last_begins_collection, first_ends_collection, IsPrefix, refusal_at, refusal, IsAccepted, BeginsAccepted}
 use Rattle.yaml_emitter.proofs.Common.{Effective, at_stream, steps, IsPage, HoldsPiecesWith, encode-append, Page, encoded}
 use Rattle.yaml_base.{proofs.PieceLaws.begun_pieces, specs.Pieces.empty_scalar, specs.Pieces.last_closes_at_once}
-use Rattle.yaml_base.{specs.declared.errors.yaml_error_t.yaml_error_t}
-use Rattle.yaml_base.{specs.declared.errors.yaml_error_t.TheVariants.WriteError}
+use Rattle.yaml_base.{specs.declared.errors.yaml_error_t.yaml_error_t, specs.declared.errors.yaml_error_t.TheVariants.WriteError}
 use Rattle.yaml_emitter.proofs.standing.Standing.{text_written-append}
 
 -- A page's text is that of its pieces.

@@ -6,9 +6,7 @@ use Rattle.yaml_emitter.proofs.standing.WrittenPrefixes.{seen_from}
 use Rattle.yaml_emitter.proofs.Common.{Err, Ok, subst, drop-drop, closes_at_once, Processed, ProcessedFirst, HasReached, ReachedOn, MachineState}
 use Rattle.yaml_base.specs.declared.errors.{yaml_error_t.yaml_error_t}
 use Rattle.yaml_emitter.proofs.standing.Emitting.{reached_on, took_failed, took_next}
-use Rattle.yaml_emitter.specs.EmitsEvent.{StillWait}
-use Rattle.yaml_emitter.specs.StandsAfter.{FailedReady}
-use Rattle.yaml_emitter.specs.Queue.{are_ready_by_one_more}
+use Rattle.yaml_emitter.specs.{EmitsEvent.StillWait, StandsAfter.FailedReady, Queue.are_ready_by_one_more}
 
 pub or_middle : (a b c : Bool) → b ≡ true → a || b || c ≡ true
 or_middle true b c h = refl

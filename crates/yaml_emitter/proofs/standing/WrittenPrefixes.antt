@@ -1,12 +1,10 @@
 -- A balanced prefix of a list, found by counting along.
-use Rattle.yaml_emitter.proofs.Common.{ℕ, suc, zero, ◌+◌, ◌<◌, ◌==◌, count_by, drop, length, slice_index_or as get_or, Bool, cond, false, true, ◌||◌, ◌&&◌}
-use Rattle.yaml_emitter.proofs.Common.{List, [], map, ◌∷◌, ◌++◌, refl, ◌≡◌, drop-cons, ap, sym, ◌∙◌, zero-add, add-one, arith, ne_eqb, list_any, Event}
-use Rattle.yaml_emitter.proofs.Common.{stream_end, document_start, sequence_start, mapping_start}
-use Rattle.yaml_emitter.proofs.Common.{awaited, is_balanced, nonempty_prefixes, Some, if◌then◌else◌, option_map}
-use Rattle.std.proofs.{Common.eq-eqb}
+use Rattle.yaml_emitter.proofs.Common.{ℕ, suc, zero, ◌+◌, ◌<◌, ◌==◌, count_by, drop, length, slice_index_or as get_or, Bool, cond, false, true, ◌||◌, ◌&&◌, []}
+use Rattle.yaml_emitter.proofs.Common.{List, map, ◌∷◌, ◌++◌, refl, ◌≡◌, drop-cons, ap, sym, ◌∙◌, zero-add, add-one, arith, ne_eqb, list_any, Event, stream_end}
+use Rattle.yaml_emitter.proofs.Common.{document_start, sequence_start, mapping_start, awaited, is_balanced, nonempty_prefixes, Some, if◌then◌else◌, option_map}
+use Rattle.std.proofs.{Common.eq-eqb, Common.add-zero, Common.add_assoc, lemmas.List.Sums.sum_by-cons}
 use Rattle.std.specs.Prelude.{◌≤◌, unwrap_or}
 use Rattle.yaml_emitter.specs.Queue.{one_less, open_behind}
-use Rattle.std.proofs.{Common.add-zero, Common.add_assoc, lemmas.List.Sums.sum_by-cons}
 use Rattle.yaml_base.specs.Ready.{is_start, is_end}
 
 abbrev one_if : Bool → ℕ

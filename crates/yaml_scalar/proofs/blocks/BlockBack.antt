@@ -1,8 +1,7 @@
 -- What a writer of literal or folded scalars wrote reads back.
 use Rattle.yaml_scalar.proofs.Common.{ℕ, ◌≤◌, Option, Ok, negsuc, pos, ℤ, ◌≤ℤ◌, true, ◌≡◌, arith, ints, Text, read_block, Charset, allows_block, allows_literal}
-use Rattle.yaml_scalar.proofs.Common.{Encloses}
-use Rattle.yaml_scalar.proofs.Common.{folded_body, render_folded, literal_body, render_literal, Page, natural, Wrote, ReadsBack}
-use Rattle.yaml_scalar.proofs.Common.{Cursor, Rendered, Result, Err, subst, sym, ap, ◌∙◌}
+use Rattle.yaml_scalar.proofs.Common.{Encloses, folded_body, render_folded, literal_body, render_literal, Page, natural, Wrote, ReadsBack, Cursor, Rendered, ap}
+use Rattle.yaml_scalar.proofs.Common.{Result, Err, subst, sym, ◌∙◌}
 use Rattle.std.proofs.{Common.IsErrAnd, Common.IsErr, lemmas.Result.err_from_is_err_and}
 use Rattle.yaml_base.specs.declared.errors.yaml_error_t.{yaml_error_t}
 use Rattle.yaml_scalar.specs.BlockCode.{without_open_ended}

@@ -1,7 +1,6 @@
 -- What stays in a block scalar's line is rendered as itself.
-use Rattle.yaml_scalar.proofs.Common.{arith, ℕ, Option, Ok, Bool, false, true, [], ◌∷◌, refl, ◌≡◌, ap, sym, ◌∙◌, Text, is_break, Cursor, render_then}
-use Rattle.yaml_scalar.proofs.Common.{render_text, wrote_all, Page, Wrote, place_after, render_content, render_inner, render_step, stays_at, lines_from}
-use Rattle.yaml_scalar.proofs.Common.{has_limit}
+use Rattle.yaml_scalar.proofs.Common.{arith, ℕ, Option, Ok, Bool, false, true, [], ◌∷◌, refl, ◌≡◌, ap, sym, ◌∙◌, Text, is_break, Cursor, render_then, wrote_all}
+use Rattle.yaml_scalar.proofs.Common.{render_text, Page, Wrote, place_after, render_content, render_inner, render_step, stays_at, lines_from, has_limit}
 use Rattle.yaml_scalar.{proofs.RunsWritten.StandAlone, proofs.WholeRuns.no_fold, specs.BlockSteps.within, specs.declared.block_lines.Place.Place}
 use Rattle.yaml_scalar.specs.declared.block_lines.Place.TheVariants.{Fixed, Folding, LineStart}
 use Rattle.yaml_scalar.proofs.StaysInLine as line

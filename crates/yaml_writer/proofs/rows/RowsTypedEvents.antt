@@ -3,8 +3,7 @@ use Rattle.yaml_writer.proofs.Common.{codes, None, Some, Bool, false, true, refl
 use Rattle.yaml_base.specs.Event.{Scalar, ScalarStyle, any_style}
 use Rattle.yaml_base.specs.graphs.Meetings.{string_tag}
 use Rattle.yaml_base.specs.values.TypedValues.{null_tag, bool_tag}
-use Rattle.yaml_writer.specs.PlainTags.{plain_tag}
-use Rattle.yaml_writer.specs.TypedEvents.{typed_scalar}
+use Rattle.yaml_writer.specs.{PlainTags.plain_tag, TypedEvents.typed_scalar}
 
 words : (plain_tag (codes "~") ≡ Some null_tag) × (plain_tag (codes "Null") ≡ Some null_tag) × (plain_tag (codes "TRUE") ≡ Some bool_tag)
     × (plain_tag (codes "false") ≡ Some bool_tag) × (plain_tag (codes "-.inf") ≡ Some float_tag) × (plain_tag (codes ".NaN") ≡ Some float_tag)

@@ -1,7 +1,6 @@
-use Rattle.std.proofs.Common.{◌≡◌, ◌==◌, ◌≤◌, ◌-◌, suc, length, false, inl, inr, ◌∙◌, rules, arith}
+use Rattle.std.proofs.Common.{◌≡◌, ◌==◌, ◌≤◌, ◌-◌, suc, length, false, inl, inr, ◌∙◌, rules, arith, ap}
 use Rattle.std.proofs.lemmas.Grind.{common_steps}
 use Rattle.toml_parser.specs.Lexical.{skip_blank}
-use Rattle.std.proofs.Common.{ap}
 use Rattle.toml_ordered.proofs.Conflicts.{braces_conflict, expressions_conflict, knows_more, knows_none, reads_more}
 use Rattle.toml_ordered.proofs.Stopping.{placed}
 use Rattle.toml_ordered.specs.Firsts.{keys_firsts}

@@ -1,18 +1,16 @@
-use Rattle.std.proofs.Common.{◌≡◌, suc, ◌==◌, ◌-◌, ◌<◌, ◌||◌, true, false, length, le_refl, ◌∙◌, Some, rules, arith}
+use Rattle.std.proofs.Common.{◌≡◌, suc, ◌==◌, ◌-◌, ◌<◌, ◌||◌, true, false, length, le_refl, ◌∙◌, Some, rules, arith, ap}
 use Rattle.std.proofs.lemmas.Grind.{common_steps}
 use Rattle.toml_parser.specs.Lexical.{first, skip_blank}
 use Rattle.toml_parser.specs.Reading.{key_view}
 use Rattle.toml_parser.specs.Strings.{Key}
 use Rattle.toml.specs.Parse.{key_equals}
-use Rattle.std.proofs.Common.{ap}
 use Rattle.std.proofs.lemmas.Result.{IfErr-weaker}
 use Rattle.toml_ordered.proofs.Conflicts.{conflict_in, knows_more_pairs, more_pairs, knows_no_pairs, other_than, pairs_conflict}
 use Rattle.toml_ordered.proofs.Endings.{ends_self, ends_then, item_left, pair_left, skip_ends, start_ends, value_ends}
 use Rattle.toml_ordered.specs.Firsts.{keys_firsts}
 use Rattle.toml_ordered.proofs.Trees.{items_view-push, node_view-Array, node_view-Table}
-use Rattle.toml_ordered.proofs.Turns.{items_end, items_more, items_bad, items_unended, keyval_is, keyval_nameless, keyval_bad}
-use Rattle.toml_ordered.proofs.Turns.{members_end, members_more, members_bad, members_again, members_unended, val_atom, val_deep, val_array}
-use Rattle.toml_ordered.proofs.Turns.{val_table, val_sealed}
+use Rattle.toml_ordered.proofs.Turns.{items_end, items_more, items_bad, items_unended, keyval_is, keyval_nameless, keyval_bad, members_end, members_more}
+use Rattle.toml_ordered.proofs.Turns.{members_bad, members_again, members_unended, val_atom, val_deep, val_array, val_table, val_sealed}
 use Rattle.toml_ordered.specs.Data.{node_view}
 use Rattle.toml_ordered.specs.Drafts.{sealed, table_view}
 use Rattle.toml_ordered.specs.Grammar.{val}

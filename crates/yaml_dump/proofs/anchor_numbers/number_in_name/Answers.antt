@@ -1,8 +1,5 @@
 use Rattle.std.proofs.Common.{ap, fold, refl, sym, ◌∙◌, List, [], ◌∷◌, ℕ}
-use Rattle.std.proofs.lemmas.Iterator.{YieldsList-from_chars}
-use Rattle.std.proofs.lemmas.Iterator.Consumers.{YieldsList-end}
-use Rattle.std.proofs.lemmas.List.{map-id}
-use Rattle.std.proofs.lemmas.List.Sums.{fold-append}
+use Rattle.std.proofs.{lemmas.Iterator.YieldsList-from_chars, lemmas.Iterator.Consumers.YieldsList-end, lemmas.List.map-id, lemmas.List.Sums.fold-append}
 use Rattle.yaml_dump.specs.Composition as composition
 use Rattle.yaml_dump.proofs.anchor_numbers.number_in_name.Goals as goal
 

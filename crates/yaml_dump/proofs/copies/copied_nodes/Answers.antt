@@ -1,8 +1,7 @@
 use Rattle.yaml_dump.proofs.Common.{◌<◌, length, map, ap, ◌∙◌, arith, graph_of}
 use Rattle.yaml_base.specs.graphs.SeenNodes.{seen_node}
-use Rattle.std.proofs.Common.{take_all}
+use Rattle.std.proofs.{Common.take_all, lemmas.Result.IfOk-from_err}
 use Rattle.yaml_dump.specs.Events.{without_children}
-use Rattle.std.proofs.lemmas.Result.{IfOk-from_err}
 use Rattle.yaml_dump.proofs.HoldLemmas.{copied_more, some_next}
 use Rattle.yaml_dump.proofs.copies.copied_nodes.Goals as goal
 use Rattle.yaml_dump.proofs.copies.copied_nodes.Goals.{in-Some+in-Ok-copied_node+in_ok-push, in_default-node_of}

@@ -1,12 +1,10 @@
 use Rattle.yaml_dump.proofs.Common.{◌≡◌, ◌==◌, Option, List, Event, length, map, refl, ap, inl, subst, sym, ◌∙◌, Err, Result, seen_event, graph_of}
 use Rattle.yaml_dump.proofs.Common.{document_event_list, none_from_result, Graph, State}
-use Rattle.yaml_base.specs.declared.errors.yaml_error_t.{yaml_error_t}
-use Rattle.yaml_base.specs.declared.errors.yaml_error_t.TheVariants.{Memory}
+use Rattle.yaml_base.specs.{declared.errors.yaml_error_t.yaml_error_t, declared.errors.yaml_error_t.TheVariants.Memory}
 use Rattle.std.specs.Prelude.{None}
 use Rattle.yaml_dump.proofs.Emissions.{dumps_unopened, dumps_closing, dumps_document, emits_opening}
-use Rattle.yaml_dump.specs.Dumps.{DumpsEvents}
+use Rattle.yaml_dump.specs.{Dumps.DumpsEvents, declared.emitting.EventForm.EventForm}
 use Rattle.yaml_dump.specs.EventForms.{event_in_form, DumpsFrom, DumpsInForm}
-use Rattle.yaml_dump.specs.declared.emitting.EventForm.{EventForm}
 use Rattle.yaml_dump.proofs.dumps.dump_in_form.Goals as goal
 
 abbrev formed : EventForm → Graph → List Event

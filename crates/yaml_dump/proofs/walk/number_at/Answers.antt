@@ -1,5 +1,4 @@
-use Rattle.yaml_dump.proofs.Common.{arith}
-use Rattle.yaml_dump.proofs.ChildLemmas.{pairs_countable}
+use Rattle.yaml_dump.proofs.{Common.arith, ChildLemmas.pairs_countable}
 use Rattle.yaml_dump.proofs.walk.number_at.Goals as goal
 
 pub returns-in-Mapping-clause-countable : goal.returns-in-Mapping-clause-countable

@@ -1,6 +1,5 @@
 use Rattle.yaml_emitter.proofs.Common.{false, true, refl, ◌≡◌, ap, subst, sym, ◌∙◌, seen_events, is_head_ready, MachineState, new_machine, is_at_stream}
-use Rattle.yaml_emitter.proofs.Common.{IsUntouched}
-use Rattle.yaml_emitter.proofs.standing.StandingMore.{new_emitter_stands}
+use Rattle.yaml_emitter.proofs.{Common.IsUntouched, standing.StandingMore.new_emitter_stands}
 use Rattle.yaml_emitter.proofs.emitter.yaml_emitter_initialize.Goals as goal
 
 untouched_new : IsUntouched new_machine.page

@@ -1,6 +1,5 @@
 use Rattle.yaml_emitter.proofs.Common.{render_document_end, seen_effective, wrote_as, wrote_exit}
-use Rattle.yaml_emitter.proofs.pieces.WritingPieces.{wrote_document_end}
-use Rattle.yaml_emitter.proofs.standing.LastFlushes.{wrote_flushed}
+use Rattle.yaml_emitter.proofs.{pieces.WritingPieces.wrote_document_end, standing.LastFlushes.wrote_flushed}
 use Rattle.yaml_emitter.proofs.process.flush_document_end.Goals as goal
 
 pub returns-in_err-write_document_atoms-clause-written : goal.returns-in_err-write_document_atoms-clause-written

@@ -1,5 +1,4 @@
-use Rattle.yaml_emitter.proofs.Common.{arith, common_steps, rules}
-use Rattle.yaml_emitter.proofs.Common.{Ok, piece_at, seen_open_ended, wrote_exit, Wrote}
+use Rattle.yaml_emitter.proofs.Common.{arith, common_steps, rules, Ok, piece_at, seen_open_ended, wrote_exit, Wrote}
 use Rattle.yaml_base.specs.Layout.{stream_end_piece}
 use Rattle.yaml_emitter.proofs.{pieces.WritingPieces.wrote_lead, standing.LastFlushes.wrote_flushed}
 use Rattle.yaml_emitter.proofs.process.flush_stream_end.Goals as goal

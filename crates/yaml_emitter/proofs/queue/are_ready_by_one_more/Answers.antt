@@ -1,5 +1,4 @@
-use Rattle.yaml_emitter.proofs.Common.{◌+◌, drop, length, nat_lt, ◌&&◌, Bool, true, refl, ◌≡◌, ap, sym, ◌∙◌, arith, awaited, le-ltb}
-use Rattle.yaml_emitter.proofs.Common.{seen_event, seen_events}
+use Rattle.yaml_emitter.proofs.Common.{◌+◌, drop, length, nat_lt, ◌&&◌, Bool, true, refl, ◌≡◌, ap, sym, ◌∙◌, arith, awaited, le-ltb, seen_event, seen_events}
 use Rattle.std.proofs.lemmas.{Bool.lt-ltb, List.drop_all, List.length-drop}
 use Rattle.yaml_emitter.proofs.standing.WritingAll.{ready_from}
 use Rattle.yaml_emitter.specs.Queue.{are_ready_by_one_more}

@@ -1,6 +1,5 @@
-use Rattle.yaml_emitter.proofs.Common.{◌+◌, ◌==◌, nat_lt, length, Bool, false, true, ◌||◌, List, [], map, ◌++◌, ◌∷◌, ◌≡◌, le-ltb, ne_eqb, ap, sym}
-use Rattle.yaml_emitter.proofs.Common.{◌∙◌, arith, list_any, Event, awaited, is_balanced, nonempty_prefixes, seen_event, is_head_ready}
-use Rattle.yaml_emitter.proofs.Common.{length-append, length-map}
+use Rattle.yaml_emitter.proofs.Common.{◌+◌, ◌==◌, nat_lt, length, Bool, false, true, ◌||◌, List, [], map, ◌++◌, ◌∷◌, ◌≡◌, le-ltb, ne_eqb, ap, sym, ◌∙◌, arith}
+use Rattle.yaml_emitter.proofs.Common.{list_any, Event, awaited, is_balanced, nonempty_prefixes, seen_event, is_head_ready, length-append, length-map}
 use Rattle.std.specs.Prelude.{◌<◌, ◌≤◌, ◌-◌, true}
 use Rattle.yaml_base.specs.Ready.{is_start}
 use Rattle.yaml_emitter.proofs.standing.{WritingAll.or_middle, WrittenPrefixes.awaiting_starts}

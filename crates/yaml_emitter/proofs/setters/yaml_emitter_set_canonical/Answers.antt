@@ -1,5 +1,4 @@
-use Rattle.yaml_emitter.proofs.Common.{arith, common_steps, rules}
-use Rattle.yaml_emitter.proofs.Common.{refl}
+use Rattle.yaml_emitter.proofs.Common.{arith, common_steps, rules, refl}
 use Rattle.yaml_emitter.proofs.standing.StandingSet.{stands_given}
 use Rattle.yaml_emitter.proofs.setters.yaml_emitter_set_canonical.Goals as goal
 

@@ -1,5 +1,4 @@
-use Rattle.yaml_emitter.proofs.Common.{arith, common_steps, rules}
-use Rattle.yaml_emitter.proofs.Common.{ap, ◌∙◌, State}
+use Rattle.yaml_emitter.proofs.Common.{arith, common_steps, rules, ap, ◌∙◌, State}
 use Rattle.yaml_emitter.proofs.standing.{EmitterKept.kept_limited, StandingSet.stands_limited}
 use Rattle.yaml_emitter.proofs.setters.yaml_emitter_set_output_string.Goals as goal
 

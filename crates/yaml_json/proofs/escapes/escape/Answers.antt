@@ -1,5 +1,4 @@
-use Rattle.std.proofs.Common.{arith}
-use Rattle.std.proofs.lemmas.Grind.{common_steps}
+use Rattle.std.proofs.{Common.arith, lemmas.Grind.common_steps}
 use Rattle.std.specs.Char.{encode_utf8}
 use Rattle.json.specs.Text.{after_backslash}
 use Rattle.yaml_json.proofs.ContentSteps.{content-end, content-escape}

@@ -1,6 +1,5 @@
 use Rattle.std.proofs.Common.{◌≡◌, ◌+◌, ◌-◌, drop, arith}
-use Rattle.std.proofs.lemmas.Grind.{common_steps}
-use Rattle.std.proofs.lemmas.List.{length-drop}
+use Rattle.std.proofs.{lemmas.Grind.common_steps, lemmas.List.length-drop}
 use Rattle.yaml_json.proofs.ContentSteps.{content-pair, short_pair}
 use Rattle.yaml_json.proofs.escapes.low_half.Goals as goal
 

@@ -1,9 +1,7 @@
 use Rattle.std.proofs.Common.{◌≡◌, ◌+◌, ◌-◌, ◌<◌, ◌++◌, None, Some, drop, get_or, length, List, ℕ, subst, sym, ap, ◌∙◌, arith}
 use Rattle.std.proofs.lemmas.Str.{IsCharBoundary-after_ascii}
-use Rattle.std.specs.Str.{IsCharBoundary}
-use Rattle.std.specs.String.{string_bytes}
+use Rattle.std.specs.{Str.IsCharBoundary, String.string_bytes, Char.encode_utf8}
 use Rattle.json.specs.Text.{after_backslash, content, plain, prepend}
-use Rattle.std.specs.Char.{encode_utf8}
 use Rattle.yaml_json.specs.Lexemes.{ArePlain, Unescapes}
 use Rattle.yaml_json.proofs.ContentSteps.{closes_here, content-backslash, content-control, content-end, escape_more, none_more, run_more}
 use Rattle.yaml_json.proofs.escapes.unescape.Goals as goal

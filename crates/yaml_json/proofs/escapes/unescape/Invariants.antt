@@ -1,6 +1,5 @@
 use Rattle.std.proofs.Common.{◌≡◌, ◌-◌, drop, length}
-use Rattle.std.specs.Str.{IsCharBoundary}
-use Rattle.std.specs.String.{string_bytes}
+use Rattle.std.specs.{Str.IsCharBoundary, String.string_bytes}
 use Rattle.json.specs.Text.{content, plain, prepend}
 use Rattle.yaml_json.proofs.escapes.unescape.Given as goal
 

@@ -1,7 +1,5 @@
 use Rattle.std.proofs.Common.{◌≡◌, refl, subst, ◌+◌, ◌<◌, drop, eqb, get_or, length, sym, ap, ◌∙◌, arith}
-use Rattle.std.proofs.lemmas.Bool.{ne_eqb}
-use Rattle.std.proofs.lemmas.List.{drop_all}
-use Rattle.std.proofs.lemmas.Str.{IsCharBoundary-after_ascii}
+use Rattle.std.proofs.{lemmas.Bool.ne_eqb, lemmas.List.drop_all, lemmas.Str.IsCharBoundary-after_ascii}
 use Rattle.json.specs.Lex.{between, in_string, lex}
 use Rattle.yaml_json.specs.Lexing.{LeadsFrom}
 use Rattle.yaml_json.proofs.ModeSteps.{WithinString, string_begins, string_closed, string_cut, plain_passed, escape_passed}

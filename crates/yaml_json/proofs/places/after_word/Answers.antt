@@ -1,6 +1,5 @@
 use Rattle.std.proofs.Common.{◌≡◌, ◌||◌, true, false, get_or, length, sym, ap, ◌∙◌, arith}
-use Rattle.std.proofs.lemmas.List.{drop_all}
-use Rattle.std.proofs.lemmas.Str.{IsCharBoundary-before_ascii}
+use Rattle.std.proofs.{lemmas.List.drop_all, lemmas.Str.IsCharBoundary-before_ascii}
 use Rattle.json.specs.Word.{is_operator, is_space}
 use Rattle.yaml_json.proofs.PassingLexemes.{delimiter_small, word_begins, word_cut, word_ends, word_on}
 use Rattle.yaml_json.proofs.places.after_word.Goals as goal

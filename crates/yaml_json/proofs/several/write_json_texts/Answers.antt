@@ -4,8 +4,7 @@ use Rattle.json.specs.Json.{Json}
 use Rattle.yaml_json.{proofs.TextStops.placed_after, proofs.TextStops.text_stopped, specs.Failing.writers_error}
 use Rattle.yaml_writer.proofs.GivenLemmas.{bare_awaits_none}
 use Rattle.yaml_json.proofs.Growing.{grew_itself, grew_then, grew_kept, grew_said, grew_passed, grew_failing}
-use Rattle.yaml_json.proofs.TextsInTurn.{texts_begin, texts_go_on, next_failed, texts_done, texts_names, texts_read, no_more, is_more, some_more}
-use Rattle.yaml_json.proofs.TextsInTurn.{texts_stopped}
+use Rattle.yaml_json.proofs.TextsInTurn.{texts_begin, texts_go_on, next_failed, texts_done, texts_names, texts_read, no_more, is_more, some_more, texts_stopped}
 use Rattle.yaml_json.proofs.several.write_json_texts.Goals as goal
 
 pub texts-init : goal.texts-init

@@ -3,8 +3,7 @@ use Rattle.yaml_json.proofs.{Growing.grew_itself, Growing.grew_said, TextStops.p
 use Rattle.yaml_json.proofs.SentParts.{part_stopped}
 use Rattle.yaml_writer.proofs.GivenLemmas.{wrote_nothing}
 use Rattle.yaml_json.proofs.{TextStops.placed_no_text, TextStops.text_stopped}
-use Rattle.std.specs.Prelude.{IsUtf8}
-use Rattle.std.specs.Str.{IsValidUpTo}
+use Rattle.std.specs.{Prelude.IsUtf8, Str.IsValidUpTo}
 use Rattle.yaml_json.specs.{Failing.writers_error, Sent.StopsInPart, WalkSteps.TextGiven}
 use Rattle.yaml_json.specs.declared.error.StreamError.TheVariants as faults
 use Rattle.yaml_json.proofs.stream.write_bytes.Goals as goal

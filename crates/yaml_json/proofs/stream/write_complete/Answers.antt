@@ -1,7 +1,6 @@
 use Rattle.yaml_json.proofs.Common.{ℕ, ◌-◌, drop, length, List, refl, subst, sym, HasScanned, StopsWithin}
 use Rattle.yaml_json.proofs.SendingSteps.{left_scanned, left_within, advances_left}
-use Rattle.yaml_json.specs.Places.{MovesPlace}
-use Rattle.yaml_json.specs.declared.places.Place.{Place}
+use Rattle.yaml_json.specs.{Places.MovesPlace, declared.places.Place.Place}
 use Rattle.yaml_json.proofs.stream.write_complete.Goals as goal
 
 pub write_texts-requires : goal.write_texts-requires

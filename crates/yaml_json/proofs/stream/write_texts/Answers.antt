@@ -1,6 +1,5 @@
 use Rattle.yaml_json.proofs.Common.{ℕ, ◌-◌, Option, None, drop, length, take, true, List, [], refl, ◌≡◌, ◌++◌, length-drop, take-append-drop, ap, subst, sym}
-use Rattle.yaml_json.proofs.Common.{◌∙◌, arith, tokens}
-use Rattle.yaml_json.proofs.Common.{NamesOnce, HasScanned, WroteText}
+use Rattle.yaml_json.proofs.Common.{◌∙◌, arith, tokens, NamesOnce, HasScanned, WroteText}
 use Rattle.std.specs.Prelude.{IsUtf8}
 use Rattle.yaml_base.specs.declared.errors.yaml_error_t.{yaml_error_t}
 use Rattle.yaml_json.{specs.Failing.Grew, specs.Sent.StopsInPart, specs.Sent.emitter_error}

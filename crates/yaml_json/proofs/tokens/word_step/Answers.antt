@@ -1,10 +1,8 @@
 use Rattle.std.proofs.Common.{sym, ◌∙◌}
-use Rattle.json.specs.Reads.{token_of}
-use Rattle.json.specs.Word.{head}
+use Rattle.json.specs.{Reads.token_of, Word.head}
 use Rattle.yaml_json.proofs.Stepping.{bad_word, good_word}
 use Rattle.yaml_json.proofs.WordSteps.{one_over, other_inner}
-use Rattle.yaml_json.proofs.ModeSteps.{leads_on}
-use Rattle.yaml_json.proofs.WordModes.{word_leads}
+use Rattle.yaml_json.proofs.{ModeSteps.leads_on, WordModes.word_leads}
 use Rattle.yaml_json.proofs.tokens.word_step.Goals as goal
 
 pub returns-in-None : goal.returns-in-None

@@ -1,5 +1,4 @@
-use Rattle.yaml_json.proofs.Common.{sym}
-use Rattle.yaml_json.proofs.Closing.{no_closer}
+use Rattle.yaml_json.proofs.{Common.sym, Closing.no_closer}
 use Rattle.yaml_json.proofs.values.closes.Goals as goal
 
 pub returns-in_default : goal.returns-in_default

@@ -4,8 +4,7 @@ use Rattle.json.specs.Token as tokens
 use Rattle.yaml_base.specs.declared.kinds.CollectionKind.TheVariants.{Mapping, Sequence}
 use Rattle.yaml_json.proofs.Closing.{closes_is, closes_not, no_name, no_string}
 use Rattle.yaml_json.proofs.Stops.{again_stopped, member_stopped, string_stopped}
-use Rattle.yaml_json.proofs.WalkCalls.{key_kept, key_wrote, walk_closed, walk_item, walk_member, walk_missing, walk_refused, walk_unnamed}
-use Rattle.yaml_json.proofs.WalkCalls.{walk_without_memory}
+use Rattle.yaml_json.proofs.WalkCalls.{key_kept, key_wrote, walk_closed, walk_item, walk_member, walk_missing, walk_refused, walk_unnamed, walk_without_memory}
 use Rattle.yaml_json.specs.WalkSteps.{at}
 use Rattle.yaml_json.specs.declared.values.Spot.TheVariants.{At, PastString}
 use Rattle.yaml_json.specs.declared.values.Stop.TheVariants as stops

@@ -3,10 +3,7 @@ use Rattle.yaml_json.proofs.Common.{Event, AddsEvents, NamesOnce, Token, WriterS
 use Rattle.yaml_json.proofs.{Refusing.past_refused, Refusing.value_names, Stopping.kept_same, Stopping.kept_then}
 use Rattle.yaml_json.proofs.{TokenLemmas.value_given, TokenLemmas.value_spelled}
 use Rattle.yaml_json.proofs.WalkCalls.{only_value}
-use Rattle.yaml_json.specs.Walk.{TextStopsWriting}
-use Rattle.yaml_json.specs.WalkSteps.{at}
-use Rattle.yaml_json.specs.Wrote.{WroteValue}
-use Rattle.yaml_json.specs.declared.values.Spot.TheVariants.{PastValue}
+use Rattle.yaml_json.specs.{Walk.TextStopsWriting, WalkSteps.at, Wrote.WroteValue, declared.values.Spot.TheVariants.PastValue}
 use Rattle.yaml_json.specs.declared.values.Stop.TheVariants as stops
 use Rattle.yaml_json.proofs.values.write_only_value.Goals as goal
 

@@ -1,10 +1,8 @@
 use Rattle.yaml_json.proofs.Common.{IfSome, Err, Ok, List, [], ◌≡◌, ◌∙◌, ap, length, subst, arith, failure_of, BeganFirstValue, FirstFailed, RefusesFirst}
 use Rattle.yaml_json.proofs.{KeepingNames.names_begin, KeepingNames.names_done, KeepingNames.names_on, Stopping.if_some, Stopping.kept_then}
 use Rattle.yaml_json.proofs.{Stops.adds_none, Stops.first_stopped_writing}
-use Rattle.yaml_json.proofs.HeldNameLemmas.{no_item}
-use Rattle.yaml_json.proofs.Taking.{stood_nothing}
+use Rattle.yaml_json.proofs.{HeldNameLemmas.no_item, Taking.stood_nothing, Reaching.last_on}
 use Rattle.yaml_json.proofs.WholeWalk.{all_written, first_failed, first_so_far, step_failed, step_stopped, steps_on}
-use Rattle.yaml_json.proofs.Reaching.{last_on}
 use Rattle.yaml_base.specs.declared.kinds.CollectionKind.{CollectionKind}
 use Rattle.yaml_json.proofs.values.write_value.Goals as goal
 

@@ -1,6 +1,4 @@
-use Rattle.std.proofs.Common.{arith}
-use Rattle.std.proofs.lemmas.Grind.{common_steps}
-use Rattle.std.proofs.lemmas.List.{drop-drop}
+use Rattle.std.proofs.{Common.arith, lemmas.Grind.common_steps, lemmas.List.drop-drop}
 use Rattle.yaml_json.proofs.words.exponent_end.Goals as goal
 
 pub returns-then-byte : goal.returns-then-byte

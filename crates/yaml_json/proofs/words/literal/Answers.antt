@@ -3,8 +3,7 @@ use Rattle.std.specs.List.{starts_with}
 use Rattle.json.specs.Reads.{token_of}
 use Rattle.json.specs.Word.{ends_word, is_operator, is_space}
 use Rattle.yaml_json.specs.Lexing.{EndsWord}
-use Rattle.yaml_json.proofs.WordModes.{name_goes}
-use Rattle.yaml_json.proofs.WordSteps.{literal_read}
+use Rattle.yaml_json.proofs.{WordModes.name_goes, WordSteps.literal_read}
 use Rattle.yaml_json.proofs.words.literal.Goals as goal
 
 pub returns-then-is_delimiter-clause-reads : goal.returns-then-is_delimiter-clause-reads

@@ -1,6 +1,5 @@
 use Rattle.std.proofs.Common.{◌≡◌, ◌+◌, ◌-◌, ◌≤◌, drop, length}
-use Rattle.std.specs.List.{prefix_len}
-use Rattle.std.specs.Char.{is_ascii_digit}
+use Rattle.std.specs.{List.prefix_len, Char.is_ascii_digit}
 use Rattle.yaml_json.proofs.words.past_digits.Given as goal
 
 abbrev pub invariant-digits : goal.invariant-digits

@@ -3,8 +3,7 @@ use Rattle.yaml_base.specs.declared.directives.yaml_tag_directive_t.{yaml_tag_di
 use Rattle.yaml_mark.proofs.Common.{Bool, List, Some, None, ℕ, arith, length, drop, subst, string_bytes}
 use Rattle.yaml_mark.proofs.IndexLemmas.{first_ahead, first_behind, indexed, position_within}
 use Rattle.yaml_mark.proofs.directives.first_prefix.Goals as goal
-use Rattle.yaml_mark.specs.Index.{IsIndexed}
-use Rattle.yaml_mark.specs.Spelled.{begins_and_is_shorter}
+use Rattle.yaml_mark.specs.{Index.IsIndexed, Spelled.begins_and_is_shorter}
 use Rattle.std.proofs.lemmas.List.{length-drop}
 
 abbrev extends : {A : Type 0} → List ℕ → yaml_tag_directive_t A → Bool

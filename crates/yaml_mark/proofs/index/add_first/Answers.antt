@@ -1,6 +1,5 @@
 use Rattle.std.proofs.lemmas.Map.Text.{btree_map_updates_text}
-use Rattle.std.specs.BTreeMap.{get_by_text}
-use Rattle.std.specs.Prelude.{is_some}
+use Rattle.std.specs.{BTreeMap.get_by_text, Prelude.is_some}
 use Rattle.yaml_mark.proofs.Common.{Some, cond, bytes_eq, bytes_eq-Decides, string_bytes, ap, sym, ◌∙◌}
 use Rattle.yaml_mark.proofs.IndexLemmas.{set_absent}
 use Rattle.yaml_mark.proofs.index.add_first.Goals as goal

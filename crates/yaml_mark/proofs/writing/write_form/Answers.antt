@@ -1,7 +1,6 @@
 use Rattle.yaml_mark.proofs.Common.{◌%◌, Ok, [], ◌∷◌, refl, subst, sym, Text, hex_digit, render_text, byte_escaped, wrote_text_then, wrote_exit, wrote_cut}
-use Rattle.yaml_mark.proofs.Common.{Wrote}
+use Rattle.yaml_mark.proofs.{Common.Wrote, EscapingLemmas.form_is}
 use Rattle.yaml_base.proofs.Common.{hex_digits}
-use Rattle.yaml_mark.proofs.EscapingLemmas.{form_is}
 use Rattle.yaml_mark.proofs.writing.write_form.Goals as goal
 
 pub returns-in_err-put : goal.returns-in_err-put

@@ -1,7 +1,6 @@
 use Rattle.yaml_scalar.proofs.Common.{ℕ, IsUtf8, ◌||◌, List, ap, subst, sym, ◌∙◌, nil_from_length, chars-nil, chars_past_char, list_any, is_break}
 use Rattle.yaml_base.proofs.Common.{chars}
-use Rattle.yaml_scalar.proofs.CleanBytes.{clean_unbroken}
-use Rattle.yaml_scalar.proofs.Shorter.{shorter_left}
+use Rattle.yaml_scalar.proofs.{CleanBytes.clean_unbroken, Shorter.shorter_left}
 use Rattle.yaml_scalar.proofs.analysis.holds_break.Goals as goal
 
 pub returns-then-is_clean_ascii : goal.returns-then-is_clean_ascii

@@ -1,6 +1,5 @@
-use Rattle.yaml_scalar.proofs.Common.{ℕ, if◌then◌else◌, Bool, true, List, ◌++◌, ◌≡◌, ap, sym, ◌∙◌, list_all, chars-cut, Text, space}
-use Rattle.yaml_scalar.proofs.Common.{Charset, Barred, seen_barred, barred_by, barred_in, none_barred, either, is_quiet, barred_by_space, seen_charset}
-use Rattle.yaml_scalar.proofs.Common.{last_from}
+use Rattle.yaml_scalar.proofs.Common.{ℕ, if◌then◌else◌, Bool, true, List, ◌++◌, ◌≡◌, ap, sym, ◌∙◌, list_all, chars-cut, Text, space, Charset, Barred, barred_by}
+use Rattle.yaml_scalar.proofs.Common.{seen_barred, barred_in, none_barred, either, is_quiet, barred_by_space, seen_charset, last_from}
 use Rattle.yaml_base.proofs.Common.{chars}
 use Rattle.yaml_scalar.proofs.{Barred.either_none, Barred.either_more, Barred.quiet_run, ByteRuns.run_boundary, ByteRuns.free_passes}
 use Rattle.yaml_scalar.proofs.analysis.skip_quiet.Goals as goal

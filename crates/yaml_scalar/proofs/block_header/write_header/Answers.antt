@@ -1,6 +1,5 @@
 use Rattle.yaml_scalar.proofs.Common.{pos, true, ℤ, refl, Cursor, wrote_changing, wrote_failed_as, ◌≤ℤ◌, subst, sym, w32, to_z-of_z, render_hints, wrote_then}
-use Rattle.yaml_scalar.proofs.Common.{wrote_failed, wrote_as, wrote_exit, natural}
-use Rattle.yaml_scalar.proofs.Common.{is_folded, separated_header, header_end}
+use Rattle.yaml_scalar.proofs.Common.{wrote_failed, wrote_as, wrote_exit, natural, is_folded, separated_header, header_end}
 use Rattle.yaml_base.proofs.Common.{chars}
 use Rattle.yaml_scalar.proofs.blocks.BlockWrites.{header-steps}
 use Rattle.yaml_scalar.proofs.block_header.write_header.Goals as goal

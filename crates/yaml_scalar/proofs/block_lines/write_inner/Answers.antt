@@ -1,8 +1,6 @@
-use Rattle.yaml_scalar.proofs.Common.{if◌then◌else◌, Bool, chars, ap, sym, ◌∙◌, rules, w32, to_z-of_z, FitsSigned, wrote_as, wrote_then, wrote_failed}
-use Rattle.yaml_scalar.proofs.Common.{wrote_exit, natural, limit_of}
-use Rattle.yaml_scalar.proofs.Common.{render_content, render_inner}
-use Rattle.yaml_scalar.specs.BlockSteps.{render_fold}
-use Rattle.yaml_scalar.specs.declared.block_lines.Place.TheVariants.{Folding}
+use Rattle.yaml_scalar.proofs.Common.{if◌then◌else◌, Bool, chars, ap, sym, ◌∙◌, rules, w32, to_z-of_z, FitsSigned, wrote_as, wrote_then, wrote_failed, natural}
+use Rattle.yaml_scalar.proofs.Common.{wrote_exit, limit_of, render_content, render_inner}
+use Rattle.yaml_scalar.specs.{BlockSteps.render_fold, declared.block_lines.Place.TheVariants.Folding}
 use Rattle.yaml_scalar.proofs.block_lines.write_inner.Goals as goal
 
 pub returns-in_err-write_indent-in-LineStart : goal.returns-in_err-write_indent-in-LineStart

@@ -1,7 +1,6 @@
 use Rattle.yaml_scalar.proofs.Common.{ℕ, chars, IsUtf8, List, ap, subst, sym, ◌∙◌, IsUtf8-drop, IsUtf8-past_char, chars_rest, Text, Cursor, Rendered}
 use Rattle.yaml_scalar.proofs.Common.{wrote_exit, natural, is_folded, place_after, render_step, lines_from, limit_of}
-use Rattle.yaml_scalar.proofs.{WholeRuns.run_unbroken, blocks.BlockStays.stays_unbroken}
-use Rattle.yaml_scalar.proofs.{blocks.BlockStays.block_alone, blocks.BlockWrites.LinesLeft}
+use Rattle.yaml_scalar.proofs.{WholeRuns.run_unbroken, blocks.BlockStays.stays_unbroken, blocks.BlockStays.block_alone, blocks.BlockWrites.LinesLeft}
 use Rattle.yaml_pen.proofs.StillToWrite.{still_all, still_rest, still_failed, still_same, end_still}
 use Rattle.yaml_scalar.proofs.RunsWritten.{character_still, run_more, run_failed}
 use Rattle.yaml_scalar.specs.declared.block_lines.{Place.Place, Place.TheVariants.LineStart}

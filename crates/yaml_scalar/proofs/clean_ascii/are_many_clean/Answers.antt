@@ -1,6 +1,5 @@
 use Rattle.yaml_scalar.proofs.Common.{◌-◌, length, inl, inr, eqb-true, sym, ◌∙◌, arith}
-use Rattle.std.proofs.lemmas.Bool.{cases_lt}
-use Rattle.std.proofs.lemmas.Simd.{none_from_empty_mask}
+use Rattle.std.proofs.{lemmas.Bool.cases_lt, lemmas.Simd.none_from_empty_mask}
 use Rattle.yaml_scalar.specs.CleanBytes.{is_unclean}
 use Rattle.yaml_scalar.proofs.clean_ascii.are_many_clean.Goals as goal
 

@@ -1,6 +1,5 @@
-use Rattle.yaml_scalar.proofs.Common.{refl, ℕ, ◌+◌, ◌-◌, Ok, List, [], ◌++◌, ◌∷◌, ◌≡◌, ap, subst, sym, ◌∙◌, arith, space, render_text, indentation}
-use Rattle.yaml_scalar.proofs.Common.{wrote_text_then}
-use Rattle.yaml_scalar.proofs.Common.{wrote_exit, Wrote}
+use Rattle.yaml_scalar.proofs.Common.{refl, ℕ, ◌+◌, ◌-◌, Ok, List, [], ◌++◌, ◌∷◌, ◌≡◌, ap, subst, sym, ◌∙◌, arith, space, render_text, indentation, wrote_exit}
+use Rattle.yaml_scalar.proofs.Common.{wrote_text_then, Wrote}
 use Rattle.std.proofs.lemmas.List.{replicate-append-replicate, replicate_more}
 use Rattle.yaml_pen.proofs.Composing.{wrote_cut}
 use Rattle.yaml_scalar.proofs.lines.write_indentation.Goals as goal

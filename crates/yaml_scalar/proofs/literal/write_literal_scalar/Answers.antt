@@ -1,8 +1,7 @@
 use Rattle.yaml_scalar.proofs.Common.{pos, ℤ, false, ◌≡◌, ◌≤ℤ◌, subst, sym, rules, w32, to_z-of_z, FitsSigned as SFits, IfOk-from_err, read_block, natural}
 use Rattle.yaml_scalar.proofs.Common.{ReadsBack, render_literal, wrote_then, wrote_failed, wrote_as, lines_from, limit_of}
 use Rattle.yaml_base.proofs.Common.{chars}
-use Rattle.yaml_base.specs.scalars.BlockHeader.{header_open_ended}
-use Rattle.yaml_base.specs.Settings.{largest_i32}
+use Rattle.yaml_base.specs.{scalars.BlockHeader.header_open_ended, Settings.largest_i32}
 use Rattle.yaml_scalar.proofs.blocks.BlockBack.{indents, block_exit, literal_back}
 use Rattle.yaml_scalar.{proofs.blocks.BlockWrites.some-literal, specs.declared.block_lines.Place.TheVariants.LineStart}
 use Rattle.yaml_scalar.proofs.literal.write_literal_scalar.Goals as goal

@@ -1,5 +1,4 @@
-use Rattle.yaml_value.proofs.Common.{◌<◌, IfErr, OnOk, length, [], ◌≡◌, ap, subst, sym, ◌∙◌, seen_events, largest_usize}
-use Rattle.yaml_value.proofs.Common.{WritesValue, seen_value}
+use Rattle.yaml_value.proofs.Common.{◌<◌, IfErr, OnOk, length, [], ◌≡◌, ap, subst, sym, ◌∙◌, seen_events, largest_usize, WritesValue, seen_value}
 use Rattle.yaml_base.specs.declared.errors.yaml_error_t.TheVariants.{Memory}
 use Rattle.yaml_value.proofs.WritingLemmas.{events_written, below_limit}
 use Rattle.yaml_dump.proofs.Emissions.{keeps_each}

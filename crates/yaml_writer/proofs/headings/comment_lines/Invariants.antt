@@ -1,6 +1,5 @@
 use Rattle.yaml_writer.proofs.Common.{length, ◌++◌, ◌≡◌, chars, encode_utf8_all, string_bytes}
-use Rattle.std.specs.Str.{IsUtf8}
-use Rattle.std.specs.Str.Iter.{chars_rest}
+use Rattle.std.specs.{Str.IsUtf8, Str.Iter.chars_rest}
 use Rattle.yaml_writer.specs.Headings.{comment_lines, commented}
 use Rattle.yaml_writer.proofs.headings.comment_lines.Given as goal
 

@@ -1,5 +1,4 @@
-use Rattle.yaml_writer.proofs.Common.{◌∙◌}
-use Rattle.yaml_writer.proofs.PlainTagLemmas.{same_bytes}
+use Rattle.yaml_writer.proofs.{Common.◌∙◌, PlainTagLemmas.same_bytes}
 use Rattle.yaml_writer.proofs.plain_tags.are_same.Goals as goal
 
 pub returns : goal.returns

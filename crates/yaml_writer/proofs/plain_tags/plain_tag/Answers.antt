@@ -1,7 +1,6 @@
 use Rattle.yaml_writer.proofs.Common.{chars, option_map, option_or, Option, sym, ◌∙◌, ap, Text}
 use Rattle.yaml_writer.proofs.PlainTagLemmas.{none_spelled}
-use Rattle.yaml_writer.specs.PlainTags.{spelled_number}
-use Rattle.yaml_writer.specs.Writing.{number_tag}
+use Rattle.yaml_writer.specs.{PlainTags.spelled_number, Writing.number_tag}
 use Rattle.yaml_writer.proofs.plain_tags.plain_tag.Goals as goal
 
 pub returns-in-None : goal.returns-in-None

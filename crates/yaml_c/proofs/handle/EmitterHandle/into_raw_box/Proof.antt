@@ -2,7 +2,7 @@
 use Rattle.std.proofs.Common.{◌≡◌, [], ◌∷◌, Option, refl, sym, is_some, true}
 use Rattle.std.proofs.raw_atomic.Walks.{proved}
 use contract.Monad.{fact}
-use denote.Steps.{heard}
+use denote.Steps.{heard, nothing}
 use types.Kit.{rewrite, ‵, raw, ◌⊛◌, ◌$◌, ◌∵◌, !, qed, done, drop, fsplit, fjoin, join, move, split, suffices}
 use types.Run.{enter, fld, stop, no_more, and_then, of_opd, returns}
 use types.Part.{agg, sub, whole}
@@ -10,7 +10,6 @@ use types.ByLocal.{alloc_all, pass_all, free_all, look_at, get, get_in, sets}
 use denote.Exit.{yes}
 use denote.RattleType.{owns}
 use denote.Signature.{plain, types_at}
-use denote.Steps.{nothing}
 use denote.Triple.Entry.{alive}
 use denote.Triple.Walked.{Stays, stay_dropped, Goes-dropped, walk_of, says, ends_at}
 use Rattle.yaml_c.specs.contracts.raw_box.RawBox as raw_box

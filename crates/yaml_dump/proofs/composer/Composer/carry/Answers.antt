@@ -1,7 +1,6 @@
 use Rattle.std.proofs.Common.{ap, map, reverse, FitsSigned, w32, rules}
 use Rattle.yaml_base.specs.graphs.SeenNodes.{seen_node}
-use Rattle.yaml_dump.specs.Composition.{Composition}
-use Rattle.yaml_dump.specs.SeenComposer.{seen_unended}
+use Rattle.yaml_dump.specs.{Composition.Composition, SeenComposer.seen_unended}
 use Rattle.yaml_dump.proofs.ComposerLemmas.{carrier_set}
 use Rattle.yaml_dump.proofs.composer.Composer.carry.Goals as goal
 

@@ -1,5 +1,4 @@
-use Rattle.yaml_emitter.proofs.Common.{arith, common_steps, rules}
-use Rattle.yaml_emitter.proofs.Common.{true, [], refl, ap, subst, sym, ◌∙◌, StandsAfter, State}
+use Rattle.yaml_emitter.proofs.Common.{arith, common_steps, rules, true, [], refl, ap, subst, sym, ◌∙◌, StandsAfter, State}
 use Rattle.yaml_emitter.proofs.standing.{EmitterKept.kept_limited, StandingSet.stands_set}
 use Rattle.yaml_emitter.specs.Given.{seen_settings}
 use Rattle.yaml_emitter.proofs.emitter.yaml_emitter_t.set_all.Goals as goal

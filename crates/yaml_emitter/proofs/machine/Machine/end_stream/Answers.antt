@@ -1,5 +1,4 @@
-use Rattle.yaml_emitter.proofs.Common.{arith, common_steps, rules}
-use Rattle.yaml_emitter.proofs.Common.{refl, machine_state}
+use Rattle.yaml_emitter.proofs.Common.{arith, common_steps, rules, refl, machine_state}
 use Rattle.yaml_emitter.proofs.events_done.{EventsDone.stream_cut, EventsDone.stream_ended, ProcessedBy.processed_exit}
 use Rattle.yaml_emitter.proofs.events_done.KeptInside.{fits_ready, kept_writing, seen_at, behind_start}
 use Rattle.yaml_emitter.specs.declared.stage.Stage.TheVariants.{Document}

@@ -1,12 +1,9 @@
-use Rattle.yaml_emitter.proofs.Common.{common_steps, rules}
-use Rattle.yaml_emitter.proofs.Common.{option_map, nat_lt, length, ap, ◌∙◌, arith, any_layout, most_open, spelling}
-use Rattle.yaml_emitter.proofs.Common.{seen_collection, machine_state, start_of_kind, is_mapping, seen_place, seen_frame, seen_stage}
-use Rattle.yaml_emitter.proofs.Common.{collection_tag, seen_tag}
+use Rattle.yaml_emitter.proofs.Common.{common_steps, rules, option_map, nat_lt, length, ap, ◌∙◌, arith, any_layout, most_open, spelling, seen_collection}
+use Rattle.yaml_emitter.proofs.Common.{machine_state, start_of_kind, is_mapping, seen_place, seen_frame, seen_stage, collection_tag, seen_tag}
 use Rattle.std.proofs.lemmas.{Bool.ltb-true, Result.on_ok_weaker}
 use Rattle.yaml_emitter.proofs.{events_done.ProcessedBy.processed_exit, pieces.WritingTags.spelled_handle}
 use Rattle.yaml_emitter.proofs.events_done.CollectionsDone.{room_here, full_here, of_any_style, start_refused, start_cut, start_left}
-use Rattle.yaml_emitter.proofs.events_done.NodesDone.{at_node_inside, seen_at_node, ready_inside, names_inside, pushed_at_node, kept_at_node}
-use Rattle.yaml_emitter.proofs.events_done.NodesDone.{collection_anchor}
+use Rattle.yaml_emitter.proofs.events_done.NodesDone.{at_node_inside, seen_at_node, ready_inside, names_inside, pushed_at_node, kept_at_node, collection_anchor}
 use Rattle.yaml_emitter.proofs.machine.Machine.open_collection.Goals as goal
 
 pub returns-then-is_full : goal.returns-then-is_full

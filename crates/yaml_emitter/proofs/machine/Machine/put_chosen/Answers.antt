@@ -1,6 +1,5 @@
-use Rattle.yaml_emitter.proofs.Common.{machine_state, scalar, seen_place, MachineState, true}
-use Rattle.yaml_emitter.proofs.Common.{option_map, false, ap, sym, ◌∙◌, scalar_tag, spelling, seen_scalar}
-use Rattle.yaml_emitter.proofs.Common.{seen_tag}
+use Rattle.yaml_emitter.proofs.Common.{machine_state, scalar, seen_place, MachineState, true, option_map, false, ap, sym, ◌∙◌, scalar_tag, spelling, seen_tag}
+use Rattle.yaml_emitter.proofs.Common.{seen_scalar}
 use Rattle.yaml_emitter.proofs.{pieces.AtomsWritten.written_is_some, pieces.WritingTags.spelled_handle}
 use Rattle.yaml_emitter.proofs.events_done.NodesDone.{at_node_inside, seen_at_node, ready_inside, names_inside, kept_advancing, lacks_given}
 use Rattle.yaml_emitter.proofs.events_done.NodesDone.{scalar_refused, scalar_done, scalar_anchor}

@@ -1,6 +1,4 @@
-use Rattle.yaml_emitter.proofs.Common.{arith, common_steps, rules}
-use Rattle.yaml_emitter.proofs.Common.{refl, ap, subst, sym, Effective}
-use Rattle.yaml_emitter.proofs.Common.{Page, IsReady}
+use Rattle.yaml_emitter.proofs.Common.{arith, common_steps, rules, refl, ap, subst, sym, Effective, Page, IsReady}
 use Rattle.yaml_emitter.proofs.events_done.{EventsDone.stream_started, EventsDone.given_is_there, KeptInside.seen_at}
 use Rattle.yaml_emitter.proofs.machine.Machine.start_stream.Goals as goal
 

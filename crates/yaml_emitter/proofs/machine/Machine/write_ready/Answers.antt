@@ -1,6 +1,5 @@
-use Rattle.yaml_emitter.proofs.Common.{common_steps, rules}
-use Rattle.yaml_emitter.proofs.Common.{Err, Ok, drop, true, List, [], map, ◌++◌, ◌∷◌, refl, ◌≡◌, ap, subst, sym, ◌∙◌, arith}
-use Rattle.yaml_emitter.proofs.Common.{drop-map, length-map, Event, seen_event, seen_events, is_head_ready, Processed, false≢true}
+use Rattle.yaml_emitter.proofs.Common.{common_steps, rules, Err, Ok, drop, true, List, [], map, ◌++◌, ◌∷◌, refl, ◌≡◌, ap, subst, sym, ◌∙◌, arith, drop-map}
+use Rattle.yaml_emitter.proofs.Common.{length-map, Event, seen_event, seen_events, is_head_ready, Processed, false≢true}
 use Rattle.std.proofs.lemmas.List.{drop_all}
 use Rattle.yaml_emitter.proofs.standing.Emitting.{processed_error, seen_behind}
 use Rattle.yaml_emitter.proofs.standing.Growing.{grows_page, processed_grows}

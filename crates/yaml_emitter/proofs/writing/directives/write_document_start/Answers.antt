@@ -1,6 +1,5 @@
-use Rattle.yaml_emitter.proofs.Common.{arith, common_steps, rules, ◌≡◌, ◌==◌, is_some, length, option_map, not}
-use Rattle.yaml_emitter.proofs.Common.{◌&&◌, ◌||◌, map, ap, sym, ◌∙◌, Bool, DocumentStart, seen_version, seen_directive}
-use Rattle.yaml_emitter.proofs.Common.{seen_effective, seen_open_ended}
+use Rattle.yaml_emitter.proofs.Common.{arith, common_steps, rules, ◌≡◌, ◌==◌, is_some, length, option_map, not, ◌&&◌, ◌||◌, map, ap, sym, ◌∙◌, Bool}
+use Rattle.yaml_emitter.proofs.Common.{DocumentStart, seen_version, seen_directive, seen_effective, seen_open_ended}
 use Rattle.yaml_emitter.proofs.pieces.WritingPieces.{wrote_bare_start, wrote_document_start}
 use Rattle.yaml_emitter.proofs.writing.directives.write_document_start.Goals as goal
 

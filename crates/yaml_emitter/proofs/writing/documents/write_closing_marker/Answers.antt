@@ -1,5 +1,4 @@
-use Rattle.yaml_emitter.proofs.Common.{arith, common_steps, rules}
-use Rattle.yaml_emitter.proofs.Common.{wrote_as}
+use Rattle.yaml_emitter.proofs.Common.{arith, common_steps, rules, wrote_as}
 use Rattle.yaml_emitter.proofs.writing.documents.write_closing_marker.Goals as goal
 
 pub returns-then-asked : goal.returns-then-asked

@@ -1,5 +1,4 @@
-use Rattle.yaml_emitter.proofs.Common.{arith, common_steps, rules}
-use Rattle.yaml_emitter.proofs.Common.{wrote_as}
+use Rattle.yaml_emitter.proofs.Common.{arith, common_steps, rules, wrote_as}
 use Rattle.yaml_emitter.proofs.writing.documents.write_version.Goals as goal
 
 pub returns-in-Some : goal.returns-in-Some

@@ -1,6 +1,5 @@
 use Rattle.yaml_emitter.proofs.Common.{chars, Cursor, render_then, render_alias, render_place, seen_effective, seen_place, wrote_then, wrote_failed, wrote_as}
-use Rattle.yaml_emitter.proofs.Common.{wrote_exit}
-use Rattle.yaml_emitter.proofs.pieces.WritingPieces.{wrote_lead}
+use Rattle.yaml_emitter.proofs.{Common.wrote_exit, pieces.WritingPieces.wrote_lead}
 use Rattle.yaml_emitter.proofs.writing.nodes.write_alias.Goals as goal
 
 pub returns-in_err-write_place : goal.returns-in_err-write_place

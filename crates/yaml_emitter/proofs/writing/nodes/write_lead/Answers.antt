@@ -1,6 +1,5 @@
-use Rattle.yaml_emitter.proofs.Common.{render_place, seen_effective, seen_place}
-use Rattle.yaml_emitter.proofs.Common.{Cursor, render_then, render_anchor, seen_name, seen_tag}
-use Rattle.yaml_emitter.proofs.Common.{render_spelled_tag, wrote_then, wrote_failed, wrote_as, wrote_exit, arith, common_steps, rules}
+use Rattle.yaml_emitter.proofs.Common.{render_place, seen_effective, seen_place, Cursor, render_then, render_anchor, seen_name, seen_tag, render_spelled_tag}
+use Rattle.yaml_emitter.proofs.Common.{wrote_then, wrote_failed, wrote_as, wrote_exit, arith, common_steps, rules}
 use Rattle.yaml_emitter.proofs.pieces.AtomsWritten.{rendered_alone}
 use Rattle.yaml_emitter.proofs.writing.nodes.write_lead.Goals as goal
 

@@ -1,7 +1,6 @@
-use Rattle.yaml_emitter.proofs.Common.{render_place, seen_effective, seen_place, seen_role, wrote_as, ◌∙◌, ap}
+use Rattle.yaml_emitter.proofs.Common.{render_place, seen_effective, seen_place, seen_role, wrote_as, ◌∙◌, ap, render_flow_place}
 use Rattle.yaml_emitter.proofs.pieces.AtomsWritten.{flow_here, flow_at_line}
 use Rattle.yaml_emitter.specs.declared.place.Role as kinds
-use Rattle.yaml_emitter.proofs.Common.{render_flow_place}
 use Rattle.yaml_emitter.proofs.writing.places.write_place.Goals as goal
 
 pub returns-then-site : goal.returns-then-site

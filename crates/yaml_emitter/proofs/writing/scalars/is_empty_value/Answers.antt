@@ -1,5 +1,4 @@
-use Rattle.yaml_emitter.proofs.Common.{◌∙◌}
-use Rattle.yaml_emitter.proofs.pieces.WritingScalars.{empty_value}
+use Rattle.yaml_emitter.proofs.{Common.◌∙◌, pieces.WritingScalars.empty_value}
 use Rattle.yaml_emitter.proofs.writing.scalars.is_empty_value.Goals as goal
 
 pub returns : goal.returns

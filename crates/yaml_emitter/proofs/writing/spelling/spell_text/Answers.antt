@@ -1,5 +1,4 @@
-use Rattle.yaml_emitter.proofs.Common.{chars}
-use Rattle.yaml_emitter.proofs.pieces.WritingTags.{refused_spelled}
+use Rattle.yaml_emitter.proofs.{Common.chars, pieces.WritingTags.refused_spelled}
 use Rattle.yaml_emitter.proofs.writing.spelling.spell_text.Goals as goal
 
 pub returns-in-Err : goal.returns-in-Err

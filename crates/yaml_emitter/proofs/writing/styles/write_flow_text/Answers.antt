@@ -1,5 +1,4 @@
-use Rattle.yaml_emitter.proofs.Common.{arith, common_steps}
-use Rattle.yaml_emitter.proofs.Common.{rules}
+use Rattle.yaml_emitter.proofs.Common.{arith, common_steps, rules}
 use Rattle.yaml_emitter.proofs.pieces.WritingScalars.{wrote_plain, wrote_single, wrote_double}
 use Rattle.yaml_emitter.proofs.writing.styles.write_flow_text.Goals as goal
 

@@ -1,6 +1,5 @@
 use Rattle.yaml_emitter.proofs.Common.{pos, ◌≡◌, FitsSigned as SFits, refl, rules, ◌∙◌, w32, to_z, arith, ints, to_z-of_z, chars, Err, Ok}
-use Rattle.yaml_base.specs.declared.styles.yaml_scalar_style_t.TheVariants.{YAML_LITERAL_SCALAR_STYLE}
-use Rattle.yaml_base.specs.scalars.BlockHeader.{ending}
+use Rattle.yaml_base.specs.{declared.styles.yaml_scalar_style_t.TheVariants.YAML_LITERAL_SCALAR_STYLE, scalars.BlockHeader.ending}
 use Rattle.yaml_emitter.proofs.pieces.WritingScalars.{wrote_literal}
 use Rattle.yaml_emitter.proofs.writing.styles.write_literal_text.Goals as goal
 

@@ -1,5 +1,4 @@
-use Rattle.yaml_emitter.proofs.Common.{arith, common_steps, rules}
-use Rattle.yaml_emitter.proofs.Common.{◌≡◌, subst, true, chars, style_fits, seen_scalar_style}
+use Rattle.yaml_emitter.proofs.Common.{arith, common_steps, rules, ◌≡◌, subst, true, chars, style_fits, seen_scalar_style}
 use Rattle.yaml_base.specs.{declared.styles.yaml_scalar_style_t.yaml_scalar_style_t}
 use Rattle.yaml_emitter.proofs.pieces.WritingScalars.{block_some, open_ended_kept}
 use Rattle.yaml_emitter.proofs.writing.styles.write_text.Goals as goal

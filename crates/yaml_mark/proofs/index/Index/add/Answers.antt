@@ -1,5 +1,4 @@
-use Rattle.std.specs.BTreeMap.{get_by_text}
-use Rattle.std.specs.BTreeSet.{contains_text}
+use Rattle.std.specs.{BTreeMap.get_by_text, BTreeSet.contains_text}
 use Rattle.yaml_base.proofs.Common.{if◌then◌else◌, option_or}
 use Rattle.yaml_mark.proofs.Common.{None, Some, length, ap, ◌∙◌, ◌||◌, bytes_eq, list_any}
 use Rattle.yaml_mark.proofs.IndexLemmas.{finds_more}

@@ -1,10 +1,9 @@
 use Rattle.yaml_pen.proofs.Common.{min, ℕ, ◌+◌, ◌≤◌, replicate, take, List, ◌∷◌, ◌≡◌, ap, subst, sym, ◌∙◌, add-one, arith, take-replicate, line_feed, space}
 use Rattle.yaml_pen.proofs.Common.{column_after, render_text, decode, seen_encoding, utf8, line_begun, Page, has_bom, IsReady}
 use Rattle.yaml_pen.proofs.{AsciiRuns.ascii-bytes, AsciiRuns.ascii-scalars, Composing.wrote_as, NewLines.column_after-spaces, NewLines.broken_begun}
-use Rattle.yaml_pen.proofs.{Spaces.line_start_ascii, Spaces.line_start_names}
+use Rattle.yaml_pen.proofs.{Spaces.line_start_ascii, Spaces.line_start_names, Composing.wrote_exit, Refused.Wrote-refused}
 use Rattle.yaml_pen.proofs.Writing.{AddsEvent-appended, IsPen-added, Wrote-added, no_bom}
 use Rattle.yaml_pen.specs.declared.pen.new_lines.TheConstants.{LINE_START}
-use Rattle.yaml_pen.proofs.{Composing.wrote_exit, Refused.Wrote-refused}
 use Rattle.yaml_pen.proofs.pen.Pen.append_line_start.Goals as goal
 
 -- so many bytes of the table are LF and spaces

@@ -1,11 +1,10 @@
 use Rattle.yaml_pen.proofs.Common.{[], ◌∷◌, refl, ap, sym, ◌∙◌, or_parts, list_any, chars, chars_rest, is_break, render_text}
-use Rattle.std.proofs.lemmas.Str.{IsUtf8-past_char, chars_past_char}
+use Rattle.std.proofs.lemmas.Str.{IsUtf8-past_char, chars_past_char, len_utf8_bounds, length-encode}
 use Rattle.yaml_pen.{proofs.Composing.wrote_exit, proofs.Writing.line_feed-break}
 use Rattle.yaml_pen.proofs.StillToWrite.{still_rest, still_failed, still_part, end_still, unfailed_after}
 use Rattle.yaml_pen.proofs.Composing.{wrote_cut}
 use Rattle.yaml_pen.proofs.Common.{ℕ, ◌<◌, length, List, ◌++◌, ◌≡◌, length-append, arith}
 use Rattle.std.specs.Char.{encode_utf8}
-use Rattle.std.proofs.lemmas.Str.{len_utf8_bounds, length-encode}
 use Rattle.yaml_pen.proofs.pen.Pen.write_characters.Goals as goal
 
 behind_less : (old behind : List ℕ) (c : ℕ) → old ≡ encode_utf8 c ++ behind → length behind < length old

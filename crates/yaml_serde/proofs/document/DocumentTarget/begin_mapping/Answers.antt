@@ -1,11 +1,10 @@
 use Rattle.yaml_serde.{proofs.Giving.stands_begun, specs.Documents.mapping_call}
 use Rattle.yaml_base.specs.declared.kinds.CollectionKind.TheVariants.{Mapping}
-use Rattle.yaml_writer.specs.Writing.{with_collection}
+use Rattle.yaml_writer.specs.Writing.{with_collection, Begins, mapping_event}
 use Rattle.yaml_serde.proofs.Common.{Result, subst}
 use Rattle.yaml_serde.proofs.Handing.{gives_and_sends}
 use Rattle.yaml_base.specs.declared.errors.yaml_error_t.{yaml_error_t}
 use Rattle.yaml_base.specs.Event.{block}
-use Rattle.yaml_writer.specs.Writing.{Begins, mapping_event}
 use Rattle.yaml_serde.proofs.document.DocumentTarget.begin_mapping.Goals as goal
 
 pub invariant_of-self : goal.invariant_of-self

@@ -1,6 +1,5 @@
-use Rattle.yaml_serde.proofs.Common.{chars}
+use Rattle.yaml_serde.proofs.Common.{chars, Result, subst}
 use Rattle.yaml_serde.{proofs.Giving.stands_given, specs.Documents.text_call}
-use Rattle.yaml_serde.proofs.Common.{Result, subst}
 use Rattle.yaml_serde.proofs.Handing.{gives_and_sends}
 use Rattle.yaml_base.specs.declared.errors.yaml_error_t.{yaml_error_t}
 use Rattle.yaml_writer.specs.Writing.{Gives, text_event}

@@ -1,10 +1,9 @@
 use Rattle.yaml_tool.proofs.Common.{ℕ, if◌then◌else◌, option_map, option_and_then, Option, None, Some, Bool, List, [], map, ◌++◌, ◌∷◌, refl, ◌≡◌, ap, sym, ◌∙◌}
-use Rattle.yaml_tool.proofs.Common.{map-append, seen_progress, seen_setting, seen_numbered}
+use Rattle.yaml_tool.proofs.Common.{map-append, seen_progress, seen_setting, seen_numbered, subst, IfErr}
 use Rattle.yaml_base.specs.scripts.Script.{ScriptState, with_line, line_understood, may_be_set, sets}
 use Rattle.yaml_base.specs.scripts.Script as notation
 use Rattle.yaml_tool.{specs.Lines.seen_line, specs.Scripts.after_line, specs.declared.lines.Line.Line}
 use Rattle.std.specs.Result.{OnOk}
-use Rattle.yaml_tool.proofs.Common.{subst, IfErr}
 use Rattle.yaml_tool.specs.Scripts.{IsFaultAt}
 use Rattle.yaml_tool.proofs.scripts.Progress.take_line.Goals.{in-Ok-push-2, in-Err-push}
 use Rattle.yaml_tool.proofs.scripts.Progress.take_line.Goals.{then-not-is_empty-via-then-not-is_empty, then-not-is_empty-via-else-not-is_empty+then-is_set}

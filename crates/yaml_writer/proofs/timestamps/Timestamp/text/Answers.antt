@@ -1,12 +1,9 @@
 use Rattle.yaml_writer.proofs.Common.{Option, None, Some, refl, true, chars, option_map, ◌≡◌, ap, ◌∙◌, and_from, Text}
 use Rattle.yaml_writer.proofs.TimeLemmas.{timestamp_chars, timestamps_read}
-use Rattle.yaml_writer.specs.Dates.{is_calendar_date}
-use Rattle.yaml_writer.specs.SeenDates.{seen_date}
+use Rattle.yaml_writer.specs.{Dates.is_calendar_date, SeenDates.seen_date, declared.times.Offset.Offset, declared.times.Time.Time}
+use Rattle.yaml_writer.specs.{declared.timestamps.Timestamp.Timestamp}
 use Rattle.yaml_writer.specs.SeenTimes.{seen_offset, seen_time, seen_timestamp}
 use Rattle.yaml_writer.specs.Times.{is_clock_reading, is_moment, is_time_or_none, is_zone_offset, moment_in}
-use Rattle.yaml_writer.specs.declared.times.Offset.{Offset}
-use Rattle.yaml_writer.specs.declared.times.Time.{Time}
-use Rattle.yaml_writer.specs.declared.timestamps.Timestamp.{Timestamp}
 use Rattle.yaml_writer.proofs.timestamps.Timestamp.text.Goals as goal
 
 offset_is : (offset : Option Offset) → is_zone_offset (option_map seen_offset offset) ≡ true

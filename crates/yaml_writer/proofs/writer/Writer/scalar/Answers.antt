@@ -1,10 +1,8 @@
 use Rattle.yaml_writer.proofs.Common.{ℕ, Bool, List, Option, None, chars, is_none, is_some, false, true, not, ◌||◌, ◌≡◌, refl, ap, ap₂, subst, sym, ◌∙◌, option_or, Event, Text, scalar}
 use Rattle.yaml_writer.proofs.Common.{seen_scalar_style, writer_state_of, WriterState}
 use Rattle.yaml_base.proofs.Common.{Some, false≢true, or_parts}
-use Rattle.std.specs.Borrow.{Bor}
-use Rattle.std.specs.Prelude.{Result}
-use Rattle.yaml_base.specs.declared.errors.yaml_error_t.{yaml_error_t}
-use Rattle.yaml_base.specs.Event.{ScalarStyle}
+use Rattle.std.specs.{Borrow.Bor, Prelude.Result}
+use Rattle.yaml_base.specs.{declared.errors.yaml_error_t.yaml_error_t, Event.ScalarStyle}
 use Rattle.yaml_emitter.specs.{BorrowedTexts.seen_name, EmitsEvent.EmitsScalar}
 use Rattle.yaml_writer.{proofs.Taken.gave_bare, specs.Writing.Gives, specs.Writing.scalar_event}
 use Rattle.yaml_writer.proofs.writer.Writer.scalar.Goals as goal
