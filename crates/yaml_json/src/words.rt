@@ -172,6 +172,7 @@ fn literal<'a>(text: &'a str, name: &[u8], token: Token<'a>) -> Option<(Token<'a
 }
 
 /// Returns the token of the word that a text begins with, and what follows the word; `None` where the word is no token.
+#[inline(always)]
 pub(crate) fn word<'a>(text: &'a str) -> Option<(Token<'a>, &'a str)>
     ensures reads { ReadsWord text.now (word text.now) result }
     ensures over { IfSome result (λ part. EndsWord text.now part.1.now) }

@@ -9,6 +9,7 @@ use yaml_base::{YAML_ANY_SCALAR_STYLE, YAML_PLAIN_SCALAR_STYLE};
 use yaml_scalar::is_simple_ascii;
 
 /// Returns whether a scalar can be plain without analysis: it has no anchor, its tag is left out, and its value is simple ASCII.
+#[inline(always)]
 pub(crate) fn stands_plain(settings: &EffectiveSettings, content: &ScalarContent) -> bool
     ensures { result ≡ true → StandsPlain settings.now.canonical content.now }
 {
