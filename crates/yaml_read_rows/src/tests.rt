@@ -1,4 +1,4 @@
-//! Canonical bytes read as typed values, and as documents; TOML that is read in order, and written as YAML.
+//! Canonical bytes read as typed values, and as documents; the tree of TOML that is read in order, and the words of its errors.
 mod callers;
 mod calling;
 mod depths;

@@ -1,14 +1,12 @@
-//! TOML: what its tests share, a document in one line.
-mod grammar;
+//! TOML: what only a caller sees, most of it by a document in one line. (`tests/toml/run` has the grammar, and what is refused.)
 mod order;
-mod refused;
 mod values;
 mod written;
 
 use super::equal;
 use std::alloc::Global;
 use std::process::Abort;
-use toml_ordered::{Fault, Node, Nodes, read_document};
+use toml_ordered::{Node, Nodes, read_document};
 
 /// A part that is still to be listed.
 #[derive(Clone, Copy)]
@@ -131,29 +129,14 @@ fn listed(rt: &impl Abort, alloc: Global, nodes: &Nodes) -> String {
     text
 }
 
-/// Returns the offset at which a text is refused.
-fn offset_of(text: &str, fault: &Fault) -> usize {
-    let left = match fault {
-        Fault::Memory => return usize::MAX,
-        Fault::NotToml { left } => left,
-        Fault::DefinedAgain { second, .. } => second,
-    };
-    text.len().saturating_sub(*left)
-}
-
-/// Returns the document of a text in one line, or the offset at which it is refused.
-fn read(rt: &impl Abort, alloc: Global, text: &str) -> Result<String, usize> {
-    match read_document(alloc, text) {
-        Ok(nodes) => Ok(listed(rt, alloc, &nodes)),
-        Err(fault) => Err(offset_of(text, &fault)),
-    }
-}
-
 /// Checks that a text is read as this document.
 fn check_row(rt: &impl Abort, alloc: Global, text: &str, wanted: &str) {
-    match read(rt, alloc, text) {
-        Ok(found) => equal(rt, &(text, found.as_str()), &(text, wanted)),
-        Err(offset) => equal(rt, &(text, offset), &(text, usize::MAX)),
+    match read_document(alloc, text) {
+        Ok(nodes) => {
+            let found = listed(rt, alloc, &nodes);
+            equal(rt, &(text, found.as_str()), &(text, wanted));
+        }
+        Err(_) => equal(rt, &(text, "refused"), &(text, wanted)),
     }
 }
 

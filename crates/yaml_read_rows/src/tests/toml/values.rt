@@ -1,58 +1,11 @@
-//! What values are read as, by the grammar of TOML 1.0 and what 1.1 adds.
+//! What YAML doesn't show of a value: the digits of a decimal as they stand, and which local date or time a text was.
 use super::check;
 
-const STRINGS: &[(&str, &str)] = &[
-    ("s = \"\"", "{s: \"\"}"),
-    ("s = \"a\\tb\\n\\\"c\\\"\"", "{s: \"a\\tb\\n\\\"c\\\"\"}"),
-    ("s = \"\\u00e9\\U0001F600\"", "{s: \"\u{e9}\u{1f600}\"}"),
-    ("s = 'C:\\dir\\n'", "{s: \"C:\\\\dir\\\\n\"}"),
-    ("s = \"\"\"\na\nb\"\"\"", "{s: \"a\\nb\"}"),
-    ("s = \"\"\"a \\\n   b\"\"\"", "{s: \"a b\"}"),
-    ("s = \"\"\"a\"\"b\"\"\"\"", "{s: \"a\\\"\\\"b\\\"\"}"),
-    ("s = '''\n a\\b\n'''", "{s: \" a\\\\b\\n\"}"),
-    ("s = \"\"\"\r\na\r\nb\"\"\"", "{s: \"a\\r\\nb\"}"),
-    ("s = \"no\" # a comment", "{s: \"no\"}"),
-    // TOML 1.1.
-    ("s = \"\\x41\\e\"", "{s: \"A\\u{1b}\"}"),
-];
-
-const NUMBERS: &[(&str, &str)] = &[
-    ("n = 0", "{n: 0}"),
-    ("n = +99", "{n: 99}"),
-    ("n = -17", "{n: -17}"),
-    ("n = 1_000", "{n: 1000}"),
-    ("n = 0xDEAD_beef", "{n: 3735928559}"),
-    ("n = 0o755", "{n: 493}"),
-    ("n = 0b1101", "{n: 13}"),
-    ("n = 9223372036854775807", "{n: 9223372036854775807}"),
-    ("n = -9223372036854775808", "{n: -9223372036854775808}"),
-    ("n = 3.1415", "{n: #3.1415}"),
+const ROWS: &[(&str, &str)] = &[
     ("n = +1.0", "{n: #+1.0}"),
-    ("n = -0.0", "{n: #-0.0}"),
     ("n = 5e+22", "{n: #5e+22}"),
     ("n = 1e06", "{n: #1e06}"),
-    ("n = 6.626e-34", "{n: #6.626e-34}"),
-    ("n = 224_617.445_991_228", "{n: #224617.445991228}"),
-    (
-        "n = 0.1000000000000000055511151231257827",
-        "{n: #0.1000000000000000055511151231257827}",
-    ),
-    ("n = inf", "{n: inf}"),
-    ("n = +inf", "{n: inf}"),
-    ("n = -inf", "{n: -inf}"),
-    ("n = nan", "{n: nan}"),
-    ("n = -nan", "{n: nan}"),
-    ("b = [true, false]", "{b: [true, false]}"),
-];
-
-const DATES: &[(&str, &str)] = &[
-    ("d = 1979-05-27T07:32:00Z", "{d: 1979-05-27T07:32:00Z}"),
-    (
-        "d = 1979-05-27 00:32:00.999999-07:00",
-        "{d: 1979-05-27T00:32:00.999999-07:00}",
-    ),
     ("d = 1979-05-27T07:32:00", "{d: 1979-05-27T07:32:00}"),
-    ("d = 1979-05-27", "{d: 1979-05-27}"),
     ("d = 07:32:00", "{d: 07:32:00}"),
     ("d = 00:32:00.5", "{d: 00:32:00.5}"),
     ("d = 1990-12-31T23:59:60Z", "{d: 1990-12-31T23:59:60Z}"),
@@ -60,35 +13,7 @@ const DATES: &[(&str, &str)] = &[
     ("d = 07:32", "{d: 07:32}"),
 ];
 
-const COLLECTIONS: &[(&str, &str)] = &[
-    ("a = []", "{a: []}"),
-    (
-        "a = [1, 2.0, \"x\", [1979-05-27], {b = 1}]",
-        "{a: [1, #2.0, \"x\", [1979-05-27], {b: 1}]}",
-    ),
-    ("a = [\n 1, # one\n 2,\n]", "{a: [1, 2]}"),
-    ("t = {}", "{t: {}}"),
-    ("t = { a = 1 , b = 2 }", "{t: {a: 1, b: 2}}"),
-    // TOML 1.1.
-    ("t = {\n a = 1,\n b = 2,\n}", "{t: {a: 1, b: 2}}"),
-];
-
 #[test]
-fn strings_are_decoded(rt: HostRuntime) {
-    check(&rt, rt.alloc(), STRINGS);
-}
-
-#[test]
-fn numbers_keep_their_digits(rt: HostRuntime) {
-    check(&rt, rt.alloc(), NUMBERS);
-}
-
-#[test]
-fn dates_and_times_have_four_kinds(rt: HostRuntime) {
-    check(&rt, rt.alloc(), DATES);
-}
-
-#[test]
-fn arrays_and_tables_in_braces(rt: HostRuntime) {
-    check(&rt, rt.alloc(), COLLECTIONS);
+fn digits_and_kinds_of_dates_are_kept(rt: HostRuntime) {
+    check(&rt, rt.alloc(), ROWS);
 }
