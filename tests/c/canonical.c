@@ -33,13 +33,79 @@ static void expect_check(const char *bytes, int32_t status, uint64_t line, uint6
     check_bytes(bytes, (const uint8_t *)bytes, strlen(bytes), status, line, column);
 }
 
+/* Bytes, and the line and the column of the first word that can't stand where it stands, worked out by hand. */
+static const struct {
+    const char *bytes;
+    uint64_t line, column;
+} misplaced[] = {
+    /* The marker. */
+    {"", 1, 1},
+    {"--- ", 1, 1},
+    {"!!null \"null\"\n", 1, 1},
+    {"\357\273\277---\n!!null \"null\"\n", 1, 1},
+    {"---\n", 2, 1},
+    {"---\n---\n", 2, 1},
+    /* Tags, and what isn't canonical between them and the text. */
+    {"---\n\"a\"\n", 2, 1},
+    {"---\n!!float \"1.0\"\n", 2, 1},
+    {"---\n!!str  \"a\"\n", 2, 7},
+    {"---\n!!str a\n", 2, 7},
+    {"---\n!!null \"~\"\n", 2, 8},
+    {"---\n!!bool \"True\"\n", 2, 8},
+    /* Integers. */
+    {"---\n!!int \"07\"\n", 2, 7},
+    {"---\n!!int \"+7\"\n", 2, 7},
+    {"---\n!!int \"-0\"\n", 2, 7},
+    {"---\n!!int \"\"\n", 2, 7},
+    {"---\n!!int \"9223372036854775808\"\n", 2, 7},
+    {"---\n!!int \"7\t\"\n", 2, 7},
+    {"---\n!!int \"7\n", 2, 7},
+    {"---\n!!int \"7", 2, 7},
+    {"---\n!!int 7\n", 2, 7},
+    /* Texts. */
+    {"---\n!!str \"a\n", 2, 9},
+    {"---\n!!str \"a", 2, 9},
+    {"---\n!!str \"a\tb\"\n", 2, 9},
+    {"---\n!!str \"\303\251\\x41\"\n", 2, 9},
+    {"---\n!!str \"ab\\x0A\"\n", 2, 10},
+    {"---\n!!str \"\\x7f\"\n", 2, 8},
+    {"---\n!!str \"\\u007F\"\n", 2, 8},
+    {"---\n!!str \"\\U0000FEFF\"\n", 2, 8},
+    {"---\n!!str \"\\_\"\n", 2, 8},
+    {"---\n!!str \"\\/\"\n", 2, 8},
+    {"---\n!!str \"\\", 2, 8},
+    {"---\n!!str \"a\303\"\n", 2, 9},
+    /* Lists and maps. */
+    {"---\n!!seq [ ]\n", 2, 8},
+    {"---\n!!seq [\n]\n", 3, 1},
+    {"---\n!!seq [\n !!int \"7\",\n]\n", 3, 1},
+    {"---\n!!seq [\n   !!int \"7\",\n]\n", 3, 3},
+    {"---\n!!seq [\n  !!int \"7\"\n]\n", 3, 12},
+    {"---\n!!seq [\n  !!int \"7\",\n   ]\n", 4, 3},
+    {"---\n!!seq [\n  !!int \"7\",\n}\n", 4, 1},
+    {"---\n!!seq [\n  !!int \"7\",\n]", 4, 2},
+    {"---\n!!seq [\n  !!seq [\n    !!int \"7\",\n],\n]\n", 5, 1},
+    {"---\n!!map {\n  !!int \"7\",\n}\n", 3, 3},
+    {"---\n!!map {\n  ? !!int \"7\",\n}\n", 3, 14},
+    {"---\n!!map {\n  ? !!int \"7\"\n  !!int \"7\",\n}\n", 4, 1},
+    {"---\n!!map {\n  ? !!int \"7\"\n  : !!int \"7\",\n]\n", 5, 1},
+    /* What follows. */
+    {"---\n!!int \"7\" \n", 2, 10},
+    {"---\n!!int \"7\"\r\n", 2, 10},
+    {"---\n!!int \"7\"\n\n", 3, 1},
+    {"---\n!!int \"7\"\n...\n", 3, 1},
+};
+
+static void places(void) {
+    size_t row;
+    for (row = 0; row < sizeof misplaced / sizeof *misplaced; row++)
+        expect_check(misplaced[row].bytes, YAML_NOT_CANONICAL, misplaced[row].line, misplaced[row].column);
+}
+
 static void checks(void) {
     expect_check("---\n!!null \"null\"\n", YAML_DONE, 0, 0);
     expect_check("---\n!!seq [\n  !!bool \"true\",\n  !!int \"-5\",\n  !!str \"b\303\251\",\n  !!map {},\n]\n", YAML_DONE, 0, 0);
     expect_check("---\n!!str \"\360\"\n", YAML_NOT_CANONICAL, 2, 8);
-    expect_check("", YAML_NOT_CANONICAL, 1, 1);
-    expect_check("---\n!!int \"07\"\n", YAML_NOT_CANONICAL, 2, 7);
-    expect_check("---\n!!seq [\n  !!int \"7\"\n]\n", YAML_NOT_CANONICAL, 3, 12);
     expect_check("---\n!!str \"a\"\n---\n", YAML_NOT_CANONICAL, 3, 1);
     expect_check("---\n!!map {\n  ? !!int \"1\"\n  : !!int \"2\",\n}\n", YAML_DONE, 0, 0);
 }
@@ -136,6 +202,7 @@ static void nothing(void) {
 int main(void) {
     int32_t got;
     checks();
+    places();
     texts_of_json();
     nothing();
     memset(&result, 0xff, sizeof result);
