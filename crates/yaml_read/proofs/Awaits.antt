@@ -1,28 +1,15 @@
 -- What is open in the code, and what stands before an event.
-use Rattle.yaml_base.proofs.Common.{ℕ, ◌-◌, ◌+◌, ◌*◌, ◌<◌, ◌≤◌, suc, true, false, Option, None, Some, List, [], ◌∷◌, ◌++◌, refl, ◌≡◌, ap, subst, sym, ◌∙◌}
-use Rattle.yaml_base.proofs.Common.{append_assoc, append-nil, arith, codes, false≢true, length, length-append, Text, encode_utf8_all}
-use Rattle.std.proofs.lemmas.List.{append_cancel_left}
-use Rattle.std.specs.Borrow.{Bor}
-use Rattle.std.specs.Option.{MatchOption}
-use Rattle.std.specs.Prelude.{Result, Ok, Err, IfErr, IfOk, Vec}
-use Rattle.std.specs.Result.{IsErr, IsErrAnd}
-use Rattle.std.proofs.Common.{vec_len}
-use Rattle.std.specs.Option.{option_to_list}
+use Rattle.yaml_base.proofs.Common.{ℕ, ◌-◌, ◌+◌, ◌*◌, suc, true, false, Option, None, Some, List, [], ◌∷◌, ◌++◌, refl, ◌≡◌, ap, subst, sym, ◌∙◌, append_assoc}
+use Rattle.yaml_base.proofs.Common.{append-nil, arith, codes, false≢true, length, Text, encode_utf8_all}
 use Rattle.yaml_base.specs.values.ValueText.{line_at}
+use Rattle.std.{specs.Prelude.Result, specs.Prelude.Ok, specs.Prelude.Err, specs.Prelude.IfOk, specs.Prelude.Vec, specs.Result.IsErr, specs.Result.IsErrAnd}
+use Rattle.std.{proofs.lemmas.List.append_cancel_left, specs.Borrow.Bor, specs.Option.MatchOption, specs.Option.option_to_list, proofs.Common.vec_len}
 use Rattle.yaml_read.specs.Awaits.{EntryStands, IsInnermostAwait, IsLastAwait, LeadStands, awaits_onto, can_end, seen_await, seen_awaits}
-use Rattle.yaml_read.specs.EventTexts.{Pending, closing_text, item_awaited, key_awaited, lead_text, next_awaited, left_open, outside, trail_text}
-use Rattle.yaml_read.specs.EventTexts.{value_awaited}
-use Rattle.yaml_read.specs.Places.{IsHere, LacksLine, no_level, no_line}
-use Rattle.yaml_read.specs.RunPlaces.{StopsAmong}
-use Rattle.yaml_read.specs.Words.{OrMemory, past_word}
-use Rattle.yaml_read.specs.declared.errors.Stop.{Stop}
-use Rattle.yaml_read.specs.declared.errors.Stop.TheVariants as stop
-use Rattle.yaml_read.specs.declared.leads.Await.{Await}
-use Rattle.yaml_read.specs.declared.levels.Entry.{Entry}
+use Rattle.yaml_read.specs.EventTexts.{Pending, closing_text, item_awaited, key_awaited, lead_text, next_awaited, left_open, outside, trail_text, value_awaited}
 use Rattle.yaml_read.specs.declared.levels.Entry.TheVariants.{Another, End}
-use Rattle.yaml_read.proofs.Encoded.{are_ascii, line_encoded, word_encoded}
-use Rattle.yaml_read.proofs.Turns.{line_deeper}
-use Rattle.yaml_read.proofs.Words.{at_exit, error_stays, memory_is, no_word}
+use Rattle.yaml_read.proofs.{Words.at_exit, Words.memory_is, Words.no_word, Encoded.are_ascii, Encoded.line_encoded, Encoded.word_encoded, Turns.line_deeper}
+use Rattle.yaml_read.specs.{Words.OrMemory, Words.past_word, declared.errors.Stop.Stop, declared.leads.Await.Await, declared.levels.Entry.Entry}
+use Rattle.yaml_read.specs.declared.errors.Stop.TheVariants as stop
 
 -- ---- the code's list
 
@@ -63,61 +50,12 @@ taken_off old new None is cases =
     no_awaits new.items (omega (arith, cases.1, new.ok.0)) ∙ sym (ap outside (no_awaits old.items (omega (arith, cases.0, old.ok.0))))
 taken_off old new (Some awaited) is cases = sym (ap (λ awaits. outside (seen_awaits awaits)) is ∙ ap outside (await_more new.items awaited))
 
--- ---- places
-
-pub here_within : (bytes : List ℕ) (error : Stop) → IsHere bytes error → StopsAmong bytes error
-here_within bytes error is = subst (λ (e : Stop). StopsAmong bytes e) (sym is) at_most
-  where
-    at_most : length bytes ≤ length bytes
-    at_most = omega arith
-
--- within what follows a word
-pub within_behind : (word text rest : List ℕ) (error : Stop) → text ≡ word ++ rest → StopsAmong rest error → StopsAmong text error
-within_behind word text rest (stop.Refused left) is within = omega (arith, within, ap length is, length-append word rest)
-within_behind word text rest (stop.TooDeep left) is within = within
-within_behind word text rest stop.Memory is within = tt
-
-pub line_within : (depth : ℕ) (text : List ℕ) (error : Stop) → LacksLine depth text error → StopsAmong text error
-line_within depth text error (no_line none place) = here_within text error place
-line_within depth text error (no_level line is lacks) =
-    within_behind (codes "\n") text line error is (within_behind _ line lacks.rest error lacks.text (here_within lacks.rest error lacks.place))
-
--- within what follows a word, where another one is cut
-pub cut_within : {T : Type 0} (word text line : List ℕ) (result : Result T Stop) → text ≡ word ++ line → IfErr result (IsHere line)
-    → IfErr result (StopsAmong text)
-cut_within word text line (Ok found) is placed = tt
-cut_within word text line (Err error) is placed = within_behind word text line error is (here_within line error placed)
-
--- what fails within what follows a word
-pub errs_behind : {T : Type 0} (result : Result T Stop) (word text rest : List ℕ) → text ≡ word ++ rest → IfErr result (StopsAmong rest)
-    → IfErr result (StopsAmong text)
-errs_behind (Ok found) word text rest is within = tt
-errs_behind (Err error) word text rest is within = within_behind word text rest error is within
-
-pub within_less : (text rest : List ℕ) (error : Stop) → length rest < length text → StopsAmong rest error → StopsAmong text error
-within_less text rest (stop.Refused left) less within = omega (arith, less, within)
-within_less text rest (stop.TooDeep left) less within = within
-within_less text rest stop.Memory less within = tt
-
-pub less_behind : (word text rest end : List ℕ) → text ≡ word ++ rest → length end < length rest → length end < length text
-less_behind word text rest end is less = omega (arith, ap length is, length-append word rest)
-
-pub behind_less : (word text rest end : List ℕ) → rest ≡ word ++ end → length rest < length text → length end < length text
-behind_less word text rest end is less = omega (arith, ap length is, length-append word end)
-
-pub memory_within : (bytes : List ℕ) (error : Stop) → error ≡ stop.Memory → StopsAmong bytes error
-memory_within bytes error is = subst (λ (e : Stop). StopsAmong bytes e) (sym is) tt
-
 -- ---- results
 
 -- what a `?` returns, of an error that is want of memory, or that can't be
 pub memory_exit : {T : Type 0} (answer : Result T Stop) (Holds : T → Type 0) (error : Stop) → IsErr answer × IsErrAnd answer (λ given. given ≡ error)
     → error ≡ stop.Memory → OrMemory Holds answer
 memory_exit answer Holds error exits is = at_exit (OrMemory Holds) error answer exits (memory_is Holds error is)
-
-pub error_exit : {S T : Type 0} (answer : Result T Stop) (Holds : T → Type 0) (error : Stop) (Held : S → Type 0)
-    → IsErr answer × IsErrAnd answer (λ given. given ≡ error) → OrMemory Held (Err error) → OrMemory Holds answer
-error_exit answer Holds error Held exits is = at_exit (OrMemory Holds) error answer exits (error_stays Held Holds error is)
 
 pub or_memory_by : {T : Type 0} (result : Result T Stop) (P Q : T → Type 0) → OrMemory (λ _. Unit {0}) result → IfOk result P
     → ((found : T) → P found → Q found) → OrMemory Q result

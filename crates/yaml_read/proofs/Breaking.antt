@@ -1,17 +1,12 @@
 -- Where bytes break off: at a word, behind words, and in a line.
-use Rattle.yaml_base.proofs.Common.{ℕ, ◌+◌, ◌*◌, ◌<◌, zero, suc, None, List, [], ◌∷◌, ◌++◌, refl, ◌≡◌, ap, subst, sym, ◌∙◌, inl, inr}
-use Rattle.yaml_base.proofs.Common.{arith, append_assoc, codes, flat_map, replicate, space}
-use Rattle.std.proofs.lemmas.List.{replicate-append-replicate}
+use Rattle.yaml_base.proofs.Common.{ℕ, ◌+◌, ◌*◌, ◌<◌, [], ◌∷◌, ◌++◌, ◌≡◌, ◌∙◌, zero, suc, None, List, refl, ap, subst, sym, inl, inr, arith, append_assoc}
+use Rattle.yaml_base.{proofs.Common.codes, proofs.Common.flat_map, proofs.Common.replicate, proofs.Common.space, specs.values.ValueText.line_at}
 use Rattle.std.specs.Prelude.{Result, Ok, Err, IfErr}
-use Rattle.std.specs.Borrow.{Bor}
-use Rattle.std.specs.Result.{IsErr, IsErrAnd}
-use Rattle.yaml_base.specs.values.ValueText.{line_at}
+use Rattle.std.{proofs.lemmas.List.replicate-append-replicate, specs.Borrow.Bor, specs.Result.IsErr, specs.Result.IsErrAnd}
 use Rattle.yaml_read.specs.Grammar.{these_or_those, entry_end, levels_then, line_then, nothing, word_then}
 use Rattle.yaml_read.specs.Places.{BreaksAt, BreaksOff, IsHere, LacksLevel, LacksLine, no_level, no_line}
-use Rattle.yaml_read.specs.Words.{Cuts, past_word}
-use Rattle.yaml_read.specs.declared.errors.Stop.{Stop}
+use Rattle.yaml_read.{specs.Words.Cuts, specs.Words.past_word, specs.declared.errors.Stop.Stop, proofs.Words.at_exit, proofs.Words.no_word}
 use Rattle.yaml_read.specs.declared.errors.Stop.TheVariants as stop
-use Rattle.yaml_read.proofs.Words.{at_exit, no_word}
 
 -- what a `?` returns
 pub err_exit : {T : Type 0} (P : Stop → Type 0) (error : Stop) (answer : Result T Stop) → IsErr answer × IsErrAnd answer (λ given. given ≡ error)

@@ -1,37 +1,22 @@
 -- Where the bytes of a node break off, and those behind a node.
-use Rattle.yaml_base.proofs.Common.{ℕ, ◌+◌, ◌<◌, ◌≤◌, suc, true, Option, None, Some, List, [], ◌∷◌, ◌++◌, refl, ◌≡◌, ap, subst, sym, ◌∙◌, ◌⊎◌}
-use Rattle.yaml_base.proofs.Common.{inl, inr, pos, arith, append_assoc, append-nil, codes, flat_map, length, encode_utf8_all, encode_utf8}
-use Rattle.yaml_base.proofs.Common.{character_text, Text}
-use Rattle.std.proofs.lemmas.Bool.{cases_lt}
-use Rattle.std.proofs.lemmas.Str.{IsUtf8-past_char, encode_ascii, encodes-append}
-use Rattle.std.specs.Borrow.{Bor}
-use Rattle.std.specs.Fmt.{signed_decimal}
-use Rattle.std.specs.Int.Signed.{mag}
-use Rattle.std.specs.Prelude.{Result, Ok, Err, IfErr, ℤ, ◌^◌}
-use Rattle.std.specs.Str.{IsUtf8}
-use Rattle.yaml_base.specs.scalars.DoubleQuoted.{quote}
+use Rattle.yaml_base.proofs.Common.{ℕ, ◌+◌, ◌<◌, ◌≤◌, suc, true, Option, None, Some, List, [], ◌∷◌, ◌++◌, refl, ◌≡◌, ap, subst, sym, ◌∙◌, ◌⊎◌, inl, inr, pos}
+use Rattle.yaml_base.proofs.Common.{arith, append_assoc, append-nil, codes, flat_map, length, encode_utf8_all, encode_utf8, character_text, Text}
 use Rattle.yaml_base.specs.values.TypedValues.{TypedValue, TypedValues, TypedPairs, null_value, bool_value, int_value, text_value, list_value, map_value}
 use Rattle.yaml_base.specs.values.TypedValues.{most_nested, no_value_pairs, no_values, value_pairs_and, values_and}
-use Rattle.yaml_base.specs.values.ValueText.{in_quotes, line_at, value_text}
-use Rattle.yaml_read.specs.Grammar.{behind_in, behind_tag, characters, these_or_those, integer, line_then, node, nothing, quoted_text}
-use Rattle.yaml_read.specs.Grammar.{unless_deep, word_then}
+use Rattle.yaml_base.{specs.scalars.DoubleQuoted.quote, specs.values.ValueText.in_quotes, specs.values.ValueText.line_at, specs.values.ValueText.value_text}
+use Rattle.std.proofs.lemmas.Str.{IsUtf8-past_char, encode_ascii, encodes-append}
+use Rattle.std.specs.Prelude.{Result, Ok, Err, IfErr, ℤ, ◌^◌}
+use Rattle.std.{proofs.lemmas.Bool.cases_lt, specs.Borrow.Bor, specs.Fmt.signed_decimal, specs.Int.Signed.mag, specs.Str.IsUtf8}
+use Rattle.yaml_read.specs.Grammar.{behind_in, behind_tag, characters, these_or_those, integer, line_then, node, nothing, quoted_text, unless_deep, word_then}
 use Rattle.yaml_read.specs.Heads.{ListRead, MapRead, ReadsCharacter, tag_word}
-use Rattle.yaml_read.specs.Opened.{HasRead, IsOpen, OpenCanBeRead}
-use Rattle.yaml_read.specs.Places.{BreaksAt, BreaksOff, IsHere, IsHereOrMemory, IsWholeWord, LacksEnd, StopsIn, behind_all}
-use Rattle.yaml_read.specs.Places.{behind_node, in_node, more_follows, no_end}
+use Rattle.yaml_read.specs.Places.{BreaksAt, BreaksOff, IsHere, IsHereOrMemory, IsWholeWord, LacksEnd, StopsIn, behind_all, behind_node, in_node, more_follows}
 use Rattle.yaml_read.specs.Remaining.{OpenLevel, is_nested, items_open, pairs_open, value_due}
-use Rattle.yaml_read.specs.Sound.{IsCharacter, IsValue}
-use Rattle.yaml_read.specs.Words.{OrMemory, past_word}
-use Rattle.yaml_read.specs.declared.errors.Stop.{Stop}
+use Rattle.yaml_read.specs.{Opened.HasRead, Opened.IsOpen, Opened.OpenCanBeRead, Places.no_end, Sound.IsCharacter, Sound.IsValue, Words.OrMemory}
+use Rattle.yaml_read.specs.{Words.past_word, declared.errors.Stop.Stop, declared.heads.Head.Head, declared.heads.Kind.Kind}
+use Rattle.yaml_read.proofs.{Breaking.here, Breaking.missing, Breaking.passed, Breaking.passed_at, Breaking.second_of, HeadTexts.list_tail, HeadTexts.map_tail}
+use Rattle.yaml_read.proofs.{CharactersRead.ReadSoFar, Encoded.word_encoded, HeadTexts.value_bytes, Remaining.items_behind, Remaining.pairs_behind}
 use Rattle.yaml_read.specs.declared.errors.Stop.TheVariants as stop
-use Rattle.yaml_read.specs.declared.heads.Head.{Head}
-use Rattle.yaml_read.specs.declared.heads.Kind.{Kind}
 use Rattle.yaml_read.specs.declared.heads.Kind.TheVariants as kind
-use Rattle.yaml_read.proofs.Breaking.{here, missing, passed, passed_at, second_of}
-use Rattle.yaml_read.proofs.CharactersRead.{ReadSoFar}
-use Rattle.yaml_read.proofs.Encoded.{word_encoded}
-use Rattle.yaml_read.proofs.HeadTexts.{list_tail, map_tail, value_bytes}
-use Rattle.yaml_read.proofs.Remaining.{items_behind, pairs_behind}
 use Rattle.yaml_read.proofs.Words.{absent, behind_word as behind_itself, no_word}
 
 -- ---- what follows words in UTF-8 is UTF-8

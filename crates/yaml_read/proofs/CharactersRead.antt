@@ -1,23 +1,16 @@
 -- A character that was read stood there in its one spelling.
-use Rattle.yaml_base.proofs.Common.{ℕ, ◌+◌, ◌*◌, ◌/◌, ◌%◌, ◌-◌, ◌<◌, ◌≤◌, ◌==◌, Bool, true, false, not, ◌&&◌, ◌||◌, Option, None, Some, List, []}
-use Rattle.yaml_base.proofs.Common.{◌∷◌, ◌++◌, refl, ◌≡◌}
-use Rattle.yaml_base.proofs.Common.{ap, subst, sym, ◌∙◌, arith, nat_tests, append_assoc, append-nil, and_parts, and_from, eqb-true, if◌then◌else◌, nat_le}
-use Rattle.yaml_base.proofs.Common.{Text, encode_utf8_all, encode_utf8, all_scalars, hex_digit, hex_digits, character_text, is_between, flat_map}
-use Rattle.yaml_base.proofs.Common.{flat_map-append, codes}
-use Rattle.yaml_base.proofs.Common.{chars-encodes, chars}
-use lib.Utf8.{scalar}
-use Rattle.std.specs.Prelude.{String}
-use Rattle.std.specs.Str.{IsUtf8}
-use Rattle.std.specs.String.{string_bytes}
-use Rattle.std.proofs.lemmas.Str.{cons_from_encodes, encodes-append}
-use Rattle.yaml_base.specs.Seen.{seen_text}
+use Rattle.yaml_base.proofs.Common.{ℕ, ◌+◌, ◌*◌, ◌/◌, ◌%◌, ◌-◌, ◌<◌, ◌≤◌, not, ◌||◌, None, Some, List, [], ◌∷◌, ◌++◌, refl, ◌≡◌, ap, sym, ◌∙◌, Text, ◌==◌}
+use Rattle.yaml_base.proofs.Common.{if◌then◌else◌, encode_utf8_all, character_text, flat_map-append, chars-encodes, short_escapes, escape_after_backslash, Bool}
+use Rattle.yaml_base.proofs.Common.{true, false, ◌&&◌, subst, arith, nat_tests, and_parts, and_from, eqb-true, nat_le, hex_digit, flat_map, codes, chars}
+use Rattle.yaml_base.proofs.Common.{Option, append_assoc, append-nil, encode_utf8, all_scalars, hex_digits, is_between, letter_among, needs_escape, escape_text}
+use Rattle.yaml_base.proofs.Common.{length, length-append, length-le-encodes}
 use Rattle.yaml_base.specs.reading.ReadDouble.{digit_meaning, letter_meaning, meaning_among}
-use Rattle.yaml_base.specs.scalars.DoubleQuoted.{short_escapes, letter_among, needs_escape, escape_after_backslash, escape_text, quote}
-use Rattle.yaml_base.specs.values.ValueText.{in_quotes}
-use Rattle.yaml_base.specs.Characters.{backslash}
-use Rattle.yaml_read.proofs.Encoded.{word_encoded}
-use Rattle.yaml_read.proofs.Firsts.{four_text}
-use Rattle.yaml_read.specs.Sound.{IsByNumber, IsCharacter, IsEscape}
+use Rattle.yaml_base.{specs.scalars.DoubleQuoted.quote, specs.Seen.seen_text, specs.values.ValueText.in_quotes, specs.Characters.backslash}
+use lib.Utf8.{scalar}
+use Rattle.std.{specs.Prelude.String, specs.Prelude.IfSome, specs.Prelude.MatchOption, specs.Str.IsUtf8, specs.String.string_bytes}
+use Rattle.std.{proofs.lemmas.Str.cons_from_encodes, proofs.lemmas.Str.encodes-append, proofs.lemmas.Option.same_Some, specs.Borrow.Bor}
+use Rattle.yaml_read.specs.Sound.{NumberRead, IsByNumber, IsCharacter, IsEscape}
+use Rattle.yaml_read.{proofs.Encoded.word_encoded, proofs.Firsts.four_text}
 
 -- the first character of a text is a Unicode scalar value
 pub scalar_of : (bytes rest : List ℕ) (c : ℕ) → IsUtf8 bytes → bytes ≡ encode_utf8 c ++ rest → all_scalars (c ∷ []) ≡ true
@@ -260,3 +253,47 @@ pub letter_scalar : (letter c : ℕ) → letter_meaning letter ≡ Some c → al
 letter_scalar letter c is =
     means_scalar (codes "0abtnvfre\"\\N_LP ")
     (0 ∷ 7 ∷ 8 ∷ 9 ∷ 0xA ∷ 0xB ∷ 0xC ∷ 0xD ∷ 0x1B ∷ 0x22 ∷ 0x5C ∷ 0x85 ∷ 0xA0 ∷ 0x2028 ∷ 0x2029 ∷ 0x20 ∷ []) letter c refl is
+
+-- ---- numbers that were read
+
+pub number_reads : (least c : ℕ) (rest : Text) (found answer : Option (ℕ × Bor (List ℕ)))
+    → MatchOption found ⊥ (λ read. (read.0 ≡ c) × (read.1.now ≡ encode_utf8_all rest)) → NumberRead least found answer → all_scalars (c ∷ []) ≡ true
+    → needs_escape true c ≡ true → letter_among short_escapes c ≡ None → least ≤ c
+    → MatchOption answer ⊥ (λ read. (read.0 ≡ c) × (read.1.now ≡ encode_utf8_all rest))
+number_reads least c rest None answer reads is scalar needs none most = absurd reads
+number_reads least c rest (Some read) None reads is scalar needs none most =
+    absurd (is read refl (subst (λ n. least ≤ n) (sym reads.0) most) (ap (needs_escape true) reads.0 ∙ needs)
+    (ap (letter_among short_escapes) reads.0 ∙ none) (ap (λ n. all_scalars (n ∷ [])) reads.0 ∙ scalar))
+number_reads least c rest (Some read) (Some found) reads is scalar needs none most =
+    subst (λ (r : ℕ × Bor (List ℕ)). (r.0 ≡ c) × (r.1.now ≡ encode_utf8_all rest)) (same_Some read found is.0) reads
+
+pub number_sound : (digits least : ℕ) (bytes : List ℕ) (Few : ℕ → Type 0) (found answer : Option (ℕ × Bor (List ℕ)))
+    → IfSome found (λ read. bytes ≡ encode_utf8_all (hex_digits digits read.0) ++ read.1.now) → IfSome found (λ read. Few read.0)
+    → NumberRead least found answer → IfSome answer (λ read. IsByNumber bytes digits read.0 read.1.now × (least ≤ read.0) × Few read.0)
+number_sound digits least bytes Few found None sound few is = tt
+number_sound digits least bytes Few found (Some read) sound few is = (
+  record {
+    scalar = is.4;
+    needs = is.2;
+    none = is.3;
+    text =
+        subst (λ (o : Option (ℕ × Bor (List ℕ))). IfSome o (λ read. bytes ≡ encode_utf8_all (hex_digits digits read.0) ++ read.1.now)) is.0 sound;
+  },
+  is.1,
+  subst (λ (o : Option (ℕ × Bor (List ℕ))). IfSome o (λ read. Few read.0)) is.0 few,
+)
+
+-- a character that was read leaves less
+pub character_shorter : (bytes : List ℕ) (c : ℕ) (rest : List ℕ) → IsCharacter bytes c rest → length rest < length bytes
+character_shorter bytes c rest read =
+    omega (
+      arith,
+      ap length read.text,
+      length-append (encode_utf8_all (character_text true c)) rest,
+      length-le-encodes (character_text true c),
+      some (needs_escape true c),
+    )
+  where
+    some : (b : Bool) → 0 < length (if b then escape_text c else c ∷ [])
+    some true = omega arith
+    some false = omega arith

@@ -1,8 +1,7 @@
 -- The walk over a graph goes by the children of its nodes alone.
 use Rattle.yaml_base.proofs.Common.{ℕ, suc, zero, true, false, List, [], ◌∷◌, ◌++◌, refl, ◌≡◌, ap, ◌∙◌, fold, length, list_any, Graph, children, Step, enters}
 use Rattle.yaml_base.proofs.Common.{leaves, is_entry_of, steps_from}
-use Rattle.yaml_base.proofs.UnfoldSteps.{from_node}
-use Rattle.yaml_base.specs.graphs.Meetings.{graph_steps}
+use Rattle.yaml_base.{proofs.UnfoldSteps.from_node, specs.graphs.Meetings.graph_steps}
 use Rattle.std.proofs.lemmas.List.Folds.{fold_along}
 
 -- graphs whose nodes have the same children

@@ -1,17 +1,9 @@
 -- Which errors tell that no value has some bytes.
-use Rattle.yaml_base.proofs.Common.{ℕ, List, Some, ◌≡◌, sym, ◌∙◌, ◌⊎◌, inl, inr, encode_utf8_all}
+use Rattle.yaml_base.proofs.Common.{ℕ, List, Some, ◌≡◌, sym, ◌∙◌, ◌⊎◌, inl, inr, encode_utf8_all, encode, utf8}
+use Rattle.yaml_base.{specs.values.ValueText.document_text, proofs.Decoding.text_bytes-utf8, specs.values.TypedValues.TypedValue}
 use Rattle.std.specs.Prelude.{Err, ◌≢◌}
-use Rattle.yaml_base.proofs.Decoding.{text_bytes-utf8}
-use Rattle.yaml_base.specs.Encoding.{encode}
-use Rattle.yaml_base.specs.Settings.{utf8}
-use Rattle.yaml_base.specs.values.TypedValues.{TypedValue}
-use Rattle.yaml_base.specs.values.ValueText.{document_text}
-use Rattle.yaml_read.specs.Errors.{Tells}
-use Rattle.yaml_read.specs.Readable.{CanBeRead}
-use Rattle.yaml_read.specs.Words.{OrMemory}
-use Rattle.yaml_read.specs.declared.errors.ReadError.{ReadError}
+use Rattle.yaml_read.specs.{Errors.Tells, Readable.CanBeRead, Words.OrMemory, declared.errors.ReadError.ReadError, declared.errors.Stop.Stop}
 use Rattle.yaml_read.specs.declared.errors.ReadError.TheVariants as told
-use Rattle.yaml_read.specs.declared.errors.Stop.{Stop}
 use Rattle.yaml_read.specs.declared.errors.Stop.TheVariants as stop
 
 -- memory gave out, or no value has these bytes

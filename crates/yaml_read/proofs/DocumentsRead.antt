@@ -1,30 +1,18 @@
 -- From the events of a node's text to the document of these bytes, and to why there is none.
-use Rattle.yaml_base.proofs.Common.{ℕ, ◌-◌, ◌==◌, Bool, true, false, None, List, [], ◌∷◌, ◌++◌, refl, ◌≡◌, ap, subst, sym, ◌∙◌, ◌⊎◌, inl, inr, All}
-use Rattle.yaml_base.proofs.Common.{codes, flat_map, length, map, encode_utf8_all, line_feed, Text, if◌then◌else◌}
-use Rattle.std.specs.Prelude.{IfErr, IfOk, Result, Ok, Err, Vec}
-use Rattle.std.specs.Str.{IsUtf8, IsValidUpTo}
-use Rattle.yaml_base.specs.Event.{Event, document_end, document_start}
-use Rattle.yaml_base.specs.Seen.{seen_event}
-use Rattle.yaml_base.specs.declared.documents.yaml_document_t.{yaml_document_t}
-use Rattle.yaml_base.specs.declared.events.yaml_event_t.{yaml_event_t}
-use Rattle.yaml_base.specs.graphs.Documents.{graph_of}
-use Rattle.yaml_base.specs.graphs.Isomorphic.{Isomorphic}
+use Rattle.yaml_base.proofs.Common.{ℕ, ◌-◌, ◌==◌, Bool, true, false, None, List, [], ◌∷◌, ◌++◌, refl, ◌≡◌, ap, subst, sym, ◌∙◌, ◌⊎◌, inl, inr, All, codes}
+use Rattle.yaml_base.proofs.Common.{flat_map, length, map, encode_utf8_all, line_feed, Text, if◌then◌else◌}
 use Rattle.yaml_base.specs.graphs.Meetings.{Graph, document_event_list, graph_steps, step_events}
+use Rattle.yaml_base.{specs.Event.Event, specs.Event.document_end, specs.Seen.seen_event, specs.graphs.Documents.graph_of, specs.graphs.Isomorphic.Isomorphic}
+use Rattle.yaml_base.{specs.Event.document_start, specs.declared.documents.yaml_document_t.yaml_document_t, specs.declared.events.yaml_event_t.yaml_event_t}
+use Rattle.std.specs.{Prelude.IfErr, Prelude.IfOk, Prelude.Result, Prelude.Ok, Prelude.Err, Prelude.Vec, Str.IsUtf8, Str.IsValidUpTo}
 use Rattle.yaml_read.specs.DocumentPlaces.{AreEventsOf, AreRunBytes, ComposesNode, DocumentStops, IsDocumentPlaced}
-use Rattle.yaml_dump.specs.InOrder.{in_order}
 use Rattle.yaml_read.specs.DocumentTexts.{AreDumpedBytes, unstyled_graph}
-use Rattle.yaml_read.specs.Errors.{Tells}
-use Rattle.yaml_read.specs.EventTexts.{HasRunText, IsInNode}
-use Rattle.yaml_read.specs.Places.{HasPlaceOf, IsHere, IsNotCanonicalAt}
-use Rattle.yaml_read.specs.RunPlaces.{RunStops, in_document}
-use Rattle.yaml_read.specs.Words.{OrMemory, past_word}
-use Rattle.yaml_read.specs.declared.errors.ReadError.{ReadError}
+use Rattle.yaml_read.specs.{Errors.Tells, Places.HasPlaceOf, Places.IsHere, RunPlaces.RunStops, RunPlaces.in_document, Words.OrMemory, Words.past_word}
+use Rattle.yaml_read.specs.{EventTexts.HasRunText, EventTexts.IsInNode, Places.IsNotCanonicalAt, declared.errors.ReadError.ReadError, declared.errors.Stop.Stop}
+use Rattle.yaml_read.proofs.{DumpedRuns.dumped_bytes_run, DumpedRuns.run_is_dumped, OneGraph.same_events, OneGraph.styled_isomorphic, RunScalars.run_utf8}
+use Rattle.yaml_dump.specs.InOrder.{in_order}
 use Rattle.yaml_read.specs.declared.errors.ReadError.TheVariants as told
-use Rattle.yaml_read.specs.declared.errors.Stop.{Stop}
 use Rattle.yaml_read.specs.declared.errors.Stop.TheVariants as stop
-use Rattle.yaml_read.proofs.DumpedRuns.{dumped_bytes_run, run_is_dumped}
-use Rattle.yaml_read.proofs.OneGraph.{same_events, styled_isomorphic}
-use Rattle.yaml_read.proofs.RunScalars.{run_utf8}
 
 -- ---- events
 

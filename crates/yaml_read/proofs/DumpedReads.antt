@@ -1,28 +1,18 @@
 -- The canonical reader finds a graph's content in the bytes of its dump, however deep it nests and however long they are.
-use Rattle.yaml_base.proofs.Common.{Bool, true, false, ◌==◌, Option, None, Some, List, [], ◌∷◌, ◌++◌, if◌then◌else◌, refl, ◌≡◌, ap, subst, sym, ◌∙◌}
-use Rattle.yaml_base.proofs.Common.{ℕ, All, All-head, All-tail, arith, and_from, append_assoc, codes, eqb-true, flat_map-append, list_all}
-use Rattle.yaml_base.proofs.Common.{Text, line_feed, encode, utf8, with_breaks_written, line_feed_break, layout}
-use Rattle.yaml_base.proofs.Common.{Standing, Piece, text_of, piece_text, root_place, render_node, document_end_piece, stream_end_piece, first_standing}
-use Rattle.yaml_base.proofs.Common.{Event, document_end, documents_and, no_documents, document_events}
-use Rattle.yaml_base.proofs.Common.{Node, node_events, Graph, canonical_content, DocumentContent}
-use Rattle.yaml_base.proofs.Common.{Isomorphic, option_and_then, unwrap_or}
-use Rattle.yaml_base.proofs.ContentsUnfold.{content_unfolds}
-use Rattle.yaml_base.proofs.DumpedLeaves.{Writes, force, s}
-use Rattle.yaml_base.proofs.DumpedOutputs.{bare_document, stream_alone}
-use Rattle.yaml_base.proofs.DumpedTexts.{node_writes}
-use Rattle.yaml_base.proofs.SameShapes.{same_shape}
-use Rattle.yaml_base.specs.Tags.{anchor_fault}
+use Rattle.yaml_base.proofs.Common.{◌==◌, [], ◌∷◌, ◌++◌, if◌then◌else◌, ◌≡◌, ◌∙◌, ℕ, Bool, true, false, Option, None, Some, List, refl, ap, subst, sym, All}
+use Rattle.yaml_base.proofs.Common.{All-head, All-tail, arith, and_from, append_assoc, codes, eqb-true, flat_map-append, list_all, Text, line_feed, encode}
+use Rattle.yaml_base.proofs.Common.{utf8, with_breaks_written, line_feed_break, layout, Standing, Piece, text_of, piece_text, root_place, render_node}
+use Rattle.yaml_base.proofs.Common.{document_end_piece, stream_end_piece, first_standing, Event, document_end, documents_and, no_documents, document_events}
+use Rattle.yaml_base.proofs.Common.{Node, node_events, Graph, canonical_content, DocumentContent, Isomorphic, option_and_then, unwrap_or, TreeUnfolds, Content}
 use Rattle.yaml_base.specs.graphs.DumpedText.{dumped_text, node_text}
-use Rattle.yaml_base.specs.graphs.Unfolding.{TreeUnfolds, Unfolds, content_shape}
-use Rattle.yaml_base.specs.reading.Content.{Content, alias_content, documents_content, node_content}
-use Rattle.yaml_emitter.proofs.canonical.Canonical.{bytes_read}
-use Rattle.yaml_emitter.proofs.canonical.CanonicalSound.{is_good_canonical, documents_ok}
-use Rattle.yaml_read.specs.DocumentTexts.{AreDumpedBytes, unstyled_graph}
-use Rattle.yaml_read.specs.EventTexts.{BeginsNode, IsAnchor, IsInNode, begins_node, ends_mapping, ends_sequence, is_alias, is_mapping, is_scalar}
-use Rattle.yaml_read.specs.EventTexts.{is_sequence}
-use Rattle.yaml_read.specs.RunPlaces.{bare_start, in_document}
+use Rattle.yaml_base.proofs.{Common.node_content, Common.anchor_fault, DumpedLeaves.Writes, DumpedLeaves.force, DumpedLeaves.s, ContentsUnfold.content_unfolds}
+use Rattle.yaml_base.proofs.{DumpedOutputs.bare_document, DumpedOutputs.stream_alone, DumpedTexts.node_writes, SameShapes.same_shape}
+use Rattle.yaml_base.specs.{graphs.Unfolding.Unfolds, graphs.Unfolding.content_shape, reading.Content.alias_content, reading.Content.documents_content}
+use Rattle.yaml_emitter.{proofs.canonical.Canonical.bytes_read, proofs.canonical.CanonicalSound.is_good_canonical, proofs.canonical.CanonicalSound.documents_ok}
+use Rattle.yaml_read.specs.EventTexts.{BeginsNode, IsAnchor, IsInNode, begins_node, ends_mapping, ends_sequence, is_alias, is_mapping, is_scalar, is_sequence}
 use Rattle.yaml_read.proofs.DumpedRuns.{dumped_bytes_run, run_is_dumped, same_parts}
-use Rattle.yaml_read.proofs.OneGraph.{isomorphic_styled, styled_isomorphic}
+use Rattle.yaml_read.specs.DocumentTexts.{AreDumpedBytes, unstyled_graph}
+use Rattle.yaml_read.{proofs.OneGraph.isomorphic_styled, proofs.OneGraph.styled_isomorphic, specs.RunPlaces.bare_start, specs.RunPlaces.in_document}
 
 -- ---- events
 

@@ -1,24 +1,15 @@
 -- The canonical bytes of a graph's dump are the text of a run of events, and such a run is a dump's.
-use Rattle.yaml_base.proofs.Common.{ℕ, All, Bool, true, None, Some, List, [], ◌∷◌, ◌++◌, refl, ◌≡◌, ap, subst, sym, ◌∙◌, arith, map, map-append}
-use Rattle.yaml_base.proofs.Common.{codes}
-use Rattle.yaml_base.proofs.Common.{Text, line_feed, encode, utf8, encode_utf8_all, DocumentStart, Event, document_start, document_end, node_events}
-use Rattle.yaml_base.proofs.Common.{Graph, document_event_list, IsWholeGraph}
-use Rattle.yaml_base.proofs.Decoding.{text_bytes-utf8}
-use Rattle.yaml_base.proofs.DocumentsUnfold.{document_unfolds}
-use Rattle.yaml_base.proofs.DumpedOutputs.{one_text}
-use Rattle.yaml_base.proofs.Unstyled.{unstyled}
+use Rattle.yaml_base.proofs.Common.{ℕ, All, Bool, true, None, Some, List, [], ◌∷◌, ◌++◌, refl, ◌≡◌, ap, subst, sym, ◌∙◌, arith, map, map-append, codes, Text}
+use Rattle.yaml_base.proofs.Common.{line_feed, encode, utf8, encode_utf8_all, DocumentStart, Event, document_start, document_end, node_events, Graph}
+use Rattle.yaml_base.proofs.Common.{document_event_list, IsWholeGraph}
 use Rattle.yaml_base.specs.graphs.DumpedText.{HaveText, dumped_text, node_text}
+use Rattle.yaml_base.{proofs.Decoding.text_bytes-utf8, proofs.DocumentsUnfold.document_unfolds, proofs.DumpedOutputs.one_text, proofs.Unstyled.unstyled}
 use Rattle.std.proofs.lemmas.List.{same_from_push}
 use Rattle.std.proofs.lemmas.List.Elements.{All-append, All-cons, All-nil, All-weaker}
-use Rattle.yaml_read.proofs.Encoded.{word_encoded}
-use Rattle.yaml_read.proofs.NodeEvents.{root_between, root_events, root_in_node}
-use Rattle.yaml_read.proofs.RunTexts.{one_run_text, run_unstyled}
-use Rattle.yaml_read.proofs.TreeRuns.{tree_runs}
-use Rattle.yaml_read.proofs.UnstyledGraphs.{document_unstyled, whole_unstyled}
-use Rattle.yaml_read.specs.DocumentTexts.{AreDumpedBytes, IsWritable, unstyled_graph}
-use Rattle.yaml_read.specs.EventTexts.{BeginsNode, HasRunText, IsInNode, begins_node, ends_mapping, ends_sequence, is_alias, is_mapping, is_scalar}
-use Rattle.yaml_read.specs.EventTexts.{is_sequence}
-use Rattle.yaml_read.specs.RunPlaces.{bare_start, in_document}
+use Rattle.yaml_read.specs.EventTexts.{BeginsNode, HasRunText, IsInNode, begins_node, ends_mapping, ends_sequence, is_alias, is_mapping, is_scalar, is_sequence}
+use Rattle.yaml_read.proofs.{Encoded.word_encoded, NodeEvents.root_between, NodeEvents.root_events, NodeEvents.root_in_node, RunTexts.one_run_text}
+use Rattle.yaml_read.proofs.{RunTexts.run_unstyled, TreeRuns.tree_runs, UnstyledGraphs.document_unstyled, UnstyledGraphs.whole_unstyled}
+use Rattle.yaml_read.specs.{DocumentTexts.AreDumpedBytes, DocumentTexts.IsWritable, DocumentTexts.unstyled_graph, RunPlaces.bare_start, RunPlaces.in_document}
 
 -- ---- documents by their parts
 

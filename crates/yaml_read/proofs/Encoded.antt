@@ -1,8 +1,7 @@
 -- Words of ASCII in UTF-8.
-use Rattle.yaml_base.proofs.Common.{ℕ, suc, zero, Bool, true, [], ◌∷◌, ◌++◌, refl, ◌≡◌, ap, ◌∙◌}
-use Rattle.yaml_base.proofs.Common.{nat_lt, ltb-true, and_parts, list_all, replicate, space, encode_utf8_all, Text}
+use Rattle.yaml_base.proofs.Common.{ℕ, [], ◌∷◌, ◌++◌, ◌≡◌, ◌∙◌, suc, zero, Bool, true, refl, ap, nat_lt, ltb-true, and_parts, list_all, replicate, space}
+use Rattle.yaml_base.{proofs.Common.encode_utf8_all, proofs.Common.Text, specs.values.ValueText.line_at}
 use Rattle.std.proofs.lemmas.Str.{encode_ascii}
-use Rattle.yaml_base.specs.values.ValueText.{line_at}
 
 -- characters of ASCII; computes at a literal
 abbrev pub are_ascii : Text → Bool

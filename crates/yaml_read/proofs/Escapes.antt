@@ -1,11 +1,8 @@
 -- Escapes and digits.
-use Rattle.yaml_base.proofs.Common.{ℕ, ◌<◌, ◌==◌, Bool, true, false, ◌&&◌, Option, None, Some, List, [], ◌∷◌, refl, ◌≡◌}
-use Rattle.yaml_base.proofs.Common.{ap, sym, ◌∙◌, arith, nat_tests, nat_lt, ltb-true, true≢false, and_parts, agree_below_at, eqb-true, if◌then◌else◌}
-use Rattle.yaml_base.proofs.Common.{Text, hex_digit}
-use Rattle.yaml_base.proofs.Common.{scalar_cases, all_scalars, character_text}
-use Rattle.yaml_base.specs.reading.ReadDouble.{letter_meaning, digit_meaning}
-use Rattle.yaml_base.specs.Characters.{backslash}
+use Rattle.yaml_base.proofs.Common.{ℕ, ◌<◌, ◌==◌, ◌&&◌, [], ◌∷◌, ◌≡◌, ◌∙◌, true≢false, if◌then◌else◌, Bool, true, false, Option, None, Some, List, refl, ap}
+use Rattle.yaml_base.proofs.Common.{sym, arith, nat_tests, nat_lt, ltb-true, and_parts, agree_below_at, eqb-true, Text, hex_digit, scalar_cases, all_scalars}
 use Rattle.yaml_base.specs.scalars.DoubleQuoted.{ShortEscape, short_escapes, letter_among, needs_escape, escape_after_backslash, escape_text}
+use Rattle.yaml_base.{proofs.Common.character_text, specs.reading.ReadDouble.letter_meaning, specs.reading.ReadDouble.digit_meaning, specs.Characters.backslash}
 
 -- an answer is there and is this number
 abbrev is_answer : Option ℕ → ℕ → Bool

@@ -1,20 +1,18 @@
 -- A document's events, one after another: what was read, and what is due.
-use Rattle.yaml_base.proofs.Common.{ℕ, true, false, Option, None, Some, List, [], ◌∷◌, ◌++◌, refl, ◌≡◌, ap, subst, sym, ◌∙◌}
-use Rattle.yaml_base.proofs.Common.{append_assoc, All, All-head, All-tail, codes, false≢true, inl, inr, ◌⊎◌, line_feed, Text, encode_utf8_all, Event}
-use Rattle.yaml_base.proofs.Common.{alias, scalar}
-use Rattle.yaml_base.proofs.Common.{sequence_start, sequence_end, mapping_start, mapping_end, stream_start, stream_end, document_start, document_end}
-use Rattle.std.proofs.lemmas.List.Elements.{All-nil, All-push}
-use Rattle.std.proofs.lemmas.Str.{encodes-append}
+use Rattle.yaml_base.proofs.Common.{ℕ, [], ◌∷◌, ◌++◌, ◌≡◌, ◌∙◌, false≢true, ◌⊎◌, ◌<◌, true, false, Option, None, Some, List, refl, ap, subst, sym, append_assoc}
+use Rattle.yaml_base.proofs.Common.{All, All-head, All-tail, codes, inl, inr, line_feed, Text, encode_utf8_all, Event, alias, scalar, sequence_start}
+use Rattle.yaml_base.proofs.Common.{sequence_end, mapping_start, mapping_end, stream_start, stream_end, document_start, document_end, length, arith}
+use Rattle.yaml_base.{proofs.Common.length-append, proofs.Common.length-le-encodes, specs.values.ValueText.in_quotes}
 use Rattle.std.specs.Prelude.{Result, Ok, Err, IfErr}
-use Rattle.yaml_read.specs.EventSteps.{ReadsEvent}
+use Rattle.std.{proofs.lemmas.List.Elements.All-nil, proofs.lemmas.List.Elements.All-push, proofs.lemmas.Str.encodes-append}
 use Rattle.yaml_read.specs.EventTexts.{Pending, HasBegunText, HasRunText, IsInNode, closing_text, ends_name, event_text, item_awaited, key_awaited, lead_text}
-use Rattle.yaml_read.specs.EventTexts.{may_come, more_come, none_begun, one_more, next_open, left_open, outside, root_ends, value_awaited}
-use Rattle.yaml_read.specs.RunPlaces.{RunStops, StopsAmong, bare_start, behind_root, in_document, in_event}
-use Rattle.yaml_read.specs.Words.{OrMemory}
-use Rattle.yaml_read.specs.declared.errors.Stop.{Stop}
+use Rattle.yaml_read.specs.EventTexts.{may_come, more_come, none_begun, one_more, next_open, left_open, outside, root_ends, value_awaited, BeginsNode}
+use Rattle.yaml_read.specs.EventTexts.{begins_node, ends_mapping, ends_sequence, is_alias, is_mapping, is_scalar, is_sequence, opening_text, trail_text}
+use Rattle.yaml_read.specs.RunPlaces.{RunStops, StopsAmong, bare_start, behind_root, in_document, in_event, IsWithin, NoEventBegins}
+use Rattle.yaml_read.proofs.EventSteps.{behind_text, end_shorter, mapping_ends, node_event, sequence_ends}
+use Rattle.yaml_read.specs.EventSteps.{ReadsEvent, await_opened, text_behind_lead, trail_behind_opening}
+use Rattle.yaml_read.{specs.Words.OrMemory, specs.declared.errors.Stop.Stop, proofs.Encoded.word_encoded}
 use Rattle.yaml_read.specs.declared.errors.Stop.TheVariants as stop
-use Rattle.yaml_read.proofs.Encoded.{word_encoded}
-use Rattle.yaml_read.proofs.EventSteps.{behind_text}
 
 -- ---- a name ends before an event in a collection
 
@@ -300,15 +298,31 @@ run_sound whole found final bytes ended is end = (
 
 -- ---- why reading stops
 
-pub stops_at_event : {T : Type 0} (whole : List ℕ) (found : List Event) (levels : List Pending) (bytes : List ℕ) (error : Stop) (Holds : Event → T → Type 0)
-    → RunBegun whole found levels bytes
+pub memory_stops : (whole : List ℕ) (error : Stop) → error ≡ stop.Memory → RunStops whole error
+memory_stops whole error is = subst (λ (e : Stop). RunStops whole e) (sym is) tt
+
+stops_among : (whole : List ℕ) (found : List Event) (levels : List Pending) (bytes : List ℕ) (error : Stop) → RunBegun whole found levels bytes
+    → NoEventBegins levels bytes → StopsAmong bytes error → RunStops whole error
+stops_among whole found levels bytes (stop.Refused left) begun none within =
+    in_event levels begun.events begun.text bytes begun.begun begun.parts none within
+stops_among whole found levels bytes (stop.TooDeep left) begun none within = within
+stops_among whole found levels bytes stop.Memory begun none within = tt
+
+pub stops_at_event : {T : Type 0} (whole : List ℕ) (found : List Event) (levels : List Pending) (bytes : List ℕ) (reason error : Stop)
+    (Holds : Event → T → Type 0) → RunBegun whole found levels bytes
     → ((event : Event) (tail : Text) → IsInNode event → may_come levels event ≡ true → ends_name tail ≡ true
-    → bytes ≡ encode_utf8_all (event_text levels event ++ tail) → OrMemory (Holds event) (Err error))
-    → StopsAmong bytes error → RunStops whole error
-stops_at_event whole found levels bytes (stop.Refused left) Holds begun reads within =
-    in_event levels begun.events begun.text bytes begun.begun begun.parts (λ event tail in_node comes ends is. reads event tail in_node comes ends is) within
-stops_at_event whole found levels bytes (stop.TooDeep left) Holds begun reads within = within
-stops_at_event whole found levels bytes stop.Memory Holds begun reads within = tt
+    → bytes ≡ encode_utf8_all (event_text levels event ++ tail) → OrMemory (Holds event) (Err reason))
+    → IsWithin bytes reason error → RunStops whole error
+stops_at_event whole found levels bytes (stop.Refused left) error Holds begun reads within = stops_among whole found levels bytes error begun reads within
+stops_at_event whole found levels bytes (stop.TooDeep left) error Holds begun reads within = stops_among whole found levels bytes error begun reads within
+stops_at_event whole found levels bytes stop.Memory error Holds begun reads within = memory_stops whole error within
+
+-- what an error within holds of what was found
+pub within_reads : {S T : Type 0} (Holds : T → Type 0) (Held : S → Type 0) (bytes : List ℕ) (reason error : Stop) → IsWithin bytes reason error
+    → OrMemory Held (Err reason) → OrMemory Holds (Err error)
+within_reads Holds Held bytes (stop.Refused left) error within reads = absurd reads
+within_reads Holds Held bytes (stop.TooDeep left) error within reads = absurd reads
+within_reads Holds Held bytes stop.Memory error within reads = subst (λ (e : Stop). OrMemory Holds (Err e)) (sym within) tt
 
 pub stops_at_end : {T : Type 0} (whole : List ℕ) (found : List Event) (bytes : List ℕ) (result : Result T Stop) (Holds : T → Type 0)
     → RunEnded whole found bytes → (bytes ≡ codes "\n" → OrMemory Holds result) → IfErr result (StopsAmong bytes) → IfErr result (RunStops whole)
@@ -318,5 +332,41 @@ stops_at_end whole found bytes (Err (stop.Refused left)) Holds ended reads withi
 stops_at_end whole found bytes (Err (stop.TooDeep left)) Holds ended reads within = within
 stops_at_end whole found bytes (Err stop.Memory) Holds ended reads within = tt
 
-pub memory_stops : (whole : List ℕ) (error : Stop) → error ≡ stop.Memory → RunStops whole error
-memory_stops whole error is = subst (λ (e : Stop). RunStops whole e) (sym is) tt
+-- ---- less is left
+
+some_behind : (front back : List ℕ) → 0 < length back → 0 < length (front ++ back)
+some_behind front back some = omega (arith, some, length-append front back)
+
+opening_some : (event : Event) → BeginsNode event → 0 < length (opening_text event)
+opening_some _ (is_alias name named) = omega arith
+opening_some _ (is_scalar anchor tag value parts) = some_behind _ (in_quotes value) (omega arith)
+opening_some _ (is_sequence anchor tag parts) = some_behind _ (codes "[") (omega arith)
+opening_some _ (is_mapping anchor tag parts) = some_behind _ (codes "{") (omega arith)
+
+event_some : (levels : List Pending) (event : Event) → IsInNode event → may_come levels event ≡ true → 0 < length (event_text levels event)
+event_some levels _ (begins_node event begins) comes =
+    let known = node_event levels event begins in
+    omega (
+      arith,
+      ap length known.text,
+      length-append (lead_text levels) (text_behind_lead levels event),
+      length-append (opening_text event) (trail_behind_opening levels (await_opened event)),
+      opening_some event begins,
+    )
+event_some levels _ ends_sequence comes =
+    let less = end_shorter levels (event_text levels sequence_end) (trail_text (outside levels)) (sequence_ends levels comes).0 refl in
+    omega (arith, less)
+event_some levels _ ends_mapping comes =
+    let less = end_shorter levels (event_text levels mapping_end) (trail_text (outside levels)) (mapping_ends levels comes).0 refl in
+    omega (arith, less)
+
+pub event_shorter : (levels : List Pending) (bytes rest : List ℕ) (after : Option (List Pending)) (event : Event)
+    → ReadsEvent levels bytes after event rest → length rest < length bytes
+event_shorter levels bytes rest after event read =
+    omega (
+      arith,
+      ap length read.parts,
+      length-append (encode_utf8_all (event_text levels event)) rest,
+      length-le-encodes (event_text levels event),
+      event_some levels event read.in_node read.comes,
+    )

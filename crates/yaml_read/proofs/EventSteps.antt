@@ -1,24 +1,16 @@
 -- Events of a document, by what is open before them.
-use Rattle.yaml_base.proofs.Common.{ℕ, ◌<◌, true, false, Option, None, Some, List, [], ◌∷◌, ◌++◌, refl, ◌≡◌, ap, subst, sym, ◌∙◌}
-use Rattle.yaml_base.proofs.Common.{append_assoc, append-nil, arith, false≢true, length, length-append, Text, encode_utf8_all, Event, alias, scalar}
-use Rattle.yaml_base.proofs.Common.{sequence_start, sequence_end, mapping_start, mapping_end, Scalar}
-use Rattle.yaml_base.proofs.Common.{Collection}
-use Rattle.std.proofs.lemmas.List.{append_cancel_left}
-use Rattle.std.proofs.lemmas.Str.{encodes-append}
-use Rattle.std.specs.Borrow.{Bor}
+use Rattle.yaml_base.proofs.Common.{ℕ, ◌<◌, true, false, Option, None, Some, List, [], ◌∷◌, ◌++◌, refl, ◌≡◌, ap, subst, sym, ◌∙◌, append_assoc, append-nil}
+use Rattle.yaml_base.proofs.Common.{arith, false≢true, length, length-append, Text, encode_utf8_all, Event, alias, scalar, sequence_start, sequence_end}
+use Rattle.yaml_base.proofs.Common.{mapping_start, mapping_end, Scalar, Collection}
 use Rattle.std.specs.Prelude.{Result, Ok, Err, IfErr, IfOk}
-use Rattle.yaml_read.specs.Awaits.{IsInnermostAwait, LeadStands, can_end, closing_event, seen_await}
+use Rattle.std.{proofs.lemmas.List.append_cancel_left, proofs.lemmas.Str.encodes-append, specs.Borrow.Bor}
 use Rattle.yaml_read.specs.EventSteps.{GoesTo, ReadsEvent, ReadsNode, await_opened, open_behind_opening, text_behind_lead, trail_behind_opening}
-use Rattle.yaml_read.specs.EventTexts.{Pending, BeginsNode, IsInNode, begins_node, closing_text, ends_mapping, ends_name, ends_sequence, event_text}
-use Rattle.yaml_read.specs.EventTexts.{is_alias, is_mapping, is_scalar, is_sequence, item_awaited, key_awaited, lead_text, may_come, next_open, left_open}
-use Rattle.yaml_read.specs.EventTexts.{opening_text, outside, trail_text, value_awaited}
-use Rattle.yaml_read.specs.declared.leads.Await.{Await}
-use Rattle.yaml_read.specs.declared.errors.Stop.{Stop}
-use Rattle.yaml_read.specs.Words.{OrMemory}
-use Rattle.yaml_read.specs.declared.steps.Progress.{Progress}
-use Rattle.yaml_read.specs.declared.steps.Progress.TheVariants.{Continues}
-use Rattle.yaml_read.proofs.Awaits.{closing_encoded, lead_encoded, lead_or_end, trail_encoded}
-use Rattle.yaml_read.proofs.Words.{error_stays, no_word}
+use Rattle.yaml_read.specs.EventTexts.{Pending, BeginsNode, IsInNode, begins_node, closing_text, ends_mapping, ends_name, ends_sequence, event_text, is_alias}
+use Rattle.yaml_read.specs.EventTexts.{is_mapping, is_scalar, is_sequence, item_awaited, key_awaited, lead_text, may_come, next_open, left_open, opening_text}
+use Rattle.yaml_read.specs.EventTexts.{outside, trail_text, value_awaited}
+use Rattle.yaml_read.specs.{Awaits.IsInnermostAwait, Awaits.LeadStands, Awaits.can_end, Awaits.closing_event, Awaits.seen_await, declared.leads.Await.Await}
+use Rattle.yaml_read.specs.{declared.errors.Stop.Stop, Words.OrMemory, declared.steps.Progress.Progress, declared.steps.Progress.TheVariants.Continues}
+use Rattle.yaml_read.proofs.{Awaits.closing_encoded, Awaits.lead_encoded, Awaits.lead_or_end, Awaits.trail_encoded, Words.error_stays, Words.no_word}
 
 -- ---- an event that begins a node
 

@@ -1,11 +1,8 @@
 -- What a character between quotes says by its first character.
-use Rattle.yaml_base.proofs.Common.{ℕ, ◌<◌, ◌≤◌, true, false, Option, None, Some, List, [], ◌∷◌, ◌++◌, ◌≡◌, ap, sym, ◌∙◌, arith}
-use Rattle.yaml_base.proofs.Common.{true≢false, Text, encode_utf8_all, encode_utf8, all_scalars, hex_digits, character_text}
-use Rattle.std.specs.Prelude.{MatchOption, length}
-use Rattle.std.specs.Borrow.{Bor}
-use Rattle.yaml_base.specs.reading.ReadDouble.{letter_meaning}
-use Rattle.yaml_base.specs.Characters.{backslash}
-use Rattle.yaml_base.specs.scalars.DoubleQuoted.{short_escapes, letter_among, needs_escape, escape_after_backslash}
+use Rattle.yaml_base.proofs.Common.{ℕ, ◌<◌, ◌≤◌, [], ◌∷◌, ◌++◌, ◌≡◌, ◌∙◌, true≢false, true, false, Option, None, Some, List, ap, sym, arith, Text}
+use Rattle.yaml_base.proofs.Common.{encode_utf8_all, encode_utf8, all_scalars, hex_digits, character_text, short_escapes, letter_among, needs_escape}
+use Rattle.yaml_base.{proofs.Common.escape_after_backslash, proofs.Common.length, specs.reading.ReadDouble.letter_meaning, specs.Characters.backslash}
+use Rattle.std.{specs.Prelude.MatchOption, specs.Borrow.Bor}
 use Rattle.yaml_read.proofs.Escapes.{Stands, as_itself, as_escape, stands}
 use Rattle.yaml_read.proofs.Firsts.{AfterBackslash, by_letter, by_two, by_four, after_backslash, first_is, not_empty}
 

@@ -1,10 +1,9 @@
 -- The first character of a text.
-use Rattle.yaml_base.proofs.Common.{ℕ, ◌+◌, ◌*◌, ◌/◌, ◌%◌, ◌<◌, ◌≤◌, Bool, true, false, Option, None, Some, List, [], ◌∷◌, ◌++◌, refl, ◌≡◌, ap, sym, ◌∙◌}
-use Rattle.yaml_base.proofs.Common.{arith, nat_tests, length, length-append, length-encode, len_utf8_bounds, Text, encode_utf8_all, encode_utf8}
-use Rattle.yaml_base.proofs.Common.{all_scalars, nat_le, leb-true, if◌then◌else◌, hex_digit, hex_digits, true≢false}
-use Rattle.std.proofs.lemmas.Str.{encode_same}
+use Rattle.yaml_base.proofs.Common.{ℕ, ◌/◌, ◌%◌, ◌<◌, ◌≤◌, Bool, true, None, Some, List, [], ◌∷◌, ◌++◌, refl, ◌≡◌, ap, sym, ◌∙◌, length, Text, nat_le}
+use Rattle.yaml_base.proofs.Common.{false, length-append, length-encode, len_utf8_bounds, encode_utf8_all, if◌then◌else◌, short_escapes, escape_after_backslash}
+use Rattle.yaml_base.proofs.Common.{Option, arith, nat_tests, encode_utf8, all_scalars, leb-true, hex_digit, hex_digits, true≢false, letter_among, needs_escape}
 use Rattle.yaml_base.specs.reading.ReadDouble.{letter_meaning}
-use Rattle.yaml_base.specs.scalars.DoubleQuoted.{short_escapes, letter_among, needs_escape, escape_after_backslash}
+use Rattle.std.proofs.lemmas.Str.{encode_same}
 use Rattle.yaml_read.proofs.Escapes.{letter_reads, short_number}
 
 -- the first character, and what follows it
@@ -19,13 +18,6 @@ not_empty bytes d text is none =
 
 -- ---- digits
 
--- the two last digits, and the four last ones
-pub two_digits : (n : ℕ) → n < 256 → (n / 16 % 16) * 16 + n % 16 ≡ n
-two_digits n h = omega arith
-
-pub two_text : (n : ℕ) (rest : Text) → hex_digits 2 n ++ rest ≡ hex_digit (n / 16 % 16) ∷ hex_digit (n % 16) ∷ rest
-two_text n rest = refl
-
 pub four_text : (n : ℕ) (rest : Text) → hex_digits 4 n ++ rest ≡ hex_digits 2 (n / 256) ++ (hex_digits 2 (n % 256) ++ rest)
 four_text n rest =
     four (n / 16 / 16 / 16 % 16) (n / 16 / 16 % 16) (n / 16 % 16) (n % 16) (n / 256 / 16 % 16) (n / 256 % 16) (n % 256 / 16 % 16) (n % 256 % 16)
@@ -38,9 +30,6 @@ four_text n rest =
         ∙ ap (λ n. hex_digit e ∷ hex_digit n ∷ hex_digit c ∷ hex_digit d ∷ rest) second
         ∙ ap (λ n. hex_digit e ∷ hex_digit f ∷ hex_digit n ∷ hex_digit d ∷ rest) third
         ∙ ap (λ n. hex_digit e ∷ hex_digit f ∷ hex_digit g ∷ hex_digit n ∷ rest) last
-
-pub four_digits : (n : ℕ) → n / 256 * 256 + n % 256 ≡ n
-four_digits n = omega arith
 
 -- ---- escapes
 

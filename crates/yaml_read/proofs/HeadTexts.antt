@@ -1,23 +1,15 @@
 -- How a value's text begins.
-use Rattle.yaml_base.proofs.Common.{ℕ, ◌+◌, Bool, Option, None, Some, List, [], ◌∷◌, ◌++◌, refl, ◌≡◌, ap, sym, ◌∙◌}
-use Rattle.yaml_base.proofs.Common.{append_assoc, codes, space, line_feed, Text, encode_utf8_all, replicate}
-use Rattle.std.proofs.lemmas.List.{append_cancel_left}
-use Rattle.std.specs.Fmt.{signed_decimal}
+use Rattle.yaml_base.proofs.Common.{ℕ, ◌+◌, Bool, Option, None, Some, List, [], ◌∷◌, ◌++◌, refl, ◌≡◌, ap, sym, ◌∙◌, append_assoc, codes, space, line_feed, Text}
+use Rattle.yaml_base.proofs.Common.{encode_utf8_all, replicate, ℤ}
 use Rattle.yaml_base.specs.values.TypedValues.{TypedValue, null_value, bool_value, int_value, text_value, list_value, map_value, TypedValues, no_values}
 use Rattle.yaml_base.specs.values.TypedValues.{values_and, TypedPairs, no_value_pairs, value_pairs_and, bool_text}
 use Rattle.yaml_base.specs.values.ValueText.{line_at, value_text, items_text, pairs_text, in_quotes}
-use Rattle.std.specs.Prelude.{ℤ}
-use Rattle.yaml_read.proofs.Words.{no_word, behind_word}
-use Rattle.yaml_read.proofs.Encoded.{word_encoded}
+use Rattle.std.{specs.Prelude.Result, specs.Prelude.Ok, specs.Prelude.Err, proofs.lemmas.List.append_cancel_left, specs.Fmt.signed_decimal, specs.Borrow.Bor}
 use Rattle.yaml_read.proofs.Remaining.{items_behind, pairs_behind, items_open_text, pairs_open_text}
-use Rattle.yaml_read.specs.Words.{past_word}
-use Rattle.std.specs.Borrow.{Bor}
-use Rattle.std.specs.Prelude.{Result, Ok, Err}
 use Rattle.yaml_read.specs.Heads.{HeadRead, ListRead, MapRead, tag_word}
-use Rattle.yaml_read.specs.declared.errors.Stop.{Stop}
-use Rattle.yaml_read.specs.declared.heads.Head.{Head}
+use Rattle.yaml_read.{proofs.Words.no_word, proofs.Words.behind_word, proofs.Encoded.word_encoded, specs.Words.past_word, specs.declared.errors.Stop.Stop}
+use Rattle.yaml_read.{specs.declared.heads.Head.Head, specs.declared.heads.Kind.Kind}
 use Rattle.yaml_read.specs.declared.heads.Head.TheVariants as head
-use Rattle.yaml_read.specs.declared.heads.Kind.{Kind}
 use Rattle.yaml_read.specs.declared.heads.Kind.TheVariants as kind
 
 -- a value's tag, and the space after it
@@ -159,9 +151,6 @@ map_bracket column (value_pairs_and pairs key value) rest tail is none =
     no_word (codes "{") tail _ none
     (is ∙ word_encoded (codes "{")
     (line_at (column + 2) ++ (codes "? " ++ pairs_behind (column + 2) pairs key value (codes "," ++ (line_at column ++ (codes "}" ++ rest))))) refl)
-
-some_some : (a b : List ℕ) → ◌≡◌ {A = Option (List ℕ)} (Some a) (Some b) → a ≡ b
-some_some a b is = cc
 
 none_some : (a : List ℕ) → ◌≡◌ {A = Option (List ℕ)} None (Some a) → ⊥
 none_some a is = cc

@@ -1,28 +1,16 @@
 -- How a value that was read began.
-use Rattle.yaml_base.proofs.Common.{ℕ, ◌<◌, Bool, true, false, None, List, [], ◌++◌, refl, ◌≡◌, ap, subst, sym, ◌∙◌}
-use Rattle.yaml_base.proofs.Common.{append_assoc, append-nil, arith, codes, Text, encode_utf8_all, chars, chars-IsAscii}
-use Rattle.std.proofs.Common.{FitsSigned, w64, pos, negsuc, rules}
-use Rattle.std.proofs.lemmas.Fmt.{IsAscii-signed}
-use Rattle.std.proofs.lemmas.Str.{IsUtf8-string_bytes, scalars-chars}
-use Rattle.std.specs.Borrow.{Bor}
-use Rattle.std.specs.Fmt.{signed_decimal}
-use Rattle.std.specs.Int.Signed.{mag}
-use Rattle.std.specs.Prelude.{ℤ, ◌^◌, Result, Ok, Err, IfOk, String}
-use Rattle.std.specs.Str.Parse.{ParsesSigned}
-use Rattle.std.specs.String.{string_bytes}
-use Rattle.yaml_base.specs.Seen.{seen_text}
+use Rattle.yaml_base.proofs.Common.{ℕ, ◌<◌, Bool, true, false, None, List, [], ◌++◌, refl, ◌≡◌, ap, subst, sym, ◌∙◌, append_assoc, append-nil, arith, codes}
+use Rattle.yaml_base.proofs.Common.{Text, encode_utf8_all, chars, chars-IsAscii, pos, negsuc, ℤ}
 use Rattle.yaml_base.specs.values.TypedValues.{TypedValue, null_value, bool_value, text_value, list_value, map_value, no_values, no_value_pairs, bool_text}
-use Rattle.yaml_base.specs.values.ValueText.{in_quotes}
+use Rattle.yaml_base.{specs.Seen.seen_text, specs.values.ValueText.in_quotes}
+use Rattle.std.proofs.Common.{FitsSigned, w64, rules, ◌^◌, Result, Ok, Err, IfOk, String, Bor, string_bytes}
+use Rattle.std.proofs.lemmas.Str.{IsUtf8-string_bytes, scalars-chars}
+use Rattle.std.{proofs.lemmas.Fmt.IsAscii-signed, specs.Fmt.signed_decimal, specs.Int.Signed.mag, specs.Str.Parse.ParsesSigned}
 use Rattle.yaml_value.specs.SeenValues.{seen_value}
-use Rattle.yaml_value.specs.declared.value.Value as declared
-use Rattle.yaml_read.proofs.Encoded.{are_ascii, word_encoded}
-use Rattle.yaml_read.proofs.Turns.{cut_is}
-use Rattle.yaml_read.proofs.Words.{no_word}
-use Rattle.yaml_read.specs.Heads.{ListRead, MapRead}
 use Rattle.yaml_read.specs.Sound.{HeadIs, IsInteger, IsTruth, IsValue}
-use Rattle.yaml_read.specs.Words.{past_word}
-use Rattle.yaml_read.specs.declared.errors.Stop.{Stop}
-use Rattle.yaml_read.specs.declared.heads.Head.{Head}
+use Rattle.yaml_read.{proofs.Encoded.are_ascii, proofs.Encoded.word_encoded, proofs.Turns.cut_is, proofs.Words.no_word, specs.Heads.ListRead}
+use Rattle.yaml_read.{specs.Heads.MapRead, specs.Words.past_word, specs.declared.errors.Stop.Stop, specs.declared.heads.Head.Head}
+use Rattle.yaml_value.specs.declared.value.Value as declared
 use Rattle.yaml_read.specs.declared.heads.Head.TheVariants as head
 
 -- a word of ASCII is its bytes

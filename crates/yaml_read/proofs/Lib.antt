@@ -38,4 +38,5 @@ pub mod EventRuns
 pub mod NameTexts
 pub mod TagBytes
 pub mod TagTexts
+pub mod TagPrefixes
 pub mod NodeTexts

@@ -1,29 +1,15 @@
 -- Names, and the anchors in front of nodes.
-use Rattle.yaml_base.proofs.Common.{ℕ, ◌+◌, ◌<◌, ◌≤◌, ◌==◌, suc, Bool, true, false, cond, Option, None, Some, List, [], ◌∷◌, ◌++◌, refl, ◌≡◌, ap, subst}
-use Rattle.yaml_base.proofs.Common.{sym, ◌∙◌, arith, nat_tests, true≢false, eqb-true, not-true, and_parts, and_from, append_assoc, length, if◌then◌else◌}
-use Rattle.yaml_base.proofs.Common.{◌&&◌, inl, inr, list_all-append, list_all, take, drop, chars, chars-IsAscii, codes, nat_lt, ltb-true, Text}
-use Rattle.yaml_base.proofs.Common.{encode_utf8_all, encode_utf8, is_alpha, alias_fault, space}
-use Rattle.std.proofs.lemmas.List.{take-append-drop, append_cancel_left}
-use Rattle.std.proofs.lemmas.List.Sums.{prefix_len-le-length}
-use Rattle.std.proofs.lemmas.Str.{IsCharBoundary-from_take, IsUtf8-from_ascii, char_from_byte}
-use Rattle.std.specs.List.{prefix_len}
-use Rattle.std.specs.Str.{IsCharBoundary, IsUtf8}
-use Rattle.std.specs.Prelude.{String}
-use Rattle.std.specs.String.{string_bytes}
-use Rattle.yaml_base.proofs.AllPass.{all_pass}
-use Rattle.yaml_base.proofs.AsciiWords.{ascii_of}
-use Rattle.yaml_base.specs.Seen.{seen_text}
-use Rattle.yaml_base.specs.declared.errors.yaml_error_t.{yaml_error_t}
+use Rattle.yaml_base.proofs.Common.{ℕ, ◌+◌, ◌<◌, ◌==◌, [], ◌∷◌, ◌++◌, ◌≡◌, ◌∙◌, true≢false, if◌then◌else◌, ◌&&◌, suc, Bool, true, false, cond, Option}
+use Rattle.yaml_base.proofs.Common.{None, Some, List, refl, ap, subst, sym, arith, nat_tests, eqb-true, not-true, and_parts, and_from, append_assoc, length}
+use Rattle.yaml_base.proofs.Common.{list_all-append, list_all, take, drop, chars, chars-IsAscii, codes, nat_lt, ltb-true, Text, encode_utf8_all}
 use Rattle.yaml_base.specs.declared.errors.yaml_error_t.TheVariants.{AliasAlphabet, AnchorAlphabet}
-use Rattle.yaml_base.specs.graphs.DumpedText.{anchor_text}
-use Rattle.yaml_read.proofs.Encoded.{are_ascii, word_encoded}
-use Rattle.yaml_read.proofs.HeadsRead.{word_bytes}
-use Rattle.yaml_read.proofs.Words.{no_word}
-use Rattle.yaml_read.specs.EventTexts.{IsAnchor, ends_name}
-use Rattle.yaml_read.specs.Places.{IsHereOrMemory}
-use Rattle.yaml_read.specs.RunPlaces.{StopsAmong}
-use Rattle.yaml_read.specs.Words.{past_word}
-use Rattle.yaml_read.specs.declared.errors.Stop.{Stop}
+use Rattle.yaml_base.{proofs.Common.encode_utf8, proofs.Common.is_alpha, proofs.Common.alias_fault, proofs.Common.space, proofs.AllPass.all_pass}
+use Rattle.yaml_base.{proofs.AsciiWords.ascii_of, specs.Seen.seen_text, specs.declared.errors.yaml_error_t.yaml_error_t, specs.graphs.DumpedText.anchor_text}
+use Rattle.std.proofs.lemmas.Str.{IsCharBoundary-from_take, IsUtf8-from_ascii, char_from_byte}
+use Rattle.std.{proofs.lemmas.List.take-append-drop, proofs.lemmas.List.append_cancel_left, proofs.lemmas.List.Sums.prefix_len-le-length, specs.List.prefix_len}
+use Rattle.std.{specs.Str.IsCharBoundary, specs.Str.IsUtf8, specs.Prelude.String, specs.String.string_bytes}
+use Rattle.yaml_read.proofs.{Encoded.are_ascii, Encoded.word_encoded, HeadsRead.word_bytes, Words.no_word}
+use Rattle.yaml_read.specs.{EventTexts.IsAnchor, EventTexts.ends_name, Words.past_word}
 
 -- ---- the alphabet
 
@@ -210,10 +196,3 @@ anchor_sound name text inside behind rest named cut read spaced =
     anchor_ascii : (name : Text) → list_all is_alpha name ≡ true → are_ascii (anchor_text (Some name)) ≡ true
     anchor_ascii name letters =
         list_all-append (λ c. nat_lt c 128) name (space ∷ []) ∙ ap (λ b. b && true) (name_ascii name letters)
-
--- ---- places
-
--- what stops here stops within
-pub within_here : (bytes inside : List ℕ) (error : Stop) → length inside ≤ length bytes → IsHereOrMemory inside error → StopsAmong bytes error
-within_here bytes inside error few (inl memory) = subst (StopsAmong bytes) (sym memory) tt
-within_here bytes inside error few (inr here) = subst (StopsAmong bytes) (sym here) few

@@ -1,21 +1,15 @@
 -- The events of a dump's node, without their styles, are such as are read.
 use Rattle.yaml_base.proofs.Common.{ℕ, suc, zero, numbers_in, All, Bool, true, false, Option, None, Some, List, [], ◌∷◌, ◌++◌, refl, ◌≡◌, ap, subst, ◌∙◌, map}
-use Rattle.yaml_base.proofs.Common.{flat_map, list_all, Contains, if◌then◌else◌, option_and_then, option_or, unwrap_or, is_alpha}
-use Rattle.yaml_base.proofs.Common.{Text, Event, alias, document_start, document_end, sequence_end, mapping_end}
-use Rattle.yaml_base.proofs.Common.{Held, scalar_held, sequence_held, mapping_held, GraphNode, Graph, node_numbered, Step, enters, leaves, meets_again}
-use Rattle.yaml_base.proofs.Common.{anchor_of, opening_event_of, opening_events, closing_event_of, closing_events, step_events, document_event_list}
-use Rattle.yaml_base.proofs.Common.{IsWholeGraph, name_fault, anchor_fault, tag_fault, All-tail}
-use Rattle.yaml_base.proofs.GraphRefusals.{IsWritable as HasNoFault, document_writable}
-use Rattle.yaml_base.proofs.Twins.{contained_in}
-use Rattle.yaml_base.proofs.Unstyled.{unstyled}
-use Rattle.yaml_base.specs.declared.errors.yaml_error_t.{yaml_error_t}
+use Rattle.yaml_base.proofs.Common.{flat_map, list_all, Contains, if◌then◌else◌, option_and_then, option_or, unwrap_or, is_alpha, Text, Event, alias}
+use Rattle.yaml_base.proofs.Common.{document_start, document_end, sequence_end, mapping_end, Held, scalar_held, sequence_held, mapping_held, GraphNode, Graph}
+use Rattle.yaml_base.proofs.Common.{node_numbered, Step, enters, leaves, meets_again, anchor_of, opening_event_of, opening_events, closing_event_of}
+use Rattle.yaml_base.proofs.Common.{closing_events, step_events, document_event_list, IsWholeGraph, name_fault, anchor_fault, tag_fault, All-tail}
 use Rattle.yaml_base.specs.declared.errors.yaml_error_t.TheVariants.{AliasAlphabet, AliasEmpty, AnchorAlphabet, AnchorEmpty, TagEmpty}
-use Rattle.yaml_base.specs.graphs.Meetings.{graph_steps}
+use Rattle.yaml_base.{proofs.Twins.contained_in, proofs.Unstyled.unstyled, specs.declared.errors.yaml_error_t.yaml_error_t, specs.graphs.Meetings.graph_steps}
 use Rattle.std.proofs.lemmas.List.Elements.{All-append, All-cons, All-contains_itself, All-map, All-nil, All-pop, All-weaker}
-use Rattle.yaml_read.proofs.ChildWalks.{walks_same}
-use Rattle.yaml_read.specs.DocumentTexts.{IsWritable}
 use Rattle.yaml_read.specs.EventTexts.{IsAnchor, IsInNode, begins_node, ends_mapping, ends_sequence, is_alias, is_mapping, is_scalar, is_sequence}
-use Rattle.yaml_read.specs.RunPlaces.{bare_start}
+use Rattle.yaml_read.{proofs.ChildWalks.walks_same, specs.DocumentTexts.IsWritable, specs.RunPlaces.bare_start}
+use Rattle.yaml_base.proofs.GraphRefusals.{IsWritable as HasNoFault, document_writable}
 
 -- ---- the events of a walk
 

@@ -1,21 +1,15 @@
 -- How the nodes of a document begin.
-use Rattle.yaml_base.proofs.Common.{ℕ, true, false, Option, None, Some, List, [], ◌∷◌, ◌++◌, refl, ◌≡◌, ap, subst, sym, ◌∙◌, arith, append_assoc, codes}
-use Rattle.yaml_base.proofs.Common.{Text, encode_utf8_all, all_scalars, tag_fault, alias_fault, Event, alias, any_style, any_layout, opening_event_of, Held}
+use Rattle.yaml_base.proofs.Common.{ℕ, true, false, Option, None, Some, List, [], ◌∷◌, ◌++◌, refl, ◌≡◌, ap, subst, sym, ◌∙◌, arith, append_assoc, codes, Text}
+use Rattle.yaml_base.proofs.Common.{encode_utf8_all, all_scalars, tag_fault, alias_fault, Event, alias, any_style, any_layout, opening_event_of, Held}
 use Rattle.yaml_base.proofs.Common.{scalar_held, sequence_held, mapping_held, ◌==◌, nat_tests, true≢false, flat_map, character_text, space, percent_escaped}
-use Rattle.std.specs.Prelude.{Result, Ok, Err}
-use Rattle.std.proofs.lemmas.List.{append_cancel_left}
-use Rattle.std.proofs.lemmas.Str.{encodes-append}
-use Rattle.yaml_base.specs.scalars.DoubleQuoted.{quote}
-use Rattle.yaml_base.specs.values.ValueText.{in_quotes}
-use Rattle.yaml_read.proofs.Encoded.{word_encoded}
-use Rattle.yaml_read.proofs.TagBytes.{same_first}
+use Rattle.yaml_base.specs.{scalars.DoubleQuoted.quote, values.ValueText.in_quotes, graphs.DumpedText.anchor_text, graphs.DumpedText.tag_text, Seen.seen_text}
+use Rattle.std.{specs.Prelude.Result, specs.Prelude.Ok, specs.Prelude.Err, specs.Prelude.String, proofs.lemmas.List.append_cancel_left}
+use Rattle.std.{proofs.lemmas.Str.encodes-append, proofs.lemmas.Str.IsUtf8-string_bytes, proofs.lemmas.Str.scalars-chars, specs.String.string_bytes}
 use Rattle.yaml_read.proofs.TagTexts.{IsSpelled, is_spelled, of_document, of_type, whole}
-use Rattle.yaml_read.proofs.Words.{no_word}
 use Rattle.yaml_read.specs.Words.{OrMemory, past_word}
-use Rattle.yaml_base.specs.graphs.DumpedText.{anchor_text, tag_text}
 use Rattle.yaml_read.specs.EventTexts.{BeginsNode, IsAnchor, is_alias, is_mapping, is_scalar, is_sequence, opening_text}
-use Rattle.yaml_read.specs.WrittenTags.{HasHeldText, mapping_opened, sequence_opened, value_quoted}
-use Rattle.yaml_read.specs.declared.errors.Stop.{Stop}
+use Rattle.yaml_read.specs.WrittenTags.{HasHeldText, mapping_opened, sequence_opened, value_quoted, IsTagged}
+use Rattle.yaml_read.{proofs.Encoded.word_encoded, proofs.TagBytes.same_first, proofs.Words.no_word, specs.declared.errors.Stop.Stop}
 use Rattle.yaml_read.specs.declared.errors.Stop.TheVariants as stop
 
 -- an anchor, a tag and what stands behind them
@@ -195,17 +189,27 @@ at_parts _ _ rest text (of_parts anchor tag held written named sound scalars has
       stands = is ∙ ap encode_utf8_all (opening_parts anchor tag written rest);
     }
 
--- parts that were read
-pub opening_read : (anchor : Option Text) (tag written : Text) (text behind rest more : List ℕ) → text ≡ encode_utf8_all (anchor_text anchor) ++ behind
-    → behind ≡ encode_utf8_all (tag_text (Some tag) false) ++ rest → rest ≡ encode_utf8_all written ++ more
-    → text ≡ encode_utf8_all (node_opening anchor tag written) ++ more
-opening_read anchor tag written text behind rest more first second third =
-    first
-    ∙ ap (λ t. encode_utf8_all (anchor_text anchor) ++ t) (second ∙ ap (λ t. encode_utf8_all (tag_text (Some tag) false) ++ t) third
-    ∙ sym (append_assoc (encode_utf8_all (tag_text (Some tag) false)) (encode_utf8_all written) more)
-    ∙ ap (λ t. t ++ more) (sym (encodes-append (tag_text (Some tag) false) written)))
-    ∙ sym (append_assoc (encode_utf8_all (anchor_text anchor)) (encode_utf8_all (tag_text (Some tag) false ++ written)) more)
-    ∙ ap (λ t. t ++ more) (sym (encodes-append (anchor_text anchor) (tag_text (Some tag) false ++ written)))
+both_read : (first second : Text) (text behind rest : List ℕ) → text ≡ encode_utf8_all first ++ behind → behind ≡ encode_utf8_all second ++ rest
+    → text ≡ encode_utf8_all (first ++ second) ++ rest
+both_read first second text behind rest is also =
+    is ∙ ap (λ t. encode_utf8_all first ++ t) also ∙ sym (append_assoc (encode_utf8_all first) (encode_utf8_all second) rest)
+    ∙ ap (λ t. t ++ rest) (sym (encodes-append first second))
+
+-- parts that were read, from the tag on, and behind the anchor
+pub tagged_read : {A : Type 0} (tag : String A) (anchor : Option Text) (held : Held) (written : Text) (text behind rest : List ℕ) (event : Event)
+    → (tag_fault (seen_text tag) ≡ None) × (text ≡ encode_utf8_all (tag_text (Some (seen_text tag)) false) ++ behind) → HasHeldText held written
+    → event ≡ opening_event_of anchor (seen_text tag) held → behind ≡ encode_utf8_all written ++ rest → IsTagged anchor text event rest
+tagged_read tag anchor held written text behind rest event read has is more =
+    record {
+      tag = seen_text tag;
+      held = held;
+      written = written;
+      sound = read.0;
+      scalars = scalars-chars (string_bytes tag) (IsUtf8-string_bytes tag);
+      has = has;
+      is = is;
+      parts = both_read (tag_text (Some (seen_text tag)) false) written text behind rest read.1 more;
+    }
 
 -- ---- answers
 
@@ -222,11 +226,11 @@ pub alias_read : (name : Text) (text inside rest : List ℕ) → text ≡ codes 
 alias_read name text inside rest cut read =
     cut ∙ ap (λ t. 0x2A ∷ t) read ∙ ap (λ t. t ++ rest) (sym (word_encoded (codes "*") name refl))
 
-pub node_read : (event : Event) (anchor : Option Text) (tag : Text) (held : Held) (written : Text) (text rest : List ℕ) → IsAnchor anchor
-    → tag_fault tag ≡ None → all_scalars tag ≡ true → HasHeldText held written → event ≡ opening_event_of anchor tag held
-    → text ≡ encode_utf8_all (node_opening anchor tag written) ++ rest → BeginsNode event × (text ≡ encode_utf8_all (opening_text event) ++ rest)
-node_read event anchor tag held written text rest named sound scalars has is stands =
-    let begins = begins_by anchor tag held written named sound scalars has in (
-      subst BeginsNode (sym is) begins.0,
-      stands ∙ ap (λ t. encode_utf8_all t ++ rest) (sym begins.1 ∙ ap opening_text (sym is)),
+pub node_read : (anchor : Option Text) (text behind rest : List ℕ) (event : Event) → IsAnchor anchor → text ≡ encode_utf8_all (anchor_text anchor) ++ behind
+    → IsTagged anchor behind event rest → BeginsNode event × (text ≡ encode_utf8_all (opening_text event) ++ rest)
+node_read anchor text behind rest event named is tagged =
+    let begins = begins_by anchor tagged.tag tagged.held tagged.written named tagged.sound tagged.scalars tagged.has in (
+      subst BeginsNode (sym tagged.is) begins.0,
+      both_read (anchor_text anchor) (tag_text (Some tagged.tag) false ++ tagged.written) text behind rest is tagged.parts
+          ∙ ap (λ t. encode_utf8_all t ++ rest) (sym begins.1 ∙ ap opening_text (sym tagged.is)),
     )

@@ -1,16 +1,10 @@
 -- Graphs of the same events are isomorphic, and so are a graph and one of its events without styles.
-use Rattle.yaml_base.proofs.Common.{ℕ, false, Option, None, Some, List, [], ◌∷◌, ◌++◌, refl, ◌≡◌, ap, subst, sym, ◌∙◌, map, option_map}
-use Rattle.yaml_base.proofs.Common.{Event, stream_start, stream_end, Node, alias_node, Document, Documents, documents_and, no_documents, Stream}
-use Rattle.yaml_base.proofs.Common.{Graph, GraphNode, node_numbered, document_event_list, Isomorphic, IsWholeGraph}
-use Rattle.yaml_base.proofs.ContentsUnfold.{content_unfolds}
-use Rattle.yaml_base.proofs.DocumentsUnfold.{document_unfolds}
-use Rattle.yaml_base.proofs.SameShapes.{same_shape}
-use Rattle.yaml_base.proofs.Trees.{one_tree}
-use Rattle.yaml_base.specs.graphs.Isomorphic.{label_at}
-use Rattle.yaml_base.specs.graphs.Meetings.{Held, mapping_held, scalar_held, sequence_held}
-use Rattle.yaml_base.specs.graphs.Unfolding.{IsReached, child_reached, first_reached, Label, Unfolds, content_shape, label_of}
-use Rattle.yaml_base.specs.reading.Content.{node_content}
-use Rattle.std.specs.Prelude.{Contains}
+use Rattle.yaml_base.proofs.Common.{ℕ, false, Option, None, Some, List, [], ◌∷◌, ◌++◌, refl, ◌≡◌, ap, subst, sym, ◌∙◌, map, option_map, Event, stream_start}
+use Rattle.yaml_base.proofs.Common.{stream_end, Node, alias_node, Document, Documents, documents_and, no_documents, Stream, Graph, GraphNode, node_numbered}
+use Rattle.yaml_base.proofs.Common.{document_event_list, Isomorphic, IsWholeGraph, Held, mapping_held, scalar_held, sequence_held, IsReached, child_reached}
+use Rattle.yaml_base.proofs.Common.{first_reached, Label, label_of, label_at, node_content, Contains}
+use Rattle.yaml_base.specs.graphs.Unfolding.{Unfolds, content_shape}
+use Rattle.yaml_base.{proofs.ContentsUnfold.content_unfolds, proofs.DocumentsUnfold.document_unfolds, proofs.SameShapes.same_shape, proofs.Trees.one_tree}
 use Rattle.yaml_read.proofs.UnstyledGraphs.{children_unstyled, node_unstyled}
 use Rattle.yaml_read.specs.DocumentTexts.{unstyled_graph, unstyled_node}
 

@@ -1,17 +1,13 @@
 -- What was read grows with each word.
-use Rattle.yaml_base.proofs.Common.{ℕ, ◌+◌, ◌*◌, ◌<◌, Bool, true, false, true≢false, List, [], ◌∷◌, ◌++◌, refl, ◌≡◌, ap, subst, sym, ◌∙◌}
-use Rattle.yaml_base.proofs.Common.{append_assoc, append-nil, arith, length, codes, line_feed, Text, encode_utf8_all, eqb-true, ◌==◌}
-use Rattle.std.proofs.lemmas.Str.{encodes-append}
-use Rattle.yaml_base.specs.values.TypedValues.{TypedValue, TypedValues, no_values, values_and, TypedPairs, no_value_pairs, value_pairs_and}
-use Rattle.yaml_base.specs.values.TypedValues.{list_value, map_value, most_nested}
+use Rattle.yaml_base.proofs.Common.{ℕ, ◌+◌, ◌*◌, ◌<◌, Bool, true, false, true≢false, List, [], ◌∷◌, ◌++◌, refl, ◌≡◌, ap, subst, sym, ◌∙◌, append_assoc}
+use Rattle.yaml_base.proofs.Common.{append-nil, arith, length, codes, line_feed, Text, encode_utf8_all, eqb-true, ◌==◌}
+use Rattle.yaml_base.specs.values.TypedValues.{TypedValue, TypedValues, no_values, values_and, TypedPairs, no_value_pairs, value_pairs_and, list_value}
+use Rattle.yaml_base.specs.values.TypedValues.{map_value, most_nested}
 use Rattle.yaml_base.specs.values.ValueText.{line_at, value_text, items_text, pairs_text, entry_lead, has_no_values, has_no_value_pairs, document_text}
-use Rattle.yaml_read.specs.Opened.{opened_text, IsOpen, HasRead}
-use Rattle.yaml_read.specs.Readable.{CanBeReadAt}
+use Rattle.std.proofs.lemmas.Str.{encodes-append}
 use Rattle.yaml_read.specs.Remaining.{Completes, IsRead, text_ends, OpenLevel, items_open, pairs_open, value_due, column_in, seen_level, seen_levels}
-use Rattle.yaml_read.specs.declared.levels.Level.{Level}
-use Rattle.yaml_read.proofs.SeenLevels.{level_more}
-use Rattle.yaml_read.proofs.Encoded.{are_ascii, word_encoded, line_encoded}
-use Rattle.yaml_read.proofs.Turns.{column_is, line_deeper}
+use Rattle.yaml_read.specs.{Opened.opened_text, Opened.IsOpen, Opened.HasRead, Readable.CanBeReadAt, declared.levels.Level.Level}
+use Rattle.yaml_read.proofs.{SeenLevels.level_more, Encoded.are_ascii, Encoded.word_encoded, Encoded.line_encoded, Turns.column_is, Turns.line_deeper}
 
 -- a word that is its own bytes is read
 word_read : (whole bytes rest word written : List ℕ) (text : Text) → whole ≡ encode_utf8_all text ++ bytes → bytes ≡ word ++ rest

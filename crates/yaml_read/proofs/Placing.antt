@@ -1,11 +1,8 @@
 -- From where the bytes break off to the place of the error.
 use Rattle.yaml_base.proofs.Common.{ℕ, ◌-◌, None, List, [], ◌++◌, refl, ◌≡◌, subst, sym, inl, inr, codes, length}
 use Rattle.std.specs.Str.{IsUtf8, IsValidUpTo}
-use Rattle.yaml_read.specs.Errors.{Tells}
 use Rattle.yaml_read.specs.Places.{HasPlaceOf, IsHere, IsNotCanonicalAt, IsPlaced, StopsAt, StopsIn}
-use Rattle.yaml_read.specs.Words.{past_word}
-use Rattle.yaml_read.specs.declared.errors.ReadError.{ReadError}
-use Rattle.yaml_read.specs.declared.errors.Stop.{Stop}
+use Rattle.yaml_read.{specs.Errors.Tells, specs.Words.past_word, specs.declared.errors.ReadError.ReadError, specs.declared.errors.Stop.Stop}
 use Rattle.yaml_read.specs.declared.errors.Stop.TheVariants as stop
 
 -- a document's first line is missing

@@ -1,21 +1,12 @@
 -- Texts between quotes, a character at a time.
-use Rattle.yaml_base.proofs.Common.{ℕ, ◌==◌, Bool, true, Option, None, Some, List, [], ◌∷◌, ◌++◌, refl, ◌≡◌, ap, sym, ◌∙◌}
-use Rattle.yaml_base.proofs.Common.{arith, append_assoc, append-nil, codes, Text, encode_utf8_all, encode_utf8, all_scalars, and_parts, character_text}
-use Rattle.yaml_base.proofs.Common.{true≢false, chars, chars-encodes, flat_map, ◌&&◌}
-use Rattle.std.specs.Prelude.{MatchOption, String}
-use Rattle.std.specs.String.{string_bytes}
-use Rattle.yaml_base.specs.Seen.{seen_text}
-use Rattle.std.specs.Borrow.{Bor}
-use Rattle.std.proofs.lemmas.List.{append_cancel_left}
+use Rattle.yaml_base.proofs.Common.{ℕ, ◌==◌, Bool, true, Option, None, Some, List, [], ◌∷◌, ◌++◌, refl, ◌≡◌, ap, sym, ◌∙◌, arith, append_assoc, append-nil}
+use Rattle.yaml_base.proofs.Common.{codes, Text, encode_utf8_all, encode_utf8, all_scalars, and_parts, character_text, true≢false, chars, chars-encodes}
+use Rattle.yaml_base.proofs.Common.{flat_map, ◌&&◌}
+use Rattle.yaml_base.specs.{Seen.seen_text, scalars.DoubleQuoted.needs_escape, scalars.DoubleQuoted.quote, values.ValueText.in_quotes, Characters.backslash}
 use Rattle.std.proofs.lemmas.Str.{encode_same, encodes-append, encode_ascii}
-use Rattle.yaml_base.specs.scalars.DoubleQuoted.{needs_escape, quote}
-use Rattle.yaml_base.specs.values.ValueText.{in_quotes}
-use Rattle.yaml_base.specs.Characters.{backslash}
-use Rattle.yaml_read.proofs.Encoded.{word_encoded}
+use Rattle.std.{specs.Prelude.MatchOption, specs.Prelude.String, specs.String.string_bytes, specs.Borrow.Bor, proofs.lemmas.List.append_cancel_left}
 use Rattle.yaml_read.proofs.Escapes.{Stands, as_itself, as_escape, stands}
-use Rattle.yaml_read.proofs.Words.{no_word}
-use Rattle.yaml_read.specs.Heads.{ReadsCharacter}
-use Rattle.yaml_read.specs.Words.{past_word}
+use Rattle.yaml_read.{proofs.Encoded.word_encoded, proofs.Words.no_word, specs.Heads.ReadsCharacter, specs.Words.past_word}
 
 -- the characters between quotes, the closing quote, and a rest
 abbrev pub to_quote : Text → Text → Text

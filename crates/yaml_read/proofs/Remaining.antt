@@ -1,13 +1,11 @@
 -- What is left of a value's text while it is read.
-use Rattle.yaml_base.proofs.Common.{ℕ, ◌+◌, ◌≤◌, suc, List, ◌∷◌, ◌++◌, refl, ◌≡◌, ◌∙◌}
-use Rattle.yaml_base.proofs.Common.{arith, append_assoc, length, codes, space, line_feed, Text, replicate}
+use Rattle.yaml_base.proofs.Common.{ℕ, ◌+◌, ◌≤◌, suc, List, ◌∷◌, ◌++◌, refl, ◌≡◌, ◌∙◌, arith, append_assoc, length, codes, space, line_feed, Text, replicate}
 use Rattle.yaml_base.specs.values.TypedValues.{TypedValue, null_value, bool_value, int_value, text_value, list_value, map_value, TypedValues, no_values}
 use Rattle.yaml_base.specs.values.TypedValues.{values_and, TypedPairs, no_value_pairs, value_pairs_and, Has64Bits, Have64Bits, PairsHave64Bits}
 use Rattle.yaml_base.specs.values.TypedValues.{nesting, values_nesting, value_pairs_nesting, most_nested}
 use Rattle.yaml_base.specs.values.ValueText.{line_at, value_text, items_text, pairs_text}
 use Rattle.yaml_read.specs.Readable.{HasScalarTexts, HaveScalarTexts, PairsHaveScalarTexts, CanBeRead, CanBeReadAt, AllCanBeReadAt, PairsCanBeReadAt}
-use Rattle.yaml_read.specs.Remaining.{OpenLevel, items_open, pairs_open, value_due, column_in, Completes, item_follows}
-use Rattle.yaml_read.specs.Remaining.{value_follows, pair_follows}
+use Rattle.yaml_read.specs.Remaining.{OpenLevel, items_open, pairs_open, value_due, column_in, Completes, item_follows, value_follows, pair_follows}
 
 -- ---- readable values
 

@@ -1,24 +1,16 @@
 -- The text of a node's events consists of Unicode scalar values, so its bytes are UTF-8.
-use Rattle.yaml_base.proofs.Common.{ℕ, ◌*◌, Bool, true, false, not, Option, None, Some, List, [], ◌∷◌, ◌++◌, refl, ◌≡◌, ap, sym, ◌∙◌}
-use Rattle.yaml_base.proofs.Common.{All, All-head, All-tail, if◌then◌else◌, agree_below_at, arith, bytes_eq, codes, length, list_all}
-use Rattle.yaml_base.proofs.Common.{ltb-true, nat_lt, nat_tests, all_scalars, is_alpha, line_feed, space, Text}
-use Rattle.yaml_base.proofs.Common.{percent_escaped, suffix_escaped}
+use Rattle.yaml_base.proofs.Common.{ℕ, ◌*◌, Bool, true, false, not, Option, None, Some, List, [], ◌∷◌, ◌++◌, refl, ◌≡◌, ap, sym, ◌∙◌, All, All-head, All-tail}
+use Rattle.yaml_base.proofs.Common.{if◌then◌else◌, agree_below_at, arith, bytes_eq, codes, length, list_all, ltb-true, nat_lt, nat_tests, all_scalars, is_alpha}
+use Rattle.yaml_base.proofs.Common.{line_feed, space, Text, percent_escaped, suffix_escaped, name_fault, spelled, spelling, verbatim, Event, string_tag}
+use Rattle.yaml_base.specs.{Tags.default_directives, Tags.spelling_by, Tags.behind, declared.errors.yaml_error_t.yaml_error_t, graphs.DumpedText.anchor_text}
+use Rattle.yaml_base.specs.{graphs.DumpedText.closing_line, graphs.DumpedText.tag_text, values.ValueText.in_quotes, values.ValueText.line_at}
+use Rattle.yaml_base.proofs.{AllPass.all_pass, PercentLaws.escaped_stands, PercentLaws.stands_written, PercentLaws.suffix_stands}
 use Rattle.std.specs.Str.{IsUtf8}
 use lib.Utf8.{scalar}
-use Rattle.yaml_base.specs.Event.{Event}
-use Rattle.yaml_base.specs.Tags.{default_directives, name_fault, spelled, spelling, spelling_by, verbatim, behind}
-use Rattle.yaml_base.specs.declared.errors.yaml_error_t.{yaml_error_t}
-use Rattle.yaml_base.specs.graphs.DumpedText.{anchor_text, closing_line, tag_text}
-use Rattle.yaml_base.specs.graphs.Meetings.{string_tag}
-use Rattle.yaml_base.specs.values.ValueText.{in_quotes, line_at}
-use Rattle.yaml_base.proofs.AllPass.{all_pass}
-use Rattle.yaml_base.proofs.PercentLaws.{escaped_stands, stands_written, suffix_stands}
-use Rattle.yaml_read.specs.DocumentPlaces.{AreRunBytes}
-use Rattle.yaml_read.specs.EventTexts.{Pending, item_awaited, key_awaited, value_awaited, BeginsNode, is_alias, is_scalar, is_sequence, is_mapping}
-use Rattle.yaml_read.specs.EventTexts.{IsInNode, begins_node, ends_sequence, ends_mapping, HasRunText, root_ends, more_come, IsAnchor}
-use Rattle.yaml_read.specs.EventTexts.{closing_text, event_text, lead_text, outside, trail_text}
-use Rattle.yaml_read.proofs.Encoded.{word_encoded}
-use Rattle.yaml_read.proofs.Scalars.{joined_scalars, quotes_scalars, spaces_scalars}
+use Rattle.yaml_read.specs.EventTexts.{Pending, item_awaited, key_awaited, value_awaited, BeginsNode, is_alias, is_scalar, is_sequence, is_mapping, IsInNode}
+use Rattle.yaml_read.specs.EventTexts.{begins_node, ends_sequence, ends_mapping, HasRunText, root_ends, more_come, IsAnchor, closing_text, event_text}
+use Rattle.yaml_read.{specs.EventTexts.lead_text, specs.EventTexts.outside, specs.EventTexts.trail_text, specs.DocumentPlaces.AreRunBytes}
+use Rattle.yaml_read.{proofs.Encoded.word_encoded, proofs.Scalars.joined_scalars, proofs.Scalars.quotes_scalars, proofs.Scalars.spaces_scalars}
 
 -- characters of ASCII are Unicode scalar values
 ascii_scalar : (c : ℕ) → nat_lt c 128 ≡ true → scalar c ≡ true

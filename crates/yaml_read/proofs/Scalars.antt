@@ -1,32 +1,20 @@
 -- A readable value's text consists of Unicode scalar values, so its bytes are UTF-8.
-use Rattle.yaml_base.proofs.Common.{ℕ, ◌+◌, ◌%◌, ◌/◌, ◌<◌, ◌==◌, suc, zero, Bool, true, false, Some, List, [], ◌∷◌, ◌++◌, refl, ◌≡◌, ap, sym, ◌∙◌}
-use Rattle.yaml_base.proofs.Common.{arith, codes, space, line_feed, Text, replicate, all_scalars, encode_utf8_all, and_parts, and_from}
-use Rattle.yaml_base.proofs.Common.{agree_below_at, hex_digit, hex_digits}
+use Rattle.yaml_base.proofs.Common.{ℕ, ◌+◌, ◌%◌, ◌/◌, ◌<◌, ◌==◌, suc, zero, Bool, true, false, Some, List, [], ◌∷◌, ◌++◌, refl, ◌≡◌, ap, sym, ◌∙◌, arith, codes}
+use Rattle.yaml_base.proofs.Common.{space, line_feed, Text, replicate, all_scalars, encode_utf8_all, and_parts, and_from, agree_below_at, hex_digit, hex_digits}
 use Rattle.yaml_base.proofs.Common.{character_text, flat_map, if◌then◌else◌, chars-IsAscii, eqb-true}
-use Rattle.std.specs.Fmt.{signed_decimal}
-use Rattle.std.specs.Int.Signed.{mag}
-use Rattle.std.specs.Prelude.{ℤ, ◌^◌}
-use Rattle.std.specs.Str.{IsUtf8}
-use Rattle.std.proofs.lemmas.Fmt.{IsAscii-signed}
-use Rattle.std.proofs.lemmas.Str.{scalars-chars, IsUtf8-from_ascii}
-use Rattle.std.proofs.lemmas.Str.{encodes-chars, encodes-IsAscii, IsUtf8-string_bytes}
-use Rattle.std.proofs.lemmas.Fmt.{parse-signed_decimal}
-use Rattle.std.proofs.Common.{FitsSigned, w64, pos, negsuc}
-use Rattle.std.specs.Prelude.{Result, Ok, Err, String}
-use Rattle.std.specs.Str.Parse.{ParsesSigned}
-use Rattle.std.specs.String.{string_bytes}
-use Rattle.yaml_base.specs.Seen.{seen_text}
-use lib.Utf8.{scalar}
-use Rattle.yaml_base.specs.reading.ReadDouble.{meaning_among}
-use Rattle.yaml_base.specs.scalars.DoubleQuoted.{quote}
 use Rattle.yaml_base.specs.values.TypedValues.{TypedValue, null_value, bool_value, int_value, text_value, list_value, map_value, TypedValues, no_values}
 use Rattle.yaml_base.specs.values.TypedValues.{values_and, TypedPairs, no_value_pairs, value_pairs_and}
-use Rattle.yaml_base.specs.values.ValueText.{line_at, value_text, items_text, pairs_text, entry_lead, entries_end, has_no_values}
-use Rattle.yaml_base.specs.values.ValueText.{has_no_value_pairs, document_text, in_quotes}
+use Rattle.yaml_base.specs.values.ValueText.{line_at, value_text, items_text, pairs_text, entry_lead, entries_end, has_no_values, has_no_value_pairs}
+use Rattle.yaml_base.specs.values.ValueText.{document_text, in_quotes}
+use Rattle.yaml_base.{specs.Seen.seen_text, specs.reading.ReadDouble.meaning_among, specs.scalars.DoubleQuoted.quote}
+use Rattle.std.specs.Prelude.{ℤ, ◌^◌, Result, Ok, Err, String}
+use Rattle.std.proofs.lemmas.Str.{scalars-chars, IsUtf8-from_ascii, encodes-chars, encodes-IsAscii, IsUtf8-string_bytes}
+use Rattle.std.{specs.Fmt.signed_decimal, specs.Int.Signed.mag, specs.Str.IsUtf8, proofs.lemmas.Fmt.IsAscii-signed, proofs.lemmas.Fmt.parse-signed_decimal}
+use Rattle.std.{proofs.Common.FitsSigned, proofs.Common.w64, proofs.Common.pos, proofs.Common.negsuc, specs.Str.Parse.ParsesSigned, specs.String.string_bytes}
+use lib.Utf8.{scalar}
 use Rattle.yaml_read.specs.Readable.{CanBeRead, CanBeReadAt, AllCanBeReadAt, PairsCanBeReadAt}
-use Rattle.yaml_read.proofs.Escapes.{Stands, as_itself, as_escape, stands}
 use Rattle.yaml_read.proofs.Firsts.{AfterBackslash, by_letter, by_two, by_four, after_backslash}
-use Rattle.yaml_read.proofs.Remaining.{readable_root}
+use Rattle.yaml_read.{proofs.Escapes.Stands, proofs.Escapes.as_itself, proofs.Escapes.as_escape, proofs.Escapes.stands, proofs.Remaining.readable_root}
 
 pub joined_scalars : (a b : Text) → all_scalars a ≡ true → all_scalars b ≡ true → all_scalars (a ++ b) ≡ true
 joined_scalars [] b ha hb = hb

@@ -1,19 +1,15 @@
 -- Levels, entries and values of a program as they are seen.
-use Rattle.yaml_base.proofs.Common.{ℕ, ◌+◌, suc, List, [], ◌∷◌, ◌++◌, refl, ◌≡◌, ap, subst, sym, ◌∙◌}
-use Rattle.yaml_base.proofs.Common.{arith, length, length-append, map, map-append}
-use Rattle.std.specs.Prelude.{Result, Ok, Err, Vec, String, ℤ}
+use Rattle.yaml_base.proofs.Common.{ℕ, ◌+◌, suc, List, [], ◌∷◌, ◌++◌, refl, ◌≡◌, ap, subst, sym, ◌∙◌, arith, length, length-append, map, map-append, ℤ}
 use Rattle.yaml_base.specs.Seen.{seen_text}
-use Rattle.std.proofs.Common.{rules}
 use Rattle.yaml_base.specs.values.TypedValues.{TypedValue, list_value, map_value, TypedValues, no_values, values_and, TypedPairs, no_value_pairs}
 use Rattle.yaml_base.specs.values.TypedValues.{value_pairs_and, null_value, int_value, text_value}
+use Rattle.std.proofs.Common.{Result, Ok, Err, Vec, String, rules}
 use Rattle.yaml_value.specs.SeenValues.{seen_value, seen_values, seen_pairs, values_of, pairs_of}
 use Rattle.yaml_value.specs.declared.value.Value.{Value}
+use Rattle.yaml_read.specs.Remaining.{OpenLevel, seen_level, seen_levels, onto, Pushed}
+use Rattle.yaml_read.{specs.declared.errors.Stop.Stop, specs.declared.levels.Level.Level}
 use Rattle.yaml_value.specs.declared.value.Value as declared
-use Rattle.yaml_read.specs.Remaining.{OpenLevel}
-use Rattle.yaml_read.specs.Remaining.{seen_level, seen_levels, onto, Pushed}
-use Rattle.yaml_read.specs.declared.errors.Stop.{Stop}
 use Rattle.yaml_read.specs.declared.errors.Stop.TheVariants as stop
-use Rattle.yaml_read.specs.declared.levels.Level.{Level}
 
 onto_more : {A : Type 0} (outer : List OpenLevel) (levels : List (Level A)) (level : Level A)
     → onto outer (levels ++ level ∷ []) ≡ seen_level level ∷ onto outer levels

@@ -1,26 +1,16 @@
 -- The bytes of written tags.
-use Rattle.yaml_base.proofs.Common.{ℕ, ◌%◌, ◌/◌, ◌<◌, ◌==◌, Bool, true, false, ◌&&◌, ◌||◌, List, [], ◌∷◌, ◌++◌, refl, ◌≡◌, ap, sym, ◌∙◌, arith, nat_tests}
-use Rattle.yaml_base.proofs.Common.{true≢false, agree_below_at, and_parts, and_from, append_assoc, append-nil, not-true, if◌then◌else◌, nat_lt, ltb-true}
-use Rattle.yaml_base.proofs.Common.{list_all-append, flat_map, chars, chars-encodes, scalar_cases, or_parts, Text, hex_digit, encode_utf8, encode_utf8_all}
-use Rattle.yaml_base.proofs.Common.{all_scalars, is_tag_character, byte_escaped, percent_sign, percent_escaped, hex_digits}
-use Rattle.yaml_base.proofs.Common.{length}
-use Rattle.std.proofs.Common.{⊎_elim}
-use Rattle.std.proofs.lemmas.Grind.{flat_map-append}
-use Rattle.std.proofs.lemmas.Option.{same_Some}
-use Rattle.std.proofs.lemmas.Str.{IsUtf8-string_bytes, encode_same, encode_ascii}
-use Rattle.std.specs.Prelude.{String, Vec}
-use Rattle.std.specs.String.{string_bytes, string_vec}
-use Rattle.yaml_base.specs.Seen.{seen_text}
-use Rattle.std.specs.Str.{IsUtf8}
-use lib.Utf8.{scalar}
-use Rattle.yaml_base.proofs.AllPass.{all_pass}
+use Rattle.yaml_base.proofs.Common.{ℕ, false, nat_tests, and_parts, and_from, append-nil, not-true, ltb-true, flat_map, or_parts, hex_digit, hex_digits, length}
+use Rattle.yaml_base.proofs.Common.{◌%◌, ◌/◌, ◌<◌, ◌==◌, Bool, true, ◌&&◌, ◌||◌, List, [], ◌∷◌, ◌++◌, refl, ◌≡◌, ap, sym, ◌∙◌, arith, chars, Text}
+use Rattle.yaml_base.proofs.Common.{true≢false, append_assoc, chars-encodes, scalar_cases, encode_utf8, all_scalars, byte_escaped, percent_sign, length-append}
+use Rattle.yaml_base.proofs.Common.{agree_below_at, if◌then◌else◌, nat_lt, list_all-append, encode_utf8_all, is_tag_character, percent_escaped, flat_map-append}
 use Rattle.yaml_base.proofs.PercentLaws.{are_bytes, encode_is_bytes, escaped_stands, stands_written}
-use Rattle.yaml_base.specs.reading.ReadDouble.{digit_meaning}
+use Rattle.yaml_base.{proofs.AllPass.all_pass, specs.reading.ReadDouble.digit_meaning}
+use Rattle.std.proofs.Common.{⊎_elim, String, Vec, string_bytes, IsUtf8}
+use Rattle.std.{proofs.lemmas.Option.same_Some, proofs.lemmas.Str.encode_same, proofs.lemmas.Str.encode_ascii, specs.String.string_vec}
+use lib.Utf8.{scalar}
 use Rattle.yaml_mark.proofs.EscapingLemmas.{escaped_by_bytes}
-use Rattle.yaml_read.proofs.Encoded.{are_ascii, word_encoded}
-use Rattle.yaml_read.proofs.Escapes.{digit_reads}
-use Rattle.yaml_read.proofs.Firsts.{first_is, not_empty}
 use Rattle.yaml_read.specs.WrittenTags.{byte_in_tag, ends_tag}
+use Rattle.yaml_read.proofs.{HeadsRead.word_bytes, Encoded.are_ascii, Encoded.word_encoded, Escapes.digit_reads, Firsts.first_is, Firsts.not_empty}
 
 -- ---- ASCII
 
@@ -223,16 +213,28 @@ itself_read text tail c starts stands =
     starts ∙ ap (λ t. t ++ tail) (encode_ascii c (ltb-true c 128 (tag_character_is_ascii c stands))
     ∙ ap (λ b. if b then c ∷ [] else byte_escaped c) (sym stands))
 
+pub itself_small : (c : ℕ) → is_tag_character c ≡ true → c < 256
+itself_small c stands = let low : c < 128 = ltb-true c 128 (tag_character_is_ascii c stands) in omega arith
+
+-- a byte that was read leaves less
+pub byte_shorter : (text rest : List ℕ) (byte : ℕ) → text ≡ byte_in_tag byte ++ rest → length rest < length text
+byte_shorter text rest byte is = omega (arith, ap length is, length-append (byte_in_tag byte) rest, some (is_tag_character byte))
+  where
+    some : (b : Bool) → 0 < length (if b then byte ∷ [] else byte_escaped byte)
+    some true = omega arith
+    some false = omega arith
+
+-- a form that was read
+pub form_read : (text tail rest : List ℕ) (c n : ℕ) → text ≡ encode_utf8 c ++ tail → c ≡ percent_sign → tail ≡ encode_utf8_all (hex_digits 2 n) ++ rest
+    → is_tag_character n ≡ false → text ≡ byte_in_tag n ++ rest
+form_read text tail rest c n starts sign digits other =
+    starts ∙ ap (λ d. encode_utf8 d ++ tail) sign ∙ ap (λ t. encode_utf8 percent_sign ++ t) digits
+    ∙ sym (append_assoc (encode_utf8 percent_sign) (encode_utf8_all (hex_digits 2 n)) rest)
+    ∙ ap (λ t. t ++ rest) (word_bytes (byte_escaped n) ascii ∙ ap (λ b. if b then n ∷ [] else byte_escaped n) (sym other))
+  where
+    ascii : are_ascii (byte_escaped n) ≡ true
+    ascii = rw (digit_ascii (n / 16), digit_ascii n) refl
+
 -- a text of bytes that were read
 pub bytes_of : {A : Type 0} (found : String A) (bytes : Vec ℕ A) → string_vec found ≡ bytes → string_bytes found ≡ bytes.items
 bytes_of {A} found bytes is = ap (λ (v : Vec ℕ A). v.items) is
-
-pub text_of : {A : Type 0} (found : String A) (bytes : Vec ℕ A) (value : Text) → string_vec found ≡ bytes → bytes.items ≡ encode_utf8_all value
-    → all_scalars value ≡ true → seen_text found ≡ value
-text_of found bytes value is read scalars = ap chars (bytes_of found bytes is ∙ read) ∙ chars-encodes value scalars
-
-pub text_sound : {A : Type 0} (found : String A) (bytes : Vec ℕ A) (text rest : List ℕ) → string_vec found ≡ bytes
-    → text ≡ flat_map byte_in_tag bytes.items ++ rest → text ≡ percent_escaped (seen_text found) ++ rest
-text_sound found bytes text rest is parts =
-    parts
-    ∙ ap (λ t. t ++ rest) (ap (flat_map byte_in_tag) (sym (bytes_of found bytes is)) ∙ bytes_escaped (string_bytes found) (IsUtf8-string_bytes found))

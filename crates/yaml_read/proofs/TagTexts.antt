@@ -1,26 +1,15 @@
 -- How a tag is written, and read: verbatim, or behind a handle.
-use Rattle.yaml_base.proofs.Common.{ℕ, ◌<◌, ◌==◌, Bool, true, false, not, ◌&&◌, Option, None, Some, List, [], ◌∷◌, ◌++◌, refl, ◌≡◌, ap, subst, sym, ◌∙◌}
-use Rattle.yaml_base.proofs.Common.{arith, nat_tests, true≢false, and_parts, append_assoc, codes, length, is_some, space, if◌then◌else◌, list_all}
-use Rattle.yaml_base.proofs.Common.{list_all-append, and_from, chars, chars-IsAscii, ne_eqb, nat_lt, ltb-true, Text, encode_utf8_all, all_scalars}
-use Rattle.yaml_base.proofs.Common.{percent_escaped, tag_fault, spelled, verbatim, eqb-true}
-use Rattle.std.proofs.lemmas.List.{append_cancel_left}
-use Rattle.std.proofs.lemmas.Str.{chars-append, chars-nil, encodes-chars, encode_ascii, IsUtf8-from_ascii, IsUtf8-past_char, IsUtf8-string_bytes}
-use Rattle.std.specs.Prelude.{String}
-use Rattle.std.specs.Str.{IsUtf8}
-use Rattle.std.specs.String.{string_bytes}
-use Rattle.yaml_base.proofs.AsciiWords.{ascii_of}
+use Rattle.yaml_base.proofs.Common.{ℕ, ◌<◌, ◌==◌, ◌&&◌, [], ◌∷◌, ◌++◌, ◌≡◌, ◌∙◌, true≢false, if◌then◌else◌, Bool, true, false, not, Option, None, Some, List}
+use Rattle.yaml_base.proofs.Common.{refl, ap, subst, sym, arith, nat_tests, and_parts, append_assoc, codes, length, is_some, space, list_all, list_all-append}
+use Rattle.yaml_base.proofs.Common.{and_from, chars, chars-IsAscii, ne_eqb, nat_lt, ltb-true, Text, encode_utf8_all, all_scalars, percent_escaped, tag_fault}
 use Rattle.yaml_base.proofs.PercentLaws.{escaped_begins, escaped_stands, stands_written, written_is_no_exclamation, written_is_no_less}
-use Rattle.yaml_base.proofs.TagForms.{behind-whole, behind_begins, scalars_behind}
-use Rattle.yaml_base.specs.Seen.{seen_text}
-use Rattle.yaml_base.specs.Tags.{behind, spelling_by}
-use Rattle.yaml_base.specs.graphs.DumpedText.{tag_text}
-use Rattle.yaml_read.proofs.Encoded.{are_ascii, word_encoded}
-use Rattle.yaml_read.proofs.Firsts.{not_empty}
-use Rattle.yaml_read.proofs.HeadsRead.{word_bytes}
-use Rattle.yaml_read.proofs.TagBytes.{escaped_ascii, same_first}
-use Rattle.yaml_read.proofs.Words.{no_word}
-use Rattle.yaml_read.specs.WrittenTags.{stays_verbatim, type_prefix}
-use Rattle.yaml_read.specs.Words.{past_word}
+use Rattle.yaml_base.{proofs.Common.spelled, proofs.Common.verbatim, proofs.Common.eqb-true, proofs.TagForms.behind-whole, proofs.TagForms.behind_begins}
+use Rattle.yaml_base.{proofs.TagForms.scalars_behind, proofs.AsciiWords.ascii_of, specs.Tags.behind, specs.Tags.spelling_by, specs.graphs.DumpedText.tag_text}
+use Rattle.std.proofs.lemmas.Str.{chars-append, encodes-chars, encode_ascii, IsUtf8-from_ascii, IsUtf8-past_char}
+use Rattle.std.{proofs.lemmas.List.append_cancel_left, specs.Str.IsUtf8}
+use Rattle.yaml_read.specs.WrittenTags.{OpensTag, ends_tag, is_spelled_by, opens_document, opens_type, opens_whole, stays_verbatim, type_prefix}
+use Rattle.yaml_read.{proofs.Encoded.are_ascii, proofs.Encoded.word_encoded, proofs.TagBytes.escaped_ascii, proofs.TagBytes.same_first, proofs.Firsts.not_empty}
+use Rattle.yaml_read.{proofs.HeadsRead.word_bytes, proofs.Words.no_word, specs.Words.past_word}
 
 -- ---- how a tag is written
 
@@ -226,7 +215,7 @@ chars_behind prefix rest ascii =
     chars-append prefix rest (IsUtf8-from_ascii prefix is_ascii) ∙ ap (λ t. t ++ chars rest) (chars-IsAscii prefix is_ascii)
 
 -- and that they are a text
-utf8_behind : (prefix rest : List ℕ) → are_ascii prefix ≡ true → IsUtf8 (prefix ++ rest) → IsUtf8 rest
+pub utf8_behind : (prefix rest : List ℕ) → are_ascii prefix ≡ true → IsUtf8 (prefix ++ rest) → IsUtf8 rest
 utf8_behind [] rest ascii utf8 = utf8
 utf8_behind (p ∷ prefix) rest ascii utf8 =
     let both = and_parts (nat_lt p 128) (are_ascii prefix) ascii in
@@ -267,6 +256,15 @@ stays_not text none utf8 = by (chars text) (some_text text utf8)
     by [] is = refl
     by (c ∷ tag) is = absurd (true≢false (is ∙ ap not none))
 
+-- by whether there is a prefix
+pub spelled_whole : (prefix tag : Text) → (length prefix == 0) ≡ true → is_spelled_by prefix tag ≡ stays_verbatim tag
+spelled_whole [] tag none = refl
+spelled_whole (p ∷ prefix) tag none = absurd (omega (arith, eqb-true (length (p ∷ prefix)) 0 none))
+
+pub spelled_behind : (prefix tag : Text) → (length prefix == 0) ≡ false → is_spelled_by prefix tag ≡ is_some (behind prefix tag)
+spelled_behind [] tag some = absurd (true≢false some)
+spelled_behind (p ∷ prefix) tag some = refl
+
 -- ---- tags that were read
 
 pub verbatim_sound : (tag : Text) (text inside rest : List ℕ) → text ≡ codes "!<" ++ inside → stays_verbatim tag ≡ true
@@ -302,19 +300,62 @@ document_sound tag suffix text inside rest cut some same read =
     is : (tag_fault (codes "!" ++ suffix) ≡ None) × (tag_text (Some (codes "!" ++ suffix)) false ≡ handle_text (codes "!") suffix)
     is = document_is suffix some
 
--- a prefix and a suffix, joined
-pub joined : {A : Type 0} (tag suffix : String A) (prefix : List ℕ) → are_ascii prefix ≡ true → string_bytes tag ≡ prefix ++ string_bytes suffix
-    → seen_text tag ≡ prefix ++ seen_text suffix
-joined tag suffix prefix ascii is = ap chars is ∙ chars_behind prefix (string_bytes suffix) ascii
+-- ---- by its handle
 
--- a text that has a character isn't empty
-pub some_bytes : (bytes : List ℕ) (text : Text) → chars bytes ≡ text → 0 < length text → (length bytes == 0) ≡ true → ⊥
-some_bytes [] text is some none = absurd (omega (arith, some, ap (λ (t : List ℕ). length t) (sym is ∙ chars-nil)))
-some_bytes (b ∷ bytes) text is some none = absurd (omega (arith, eqb-true (length (b ∷ bytes)) 0 none))
+-- what is known of a handle: its prefix and what ends its tag are ASCII, and no tag goes on with that
+pub handle_ascii : (text prefix end inside : List ℕ) → OpensTag text prefix end inside → are_ascii prefix ≡ true
+handle_ascii text _ _ inside (opens_whole _ cut) = refl
+handle_ascii text _ _ inside (opens_type _ none cut) = refl
+handle_ascii text _ _ inside (opens_document _ none also cut) = refl
 
-pub some_chars : {A : Type 0} (found : String A) (bytes : List ℕ) → bytes ≡ string_bytes found → (length bytes == 0) ≡ false → 0 < length (seen_text found)
-some_chars found bytes same some = by (seen_text found) (encodes-chars (string_bytes found) (IsUtf8-string_bytes found))
+pub end_ascii : (text prefix end inside : List ℕ) → OpensTag text prefix end inside → are_ascii end ≡ true
+end_ascii text _ _ inside (opens_whole _ cut) = refl
+end_ascii text _ _ inside (opens_type _ none cut) = refl
+end_ascii text _ _ inside (opens_document _ none also cut) = refl
+
+pub end_ends : (text prefix end inside rest : List ℕ) → OpensTag text prefix end inside → ends_tag (end ++ rest) ≡ true
+end_ends text _ _ inside rest (opens_whole _ cut) = refl
+end_ends text _ _ inside rest (opens_type _ none cut) = refl
+end_ends text _ _ inside rest (opens_document _ none also cut) = refl
+
+-- a tag that goes on from a prefix
+goes_behind : (prefix tag suffix : Text) → prefix ++ suffix ≡ tag → 0 < length suffix → is_some (behind prefix tag) ≡ true
+goes_behind prefix tag [] is some = absurd (omega (arith, some))
+goes_behind prefix tag (c ∷ suffix) is some = ap (λ t. is_some (behind prefix t)) (sym is) ∙ ap is_some (behind_prefix prefix (c ∷ suffix))
+
+suffix_some : (prefix tag suffix : Text) → tag ≡ prefix ++ suffix → is_some (behind prefix tag) ≡ true → 0 < length suffix
+suffix_some prefix tag suffix is goes = by suffix (sym (ap is_some (behind_prefix prefix suffix)) ∙ ap (λ t. is_some (behind prefix t)) (sym is) ∙ goes)
   where
-    by : (text : Text) → encode_utf8_all text ≡ string_bytes found → 0 < length text
-    by [] is = absurd (true≢false (ap (λ (t : List ℕ). length t == 0) (is ∙ sym same) ∙ some))
-    by (c ∷ text) is = omega arith
+    by : (suffix : Text) → is_some (behind [] suffix) ≡ true → 0 < length suffix
+    by [] goes = absurd (true≢false (sym goes))
+    by (c ∷ suffix) goes = omega arith
+
+-- a tag where its handle stands
+pub record IsWordAt (prefix end tag rest : Text) (inside : List ℕ) : Type 0 where
+  pub word : Text
+  pub is : prefix ++ word ≡ tag
+  pub spelled : is_spelled_by prefix tag ≡ true
+  pub text : inside ≡ encode_utf8_all (percent_escaped word ++ (end ++ rest))
+
+pub word_at : (tag written rest : Text) (text prefix end inside : List ℕ) → OpensTag text prefix end inside → IsSpelled tag written
+    → text ≡ encode_utf8_all (written ++ rest) → IsWordAt prefix end tag rest inside
+word_at tag written rest text _ _ inside (opens_whole _ cut) spelled is =
+    let at = at_verbatim tag written rest text inside spelled is cut in
+    record { word = tag; is = refl; spelled = at.0; text = at.1 }
+word_at tag written rest text _ _ inside (opens_type _ none cut) spelled is =
+    let at = at_type tag written rest text inside spelled is none cut in
+    record { word = at.suffix; is = at.is; spelled = goes_behind type_prefix tag at.suffix at.is at.some; text = at.text }
+word_at tag written rest text _ _ inside (opens_document _ none also cut) spelled is =
+    let at = at_document tag written rest text inside spelled is none also cut in
+    record { word = at.suffix; is = at.is; spelled = goes_behind (codes "!") tag at.suffix at.is at.some; text = at.text }
+
+-- a tag that was read behind its handle
+pub tag_sound : (tag word : Text) (text prefix end inside rest : List ℕ) → OpensTag text prefix end inside → tag ≡ prefix ++ word
+    → is_spelled_by prefix tag ≡ true → inside ≡ percent_escaped word ++ (end ++ rest)
+    → (tag_fault tag ≡ None) × (text ≡ encode_utf8_all (tag_text (Some tag) false) ++ rest)
+tag_sound tag word text _ _ inside rest (opens_whole _ cut) same spelled read =
+    verbatim_sound tag text inside rest cut spelled (read ∙ ap (λ t. percent_escaped t ++ (codes "> " ++ rest)) (sym same))
+tag_sound tag word text _ _ inside rest (opens_type _ none cut) same spelled read =
+    type_sound tag word text inside rest cut (suffix_some type_prefix tag word same spelled) same read
+tag_sound tag word text _ _ inside rest (opens_document _ none also cut) same spelled read =
+    document_sound tag word text inside rest cut (suffix_some (codes "!") tag word same spelled) same read

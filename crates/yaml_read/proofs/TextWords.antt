@@ -1,27 +1,19 @@
 -- The texts of values go on with the words of the grammar.
-use Rattle.yaml_base.proofs.Common.{ℕ, ◌+◌, ◌*◌, ◌<◌, zero, suc, Bool, true, false, ◌&&◌, List, [], ◌∷◌, ◌++◌, refl, ◌≡◌, ap, subst, sym, ◌∙◌, inl}
-use Rattle.yaml_base.proofs.Common.{inr, append_assoc, codes, flat_map, length, replicate, space, and_parts, all_scalars, encode_utf8_all, character_text, Text}
-use Rattle.std.proofs.lemmas.Str.{encodes-append}
-use Rattle.std.specs.Fmt.{signed_decimal}
-use Rattle.std.specs.Int.Signed.{mag}
-use Rattle.std.specs.Prelude.{ℤ, ◌^◌}
-use Rattle.yaml_base.specs.scalars.DoubleQuoted.{quote}
+use Rattle.yaml_base.proofs.Common.{ℕ, ◌+◌, ◌*◌, ◌<◌, zero, suc, Bool, true, false, ◌&&◌, List, [], ◌∷◌, ◌++◌, refl, ◌≡◌, ap, subst, sym, ◌∙◌, inl, inr}
+use Rattle.yaml_base.proofs.Common.{append_assoc, codes, flat_map, length, replicate, space, and_parts, all_scalars, encode_utf8_all, character_text, Text}
 use Rattle.yaml_base.specs.values.TypedValues.{TypedValue, TypedValues, TypedPairs, null_value, bool_value, int_value, text_value, list_value, map_value}
 use Rattle.yaml_base.specs.values.TypedValues.{bool_text, most_nested, no_value_pairs, no_values, value_pairs_and, values_and}
-use Rattle.yaml_base.specs.values.ValueText.{in_quotes, line_at, value_text}
+use Rattle.yaml_base.{specs.scalars.DoubleQuoted.quote, specs.values.ValueText.in_quotes, specs.values.ValueText.line_at, specs.values.ValueText.value_text}
+use Rattle.std.specs.Prelude.{ℤ, ◌^◌}
+use Rattle.std.{proofs.lemmas.Str.encodes-append, specs.Fmt.signed_decimal, specs.Int.Signed.mag}
 use Rattle.yaml_read.specs.Grammar.{behind_tag, behind_value, characters, these_or_those, entry_end, integer, levels_then, line_then, node, nothing}
 use Rattle.yaml_read.specs.Grammar.{quoted_text, truth, unless_deep, word_then}
-use Rattle.yaml_read.specs.Heads.{tag_word}
-use Rattle.yaml_read.specs.Readable.{CanBeReadAt}
 use Rattle.yaml_read.specs.Remaining.{IsDue, IsRead, OpenLevel, column_in, items_open, pairs_open, value_due}
-use Rattle.yaml_read.specs.TextsAndWords.{BeginsWith}
-use Rattle.yaml_read.specs.declared.heads.Kind.{Kind}
-use Rattle.yaml_read.specs.declared.heads.Kind.TheVariants as kind
-use Rattle.yaml_read.proofs.Breaking.{level_first}
-use Rattle.yaml_read.proofs.Encoded.{line_encoded, word_encoded}
 use Rattle.yaml_read.proofs.HeadTexts.{list_tail, map_tail, value_bytes, value_tail, value_word}
-use Rattle.yaml_read.proofs.Remaining.{items_behind, pairs_behind}
 use Rattle.yaml_read.proofs.Turns.{EntryEnds, Leads, column_is, item_ends, key_ends, leads_on, leads_out, pair_ends, text_ended}
+use Rattle.yaml_read.{specs.Heads.tag_word, specs.Readable.CanBeReadAt, proofs.Breaking.level_first, proofs.Encoded.line_encoded, proofs.Encoded.word_encoded}
+use Rattle.yaml_read.{specs.TextsAndWords.BeginsWith, specs.declared.heads.Kind.Kind, proofs.Remaining.items_behind, proofs.Remaining.pairs_behind}
+use Rattle.yaml_read.specs.declared.heads.Kind.TheVariants as kind
 
 -- ---- words behind one another
 

@@ -1,30 +1,22 @@
 -- From a value to what follows it, and into lists and maps.
-use Rattle.yaml_base.proofs.Common.{ℕ, ◌+◌, ◌*◌, ◌<◌, suc, true, None, List, [], ◌∷◌, ◌++◌, refl, ◌≡◌, ap, subst, sym, ◌∙◌}
-use Rattle.yaml_base.proofs.Common.{arith, append_assoc, length, codes, space, line_feed, Text, encode_utf8_all}
-use Rattle.std.specs.Prelude.{Result, Ok, Err, Vec}
-use Rattle.std.proofs.lemmas.List.{append_cancel_left, replicate-append-replicate}
+use Rattle.yaml_base.proofs.Common.{ℕ, ◌+◌, ◌*◌, ◌<◌, suc, true, None, List, [], ◌∷◌, ◌++◌, refl, ◌≡◌, ap, subst, sym, ◌∙◌, arith, append_assoc, length, codes}
+use Rattle.yaml_base.proofs.Common.{space, line_feed, Text, encode_utf8_all}
 use Rattle.yaml_base.specs.values.TypedValues.{TypedValue, list_value, map_value, TypedValues, no_values, values_and, TypedPairs, no_value_pairs}
 use Rattle.yaml_base.specs.values.TypedValues.{value_pairs_and, most_nested, null_value, bool_value, int_value, text_value}
 use Rattle.yaml_base.specs.values.ValueText.{line_at, value_text, document_text}
-use Rattle.yaml_value.specs.SeenValues.{seen_value, seen_values, seen_pairs}
-use Rattle.yaml_value.specs.declared.value.Value.{Value}
+use Rattle.std.specs.Prelude.{Result, Ok, Err, Vec}
+use Rattle.std.proofs.lemmas.List.{append_cancel_left, replicate-append-replicate}
+use Rattle.yaml_value.{specs.SeenValues.seen_value, specs.SeenValues.seen_values, specs.SeenValues.seen_pairs, specs.declared.value.Value.Value}
+use Rattle.yaml_read.specs.Remaining.{OpenLevel, items_open, pairs_open, value_due, column_in, Completes, text_ends, item_follows, list_ends, value_follows}
+use Rattle.yaml_read.specs.Remaining.{pair_follows, map_ends, IsDue, IsRead, seen_level, seen_levels, is_nested, TurnReached, Reached}
+use Rattle.yaml_read.proofs.Remaining.{Begins, items_begin, pairs_begin, items_behind, pairs_behind, readable_root}
+use Rattle.yaml_read.proofs.SeenLevels.{item_more, level_more, pair_more, seen_list, seen_map}
+use Rattle.yaml_read.specs.{Entries.EntryFound, Readable.CanBeRead, Words.past_word, Words.OpensAt, declared.errors.Stop.Stop, declared.levels.Level.Level}
+use Rattle.yaml_read.specs.{Readable.CanBeReadAt, declared.levels.Entry.Entry, declared.levels.Entry.TheVariants.Another, declared.levels.Entry.TheVariants.End}
+use Rattle.yaml_read.proofs.{Encoded.word_encoded, Encoded.line_encoded, HeadTexts.tail_of, HeadTexts.list_tail, HeadTexts.map_tail, Words.no_word}
 use Rattle.yaml_value.specs.declared.value.Value as declared
-use Rattle.yaml_read.specs.Entries.{EntryFound}
-use Rattle.yaml_read.specs.Readable.{CanBeRead, CanBeReadAt}
-use Rattle.yaml_read.specs.Remaining.{OpenLevel, items_open, pairs_open, value_due, column_in, Completes, text_ends, item_follows, list_ends}
-use Rattle.yaml_read.specs.Remaining.{value_follows, pair_follows, map_ends, IsDue, IsRead, seen_level, seen_levels, is_nested, TurnReached, Reached}
-use Rattle.yaml_read.specs.Words.{past_word, OpensAt}
-use Rattle.yaml_read.specs.declared.errors.Stop.{Stop}
 use Rattle.yaml_read.specs.declared.errors.Stop.TheVariants as stop
 use Rattle.yaml_read.specs.declared.heads.Kind.TheVariants as kind
-use Rattle.yaml_read.specs.declared.levels.Entry.{Entry}
-use Rattle.yaml_read.specs.declared.levels.Entry.TheVariants.{Another, End}
-use Rattle.yaml_read.specs.declared.levels.Level.{Level}
-use Rattle.yaml_read.proofs.Encoded.{word_encoded, line_encoded}
-use Rattle.yaml_read.proofs.HeadTexts.{tail_of, list_tail, map_tail}
-use Rattle.yaml_read.proofs.Remaining.{Begins, items_begin, pairs_begin, items_behind, pairs_behind, readable_root}
-use Rattle.yaml_read.proofs.Words.{no_word}
-use Rattle.yaml_read.proofs.SeenLevels.{item_more, level_more, pair_more, seen_list, seen_map}
 
 -- what follows a word is one text
 pub cut_is : (word text rest tail : List ℕ) → text ≡ word ++ rest → text ≡ word ++ tail → rest ≡ tail

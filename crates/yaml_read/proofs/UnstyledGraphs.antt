@@ -1,17 +1,12 @@
 -- A graph without styles has the events of the graph without theirs.
-use Rattle.yaml_base.proofs.Common.{ℕ, suc, zero, Bool, true, false, Option, None, Some, List, [], ◌∷◌, ◌++◌, ◌==◌, ◌&&◌, refl, ◌≡◌, ap, sym, ◌∙◌, map}
-use Rattle.yaml_base.proofs.Common.{flat_map, length, list_all, nat_le, option_map, if◌then◌else◌, map-append, length-map}
-use Rattle.yaml_base.proofs.Common.{any_style, any_layout, Text, Event, document_start, document_end, Held, scalar_held, sequence_held, mapping_held}
-use Rattle.yaml_base.proofs.Common.{GraphNode}
-use Rattle.yaml_base.proofs.Common.{Graph, node_numbered, numbers_held, numbers_in, children, Step, enters, leaves, meets_again}
-use Rattle.yaml_base.proofs.Common.{anchor_of, opening_event_of, opening_events, closing_event_of, closing_events, step_events, document_event_list}
-use Rattle.yaml_base.proofs.Common.{IsWholeGraph}
-use Rattle.yaml_base.proofs.Unstyled.{unstyled}
-use Rattle.yaml_base.specs.graphs.Meetings.{graph_steps}
+use Rattle.yaml_base.proofs.Common.{ℕ, [], ◌∷◌, ◌++◌, ◌==◌, ◌&&◌, ◌≡◌, ◌∙◌, if◌then◌else◌, suc, zero, Bool, true, false, Option, None, Some, List, refl, ap}
+use Rattle.yaml_base.proofs.Common.{sym, map, flat_map, length, list_all, nat_le, option_map, map-append, length-map, Text, Event, document_start, document_end}
+use Rattle.yaml_base.proofs.Common.{Held, scalar_held, sequence_held, mapping_held, GraphNode, Graph, node_numbered, numbers_held, numbers_in, children, Step}
+use Rattle.yaml_base.proofs.Common.{enters, leaves, meets_again, anchor_of, opening_event_of, opening_events, closing_event_of, closing_events, step_events}
+use Rattle.yaml_base.{proofs.Common.document_event_list, proofs.Common.IsWholeGraph, proofs.Unstyled.unstyled, specs.graphs.Meetings.graph_steps}
 use Rattle.std.proofs.lemmas.Option.{slice_get-map}
 use Rattle.yaml_read.specs.DocumentTexts.{unstyled_graph, unstyled_held, unstyled_node}
-use Rattle.yaml_read.proofs.ChildWalks.{walks_same}
-use Rattle.yaml_read.proofs.NodeEvents.{root_events}
+use Rattle.yaml_read.{proofs.ChildWalks.walks_same, proofs.NodeEvents.root_events}
 
 -- ---- nodes and their children
 

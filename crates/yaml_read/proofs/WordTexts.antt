@@ -1,28 +1,15 @@
 -- The words of the grammar begin texts of values.
-use Rattle.yaml_base.proofs.Common.{ℕ, ◌+◌, ◌*◌, ◌<◌, zero, suc, Bool, true, false, List, [], ◌∷◌, ◌++◌, refl, ◌≡◌, ap, subst, sym, ◌∙◌, inl}
-use Rattle.yaml_base.proofs.Common.{inr, append_assoc, append-nil, arith, codes, flat_map, length, replicate, space, all_scalars}
-use Rattle.yaml_base.proofs.Common.{encode_utf8_all, character_text, Text}
-use Rattle.std.proofs.lemmas.Str.{encodes-append}
-use Rattle.std.specs.Fmt.{signed_decimal}
-use Rattle.yaml_base.specs.scalars.DoubleQuoted.{quote}
-use Rattle.yaml_base.specs.values.TypedValues.{TypedValue, null_value, bool_value, int_value, text_value, list_value, map_value}
-use Rattle.yaml_base.specs.values.TypedValues.{bool_text, most_nested, no_value_pairs, no_values, value_pairs_and, values_and}
-use Rattle.yaml_base.specs.values.ValueText.{in_quotes, line_at, value_text}
-use Rattle.yaml_read.specs.Grammar.{behind_tag, characters, these_or_those, levels_then, line_then, node, nothing, quoted_text}
-use Rattle.yaml_read.specs.Grammar.{truth, unless_deep, word_then}
-use Rattle.yaml_read.specs.Heads.{tag_word}
-use Rattle.yaml_read.specs.Readable.{CanBeReadAt}
-use Rattle.yaml_read.specs.Remaining.{OpenLevel, column_in}
-use Rattle.yaml_read.specs.TextsAndWords.{BeginsText}
-use Rattle.yaml_read.specs.declared.heads.Kind.{Kind}
+use Rattle.yaml_base.proofs.Common.{ℕ, ◌+◌, ◌*◌, ◌<◌, zero, suc, Bool, true, false, List, [], ◌∷◌, ◌++◌, refl, ◌≡◌, ap, subst, sym, ◌∙◌, inl, inr, append_assoc}
+use Rattle.yaml_base.proofs.Common.{append-nil, arith, codes, flat_map, length, replicate, space, all_scalars, encode_utf8_all, character_text, Text}
+use Rattle.yaml_base.specs.values.TypedValues.{TypedValue, null_value, bool_value, int_value, text_value, list_value, map_value, bool_text, most_nested}
+use Rattle.yaml_base.specs.values.TypedValues.{no_value_pairs, no_values, value_pairs_and, values_and}
+use Rattle.yaml_base.{specs.scalars.DoubleQuoted.quote, specs.values.ValueText.in_quotes, specs.values.ValueText.line_at, specs.values.ValueText.value_text}
+use Rattle.std.{proofs.lemmas.Str.encodes-append, specs.Fmt.signed_decimal}
+use Rattle.yaml_read.specs.Grammar.{behind_tag, characters, these_or_those, levels_then, line_then, node, nothing, quoted_text, truth, unless_deep, word_then}
+use Rattle.yaml_read.specs.{Heads.tag_word, Readable.CanBeReadAt, Remaining.OpenLevel, Remaining.column_in, TextsAndWords.BeginsText, declared.heads.Kind.Kind}
+use Rattle.yaml_read.proofs.{Breaking.level_first, CharactersRead.scalars_more, Encoded.word_encoded, HeadTexts.value_bytes, HeadTexts.value_tail}
+use Rattle.yaml_read.proofs.{HeadTexts.value_word, HeadsRead.word_bytes, Remaining.items_behind, Remaining.pairs_behind, TextWords.entry_line}
 use Rattle.yaml_read.specs.declared.heads.Kind.TheVariants as kind
-use Rattle.yaml_read.proofs.Breaking.{level_first}
-use Rattle.yaml_read.proofs.CharactersRead.{scalars_more}
-use Rattle.yaml_read.proofs.Encoded.{word_encoded}
-use Rattle.yaml_read.proofs.HeadTexts.{value_bytes, value_tail, value_word}
-use Rattle.yaml_read.proofs.HeadsRead.{word_bytes}
-use Rattle.yaml_read.proofs.Remaining.{items_behind, pairs_behind}
-use Rattle.yaml_read.proofs.TextWords.{entry_line}
 
 -- the bytes of words
 abbrev pub flat : List (List ℕ) → List ℕ

@@ -1,12 +1,9 @@
 -- Words at a text's beginning.
 use Rattle.yaml_base.proofs.Common.{ℕ, ◌==◌, ◌+◌, ◌*◌, ◌-◌, ◌<◌, Bool, true, false, Option, None, Some, List, [], ◌∷◌, ◌++◌, refl, ◌≡◌, ap, subst, sym, ◌∙◌}
 use Rattle.yaml_base.proofs.Common.{if◌then◌else◌, option_and_then, true≢false, eqb-true, arith, nat_tests, append_assoc, replicate, space, codes}
-use Rattle.std.proofs.lemmas.List.{replicate-append-replicate, append_cancel_left}
-use Rattle.std.specs.Prelude.{Result, Ok, Err, MatchResult}
-use Rattle.std.specs.Result.{IsErr, IsErrAnd}
-use Rattle.std.specs.Borrow.{Bor}
-use Rattle.yaml_read.specs.Words.{past_word, Cuts, OpensAt, OrMemory}
-use Rattle.yaml_read.specs.declared.errors.Stop.{Stop}
+use Rattle.std.proofs.lemmas.List.{replicate-append-replicate}
+use Rattle.std.specs.{Prelude.Result, Prelude.Ok, Prelude.Err, Result.IsErr, Result.IsErrAnd, Borrow.Bor}
+use Rattle.yaml_read.{specs.Words.past_word, specs.Words.Cuts, specs.Words.OpensAt, specs.Words.OrMemory, specs.declared.errors.Stop.Stop}
 use Rattle.yaml_read.specs.declared.errors.Stop.TheVariants as stop
 
 eqb-self : (n : ℕ) → (n == n) ≡ true
@@ -92,12 +89,6 @@ pub cuts_behind : (first second text rest : List ℕ) (result : Result (Bor (Lis
     → Cuts (first ++ second) text result
 cuts_behind first second text rest (Ok found) is cut = is ∙ ap (λ t. first ++ t) cut ∙ sym (append_assoc first second found.now)
 cuts_behind first second text rest (Err error) is cut = longer_none first second text rest is cut
-
--- what follows a word that stands first is cut
-pub cut_there : (word text tail : List ℕ) (result : Result (Bor (List ℕ)) Stop) → text ≡ word ++ tail → Cuts word text result
-    → MatchResult result (λ rest. rest.now ≡ tail) (λ _. ⊥)
-cut_there word text tail (Ok rest) is cut = append_cancel_left word rest.now tail (sym cut ∙ is)
-cut_there word text tail (Err error) is cut = absurd (no_word word text tail cut is)
 
 -- an error that is want of memory, or can't be
 pub memory_is : {T : Type 0} (Holds : T → Type 0) (error : Stop) → error ≡ stop.Memory → OrMemory Holds (Err error)

@@ -1,15 +1,12 @@
 -- Behind nodes the words of the grammar go on in texts of values.
-use Rattle.yaml_base.proofs.Common.{ℕ, ◌+◌, ◌*◌, List, [], ◌∷◌, ◌++◌, refl, ◌≡◌, ap, sym, ◌∙◌, ◌⊎◌, inl, inr}
-use Rattle.yaml_base.proofs.Common.{append_assoc, codes, length, line_feed, encode_utf8_all, Text}
+use Rattle.yaml_base.proofs.Common.{ℕ, ◌+◌, ◌*◌, [], ◌∷◌, ◌++◌, ◌≡◌, ◌∙◌, ◌⊎◌, List, refl, ap, sym, inl, inr, append_assoc, codes, length, line_feed}
 use Rattle.yaml_base.specs.values.TypedValues.{TypedValue, TypedValues, TypedPairs, list_value, map_value, null_value, value_pairs_and, values_and}
-use Rattle.yaml_base.specs.values.ValueText.{line_at, value_text}
+use Rattle.yaml_base.{proofs.Common.encode_utf8_all, proofs.Common.Text, specs.values.ValueText.line_at, specs.values.ValueText.value_text}
 use Rattle.yaml_read.specs.Grammar.{behind_value, these_or_those, entry_end, nothing, word_then}
 use Rattle.yaml_read.specs.Remaining.{Completes, OpenLevel, column_in, item_follows, items_open, list_ends, map_ends, pair_follows, pairs_open, text_ends}
 use Rattle.yaml_read.specs.Remaining.{value_due, value_follows}
-use Rattle.yaml_read.specs.TextsAndWords.{GoesOnWith}
-use Rattle.yaml_read.proofs.Encoded.{word_encoded}
-use Rattle.yaml_read.proofs.Turns.{comma_deeper, comma_line, key_line}
 use Rattle.yaml_read.proofs.WordTexts.{LineWords, flat, line_words, one_word}
+use Rattle.yaml_read.{specs.TextsAndWords.GoesOnWith, proofs.Encoded.word_encoded, proofs.Turns.comma_deeper, proofs.Turns.comma_line, proofs.Turns.key_line}
 
 -- a text that ends all that is open
 pub record ClosesAll (levels : List OpenLevel) (value : TypedValue) : Type 0 where

@@ -1,27 +1,16 @@
 -- A value that can be read has its bytes, and no other value has them.
-use Rattle.yaml_base.proofs.Common.{ℕ, ◌+◌, ◌<◌, ◌≤◌, suc, true, false, ◌&&◌, None, Some, List, [], ◌∷◌, ◌++◌, refl, ◌≡◌, ap, subst, sym, ◌∙◌, arith, length}
+use Rattle.yaml_base.proofs.Common.{ℕ, ◌+◌, ◌<◌, ◌≤◌, ◌&&◌, [], ◌∷◌, ◌++◌, ◌≡◌, ◌∙◌, suc, true, false, None, Some, List, refl, ap, subst, sym, arith, length}
 use Rattle.yaml_base.proofs.Common.{list_all, list_all-append, has_scalar_texts, node_events, nodes_events, pairs_events, bytes_written, settings_for}
-use Rattle.yaml_base.proofs.Common.{list_layout, encode, sequence_end, mapping_end}
-use Rattle.std.proofs.lemmas.List.{length-take, take_all}
-use Rattle.std.specs.Prelude.{take}
-use Rattle.yaml_base.specs.Settings.{largest_usize, utf8}
+use Rattle.yaml_base.proofs.Common.{list_layout, encode, sequence_end, mapping_end, encode_utf8_all, document_events, document_end, stream_end, utf8, Document}
 use Rattle.yaml_base.specs.values.TypedValues.{TypedValue, null_value, bool_value, int_value, text_value, list_value, map_value, TypedValues, no_values}
 use Rattle.yaml_base.specs.values.TypedValues.{values_and, TypedPairs, no_value_pairs, value_pairs_and, Has64Bits, Have64Bits, PairsHave64Bits, WritesValue}
 use Rattle.yaml_base.specs.values.TypedValues.{nesting, values_nesting, value_pairs_nesting, most_nested, value_node, value_nodes, value_pairs, value_events}
-use Rattle.yaml_base.specs.values.TypedValues.{typed_settings}
-use Rattle.yaml_base.specs.values.ValueText.{document_text}
-use Rattle.yaml_base.proofs.Common.{encode_utf8_all, document_events, document_end, stream_end}
-use Rattle.yaml_base.proofs.Decoding.{text_bytes-utf8}
-use Rattle.yaml_base.specs.Grammar.{Document}
-use Rattle.yaml_base.specs.reading.CanonicalReader.{canonical_content}
-use Rattle.yaml_base.specs.values.TypedValues.{ReadsAs, typed_output}
-use Rattle.yaml_emitter.proofs.canonical.CanonicalOutput.{output_reads}
-use Rattle.yaml_emitter.specs.Uncut.{IsWrittenWhole}
-use Rattle.yaml_value.proofs.AcceptedLemmas.{value_accepted}
-use Rattle.yaml_value.proofs.ContentLemmas.{content_of-value_events, stream_tells_value}
-use Rattle.yaml_value.proofs.TextLemmas.{output_is}
-use Rattle.yaml_read.specs.Readable.{CanBeReadAt, AllCanBeReadAt, PairsCanBeReadAt}
-use Rattle.yaml_read.proofs.Scalars.{int_scalars}
+use Rattle.yaml_base.{proofs.Common.canonical_content, specs.values.TypedValues.ReadsAs, proofs.Decoding.text_bytes-utf8, specs.Settings.largest_usize}
+use Rattle.yaml_base.{proofs.Common.take, specs.values.TypedValues.typed_settings, specs.values.TypedValues.typed_output, specs.values.ValueText.document_text}
+use Rattle.std.proofs.lemmas.List.{length-take, take_all}
+use Rattle.yaml_emitter.{proofs.canonical.CanonicalOutput.output_reads, specs.Uncut.IsWrittenWhole}
+use Rattle.yaml_value.proofs.{AcceptedLemmas.value_accepted, ContentLemmas.content_of-value_events, ContentLemmas.stream_tells_value, TextLemmas.output_is}
+use Rattle.yaml_read.{specs.Readable.CanBeReadAt, specs.Readable.AllCanBeReadAt, specs.Readable.PairsCanBeReadAt, proofs.Scalars.int_scalars}
 
 mutual
   bits_of : (value : TypedValue) (depth : ℕ) → CanBeReadAt depth value → Has64Bits value

@@ -1,8 +1,7 @@
 -- What is open while the events of a document are read.
 use Rattle.std.specs.Prelude.{ℕ, ◌≡◌, Bool, true, false, Option, None, Some, Result, Ok, Err, List, [], ◌∷◌, ◌++◌}
 use Rattle.yaml_base.specs.Event.{Event, sequence_end, mapping_end}
-use Rattle.yaml_read.specs.EventTexts.{Pending, closing_text, item_awaited, key_awaited, lead_text}
-use Rattle.yaml_read.specs.EventTexts.{value_awaited}
+use Rattle.yaml_read.specs.EventTexts.{Pending, closing_text, item_awaited, key_awaited, lead_text, value_awaited}
 use Rattle.yaml_read.specs.Words.{past_word}
 use Rattle.yaml_read.specs.declared.errors.Stop.{Stop}
 use Rattle.yaml_read.specs.declared.leads.Await.{Await}

@@ -2,8 +2,7 @@
 use Rattle.std.specs.Prelude.{ℕ, suc, ◌+◌, ◌≡◌, Bool, true, false, Result, Ok, Err, List, [], ◌∷◌, ◌++◌, codes, length}
 use Rattle.std.specs.Str.{encode_utf8_all}
 use Rattle.yaml_base.specs.Characters.{Text, line_feed}
-use Rattle.yaml_base.specs.values.TypedValues.{TypedValue, list_value, map_value, TypedValues, values_and}
-use Rattle.yaml_base.specs.values.TypedValues.{TypedPairs, value_pairs_and}
+use Rattle.yaml_base.specs.values.TypedValues.{TypedValue, list_value, map_value, TypedValues, values_and, TypedPairs, value_pairs_and}
 use Rattle.yaml_base.specs.values.ValueText.{line_at, value_text}
 use Rattle.yaml_value.specs.SeenValues.{seen_value, seen_values, seen_pairs}
 use Rattle.yaml_read.specs.Readable.{CanBeReadAt}

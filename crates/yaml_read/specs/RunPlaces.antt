@@ -40,3 +40,8 @@ abbrev pub StopsAmong : (bytes : List ℕ) → Stop → Type 0
 StopsAmong bytes (stop.Refused left) = left ≤ length bytes
 StopsAmong bytes (stop.TooDeep left) = ⊥
 StopsAmong bytes stop.Memory = Unit {0}
+
+-- the same of why reading stops, which want of memory stays
+abbrev pub IsWithin : (bytes : List ℕ) → (reason error : Stop) → Type 0
+IsWithin bytes stop.Memory error = error ≡ stop.Memory
+IsWithin bytes _ error = StopsAmong bytes error

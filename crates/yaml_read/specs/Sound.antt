@@ -1,5 +1,5 @@
 -- What the readers of words found.
-use Rattle.std.specs.Prelude.{ℕ, ℤ, ◌<◌, ◌^◌, ◌≡◌, Bool, true, None, List, [], ◌∷◌, ◌++◌, codes}
+use Rattle.std.specs.Prelude.{ℕ, ℤ, ◌<◌, ◌≤◌, ◌^◌, ◌≡◌, Bool, true, Option, None, Some, List, [], ◌∷◌, ◌++◌, codes}
 use Rattle.std.specs.Borrow.{Bor}
 use Rattle.std.specs.Fmt.{signed_decimal}
 use Rattle.std.specs.Int.Signed.{mag}
@@ -21,6 +21,15 @@ pub record IsByNumber (bytes : List ℕ) (digits c : ℕ) (rest : List ℕ) : Ty
   pub needs : needs_escape true c ≡ true
   pub none : letter_among short_escapes c ≡ None
   pub text : bytes ≡ encode_utf8_all (hex_digits digits c) ++ rest
+
+-- a number that was read, as a character that no shorter escape has; or it is none
+abbrev pub NumberRead : (least : ℕ) → (found answer : Option (ℕ × Bor (List ℕ))) → Type 0
+NumberRead least found (Some read) =
+    (found ≡ Some read) × (least ≤ read.0) × (needs_escape true read.0 ≡ true) × (letter_among short_escapes read.0 ≡ None)
+    × (all_scalars (read.0 ∷ []) ≡ true)
+NumberRead least found None =
+    (read : ℕ × Bor (List ℕ)) → found ≡ Some read → least ≤ read.0 → needs_escape true read.0 ≡ true → letter_among short_escapes read.0 ≡ None
+    → all_scalars (read.0 ∷ []) ≡ true → ⊥
 
 -- an escape behind its backslash
 pub record IsEscape (bytes : List ℕ) (c : ℕ) (rest : List ℕ) : Type 0 where

@@ -1,12 +1,16 @@
 -- Tags as they are written, and how a node goes on behind its tag.
-use Rattle.std.specs.Prelude.{ℕ, ◌==◌, ◌||◌, ◌&&◌, ◌≡◌, Bool, true, false, not, [], ◌∷◌, if◌then◌else◌, codes, is_some}
-use Rattle.std.specs.Str.{all_scalars}
+use Rattle.std.specs.Prelude.{ℕ, ◌==◌, ◌||◌, ◌&&◌, ◌<◌, ◌≡◌, ◌≢◌, Bool, true, false, not, Option, None, Some, List, [], ◌∷◌, ◌++◌, if◌then◌else◌, codes}
+use Rattle.std.specs.Prelude.{is_some}
+use Rattle.std.specs.Borrow.{Bor}
+use Rattle.std.specs.Str.{all_scalars, encode_utf8_all}
 use Rattle.yaml_base.specs.Characters.{Text}
-use Rattle.yaml_base.specs.Event.{any_style, any_layout}
+use Rattle.yaml_base.specs.Event.{Event, any_style, any_layout}
 use Rattle.yaml_base.specs.Percent.{byte_escaped, is_tag_character, percent_sign}
-use Rattle.yaml_base.specs.Tags.{behind}
-use Rattle.yaml_base.specs.graphs.Meetings.{Held, mapping_held, scalar_held, sequence_held}
+use Rattle.yaml_base.specs.Tags.{behind, tag_fault}
+use Rattle.yaml_base.specs.graphs.DumpedText.{tag_text}
+use Rattle.yaml_base.specs.graphs.Meetings.{Held, mapping_held, opening_event_of, scalar_held, sequence_held}
 use Rattle.yaml_base.specs.values.ValueText.{in_quotes}
+use Rattle.yaml_read.specs.Words.{past_word}
 
 -- a byte of a tag's UTF-8: as itself where it may stand, else as its percent form
 abbrev pub byte_in_tag : ℕ → Text
@@ -26,8 +30,45 @@ abbrev pub stays_verbatim : Text → Bool
 stays_verbatim [] = false
 stays_verbatim (c ∷ tag) = not (is_some (behind (codes "!") (c ∷ tag))) && not (is_some (behind type_prefix (c ∷ tag)))
 
+-- a tag goes on from a prefix that a handle stands for, or without one is written as a whole
+abbrev pub is_spelled_by : (prefix tag : Text) → Bool
+is_spelled_by [] tag = stays_verbatim tag
+is_spelled_by (p ∷ prefix) tag = is_some (behind (p ∷ prefix) tag)
+
+-- a handle tells for which prefix it stands, and what stands behind the tag; `!<` stands for none
+pub data OpensTag (text : List ℕ) : (prefix end inside : List ℕ) → Type 0 where
+  opens_whole : (inside : List ℕ) → text ≡ codes "!<" ++ inside → OpensTag text [] (codes "> ") inside
+  opens_type : (inside : List ℕ) → past_word (codes "!<") text ≡ None → text ≡ codes "!!" ++ inside → OpensTag text type_prefix (codes " ") inside
+  opens_document : (inside : List ℕ) → past_word (codes "!<") text ≡ None → past_word (codes "!!") text ≡ None → text ≡ codes "!" ++ inside
+      → OpensTag text (codes "!") (codes " ") inside
+
+-- ---- the code's answers
+
+-- a byte that stands as itself or as its form, and what follows it; or none is written there
+abbrev pub ByteRead : (text : List ℕ) → Option (ℕ × Bor (List ℕ)) → Type 0
+ByteRead text (Some found) = (text ≡ byte_in_tag found.0 ++ found.1.now) × (found.0 < 256)
+ByteRead text None = (byte : ℕ) (rest : Text) → byte < 256 → text ≢ encode_utf8_all (byte_in_tag byte ++ rest)
+
+-- a handle, or none stands there
+abbrev pub HandleRead : (text : List ℕ) → Option (Bor (List ℕ) × Bor (List ℕ) × Bor (List ℕ)) → Type 0
+HandleRead text (Some found) = OpensTag text found.0.now found.1.now found.2.now
+HandleRead text None = past_word (codes "!") text ≡ None
+
+-- ---- nodes
+
 -- what stands behind a node's tag: a text between quotes, or the opening bracket of a collection
 pub data HasHeldText : Held → Text → Type 0 where
   value_quoted : (value : Text) → all_scalars value ≡ true → HasHeldText (scalar_held value any_style) (in_quotes value)
   sequence_opened : HasHeldText (sequence_held [] any_layout) (codes "[")
   mapping_opened : HasHeldText (mapping_held [] any_layout) (codes "{")
+
+-- an event that begins a node with this anchor was read from its tag on
+pub record IsTagged (anchor : Option Text) (text : List ℕ) (event : Event) (rest : List ℕ) : Type 0 where
+  pub tag : Text
+  pub held : Held
+  pub written : Text
+  pub sound : tag_fault tag ≡ None
+  pub scalars : all_scalars tag ≡ true
+  pub has : HasHeldText held written
+  pub is : event ≡ opening_event_of anchor tag held
+  pub parts : text ≡ encode_utf8_all (tag_text (Some tag) false ++ written) ++ rest

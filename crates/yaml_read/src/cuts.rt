@@ -21,7 +21,6 @@ pub(crate) fn past<'a>(text: &'a str, word: &str) -> Option<&'a str>
 /// Returns the first character, and what follows it.
 pub(crate) fn first(text: &str) -> Option<(char, &str)>
     ensures cut { MatchOption result (length text.now ≡ 0) (λ found. text.now ≡ encode_utf8 found.0 ++ found.1.now) }
-    ensures shorter { IfSome result (λ found. length found.1.now < length text.now) }
 {
     let mut characters = text.chars();
     match characters.next() {

@@ -1,6 +1,7 @@
 //! Why bytes aren't read.
 ghost use Rattle.std.specs.Prelude.{◌≡◌};
 ghost use Rattle.yaml_read.specs.Places.{IsHere, IsWholeWord};
+ghost use Rattle.yaml_read.specs.RunPlaces.{IsWithin};
 ghost use Rattle.yaml_read.specs.declared.errors.Stop.TheVariants as stop;
 
 use std::alloc::AllocError;
@@ -59,5 +60,16 @@ pub(crate) fn refused_whole(reason: Stop, rest: &str) -> Stop
     match reason {
         Stop::Memory => Stop::Memory,
         _ => refused_at(rest),
+    }
+}
+
+/// Returns why reading stops, at a place within the rest.
+pub(crate) fn stopped_within(reason: Stop, rest: &str) -> Stop
+    ensures { IsWithin rest.now reason result }
+{
+    match reason {
+        Stop::Refused(left) => Stop::Refused(left.min(rest.len())),
+        Stop::TooDeep(left) => Stop::Refused(left.min(rest.len())),
+        Stop::Memory => Stop::Memory,
     }
 }

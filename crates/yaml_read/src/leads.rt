@@ -1,10 +1,8 @@
 //! What stands before an event of a document.
-ghost use Rattle.std.specs.Prelude.{◌≡◌, ◌∷◌, ◌++◌, ◌*◌, [], IfErr, List, MatchOption, codes, length};
+ghost use Rattle.std.specs.Prelude.{◌≡◌, ◌∷◌, ◌++◌, ◌*◌, [], List, MatchOption, length};
 ghost use Rattle.yaml_base.specs.values.ValueText.{line_at};
 ghost use Rattle.yaml_read.specs.Awaits.{EntryStands, IsInnermostAwait, IsLastAwait, LeadStands, seen_await};
 ghost use Rattle.yaml_read.specs.EventTexts.{Pending};
-ghost use Rattle.yaml_read.specs.RunPlaces.{StopsAmong};
-ghost use Rattle.yaml_read.specs.Words.{Cuts};
 
 use crate::cuts::{after, after_indent, past};
 use crate::errors::Stop;
@@ -35,57 +33,52 @@ pub(crate) fn innermost<A: Allocator>(awaits: &Vec<Await, A>) -> Option<Await>
 
 /// Returns what follows the lead of a first entry, or the end of a collection without entries, which lies so deep.
 fn first_entry<'a>(text: &'a str, depth: usize, lead: &str, end: &str) -> Result<Entry<'a>, Stop>
-    ensures stands { EntryStands (line_at (depth * 2) ++ lead.now) end.now text.now result }
-    ensures stops { IfErr result (StopsAmong text.now) }
+    ensures { EntryStands (line_at (depth * 2) ++ lead.now) end.now text.now result }
 {
     match past(text, end) {
         Some(rest) => Ok(Entry::End(rest)),
-        None => {
-            let line = after_indent(text, depth)?;
-            let rest = after(line, lead)?;
-            Ok(Entry::Another(rest))
-        }
+        None => match after_indent(text, depth) {
+            Ok(line) => match after(line, lead) {
+                Ok(rest) => Ok(Entry::Another(rest)),
+                Err(stop) => Err(stop),
+            },
+            Err(stop) => Err(stop),
+        },
     }
 }
 
 /// Returns what follows the lead of another entry, or the end of a collection, which lies so deep.
 fn another_entry<'a>(text: &'a str, depth: usize, lead: &str, end: &str) -> Result<Entry<'a>, Stop>
-    ensures stands { EntryStands (line_at (depth * 2) ++ lead.now) (line_at (depth * 2) ++ end.now) text.now result }
-    ensures stops { IfErr result (StopsAmong text.now) }
+    ensures { EntryStands (line_at (depth * 2) ++ lead.now) (line_at (depth * 2) ++ end.now) text.now result }
 {
-    let line = after_indent(text, depth)?;
-    match past(line, lead) {
-        Some(rest) => Ok(Entry::Another(rest)),
-        None => {
-            let rest = after(line, end)?;
-            Ok(Entry::End(rest))
-        }
+    match after_indent(text, depth) {
+        Ok(line) => match past(line, lead) {
+            Some(rest) => Ok(Entry::Another(rest)),
+            None => match after(line, end) {
+                Ok(rest) => Ok(Entry::End(rest)),
+                Err(stop) => Err(stop),
+            },
+        },
+        Err(stop) => Err(stop),
     }
-}
-
-/// Returns what follows the lead of a key's value in a mapping that lies so deep.
-fn value_entry<'a>(text: &'a str, depth: usize) -> Result<&'a str, Stop>
-    ensures cut { Cuts (line_at (depth * 2) ++ codes "  : ") text.now result }
-    ensures stops { IfErr result (StopsAmong text.now) }
-{
-    let line = after_indent(text, depth)?;
-    after(line, "  : ")
 }
 
 /// Returns what follows the lead of a node in a collection that lies so deep, or its end.
 fn lead_in<'a>(awaited: Await, depth: usize, text: &'a str) -> Result<Entry<'a>, Stop>
-    ensures stands { (outer : List Pending) → depth ≡ length outer → LeadStands (seen_await awaited ∷ outer) text.now result }
-    ensures stops { IfErr result (StopsAmong text.now) }
+    ensures { (outer : List Pending) → depth ≡ length outer → LeadStands (seen_await awaited ∷ outer) text.now result }
 {
     match awaited {
         Await::FirstItem => first_entry(text, depth, "  ", "]"),
         Await::Item => another_entry(text, depth, "  ", "]"),
         Await::FirstKey => first_entry(text, depth, "  ? ", "}"),
         Await::Key => another_entry(text, depth, "  ? ", "}"),
-        Await::Value => {
-            let rest = value_entry(text, depth)?;
-            Ok(Entry::Another(rest))
-        }
+        Await::Value => match after_indent(text, depth) {
+            Ok(line) => match after(line, "  : ") {
+                Ok(rest) => Ok(Entry::Another(rest)),
+                Err(stop) => Err(stop),
+            },
+            Err(stop) => Err(stop),
+        },
     }
 }
 
@@ -95,8 +88,7 @@ pub(crate) fn read_lead<'a>(
     count: usize,
     text: &'a str,
 ) -> Result<Entry<'a>, Stop>
-    ensures stands { (levels : List Pending) → IsInnermostAwait levels innermost → count ≡ length levels → LeadStands levels text.now result }
-    ensures stops { IfErr result (StopsAmong text.now) }
+    ensures { (levels : List Pending) → IsInnermostAwait levels innermost → count ≡ length levels → LeadStands levels text.now result }
 {
     match innermost {
         None => Ok(Entry::Another(text)),

@@ -1,18 +1,14 @@
 //! Names of nodes.
-ghost use Rattle.std.specs.Prelude.{◌≡◌, ◌++◌, ◌<◌, ◌≤◌, true, Option, None, IfErr, IfOk, codes, length, option_map};
+ghost use Rattle.std.specs.Prelude.{◌≡◌, ◌++◌, true, None, IfOk};
 ghost use Rattle.std.specs.List.{prefix_len};
 ghost use Rattle.std.specs.Str.{encode_utf8_all};
 ghost use Rattle.yaml_base.specs.Characters as class;
 ghost use Rattle.yaml_base.specs.Characters.{Text};
 ghost use Rattle.yaml_base.specs.Seen.{seen_text};
 ghost use Rattle.yaml_base.specs.Tags.{alias_fault};
-ghost use Rattle.yaml_base.specs.graphs.DumpedText.{anchor_text};
-ghost use Rattle.yaml_read.specs.EventTexts.{IsAnchor, ends_name};
-ghost use Rattle.yaml_read.specs.Places.{IsHereOrMemory};
-ghost use Rattle.yaml_read.specs.RunPlaces.{StopsAmong};
-ghost use Rattle.yaml_read.specs.Words.{OrMemory, past_word};
+ghost use Rattle.yaml_read.specs.EventTexts.{ends_name};
+ghost use Rattle.yaml_read.specs.Words.{OrMemory};
 
-use crate::cuts::{after, past};
 use crate::errors::{Stop, refused_at};
 use std::alloc::Allocator;
 use yaml_base::is_alpha;
@@ -34,8 +30,6 @@ pub(crate) fn read_name<A: Allocator>(alloc: A, text: &str) -> Result<(String<A>
         → OrMemory (λ found. (seen_text found.0 ≡ name) × (found.1.now ≡ encode_utf8_all rest)) result }
     ensures sound { IfOk result (λ found. (alias_fault (seen_text found.0) ≡ None)
         × (text.now ≡ encode_utf8_all (seen_text found.0) ++ found.1.now)) }
-    ensures placed { IfErr result (IsHereOrMemory text.now) }
-    ensures shorter { IfOk result (λ found. length found.1.now < length text.now) }
 {
     let (name, behind) = text.split_at(name_length(text));
     if name.is_empty() {
@@ -44,28 +38,5 @@ pub(crate) fn read_name<A: Allocator>(alloc: A, text: &str) -> Result<(String<A>
     match String::from_str(alloc, name) {
         Ok(name) => Ok((name, behind)),
         Err(_) => Err(Stop::Memory),
-    }
-}
-
-/// Returns a copy of the anchor that a text begins with, if it begins with one, and what follows the space behind it.
-pub(crate) fn read_anchor<A: Allocator>(
-    alloc: A,
-    text: &str,
-) -> Result<(Option<String<A>>, &str), Stop>
-    ensures reads { (anchor : Option Text) (rest : Text) → IsAnchor anchor → past_word (codes "&") (encode_utf8_all rest) ≡ None
-        → text.now ≡ encode_utf8_all (anchor_text anchor ++ rest)
-        → OrMemory (λ found. (option_map seen_text found.0 ≡ anchor) × (found.1.now ≡ encode_utf8_all rest)) result }
-    ensures sound { IfOk result (λ found. IsAnchor (option_map seen_text found.0)
-        × (text.now ≡ encode_utf8_all (anchor_text (option_map seen_text found.0)) ++ found.1.now)) }
-    ensures stops { IfErr result (StopsAmong text.now) }
-    ensures shorter { IfOk result (λ found. length found.1.now ≤ length text.now) }
-{
-    match past(text, "&") {
-        Some(inside) => {
-            let (name, behind) = read_name(alloc, inside)?;
-            let rest = after(behind, " ")?;
-            Ok((Some(name), rest))
-        }
-        None => Ok((None, text)),
     }
 }

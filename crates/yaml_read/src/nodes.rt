@@ -1,21 +1,20 @@
 //! How the nodes of a document begin.
-ghost use Rattle.std.specs.Prelude.{◌≡◌, ◌++◌, ◌<◌, [], true, false, None, Option, Some, IfErr, IfOk, IsTrue, bytes_eq, chars, length, nat_lt, option_map};
+ghost use Rattle.std.specs.Prelude.{◌≡◌, ◌++◌, [], true, false, None, Some, IfOk, IsTrue, bytes_eq, chars, nat_lt, option_map};
 ghost use Rattle.std.specs.List.{list_all};
 ghost use Rattle.std.specs.Str.{all_scalars, encode_utf8_all};
 ghost use Rattle.yaml_base.specs.Characters.{Text};
 ghost use Rattle.yaml_base.specs.Event.{Event, any_style, any_layout};
 ghost use Rattle.yaml_base.specs.Seen.{seen_event, seen_text};
 ghost use Rattle.yaml_base.specs.Tags.{tag_fault};
-ghost use Rattle.yaml_base.specs.graphs.DumpedText.{anchor_text, tag_text};
+ghost use Rattle.yaml_base.specs.graphs.DumpedText.{tag_text};
 ghost use Rattle.yaml_base.specs.graphs.Meetings.{Held, mapping_held, opening_event_of, scalar_held, sequence_held};
-ghost use Rattle.yaml_read.specs.EventTexts.{BeginsNode, IsAnchor, ends_name, opening_text};
-ghost use Rattle.yaml_read.specs.RunPlaces.{StopsAmong};
-ghost use Rattle.yaml_read.specs.WrittenTags.{HasHeldText};
+ghost use Rattle.yaml_read.specs.EventTexts.{BeginsNode, ends_name, opening_text};
+ghost use Rattle.yaml_read.specs.WrittenTags.{HasHeldText, IsTagged};
 ghost use Rattle.yaml_read.specs.Words.{OrMemory};
 
-use crate::cuts::past;
+use crate::cuts::{after, past};
 use crate::errors::Stop;
-use crate::names::{read_anchor, read_name};
+use crate::names::read_name;
 use crate::quoted::read_quoted;
 use crate::tags::read_written_tag;
 use std::alloc::Allocator;
@@ -75,54 +74,34 @@ fn mapping_start<A: Allocator>(anchor: Option<String<A>>, tag: String<A>) -> yam
     }
 }
 
-/// Returns the event with which a node begins whose anchor and tag were read, and what follows.
-fn read_held<'a, A: Allocator>(
+/// Returns the event with which a node begins whose anchor was read, from its tag on, and what follows.
+fn read_tagged<'a, A: Allocator + Copy>(
     alloc: A,
     anchor: Option<String<A>>,
-    tag: String<A>,
     text: &'a str,
 ) -> Result<(yaml_event_t<A>, &'a str), Stop>
-    ensures reads { (held : Held) (written rest : Text) → HasHeldText held written → text.now ≡ encode_utf8_all (written ++ rest)
-        → OrMemory (λ found. (seen_event found.0 ≡ opening_event_of (option_map seen_text anchor) (seen_text tag) held)
+    ensures reads { (tag : Text) (held : Held) (written rest : Text) → tag_fault tag ≡ None → all_scalars tag ≡ true → HasHeldText held written
+        → text.now ≡ encode_utf8_all (tag_text (Some tag) false ++ (written ++ rest))
+        → OrMemory (λ found. (seen_event found.0 ≡ opening_event_of (option_map seen_text anchor) tag held)
         × (found.1.now ≡ encode_utf8_all rest)) result }
-    ensures sound { IfOk result (λ found. (held : Held) × (written : Text) × HasHeldText held written
-        × (seen_event found.0 ≡ opening_event_of (option_map seen_text anchor) (seen_text tag) held)
-        × (text.now ≡ encode_utf8_all written ++ found.1.now)) }
-    ensures stops { IfErr result (StopsAmong text.now) }
-    ensures shorter { IfOk result (λ found. length found.1.now < length text.now) }
+    ensures sound { IfOk result (λ found. IsTagged (option_map seen_text anchor) text.now (seen_event found.0) found.1.now) }
 {
-    match past(text, "[") {
+    let (tag, behind) = match read_written_tag(alloc, text) {
+        Ok(found) => found,
+        Err(stop) => return Err(stop),
+    };
+    match past(behind, "[") {
         Some(rest) => return Ok((sequence_start(anchor, tag), rest)),
         None => {}
     }
-    match past(text, "{") {
+    match past(behind, "{") {
         Some(rest) => return Ok((mapping_start(anchor, tag), rest)),
         None => {}
     }
-    match read_quoted(alloc, text) {
+    match read_quoted(alloc, behind) {
         Ok((value, rest)) => Ok((scalar(anchor, tag, value), rest)),
         Err(stop) => Err(stop),
     }
-}
-
-/// Returns the event with which a node begins, from its anchor on, and what follows.
-fn read_properties<A: Allocator + Copy>(
-    alloc: A,
-    text: &str,
-) -> Result<(yaml_event_t<A>, &str), Stop>
-    ensures reads { (anchor : Option Text) (tag : Text) (held : Held) (written rest : Text) → IsAnchor anchor → tag_fault tag ≡ None
-        → all_scalars tag ≡ true → HasHeldText held written
-        → text.now ≡ encode_utf8_all (anchor_text anchor ++ (tag_text (Some tag) false ++ (written ++ rest)))
-        → OrMemory (λ found. (seen_event found.0 ≡ opening_event_of anchor tag held) × (found.1.now ≡ encode_utf8_all rest)) result }
-    ensures sound { IfOk result (λ found. (anchor : Option Text) × (tag : Text) × (held : Held) × (written : Text) × IsAnchor anchor
-        × (tag_fault tag ≡ None) × (all_scalars tag ≡ true) × HasHeldText held written × (seen_event found.0 ≡ opening_event_of anchor tag held)
-        × (text.now ≡ encode_utf8_all (anchor_text anchor ++ (tag_text (Some tag) false ++ written)) ++ found.1.now)) }
-    ensures stops { IfErr result (StopsAmong text.now) }
-    ensures shorter { IfOk result (λ found. length found.1.now < length text.now) }
-{
-    let (anchor, behind) = read_anchor(alloc, text)?;
-    let (tag, rest) = read_written_tag(alloc, behind)?;
-    read_held(alloc, anchor, tag, rest)
 }
 
 /// Returns the event with which a node begins, and what follows: an alias and a scalar are read as a whole, a sequence and a
@@ -135,14 +114,24 @@ pub(crate) fn read_opening<A: Allocator + Copy>(
         → OrMemory (λ found. (seen_event found.0 ≡ event) × (found.1.now ≡ encode_utf8_all rest)) result }
     ensures sound { IfOk result (λ found. BeginsNode (seen_event found.0)
         × (text.now ≡ encode_utf8_all (opening_text (seen_event found.0)) ++ found.1.now)) }
-    ensures stops { IfErr result (StopsAmong text.now) }
-    ensures shorter { IfOk result (λ found. length found.1.now < length text.now) }
 {
     match past(text, "*") {
         Some(inside) => {
-            let (name, rest) = read_name(alloc, inside)?;
-            Ok((yaml_event_t::YAML_ALIAS_EVENT { anchor: name }, rest))
+            return match read_name(alloc, inside) {
+                Ok((name, rest)) => Ok((yaml_event_t::YAML_ALIAS_EVENT { anchor: name }, rest)),
+                Err(stop) => Err(stop),
+            };
         }
-        None => read_properties(alloc, text),
+        None => {}
+    }
+    match past(text, "&") {
+        Some(inside) => match read_name(alloc, inside) {
+            Ok((name, behind)) => match after(behind, " ") {
+                Ok(rest) => read_tagged(alloc, Some(name), rest),
+                Err(stop) => Err(stop),
+            },
+            Err(stop) => Err(stop),
+        },
+        None => read_tagged(alloc, None, text),
     }
 }

@@ -9,7 +9,7 @@ ghost use Rattle.yaml_base.specs.values.ValueText.{in_quotes};
 ghost use Rattle.yaml_read.specs.Grammar.{quoted_text};
 ghost use Rattle.yaml_read.specs.Heads.{ReadsCharacter};
 ghost use Rattle.yaml_read.specs.Places.{BreaksAt};
-ghost use Rattle.yaml_read.specs.Sound.{IsByNumber, IsCharacter, IsEscape};
+ghost use Rattle.yaml_read.specs.Sound.{IsCharacter, IsEscape, NumberRead};
 ghost use Rattle.yaml_read.specs.Words.{OrMemory};
 
 use crate::cuts::{after, first, past};
@@ -84,7 +84,6 @@ fn read_digit(text: &str) -> Option<(u32, &str)>
         → MatchOption result ⊥ (λ found. (found.0 ≡ d) × (found.1.now ≡ encode_utf8_all rest)) }
     ensures sound { IfSome result (λ found. text.now ≡ encode_utf8_all (hex_digit found.0 ∷ []) ++ found.1.now) }
     ensures small { IfSome result (λ found. found.0 < 16) }
-    ensures shorter { IfSome result (λ found. length found.1.now ≤ length text.now) }
 {
     let (c, rest) = first(text)?;
     let digit = digit_of(c)?;
@@ -97,7 +96,6 @@ pub(crate) fn read_two_digits(text: &str) -> Option<(u32, &str)>
         → MatchOption result ⊥ (λ found. (found.0 ≡ n) × (found.1.now ≡ encode_utf8_all rest)) }
     ensures sound { IfSome result (λ found. text.now ≡ encode_utf8_all (hex_digits 2 found.0) ++ found.1.now) }
     ensures small { IfSome result (λ found. found.0 < 256) }
-    ensures shorter { IfSome result (λ found. length found.1.now ≤ length text.now) }
 {
     let (upper, behind) = read_digit(text)?;
     let (lower, rest) = read_digit(behind)?;
@@ -110,7 +108,6 @@ fn read_four_digits(text: &str) -> Option<(u32, &str)>
         → MatchOption result ⊥ (λ found. (found.0 ≡ n) × (found.1.now ≡ encode_utf8_all rest)) }
     ensures sound { IfSome result (λ found. text.now ≡ encode_utf8_all (hex_digits 4 found.0) ++ found.1.now) }
     ensures small { IfSome result (λ found. found.0 < 65536) }
-    ensures shorter { IfSome result (λ found. length found.1.now ≤ length text.now) }
 {
     let (upper, behind) = read_two_digits(text)?;
     let (lower, rest) = read_two_digits(behind)?;
@@ -133,30 +130,17 @@ fn character_of(number: u32, least: u32) -> Option<char>
     }
 }
 
-/// Returns the character of a number of two digits, and what follows.
-fn read_short_number(text: &str) -> Option<(char, &str)>
-    ensures reads { (c : ℕ) (rest : Text) → all_scalars (c ∷ []) ≡ true → double.needs_escape true c ≡ true
-        → double.letter_among double.short_escapes c ≡ None → c < 256 → text.now ≡ encode_utf8_all (hex_digits 2 c ++ rest)
-        → MatchOption result ⊥ (λ found. (found.0 ≡ c) × (found.1.now ≡ encode_utf8_all rest)) }
-    ensures sound { IfSome result (λ found. IsByNumber text.now 2 found.0 found.1.now × (found.0 < 256)) }
-    ensures shorter { IfSome result (λ found. length found.1.now ≤ length text.now) }
+/// Returns the character of a number that was read, and what follows.
+fn read_number<'a>(found: Option<(u32, &'a str)>, least: u32) -> Option<(char, &'a str)>
+    ensures { NumberRead least found.entry result }
 {
-    let (number, rest) = read_two_digits(text)?;
-    let c = character_of(number, 0)?;
-    Some((c, rest))
-}
-
-/// Returns the character of a number of four digits, and what follows.
-fn read_long_number(text: &str) -> Option<(char, &str)>
-    ensures reads { (c : ℕ) (rest : Text) → all_scalars (c ∷ []) ≡ true → double.needs_escape true c ≡ true
-        → double.letter_among double.short_escapes c ≡ None → 256 ≤ c → c < 65536 → text.now ≡ encode_utf8_all (hex_digits 4 c ++ rest)
-        → MatchOption result ⊥ (λ found. (found.0 ≡ c) × (found.1.now ≡ encode_utf8_all rest)) }
-    ensures sound { IfSome result (λ found. IsByNumber text.now 4 found.0 found.1.now × (256 ≤ found.0) × (found.0 < 65536)) }
-    ensures shorter { IfSome result (λ found. length found.1.now ≤ length text.now) }
-{
-    let (number, rest) = read_four_digits(text)?;
-    let c = character_of(number, 0x100)?;
-    Some((c, rest))
+    match found {
+        Some(read) => match character_of(read.0, least) {
+            Some(c) => Some((c, read.1)),
+            None => None,
+        },
+        None => None,
+    }
 }
 
 /// Returns the character of a letter after a backslash, and the text that follows it.
@@ -165,7 +149,6 @@ fn read_letter(letter: char, text: &str) -> Option<(char, &str)>
         → MatchOption result ⊥ (λ found. (found.0 ≡ c) × (found.1.now ≡ text.now)) }
     ensures sound { IfSome result (λ found. (letter_meaning letter ≡ Some found.0) × (double.needs_escape true found.0 ≡ true)
         × (found.1.now ≡ text.now)) }
-    ensures shorter { IfSome result (λ found. length found.1.now ≤ length text.now) }
 {
     let c = meaning_of(letter)?;
     if needs_escape(c) {
@@ -181,13 +164,12 @@ fn read_escape(text: &str) -> Option<(char, &str)>
         → text.now ≡ encode_utf8_all (double.escape_after_backslash (double.letter_among double.short_escapes c) c ++ rest)
         → MatchOption result ⊥ (λ found. (found.0 ≡ c) × (found.1.now ≡ encode_utf8_all rest)) }
     ensures sound { IfSome result (λ found. IsEscape text.now found.0 found.1.now) }
-    ensures shorter { IfSome result (λ found. length found.1.now ≤ length text.now) }
 {
     let (letter, rest) = first(text)?;
     if letter == 'x' {
-        read_short_number(rest)
+        read_number(read_two_digits(rest), 0)
     } else if letter == 'u' {
-        read_long_number(rest)
+        read_number(read_four_digits(rest), 0x100)
     } else {
         read_letter(letter, rest)
     }
@@ -197,7 +179,6 @@ fn read_escape(text: &str) -> Option<(char, &str)>
 fn read_character(text: &str) -> Option<(char, &str)>
     ensures reads { ReadsCharacter text.now result }
     ensures sound { IfSome result (λ found. IsCharacter text.now found.0 found.1.now) }
-    ensures shorter { IfSome result (λ found. length found.1.now < length text.now) }
 {
     let (c, rest) = first(text)?;
     if c == '\\' {

@@ -10,7 +10,7 @@ ghost use Rattle.yaml_read.specs.Words.{OrMemory};
 ghost use Rattle.yaml_read.specs.declared.errors.Stop.TheVariants as stop;
 
 use crate::cuts::after;
-use crate::errors::{Stop, refused_at};
+use crate::errors::{Stop, refused_at, stopped_within};
 use crate::steps::{Progress, read_event};
 use std::alloc::Allocator;
 use yaml_base::yaml_event_t;
@@ -89,7 +89,10 @@ pub(crate) fn read_events<A: Allocator + Copy>(
     let mut awaits = Vec::new(alloc);
     let mut rest = text;
     'steps: loop {
-        let (event, progress) = read_event(alloc, &mut awaits, rest)?;
+        let (event, progress) = match read_event(alloc, &mut awaits, rest) {
+            Ok(found) => found,
+            Err(stop) => return Err(stopped_within(stop, rest)),
+        };
         push(&mut events, event)?;
         match progress {
             Progress::Continues(next) => rest = next,

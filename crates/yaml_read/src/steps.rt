@@ -1,5 +1,5 @@
 //! The events of a document, one at a time.
-ghost use Rattle.std.specs.Prelude.{◌≡◌, ◌++◌, ◌∷◌, ◌<◌, true, Err, IfErr, IfOk, List, Ok, OnOk, ℕ, length};
+ghost use Rattle.std.specs.Prelude.{◌≡◌, ◌++◌, ◌∷◌, true, Err, IfErr, IfOk, List, Ok, ℕ};
 ghost use Rattle.std.specs.Str.{encode_utf8_all};
 ghost use Rattle.yaml_base.specs.Characters.{Text};
 ghost use Rattle.yaml_base.specs.Event.{Event};
@@ -8,9 +8,7 @@ ghost use Rattle.yaml_read.specs.Awaits.{IsInnermostAwait, closing_event, seen_a
 ghost use Rattle.yaml_read.specs.EventSteps.{GoesTo, ReadsEvent, ReadsNode, await_opened, bytes_behind, open_behind_opening, open_now, text_behind_lead};
 ghost use Rattle.yaml_read.specs.EventSteps.{trail_behind_opening};
 ghost use Rattle.yaml_read.specs.EventTexts.{Pending, BeginsNode, IsInNode, ends_name, event_text, may_come, next_awaited, left_open, outside, trail_text};
-ghost use Rattle.yaml_read.specs.RunPlaces.{StopsAmong};
 ghost use Rattle.yaml_read.specs.Words.{OrMemory};
-ghost use Rattle.yaml_read.specs.declared.errors.Stop.TheVariants as stop;
 
 use crate::cuts::after;
 use crate::errors::Stop;
@@ -53,24 +51,6 @@ fn next_await(awaited: Await) -> Await
     }
 }
 
-/// Adds the innermost collection.
-fn push<A: Allocator>(awaits: &mut Vec<Await, A>, awaited: Await) -> Result<(), Stop>
-    ensures pushed { OnOk result (seen_awaits awaits.new.items ≡ seen_await awaited ∷ seen_awaits awaits.old.items) }
-    ensures memory { IfErr result (λ error. error ≡ stop.Memory) }
-{
-    match awaits.push(awaited) {
-        Ok(()) => Ok(()),
-        Err(_) => Err(Stop::Memory),
-    }
-}
-
-/// Takes the innermost collection off.
-fn leave_collection<A: Allocator>(awaits: &mut Vec<Await, A>)
-    ensures { seen_awaits awaits.new.items ≡ outside (seen_awaits awaits.old.items) }
-{
-    let _last = awaits.pop();
-}
-
 /// Reads what follows a node, and says what is open behind it.
 fn leave_node<'a, A: Allocator>(
     awaits: &mut Vec<Await, A>,
@@ -79,15 +59,16 @@ fn leave_node<'a, A: Allocator>(
     ensures moved { IfOk result (GoesTo (left_open (seen_awaits awaits.old.items)) (trail_text (seen_awaits awaits.old.items)) text.now
         (seen_awaits awaits.new.items)) }
     ensures reads { (tail : List ℕ) → text.now ≡ trail_text (seen_awaits awaits.old.items) ++ tail → OrMemory (λ _. Unit {0}) result }
-    ensures stops { IfErr result (StopsAmong text.now) }
 {
     match awaits.pop() {
         None => Ok(Progress::RootEnds(text)),
-        Some(awaited) => {
-            let rest = after(text, trail(awaited))?;
-            push(awaits, next_await(awaited))?;
-            Ok(Progress::Continues(rest))
-        }
+        Some(awaited) => match after(text, trail(awaited)) {
+            Ok(rest) => match awaits.push(next_await(awaited)) {
+                Ok(()) => Ok(Progress::Continues(rest)),
+                Err(_) => Err(Stop::Memory),
+            },
+            Err(stop) => Err(stop),
+        },
     }
 }
 
@@ -100,14 +81,13 @@ fn go_behind<'a, A: Allocator>(
     ensures moved { IfOk result (GoesTo (open_behind_opening (seen_awaits awaits.old.items) opened)
         (trail_behind_opening (seen_awaits awaits.old.items) opened) text.now (seen_awaits awaits.new.items)) }
     ensures reads { (tail : List ℕ) → text.now ≡ trail_behind_opening (seen_awaits awaits.old.items) opened ++ tail → OrMemory (λ _. Unit {0}) result }
-    ensures stops { IfErr result (StopsAmong text.now) }
 {
     match opened {
         None => leave_node(awaits, text),
-        Some(awaited) => {
-            push(awaits, awaited)?;
-            Ok(Progress::Continues(text))
-        }
+        Some(awaited) => match awaits.push(awaited) {
+            Ok(()) => Ok(Progress::Continues(text)),
+            Err(_) => Err(Stop::Memory),
+        },
     }
 }
 
@@ -170,12 +150,14 @@ fn read_node<'a, A: Allocator + Copy>(
     ensures reads { (event : Event) (tail : Text) → BeginsNode event → ends_name tail ≡ true
         → text.now ≡ encode_utf8_all (text_behind_lead (seen_awaits awaits.old.items) event ++ tail)
         → OrMemory (λ found. seen_event found.0 ≡ event) result }
-    ensures stops { IfErr result (StopsAmong text.now) }
-    ensures shorter { IfOk result (λ found. length (bytes_behind found.1) < length text.now) }
 {
-    let (event, rest) = read_opening(alloc, text)?;
-    let behind = go_behind(awaits, opened_by(&event), rest);
-    beside(event, behind)
+    match read_opening(alloc, text) {
+        Ok((event, rest)) => {
+            let behind = go_behind(awaits, opened_by(&event), rest);
+            beside(event, behind)
+        }
+        Err(stop) => Err(stop),
+    }
 }
 
 /// Returns the event with which the innermost collection ends, and what follows it, behind its closing bracket.
@@ -189,11 +171,12 @@ fn read_end<'a, A: Allocator>(
         × GoesTo (left_open (outside (seen_awaits awaits.old.items))) (trail_text (outside (seen_awaits awaits.old.items))) text.now
         (seen_awaits awaits.new.items) found.1) }
     ensures reads { (tail : List ℕ) → text.now ≡ trail_text (outside (seen_awaits awaits.old.items)) ++ tail → OrMemory (λ _. Unit {0}) result }
-    ensures stops { IfErr result (StopsAmong text.now) }
 {
-    leave_collection(awaits);
-    let progress = leave_node(awaits, text)?;
-    Ok((end_event(innermost), progress))
+    let _last = awaits.pop();
+    match leave_node(awaits, text) {
+        Ok(progress) => Ok((end_event(innermost), progress)),
+        Err(stop) => Err(stop),
+    }
 }
 
 /// Returns the next event, and what follows it.
@@ -207,13 +190,13 @@ pub(crate) fn read_event<'a, A: Allocator + Copy>(
     ensures reads { (event : Event) (tail : Text) → IsInNode event → may_come (seen_awaits awaits.old.items) event ≡ true → ends_name tail ≡ true
         → text.now ≡ encode_utf8_all (event_text (seen_awaits awaits.old.items) event ++ tail)
         → OrMemory (λ found. seen_event found.0 ≡ event) result }
-    ensures stops { IfErr result (StopsAmong text.now) }
-    ensures shorter { IfOk result (λ found. length (bytes_behind found.1) < length text.now) }
 {
     let last = innermost(awaits);
-    let lead = read_lead(last, awaits.len(), text)?;
-    match lead {
-        Entry::Another(rest) => read_node(alloc, awaits, rest),
-        Entry::End(rest) => read_end(awaits, last, rest),
+    match read_lead(last, awaits.len(), text) {
+        Ok(lead) => match lead {
+            Entry::Another(rest) => read_node(alloc, awaits, rest),
+            Entry::End(rest) => read_end(awaits, last, rest),
+        },
+        Err(stop) => Err(stop),
     }
 }

@@ -1,13 +1,7 @@
-use Rattle.std.proofs.Common.{◌*◌, List, ℕ, replicate}
-use Rattle.std.specs.Borrow.{Bor}
-use Rattle.std.specs.Prelude.{codes, Result}
-use Rattle.yaml_base.specs.Characters.{space}
-use Rattle.yaml_base.specs.values.ValueText.{line_at}
-use Rattle.yaml_read.proofs.Words.{at_exit, cuts_behind, first_none}
-use Rattle.yaml_read.specs.Words.{Cuts}
-use Rattle.yaml_read.specs.declared.errors.Stop.{Stop}
-use Rattle.yaml_read.proofs.Breaking.{err_exit, level_behind}
-use Rattle.yaml_read.specs.Places.{LacksLine, no_line}
+use Rattle.std.proofs.Common.{◌*◌, List, ℕ, replicate, Bor, codes, Result}
+use Rattle.yaml_base.{specs.Characters.space, specs.values.ValueText.line_at}
+use Rattle.yaml_read.{proofs.Words.at_exit, proofs.Words.cuts_behind, proofs.Words.first_none, specs.Words.Cuts, specs.declared.errors.Stop.Stop}
+use Rattle.yaml_read.{proofs.Breaking.err_exit, proofs.Breaking.level_behind, specs.Places.LacksLine, specs.Places.no_line}
 use Rattle.yaml_read.proofs.cuts.after_indent.Goals as goal
 
 pub returns-in_err-line-clause-cut : goal.returns-in_err-line-clause-cut

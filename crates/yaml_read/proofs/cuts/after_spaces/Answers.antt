@@ -1,13 +1,7 @@
-use Rattle.std.proofs.Common.{◌*◌, replicate, rules, arith}
-use Rattle.std.proofs.Common.{List, ℕ}
-use Rattle.std.specs.Borrow.{Bor}
-use Rattle.std.specs.Prelude.{Result}
+use Rattle.std.proofs.Common.{◌*◌, replicate, rules, arith, List, ℕ, Bor, Result}
 use Rattle.yaml_base.specs.Characters.{space}
-use Rattle.yaml_read.specs.Words.{Cuts}
-use Rattle.yaml_read.specs.declared.errors.Stop.{Stop}
 use Rattle.yaml_read.proofs.Words.{at_exit, spaces_lack, spaces_more}
-use Rattle.yaml_read.proofs.Breaking.{err_exit}
-use Rattle.yaml_read.specs.Places.{LacksLevel}
+use Rattle.yaml_read.{specs.Words.Cuts, specs.declared.errors.Stop.Stop, proofs.Breaking.err_exit, specs.Places.LacksLevel}
 use Rattle.yaml_read.proofs.cuts.after_spaces.Goals as goal
 
 pub returns-in_err-rest-clause-cut : goal.returns-in_err-rest-clause-cut

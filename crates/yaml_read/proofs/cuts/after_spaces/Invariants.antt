@@ -1,6 +1,5 @@
 use Rattle.std.proofs.Common.{◌≡◌, ◌≤◌, ◌*◌, ◌++◌, length, replicate}
-use denote.Text.{Utf8}
-use denote.Shadow.{shadow}
+use denote.{Text.Utf8, Shadow.shadow}
 use Rattle.yaml_base.specs.Characters.{space}
 use Rattle.yaml_read.proofs.cuts.after_spaces.Given as goal
 

@@ -1,12 +1,7 @@
-use Rattle.std.proofs.Common.{◌++◌, ◌∷◌, []}
-use Rattle.std.specs.Prelude.{codes}
-use Rattle.std.specs.Str.{encode_utf8_all}
+use Rattle.std.proofs.Common.{◌++◌, ◌∷◌, [], codes, encode_utf8_all}
 use Rattle.yaml_base.specs.Characters.{line_feed}
-use Rattle.yaml_read.specs.DocumentPlaces.{DocumentStops}
-use Rattle.yaml_read.proofs.Breaking.{err_exit}
 use Rattle.yaml_read.proofs.DocumentsRead.{events_sound, events_stop, first_line_stops}
-use Rattle.yaml_read.proofs.Turns.{cut_is}
-use Rattle.yaml_read.proofs.Words.{no_word}
+use Rattle.yaml_read.{specs.DocumentPlaces.DocumentStops, proofs.Breaking.err_exit, proofs.Turns.cut_is, proofs.Words.no_word}
 use Rattle.yaml_read.proofs.documents.events_of_text.Goals as goal
 
 pub returns-in_err-node-clause-reads : goal.returns-in_err-node-clause-reads

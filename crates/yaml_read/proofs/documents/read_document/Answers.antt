@@ -1,13 +1,9 @@
 use Rattle.std.proofs.Common.{◌≡◌, List, ℕ, ap, inr, map, subst, sym, ◌∙◌}
-use Rattle.std.specs.Prelude.{Vec}
-use Rattle.std.specs.Str.{IsValidUpTo}
-use Rattle.yaml_base.specs.Event.{Event}
-use Rattle.yaml_base.specs.Seen.{seen_event}
-use Rattle.yaml_base.specs.declared.events.yaml_event_t.{yaml_event_t}
-use Rattle.yaml_read.specs.RunPlaces.{in_document}
-use Rattle.yaml_read.specs.DocumentPlaces.{AreRunBytes, DocumentStops}
-use Rattle.yaml_read.proofs.DocumentsRead.{composed_complete, composed_exact, composed_one, composed_placed, composed_read, document_placed}
-use Rattle.yaml_read.proofs.DocumentsRead.{document_stopped, dumped_utf8, no_document_placed}
+use Rattle.std.{specs.Prelude.Vec, specs.Str.IsValidUpTo}
+use Rattle.yaml_base.{specs.Event.Event, specs.Seen.seen_event, specs.declared.events.yaml_event_t.yaml_event_t}
+use Rattle.yaml_read.proofs.DocumentsRead.{composed_complete, composed_exact, composed_one, composed_placed, composed_read, document_placed, document_stopped}
+use Rattle.yaml_read.proofs.DocumentsRead.{dumped_utf8, no_document_placed}
+use Rattle.yaml_read.{specs.RunPlaces.in_document, specs.DocumentPlaces.AreRunBytes, specs.DocumentPlaces.DocumentStops}
 use Rattle.yaml_read.proofs.documents.read_document.Goals as goal
 
 pub returns-in-Err-clause-complete : goal.returns-in-Err-clause-complete

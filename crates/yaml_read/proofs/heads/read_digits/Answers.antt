@@ -1,7 +1,4 @@
-use Rattle.std.proofs.Common.{◌≡◌, ℕ, List}
-use Rattle.std.specs.Borrow.{Bor}
-use Rattle.std.specs.Prelude.{String}
-use Rattle.std.specs.Str.{encode_utf8_all}
+use Rattle.std.proofs.Common.{◌≡◌, ℕ, List, Bor, String, encode_utf8_all}
 use Rattle.yaml_base.specs.Seen.{seen_text}
 use Rattle.yaml_read.proofs.BreakingNodes.{whole_placed, whole_refused}
 use Rattle.yaml_read.proofs.heads.read_digits.Goals as goal

@@ -1,31 +1,14 @@
-use Rattle.std.proofs.Common.{◌≡◌, ◌++◌, List, ℕ, ap, subst, sym, ◌∙◌}
-use Rattle.std.specs.Prelude.{codes, Result}
-use Rattle.std.specs.Str.{encode_utf8_all}
-use Rattle.yaml_base.specs.Characters.{Text}
-use Rattle.yaml_base.specs.values.TypedValues.{TypedValue, text_value}
-use Rattle.yaml_base.specs.values.ValueText.{value_text}
-use Rattle.yaml_read.specs.Heads.{HeadRead, tag_word}
-use Rattle.yaml_read.specs.Readable.{CanBeReadAt}
-use Rattle.yaml_read.specs.declared.heads.Kind.{Kind}
-use Rattle.yaml_read.specs.declared.heads.Kind.TheVariants as kind
-use Rattle.std.proofs.Common.{refl}
-use Rattle.std.specs.Borrow.{Bor}
-use Rattle.yaml_read.proofs.Encoded.{word_encoded}
+use Rattle.std.proofs.Common.{◌≡◌, ◌++◌, List, ℕ, ap, subst, sym, ◌∙◌, refl, [], arith}
+use Rattle.std.{specs.Prelude.codes, specs.Prelude.Result, specs.Str.encode_utf8_all, specs.Borrow.Bor, proofs.lemmas.Result.IfOk-weaker}
+use Rattle.yaml_base.{specs.Characters.Text, specs.values.TypedValues.TypedValue, specs.values.TypedValues.text_value, specs.values.ValueText.value_text}
 use Rattle.yaml_read.proofs.HeadTexts.{TailOf, list_head, map_head, no_tag, tail_of}
-use Rattle.yaml_read.proofs.SeenLevels.{seen_null, seen_string}
-use Rattle.yaml_read.proofs.Turns.{cut_is}
-use Rattle.yaml_read.proofs.Words.{at_exit}
-use Rattle.yaml_read.specs.declared.errors.Stop.{Stop}
-use Rattle.yaml_read.specs.declared.heads.Head.{Head}
-use Rattle.yaml_value.specs.SeenValues.{seen_value}
 use Rattle.yaml_read.proofs.HeadsRead.{integer_read, list_read, map_read, null_read, string_read, truth_read}
-use Rattle.yaml_read.specs.Sound.{IsValue}
-use Rattle.yaml_read.proofs.Breaking.{err_exit, missing}
-use Rattle.yaml_read.proofs.BreakingNodes.{no_list, no_map, no_tag_there, tag_passed}
-use Rattle.yaml_read.specs.Grammar.{node, nothing}
-use Rattle.yaml_read.specs.Places.{BreaksAt}
-use Rattle.std.proofs.Common.{[], arith}
-use Rattle.std.proofs.lemmas.Result.{IfOk-weaker}
+use Rattle.yaml_read.specs.{Heads.HeadRead, Heads.tag_word, Readable.CanBeReadAt, declared.heads.Kind.Kind, declared.errors.Stop.Stop, declared.heads.Head.Head}
+use Rattle.yaml_read.specs.{Sound.IsValue, Grammar.node, Grammar.nothing, Places.BreaksAt}
+use Rattle.yaml_read.proofs.{Encoded.word_encoded, SeenLevels.seen_null, SeenLevels.seen_string, Turns.cut_is, Words.at_exit, Breaking.err_exit}
+use Rattle.yaml_read.proofs.{Breaking.missing, BreakingNodes.no_list, BreakingNodes.no_map, BreakingNodes.no_tag_there, BreakingNodes.tag_passed}
+use Rattle.yaml_value.specs.SeenValues.{seen_value}
+use Rattle.yaml_read.specs.declared.heads.Kind.TheVariants as kind
 use Rattle.yaml_read.proofs.heads.read_head.Goals as goal
 
 -- what follows the tag of a kind

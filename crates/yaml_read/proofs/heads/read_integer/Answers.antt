@@ -1,29 +1,12 @@
-use Rattle.std.proofs.Common.{◌≡◌, ◌++◌, ap, subst, sym, ◌∙◌}
-use Rattle.std.proofs.Common.{FitsSigned, true≢false, w64}
-use Rattle.std.proofs.lemmas.Int.{to_z-of_z}
-use Rattle.std.proofs.lemmas.Slice.Eq.{bytes_eq-Decides}
-use Rattle.std.specs.Fmt.{signed_decimal}
-use Rattle.yaml_value.specs.SeenValues.{seen_value}
+use Rattle.std.proofs.Common.{◌≡◌, ◌++◌, ap, subst, sym, ◌∙◌, FitsSigned, true≢false, w64, List, ℕ, inr, String, encode_utf8_all, Bor}
+use Rattle.std.{proofs.lemmas.Int.to_z-of_z, proofs.lemmas.Slice.Eq.bytes_eq-Decides, specs.Fmt.signed_decimal}
+use Rattle.yaml_value.{specs.SeenValues.seen_value, specs.declared.value.Value.Value}
+use Rattle.yaml_base.{specs.values.TypedValues.int_value, specs.values.ValueText.in_quotes, specs.Seen.seen_text}
+use Rattle.yaml_read.proofs.{Scalars.digits_are, Scalars.fits_signed, Scalars.int_scalars, Scalars.not_parsed, Scalars.parsed, SeenLevels.seen_integer}
+use Rattle.yaml_read.proofs.{Words.at_exit, HeadsRead.bits_of_fits, HeadsRead.digits_seen, HeadsRead.parsed_fits, Breaking.err_exit, BreakingNodes.no_integer}
+use Rattle.yaml_read.specs.{Heads.IsWhole, Words.OrMemory, Grammar.integer, Places.BreaksAt}
 use Rattle.yaml_value.specs.declared.value.Value as declared
-use Rattle.yaml_base.specs.values.TypedValues.{int_value}
-use Rattle.yaml_read.proofs.Scalars.{digits_are, fits_signed, int_scalars, not_parsed, parsed}
-use Rattle.yaml_read.proofs.SeenLevels.{seen_integer}
-use Rattle.yaml_read.proofs.Words.{at_exit}
-use Rattle.yaml_read.specs.Heads.{IsWhole}
-use Rattle.yaml_read.specs.Words.{OrMemory}
 use Rattle.yaml_read.specs.declared.errors.Stop.TheVariants as stop
-use Rattle.std.specs.Str.{encode_utf8_all}
-use Rattle.yaml_base.specs.values.ValueText.{in_quotes}
-use Rattle.yaml_read.proofs.HeadsRead.{bits_of_fits, digits_seen, parsed_fits}
-use Rattle.yaml_read.proofs.Breaking.{err_exit}
-use Rattle.yaml_read.proofs.BreakingNodes.{no_integer}
-use Rattle.yaml_read.specs.Grammar.{integer}
-use Rattle.yaml_read.specs.Places.{BreaksAt}
-use Rattle.std.proofs.Common.{List, ℕ, inr}
-use Rattle.std.specs.Borrow.{Bor}
-use Rattle.std.specs.Prelude.{String}
-use Rattle.yaml_base.specs.Seen.{seen_text}
-use Rattle.yaml_value.specs.declared.value.Value.{Value}
 use Rattle.yaml_read.proofs.heads.read_integer.Goals as goal
 
 pub returns-in_err-digits-clause-reads : goal.returns-in_err-digits-clause-reads

@@ -1,5 +1,4 @@
-use Rattle.std.proofs.Common.{◌++◌, ap, ◌∙◌}
-use Rattle.std.specs.Prelude.{codes}
+use Rattle.std.proofs.Common.{◌++◌, ap, ◌∙◌, codes}
 use Rattle.yaml_base.specs.values.TypedValues.{list_value}
 use Rattle.yaml_value.specs.SeenValues.{seen_values}
 use Rattle.yaml_read.proofs.SeenLevels.{seen_list}

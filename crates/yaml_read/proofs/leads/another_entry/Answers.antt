@@ -1,51 +1,28 @@
-use Rattle.std.proofs.Common.{◌*◌, ◌++◌, ap, ◌∙◌, sym, append_assoc}
-use Rattle.std.specs.Prelude.{Result}
+use Rattle.std.proofs.Common.{◌++◌, ◌*◌, ap, sym, ◌∙◌, append_assoc}
 use Rattle.yaml_base.specs.values.ValueText.{line_at}
-use Rattle.yaml_read.specs.Awaits.{EntryStands}
-use Rattle.yaml_read.specs.RunPlaces.{StopsAmong}
-use Rattle.yaml_read.specs.declared.errors.Stop.{Stop}
-use Rattle.yaml_read.specs.declared.levels.Entry.{Entry}
-use Rattle.yaml_read.proofs.Awaits.{here_within, line_within, within_behind}
-use Rattle.yaml_read.proofs.Breaking.{err_exit}
-use Rattle.yaml_read.proofs.Words.{at_exit, first_none, longer_none}
+use Rattle.yaml_read.proofs.Words.{first_none, longer_none}
 use Rattle.yaml_read.proofs.leads.another_entry.Goals as goal
 
-pub returns-in_err-line-clause-stands : goal.returns-in_err-line-clause-stands
-returns-in_err-line-clause-stands c =
-    let line = line_at (c.args.depth * 2) in
-    at_exit (λ (r : Result Entry Stop). EntryStands (line ++ c.args.lead.now) (line ++ c.args.end.now) c.args.text.now r)
-    c.in_err-line.field-0.0 c.from_residual.result c.from_residual.ensures (
-      first_none line c.args.lead.now c.args.text.now c.in_err-line.ensures.cut,
-      first_none line c.args.end.now c.args.text.now c.in_err-line.ensures.cut,
-    )
-
-pub returns-in-Some-clause-stands : goal.returns-in-Some-clause-stands
-returns-in-Some-clause-stands c =
-    c.in_ok-line.ensures.cut ∙ ap (λ t. line_at (c.args.depth * 2) ++ t) c.in-Some.ensures.cut
+pub returns-in-Some : goal.returns-in-Some
+returns-in-Some c =
+    c.in-Ok.ensures.cut ∙ ap (λ t. line_at (c.args.depth * 2) ++ t) c.in-Some.ensures.cut
     ∙ sym (append_assoc (line_at (c.args.depth * 2)) c.args.lead.now c.in-Some.rest.now)
 
-pub returns-in_err-rest-in-None-clause-stands : goal.returns-in_err-rest-in-None-clause-stands
-returns-in_err-rest-in-None-clause-stands c =
-    let line = line_at (c.args.depth * 2) in
-    at_exit (λ (r : Result Entry Stop). EntryStands (line ++ c.args.lead.now) (line ++ c.args.end.now) c.args.text.now r)
-    c.in_err-rest-in-None.field-0.0 c.from_residual-in_err-rest-in-None.result c.from_residual-in_err-rest-in-None.ensures (
-      longer_none line c.args.lead.now c.args.text.now c.in_ok-line.line.now c.in_ok-line.ensures.cut c.in-None.ensures.cut,
-      longer_none line c.args.end.now c.args.text.now c.in_ok-line.line.now c.in_ok-line.ensures.cut c.in_err-rest-in-None.ensures.cut,
+pub returns-in-Ok-after : goal.returns-in-Ok-after
+returns-in-Ok-after c =
+    c.in-Ok.ensures.cut ∙ ap (λ t. line_at (c.args.depth * 2) ++ t) c.in-Ok-after.ensures.cut
+    ∙ sym (append_assoc (line_at (c.args.depth * 2)) c.args.end.now c.in-Ok-after.rest.now)
+
+pub returns-in-Err-after : goal.returns-in-Err-after
+returns-in-Err-after c =
+    let line = line_at (c.args.depth * 2) in (
+      longer_none line c.args.lead.now c.args.text.now c.in-Ok.line.now c.in-Ok.ensures.cut c.in-None.ensures.cut,
+      longer_none line c.args.end.now c.args.text.now c.in-Ok.line.now c.in-Ok.ensures.cut c.in-Err-after.ensures.cut,
     )
 
-pub returns-in_ok-rest-in-None-clause-stands : goal.returns-in_ok-rest-in-None-clause-stands
-returns-in_ok-rest-in-None-clause-stands c =
-    c.in_ok-line.ensures.cut ∙ ap (λ t. line_at (c.args.depth * 2) ++ t) c.in_ok-rest-in-None.ensures.cut
-    ∙ sym (append_assoc (line_at (c.args.depth * 2)) c.args.end.now c.in_ok-rest-in-None.rest.now)
-
-pub returns-in_err-line-clause-stops : goal.returns-in_err-line-clause-stops
-returns-in_err-line-clause-stops c =
-    err_exit (StopsAmong c.args.text.now) c.in_err-line.field-0.0 c.from_residual.result c.from_residual.ensures
-    (line_within c.args.depth c.args.text.now c.in_err-line.field-0.0 c.in_err-line.ensures.lacks)
-
-pub returns-in_err-rest-in-None-clause-stops : goal.returns-in_err-rest-in-None-clause-stops
-returns-in_err-rest-in-None-clause-stops c =
-    err_exit (StopsAmong c.args.text.now) c.in_err-rest-in-None.field-0.0 c.from_residual-in_err-rest-in-None.result
-    c.from_residual-in_err-rest-in-None.ensures
-    (within_behind (line_at (c.args.depth * 2)) c.args.text.now c.in_ok-line.line.now c.in_err-rest-in-None.field-0.0
-    c.in_ok-line.ensures.cut (here_within c.in_ok-line.line.now c.in_err-rest-in-None.field-0.0 c.in_err-rest-in-None.ensures.placed))
+pub returns-in-Err : goal.returns-in-Err
+returns-in-Err c =
+    let line = line_at (c.args.depth * 2) in (
+      first_none line c.args.lead.now c.args.text.now c.in-Err.ensures.cut,
+      first_none line c.args.end.now c.args.text.now c.in-Err.ensures.cut,
+    )

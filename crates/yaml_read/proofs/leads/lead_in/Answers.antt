@@ -1,56 +1,52 @@
-use Rattle.std.proofs.Common.{◌∷◌, subst, sym}
-use Rattle.std.specs.Prelude.{Result, Ok}
-use Rattle.yaml_read.specs.Awaits.{LeadStands, seen_await}
-use Rattle.yaml_read.specs.EventTexts.{value_awaited}
-use Rattle.yaml_read.specs.RunPlaces.{StopsAmong}
-use Rattle.yaml_read.specs.declared.errors.Stop.{Stop}
-use Rattle.yaml_read.specs.declared.leads.Await.{Await}
-use Rattle.yaml_read.specs.declared.levels.Entry.{Entry}
-use Rattle.yaml_read.specs.declared.levels.Entry.TheVariants.{Another}
+use Rattle.std.proofs.Common.{◌∷◌, subst, sym, Ok, ◌++◌, ◌*◌, ap, ◌∙◌, append_assoc, codes, Err}
 use Rattle.yaml_read.proofs.Awaits.{first_item_stands, first_key_stands, item_stands, key_stands, value_lacks, value_stands}
-use Rattle.yaml_read.proofs.Breaking.{err_exit}
-use Rattle.yaml_read.proofs.Words.{at_exit}
+use Rattle.yaml_read.proofs.Words.{first_none, longer_none}
+use Rattle.yaml_read.{specs.Awaits.LeadStands, specs.Awaits.seen_await, specs.declared.leads.Await.Await, specs.declared.levels.Entry.TheVariants.Another}
+use Rattle.yaml_base.specs.values.ValueText.{line_at}
 use Rattle.yaml_read.proofs.leads.lead_in.Goals as goal
 
-pub returns-in-FirstItem-clause-stands : goal.returns-in-FirstItem-clause-stands
-returns-in-FirstItem-clause-stands c =
+pub returns-in-FirstItem : goal.returns-in-FirstItem
+returns-in-FirstItem c =
     λ outer at.
     subst (λ (a : Await). LeadStands (seen_await a ∷ outer) c.args.text.now c.first_entry.result) (sym c.in-FirstItem.is)
-    (first_item_stands outer c.args.depth c.args.text.now c.first_entry.result at c.first_entry.ensures.stands)
+    (first_item_stands outer c.args.depth c.args.text.now c.first_entry.result at c.first_entry.ensures)
 
-pub returns-in-Item-clause-stands : goal.returns-in-Item-clause-stands
-returns-in-Item-clause-stands c =
+pub returns-in-Item : goal.returns-in-Item
+returns-in-Item c =
     λ outer at.
     subst (λ (a : Await). LeadStands (seen_await a ∷ outer) c.args.text.now c.another_entry.result) (sym c.in-Item.is)
-    (item_stands outer c.args.depth c.args.text.now c.another_entry.result at c.another_entry.ensures.stands)
+    (item_stands outer c.args.depth c.args.text.now c.another_entry.result at c.another_entry.ensures)
 
-pub returns-in-FirstKey-clause-stands : goal.returns-in-FirstKey-clause-stands
-returns-in-FirstKey-clause-stands c =
+pub returns-in-FirstKey : goal.returns-in-FirstKey
+returns-in-FirstKey c =
     λ outer at.
     subst (λ (a : Await). LeadStands (seen_await a ∷ outer) c.args.text.now c.first_entry-in-FirstKey.result) (sym c.in-FirstKey.is)
-    (first_key_stands outer c.args.depth c.args.text.now c.first_entry-in-FirstKey.result at c.first_entry-in-FirstKey.ensures.stands)
+    (first_key_stands outer c.args.depth c.args.text.now c.first_entry-in-FirstKey.result at c.first_entry-in-FirstKey.ensures)
 
-pub returns-in-Key-clause-stands : goal.returns-in-Key-clause-stands
-returns-in-Key-clause-stands c =
+pub returns-in-Key : goal.returns-in-Key
+returns-in-Key c =
     λ outer at.
     subst (λ (a : Await). LeadStands (seen_await a ∷ outer) c.args.text.now c.another_entry-in-Key.result) (sym c.in-Key.is)
-    (key_stands outer c.args.depth c.args.text.now c.another_entry-in-Key.result at c.another_entry-in-Key.ensures.stands)
+    (key_stands outer c.args.depth c.args.text.now c.another_entry-in-Key.result at c.another_entry-in-Key.ensures)
 
-pub returns-in_err-rest-in-Value-clause-stands : goal.returns-in_err-rest-in-Value-clause-stands
-returns-in_err-rest-in-Value-clause-stands c =
+pub returns-in-Ok-after : goal.returns-in-Ok-after
+returns-in-Ok-after c =
     λ outer at.
-    subst (λ (a : Await). LeadStands (seen_await a ∷ outer) c.args.text.now c.from_residual.result) (sym c.in-Value.is)
-    (at_exit (λ (r : Result Entry Stop). LeadStands (value_awaited ∷ outer) c.args.text.now r) c.in_err-rest-in-Value.field-0.0 c.from_residual.result
-    c.from_residual.ensures
-    (value_lacks outer c.args.depth c.args.text.now c.in_err-rest-in-Value.field-0.0 at c.in_err-rest-in-Value.ensures.cut))
+    let line = line_at (c.args.depth * 2) in
+    subst (λ (a : Await). LeadStands (seen_await a ∷ outer) c.args.text.now (Ok (Another c.in-Ok-after.rest))) (sym c.in-Value.is)
+    (value_stands outer c.args.depth c.args.text.now c.in-Ok-after.rest at
+    (c.in-Ok.ensures.cut ∙ ap (λ t. line ++ t) c.in-Ok-after.ensures.cut ∙ sym (append_assoc line (codes "  : ") c.in-Ok-after.rest.now)))
 
-pub returns-in_ok-rest-in-Value-clause-stands : goal.returns-in_ok-rest-in-Value-clause-stands
-returns-in_ok-rest-in-Value-clause-stands c =
+pub returns-in-Err-after : goal.returns-in-Err-after
+returns-in-Err-after c =
     λ outer at.
-    subst (λ (a : Await). LeadStands (seen_await a ∷ outer) c.args.text.now (Ok (Another c.in_ok-rest-in-Value.rest))) (sym c.in-Value.is)
-    (value_stands outer c.args.depth c.args.text.now c.in_ok-rest-in-Value.rest at c.in_ok-rest-in-Value.ensures.cut)
+    subst (λ (a : Await). LeadStands (seen_await a ∷ outer) c.args.text.now (Err c.in-Err-after.stop)) (sym c.in-Value.is)
+    (value_lacks outer c.args.depth c.args.text.now c.in-Err-after.stop at
+    (longer_none (line_at (c.args.depth * 2)) (codes "  : ") c.args.text.now c.in-Ok.line.now c.in-Ok.ensures.cut c.in-Err-after.ensures.cut))
 
-pub returns-in_err-rest-in-Value-clause-stops : goal.returns-in_err-rest-in-Value-clause-stops
-returns-in_err-rest-in-Value-clause-stops c =
-    err_exit (StopsAmong c.args.text.now) c.in_err-rest-in-Value.field-0.0 c.from_residual.result c.from_residual.ensures
-    c.in_err-rest-in-Value.ensures.stops
+pub returns-in-Err : goal.returns-in-Err
+returns-in-Err c =
+    λ outer at.
+    subst (λ (a : Await). LeadStands (seen_await a ∷ outer) c.args.text.now (Err c.in-Err.stop)) (sym c.in-Value.is)
+    (value_lacks outer c.args.depth c.args.text.now c.in-Err.stop at
+    (first_none (line_at (c.args.depth * 2)) (codes "  : ") c.args.text.now c.in-Err.ensures.cut))

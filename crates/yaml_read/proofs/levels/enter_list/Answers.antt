@@ -1,7 +1,5 @@
-use Rattle.std.proofs.Common.{◌≡◌, [], suc, arith}
-use Rattle.std.specs.Prelude.{length}
-use Rattle.yaml_read.proofs.Breaking.{line_breaks}
-use Rattle.yaml_read.specs.Grammar.{nothing}
+use Rattle.std.proofs.Common.{◌≡◌, [], suc, arith, length}
+use Rattle.yaml_read.{proofs.Breaking.line_breaks, specs.Grammar.nothing}
 use Rattle.yaml_read.proofs.levels.enter_list.Goals as goal
 
 pub returns-clause-breaks : goal.returns-clause-breaks

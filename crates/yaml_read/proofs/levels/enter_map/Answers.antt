@@ -1,13 +1,8 @@
-use Rattle.std.proofs.Common.{◌≡◌, ◌+◌, ◌*◌, ◌++◌, ◌∷◌, List, [], ℕ, suc, None, refl, subst, arith}
-use Rattle.std.specs.Borrow.{Bor}
-use Rattle.std.specs.Prelude.{codes, length, Result}
+use Rattle.std.proofs.Common.{◌≡◌, ◌+◌, ◌*◌, ◌++◌, ◌∷◌, List, [], ℕ, suc, None, refl, subst, arith, Bor, codes, length, Result}
 use Rattle.yaml_base.specs.values.ValueText.{line_at}
-use Rattle.yaml_read.proofs.Words.{at_exit, first_none, opens_cut, opens_error}
-use Rattle.yaml_read.specs.Words.{OpensAt, past_word}
-use Rattle.yaml_read.specs.declared.errors.Stop.{Stop}
-use Rattle.yaml_read.proofs.Breaking.{err_exit, line_and_word, line_lacks}
-use Rattle.yaml_read.specs.Grammar.{line_then, nothing, word_then}
-use Rattle.yaml_read.specs.Places.{BreaksAt, LacksLine}
+use Rattle.yaml_read.{proofs.Words.at_exit, specs.Words.past_word, specs.Grammar.nothing, specs.Places.BreaksAt, specs.Places.LacksLine}
+use Rattle.yaml_read.{proofs.Words.first_none, proofs.Words.opens_cut, specs.Grammar.line_then, specs.Grammar.word_then, proofs.Breaking.err_exit}
+use Rattle.yaml_read.{proofs.Words.opens_error, specs.Words.OpensAt, proofs.Breaking.line_and_word, proofs.Breaking.line_lacks, specs.declared.errors.Stop.Stop}
 use Rattle.yaml_read.proofs.levels.enter_map.Goals as goal
 
 pub returns-in_err-line-clause-cut : goal.returns-in_err-line-clause-cut

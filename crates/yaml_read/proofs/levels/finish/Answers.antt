@@ -1,11 +1,7 @@
-use Rattle.std.proofs.Common.{◌++◌, [], ap, ◌∙◌, arith}
-use Rattle.std.specs.Prelude.{codes, length}
+use Rattle.std.proofs.Common.{◌++◌, [], ap, ◌∙◌, arith, codes, length}
 use Rattle.yaml_value.specs.SeenValues.{seen_value}
-use Rattle.yaml_read.proofs.Opening.{nothing_left, root_ends, some_left, value_out}
-use Rattle.yaml_read.proofs.Turns.{cut_is}
-use Rattle.yaml_read.proofs.Words.{no_word}
-use Rattle.yaml_read.proofs.Breaking.{err_exit}
 use Rattle.yaml_read.specs.Places.{LacksEnd, more_follows, no_end}
+use Rattle.yaml_read.proofs.{Opening.nothing_left, Opening.root_ends, Opening.some_left, Opening.value_out, Turns.cut_is, Words.no_word, Breaking.err_exit}
 use Rattle.yaml_read.proofs.levels.finish.Goals as goal
 
 pub returns-in_err-end-clause-reached : goal.returns-in_err-end-clause-reached

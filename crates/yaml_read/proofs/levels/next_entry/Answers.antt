@@ -1,15 +1,8 @@
-use Rattle.std.proofs.Common.{◌≡◌, ◌*◌, ◌++◌, None, ap, subst, sym, ◌∙◌, arith}
-use Rattle.std.specs.Prelude.{codes, Result}
+use Rattle.std.proofs.Common.{◌≡◌, ◌*◌, ◌++◌, None, ap, subst, sym, ◌∙◌, arith, codes, Result}
 use Rattle.yaml_base.specs.values.ValueText.{line_at}
-use Rattle.yaml_read.specs.Entries.{EntryFound}
-use Rattle.yaml_read.specs.Words.{past_word}
-use Rattle.yaml_read.specs.declared.errors.Stop.{Stop}
-use Rattle.yaml_read.specs.declared.levels.Entry.{Entry}
-use Rattle.yaml_read.proofs.Turns.{cut_is, line_is}
-use Rattle.yaml_read.proofs.Words.{at_exit, no_word}
 use Rattle.yaml_read.proofs.Breaking.{err_exit, no_comma, no_entry, no_line_behind}
-use Rattle.yaml_read.specs.Grammar.{entry_end}
-use Rattle.yaml_read.specs.Places.{BreaksAt}
+use Rattle.yaml_read.{specs.Entries.EntryFound, specs.Words.past_word, specs.declared.errors.Stop.Stop, specs.declared.levels.Entry.Entry, proofs.Turns.cut_is}
+use Rattle.yaml_read.{proofs.Turns.line_is, proofs.Words.at_exit, proofs.Words.no_word, specs.Grammar.entry_end, specs.Places.BreaksAt}
 use Rattle.yaml_read.proofs.levels.next_entry.Goals as goal
 
 pub returns-in_err-behind-clause-found : goal.returns-in_err-behind-clause-found

@@ -1,7 +1,6 @@
-use Rattle.yaml_read.specs.Remaining.{seen_level}
-use Rattle.yaml_read.proofs.SeenLevels.{not_pushed, pushed_on}
-use Rattle.yaml_read.proofs.levels.push.Goals as goal
 use Rattle.yaml_read.proofs.levels.push.Goals.{in-Ok, in-Err}
+use Rattle.yaml_read.{specs.Remaining.seen_level, proofs.SeenLevels.not_pushed, proofs.SeenLevels.pushed_on}
+use Rattle.yaml_read.proofs.levels.push.Goals as goal
 
 pub returns : goal.returns
 returns g c =

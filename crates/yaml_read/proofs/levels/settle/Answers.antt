@@ -1,19 +1,10 @@
-use Rattle.std.proofs.Common.{◌≡◌, ◌<◌, List, subst, sym, ◌∙◌, rules, arith}
-use Rattle.std.specs.Prelude.{Result, Ok, length}
+use Rattle.std.proofs.Common.{◌≡◌, ◌<◌, List, subst, sym, ◌∙◌, rules, arith, Result, Ok, length}
 use Rattle.yaml_value.specs.SeenValues.{seen_value}
 use Rattle.yaml_read.specs.Remaining.{IsDue, IsRead, OpenLevel, Reached, TurnReached, seen_level, seen_levels}
-use Rattle.yaml_read.specs.declared.errors.Stop.{Stop}
-use Rattle.yaml_read.specs.declared.levels.Next.{Next}
-use Rattle.yaml_read.specs.declared.levels.Turn.{Turn}
-use Rattle.yaml_read.proofs.SeenLevels.{levels_length, no_levels}
-use Rattle.yaml_read.proofs.Turns.{popped, turn_error}
-use Rattle.yaml_read.proofs.Words.{at_exit}
-use Rattle.yaml_read.proofs.Opening.{taken}
 use Rattle.yaml_read.specs.Opened.{HasRead, IsOpen, TurnRead}
-use Rattle.yaml_read.proofs.Breaking.{err_exit}
 use Rattle.yaml_read.proofs.BreakingNodes.{end_stops, value_stops}
-use Rattle.yaml_read.specs.Places.{StopsIn}
-use Rattle.yaml_read.specs.Shorter.{TurnShorter}
+use Rattle.yaml_read.specs.{declared.errors.Stop.Stop, declared.levels.Next.Next, declared.levels.Turn.Turn, Places.StopsIn, Shorter.TurnShorter}
+use Rattle.yaml_read.proofs.{SeenLevels.levels_length, SeenLevels.no_levels, Turns.popped, Turns.turn_error, Words.at_exit, Opening.taken, Breaking.err_exit}
 use Rattle.yaml_read.proofs.levels.settle.Goals as goal
 
 pub returns-in_err-turn-clause-reached : goal.returns-in_err-turn-clause-reached

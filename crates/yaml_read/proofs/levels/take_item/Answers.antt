@@ -1,21 +1,11 @@
-use Rattle.std.proofs.Common.{◌∷◌, subst}
-use Rattle.std.specs.Prelude.{Ok, Err}
+use Rattle.std.proofs.Common.{◌∷◌, subst, ◌*◌, ◌++◌, ap, sym, ◌∙◌, Ok, Err, codes}
 use Rattle.yaml_value.specs.SeenValues.{seen_value, seen_values}
-use Rattle.yaml_value.specs.declared.value.Value as declared
-use Rattle.yaml_read.specs.Remaining.{IsDue, IsRead, items_open}
-use Rattle.yaml_read.specs.declared.levels.Entry.{Entry}
-use Rattle.yaml_read.proofs.Turns.{EntryReached, item_reached}
-use Rattle.std.proofs.Common.{◌*◌, ◌++◌, ap, sym, ◌∙◌}
-use Rattle.std.specs.Prelude.{codes}
-use Rattle.yaml_base.specs.values.TypedValues.{list_value}
-use Rattle.yaml_base.specs.values.ValueText.{line_at}
 use Rattle.yaml_read.specs.Opened.{EntryCut, HasRead, IsOpen}
-use Rattle.yaml_read.proofs.Opening.{item_on, item_out}
-use Rattle.yaml_read.proofs.SeenLevels.{item_more, seen_list}
-use Rattle.yaml_read.proofs.Breaking.{err_exit}
-use Rattle.yaml_read.specs.Shorter.{EntryShorter}
-use Rattle.yaml_read.specs.Grammar.{entry_end}
-use Rattle.yaml_read.specs.Places.{BreaksAt}
+use Rattle.yaml_read.{specs.Remaining.IsDue, specs.Remaining.IsRead, specs.Remaining.items_open, specs.declared.levels.Entry.Entry, proofs.Turns.EntryReached}
+use Rattle.yaml_read.{proofs.Turns.item_reached, proofs.Opening.item_on, proofs.Opening.item_out, proofs.SeenLevels.item_more, proofs.SeenLevels.seen_list}
+use Rattle.yaml_read.{proofs.Breaking.err_exit, specs.Shorter.EntryShorter, specs.Grammar.entry_end, specs.Places.BreaksAt}
+use Rattle.yaml_base.{specs.values.TypedValues.list_value, specs.values.ValueText.line_at}
+use Rattle.yaml_value.specs.declared.value.Value as declared
 use Rattle.yaml_read.proofs.levels.take_item.Goals as goal
 
 pub returns-in_err-entry-clause-reached : goal.returns-in_err-entry-clause-reached

@@ -1,15 +1,9 @@
-use Rattle.std.proofs.Common.{◌*◌, ◌++◌, ◌∷◌, [], refl, subst, sym}
-use Rattle.std.specs.Prelude.{codes}
+use Rattle.std.proofs.Common.{◌*◌, ◌++◌, ◌∷◌, [], refl, subst, sym, ap, ◌∙◌, codes}
 use Rattle.yaml_base.specs.values.ValueText.{line_at}
 use Rattle.yaml_value.specs.SeenValues.{seen_pairs, seen_value}
-use Rattle.yaml_read.specs.Remaining.{IsDue}
-use Rattle.yaml_read.proofs.Turns.{cut_is, key_bytes, key_ends}
-use Rattle.yaml_read.proofs.Words.{no_word}
-use Rattle.std.proofs.Common.{ap, ◌∙◌}
-use Rattle.yaml_read.proofs.Opening.{key_on}
 use Rattle.yaml_read.proofs.Breaking.{err_exit, line_lacks, line_passed, missing}
-use Rattle.yaml_read.specs.Grammar.{line_then, nothing, word_then}
-use Rattle.yaml_read.specs.Places.{BreaksAt}
+use Rattle.yaml_read.{specs.Remaining.IsDue, proofs.Turns.cut_is, proofs.Turns.key_bytes, proofs.Turns.key_ends, proofs.Words.no_word, proofs.Opening.key_on}
+use Rattle.yaml_read.{specs.Grammar.line_then, specs.Grammar.nothing, specs.Grammar.word_then, specs.Places.BreaksAt}
 use Rattle.yaml_read.proofs.levels.take_key.Goals as goal
 
 pub returns-in_err-line-clause-reached : goal.returns-in_err-line-clause-reached

@@ -1,21 +1,11 @@
-use Rattle.std.proofs.Common.{◌∷◌, subst}
-use Rattle.std.specs.Prelude.{Ok, Err}
+use Rattle.std.proofs.Common.{◌∷◌, subst, ◌*◌, ◌++◌, ap, sym, ◌∙◌, Ok, Err, codes}
 use Rattle.yaml_value.specs.SeenValues.{seen_value, seen_pairs}
-use Rattle.yaml_value.specs.declared.value.Value as declared
-use Rattle.yaml_read.specs.Remaining.{IsDue, IsRead, pairs_open}
-use Rattle.yaml_read.specs.declared.levels.Entry.{Entry}
-use Rattle.yaml_read.proofs.Turns.{EntryReached, pair_reached}
-use Rattle.std.proofs.Common.{◌*◌, ◌++◌, ap, sym, ◌∙◌}
-use Rattle.std.specs.Prelude.{codes}
-use Rattle.yaml_base.specs.values.TypedValues.{map_value}
-use Rattle.yaml_base.specs.values.ValueText.{line_at}
 use Rattle.yaml_read.specs.Opened.{EntryCut, HasRead, IsOpen}
-use Rattle.yaml_read.proofs.Opening.{pair_on, pair_out}
-use Rattle.yaml_read.proofs.SeenLevels.{pair_more, seen_map}
-use Rattle.yaml_read.proofs.Breaking.{err_exit}
-use Rattle.yaml_read.specs.Shorter.{EntryShorter}
-use Rattle.yaml_read.specs.Grammar.{entry_end}
-use Rattle.yaml_read.specs.Places.{BreaksAt}
+use Rattle.yaml_read.{specs.Remaining.IsDue, specs.Remaining.IsRead, specs.Remaining.pairs_open, specs.declared.levels.Entry.Entry, proofs.Turns.EntryReached}
+use Rattle.yaml_read.{proofs.Turns.pair_reached, proofs.Opening.pair_on, proofs.Opening.pair_out, proofs.SeenLevels.pair_more, proofs.SeenLevels.seen_map}
+use Rattle.yaml_read.{proofs.Breaking.err_exit, specs.Shorter.EntryShorter, specs.Grammar.entry_end, specs.Places.BreaksAt}
+use Rattle.yaml_base.{specs.values.TypedValues.map_value, specs.values.ValueText.line_at}
+use Rattle.yaml_value.specs.declared.value.Value as declared
 use Rattle.yaml_read.proofs.levels.take_pair.Goals as goal
 
 pub returns-in_err-entry-clause-reached : goal.returns-in_err-entry-clause-reached

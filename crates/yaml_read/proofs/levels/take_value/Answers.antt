@@ -1,12 +1,6 @@
-use Rattle.std.proofs.Common.{◌∷◌, subst}
+use Rattle.std.proofs.Common.{◌∷◌, subst, sym, IfErr}
 use Rattle.yaml_value.specs.SeenValues.{seen_value}
-use Rattle.yaml_read.specs.Remaining.{IsRead, seen_level}
-use Rattle.yaml_read.specs.declared.levels.Level.{Level}
-use Rattle.yaml_read.specs.Opened.{HasRead}
-use Rattle.std.specs.Prelude.{IfErr}
-use Rattle.std.proofs.Common.{sym}
-use Rattle.yaml_read.specs.Grammar.{behind_in}
-use Rattle.yaml_read.specs.Places.{BreaksAt}
+use Rattle.yaml_read.specs.{Remaining.IsRead, Remaining.seen_level, declared.levels.Level.Level, Opened.HasRead, Grammar.behind_in, Places.BreaksAt}
 use Rattle.yaml_read.proofs.levels.take_value.Goals as goal
 
 pub returns-in-Items-clause-reached : goal.returns-in-Items-clause-reached

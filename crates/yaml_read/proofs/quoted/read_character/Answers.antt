@@ -1,4 +1,4 @@
-use Rattle.std.proofs.Common.{sym, ◌∙◌, true≢false, arith}
+use Rattle.std.proofs.Common.{sym, ◌∙◌, true≢false}
 use Rattle.yaml_read.proofs.FirstCharacters.{backslash_first, character_there, itself_first}
 use Rattle.std.proofs.lemmas.Option.{IfSome_then}
 use Rattle.yaml_read.proofs.CharactersRead.{escape_read, itself_read, scalar_of}
@@ -36,7 +36,3 @@ returns-else-needs_escape-clause-sound c =
     itself_read c.args.text.now c.in_ok-c.rest.now c.in_ok-c.c
     (scalar_of c.args.text.now c.in_ok-c.rest.now c.in_ok-c.c c.utf8.text c.in_ok-c.ensures.cut)
     (sym c.needs_escape.ensures ∙ c.if-needs_escape.false) c.in_ok-c.ensures.cut
-
-pub returns-then-c-eq92-clause-shorter : goal.returns-then-c-eq92-clause-shorter
-returns-then-c-eq92-clause-shorter c =
-    IfSome_then c.read_escape.result c.read_escape.ensures.shorter (λ found less. omega (arith, less, c.in_ok-c.ensures.shorter))

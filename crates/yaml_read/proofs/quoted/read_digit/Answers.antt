@@ -1,13 +1,7 @@
-use Rattle.std.proofs.Common.{ap, sym, ◌∙◌}
-use Rattle.std.proofs.lemmas.Option.{none-some}
-use Rattle.yaml_base.specs.Characters.{hex_digit}
-use Rattle.yaml_base.specs.reading.ReadDouble.{digit_meaning}
-use Rattle.yaml_read.proofs.Escapes.{digit_reads}
-use Rattle.yaml_read.proofs.Firsts.{first_is, not_empty}
-use Rattle.std.proofs.Common.{◌++◌}
-use Rattle.std.proofs.lemmas.List.{append-nil}
-use Rattle.std.specs.Prelude.{encode_utf8}
-use Rattle.yaml_read.proofs.CharactersRead.{digit_is}
+use Rattle.std.proofs.Common.{ap, sym, ◌∙◌, ◌++◌}
+use Rattle.std.{proofs.lemmas.Option.none-some, proofs.lemmas.List.append-nil, specs.Prelude.encode_utf8}
+use Rattle.yaml_base.{specs.Characters.hex_digit, specs.reading.ReadDouble.digit_meaning}
+use Rattle.yaml_read.{proofs.Escapes.digit_reads, proofs.Firsts.first_is, proofs.Firsts.not_empty, proofs.CharactersRead.digit_is}
 use Rattle.yaml_read.proofs.quoted.read_digit.Goals as goal
 
 pub returns-in_err-c-clause-reads : goal.returns-in_err-c-clause-reads

@@ -1,8 +1,7 @@
-use Rattle.std.proofs.Common.{◌++◌, ap, sym, ◌∙◌, arith}
-use Rattle.std.specs.Prelude.{encode_utf8}
+use Rattle.std.proofs.Common.{◌++◌, ◌<◌, ap, sym, ◌∙◌, arith}
+use Rattle.std.{specs.Prelude.encode_utf8, proofs.lemmas.Option.IfSome_then}
 use Rattle.yaml_read.proofs.FirstCharacters.{escape_there, four_digits_follow, letter_follows, read_on, two_digits_follow}
-use Rattle.std.proofs.lemmas.Option.{IfSome_then}
-use Rattle.yaml_read.proofs.CharactersRead.{letter_read, letter_scalar, long_read, short_read}
+use Rattle.yaml_read.proofs.CharactersRead.{letter_read, letter_scalar, long_read, number_reads, number_sound, short_read}
 use Rattle.yaml_read.proofs.quoted.read_escape.Goals as goal
 
 pub returns-in_err-letter-clause-reads : goal.returns-in_err-letter-clause-reads
@@ -14,14 +13,16 @@ returns-then-letter-eq120-clause-reads c =
     λ d rest scalar needs is.
     let two = two_digits_follow d rest c.in_ok-letter.letter c.args.text.now c.in_ok-letter.rest.now scalar needs is c.in_ok-letter.ensures.cut
     c.if-letter-eq120.true in
-    c.read_short_number.ensures.reads d rest scalar needs two.1 two.0 two.2
+    number_reads 0 d rest c.read_two_digits.result c.read_number.result (c.read_two_digits.ensures.reads d rest two.0 two.2) c.read_number.ensures scalar
+    needs two.1 (omega arith)
 
 pub returns-then-letter-eq117-clause-reads : goal.returns-then-letter-eq117-clause-reads
 returns-then-letter-eq117-clause-reads c =
     λ d rest scalar needs is.
     let four = four_digits_follow d rest c.in_ok-letter.letter c.args.text.now c.in_ok-letter.rest.now scalar needs is c.in_ok-letter.ensures.cut
     c.if-letter-eq117.true in
-    c.read_long_number.ensures.reads d rest scalar needs four.2 four.0 four.1 four.3
+    number_reads 256 d rest c.read_four_digits.result c.read_number-then-letter-eq117.result (c.read_four_digits.ensures.reads d rest four.1 four.3)
+    c.read_number-then-letter-eq117.ensures scalar needs four.2 four.0
 
 pub returns-else-letter-eq117-clause-reads : goal.returns-else-letter-eq117-clause-reads
 returns-else-letter-eq117-clause-reads c =
@@ -32,13 +33,17 @@ returns-else-letter-eq117-clause-reads c =
 
 pub returns-then-letter-eq120-clause-sound : goal.returns-then-letter-eq120-clause-sound
 returns-then-letter-eq120-clause-sound c =
-    IfSome_then c.read_short_number.result c.read_short_number.ensures.sound
-    (λ found is. short_read c.args.text.now c.in_ok-letter.rest.now found.1.now c.in_ok-letter.letter found.0 is.0 is.1 c.in_ok-letter.ensures.cut
+    IfSome_then c.read_number.result
+    (number_sound 2 0 c.in_ok-letter.rest.now (λ n. n < 256) c.read_two_digits.result c.read_number.result c.read_two_digits.ensures.sound
+    c.read_two_digits.ensures.small c.read_number.ensures)
+    (λ found is. short_read c.args.text.now c.in_ok-letter.rest.now found.1.now c.in_ok-letter.letter found.0 is.0 is.2 c.in_ok-letter.ensures.cut
     c.if-letter-eq120.true)
 
 pub returns-then-letter-eq117-clause-sound : goal.returns-then-letter-eq117-clause-sound
 returns-then-letter-eq117-clause-sound c =
-    IfSome_then c.read_long_number.result c.read_long_number.ensures.sound
+    IfSome_then c.read_number-then-letter-eq117.result
+    (number_sound 4 256 c.in_ok-letter.rest.now (λ n. n < 65536) c.read_four_digits.result c.read_number-then-letter-eq117.result
+    c.read_four_digits.ensures.sound c.read_four_digits.ensures.small c.read_number-then-letter-eq117.ensures)
     (λ found is. long_read c.args.text.now c.in_ok-letter.rest.now found.1.now c.in_ok-letter.letter found.0 is.0 is.1 is.2 c.in_ok-letter.ensures.cut
     c.if-letter-eq117.true)
 
@@ -47,15 +52,3 @@ returns-else-letter-eq117-clause-sound c =
     IfSome_then c.read_letter.result c.read_letter.ensures.sound
     (λ found is. letter_read c.args.text.now found.1.now c.in_ok-letter.letter found.0 (letter_scalar c.in_ok-letter.letter found.0 is.0) is.0 is.1
     (c.in_ok-letter.ensures.cut ∙ ap (λ t. encode_utf8 c.in_ok-letter.letter ++ t) (sym is.2)))
-
-pub returns-then-letter-eq120-clause-shorter : goal.returns-then-letter-eq120-clause-shorter
-returns-then-letter-eq120-clause-shorter c =
-    IfSome_then c.read_short_number.result c.read_short_number.ensures.shorter (λ found less. omega (arith, less, c.in_ok-letter.ensures.shorter))
-
-pub returns-then-letter-eq117-clause-shorter : goal.returns-then-letter-eq117-clause-shorter
-returns-then-letter-eq117-clause-shorter c =
-    IfSome_then c.read_long_number.result c.read_long_number.ensures.shorter (λ found less. omega (arith, less, c.in_ok-letter.ensures.shorter))
-
-pub returns-else-letter-eq117-clause-shorter : goal.returns-else-letter-eq117-clause-shorter
-returns-else-letter-eq117-clause-shorter c =
-    IfSome_then c.read_letter.result c.read_letter.ensures.shorter (λ found less. omega (arith, less, c.in_ok-letter.ensures.shorter))

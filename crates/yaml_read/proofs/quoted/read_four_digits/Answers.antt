@@ -1,8 +1,6 @@
-use Rattle.std.proofs.Common.{◌/◌, ◌%◌, ◌++◌, ap, ◌∙◌, arith}
-use Rattle.std.specs.Str.{encode_utf8_all}
+use Rattle.std.proofs.Common.{◌/◌, ◌%◌, ◌++◌, ap, ◌∙◌, arith, encode_utf8_all}
 use Rattle.yaml_base.specs.Characters.{hex_digits}
-use Rattle.yaml_read.proofs.Firsts.{four_text}
-use Rattle.yaml_read.proofs.CharactersRead.{four_read}
+use Rattle.yaml_read.{proofs.Firsts.four_text, proofs.CharactersRead.four_read}
 use Rattle.yaml_read.proofs.quoted.read_four_digits.Goals as goal
 
 pub returns-in_err-upper-clause-reads : goal.returns-in_err-upper-clause-reads

@@ -1,19 +1,11 @@
-use Rattle.std.proofs.Common.{◌≡◌, ◌∷◌, List, [], ℕ, None, Some, inl, refl, subst, sym, rules, arith}
-use Rattle.std.specs.Prelude.{codes}
-use Rattle.std.specs.Borrow.{Bor}
-use Rattle.std.specs.Prelude.{String}
-use Rattle.std.specs.Str.{encode_utf8_all}
-use Rattle.std.specs.String.{string_bytes}
+use Rattle.std.proofs.Common.{◌≡◌, ◌∷◌, List, [], ℕ, None, Some, inl, refl, subst, sym, rules, arith, codes, String, Bor, encode_utf8_all, string_bytes}
 use Rattle.yaml_base.specs.Seen.{seen_text}
-use Rattle.yaml_read.proofs.QuotedTexts.{ReadsOn, opening_there, reads_first, reads_more, text_read}
-use Rattle.yaml_read.proofs.Words.{at_exit}
-use Rattle.yaml_read.specs.Words.{OrMemory}
+use Rattle.yaml_read.proofs.{QuotedTexts.ReadsOn, QuotedTexts.reads_more, QuotedTexts.text_read, Breaking.err_exit, Breaking.missing, CharactersRead.one_more}
+use Rattle.yaml_read.proofs.{QuotedTexts.opening_there, BreakingNodes.no_character, BreakingNodes.passes_character, BreakingNodes.passes_quote, Words.at_exit}
+use Rattle.yaml_read.proofs.{QuotedTexts.reads_first, BreakingNodes.utf8_left, CharactersRead.ReadSoFar, CharactersRead.all_read, CharactersRead.none_yet}
+use Rattle.yaml_read.specs.{Words.OrMemory, Grammar.characters, Grammar.quoted_text, Places.BreaksAt}
 use Rattle.yaml_read.specs.declared.errors.Stop.TheVariants as stop
-use Rattle.yaml_read.proofs.CharactersRead.{ReadSoFar, all_read, none_yet, one_more}
-use Rattle.yaml_read.proofs.Breaking.{err_exit, missing}
-use Rattle.yaml_read.proofs.BreakingNodes.{no_character, passes_character, passes_quote, utf8_left}
-use Rattle.yaml_read.specs.Grammar.{characters, quoted_text}
-use Rattle.yaml_read.specs.Places.{BreaksAt}
+use Rattle.yaml_read.proofs.CharactersRead.{character_shorter}
 use Rattle.yaml_read.proofs.quoted.read_quoted.Goals as goal
 
 pub returns-in_err-rest-clause-reads : goal.returns-in_err-rest-clause-reads
@@ -47,10 +39,19 @@ characters-init g c = (
   passes_quote c.args.text.now c.in_ok-rest.rest.now c.in_ok-rest.ensures.cut,
 )
 
+pub characters-smaller : goal.characters-smaller
+characters-smaller g c =
+    character_shorter c.characters.rest.now c.in-Some-read_character.found.0 c.in-Some-read_character.found.1.now c.in-Some-read_character.ensures.sound
+
 pub characters-preserved : goal.characters-preserved
 characters-preserved g c = (
   search rules,
-  omega (arith, c.characters.invariant.1, c.in-Some-read_character.ensures.shorter),
+  omega (
+    arith,
+    c.characters.invariant.1,
+    character_shorter c.characters.rest.now c.in-Some-read_character.found.0
+        c.in-Some-read_character.found.1.now c.in-Some-read_character.ensures.sound,
+  ),
   subst (λ (value : List ℕ). ReadsOn c.args.text.now value c.in-Some-read_character.found.1.now) (sym c.in_ok-push.ensures.bytes)
       (record {
         left = λ value rest scalars is.

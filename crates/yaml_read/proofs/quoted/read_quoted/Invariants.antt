@@ -1,10 +1,6 @@
-use Rattle.std.proofs.Common.{◌<◌, length}
-use Rattle.std.specs.String.{string_bytes}
-use denote.Text.{Utf8}
-use denote.Shadow.{shadow}
-use Rattle.yaml_read.proofs.BreakingNodes.{PassesCharacters}
-use Rattle.yaml_read.proofs.CharactersRead.{ReadSoFar}
-use Rattle.yaml_read.proofs.QuotedTexts.{ReadsOn}
+use Rattle.std.proofs.Common.{◌<◌, length, string_bytes}
+use denote.{Text.Utf8, Shadow.shadow}
+use Rattle.yaml_read.{proofs.BreakingNodes.PassesCharacters, proofs.CharactersRead.ReadSoFar, proofs.QuotedTexts.ReadsOn}
 use Rattle.yaml_read.proofs.quoted.read_quoted.Given as goal
 
 abbrev pub invariant-characters : goal.invariant-characters

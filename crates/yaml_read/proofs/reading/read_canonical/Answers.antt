@@ -1,19 +1,9 @@
-use Rattle.std.proofs.Common.{◌≡◌, subst, sym, ◌∙◌, inr}
-use Rattle.std.specs.Str.{IsUtf8}
-use Rattle.yaml_base.proofs.Decoding.{text_bytes-utf8}
-use Rattle.yaml_base.specs.values.TypedValues.{TypedValue}
-use Rattle.yaml_base.specs.values.ValueText.{document_text}
-use Rattle.yaml_value.specs.SeenValues.{seen_value}
-use Rattle.yaml_value.specs.declared.value.Value.{Value}
-use Rattle.yaml_read.proofs.Completeness.{stopped}
-use Rattle.yaml_read.proofs.Scalars.{document_utf8}
-use Rattle.std.proofs.Common.{◌<◌, rules}
-use Rattle.std.specs.Prelude.{length}
-use Rattle.yaml_base.specs.Settings.{largest_usize}
-use Rattle.yaml_read.proofs.WrittenValues.{written_value}
-use Rattle.std.specs.Str.{IsValidUpTo}
+use Rattle.std.proofs.Common.{◌≡◌, subst, sym, ◌∙◌, inr, ◌<◌, rules}
+use Rattle.std.{specs.Str.IsUtf8, specs.Str.IsValidUpTo, specs.Prelude.length}
+use Rattle.yaml_base.{proofs.Decoding.text_bytes-utf8, specs.values.TypedValues.TypedValue, specs.values.ValueText.document_text, specs.Settings.largest_usize}
+use Rattle.yaml_value.{specs.SeenValues.seen_value, specs.declared.value.Value.Value}
 use Rattle.yaml_read.proofs.Placing.{not_text_placed, stops_placed}
-use Rattle.yaml_read.specs.Places.{StopsAt}
+use Rattle.yaml_read.{proofs.Completeness.stopped, proofs.Scalars.document_utf8, proofs.WrittenValues.written_value, specs.Places.StopsAt}
 use Rattle.yaml_read.proofs.reading.read_canonical.Goals as goal
 
 pub returns-in-Err-clause-complete : goal.returns-in-Err-clause-complete

@@ -1,19 +1,9 @@
-use Rattle.std.proofs.Common.{◌≡◌, List, subst, sym, rules}
-use Rattle.std.specs.Prelude.{Ok}
-use Rattle.yaml_value.specs.SeenValues.{seen_value}
-use Rattle.yaml_value.specs.declared.value.Value.{Value}
-use Rattle.yaml_read.specs.Remaining.{Reached, seen_levels}
-use Rattle.yaml_read.specs.Words.{OrMemory}
-use Rattle.std.specs.Prelude.{codes}
-use Rattle.yaml_read.specs.declared.levels.Level.{Level}
-use Rattle.yaml_read.specs.declared.levels.Next.{Next}
-use Rattle.yaml_read.proofs.Turns.{TextDue, root_due, text_due}
-use Rattle.yaml_read.proofs.Words.{at_exit, no_word}
+use Rattle.std.proofs.Common.{◌≡◌, List, subst, sym, rules, Ok, codes}
+use Rattle.yaml_value.{specs.SeenValues.seen_value, specs.declared.value.Value.Value}
 use Rattle.yaml_read.proofs.Opening.{TextOpen, text_open, text_read}
-use Rattle.yaml_read.specs.Opened.{NextRead}
-use Rattle.yaml_read.proofs.Breaking.{err_exit}
-use Rattle.yaml_read.proofs.Placing.{marker_stops, text_stops}
-use Rattle.yaml_read.specs.Places.{StopsAt}
+use Rattle.yaml_read.{specs.Remaining.Reached, proofs.Turns.root_due, proofs.Turns.text_due, proofs.Breaking.err_exit, proofs.Placing.text_stops}
+use Rattle.yaml_read.{specs.Remaining.seen_levels, proofs.Placing.marker_stops, specs.declared.levels.Level.Level, specs.declared.levels.Next.Next}
+use Rattle.yaml_read.{proofs.Turns.TextDue, specs.Words.OrMemory, proofs.Words.at_exit, proofs.Words.no_word, specs.Opened.NextRead, specs.Places.StopsAt}
 use Rattle.yaml_read.proofs.reading.read_text.Goals as goal
 
 pub nodes-init : goal.nodes-init

@@ -1,35 +1,17 @@
-use Rattle.std.proofs.Common.{◌≡◌, ◌+◌, ◌*◌, ◌++◌, ◌∷◌, List, [], ℕ, ap, subst, sym, ◌∙◌, arith}
-use Rattle.std.proofs.lemmas.List.{append-nil}
-use Rattle.std.specs.Borrow.{Bor}
-use Rattle.std.specs.Prelude.{codes, Result, Ok, length}
-use Rattle.std.specs.Str.{encode_utf8_all}
-use Rattle.yaml_base.specs.Characters.{Text}
+use Rattle.std.proofs.Common.{◌≡◌, ◌+◌, ◌*◌, ◌++◌, ◌∷◌, [], ℕ, ◌∙◌, ◌<◌, true≢false, List, ap, subst, sym, arith, true, inl, inr, codes, Result, Ok, length}
+use Rattle.std.{proofs.Common.Bor, proofs.Common.encode_utf8_all, proofs.lemmas.List.append-nil, proofs.lemmas.Result.IfOk-weaker}
 use Rattle.yaml_base.specs.values.TypedValues.{TypedValue, most_nested, no_value_pairs, no_values}
-use Rattle.yaml_base.specs.values.ValueText.{line_at, value_text}
+use Rattle.yaml_base.{specs.Characters.Text, specs.values.ValueText.line_at, specs.values.ValueText.value_text}
 use Rattle.yaml_value.specs.SeenValues.{seen_value}
-use Rattle.yaml_read.specs.Heads.{HeadRead}
-use Rattle.yaml_read.specs.Readable.{CanBeReadAt}
 use Rattle.yaml_read.specs.Remaining.{IsDue, OpenLevel, Reached, column_in, is_nested, items_open, pairs_open, seen_levels}
-use Rattle.yaml_read.specs.declared.errors.Stop.{Stop}
-use Rattle.yaml_read.specs.declared.heads.Head.{Head}
-use Rattle.yaml_read.specs.declared.heads.Head.TheVariants as head
-use Rattle.yaml_read.specs.declared.levels.Level.{Level}
-use Rattle.std.proofs.lemmas.Result.{IfOk-weaker}
-use Rattle.yaml_read.specs.Shorter.{NextShorter}
-use Rattle.yaml_read.specs.declared.levels.Next.{Next}
 use Rattle.yaml_read.specs.declared.levels.Next.TheVariants.{Done, Node}
-use Rattle.yaml_read.proofs.SeenLevels.{levels_length}
 use Rattle.yaml_read.proofs.Turns.{into, into_error, list_opens, map_opens, nested_readable, whole_read}
-use Rattle.yaml_read.proofs.Words.{at_exit}
-use Rattle.std.proofs.Common.{◌<◌, true, true≢false}
-use Rattle.yaml_read.proofs.Opening.{list_in, map_in, value_in}
 use Rattle.yaml_read.proofs.reading.step.Goals.{then-is_collection+in_ok-check_room-in-Whole, else-is_collection}
-use Rattle.yaml_read.specs.Opened.{IsOpen}
-use Rattle.yaml_read.specs.Sound.{HeadIs, IsValue}
-use Rattle.yaml_read.proofs.Breaking.{err_exit}
 use Rattle.yaml_read.proofs.BreakingNodes.{list_line_breaks, map_line_breaks, nested_begins, node_stops, opens_deep}
-use Rattle.yaml_read.specs.Places.{StopsIn}
-use Rattle.std.proofs.Common.{inl, inr}
+use Rattle.yaml_read.specs.{Heads.HeadRead, Readable.CanBeReadAt, declared.errors.Stop.Stop, declared.heads.Head.Head, declared.levels.Level.Level}
+use Rattle.yaml_read.specs.{Shorter.NextShorter, declared.levels.Next.Next, Opened.IsOpen, Sound.HeadIs, Sound.IsValue, Places.StopsIn}
+use Rattle.yaml_read.proofs.{SeenLevels.levels_length, Words.at_exit, Opening.list_in, Opening.map_in, Opening.value_in, Breaking.err_exit}
+use Rattle.yaml_read.specs.declared.heads.Head.TheVariants as head
 use Rattle.yaml_read.proofs.reading.step.Goals as goal
 
 -- what a head says where a value is due

@@ -1,5 +1,4 @@
-use Rattle.std.proofs.Common.{◌++◌, ap, ◌∙◌}
-use Rattle.std.specs.Prelude.{codes}
+use Rattle.std.proofs.Common.{◌++◌, ap, ◌∙◌, codes}
 use Rattle.yaml_read.proofs.Opening.{nothing_left}
 use Rattle.yaml_read.proofs.runs.end_events.Goals as goal
 

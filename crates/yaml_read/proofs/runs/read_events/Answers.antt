@@ -1,17 +1,10 @@
-use Rattle.std.proofs.Common.{◌≡◌, ◌++◌, ◌∷◌, ◌<◌, [], ap, subst, sym, ◌∙◌, length, map, rules}
-use Rattle.std.specs.Prelude.{codes}
-use Rattle.yaml_base.specs.Event.{Event, document_end}
-use Rattle.yaml_base.specs.Seen.{seen_event}
-use Rattle.yaml_read.specs.Awaits.{seen_awaits}
-use Rattle.yaml_read.specs.EventSteps.{bytes_behind, open_now}
-use Rattle.yaml_read.specs.RunPlaces.{RunStops, in_document}
-use Rattle.yaml_read.specs.declared.steps.Progress.{Progress}
-use Rattle.std.proofs.Common.{true}
+use Rattle.std.proofs.Common.{◌≡◌, ◌++◌, ◌∷◌, ◌<◌, [], ap, subst, sym, ◌∙◌, length, map, rules, true, codes, Vec}
 use Rattle.std.proofs.lemmas.Result.{IfOk-weaker}
-use Rattle.yaml_read.proofs.Awaits.{error_exit, memory_exit, or_memory_by}
-use Rattle.yaml_read.proofs.Breaking.{err_exit}
-use Rattle.yaml_read.proofs.EventRuns.{RunDue, RunRead, memory_stops, next_of, run_begins, run_goes, run_sound, stops_at_end, stops_at_event}
-use Rattle.yaml_base.specs.declared.events.yaml_event_t.{yaml_event_t}
+use Rattle.yaml_base.{specs.Event.Event, specs.Event.document_end, specs.Seen.seen_event, specs.declared.events.yaml_event_t.yaml_event_t}
+use Rattle.yaml_read.proofs.EventRuns.{RunDue, RunRead, memory_stops, next_of, run_begins, run_goes, run_sound, stops_at_end, stops_at_event, event_shorter}
+use Rattle.yaml_read.proofs.EventRuns.{within_reads}
+use Rattle.yaml_read.{proofs.Awaits.memory_exit, proofs.Awaits.or_memory_by, specs.Awaits.seen_awaits, specs.EventSteps.bytes_behind, specs.EventSteps.open_now}
+use Rattle.yaml_read.{specs.RunPlaces.RunStops, specs.RunPlaces.in_document, specs.declared.steps.Progress.Progress, proofs.Breaking.err_exit}
 use Rattle.yaml_read.proofs.runs.read_events.Goals as goal
 
 pub steps-init : goal.steps-init
@@ -24,10 +17,10 @@ pub steps-preserved : goal.steps-preserved
 steps-preserved g c =
     let now = seen_awaits c.read_event.new.awaits.items in
     let new = map seen_event c.push.new.events.items in
-    let progress = c.in_ok-event.progress in
+    let progress = c.in-Ok.found.1 in
     let goes = run_goes c.args.text.now (map seen_event c.steps.events.items) new (seen_awaits c.steps.awaits.items) c.steps.rest.now
-    (bytes_behind progress) (open_now now progress) (seen_event c.in_ok-event.event) c.in_ok-push.ensures.pushed c.steps.invariant.1 c.steps.invariant.2
-    c.in_ok-event.ensures.sound c.in_ok-event.ensures.reads in (
+    (bytes_behind progress) (open_now now progress) (seen_event c.in-Ok.found.0) c.in_ok-push.ensures.pushed c.steps.invariant.1 c.steps.invariant.2
+    c.in-Ok.ensures.sound c.in-Ok.ensures.reads in (
       search rules,
       subst (λ (p : Progress). RunRead c.args.text.now new (open_now now p) (bytes_behind p)) c.in-Continues.is goes.0,
       subst (λ (p : Progress). RunDue c.args.text.now new (open_now now p) (bytes_behind p)) c.in-Continues.is goes.1,
@@ -35,7 +28,9 @@ steps-preserved g c =
 
 pub steps-smaller : goal.steps-smaller
 steps-smaller g c =
-    subst (λ (p : Progress). length (bytes_behind p) < length c.steps.rest.now) c.in-Continues.is c.in_ok-event.ensures.shorter
+    subst (λ (p : Progress). length (bytes_behind p) < length c.steps.rest.now) c.in-Continues.is
+    (event_shorter (seen_awaits c.steps.awaits.items) c.steps.rest.now (bytes_behind c.in-Ok.found.1)
+    (open_now (seen_awaits c.read_event.new.awaits.items) c.in-Ok.found.1) (seen_event c.in-Ok.found.0) c.in-Ok.ensures.sound)
 
 pub returns-in_err-events-clause-reads : goal.returns-in_err-events-clause-reads
 returns-in_err-events-clause-reads g c =
@@ -48,23 +43,22 @@ returns-in_err-events-clause-stops g c =
     err_exit (RunStops c.args.text.now) c.in_err-events.field-0.0 c.from_residual.result c.from_residual.ensures
     (memory_stops c.args.text.now c.in_err-events.field-0.0 c.in_err-events.ensures.memory)
 
-pub returns-in_err-event-clause-reads : goal.returns-in_err-event-clause-reads
-returns-in_err-event-clause-reads g c =
+pub returns-in-Err-clause-reads : goal.returns-in-Err-clause-reads
+returns-in-Err-clause-reads g c =
     λ events node run in_node is.
     let levels = seen_awaits c.steps.awaits.items in
     let found_so_far = map seen_event c.steps.events.items in
     let due = c.steps.invariant.2.due events node run in_node is in
     let next = next_of events found_so_far levels c.steps.rest.now due in
-    error_exit c.from_residual-in_err-event.result (λ found. map seen_event found.items ≡ in_document events) c.in_err-event.field-0.0
-    (λ (found : yaml_event_t g.row.A.Denot × Progress). seen_event found.0 ≡ next.event) c.from_residual-in_err-event.ensures
-    (c.in_err-event.ensures.reads next.event next.tail next.in_node next.comes next.ends next.bytes_are)
+    within_reads (λ (found : Vec (yaml_event_t g.row.A.Denot) g.row.A.Denot). map seen_event found.items ≡ in_document events)
+    (λ (found : yaml_event_t g.row.A.Denot × Progress). seen_event found.0 ≡ next.event) c.steps.rest.now c.in-Err.stop c.stopped_within.result
+    c.stopped_within.ensures (c.in-Err.ensures.reads next.event next.tail next.in_node next.comes next.ends next.bytes_are)
 
-pub returns-in_err-event-clause-stops : goal.returns-in_err-event-clause-stops
-returns-in_err-event-clause-stops g c =
-    err_exit (RunStops c.args.text.now) c.in_err-event.field-0.0 c.from_residual-in_err-event.result c.from_residual-in_err-event.ensures
-    (stops_at_event c.args.text.now (map seen_event c.steps.events.items) (seen_awaits c.steps.awaits.items) c.steps.rest.now c.in_err-event.field-0.0
-    (λ (event : Event) (found : yaml_event_t g.row.A.Denot × Progress). seen_event found.0 ≡ event) c.steps.invariant.1
-    c.in_err-event.ensures.reads c.in_err-event.ensures.stops)
+pub returns-in-Err-clause-stops : goal.returns-in-Err-clause-stops
+returns-in-Err-clause-stops g c =
+    stops_at_event c.args.text.now (map seen_event c.steps.events.items) (seen_awaits c.steps.awaits.items) c.steps.rest.now c.in-Err.stop
+    c.stopped_within.result (λ (event : Event) (found : yaml_event_t g.row.A.Denot × Progress). seen_event found.0 ≡ event) c.steps.invariant.1
+    c.in-Err.ensures.reads c.stopped_within.ensures
 
 pub returns-in_err-push-clause-reads : goal.returns-in_err-push-clause-reads
 returns-in_err-push-clause-reads g c =
@@ -83,10 +77,10 @@ returns-in-RootEnds-clause-reads g c =
     λ events node run in_node is.
     let now = seen_awaits c.read_event.new.awaits.items in
     let new = map seen_event c.push.new.events.items in
-    let progress = c.in_ok-event.progress in
+    let progress = c.in-Ok.found.1 in
     let goes = run_goes c.args.text.now (map seen_event c.steps.events.items) new (seen_awaits c.steps.awaits.items) c.steps.rest.now
-    (bytes_behind progress) (open_now now progress) (seen_event c.in_ok-event.event) c.in_ok-push.ensures.pushed c.steps.invariant.1 c.steps.invariant.2
-    c.in_ok-event.ensures.sound c.in_ok-event.ensures.reads in
+    (bytes_behind progress) (open_now now progress) (seen_event c.in-Ok.found.0) c.in_ok-push.ensures.pushed c.steps.invariant.1 c.steps.invariant.2
+    c.in-Ok.ensures.sound c.in-Ok.ensures.reads in
     let runs = subst (λ (p : Progress). RunDue c.args.text.now new (open_now now p) (bytes_behind p)) c.in-RootEnds.is goes.1 in
     let due = runs.due events node run in_node is in
     or_memory_by c.end_events.result
@@ -98,10 +92,10 @@ pub returns-in-RootEnds-clause-sound : goal.returns-in-RootEnds-clause-sound
 returns-in-RootEnds-clause-sound g c =
     let now = seen_awaits c.read_event.new.awaits.items in
     let new = map seen_event c.push.new.events.items in
-    let progress = c.in_ok-event.progress in
+    let progress = c.in-Ok.found.1 in
     let goes = run_goes c.args.text.now (map seen_event c.steps.events.items) new (seen_awaits c.steps.awaits.items) c.steps.rest.now
-    (bytes_behind progress) (open_now now progress) (seen_event c.in_ok-event.event) c.in_ok-push.ensures.pushed c.steps.invariant.1 c.steps.invariant.2
-    c.in_ok-event.ensures.sound c.in_ok-event.ensures.reads in
+    (bytes_behind progress) (open_now now progress) (seen_event c.in-Ok.found.0) c.in_ok-push.ensures.pushed c.steps.invariant.1 c.steps.invariant.2
+    c.in-Ok.ensures.sound c.in-Ok.ensures.reads in
     let ended = subst (λ (p : Progress). RunRead c.args.text.now new (open_now now p) (bytes_behind p)) c.in-RootEnds.is goes.0 in
     IfOk-weaker c.end_events.result
     (λ found. (map seen_event found.items ≡ new ++ document_end true ∷ []) × (c.in-RootEnds.next.now ≡ codes "\n")) _
@@ -111,9 +105,9 @@ pub returns-in-RootEnds-clause-stops : goal.returns-in-RootEnds-clause-stops
 returns-in-RootEnds-clause-stops g c =
     let now = seen_awaits c.read_event.new.awaits.items in
     let new = map seen_event c.push.new.events.items in
-    let progress = c.in_ok-event.progress in
+    let progress = c.in-Ok.found.1 in
     let goes = run_goes c.args.text.now (map seen_event c.steps.events.items) new (seen_awaits c.steps.awaits.items) c.steps.rest.now
-    (bytes_behind progress) (open_now now progress) (seen_event c.in_ok-event.event) c.in_ok-push.ensures.pushed c.steps.invariant.1 c.steps.invariant.2
-    c.in_ok-event.ensures.sound c.in_ok-event.ensures.reads in
+    (bytes_behind progress) (open_now now progress) (seen_event c.in-Ok.found.0) c.in_ok-push.ensures.pushed c.steps.invariant.1 c.steps.invariant.2
+    c.in-Ok.ensures.sound c.in-Ok.ensures.reads in
     let ended = subst (λ (p : Progress). RunRead c.args.text.now new (open_now now p) (bytes_behind p)) c.in-RootEnds.is goes.0 in
     stops_at_end c.args.text.now new c.in-RootEnds.next.now c.end_events.result (λ _. Unit {0}) ended c.end_events.ensures.reads c.end_events.ensures.stops

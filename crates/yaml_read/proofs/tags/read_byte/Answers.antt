@@ -1,41 +1,46 @@
-use Rattle.std.proofs.Common.{sym, ◌∙◌, true≢false, arith}
-use Rattle.std.proofs.lemmas.Option.{IfSome_then}
-use Rattle.yaml_read.proofs.TagBytes.{byte_there, first_of_byte, form_follows, itself_follows, itself_read}
+use Rattle.std.proofs.Common.{ap, sym, ◌∙◌, true≢false}
+use Rattle.yaml_base.specs.Percent.{is_tag_character}
+use Rattle.yaml_read.proofs.TagBytes.{byte_there, first_of_byte, form_follows, form_read, itself_follows, itself_read, itself_small}
 use Rattle.yaml_read.proofs.tags.read_byte.Goals as goal
 
-pub returns-in_err-c-clause-reads : goal.returns-in_err-c-clause-reads
-returns-in_err-c-clause-reads c =
-    λ byte rest few is. absurd (byte_there byte rest c.args.text.now is c.in_err-c.ensures.cut)
+pub returns-in-None : goal.returns-in-None
+returns-in-None c = λ byte rest few is. byte_there byte rest c.args.text.now is c.in-None.ensures.cut
 
-pub returns-then-c-eq37-clause-reads : goal.returns-then-c-eq37-clause-reads
-returns-then-c-eq37-clause-reads c =
+pub returns-in-None-read_two_digits : goal.returns-in-None-read_two_digits
+returns-in-None-read_two_digits c =
     λ byte rest few is.
-    let tail = c.in_ok-c.rest.now in
-    let form = form_follows byte rest c.in_ok-c.c tail (first_of_byte byte rest c.in_ok-c.c c.args.text.now tail c.in_ok-c.ensures.cut is)
+    let tail = c.in-Some.found.1.now in
+    let form = form_follows byte rest c.in-Some.found.0 tail (first_of_byte byte rest c.in-Some.found.0 c.args.text.now tail c.in-Some.ensures.cut is)
     c.if-c-eq37.true in
-    c.read_form.ensures.reads byte rest few form.0 form.1
+    c.in-None-read_two_digits.ensures.reads byte rest few form.1
 
-pub returns-then-is_tag_character-clause-reads : goal.returns-then-is_tag_character-clause-reads
-returns-then-is_tag_character-clause-reads c =
+pub returns-then-is_tag_character : goal.returns-then-is_tag_character
+returns-then-is_tag_character c =
     λ byte rest few is.
-    let tail = c.in_ok-c.rest.now in
-    let first = itself_follows byte rest c.in_ok-c.c tail (first_of_byte byte rest c.in_ok-c.c c.args.text.now tail c.in_ok-c.ensures.cut is)
-    c.if-c-eq37.false in
-    (first.1, first.2)
+    let tail = c.in-Some.found.1.now in
+    let form = form_follows byte rest c.in-Some.found.0 tail (first_of_byte byte rest c.in-Some.found.0 c.args.text.now tail c.in-Some.ensures.cut is)
+    c.if-c-eq37.true in
+    true≢false (sym c.if-is_tag_character.true ∙ c.is_tag_character.ensures
+    ∙ ap is_tag_character (c.in-Some-read_two_digits.ensures.reads byte rest few form.1).0 ∙ form.0)
 
-pub returns-else-is_tag_character-clause-reads : goal.returns-else-is_tag_character-clause-reads
-returns-else-is_tag_character-clause-reads c =
+pub returns-else-is_tag_character : goal.returns-else-is_tag_character
+returns-else-is_tag_character c = (
+  form_read c.args.text.now c.in-Some.found.1.now c.in-Some-read_two_digits.behind.now c.in-Some.found.0 c.in-Some-read_two_digits.number c.in-Some.ensures.cut
+      c.if-c-eq37.true c.in-Some-read_two_digits.ensures.sound (sym c.is_tag_character.ensures ∙ c.if-is_tag_character.false),
+  c.in-Some-read_two_digits.ensures.small,
+)
+
+pub returns-then-is_tag_character-2 : goal.returns-then-is_tag_character-2
+returns-then-is_tag_character-2 c = (
+  itself_read c.args.text.now c.in-Some.found.1.now c.in-Some.found.0 c.in-Some.ensures.cut
+      (sym c.is_tag_character-else-c-eq37.ensures ∙ c.if-is_tag_character-2.true),
+  itself_small c.in-Some.found.0 (sym c.is_tag_character-else-c-eq37.ensures ∙ c.if-is_tag_character-2.true),
+)
+
+pub returns-else-is_tag_character-2 : goal.returns-else-is_tag_character-2
+returns-else-is_tag_character-2 c =
     λ byte rest few is.
-    let tail = c.in_ok-c.rest.now in
-    let first = itself_follows byte rest c.in_ok-c.c tail (first_of_byte byte rest c.in_ok-c.c c.args.text.now tail c.in_ok-c.ensures.cut is)
+    let tail = c.in-Some.found.1.now in
+    let first = itself_follows byte rest c.in-Some.found.0 tail (first_of_byte byte rest c.in-Some.found.0 c.args.text.now tail c.in-Some.ensures.cut is)
     c.if-c-eq37.false in
-    true≢false (sym first.0 ∙ sym c.is_tag_character.ensures ∙ c.if-is_tag_character.false)
-
-pub returns-then-is_tag_character-clause-sound : goal.returns-then-is_tag_character-clause-sound
-returns-then-is_tag_character-clause-sound c =
-    itself_read c.args.text.now c.in_ok-c.rest.now c.in_ok-c.c c.in_ok-c.ensures.cut
-    (sym c.is_tag_character.ensures ∙ c.if-is_tag_character.true)
-
-pub returns-then-c-eq37-clause-shorter : goal.returns-then-c-eq37-clause-shorter
-returns-then-c-eq37-clause-shorter c =
-    IfSome_then c.read_form.result c.read_form.ensures.shorter (λ found less. omega (arith, less, c.in_ok-c.ensures.shorter))
+    true≢false (sym first.0 ∙ sym c.is_tag_character-else-c-eq37.ensures ∙ c.if-is_tag_character-2.false)

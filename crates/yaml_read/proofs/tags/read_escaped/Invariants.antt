@@ -1,0 +1,10 @@
+use Rattle.std.proofs.Common.{◌≤◌, length}
+use denote.{Text.Utf8, Shadow.shadow}
+use Rattle.yaml_read.proofs.TagPrefixes.{WordSoFar}
+use Rattle.yaml_read.proofs.tags.read_escaped.Given as goal
+
+abbrev pub invariant-bytes : goal.invariant-bytes
+invariant-bytes g l = shadow (Utf8 l.rest) × (length l.rest ≤ length l.fn.text) × WordSoFar l.fn.prefix l.fn.text l.bytes.items l.rest
+
+abbrev pub decreases-bytes : goal.decreases-bytes
+decreases-bytes g l = length l.rest
