@@ -1,4 +1,4 @@
-//! Canonical bytes read as typed values, and as documents; the tree of TOML that is read in order, and the words of its errors.
+//! Canonical bytes read as typed values, and as documents; what only a caller sees of TOML, and the words of its errors.
 mod callers;
 mod calling;
 mod depths;

@@ -1,148 +1,66 @@
-//! TOML: what only a caller sees, most of it by a document in one line. (`tests/toml/run` has the grammar, and what is refused.)
-mod order;
-mod values;
-mod written;
-
+//! TOML: what only a caller sees. (`tests/toml/run` has the grammar, the order of keys, what is refused, and where.)
 use super::equal;
 use std::alloc::Global;
 use std::process::Abort;
-use toml_ordered::{Node, Nodes, read_document};
+use toml_ordered::{Node, read_document};
+use yaml_toml::TomlError;
 
-/// A part that is still to be listed.
-#[derive(Clone, Copy)]
-enum Work<'a> {
-    Value(&'a Node),
-    /// A key, and a comma before it or none.
-    Key(&'a str, &'static str),
-    Table(&'a Nodes),
-    Word(&'a str),
-}
+/// A document of one key, and its value as the text has it: a decimal behind `#`, or a date or a time. YAML shows other digits, and a text
+/// where a date or a time is local.
+const VALUES: &[(&str, &str)] = &[
+    ("n = +1.0", "#+1.0"),
+    ("n = 5e+22", "#5e+22"),
+    ("n = 1e06", "#1e06"),
+    ("d = 1979-05-27T07:32:00", "1979-05-27T07:32:00"),
+    ("d = 07:32:00", "07:32:00"),
+    ("d = 00:32:00.5", "00:32:00.5"),
+    ("d = 1990-12-31T23:59:60Z", "1990-12-31T23:59:60Z"),
+    // TOML 1.1.
+    ("d = 07:32", "07:32"),
+];
 
-fn push<'a>(rt: &impl Abort, work: &mut Vec<Work<'a>>, next: Work<'a>) {
-    work.push(next).expect(rt, "no memory");
-}
-
-/// Returns what stands before a part of this number.
-fn comma(at: usize) -> &'static str {
-    if at > 0 { ", " } else { "" }
-}
-
-/// Pushes the keys of a table, which are listed in their order. What is listed last is pushed first.
-fn push_keys<'a>(rt: &impl Abort, work: &mut Vec<Work<'a>>, nodes: &'a Nodes) {
-    push(rt, work, Work::Word("}"));
-    for (at, (key, node, _)) in nodes.iter().enumerate().rev() {
-        push(rt, work, Work::Value(node));
-        push(rt, work, Work::Key(key.as_str(), comma(at)));
-    }
-    push(rt, work, Work::Word("{"));
-}
-
-/// Pushes the items of an array.
-fn push_items<'a>(rt: &impl Abort, work: &mut Vec<Work<'a>>, items: &'a [Node]) {
-    for (at, item) in items.iter().enumerate().rev() {
-        push(rt, work, Work::Value(item));
-        push(rt, work, Work::Word(comma(at)));
-    }
-    push(rt, work, Work::Word("["));
-}
-
-/// Pushes the parts of an array or a table; none of another value.
-fn push_parts<'a>(rt: &impl Abort, work: &mut Vec<Work<'a>>, node: &'a Node) {
-    match node {
-        Node::Array(items) => {
-            push(rt, work, Work::Word("]"));
-            push_items(rt, work, items.as_slice());
-        }
-        Node::Table(_, nodes) => push_keys(rt, work, nodes),
-        Node::Tables(done, last) => {
-            push(rt, work, Work::Word("]"));
-            push(rt, work, Work::Table(last));
-            push(rt, work, Work::Word(comma(done.len())));
-            push_items(rt, work, done.as_slice());
-        }
-        _ => {}
-    }
-}
-
-/// Returns the word of a value that has one.
-fn word(node: &Node) -> &'static str {
-    match node {
-        Node::Infinity { negative: true } => "-inf",
-        Node::Infinity { negative: false } => "inf",
-        Node::NotANumber => "nan",
-        Node::Boolean(true) => "true",
-        Node::Boolean(false) => "false",
-        _ => "",
-    }
-}
-
-/// Returns a value as it is listed; nothing of an array or a table.
-fn printed(rt: &impl Abort, alloc: Global, node: &Node) -> String {
-    let printed = match node {
-        Node::Text(value) => format!(in alloc; "{:?}", value.as_str()),
-        Node::Integer(value) => format!(in alloc; "{value}"),
-        Node::Decimal(digits) => format!(in alloc; "#{}", digits.as_str()),
-        Node::Datetime(value) => format!(in alloc; "{value}"),
-        _ => format!(in alloc; "{}", word(node)),
+/// Returns the first value of a document as it stands there, if it is a decimal, or a date or a time.
+fn first_value(rt: &impl Abort, alloc: Global, text: &str) -> Option<String> {
+    let keys = read_document(alloc, text).ok()?;
+    let printed = match keys.first() {
+        Some((_, Node::Decimal(digits), _)) => format!(in alloc; "#{}", digits.as_str()),
+        Some((_, Node::Datetime(value), _)) => format!(in alloc; "{value}"),
+        _ => return None,
     };
-    printed.expect(rt, "no memory")
+    Some(printed.expect(rt, "no memory"))
 }
 
-fn add(rt: &impl Abort, text: &mut String, more: &str) {
-    text.push_str(more).expect(rt, "no memory");
-}
-
-/// Lists what comes next.
-fn list<'a>(
-    rt: &impl Abort,
-    alloc: Global,
-    work: &mut Vec<Work<'a>>,
-    text: &mut String,
-    next: Work<'a>,
-) {
-    match next {
-        Work::Value(node) => {
-            add(rt, text, printed(rt, alloc, node).as_str());
-            push_parts(rt, work, node);
-        }
-        Work::Key(key, before) => {
-            add(rt, text, before);
-            add(rt, text, key);
-            add(rt, text, ": ");
-        }
-        Work::Table(nodes) => push_keys(rt, work, nodes),
-        Work::Word(word) => add(rt, text, word),
+#[test]
+fn digits_and_kinds_of_dates_are_kept(rt: HostRuntime) {
+    for (text, wanted) in VALUES {
+        let value = first_value(&rt, rt.alloc(), text).expect(&rt, "another value");
+        equal(&rt, &value.as_str(), wanted);
     }
 }
 
-/// Returns a document in one line: keys and values in their order, texts in quotes, decimals behind `#`.
-fn listed(rt: &impl Abort, alloc: Global, nodes: &Nodes) -> String {
-    let mut text = String::new(alloc);
-    let mut work = Vec::new(alloc);
-    push_keys(rt, &mut work, nodes);
-    for _ in 0..100_000 {
-        match work.pop() {
-            Some(next) => list(rt, alloc, &mut work, &mut text, next),
-            None => break,
-        }
-    }
-    text
+/// Checks what an error prints.
+fn check_printed(rt: &impl Abort, alloc: Global, error: &TomlError, wanted: &str) {
+    let printed = format!(in alloc; "{error}").expect(rt, "no memory");
+    equal(rt, &printed.as_str(), &wanted);
 }
 
-/// Checks that a text is read as this document.
-fn check_row(rt: &impl Abort, alloc: Global, text: &str, wanted: &str) {
-    match read_document(alloc, text) {
-        Ok(nodes) => {
-            let found = listed(rt, alloc, &nodes);
-            equal(rt, &(text, found.as_str()), &(text, wanted));
-        }
-        Err(_) => equal(rt, &(text, "refused"), &(text, wanted)),
-    }
-}
-
-/// Checks rows of a text and its document in one line.
-fn check(rt: &impl Abort, alloc: Global, rows: &[(&str, &str)]) {
-    for (text, wanted) in rows {
-        check_row(rt, alloc, text, wanted);
-    }
+#[test]
+fn errors_print_their_place(rt: HostRuntime) {
+    let error = TomlError::NotToml { line: 2, column: 5 };
+    check_printed(&rt, rt.alloc(), &error, "line 2, column 5: not TOML");
+    let error = TomlError::DefinedAgain {
+        key: String::from_str(rt.alloc(), "a").expect(&rt, "no memory"),
+        first_line: 1,
+        first_column: 1,
+        line: 3,
+        column: 1,
+    };
+    let words = "line 3, column 1: a is defined at line 1, column 1, and takes no more";
+    check_printed(&rt, rt.alloc(), &error, words);
+    check_printed(
+        &rt,
+        rt.alloc(),
+        &TomlError::TooDeep,
+        "arrays and tables nest too deep",
+    );
 }
