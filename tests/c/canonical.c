@@ -1,8 +1,10 @@
 /* Calls of yaml_is_canonical and yaml_canonical_from_json, for each status but YAML_NO_MEMORY and with NULL; a line for each that isn't as
- * the header says. */
+ * the header says, and for each text of which other bytes are canonical than were counted by hand. (`depths.c` has values that nest as deep
+ * as they may.) */
 #include <stdio.h>
 #include <string.h>
 
+#include "nested.h"
 #include "yaml_c.h"
 
 static struct yaml_c_result result;
@@ -110,36 +112,92 @@ static void checks(void) {
     expect_check("---\n!!map {\n  ? !!int \"1\"\n  : !!int \"2\",\n}\n", YAML_DONE, 0, 0);
 }
 
-/* So many lists in lists, the innermost empty; fills `bytes`, and returns how many they are. */
-static size_t nested(size_t levels, uint8_t *bytes) {
-    size_t level, length = 4;
-    memcpy(bytes, "---\n", 4);
-    for (level = 1; level < levels; level++) {
-        memcpy(bytes + length, "!!seq [\n", 8);
-        memset(bytes + length + 8, ' ', 2 * level);
-        length += 8 + 2 * level;
+/* Canonical bytes of values of each kind, and how many other bytes in place of one of theirs give the canonical bytes of another value. */
+static const struct {
+    const char *bytes;
+    int others;
+} taken[] = {
+    {"---\n!!null \"null\"\n", 0},
+    {"---\n!!bool \"true\"\n", 0},
+    {"---\n!!bool \"false\"\n", 0},
+    /* Each other digit. */
+    {"---\n!!int \"7\"\n", 9},
+    /* Neither a first 0 nor a 0 behind a sign: in place of the sign 9 digits, behind it 8 others. */
+    {"---\n!!int \"-5\"\n", 17},
+    /* In place of the 1 a digit that isn't 0 and no sign, in place of the 0 each other digit. */
+    {"---\n!!int \"10\"\n", 17},
+    /* 95 characters of ASCII are printable; the quote and the backslash can't stand alone. */
+    {"---\n!!str \"a\"\n", 92},
+    {"---\n!!str \"\"\n", 0},
+    /* The backslash may become one of 93 characters, the letter another of 14. */
+    {"---\n!!str \"\\n\"\n", 106},
+    {"---\n!!seq []\n", 0},
+    {"---\n!!map {}\n", 0},
+    {"---\n!!seq [\n  !!int \"5\",\n  !!str \"a\",\n]\n", 101},
+    {"---\n!!map {\n  ? !!str \"k\"\n  : !!bool \"false\",\n}\n", 92},
+    {"---\n!!map {\n  ? !!seq [\n    !!map {},\n    !!seq [],\n  ]\n  : !!map {\n    ? !!null \"null\"\n    : !!int \"0\",\n"
+     "    ? !!bool \"true\"\n    : !!str \"\",\n  },\n}\n", 9},
+};
+
+/* Whether bytes are canonical. What isn't has a place. */
+static int is_taken(const char *name, const uint8_t *bytes, size_t length) {
+    int32_t got;
+    int placed;
+    memset(&result, 0xff, sizeof result);
+    got = yaml_is_canonical(bytes, length, &result);
+    placed = result.line > 0 && result.column > 0;
+    tell(name, got, got == YAML_DONE ? reports(0, 0, 0) : got == YAML_NOT_CANONICAL && placed && reports(0, result.line, result.column));
+    return got == YAML_DONE;
+}
+
+/* How many other bytes in place of the one at an offset are canonical. */
+static int count_others(const char *name, uint8_t *bytes, size_t length, size_t offset) {
+    uint8_t byte, kept = bytes[offset];
+    int count = 0;
+    for (byte = kept + 1; byte != kept; byte++) {
+        bytes[offset] = byte;
+        count += is_taken(name, bytes, length);
     }
-    memcpy(bytes + length, "!!seq []", 8);
-    length += 8;
-    for (level = levels - 1; level > 0; level--) {
-        memcpy(bytes + length, ",\n", 2);
-        memset(bytes + length + 2, ' ', 2 * (level - 1));
-        length += 2 + 2 * (level - 1);
-        bytes[length++] = ']';
+    bytes[offset] = kept;
+    return count;
+}
+
+/* Bytes as they stand, each of them replaced by each other one, and cut off before each of them. */
+static void check_spoiled(const char *text, int others) {
+    static uint8_t bytes[256];
+    size_t offset, length = strlen(text);
+    int whole, count = 0, cut = 0;
+    memcpy(bytes, text, length);
+    whole = is_taken(text, bytes, length);
+    for (offset = 0; offset < length; offset++) {
+        count += count_others(text, bytes, length, offset);
+        cut += is_taken(text, bytes, offset);
     }
-    bytes[length++] = '\n';
-    return length;
+    if (!whole || count != others || cut) {
+        failures++;
+        printf("%s: canonical: %d as it stands, %d with another byte, not %d, %d cut off\n", text, whole, count, others, cut);
+    }
+}
+
+static void spoiled(void) {
+    size_t row;
+    for (row = 0; row < sizeof taken / sizeof *taken; row++) check_spoiled(taken[row].bytes, taken[row].others);
 }
 
 /* The level of number N stands on line N + 1, behind N - 1 indentations; the last line, 2 N, has the outermost closing bracket. What is
  * read takes stack for each level when it is dropped, so few of them stand here. */
 static void deep(void) {
+    static const char *const begins[] = {"!!seq []", "!!map {}", "!!seq [", "!!map {"};
     static uint8_t bytes[2016064];
-    size_t length = nested(50, bytes);
+    size_t row, length = nested(bytes, 49, "!!seq [],\n");
     check_bytes("deep", bytes, length, YAML_DONE, 0, 0);
     check_bytes("deep, without its end", bytes, length - 1, YAML_NOT_CANONICAL, 100, 2);
-    length = nested(1001, bytes);
+    length = nested(bytes, 1000, "!!seq [],\n");
     check_bytes("too deep", bytes, length, YAML_TOO_DEEP, 1002, 2001);
+    for (row = 0; row < sizeof begins / sizeof *begins; row++) {
+        length = begun(bytes, 1000, begins[row]);
+        check_bytes(begins[row], bytes, length, YAML_TOO_DEEP, 1002, 2001);
+    }
 }
 
 /* The canonical bytes of a text of JSON: in a buffer that has just their size, then in one that is a byte too small. */
@@ -203,6 +261,7 @@ int main(void) {
     int32_t got;
     checks();
     places();
+    spoiled();
     texts_of_json();
     nothing();
     memset(&result, 0xff, sizeof result);

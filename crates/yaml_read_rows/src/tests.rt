@@ -1,17 +1,14 @@
 //! Canonical bytes read as typed values, and as documents; what only a caller sees of TOML, and the words of its errors.
 mod callers;
 mod calling;
-mod depths;
 mod documents;
 mod json;
 mod places;
 mod random;
 mod refused;
-mod spoiled;
-mod taken;
 mod toml;
 
-use std::alloc::{Allocator, Global};
+use std::alloc::Allocator;
 use std::fmt::Debug;
 use std::process::Abort;
 use yaml_read::{ReadError, Value, read_canonical};
@@ -30,16 +27,4 @@ fn written<A: Allocator + Copy>(alloc: A, value: &Value<A>) -> Result<Vec<u8, A>
 /// Returns the value that has these canonical bytes. (The same.)
 fn read<A: Allocator + Copy>(alloc: A, bytes: &[u8]) -> Result<Value<A>, ReadError> {
     read_canonical(alloc, bytes)
-}
-
-/// Reads a value and writes it again, which gives the same bytes; or returns why it isn't read.
-fn read_and_written(rt: &impl Abort, alloc: Global, bytes: &[u8]) -> Option<ReadError> {
-    match read(alloc, bytes) {
-        Ok(value) => {
-            let again = written(alloc, &value).expect(rt, "not written");
-            equal(rt, &again.as_slice(), &bytes);
-            None
-        }
-        Err(error) => Some(error),
-    }
 }

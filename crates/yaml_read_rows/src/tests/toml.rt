@@ -5,8 +5,8 @@ use std::process::Abort;
 use toml_ordered::{Node, read_document};
 use yaml_toml::TomlError;
 
-/// A document of one key, and its value as the text has it: a decimal behind `#`, or a date or a time. YAML shows other digits, and a text
-/// where a date or a time is local.
+/// A document of one key, and its value as the text has it: a decimal behind `#`, or a date or a time. YAML shows other digits, and texts in
+/// place of these dates and times.
 const VALUES: &[(&str, &str)] = &[
     ("n = +1.0", "#+1.0"),
     ("n = 5e+22", "#5e+22"),

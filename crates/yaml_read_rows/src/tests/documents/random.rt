@@ -1,10 +1,10 @@
 //! Random graphs, dumped and read back, and with one byte changed.
 use super::graphs::Holds::{Items, Pairs, Value};
 use super::graphs::{document, node};
+use super::spoiled::replaced;
 use super::{dumped, read_and_dumped};
 use crate::tests::equal;
 use crate::tests::random::{Random, random_text};
-use crate::tests::spoiled::replaced;
 use std::alloc::Global;
 use std::process::Abort;
 use yaml_base::{yaml_document_t, yaml_node_t};

@@ -2,9 +2,23 @@
 use super::read_and_dumped;
 use super::taken::TAKEN;
 use crate::tests::equal;
-use crate::tests::spoiled::replaced;
 use std::alloc::Global;
 use std::process::Abort;
+
+/// Returns the bytes with this one in place of the one at an offset.
+pub(super) fn replaced(
+    rt: &impl Abort,
+    alloc: Global,
+    bytes: &[u8],
+    offset: usize,
+    byte: u8,
+) -> Vec<u8> {
+    let mut spoiled = Vec::from_slice(alloc, bytes).expect(rt, "no memory");
+    if let Some(place) = spoiled.get_mut(offset) {
+        *place = byte;
+    }
+    spoiled
+}
 
 /// Bytes that stand in such texts, or nowhere.
 const OTHERS: &[u8] =
