@@ -226,23 +226,49 @@ static void expect_none(const char *name, const char *text, size_t length, int32
     tell(name, got, got == status && reports(0, line, column) && out[0] == 'x');
 }
 
-static void expect_refusal(const char *text, int32_t status, uint64_t line, uint64_t column) {
-    expect_none(text, text, strlen(text), status, line, column);
-}
+/* Texts of JSON, and their canonical bytes, worked out by hand. */
+static const struct {
+    const char *text, *bytes;
+} written[] = {
+    {" null ", "---\n!!null \"null\"\n"},
+    {"[true, -5, \"\\u00e9\\n\"]", "---\n!!seq [\n  !!bool \"true\",\n  !!int \"-5\",\n  !!str \"\303\251\\n\",\n]\n"},
+    {"{\"b\": [], \"a\": {\"\": {}}}",
+     "---\n!!map {\n  ? !!str \"b\"\n  : !!seq [],\n  ? !!str \"a\"\n  : !!map {\n    ? !!str \"\"\n    : !!map {},\n  },\n}\n"},
+    {"{\"b\": [1, true, null], \"a\": \"\\u00e9\"}",
+     "---\n!!map {\n  ? !!str \"b\"\n  : !!seq [\n    !!int \"1\",\n    !!bool \"true\",\n    !!null \"null\",\n  ],\n"
+     "  ? !!str \"a\"\n  : !!str \"\303\251\",\n}\n"},
+    {"-9223372036854775808", "---\n!!int \"-9223372036854775808\"\n"},
+    {" 9223372036854775807\n", "---\n!!int \"9223372036854775807\"\n"},
+};
+
+/* Texts that have none, why, and where. */
+static const struct {
+    const char *text;
+    int32_t status;
+    uint64_t line, column;
+} refused[] = {
+    /* The first number that isn't an integer of 64 bits. */
+    {"9223372036854775808", YAML_NOT_INTEGER, 1, 1},
+    {"[1,\n 1.0]", YAML_NOT_INTEGER, 2, 2},
+    {"[1,\n 1.0, 1e2]", YAML_NOT_INTEGER, 2, 2},
+    {"{\"a\": 1e2}", YAML_NOT_INTEGER, 1, 7},
+    {"[-0]", YAML_NOT_INTEGER, 1, 2},
+    {"[\"\303\251\", -0]", YAML_NOT_INTEGER, 1, 7},
+    {"[\"\303\251\", 0.5, 0.5]", YAML_NOT_INTEGER, 1, 7},
+    /* What is no JSON is refused first. */
+    {"[0.5, nul]", YAML_NOT_JSON, 1, 7},
+    {"[\"\360\"]", YAML_NOT_JSON, 1, 3},
+    {"{\"a\": 1, \"a\": 2}", YAML_DUPLICATE_NAME, 1, 10},
+    {"{\"a\": 0.5, \"a\": 2}", YAML_DUPLICATE_NAME, 1, 12},
+};
 
 static void texts_of_json(void) {
     static char deep_text[1001];
-    expect_bytes("{\"b\": [1, true, null], \"a\": \"\\u00e9\"}",
-                 "---\n!!map {\n  ? !!str \"b\"\n  : !!seq [\n    !!int \"1\",\n    !!bool \"true\",\n    !!null \"null\",\n  ],\n"
-                 "  ? !!str \"a\"\n  : !!str \"\303\251\",\n}\n");
-    expect_bytes("-9223372036854775808", "---\n!!int \"-9223372036854775808\"\n");
-    expect_bytes(" 9223372036854775807\n", "---\n!!int \"9223372036854775807\"\n");
-    expect_refusal("9223372036854775808", YAML_NOT_INTEGER, 1, 1);
-    expect_refusal("[1,\n 1.0, 1e2]", YAML_NOT_INTEGER, 2, 2);
-    expect_refusal("[\"\303\251\", -0]", YAML_NOT_INTEGER, 1, 7);
-    expect_refusal("[0.5, nul]", YAML_NOT_JSON, 1, 7);
-    expect_refusal("[\"\360\"]", YAML_NOT_JSON, 1, 3);
-    expect_refusal("{\"a\": 0.5, \"a\": 2}", YAML_DUPLICATE_NAME, 1, 12);
+    size_t row;
+    for (row = 0; row < sizeof written / sizeof *written; row++) expect_bytes(written[row].text, written[row].bytes);
+    for (row = 0; row < sizeof refused / sizeof *refused; row++)
+        expect_none(refused[row].text, refused[row].text, strlen(refused[row].text), refused[row].status, refused[row].line,
+                    refused[row].column);
     memset(deep_text, '[', sizeof deep_text);
     expect_none("deep", deep_text, sizeof deep_text, YAML_TOO_DEEP, 1, 1001);
 }
