@@ -1,10 +1,11 @@
 //! Typed values, a writer of values, numbers of JSON, values of any type that is serialized, how they are handed on, proved
-//! callers, and the examples of the documents.
+//! callers, canonical bytes that are read, and the examples of the documents.
 mod callers;
 mod calling;
 mod handed;
 mod numbers;
 mod paths;
+mod reading;
 mod serialized;
 mod values;
 mod variants;

@@ -1,5 +1,6 @@
 //! Random values, written and read back.
-use super::{equal, read, written};
+use super::{read, written};
+use crate::tests::equal;
 use std::alloc::Global;
 use std::process::Abort;
 use yaml_read::Value;

@@ -4,7 +4,7 @@ use super::graphs::{document, node};
 use super::spoiled::replaced;
 use super::{dumped, read_and_dumped};
 use crate::tests::equal;
-use crate::tests::random::{Random, random_text};
+use crate::tests::reading::random::{Random, random_text};
 use std::alloc::Global;
 use std::process::Abort;
 use yaml_base::{yaml_document_t, yaml_node_t};

@@ -1,6 +1,5 @@
 //! Canonical bytes read as typed values, and as documents; what only a caller sees of TOML, and the words of its errors.
 mod callers;
-mod calling;
 mod documents;
 mod json;
 mod places;
@@ -9,15 +8,8 @@ mod refused;
 mod toml;
 
 use std::alloc::Allocator;
-use std::fmt::Debug;
-use std::process::Abort;
 use yaml_read::{ReadError, Value, read_canonical};
 use yaml_value::{write_canonical, yaml_error_t};
-
-/// Checks that the two are equal. (A comparison in a function of its own is proved once.)
-fn equal<T: PartialEq + Debug>(rt: &impl Abort, got: &T, wanted: &T) {
-    assert_eq!(rt; *got, *wanted);
-}
 
 /// Returns the canonical bytes of a value. (Tests need none of the clauses of the call.)
 fn written<A: Allocator + Copy>(alloc: A, value: &Value<A>) -> Result<Vec<u8, A>, yaml_error_t> {

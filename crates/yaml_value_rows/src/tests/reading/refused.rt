@@ -1,5 +1,6 @@
 //! Values read where memory is refused.
-use super::{equal, read};
+use super::read;
+use crate::tests::equal;
 use std::alloc::Global;
 use std::process::Abort;
 use yaml_read::ReadError;

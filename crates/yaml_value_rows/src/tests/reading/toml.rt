@@ -1,5 +1,5 @@
 //! TOML: what only a caller sees. (`tests/toml/run` has the grammar, the order of keys, what is refused, and where.)
-use super::equal;
+use crate::tests::equal;
 use std::alloc::Global;
 use std::process::Abort;
 use toml_ordered::{Node, read_document};

@@ -2,7 +2,7 @@
 use super::document_of;
 use super::taken::TAKEN;
 use crate::tests::equal;
-use crate::tests::refused::is_reported;
+use crate::tests::reading::refused::is_reported;
 use std::alloc::Global;
 use std::process::Abort;
 use yaml_test_allocator::Refusing;

@@ -1,5 +1,5 @@
 //! What the errors of reading print. (`tests/c/canonical.c` has why bytes aren't read, and where.)
-use super::equal;
+use crate::tests::equal;
 use yaml_read::ReadError;
 
 /// Errors, and what they print.
