@@ -1,5 +1,5 @@
 /* Calls of yaml_is_canonical over values that nest as deep as they may. What is read takes stack for each level when it is dropped, so these
- * have 1 MB; a line for each that isn't as the header says. (`canonical.c` has what nests too deep.) */
+ * have 256 KB; a line for each that isn't as the header says. (`canonical.c` has what nests too deep.) */
 #include <stdio.h>
 
 #include "nested.h"
