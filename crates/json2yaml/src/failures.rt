@@ -1,4 +1,4 @@
-//! What an error of `yaml_json` is for the program.
+//! Errors of `yaml_json` as the program reports them.
 ghost use Rattle.std.specs.Prelude.{◌≡◌};
 ghost use Rattle.json2yaml.specs.Statuses as statuses;
 ghost use Rattle.yaml_program.specs.Faults as faults;

@@ -1,4 +1,4 @@
-//! What is sent on of a file of TOML: its YAML, by the settings that are asked for.
+//! The YAML of a file of TOML, sent on by the settings that are asked for.
 ghost use Rattle.std.specs.Prelude.{◌≡◌, OnOk};
 ghost use Rattle.yaml_writer.specs.WasGiven.{IsBare};
 ghost use Rattle.toml2yaml.specs.Conversions.{SentTomlFile, WroteFile};

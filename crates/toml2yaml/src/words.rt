@@ -1,4 +1,4 @@
-//! What the program is called, and what its help says.
+//! The program's name, and the words of its help.
 use yaml_program::{Wording, wording};
 
 /// Returns what the program is called, and what its help says.

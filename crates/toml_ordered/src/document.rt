@@ -21,7 +21,7 @@ use std::alloc::Global;
 use toml_parser::text::{byte_at, first, skip, skip_blank, skip_ws};
 use toml_parser::{Key, RECURSION_LIMIT, dotted_key};
 
-/// What was read of a document: its root table, and the key of the last header.
+/// The part of a document that was read: its root table, and the key of the last header.
 #[derive(Drop)]
 struct Document {
     root: OpenTable,

@@ -1,4 +1,4 @@
-//! Why a text isn't read.
+//! The reasons why a text isn't read.
 ghost use Rattle.std.specs.Prelude.{◌≡◌, ◌≤◌, IfSome, length};
 ghost use Rattle.toml_ordered.specs.Places.{moved_to, moved_within, place_left};
 ghost use Rattle.toml_ordered.specs.Reading.{IsMemory, fault_of};
@@ -7,7 +7,7 @@ ghost use Rattle.toml_ordered.specs.declared.fault.Fault.TheVariants as fault;
 use std::alloc::{AllocError, AllocFailed};
 use toml_parser::{ErrorKind, ParseError};
 
-/// Why a text isn't read. Places are given by how many bytes of the text were left there.
+/// The reason why a text isn't read. Places are given by how many bytes of the text were left there.
 #[derive(Drop)]
 pub enum Fault {
     /// An allocation failed.

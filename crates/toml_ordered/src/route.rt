@@ -6,7 +6,7 @@ ghost use Rattle.toml_ordered.specs.Tables as spec;
 
 use crate::tree::Origin;
 
-/// How a key is passed.
+/// The way in which a key is passed.
 #[derive(Clone, Copy)]
 pub(crate) enum Way {
     /// As a part of a header.

@@ -15,7 +15,7 @@ use std::alloc::{AllocError, Global};
 use std::collections::BTreeMap;
 use std::mem;
 
-/// What stands with a key on a line.
+/// A definition that stands with a key on a line.
 #[derive(Drop)]
 pub(crate) enum Definition {
     Value(Node),
@@ -23,7 +23,7 @@ pub(crate) enum Definition {
     Tables,
 }
 
-/// What is defined: the last part of its key, and how much text is left where its expression begins.
+/// A definition with the last part of its key, and how much text is left where its expression begins.
 #[derive(Drop)]
 pub(crate) struct Entry {
     pub(crate) key: String,

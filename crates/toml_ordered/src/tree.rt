@@ -1,7 +1,7 @@
-//! What a document holds.
+//! The contents of a document.
 use toml_datetime::Datetime;
 
-/// What made a table, by which its text tells whether more may come to it.
+/// The construct that made a table, by which its text tells whether more may come to it.
 #[derive(Clone, Copy, PartialEq, Eq, Debug)]
 pub enum Origin {
     /// A header that passed through it.

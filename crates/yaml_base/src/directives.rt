@@ -1,4 +1,4 @@
-//! What a document says before its root (YAML 1.1, section 7.1).
+//! The directives before a document's root (YAML 1.1, section 7.1).
 use std::alloc::Allocator;
 
 /// `%YAML` and a version. Only 1.1 and 1.2 can be written.

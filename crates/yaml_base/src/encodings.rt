@@ -1,6 +1,6 @@
 //! The encodings of a stream and its line breaks.
 
-/// How characters become bytes (YAML 1.1, section 5.2).
+/// The encoding of characters as bytes (YAML 1.1, section 5.2).
 #[derive(Clone, Copy, PartialEq, Eq, Debug)]
 pub enum yaml_encoding_t {
     /// None is asked for: the stream's own is taken, else UTF-8.
@@ -13,7 +13,7 @@ pub enum yaml_encoding_t {
     YAML_UTF16BE_ENCODING,
 }
 
-/// How a line is ended (YAML 1.1, section 5.4).
+/// The break that ends a line (YAML 1.1, section 5.4).
 #[derive(Clone, Copy, PartialEq, Eq, Debug)]
 pub enum yaml_break_t {
     /// None is asked for: LF is taken.

@@ -1,4 +1,4 @@
-//! What a call of the emitter refuses.
+//! The errors of the emitter's calls.
 ghost use Rattle.std.specs.Prelude.{◌≡◌, Some};
 ghost use Rattle.yaml_base.specs.Errors.{error_type_of, problem_text, display_text};
 
@@ -16,7 +16,7 @@ pub enum yaml_error_type_t {
     YAML_EMITTER_ERROR,
 }
 
-/// Why a call was refused.
+/// The reason why a call was refused.
 #[derive(Clone, Copy, PartialEq, Eq, Debug)]
 pub enum yaml_error_t {
     /// The first event isn't STREAM-START.

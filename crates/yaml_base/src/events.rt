@@ -7,7 +7,7 @@ use crate::encodings::yaml_encoding_t;
 use crate::styles::{yaml_mapping_style_t, yaml_scalar_style_t, yaml_sequence_style_t};
 use std::alloc::Allocator;
 
-/// What a stream is made of. An anchor names a node, an alias stands for the node of that name,
+/// An event of a stream. An anchor names a node, an alias stands for the node of that name,
 /// a tag says of what type a node is.
 #[derive(Drop)]
 #[derive_where(PartialEq, Eq, Debug)]
@@ -50,7 +50,7 @@ pub enum yaml_event_t<A: Allocator> {
         plain_implicit: bool,
         /// The tag may be left out in any other style.
         quoted_implicit: bool,
-        /// How it is to be written.
+        /// The style in which it is to be written.
         style: yaml_scalar_style_t,
     },
     /// A sequence begins. Its items follow.
@@ -61,7 +61,7 @@ pub enum yaml_event_t<A: Allocator> {
         tag: Option<String<A>>,
         /// The tag may be left out.
         implicit: bool,
-        /// How it is to be written.
+        /// The style in which it is to be written.
         style: yaml_sequence_style_t,
     },
     /// A sequence ends.
@@ -74,7 +74,7 @@ pub enum yaml_event_t<A: Allocator> {
         tag: Option<String<A>>,
         /// The tag may be left out.
         implicit: bool,
-        /// How it is to be written.
+        /// The style in which it is to be written.
         style: yaml_mapping_style_t,
     },
     /// A mapping ends.

@@ -11,7 +11,7 @@ pub struct yaml_node_pair_t {
     pub value: i32,
 }
 
-/// What a node holds.
+/// The contents of a node.
 #[derive(Drop)]
 #[derive_where(PartialEq, Eq, Debug)]
 pub enum yaml_node_data_t<A: Allocator> {
@@ -19,21 +19,21 @@ pub enum yaml_node_data_t<A: Allocator> {
     Scalar {
         /// Its text.
         value: String<A>,
-        /// How it is to be written.
+        /// The style in which it is to be written.
         style: yaml_scalar_style_t,
     },
     /// A sequence.
     Sequence {
         /// The numbers of its items' nodes.
         items: Vec<i32, A>,
-        /// How it is to be written.
+        /// The style in which it is to be written.
         style: yaml_sequence_style_t,
     },
     /// A mapping.
     Mapping {
         /// The numbers of its keys' and values' nodes.
         pairs: Vec<yaml_node_pair_t, A>,
-        /// How it is to be written.
+        /// The style in which it is to be written.
         style: yaml_mapping_style_t,
     },
 }
@@ -44,6 +44,6 @@ pub enum yaml_node_data_t<A: Allocator> {
 pub struct yaml_node_t<A: Allocator> {
     /// Its tag.
     pub tag: String<A>,
-    /// What it holds.
+    /// The contents of the node.
     pub contents: yaml_node_data_t<A>,
 }

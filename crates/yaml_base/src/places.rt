@@ -1,4 +1,4 @@
-//! Where in a text an offset is.
+//! The line and the column of an offset in a text.
 ghost use Rattle.std.specs.Prelude.{◌≡◌, ◌+◌, ◌≤◌, count_by, length, not};
 ghost use Rattle.std.specs.Fmt.{is_char_start};
 ghost use Rattle.std.specs.List.{after_last, suffix_len};

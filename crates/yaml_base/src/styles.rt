@@ -1,6 +1,6 @@
-//! How nodes are presented. A style is a wish: where it can't be kept, another is chosen.
+//! The styles of nodes. A style is a wish: where it can't be kept, another is chosen.
 
-/// How a scalar is written (YAML 1.1, chapter 9).
+/// The style in which a scalar is written (YAML 1.1, chapter 9).
 #[derive(Clone, Copy, PartialEq, Eq, Debug)]
 pub enum yaml_scalar_style_t {
     /// Plain where that can be, else quoted.
@@ -17,7 +17,7 @@ pub enum yaml_scalar_style_t {
     YAML_FOLDED_SCALAR_STYLE,
 }
 
-/// How a sequence is written (YAML 1.1, section 10.1).
+/// The style in which a sequence is written (YAML 1.1, section 10.1).
 #[derive(Clone, Copy, PartialEq, Eq, Debug)]
 pub enum yaml_sequence_style_t {
     /// A block where that can be.
@@ -28,7 +28,7 @@ pub enum yaml_sequence_style_t {
     YAML_FLOW_SEQUENCE_STYLE,
 }
 
-/// How a mapping is written (YAML 1.1, section 10.2).
+/// The style in which a mapping is written (YAML 1.1, section 10.2).
 #[derive(Clone, Copy, PartialEq, Eq, Debug)]
 pub enum yaml_mapping_style_t {
     /// A block where that can be.

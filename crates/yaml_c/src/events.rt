@@ -17,7 +17,7 @@ use yaml_emitter::{
     standing_is_promised, yaml_emitter_flush, yaml_emitter_t, yaml_emitter_take_output,
 };
 
-/// How the events of an array were emitted.
+/// The outcome of emitting the events of an array.
 #[derive(Clone, Copy)]
 enum Emission {
     /// All of them, and the output is flushed.

@@ -8,7 +8,7 @@ use std::alloc::Allocator;
 use yaml_base::yaml_error_t;
 use yaml_emitter::{ScalarAnswer, yaml_emitter_emit, yaml_emitter_emit_scalar, yaml_emitter_t};
 
-/// How a record was given to an emitter.
+/// The outcome of giving a record to an emitter.
 #[derive(Clone, Copy)]
 pub(crate) enum Giving {
     /// The emitter took its event, and returned this.

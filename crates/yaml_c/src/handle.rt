@@ -1,4 +1,4 @@
-//! What a C program holds of an emitter: a pointer.
+//! The pointer by which a C program holds an emitter.
 ghost use Rattle.std.specs.Prelude.{◌≡◌, Option, None, Some, is_some, true};
 ghost use Rattle.yaml_emitter.specs.State.{State};
 ghost use Rattle.yaml_c.specs.Handle.{handle_owns};

@@ -1,4 +1,4 @@
-//! What a call returns beside its status.
+//! The results of calls, beside their status.
 ghost use Rattle.std.specs.Prelude.{◌≡◌};
 ghost use Rattle.yaml_c.specs.Answers.{CopiesToCaller, at_place, nothing_reported, results_done};
 
@@ -6,7 +6,7 @@ use crate::buffers::move_out;
 use crate::statuses::{DONE, TOO_SMALL};
 use std::alloc::Allocator;
 
-/// What a call came to, beside its status. See the header.
+/// The result of a call, beside its status. See the header.
 #[repr(C)]
 #[derive(Clone, Copy)]
 pub struct CallResult {

@@ -13,7 +13,7 @@ use yaml_base::yaml_error_t;
 use yaml_json::place_of;
 use yaml_toml::{TomlError, TomlSettings};
 
-/// How TOML is written. Zeros are the defaults. See the header.
+/// The options by which TOML is written. Zeros are the defaults. See the header.
 #[repr(C)]
 #[derive(Clone, Copy)]
 pub struct TomlOptions {

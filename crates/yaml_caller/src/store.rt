@@ -22,7 +22,7 @@ pub struct Entry<A: Allocator> {
     pub digest: [u8; 32],
 }
 
-/// Why an entry isn't opened.
+/// The reason why an entry isn't opened.
 #[derive(Clone, Copy, Debug, Drop, Error, PartialEq, Eq)]
 pub enum OpenError {
     /// The digest isn't the SHA-256 of the bytes.

@@ -18,7 +18,7 @@ struct Unended<A: Allocator> {
     children: Vec<i32, A>,
 }
 
-/// How far the composing came.
+/// The state of the composing so far.
 #[derive(Drop)]
 struct Composer<A: Allocator> {
     /// The nodes that have begun. A collection gets its children where it ends.

@@ -20,7 +20,7 @@ use yaml_base::{
     yaml_document_t, yaml_event_t, yaml_node_t, yaml_tag_directive_t, yaml_version_directive_t,
 };
 
-/// Why a list of events is no document's.
+/// The reason why a list of events is no document's.
 #[derive(Clone, Copy, PartialEq, Eq, Debug)]
 pub enum ComposeError {
     /// No document with nodes has these events.
@@ -41,7 +41,7 @@ impl fmt::Display for ComposeError {
 /// So `?` turns it into a caller's own error.
 impl Error for ComposeError {}
 
-/// What begins a document.
+/// The start of a document.
 #[derive(Drop)]
 struct Heading<A: Allocator> {
     version: Option<yaml_version_directive_t>,

@@ -11,7 +11,7 @@ use yaml_base::{yaml_error_t, yaml_event_t};
 use yaml_emitter::{yaml_emitter_emit, yaml_emitter_t};
 use yaml_writer::typed_event;
 
-/// How events are given to an emitter.
+/// The form in which events are given to an emitter.
 pub(crate) enum EventForm {
     /// As they are.
     Same,

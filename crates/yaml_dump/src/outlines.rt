@@ -1,4 +1,4 @@
-//! What the events of a document are made of, but for its nodes.
+//! The parts of a document's events, but for its nodes.
 ghost use Rattle.std.specs.Prelude.{◌≡◌, ◌∷◌, [], ◌==◌, false, IfOk, map, length};
 ghost use Rattle.yaml_base.specs.Event as seen;
 ghost use Rattle.yaml_base.specs.Seen.{seen_events, seen_directive};

@@ -16,11 +16,11 @@ use yaml_base::{yaml_document_t, yaml_node_data_t, yaml_node_pair_t};
 #[derive(Clone, Copy)]
 struct Visit {
     number: usize,
-    /// How many of its children were met.
+    /// The number of its children that were met.
     met: usize,
 }
 
-/// How far the walk came.
+/// The state of the walk so far.
 #[derive(Drop)]
 struct Walker<A: Allocator> {
     steps: Vec<Step, A>,

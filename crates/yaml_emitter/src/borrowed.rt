@@ -18,7 +18,7 @@ use crate::writing::ScalarContent;
 use std::alloc::Allocator;
 use yaml_base::{YAML_SCALAR_EVENT, yaml_error_t, yaml_event_t};
 
-/// What became of a scalar whose texts were borrowed.
+/// The outcome of giving an emitter a scalar whose texts are borrowed.
 #[derive(Clone, Copy, PartialEq, Eq, Debug)]
 pub enum ScalarAnswer {
     /// The emitter took it, and returned this, as `yaml_emitter_emit` does.

@@ -1,4 +1,4 @@
-//! What is refused in an event's own content: names, tags, flags, directives.
+//! Checks of an event's own content: names, tags, flags, directives.
 
 ghost use Rattle.std.specs.Prelude.{◌≡◌, Bool, None, chars, if◌then◌else◌};
 ghost use Rattle.yaml_base.specs.Errors.{refused};

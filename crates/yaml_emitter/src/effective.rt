@@ -1,10 +1,10 @@
-//! What the settings come to at the stream's start.
+//! The settings in effect from the stream's start on.
 
 ghost use Rattle.std.specs.Prelude.{pos, ◌≤◌, ◌≤ℤ◌};
 
 use yaml_base::{yaml_break_t, yaml_encoding_t};
 
-/// What the layout goes by. Neither the encoding nor the break is ANY.
+/// The settings that the layout goes by. Neither the encoding nor the break is ANY.
 #[derive(Clone, Copy)]
 pub(crate) struct EffectiveSettings {
     pub encoding: yaml_encoding_t,

@@ -1,10 +1,10 @@
-//! Where a node stands, and the collections that are open around it.
+//! The place of a node, and the collections that are open around it.
 
 ghost use Rattle.yaml_emitter.specs.Reach.{IsWithinReach};
 
 use yaml_base::CollectionKind;
 
-/// What a node is. The first item or key of a flow collection writes its bracket; a value knows
+/// The role of a node. The first item or key of a flow collection writes its bracket; a value knows
 /// whether its key is simple.
 #[derive(Clone, Copy)]
 pub(crate) enum Role {
@@ -14,7 +14,7 @@ pub(crate) enum Role {
     Value { simple: bool },
 }
 
-/// Where a node stands: in flow or in block, as what, and the column of the entries around it.
+/// The place where a node stands: in flow or in block, as what, and the column of the entries around it.
 #[derive(Clone, Copy)]
 pub(crate) struct Place {
     pub in_flow: bool,

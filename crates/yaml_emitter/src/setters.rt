@@ -1,4 +1,4 @@
-//! What the caller sets before the stream, and what it may ask.
+//! The calls that set an emitter before the stream, and those that ask it.
 
 ghost use Rattle.std.specs.Prelude.{◌≡◌, ◌↔◌, IsTrue, Some, None, false, true, List, [], length};
 ghost use Rattle.yaml_base.specs.Event.{Event};

@@ -1,4 +1,4 @@
-//! What the caller sets, and what it comes to at the stream's start.
+//! The settings of a caller, and what they come to at the stream's start.
 
 ghost use Rattle.std.specs.Prelude.{◌≡◌, ◌≤◌, pos, ◌≤ℤ◌, IsSome, Some};
 ghost use Rattle.yaml_base.specs.Settings.{effective, effective_indent, effective_width, nothing_given};
@@ -18,7 +18,7 @@ pub enum Quotes {
     Double,
 }
 
-/// What an emitter is set to before its stream. The default is what a new emitter has, as in libyaml.
+/// The settings given to an emitter before its stream. The default is what a new emitter has, as in libyaml.
 #[derive(Clone, Copy, PartialEq, Eq, Debug)]
 pub struct Settings {
     /// The encoding; ANY leaves it to the stream's start, and then to UTF-8.
@@ -34,11 +34,11 @@ pub struct Settings {
     /// Lines are folded past this column, counted in characters; a negative one is no limit. Up to twice the indent it is
     /// taken for 80, and so is `None`.
     pub width: Option<i32>,
-    /// How lines end; ANY is LF.
+    /// The break that ends a line; ANY is LF.
     pub line_break: yaml_break_t,
     /// U+2028 and U+2029 are escaped, since YAML 1.2 takes them for no line breaks.
     pub line_breaks_1_2: bool,
-    /// What readers of YAML read differently is written so that all read it alike.
+    /// Constructs that readers of YAML read differently are written so that all read them alike.
     pub portable: bool,
     /// Block sequences in a mapping are indented, as other block collections are.
     pub indented_sequences: bool,

@@ -1,4 +1,4 @@
-//! What may come next in a stream.
+//! The parts of a stream that may come next.
 
 ghost use Rattle.std.specs.Prelude.{◌≡◌, List};
 ghost use Rattle.yaml_base.specs.Event.{TagDirective};
@@ -7,7 +7,7 @@ ghost use Rattle.yaml_emitter.specs.Stages.{seen_stage};
 
 use yaml_base::yaml_error_t;
 
-/// What comes next.
+/// The part of a stream that comes next.
 #[derive(Clone, Copy)]
 pub(crate) enum Stage {
     /// The stream's start.

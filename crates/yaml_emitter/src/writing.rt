@@ -1,4 +1,4 @@
-//! What events write, put through the pen piece by piece.
+//! The pieces that events write, put through the pen one by one.
 mod atoms;
 mod contents;
 mod directives;

@@ -1,4 +1,4 @@
-//! Where a JSON text ends that others follow.
+//! The end of a JSON text that others follow.
 ghost use Rattle.std.specs.Prelude.{◌≡◌, ◌↔◌, ℕ, List, ◌+◌, ◌<◌, ◌≤◌, ◌^◌, ◌++◌, ◌||◌, ◌==◌, IsTrue, length, MatchOption};
 ghost use Rattle.std.specs.Simd.Lanes.{chunk};
 ghost use Rattle.json.specs.Ascii as ascii;
@@ -10,7 +10,7 @@ ghost use Rattle.yaml_json.specs.Specials.{IsInside, MayBeSpecial};
 use crate::words::{is_blank, is_operator};
 use std::simd::prelude::*;
 
-/// What a scan has before it.
+/// The input that a scan has before it.
 #[derive(Clone, Copy)]
 pub(crate) enum Mode {
     /// A text, after some blanks.
@@ -27,7 +27,7 @@ pub(crate) enum Mode {
     Behind,
 }
 
-/// Where a scan is, and how many brackets and braces are open.
+/// The state of a scan: where it is, and how many brackets and braces are open.
 #[derive(Clone, Copy)]
 pub(crate) struct Scan {
     pub(crate) mode: Mode,
@@ -193,11 +193,11 @@ fn step(scan: Scan, byte: u8) -> Option<Scan>
     }
 }
 
-/// How far a text was scanned.
+/// The point up to which a text was scanned.
 #[derive(Clone, Copy)]
 pub(crate) struct Cut {
     pub(crate) scan: Scan,
-    /// How many bytes were scanned.
+    /// The number of bytes that were scanned.
     pub(crate) scanned: usize,
 }
 

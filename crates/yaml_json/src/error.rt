@@ -1,10 +1,10 @@
-//! Why a text isn't written as YAML.
+//! The reasons why a text isn't written as YAML.
 use crate::expecting::Expected;
 use std::io;
 use thiserror::Error;
 use yaml_writer::yaml_error_t;
 
-/// Why a text isn't written as YAML.
+/// The reason why a text isn't written as YAML.
 #[derive(Clone, Copy, Debug, Drop, Error, PartialEq, Eq)]
 pub enum JsonError {
     /// The text is no JSON. The first bracket, string, word, comma or colon that can't stand where it stands begins here; where the
@@ -40,7 +40,7 @@ pub enum JsonError {
     Emitter(yaml_error_t),
 }
 
-/// Why JSON texts that come part by part aren't written as YAML to their end. Places count from the first byte that came.
+/// The reason why JSON texts that come part by part aren't written as YAML to their end. Places count from the first byte that came.
 #[derive(Clone, Copy, Debug, Drop, Error)]
 pub enum StreamError {
     /// One of the texts isn't written.

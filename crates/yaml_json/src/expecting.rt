@@ -1,4 +1,4 @@
-//! What could stand where a JSON text breaks off, found in the bytes before. It is looked for where there is an error, and needs no
+//! The input that could stand where a JSON text breaks off, found in the bytes before. It is looked for after an error, and needs no
 //! memory: the open brackets are counted first, and then the last that makes as many is the innermost.
 ghost use Rattle.std.specs.Prelude.{◌≡◌, ◌+◌, ◌<◌, ◌≤◌, ◌^◌, List, None, true};
 ghost use Rattle.yaml_json.specs.Expected as meaning;
@@ -8,7 +8,7 @@ use crate::words::is_blank;
 use std::fmt;
 use yaml_writer::CollectionKind;
 
-/// What could stand where a text breaks off.
+/// The input that could stand where a text breaks off.
 #[derive(Clone, Copy, Debug, Drop, PartialEq, Eq)]
 pub enum Expected {
     /// A JSON text: there are blanks alone.
@@ -68,7 +68,7 @@ pub(crate) enum Quoting {
     Escaped,
 }
 
-/// What stands last in some bytes of a text.
+/// The kind of token that stands last in some bytes of a text.
 #[derive(Clone, Copy)]
 pub(crate) enum Last {
     /// Blanks alone.
@@ -79,18 +79,18 @@ pub(crate) enum Last {
     Colon,
     /// The first string or word behind a bracket or a comma.
     First,
-    /// What else a value ends with.
+    /// Any other token that ends a value.
     Value,
 }
 
-/// How many brackets are open, and of which kind the one is that makes as many as are asked for.
+/// The number of open brackets, and the kind of the one that makes as many as are asked for.
 #[derive(Clone, Copy)]
 pub(crate) struct Depth {
     pub(crate) count: usize,
     pub(crate) kind: Option<CollectionKind>,
 }
 
-/// Where a text is after some of its bytes.
+/// The state of a text after some of its bytes.
 #[derive(Clone, Copy)]
 pub(crate) struct Front {
     pub(crate) quoting: Quoting,

@@ -1,4 +1,4 @@
-//! Where the parts of a JSON text end: blanks and strings.
+//! The ends of the parts of a JSON text: blanks and strings.
 ghost use Rattle.std.specs.Prelude.{◌≡◌, ℕ, ◌+◌, ◌<◌, ◌≤◌, [], Bool, drop, false, get_or, length, map, true};
 ghost use Rattle.std.specs.Str.{IsCharBoundary};
 ghost use Rattle.std.specs.Simd.Lanes.{mask_l};

@@ -7,13 +7,13 @@ ghost use Rattle.yaml_json.specs.Walk.{LeavesNames};
 use std::alloc::{AllocError, Allocator};
 use std::collections::BTreeSet;
 
-/// How many names of an object are kept in the list, which is searched linearly; later ones go to a set.
+/// The maximum number of names of an object in the list, which is searched linearly; later ones go to a set.
 const MOST_LISTED: usize = 16;
 
 /// The names of an array or object that is open. An array has none.
 #[derive(Drop)]
 pub(crate) struct Level<'a, A: Allocator> {
-    /// Where its first names begin in the list.
+    /// The place in the list where its first names begin.
     pub(crate) first: usize,
     /// Its later names.
     pub(crate) many: BTreeSet<&'a str, A>,

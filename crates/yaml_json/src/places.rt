@@ -1,4 +1,4 @@
-//! Where in a text an offset is.
+//! The line and the column of an offset in a text.
 ghost use Rattle.std.specs.Prelude.{◌≡◌, ◌≢◌, ◌+◌, ◌++◌, ◌<◌, ◌≤◌, ℕ, List, [], drop, length};
 ghost use Rattle.json.specs.Lex.{between, in_word, lex};
 ghost use Rattle.json.specs.Word.{head};

@@ -1,10 +1,10 @@
-//! How JSON is written as YAML.
+//! The settings for writing JSON as YAML.
 use yaml_writer::{Settings, value_settings};
 
-/// How JSON is written as YAML.
+/// The settings for writing JSON as YAML.
 #[derive(Clone, Copy, PartialEq, Eq, Debug)]
 pub struct JsonSettings {
-    /// How the writer writes.
+    /// The settings of the writer.
     pub writer: Settings,
     /// Arrays and objects stand in flow, as in JSON; else in blocks, where they aren't empty.
     pub flow: bool,

@@ -20,21 +20,21 @@ use std::{io, str};
 use yaml_base::place_of;
 use yaml_writer::{Writer, yaml_error_t};
 
-/// How many bytes are read at once.
+/// The number of bytes that are read at once.
 const PART_SIZE: usize = 65_536;
 
 const NO_MEMORY: StreamError = StreamError::Refused(JsonError::Emitter(yaml_error_t::Memory));
 
-/// How far the texts are read.
+/// The progress of reading the texts.
 #[derive(Drop)]
 pub(crate) struct Reading<A: Allocator> {
     alloc: A,
     pub(crate) cut: Cut,
-    /// Where what came and isn't written yet begins.
+    /// The place where the input begins that came and isn't written yet.
     place: Place,
 }
 
-/// What came and isn't written yet.
+/// The input that came and isn't written yet.
 #[derive(Drop)]
 pub(crate) struct Incoming<A: Allocator> {
     pub(crate) held: Vec<u8, A>,

@@ -68,7 +68,7 @@ pub(crate) fn error_of<A: Allocator + Copy>(
 #[derive(Drop)]
 pub(crate) struct Room<'a, A: Allocator> {
     alloc: A,
-    /// Where strings with escapes go. They stay until all texts are written.
+    /// The arena for strings with escapes. They stay until all texts are written.
     arena: &'a Bump<A>,
     pub(crate) nest: Nesting<'a, A>,
 }

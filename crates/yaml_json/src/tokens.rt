@@ -17,12 +17,12 @@ use json::Token;
 use std::alloc::{AllocError, Allocator};
 use std::marker::Model;
 
-/// What may come next.
+/// The tokens that may come next.
 #[derive(Clone, Copy)]
 pub(crate) enum Stage {
     /// A value or a key, or what closes.
     Open,
-    /// What closes: after a value, no comma read.
+    /// A bracket or a brace that closes: after a value, no comma read.
     Behind,
     /// A value or a key: a comma stands before.
     Owed,
@@ -56,14 +56,14 @@ pub(crate) struct Step<'a> {
 #[derive(Drop)]
 pub struct Tokens<'a, A: Allocator> {
     alloc: A,
-    /// Where strings with escapes go.
+    /// The arena for strings with escapes.
     arena: &'a Bump<A>,
     text: &'a str,
     rest: &'a str,
     stage: Stage,
-    /// What might come when the last token was read.
+    /// The tokens that might come when the last one was read.
     was: Stage,
-    /// How many bytes were left then.
+    /// The number of bytes that were left then.
     left: usize,
 }
 

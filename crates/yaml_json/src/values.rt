@@ -19,7 +19,7 @@ use yaml_writer::{
     YAML_FLOW_MAPPING_STYLE, YAML_FLOW_SEQUENCE_STYLE, yaml_error_t,
 };
 
-/// Where a token is that can't stand there, by where the last token that was read begins.
+/// The place of a token that can't stand there, by where the last token that was read begins.
 #[derive(Clone, Copy)]
 pub(crate) enum Spot {
     /// It is the last token, or the text ends there.
@@ -30,7 +30,7 @@ pub(crate) enum Spot {
     PastValue,
 }
 
-/// Why a value isn't written.
+/// The reason why a value isn't written.
 #[derive(Clone, Copy)]
 pub(crate) enum Stop {
     /// A token can't stand where it stands, or the text ends too early, here.
@@ -45,7 +45,7 @@ pub(crate) enum Stop {
     Failed,
 }
 
-/// What is open. A value that is whole leaves the memory of these lists to the next.
+/// The arrays and objects that are open. A value that is whole leaves the memory of these lists to the next.
 #[derive(Drop)]
 pub(crate) struct Nesting<'a, A: Allocator> {
     /// The innermost last.

@@ -1,8 +1,8 @@
-//! Why a text isn't read as a value.
+//! The reasons why a text isn't read as a value.
 use thiserror::Error;
 use yaml_json::JsonError;
 
-/// Why a text isn't read as a value.
+/// The reason why a text isn't read as a value.
 #[derive(Clone, Copy, Debug, Drop, Error, PartialEq, Eq)]
 pub enum ValueError {
     /// `yaml_from_json` refuses the text, or an allocation failed: `Emitter` with `Memory`.
@@ -14,7 +14,7 @@ pub enum ValueError {
     NotInteger { line: usize, column: usize },
 }
 
-/// Why the walk stops.
+/// The reason why the walk stops.
 #[derive(Clone, Copy, Debug, Drop)]
 pub(crate) enum Stop {
     /// The token can't stand here, or one is missing.

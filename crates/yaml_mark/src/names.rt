@@ -20,7 +20,7 @@ pub fn analyze_version(version: yaml_version_directive_t) -> Result<(), yaml_err
     }
 }
 
-/// What a name is given to.
+/// The kind of a name, by what it is given to.
 #[derive(Clone, Copy, PartialEq, Eq, Debug)]
 pub enum Name {
     /// A node.

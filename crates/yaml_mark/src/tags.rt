@@ -1,4 +1,4 @@
-//! How a tag is spelled by the directives in force (YAML 1.1, sections 7.1.2 and 8.2).
+//! The spelling of a tag by the directives in force (YAML 1.1, sections 7.1.2 and 8.2).
 ghost use Rattle.std.specs.Prelude.{◌≡◌, Option, IfOk, is_some, position, string_bytes, chars};
 ghost use Rattle.yaml_base.specs.Errors.{refused};
 ghost use Rattle.yaml_base.specs.Tags.{spelling, tag_fault, behind};
@@ -8,7 +8,7 @@ use super::directives::Directives;
 use std::alloc::Allocator;
 use yaml_base::yaml_error_t;
 
-/// Where a tag is cut: into a directive's prefix, for which its handle is written, and the rest; or not at all.
+/// The division of a tag, if any, into a directive's prefix, for which its handle is written, and the rest.
 #[derive(Clone, Copy, PartialEq, Eq, Debug)]
 pub struct tag_t {
     /// The number of the directive, from 0 on; none for a tag that is written whole (verbatim).

@@ -14,7 +14,7 @@ use std::alloc::Allocator;
 use yaml_base::{hex_digit, yaml_error_t};
 use yaml_pen::{Indicator, Pen};
 
-/// What becomes of the flow indicators `,` `[` `]` in a tag.
+/// The treatment of the flow indicators `,` `[` `]` in a tag.
 #[derive(Clone, Copy)]
 enum FlowIndicators {
     /// They stand as themselves.

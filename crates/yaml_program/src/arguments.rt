@@ -1,4 +1,4 @@
-//! What a program's arguments ask for.
+//! The conversion that a program's arguments ask for.
 ghost use Rattle.std.specs.Prelude.{◌≡◌, ◌&&◌, IfOk, not};
 ghost use Rattle.yaml_emitter.specs.Given.{is_double};
 ghost use Rattle.yaml_program.specs.Options.{AreCommonSettings, AreWriterSettings};
@@ -12,26 +12,26 @@ use std::rt::Runtime;
 use std::{env, io};
 use yaml_writer::{Quotes, Settings, value_settings};
 
-/// How deep collections may nest where no option says it.
+/// The maximum nesting depth of collections where no option says it.
 const DEFAULT_DEPTH: usize = 1_000;
 
 /// The settings that every format has.
 #[derive(Clone, Copy)]
 pub struct CommonSettings {
-    /// How the writer writes.
+    /// The settings of the writer.
     pub writer: Settings,
     /// Collections stand in flow.
     pub flow: bool,
-    /// How deep collections may nest.
+    /// The maximum nesting depth of collections.
     pub depth: usize,
 }
 
-/// What is written, where and how.
+/// A conversion: what is written, where and how.
 #[derive(Drop)]
 pub struct Conversion<'a, F> {
-    /// What the files hold, with the settings by which it is written.
+    /// The format that the files hold, with the settings by which it is written.
     pub format: F,
-    /// What stands in comments before the stream.
+    /// The text that stands in comments before the stream.
     pub heading: Option<&'a str>,
     /// Nothing is written: what is there is compared.
     pub checks: bool,

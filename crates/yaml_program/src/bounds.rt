@@ -1,10 +1,10 @@
-//! How deep collections may nest, by the settings.
+//! The nesting depth of collections that the settings allow.
 ghost use Rattle.std.specs.Prelude.{◌≡◌};
 ghost use Rattle.yaml_program.specs.Bounds as bounds;
 
 use crate::arguments::CommonSettings;
 
-/// How deep collections may nest where lines are indented by their depth.
+/// The maximum nesting depth of collections where lines are indented by their depth.
 const MOST_INDENTED: usize = 10_000;
 
 /// Returns whether collections may nest as deep as the settings say. Where lines are indented, the output grows with the square of the

@@ -1,4 +1,4 @@
-//! What is there, compared with what would be written.
+//! The comparison of a file with what would be written to it.
 ghost use Rattle.std.specs.Prelude.{◌≡◌, ◌≤◌};
 ghost use Rattle.yaml_program.specs.Conversions.{HaveYaml, IsThere, OfFiles, heading_of, names_of};
 

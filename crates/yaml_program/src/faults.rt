@@ -1,4 +1,4 @@
-//! What goes wrong, what the program says of it, and its status.
+//! The failures of a program, its words for them, and its status.
 ghost use Rattle.std.specs.Prelude.{◌≡◌, ◌≤◌, IsOk, false};
 ghost use Rattle.yaml_program.specs.Faults as statuses;
 
@@ -8,12 +8,12 @@ use std::io::{ErrorKind, Write};
 use std::{fmt, io};
 use yaml_writer::yaml_error_t;
 
-/// What is wrong with a text.
+/// The reason why a text is refused.
 #[derive(Drop)]
 pub enum Reason {
     /// It is this.
     Words(&'static str),
-    /// What has this name is there a second time; for the first time it is at this line and column.
+    /// A second definition of this name; the first is at this line and column.
     Twice {
         name: String,
         line: usize,
@@ -35,7 +35,7 @@ impl fmt::Display for Reason {
     }
 }
 
-/// Why files aren't written as YAML to their end.
+/// The reason why files aren't written as YAML to their end.
 #[derive(Drop)]
 pub enum Failure {
     /// A text is refused, at this line and column, or as a whole.
@@ -51,10 +51,10 @@ pub enum Failure {
     WriteFailed(io::Error),
 }
 
-/// What is reported where no memory is left.
+/// The failure that is reported where no memory is left.
 pub const NO_MEMORY: Failure = Failure::Unwritten(yaml_error_t::Memory);
 
-/// Where a program says what goes wrong.
+/// The output on which a program says what goes wrong.
 #[derive(Drop)]
 pub struct Messages<W> {
     pub words: &'static Wording,

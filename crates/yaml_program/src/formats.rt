@@ -1,4 +1,4 @@
-//! What a program converts.
+//! The formats that a program converts.
 ghost use Rattle.std.specs.Prelude.{◌≡◌, ℕ, Bool, List, OnOk, map};
 ghost use Rattle.yaml_program.specs.Conversions.{OfNames, WroteStream};
 

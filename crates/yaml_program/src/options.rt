@@ -106,7 +106,7 @@ fn files_argument<'a>(alloc: Global, words: &Wording) -> Arg<'a> {
         .num_args(0..)
 }
 
-/// What has a value, or depends on what else is there.
+/// An argument that has a value, or depends on what else is there.
 enum Setting {
     Output,
     Each,

@@ -7,10 +7,10 @@ use std::os::unix::fs::MetadataExt;
 use std::path::Path;
 use std::{fs, io};
 
-/// How many runs can write the same file at once.
+/// The maximum number of runs that can write the same file at once.
 const MOST_NAMES: u32 = 20;
 
-/// How many links are followed, one after another, as by the system.
+/// The maximum number of links that are followed, one after another, as by the system.
 const MOST_LINKS: u32 = 40;
 
 /// The system's number of the error that there are more (`ELOOP`).

@@ -19,11 +19,11 @@ use std::os::fd::AsFd;
 use std::rt::Runtime;
 use std::{fs, io};
 
-/// What is said where collections can't nest as deep as is asked for. (Its number is `MOST_INDENTED`.)
+/// The message where collections can't nest as deep as is asked for. (Its number is `MOST_INDENTED`.)
 const DEPTH_REFUSED: &str =
     "--depth past 10000 needs --flow, and neither --width nor --canonical: else the output grows with the square of the depth";
 
-/// What is said where there is nothing to compare with.
+/// The message where there is nothing to compare with.
 const CHECK_REFUSED: &str = "--check needs --each, or --output with a file";
 
 /// Writes what is to be converted to a file, which appears whole or not at all.
@@ -75,8 +75,8 @@ fn send<'a, F: Format, S: Sources + AllocGlobal>(
     }
 }
 
-/// Where standard input is to be read, says on a terminal that the program waits for what is typed, and returns the system's error if it
-/// is closed. (A file that is opened before that is noticed has the number of standard input, and would be read in its place.)
+/// Checks standard input where it is to be read: says on a terminal that the program waits for what is typed, and returns the system's
+/// error if it is closed. (A file that is opened before that is noticed has the number of standard input, and would be read in its place.)
 fn check_stream<F, I: IsTerminal + AsFd, W: Write>(
     conversion: &Conversion<'_, F>,
     stdin: &I,

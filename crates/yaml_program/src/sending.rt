@@ -1,4 +1,4 @@
-//! What is sent on of files: a heading, and their YAML.
+//! The output of files, sent on: a heading, and their YAML.
 ghost use Rattle.std.specs.Prelude.{OnOk, option_map};
 ghost use Rattle.std.specs.Io.KnownBytes.{Appends};
 ghost use Rattle.yaml_program.specs.Conversions.{HaveYaml, OfFiles, WroteFiles, heading_bytes, heading_of};
@@ -10,7 +10,7 @@ use crate::sources::Sources;
 use std::io::{BufWriter, Write};
 use yaml_writer::comment_lines;
 
-/// How many bytes are written at once.
+/// The number of bytes that are written at once.
 const BUFFER_SIZE: usize = 65_536;
 
 /// Sends on the lines of a heading, if there is one.

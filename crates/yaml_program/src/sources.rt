@@ -1,4 +1,4 @@
-//! What the program reads.
+//! The files and streams that the program reads.
 ghost use Rattle.std.specs.Prelude.{◌≡◌, ℕ, List, Option, None, Some, IfOk, IfSome};
 
 use std::fs::File;
@@ -8,7 +8,7 @@ use std::io::{Read, Stdin};
 /// The name that means standard input, or standard output for the file that is written.
 pub const STREAM: &str = "-";
 
-/// Where files are, by name.
+/// A source of files, by name.
 pub trait Sources {
     // The bytes that a name stands for, where they are known.
     ghost bytes_of: { Self → List ℕ → Option (List ℕ) } = { λ _ _. None };

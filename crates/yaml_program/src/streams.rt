@@ -1,4 +1,4 @@
-//! What is sent on of some files: their YAML, one after another, as one stream.
+//! The YAML of some files, sent on one after another as one stream.
 ghost use Rattle.std.specs.Prelude.{◌≡◌, ℕ, List, Some, OnOk, false, map};
 ghost use Rattle.yaml_writer.specs.Writing.{awaits_node};
 ghost use Rattle.yaml_program.specs.Conversions.{AreBytesOf, OfNames};
@@ -10,7 +10,7 @@ use std::alloc::Global;
 use std::io::Write;
 use yaml_writer::{Settings, Writer};
 
-/// What gives the YAML of a file to a writer.
+/// A format that gives the YAML of a file to a writer.
 pub trait SendsFile {
     // What is sent on of a file.
     ghost sent: { Self → Sending };

@@ -1,12 +1,12 @@
-//! What a program is called, and what its help says.
+//! A program's name, and the words of its help.
 
-/// What a program is called, what it reads, and what its help says of its arguments, in a line and at length. The macro `wording` makes
-/// one.
+/// The words of a program: what it is called, what it reads, and what its help says of its arguments, in a line and at length. The macro
+/// `wording` makes them.
 #[derive(Clone, Copy)]
 pub struct Wording {
     /// The program's name.
     pub name: &'static str,
-    /// What its texts are, as `JSON`.
+    /// The format of its texts, as `JSON`.
     pub format: &'static str,
     pub about: &'static str,
     pub files: &'static str,

@@ -1,4 +1,4 @@
-//! What follows a word or a character at a text's beginning.
+//! The rest of a text behind a word or a character at its beginning.
 ghost use Rattle.std.specs.Prelude.{◌≡◌, ◌++◌, ◌+◌, ◌*◌, ◌<◌, ◌≤◌, IfErr, IfOk, IfSome, MatchOption, encode_utf8, length, replicate};
 ghost use Rattle.yaml_base.specs.Characters.{space};
 ghost use Rattle.yaml_base.specs.values.ValueText.{line_at};

@@ -1,4 +1,4 @@
-//! Why bytes aren't read.
+//! The reasons why bytes aren't read.
 ghost use Rattle.std.specs.Prelude.{◌≡◌};
 ghost use Rattle.yaml_read.specs.Places.{IsHere, IsWholeWord};
 ghost use Rattle.yaml_read.specs.RunPlaces.{IsWithin};
@@ -7,7 +7,7 @@ ghost use Rattle.yaml_read.specs.declared.errors.Stop.TheVariants as stop;
 use std::alloc::AllocError;
 use thiserror::Error;
 
-/// Why bytes aren't read. Lines end with LF, and lines and columns count from 1, columns in characters.
+/// The reason why bytes aren't read. Lines end with LF, and lines and columns count from 1, columns in characters.
 #[derive(Clone, Copy, Debug, Drop, Error, PartialEq, Eq)]
 pub enum ReadError {
     /// They are no value's canonical bytes. The first word that can't stand where it stands begins here: a tag, a bracket,
@@ -28,7 +28,7 @@ pub enum ReadError {
     Memory,
 }
 
-/// Why the reader stops.
+/// The reason why the reader stops.
 #[derive(Clone, Copy, Drop)]
 pub(crate) enum Stop {
     /// The word so many bytes before the end can't stand there.

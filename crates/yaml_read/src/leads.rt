@@ -1,4 +1,4 @@
-//! What stands before an event of a document.
+//! The text before an event of a document.
 ghost use Rattle.std.specs.Prelude.{◌≡◌, ◌∷◌, ◌++◌, ◌*◌, [], List, MatchOption, length};
 ghost use Rattle.yaml_base.specs.values.ValueText.{line_at};
 ghost use Rattle.yaml_read.specs.Awaits.{EntryStands, IsInnermostAwait, IsLastAwait, LeadStands, seen_await};
@@ -9,7 +9,7 @@ use crate::errors::Stop;
 use crate::levels::Entry;
 use std::alloc::Allocator;
 
-/// What a sequence or a mapping that is open awaits.
+/// The part that an open sequence or mapping awaits.
 #[derive(Clone, Copy)]
 pub(crate) enum Await {
     /// Its first item, or its end.

@@ -1,4 +1,4 @@
-//! How the nodes of a document begin.
+//! The beginnings of a document's nodes.
 ghost use Rattle.std.specs.Prelude.{◌≡◌, ◌++◌, [], true, false, None, Some, IfOk, IsTrue, bytes_eq, chars, nat_lt, option_map};
 ghost use Rattle.std.specs.List.{list_all};
 ghost use Rattle.std.specs.Str.{all_scalars, encode_utf8_all};

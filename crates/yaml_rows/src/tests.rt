@@ -66,7 +66,7 @@ fn repeated(rt: &impl Abort, alloc: Global, text: &str, count: usize) -> String 
 /// Settings, and rows that come after them; with each of these settings, where `;` stands between some.
 type Rows<'a> = &'a [(&'a str, &'a str)];
 
-/// What the signs in a row mean.
+/// The meanings of the signs in a row.
 const SIGNS: &[(char, &str)] = &[
     ('↵', "\n"),
     ('␍', "\r"),

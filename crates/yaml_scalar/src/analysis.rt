@@ -29,7 +29,7 @@ pub struct scalar_data_t {
     pub block_allowed: bool,
 }
 
-/// What may stand as itself.
+/// The characters that may stand as themselves.
 #[derive(Clone, Copy)]
 pub(crate) struct CharacterSet {
     pub(crate) unicode: bool,
@@ -54,7 +54,7 @@ const NOTHING_BARRED: BarredStyles = BarredStyles {
     block: false,
 };
 
-/// Where plain text stands.
+/// The place where plain text stands.
 #[derive(Clone, Copy)]
 enum Context {
     /// In a flow collection.

@@ -1,4 +1,4 @@
-//! What literal text takes where blanks are literal.
+//! The blanks that literal text takes where blanks are literal.
 ghost use Rattle.std.specs.Prelude.{◌≡◌, ◌&&◌, not};
 ghost use Rattle.std.specs.Str.{chars};
 ghost use Rattle.yaml_base.specs.scalars.Analysis as spec;

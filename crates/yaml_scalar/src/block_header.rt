@@ -12,7 +12,7 @@ use std::alloc::Allocator;
 use yaml_base::{is_blank, is_break, yaml_error_t};
 use yaml_pen::{Indicator, Pen};
 
-/// How the lines of a block scalar stand.
+/// The style of the lines of a block scalar.
 #[derive(Clone, Copy)]
 pub(crate) enum BlockStyle {
     /// As they are.
@@ -21,7 +21,7 @@ pub(crate) enum BlockStyle {
     Folded,
 }
 
-/// How a value ends.
+/// The ending of a value.
 #[derive(Clone, Copy)]
 enum Ending {
     WithoutBreak,

@@ -20,7 +20,7 @@ use std::alloc::Allocator;
 use yaml_base::{is_break, is_space, yaml_error_t};
 use yaml_pen::Pen;
 
-/// Where a character stands: where a line begins, in a line that may be folded, or in one that may not.
+/// The place of a character: where a line begins, in a line that may be folded, or in one that may not.
 #[derive(Clone, Copy)]
 pub(crate) enum Place {
     LineStart,
@@ -28,7 +28,7 @@ pub(crate) enum Place {
     Fixed,
 }
 
-/// How the lines of a block scalar are written: each after `indent` spaces; a folded one is cut past `width`, unless it
+/// The layout of the lines of a block scalar: each is written after `indent` spaces; a folded one is cut past `width`, unless it
 /// begins with a space.
 #[derive(Clone, Copy)]
 pub(crate) struct BlockLines {

@@ -24,7 +24,7 @@ use std::alloc::Allocator;
 use yaml_base::{is_space, yaml_error_t};
 use yaml_pen::{Indicator, Pen};
 
-/// How a double-quoted scalar is rendered.
+/// The settings by which a double-quoted scalar is rendered.
 #[derive(Clone, Copy)]
 struct Quoting {
     allow_breaks: bool,

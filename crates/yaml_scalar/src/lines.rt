@@ -21,7 +21,7 @@ use std::alloc::Allocator;
 use yaml_base::{is_break, is_space, yaml_error_t};
 use yaml_pen::Pen;
 
-/// What a run is made of.
+/// The kind of character that a run is made of.
 #[derive(Clone, Copy)]
 pub(crate) enum CharacterKind {
     Space,
@@ -29,14 +29,14 @@ pub(crate) enum CharacterKind {
     Other,
 }
 
-/// What is known of a value before it is written: nothing, or that it is simple ASCII.
+/// The facts that are known of a value before it is written: none, or that it is simple ASCII.
 #[derive(Clone, Copy)]
 pub(crate) enum Known {
     Nothing,
     SimpleAscii,
 }
 
-/// How lines are rendered: between quotes each `'` is written twice; a fold may stand where breaks are allowed
+/// The rules by which lines are rendered: between quotes each `'` is written twice; a fold may stand where breaks are allowed
 /// and the column is past the width; later lines are indented. What is known of the value spares a look at it.
 #[derive(Clone, Copy)]
 pub(crate) struct Lines {

@@ -13,7 +13,7 @@ pub(crate) struct Run {
     pub(crate) last: char,
 }
 
-/// What ends a run of a line, besides a break: a space, a `'`.
+/// The characters that end a run of a line, besides a break: a space, a `'`.
 #[derive(Clone, Copy)]
 pub(crate) struct RunEnds {
     pub(crate) space: bool,

@@ -1,4 +1,4 @@
-//! What the writers of scalars share.
+//! Functions that the writers of scalars share.
 ghost use Rattle.std.specs.Prelude.{◌≡◌};
 ghost use Rattle.yaml_base.specs.Cursor.{is_past_width};
 ghost use Rattle.yaml_scalar.specs.WholeRuns.{has_limit};

@@ -11,7 +11,7 @@ use yaml_base::{
     yaml_error_t, yaml_scalar_style_t,
 };
 
-/// Where a scalar stands.
+/// The place where a scalar stands.
 #[derive(Clone, Copy)]
 struct Context {
     flow: bool,

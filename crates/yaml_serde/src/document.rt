@@ -13,12 +13,12 @@ use std::io::Write;
 use std::marker::{Brand, PhantomData};
 use yaml_writer::{Writer, YAML_BLOCK_MAPPING_STYLE, YAML_BLOCK_SEQUENCE_STYLE, yaml_error_t};
 
-/// What stood before a document, which its type names.
+/// A type that names what stood before a document.
 pub(crate) trait Given {
     ghost outside: { Outside };
 }
 
-/// What a value is written to, by the state of its writer.
+/// A target that a value is written to, by the state of its writer.
 pub(crate) trait Target {
     ghost state: { Self → WriterState };
 
@@ -51,7 +51,7 @@ impl Given for Brand {
 pub(crate) struct Document<'w, 'a, G: Given, W: Write> {
     writer: &'w mut Writer<Global>,
     outlet: Outlet<'a, W>,
-    /// How many collections of the writer are no part of the document.
+    /// The number of the writer's collections that are no part of the document.
     base: usize,
     marker: PhantomData<G>,
     ghost stands: { Stands W.contents G.outside outlet base writer.now },

@@ -1,4 +1,4 @@
-//! Why a value isn't written, and where in it.
+//! The reasons why a value isn't written, with the place in it.
 ghost use Rattle.std.specs.Prelude.{◌≡◌};
 ghost use Rattle.yaml_serde.specs.Outlets.{without_path};
 
@@ -6,8 +6,8 @@ use std::alloc::{AllocError, AllocFailed};
 use std::{fmt, io};
 use yaml_writer::yaml_error_t;
 
-/// Why a value isn't written, and where in it. `Display` prints the path, a colon and the cause; where there is no path, the
-/// cause alone.
+/// The reason why a value isn't written, and the place in it. `Display` prints the path, a colon and the cause; where there is no path,
+/// the cause alone.
 #[derive(Debug, Drop)]
 pub struct Error {
     pub cause: Cause,
@@ -19,13 +19,13 @@ pub struct Error {
     pub path: Option<String>,
 }
 
-/// Why a value isn't written.
+/// The reason why a value isn't written.
 #[derive(Debug, Drop)]
 pub enum Cause {
     /// The emitter's error: `TooDeep`, `WriteError`, that of a `Serialize` by hand that writes no value, several, or a
     /// variant's name without its data, or an error that the writer had before.
     Emitter(yaml_error_t),
-    /// What the value's own `serialize` says.
+    /// The message of the value's own `serialize`.
     Custom(String),
     /// A node would have two tags: the data of a variant with a tag is a variant with data, or bytes.
     TwoTags,

@@ -1,4 +1,4 @@
-//! Where the bytes of a document go.
+//! The destination of a document's bytes.
 ghost use Rattle.std.specs.Prelude.{◌≡◌};
 ghost use Rattle.yaml_serde.specs.Outlets.{HandsOn};
 
@@ -19,7 +19,7 @@ pub(crate) enum Handing {
     Failed(io::Error),
 }
 
-/// Where the bytes of a document go.
+/// The destination of a document's bytes.
 #[derive(Drop)]
 pub(crate) struct Outlet<'a, W> {
     pub(crate) sink: &'a mut W,

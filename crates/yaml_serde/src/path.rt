@@ -5,7 +5,7 @@ use std::alloc::{AllocError, Global};
 use std::fmt::{Display, Write};
 use std::str;
 
-/// What a level of the path is.
+/// The kind of a level of the path.
 #[derive(Clone, Copy)]
 pub(crate) enum LevelKind {
     Sequence,
@@ -14,7 +14,7 @@ pub(crate) enum LevelKind {
     Unwritten,
 }
 
-/// What leads from a level to the node that is written next.
+/// The step from a level to the node that is written next.
 #[derive(Clone, Copy)]
 enum Step {
     /// Nothing: it has no entry, or the entry is whole.
@@ -33,7 +33,7 @@ enum Step {
 struct Level {
     kind: LevelKind,
     step: Step,
-    /// Where its key begins among the bytes of all keys.
+    /// The place where its key begins among the bytes of all keys.
     start: usize,
 }
 

@@ -15,7 +15,7 @@ use serde::{Case, NameKind, Serialize, Serializer};
 use std::alloc::{AllocError, Global};
 use std::fmt::Display;
 
-/// What the next call is about.
+/// The subject of the next call.
 #[derive(Clone, Copy)]
 enum Next {
     /// A node.

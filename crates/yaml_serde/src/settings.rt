@@ -1,11 +1,11 @@
-//! How values are serialized.
+//! The settings for serializing values.
 ghost use Rattle.std.specs.Prelude.{◌≡◌};
 ghost use Rattle.yaml_emitter.specs.Given.{seen_settings};
 ghost use Rattle.yaml_writer.specs.Given.{given_for_values};
 
 use yaml_writer::{Settings, value_settings};
 
-/// How a variant with data is written. One without data is its name, a text.
+/// The form in which a variant with data is written. One without data is its name, a text.
 #[derive(Clone, Copy, PartialEq, Eq, Debug)]
 pub enum Variants {
     /// Its data, with its name as a local tag: `!Circle 2`.
@@ -14,12 +14,12 @@ pub enum Variants {
     OneKeyMap,
 }
 
-/// How values are serialized.
+/// The settings for serializing values.
 #[derive(Clone, Copy, PartialEq, Eq, Debug)]
 pub struct SerdeSettings {
-    /// How the writer writes.
+    /// The settings of the writer.
     pub writer: Settings,
-    /// How a variant with data is written.
+    /// The form of a variant with data.
     pub variants: Variants,
 }
 

@@ -9,7 +9,7 @@ use std::cell::Cell;
 /// Passes each call on to another allocator, but for one growth, which it refuses.
 pub struct Refusing<A: Allocator> {
     inner: A,
-    /// How many growths there are up to the one to be refused; with 0 none is.
+    /// The number of growths up to the one to be refused; with 0 none is.
     left: Cell<usize>,
 }
 

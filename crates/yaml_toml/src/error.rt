@@ -1,8 +1,8 @@
-//! Why a text isn't written as YAML.
+//! The reasons why a text isn't written as YAML.
 use thiserror::Error;
 use yaml_writer::yaml_error_t;
 
-/// Why a text isn't written as YAML. Lines end with LF, and lines and columns count from 1, columns in characters.
+/// The reason why a text isn't written as YAML. Lines end with LF, and lines and columns count from 1, columns in characters.
 #[derive(Debug, Drop, Error)]
 pub enum TomlError {
     /// The text is no TOML: it can't go on here. So it is where a key has more than 80 parts, or arrays and tables in braces nest

@@ -1,10 +1,10 @@
-//! How TOML is written as YAML.
+//! The settings for writing TOML as YAML.
 use yaml_writer::{Settings, value_settings};
 
-/// How TOML is written as YAML.
+/// The settings for writing TOML as YAML.
 #[derive(Clone, Copy, PartialEq, Eq, Debug)]
 pub struct TomlSettings {
-    /// How the writer writes.
+    /// The settings of the writer.
     pub writer: Settings,
     /// Arrays and tables stand in flow; else in blocks, where they aren't empty.
     pub flow: bool,

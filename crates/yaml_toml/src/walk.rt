@@ -19,7 +19,7 @@ use yaml_writer::{
     YAML_FLOW_MAPPING_STYLE, YAML_FLOW_SEQUENCE_STYLE, yaml_error_t,
 };
 
-/// Why a document isn't written.
+/// The reason why a document isn't written.
 #[derive(Clone, Copy)]
 pub(crate) enum Stop {
     /// Arrays and tables nest too deep.
@@ -28,7 +28,7 @@ pub(crate) enum Stop {
     Failed(yaml_error_t),
 }
 
-/// What is left of an array or a table that is open.
+/// The rest of an array or a table that is open.
 #[derive(Clone, Copy)]
 pub(crate) enum Rest<'a> {
     Items(&'a [Node]),

@@ -1,4 +1,4 @@
-//! How a run ends: its result, its exit status, and its line on standard error.
+//! The end of a run: its result, its exit status, and its line on standard error.
 ghost use Rattle.std.specs.Prelude.{◌≡◌, IsOk, OnOk, Some};
 ghost use Rattle.std.specs.Io.KnownBytes.{Appends};
 ghost use Rattle.yaml_tool.specs.Answers.{fault_text, answer_line, status_of};
@@ -8,7 +8,7 @@ use std::{fmt, io};
 use thiserror::Error;
 use yaml_base::yaml_error_t;
 
-/// How a run ended.
+/// The outcome of a run.
 #[derive(Clone, Copy, PartialEq, Eq, Debug)]
 pub enum run_answer_t {
     /// The whole stream was written.
@@ -37,7 +37,7 @@ pub fn status(answer: &run_answer_t) -> u8
     }
 }
 
-/// What went wrong in a run.
+/// An error in a run.
 #[derive(Drop, Error)]
 enum Fault {
     Refused(u64, yaml_error_t),

@@ -15,7 +15,7 @@ use std::alloc::{AllocError, Allocator};
 use std::str;
 use yaml_base::yaml_event_t;
 
-/// What a line says.
+/// The meaning of a line.
 #[derive(Drop)]
 pub enum Line<A: Allocator> {
     /// Nothing: it is empty or a comment.

@@ -18,7 +18,7 @@ const PART_SIZE: usize = 16_384;
 /// A script of which a prefix was read.
 #[derive(Drop)]
 struct ScriptPrefix<A: Allocator> {
-    /// What the lines before the last say.
+    /// The settings and events of the lines before the last.
     progress: Progress<A>,
     /// The last line's number.
     number: u64,

@@ -32,7 +32,7 @@ pub struct Script<A: Allocator> {
     pub events: Vec<NumberedEvent<A>, A>,
 }
 
-/// Why a script was not understood.
+/// The reason why a script was not understood.
 #[derive(Clone, Copy, PartialEq, Eq, Debug)]
 pub enum ScriptError {
     /// Its first bad line, counted from 1.

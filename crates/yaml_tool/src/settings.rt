@@ -1,4 +1,4 @@
-//! What a script sets before its first event.
+//! The settings of a script before its first event.
 ghost use Rattle.std.specs.Prelude.{◌≡◌, map, option_map};
 ghost use Rattle.std.specs.List.{list_any};
 ghost use Rattle.std.specs.Str.{chars};

@@ -1,4 +1,4 @@
-//! How many values a value holds, and how deep they lie.
+//! The number of values that a value holds, and their depth.
 ghost use Rattle.std.specs.Prelude.{◌≡◌, ◌+◌, ◌++◌, ◌<◌, ◌≤◌, min, nat_le, map, true, false, length};
 ghost use Rattle.yaml_base.specs.values.TypedValues.{most_nested, nesting, value_count, value_pairs_count, values_count};
 ghost use Rattle.yaml_value.specs.SeenValues.{seen_value, seen_values, seen_pairs};

@@ -8,7 +8,7 @@ use crate::value::Value;
 use std::alloc::{AllocError, Allocator};
 use yaml_base::{YAML_MAPPING_END_EVENT, YAML_SEQUENCE_END_EVENT, yaml_event_t};
 
-/// What is left of a list or a map that was entered.
+/// The rest of a list or a map that was entered.
 #[derive(Clone, Copy)]
 pub(crate) enum Rest<'a, A: Allocator> {
     Items(&'a [Value<A>]),

@@ -29,7 +29,7 @@ fn same(rt: &impl Abort, got: &[u8], wanted: &str) {
     equal(rt, &got, &wanted.as_bytes());
 }
 
-/// What a call that writes gives: a text, or why there is none.
+/// The answer of a call that writes: a text, or why there is none.
 type Answer<'a> = Result<&'a str, yaml_error_t>;
 
 fn writer(rt: &impl Abort, alloc: Global, settings: Settings) -> Writer<Global> {

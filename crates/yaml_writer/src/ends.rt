@@ -2,7 +2,7 @@
 ghost use Rattle.std.specs.Prelude.{◌≡◌};
 ghost use Rattle.yaml_writer.specs.Writing as writing;
 
-/// How the end of a document is written.
+/// The way in which the end of a document is written.
 #[derive(Clone, Copy, PartialEq, Eq, Debug)]
 pub enum DocumentEnd {
     /// Not at all: what follows tells it, another document or the end of the stream.

@@ -5,7 +5,7 @@ ghost use Rattle.yaml_writer.specs.Headings as heading;
 use std::alloc::{AllocError, Allocator};
 use yaml_base::{is_break, is_printable};
 
-/// Where a character of a comment stands.
+/// The place in a line where a character of a comment stands.
 #[derive(Clone, Copy)]
 enum LineSpot {
     Start,

@@ -1,4 +1,4 @@
-//! What values are written by.
+//! The settings by which values are written.
 ghost use Rattle.std.specs.Prelude.{◌≡◌};
 ghost use Rattle.yaml_emitter.specs.Given.{seen_settings};
 ghost use Rattle.yaml_writer.specs.Given.{given_for_values};

@@ -4,7 +4,7 @@ ghost use Rattle.yaml_writer.specs.Times as times;
 
 use crate::numbers::Sign;
 
-/// How far a clock is from that of UTC: less than a day. A plus is east of it, where a clock shows a later time.
+/// The offset of a clock from that of UTC: less than a day. A plus is east of it, where a clock shows a later time.
 #[derive(Clone, Copy, PartialEq, Eq, Debug)]
 pub struct Offset {
     pub sign: Sign,

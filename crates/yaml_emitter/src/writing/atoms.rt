@@ -21,7 +21,7 @@ use yaml_mark::{
 };
 use yaml_pen::Pen;
 
-/// What is written at a place.
+/// A piece that is written at a place.
 #[derive(Clone, Copy)]
 pub(crate) enum Atom<'a> {
     Nothing,
@@ -37,7 +37,7 @@ pub(crate) enum Atom<'a> {
     Handle(&'a str),
     /// Of a verbatim tag.
     TagText(&'a str),
-    /// What stands after a tag's handle.
+    /// The text that stands after a tag's handle.
     Suffix(&'a str),
     /// Of a `%TAG` directive, a space before it where one is needed.
     Prefix(&'a str),

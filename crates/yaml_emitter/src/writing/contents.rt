@@ -1,4 +1,4 @@
-//! What events hold, borrowed.
+//! The contents of events, borrowed.
 
 ghost use Rattle.std.specs.Prelude.{◌≡◌, ◌||◌, ◌&&◌, not, option_map};
 ghost use Rattle.yaml_base.specs.Event.{CollectionStyle};
@@ -9,7 +9,7 @@ ghost use Rattle.yaml_emitter.specs.BorrowedTexts.{seen_name, seen_collection, s
 use std::alloc::Allocator;
 use yaml_base::yaml_scalar_style_t;
 
-/// What a scalar's event holds, its texts borrowed.
+/// The contents of a scalar's event, its texts borrowed.
 #[derive(Clone, Copy)]
 pub struct ScalarContent<'a> {
     /// Its name.
@@ -22,11 +22,11 @@ pub struct ScalarContent<'a> {
     pub plain_implicit: bool,
     /// The tag may be left out in any other style.
     pub quoted_implicit: bool,
-    /// How it is to be written.
+    /// The style in which it is to be written.
     pub style: yaml_scalar_style_t,
 }
 
-/// What a collection's start holds, but for its style.
+/// The contents of a collection's start, but for its style.
 #[derive(Clone, Copy)]
 pub(crate) struct CollectionContent<'a> {
     pub anchor: Option<&'a str>,

@@ -1,4 +1,4 @@
-//! What stands before a document's root: `%YAML`, `%TAG` and `---` (YAML 1.1, sections 7.1 and 7.2).
+//! The lines before a document's root: `%YAML`, `%TAG` and `---` (YAML 1.1, sections 7.1 and 7.2).
 
 ghost use Rattle.std.specs.Prelude.{◌≡◌, ◌||◌, ◌&&◌, option_map, is_some, map, chars, not, false};
 ghost use Rattle.std.specs.List.{list_any};
@@ -25,7 +25,7 @@ use std::alloc::Allocator;
 use yaml_base::{yaml_error_t, yaml_tag_directive_t, yaml_version_directive_t};
 use yaml_pen::Pen;
 
-/// What a document's start holds.
+/// The contents of a document's start.
 #[derive(Drop)]
 pub(crate) struct StartContent<'a, A: Allocator> {
     pub version: Option<yaml_version_directive_t>,

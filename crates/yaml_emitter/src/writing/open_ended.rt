@@ -4,7 +4,7 @@ ghost use Rattle.std.specs.Prelude.{◌≡◌, ◌==◌, pos, not, if◌then◌e
 ghost use Rattle.yaml_base.specs.scalars.BlockHeader.{Ending, ending_open_ended};
 ghost use Rattle.yaml_emitter.specs.WrittenPieces.{seen_open_ended};
 
-/// What an explicit `...` would have to close.
+/// The construct that an explicit `...` would have to close.
 #[derive(Clone, Copy)]
 pub(crate) enum OpenEnded {
     /// Nothing.

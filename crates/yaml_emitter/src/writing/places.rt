@@ -1,4 +1,4 @@
-//! What a place puts before its node, and what a collection's end writes.
+//! The text that a place puts before its node, and that of a collection's end.
 
 ghost use Rattle.std.specs.Prelude.{◌≡◌, ◌≤◌, true, false};
 ghost use Rattle.yaml_base.specs.Cursor.{Cursor, new_line, render_then};

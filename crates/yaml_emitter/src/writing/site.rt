@@ -1,4 +1,4 @@
-//! Where and how a node is written.
+//! The place and the style in which a node is written.
 
 use crate::effective::EffectiveSettings;
 use crate::place::Place;

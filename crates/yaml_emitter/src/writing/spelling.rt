@@ -1,4 +1,4 @@
-//! How a tag is spelled by the directives in force (YAML 1.1, section 8.2).
+//! The spelling of a tag by the directives in force (YAML 1.1, section 8.2).
 
 ghost use Rattle.std.specs.Prelude.{◌≡◌, chars, option_map};
 ghost use Rattle.yaml_base.specs.Tags.{spelling};

@@ -16,7 +16,7 @@ use yaml_base::yaml_error_t;
 /// A piece of punctuation, or a word of a line of its own, with what it asks of the cursor and leaves behind.
 #[derive(Clone, Copy)]
 pub struct Indicator<'a> {
-    /// What is written. It holds no break.
+    /// The text that is written. It holds no break.
     pub text: &'a str,
     /// A space comes before it where no white space stands there.
     pub needs_space: bool,

@@ -48,7 +48,7 @@ pub(super) fn begun(rt: &impl Abort, alloc: Global) -> Pen<Global>
     begun_within(rt, alloc, usize::MAX, YAML_LN_BREAK)
 }
 
-/// How scalars are written.
+/// The settings by which scalars are written.
 #[derive(Drop)]
 struct Layout {
     unicode: bool,

@@ -133,7 +133,7 @@ fn the_first_bad_line_is_reported(rt: HostRuntime) {
     check_bad_line(&rt, rt.alloc(), b"+STR any\n# \xFF", 2);
 }
 
-/// How a run ends, with its status and its line.
+/// The end of a run, with its status and its line.
 type End<'a> = (run_answer_t, u8, &'a str);
 
 const ENDS: &[End] = &[

@@ -1,4 +1,4 @@
-//! Where in a value an error arises.
+//! The path in a value to where an error arises.
 use crate::tests::equal;
 use crate::tests::serialized::{ByHand, Color, Holder, Wrong, check_refused, map_of};
 use serde::Serialize;
@@ -28,7 +28,7 @@ struct Step<'a> {
     with: ByHand<'a>,
 }
 
-/// What is no value, and says so.
+/// An example that is no value, and says so.
 const COMPLAINT: ByHand<'static> = ByHand::Values(0, Some("not today"));
 
 /// A value as others.

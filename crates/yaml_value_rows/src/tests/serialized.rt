@@ -130,7 +130,7 @@ fn integers_have_up_to_128_bits(rt: HostRuntime) {
     check_text(&rt, rt.alloc(), &unsigned, expected);
 }
 
-/// What is serialized by hand.
+/// An example that is serialized by hand.
 #[derive(Drop)]
 pub(super) enum ByHand<'a> {
     /// Bytes as they are, where std's types are sequences.

@@ -72,7 +72,7 @@ fn maps_of_one_entry_stay_maps(rt: HostRuntime) {
     check_text(&rt, alloc, &map, "---\na:\n  Of: 1\n");
 }
 
-/// What has a tag of its own, or is a variant with data.
+/// Checks data that has a tag of its own, or is a variant with data.
 #[test]
 fn data_may_have_a_tag(rt: HostRuntime) {
     let alloc = rt.alloc();

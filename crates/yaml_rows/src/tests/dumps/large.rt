@@ -48,7 +48,7 @@ fn add_item(
     text.push_str(item.as_str()).expect(rt, "no memory");
 }
 
-/// How many sequences there are, each of which holds the next twice.
+/// The number of sequences, each of which holds the next twice.
 const NESTED: usize = 40;
 
 /// Returns the text of sequences within one another. Anchors are numbered by second meetings, so from within.

@@ -148,7 +148,7 @@ const REFUSED: &[Row] = &[
     ),
 ];
 
-/// How scalars are given: by their events, or borrowed with the growth of this number refused, none with 0.
+/// The way in which scalars are given: by their events, or borrowed with the growth of this number refused, none with 0.
 type Way = Option<usize>;
 
 /// The start of a document takes memory, so no growth is refused where a scalar makes the first one ready.

@@ -42,7 +42,7 @@ pub(super) enum Step<'a> {
     Consume(&'a [u8]),
     /// The output.
     Output(&'a [u8]),
-    /// How many events wait.
+    /// The number of events that wait.
     Held(usize),
     /// Whether the encoding is known.
     Known(bool),

@@ -56,7 +56,7 @@ struct Walk<'a> {
     heap: &'a Refusing<Global>,
     /// The events given so far.
     given: Vec<Kind>,
-    /// How often was flushed.
+    /// The number of flushes.
     flushes: usize,
 }
 

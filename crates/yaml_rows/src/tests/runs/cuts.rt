@@ -9,11 +9,11 @@ struct Line<'a> {
     line: &'a str,
     /// The place of its first byte.
     start: usize,
-    /// What is written where the script ends before it.
+    /// The output where the script ends before the line.
     before: &'a [u8],
-    /// What is written where the script ends with it.
+    /// The output where the script ends with the line.
     written: &'a [u8],
-    /// What is told of a bad line there.
+    /// The report of a bad line where the script ends within the line.
     report: &'a str,
 }
 

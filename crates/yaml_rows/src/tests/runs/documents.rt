@@ -1,4 +1,4 @@
-//! How documents and streams begin and end, and the encodings of a stream.
+//! The beginnings and ends of documents and streams, and the encodings of a stream.
 use super::{Row, check_row};
 use crate::tests::{Rows, joined};
 use std::alloc::Global;

@@ -82,7 +82,7 @@ fn check_value(rt: &impl Abort, alloc: Global, row: &str) {
     }
 }
 
-/// How many values of at most four characters there are.
+/// The number of values of at most four characters.
 const COUNT: usize = 341;
 
 #[test]

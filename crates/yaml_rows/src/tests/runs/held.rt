@@ -1,4 +1,4 @@
-//! How many events wait after a call, by the rule for the head of the queue alone.
+//! The number of events that wait after a call, by the rule for the head of the queue alone.
 use std::alloc::Allocator;
 use yaml_base::{
     YAML_ALIAS_EVENT, YAML_DOCUMENT_END_EVENT, YAML_DOCUMENT_START_EVENT, YAML_MAPPING_END_EVENT,
@@ -6,7 +6,7 @@ use yaml_base::{
     YAML_SEQUENCE_START_EVENT, YAML_STREAM_END_EVENT, YAML_STREAM_START_EVENT, yaml_event_t,
 };
 
-/// What the rule asks of an event.
+/// The kind of an event, as far as the rule asks for it.
 #[derive(Clone, Copy)]
 pub(super) enum Kind {
     StreamStart,

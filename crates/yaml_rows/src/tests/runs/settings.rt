@@ -1,4 +1,4 @@
-//! What a setting comes to: indents and widths that are kept, and those that are replaced.
+//! The effects of settings: indents and widths that are kept, and those that are replaced.
 use crate::tests::Rows;
 
 /// An indent of two to nine columns, by a mapping within a mapping, and by a text whose header has it as its digit. Any other

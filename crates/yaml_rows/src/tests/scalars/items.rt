@@ -14,7 +14,7 @@ use yaml_base::{
 use yaml_pen::{Indicator, Pen};
 use yaml_scalar::write_block_scalar_hints;
 
-/// What stands before the scalars of an item.
+/// The text before the scalars of an item.
 enum Before {
     Nothing,
     /// An indicator `-`, which a space must follow.

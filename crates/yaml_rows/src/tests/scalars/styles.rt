@@ -73,7 +73,7 @@ fn choice(asked: &Asked, tagged: bool) -> Choice {
     )
 }
 
-/// What is asked for, whether the value has a tag, and the choice.
+/// A row: what is asked for, whether the value has a tag, and the choice.
 type Choosing<'a> = (Asked<'a>, bool, Choice);
 
 const CHOICES: &[Choosing] = &[

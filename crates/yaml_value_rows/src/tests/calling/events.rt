@@ -162,7 +162,7 @@ pub(super) fn emitter_with_output(rt: &impl Abort, alloc: Global) -> yaml_emitte
     emitter
 }
 
-/// What is done with an emitter.
+/// An action on an emitter.
 #[derive(Drop)]
 enum Act {
     /// Emits the events of these words.
@@ -195,7 +195,7 @@ fn held_after(
     Ok(emitter.held())
 }
 
-/// What is done, how many events then wait, the output that wasn't taken, and what was sent.
+/// An action, how many events then wait, the output that wasn't taken, and what was sent.
 type Step = (Act, usize, &'static str, &'static str);
 
 fn check_step(

@@ -1,4 +1,4 @@
-//! What the errors of reading print. (`tests/c/canonical.c` has why bytes aren't read, and where.)
+//! The words of the errors of reading. (`tests/c/canonical.c` has why bytes aren't read, and where.)
 use crate::tests::equal;
 use yaml_read::ReadError;
 

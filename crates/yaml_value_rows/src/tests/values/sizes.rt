@@ -1,4 +1,4 @@
-//! How many values there are, and how deep they lie.
+//! The number of values, and their depth.
 use super::{Example, Heap, Made, canonical, made};
 use crate::tests::equal;
 use std::mem::forget;
@@ -6,7 +6,7 @@ use std::process::Abort;
 use yaml_base::yaml_error_t;
 use yaml_test_allocator::Refusing;
 
-/// How deep the deepest value of a row nests, far past what may be written.
+/// The depth of the deepest value of a row, far past what may be written.
 const DEEPEST: u32 = 100_000;
 
 /// Counts a value, with the growth of this number refused, which must come; with 0 none is.

@@ -41,7 +41,7 @@ pub(super) const CALLS: &[Call] = &[
     )),
 ];
 
-/// Where blanks aren't literal, a text with such blanks stands in double quotes.
+/// A text with tabs, or with spaces at the ends of its lines, stands in double quotes where blanks aren't literal.
 pub(super) const QUOTED: &[Call] = &[
     Call::Sequence,
     Call::Text("a\tb\nc"),

@@ -47,7 +47,7 @@ fn check_layout(rt: &impl Abort, alloc: Global, row: &Layout) {
     answers(rt, finished(writer), &Ok(row.2));
 }
 
-/// Where they aren't indented, lists stand in the column of the keys.
+/// Lists stand in the column of the keys where they aren't indented.
 const LAYOUTS: &[Layout] = &[
     (
         true,

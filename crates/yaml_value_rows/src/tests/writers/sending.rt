@@ -23,7 +23,7 @@ fn check_sent(
 
 const LETTER: &[Call] = &[Call::Sequence, Call::Text("a"), Call::End, Call::Next];
 
-/// How many bytes a sink takes, the error of the next, which bytes of the letter it has, and what the writer has at the end.
+/// The number of bytes that a sink takes, the error of the next, which bytes of the letter it has, and what the writer has at the end.
 type Sink = (usize, Option<io::ErrorKind>, &'static str, &'static str);
 
 fn send_letter(
@@ -49,7 +49,7 @@ fn check_sink(rt: &impl Abort, alloc: Global, row: &Sink) {
     answers(rt, finished(writer), &Ok(row.3));
 }
 
-/// What a sink refuses is left.
+/// The bytes that a sink refuses are left.
 const SINKS: &[Sink] = &[
     (100, None, "---\n- a\n", "--- b\n"),
     (

@@ -54,7 +54,7 @@ pub(super) const CALLS: &[Call] = &[
     Call::FinishAfterEnd("---\n- a\n...\n--- b\n...\n"),
 ];
 
-/// Where double quotes are asked for, none are single.
+/// No quotes are single where double ones are asked for.
 pub(super) const DOUBLE: &[Call] = &[
     Call::Mapping,
     Call::Text("country"),

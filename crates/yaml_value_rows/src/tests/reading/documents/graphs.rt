@@ -6,7 +6,7 @@ use yaml_base::{
     yaml_node_data_t, yaml_node_pair_t, yaml_node_t,
 };
 
-/// What a node holds: a value, or the numbers of others.
+/// The contents of a node: a value, or the numbers of others.
 #[derive(Clone, Copy)]
 pub(super) enum Holds<'a> {
     Value(&'a str),
