@@ -56,8 +56,8 @@ pub knows_no_pairs : (depth : ℕ) (text rest : List ℕ) (none : Firsts) → no
 knows_no_pairs depth text rest none is path key left has = absurd (subst (λ (f : Firsts). HasFirst f path key left) is has)
 
 pub knows_more_pairs : (depth : ℕ) (text rest next : List ℕ) (found : TomlNodes) (name : Key) (here : ℕ) (old new : Firsts)
-    → KnowsPairs depth text old rest → PairAt depth text found name here → here ≤ length rest → length next < here → AddsFirsts (key_parts name) here found old new
-    → KnowsPairs depth text new next
+    → KnowsPairs depth text old rest → PairAt depth text found name here → here ≤ length rest → length next < here
+    → AddsFirsts (key_parts name) here found old new → KnowsPairs depth text new next
 knows_more_pairs depth text rest next found name here old new knows at within shorter adds path key left has = elim (adds path key left has) [
   | inl before ↦
       let known = knows path key left before in
@@ -99,7 +99,8 @@ pairs_conflict depth text rest found name here old (fault.DefinedAgain key first
     other m = cc
 
 -- a conflict in what ends the text
-pub conflict_in : (text middle : List ℕ) (refused : Fault) → EndsWith text middle → IfAgain refused (PairsConflict middle) → IfAgain refused (PairsConflict text)
+pub conflict_in : (text middle : List ℕ) (refused : Fault) → EndsWith text middle → IfAgain refused (PairsConflict middle)
+    → IfAgain refused (PairsConflict text)
 conflict_in text middle fault.Memory ends pairs = tt
 conflict_in text middle (fault.NotToml left) ends pairs = tt
 conflict_in text middle (fault.DefinedAgain key first second) ends pairs = record {
@@ -137,8 +138,8 @@ pub knows_none : (text rest : List ℕ) (none : Firsts) → none ≡ no_firsts �
 knows_none text rest none is path key left has = absurd (subst (λ (f : Firsts). HasFirst f path key left) is has)
 
 pub knows_more : (text rest next : List ℕ) (doc : TomlDocument) (e : Expression) (here : ℕ) (old new : Firsts)
-    → KnowsFirsts text old rest → ExpressionAt text doc e here → here ≤ length rest → length next < here → AddsFirsts (whole_path doc e.0 e.1) here doc.0 old new
-    → KnowsFirsts text new next
+    → KnowsFirsts text old rest → ExpressionAt text doc e here → here ≤ length rest → length next < here
+    → AddsFirsts (whole_path doc e.0 e.1) here doc.0 old new → KnowsFirsts text new next
 knows_more text rest next doc e here old new knows at within shorter adds path key left has = elim (adds path key left has) [
   | inl before ↦
       let known = knows path key left before in

@@ -1,6 +1,7 @@
 -- A table while it is read beside the keys and values that it stands for.
 use Rattle.std.proofs.Common.{◌≡◌, ℕ, zero, suc, ◌+◌, ◌<◌, ◌≤◌, ◌==◌, true, false, Bool, List, [], ◌∷◌, ◌++◌, map, length, Option, Some}
-use Rattle.std.proofs.Common.{None, cond, String, Result, Ok, Err, ap₂, option_map, Vec, BTreeMap, Global, string_bytes, bytes_eq, refl, sym, ap, subst, ◌∙◌, inl, inr, rules, arith, set, get_or}
+use Rattle.std.proofs.Common.{None, cond, String, Result, Ok, Err, ap₂, option_map, Vec, BTreeMap, Global, string_bytes,
+  bytes_eq, refl, sym, ap, subst, ◌∙◌, inl, inr, rules, arith, set, get_or}
 use Rattle.std.proofs.lemmas.List.{length-append, append_assoc}
 use Rattle.std.proofs.lemmas.Bool.{cases_Bool, eq-eqb, eqb-true, false≢true}
 use Rattle.std.proofs.lemmas.Slice.Eq.{bytes_eq-Decides}
@@ -204,7 +205,8 @@ absent_other k place es d index is other =
 -- ---- a key that goes last
 
 module _ (index after : Places) (w : Draft) where
-  as_before : (n : ℕ) (e : Draft) (more : ℕ) → (is_place (get_by_text index (string_bytes e.0)) n ≡ true → bytes_eq (string_bytes w.0) (string_bytes e.0) ≡ false)
+  as_before : (n : ℕ) (e : Draft) (more : ℕ)
+      → (is_place (get_by_text index (string_bytes e.0)) n ≡ true → bytes_eq (string_bytes w.0) (string_bytes e.0) ≡ false)
       → get_by_text after (string_bytes e.0) ≡ update bytes_eq (get_by_text index) (string_bytes w.0) (Some (n + suc more)) (string_bytes e.0)
       → is_place (get_by_text after (string_bytes e.0)) n ≡ is_place (get_by_text index (string_bytes e.0)) n
   as_before n e more other noted = elim (cases_Bool (bytes_eq (string_bytes w.0) (string_bytes e.0))) [
@@ -226,7 +228,8 @@ module _ (index after : Places) (w : Draft) where
       let itself : bytes_eq (string_bytes w.0) (string_bytes w.0) ≡ true = bytes_same (string_bytes w.0) in
       let zeroth : (n + 0 == n) ≡ true = eq-eqb (n + 0) n (omega arith) in
       let here : is_place (get_by_text after (string_bytes w.0)) n ≡ true =
-      ap (λ (o : Option ℕ). is_place o n) (noted (string_bytes w.0) ∙ ap (λ (b : Bool). cond b (Some (n + 0)) (get_by_text index (string_bytes w.0))) itself) ∙ zeroth in
+      ap (λ (o : Option ℕ). is_place o n) (noted (string_bytes w.0) ∙ ap (λ (b : Bool). cond b (Some (n + 0)) (get_by_text index (string_bytes w.0))) itself)
+      ∙ zeroth in
       rw here
   appended_from n (e ∷ es) none noted =
       let k = string_bytes w.0 in
@@ -423,7 +426,8 @@ passes_table by edit was origin after old new before index r is passes = done r
   where
     into : passed by edit (draft_view was) ≡ option_map (table after) (edit (keys_view old.items before))
     into =
-        ap (λ (d : CodeDraft). passed by edit (draft_view d)) is ∙ ap (passed by edit) (draft_view-Table origin old before) ∙ passes (keys_view old.items before)
+        ap (λ (d : CodeDraft). passed by edit (draft_view d)) is ∙ ap (passed by edit) (draft_view-Table origin old before)
+        ∙ passes (keys_view old.items before)
 
     done : (r : Result (Unit {0}) Fault) → ParsesTo (λ _. keys_view new.items index) r (edit (keys_view old.items before))
         → ParsesTo (λ _. draft_view (DraftTable after new index)) r (passed by edit (draft_view was))

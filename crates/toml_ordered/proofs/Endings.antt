@@ -152,7 +152,8 @@ trim_ends text = by (first text == line_feed) (starts_newline text)
 one_line_ends : (text : List ℕ) → LeavesEnd text (one_line text)
 unfolding one_line
 one_line_ends text =
-    leaves_in text (drop 1 text) (body (first text) false (length text) (drop 1 text)) (ends_drop 1 text) (body_ends (first text) false (length text) (drop 1 text))
+    leaves_in text (drop 1 text) (body (first text) false (length text) (drop 1 text)) (ends_drop 1 text)
+    (body_ends (first text) false (length text) (drop 1 text))
 
 quoted_ends : (text : List ℕ) → LeavesEnd text (quoted text)
 unfolding quoted

@@ -102,7 +102,8 @@ new_behind k whole ns inner path key is new =
 -- what is defined inside of a key that is there
 pub adds_inside : (k : List ℕ) (whole : Path) (here : ℕ) (ns : TomlNodes) (x : TomlNode) (at : ℕ) (es : List Draft) (e w : Draft)
     → get_node k ns ≡ Some x → HasKey k at es → get_or es at e ≡ e → IsSameKey e w
-    → AddsFirsts whole here (keys_in (Some x)) (draft_firsts e.1) (draft_firsts w.1) → AddsFirsts (k ∷ whole) here ns (keys_firsts es) (keys_firsts (set es at w))
+    → AddsFirsts whole here (keys_in (Some x)) (draft_firsts e.1) (draft_firsts w.1)
+    → AddsFirsts (k ∷ whole) here ns (keys_firsts es) (keys_firsts (set es at w))
 adds_inside k whole here ns x at es e w found has is_e same inner path key left first =
     elim (of_written k at es e w has (same.0 ∙ ap (λ (d : Draft). d.0) (sym is_e)) (same.1 ∙ ap (λ (d : Draft). d.2) (sym is_e)) path key left first) [
       | inl old ↦ inl old
@@ -215,7 +216,8 @@ module _ (all : Path) (k : List ℕ) (whole : Path) (here at : ℕ) (es : List D
       (adds_inside k whole here ns x at es e w found has is_e same inner)) adds
 
   pub again_along : all ≡ k ∷ whole → HasKey k at es → get_or es at e ≡ e
-      → IfErr r (λ fault. IsPassed (string_bytes e.0) e.2 here fault ⊎ IsAgain whole here (draft_firsts e.1) fault) → IfErr r (IsAgain all here (keys_firsts es))
+      → IfErr r (λ fault. IsPassed (string_bytes e.0) e.2 here fault ⊎ IsAgain whole here (draft_firsts e.1) fault)
+      → IfErr r (IsAgain all here (keys_firsts es))
   again_along is has is_e again =
       IfErr-weaker r _ _
       (λ fault found. subst (λ (p : Path). IsAgain p here (keys_firsts es) fault) (sym is) (elim found [

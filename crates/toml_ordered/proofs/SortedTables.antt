@@ -80,7 +80,8 @@ pub seen_get : (k : List ℕ) (ns : TomlNodes) → t.get_node k (seen ns) ≡ op
 seen_get k no_nodes = refl
 seen_get k (node l y ns) = by (seen_get k ns) (bytes_eq k l) refl
   where
-    by : t.get_node k (seen ns) ≡ option_map seen_node (get_node k ns) → (b : Bool) → bytes_eq k l ≡ b → t.get_node k (t.insert l (seen_node y) (seen ns)) ≡ option_map seen_node (cond b (Some y) (get_node k ns))
+    by : t.get_node k (seen ns) ≡ option_map seen_node (get_node k ns) → (b : Bool) → bytes_eq k l ≡ b
+        → t.get_node k (t.insert l (seen_node y) (seen ns)) ≡ option_map seen_node (cond b (Some y) (get_node k ns))
     by more true here = found_same k l (seen_node y) (seen ns) here
     by more false past = found_past k l (seen_node y) (seen ns) past ∙ more
 
@@ -91,7 +92,8 @@ pub seen_append : (k : List ℕ) (x : TomlNode) (ns : TomlNodes) → get_node k 
 seen_append k x no_nodes none = refl
 seen_append k x (node l y ns) none = by (seen_append k x ns) (bytes_eq k l) refl none
   where
-    by : (get_node k ns ≡ None → seen (append ns k x) ≡ t.insert k (seen_node x) (seen ns)) → (b : Bool) → bytes_eq k l ≡ b → cond b (Some y) (get_node k ns) ≡ None
+    by : (get_node k ns ≡ None → seen (append ns k x) ≡ t.insert k (seen_node x) (seen ns)) → (b : Bool) → bytes_eq k l ≡ b
+        → cond b (Some y) (get_node k ns) ≡ None
         → t.insert l (seen_node y) (seen (append ns k x)) ≡ t.insert k (seen_node x) (t.insert l (seen_node y) (seen ns))
     by more true here none = absurd (some_no_none none)
     by more false past none = ap (t.insert l (seen_node y)) (more none) ∙ sym (swap k l (seen_node x) (seen_node y) (seen ns) past)
@@ -100,7 +102,8 @@ pub seen_replace : (k : List ℕ) (x : TomlNode) (ns : TomlNodes) → seen (repl
 seen_replace k x no_nodes = refl
 seen_replace k x (node l y ns) = by (seen_replace k x ns) (bytes_eq k l) refl
   where
-    by : seen (replace k x ns) ≡ t.replace k (seen_node x) (seen ns) → (b : Bool) → bytes_eq k l ≡ b → seen (cond b (node l x ns) (node l y (replace k x ns))) ≡ t.replace k (seen_node x) (t.insert l (seen_node y) (seen ns))
+    by : seen (replace k x ns) ≡ t.replace k (seen_node x) (seen ns) → (b : Bool) → bytes_eq k l ≡ b
+        → seen (cond b (node l x ns) (node l y (replace k x ns))) ≡ t.replace k (seen_node x) (t.insert l (seen_node y) (seen ns))
     by more true here = sym (replaced_same k l (seen_node x) (seen_node y) (seen ns) here)
     by more false past = ap (t.insert l (seen_node y)) more ∙ sym (replaced_past k l (seen_node x) (seen_node y) (seen ns) past)
 
@@ -150,7 +153,8 @@ module _ (edit : Edit) (other : t.Edit) (same : Same edit other) where
   missing_by : (origin : Origin) (with : t.Nodes → t.Node) → ((inner : TomlNodes) → seen_node (table origin inner) ≡ with (seen inner))
       → (k : List ℕ) (ns : TomlNodes)
       → get_node k ns ≡ None
-      → option_map seen (option_map (λ inner. append ns k (table origin inner)) (edit no_nodes)) ≡ option_map (λ new. t.insert k (with new) (seen ns)) (other t.no_nodes)
+      → option_map seen (option_map (λ inner. append ns k (table origin inner)) (edit no_nodes))
+      ≡ option_map (λ new. t.insert k (with new) (seen ns)) (other t.no_nodes)
   missing_by origin with is k ns none =
       mapped seen seen (λ inner. append ns k (table origin inner)) (λ new. t.insert k (with new) (seen ns)) (edit no_nodes) (other t.no_nodes) (same no_nodes)
       (λ inner. seen_append k (table origin inner) ns none ∙ ap (λ x. t.insert k x (seen ns)) (is inner))
@@ -169,7 +173,8 @@ module _ (edit : Edit) (other : t.Edit) (same : Same edit other) where
   step_dots k ns None is = missing_by Dotted (t.open_table t.dotted) (λ _. refl) k ns is
   step_dots k ns (Some x) is = found_by k ns (passed way.Dots edit x) (t.dot_node other (seen_node x)) (same_dot x)
 
-pub same_along_dots : (path : List (List ℕ)) (edit : Edit) (other : t.Edit) → Same edit other → Same (along (steps_by way.Dots path) edit) (t.along_dots path other)
+pub same_along_dots : (path : List (List ℕ)) (edit : Edit) (other : t.Edit) → Same edit other
+    → Same (along (steps_by way.Dots path) edit) (t.along_dots path other)
 unfolding along t.along_dots
 same_along_dots [] edit other same ns = same ns
 same_along_dots (k ∷ path) edit other same ns =
@@ -250,7 +255,8 @@ same_key_edit k what complete ns =
     same_found k what complete ns (get_node k ns) refl ∙ ap (t.at_found k (seen_definition what) (seen ns)) (sym (seen_get k ns))
 
 pub same_put : (key : Key) (x : TomlNode) → IsComplete x → Same (put key x) (t.put key (sorted_value x))
-same_put key x complete = same_along_dots key.0 (at_key key.1 (key_value x)) (t.at_key key.1 (t.key_value (sorted_value x))) (same_key_edit key.1 (key_value x) complete)
+same_put key x complete =
+    same_along_dots key.0 (at_key key.1 (key_value x)) (t.at_key key.1 (t.key_value (sorted_value x))) (same_key_edit key.1 (key_value x) complete)
 
 abbrev pub seen_document : TomlDocument → t.Document
 seen_document doc = (seen doc.0, doc.1)

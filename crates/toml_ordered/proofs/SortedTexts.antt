@@ -180,8 +180,8 @@ unfolding p.expression
 same_expression text =
     either seen_expression (first text == 91 && slice_index text 1 == 91) _ _ _ _
     (bound_same seen_expression (header_key (drop 2 text)) _ _
-    (λ k is. mapped (λ rest. rest) seen_expression (λ rest. ((k.0, array_table), rest)) (λ rest. ((k.0, t.array_table), rest)) (after_byte 93 k.1) (after_byte 93 k.1)
-    (itself (after_byte 93 k.1)) (λ _. refl)))
+    (λ k is. mapped (λ rest. rest) seen_expression (λ rest. ((k.0, array_table), rest)) (λ rest. ((k.0, t.array_table), rest))
+    (after_byte 93 k.1) (after_byte 93 k.1) (itself (after_byte 93 k.1)) (λ _. refl)))
     (either seen_expression (first text == 91) _ _ _ _
     (mapped (λ r. r) seen_expression (λ r. ((r.0, std_table), r.1)) (λ r. ((r.0, t.std_table), r.1)) (header_key (drop 1 text)) (header_key (drop 1 text))
     (itself (header_key (drop 1 text))) (λ _. refl))

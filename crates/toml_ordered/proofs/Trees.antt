@@ -18,7 +18,8 @@ pub items_view-push : (xs : List CodeNode) (x : CodeNode) → items_view (xs ++ 
 items_view-push [] x = refl
 items_view-push (y ∷ xs) x = ap (item (node_view y)) (items_view-push xs x)
 
-pub node_view-Tables : (done : Vec CodeNode Global) (last : Vec Entry Global) → node_view (CodeTables done last) ≡ tables (items_view done.items) (entries_view last.items)
+pub node_view-Tables : (done : Vec CodeNode Global) (last : Vec Entry Global)
+    → node_view (CodeTables done last) ≡ tables (items_view done.items) (entries_view last.items)
 node_view-Tables done last = search (rules, the_lemmas)
 
 pub node_view-Table : (origin : Origin) (keys : Vec Entry Global) → node_view (CodeTable origin keys) ≡ table origin (entries_view keys.items)

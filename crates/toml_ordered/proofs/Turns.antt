@@ -234,7 +234,8 @@ rest_is : (s : List ℕ) (d : Scalar) (rest : List ℕ) → unquoted s ≡ Some 
 unfolding unquoted
 rest_is s d rest = by (word_len s == 0) (word_value (take (word_len s) s))
   where
-    by : (b : Bool) (o : Option Scalar) → cond {A = Option (Scalar × List ℕ)} b None (option_map (λ x. (x, drop (word_len s) s)) o) ≡ Some (d, rest) → rest ≡ drop (word_len s) s
+    by : (b : Bool) (o : Option Scalar) → cond {A = Option (Scalar × List ℕ)} b None (option_map (λ x. (x, drop (word_len s) s)) o) ≡ Some (d, rest)
+        → rest ≡ drop (word_len s) s
     by true o e = absurd (cc)
     by false None e = absurd (cc)
     by false (Some x) e = sym (ap (read_or rest) e)
@@ -268,7 +269,8 @@ read_sealed f all (Some r) x rest read = subst (λ (y : TomlNode). sealed y ≡ 
 float_sealed : (word : List ℕ) → sealed (float_node word) ≡ float_node word
 float_sealed word = by (bytes_eq (without_sign word) (codes "inf")) (bytes_eq (without_sign word) (codes "nan"))
   where
-    by : (a b : Bool) → sealed (cond a (infinity (first word == 45)) (cond b not_a_number (decimal word))) ≡ cond a (infinity (first word == 45)) (cond b not_a_number (decimal word))
+    by : (a b : Bool) → sealed (cond a (infinity (first word == 45)) (cond b not_a_number (decimal word)))
+        ≡ cond a (infinity (first word == 45)) (cond b not_a_number (decimal word))
     by true b = refl
     by false true = refl
     by false false = refl

@@ -14,7 +14,8 @@ plain_ascii (b ∷ bytes) h zero = ltb-true b 128
 plain_ascii (b ∷ bytes) h (suc i) = plain_ascii bytes (and_parts (nat_lt b 128 && not (is_break b)) (are_plain bytes) h).1 i
 
 plain_unbroken : (bytes : List ℕ) → are_plain bytes ≡ true → list_any is_break bytes ≡ false
-plain_unbroken bytes h = none_pass (λ b. nat_lt b 128 && not (is_break b)) is_break (λ b e. not-true _ (and_parts (nat_lt b 128) (not (is_break b)) e).1) bytes h
+plain_unbroken bytes h =
+    none_pass (λ b. nat_lt b 128 && not (is_break b)) is_break (λ b e. not-true _ (and_parts (nat_lt b 128) (not (is_break b)) e).1) bytes h
 
 -- the characters of a literal are its bytes
 pub chars-literal : (bytes : List ℕ) → are_plain bytes ≡ true → chars bytes ≡ bytes

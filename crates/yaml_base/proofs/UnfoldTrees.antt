@@ -241,7 +241,8 @@ mutual
       elim (or_cases (list_any (is_entry_of number) (below_steps before)) (list_any (is_entry_of number) (placed_steps last))
       (sym (list_any-append (is_entry_of number) (below_steps before) (placed_steps last)) ∙ entered))
       as (λ _. list_any (is_meeting_of child) (below_steps before ++ placed_steps last) ≡ true) [
-        | inl earlier ↦ still_any (is_meeting_of child) (below_steps before) (placed_steps last) (below_met named graph before number child fit.0 earlier within)
+        | inl earlier ↦ still_any (is_meeting_of child) (below_steps before) (placed_steps last)
+            (below_met named graph before number child fit.0 earlier within)
         | inr now ↦ any_right (is_meeting_of child) (below_steps before) (placed_steps last) (children_met named graph last number child fit.1 now within)
       ]
 

@@ -139,7 +139,8 @@ carries_on graph before step carriers none carries =
       each = λ number name there is.
           carries.each number name
           (sym (list_any-append (is_entry_of number) before (step ∷ [])
-          ∙ ap (λ (b : Bool). list_any (is_entry_of number) before || (b || false)) (none number) ∙ or-false (list_any (is_entry_of number) before)) ∙ there) is;
+          ∙ ap (λ (b : Bool). list_any (is_entry_of number) before || (b || false)) (none number)
+          ∙ or-false (list_any (is_entry_of number) before)) ∙ there) is;
     }
 
 -- the name of a node that is entered now leads to it

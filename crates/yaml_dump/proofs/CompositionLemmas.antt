@@ -199,7 +199,8 @@ collection_composes graph before below after number tag held standing next order
     let so = ended_so standing.nodes tag (emptied held) inside (map place (numbers_held held)) (adding (suc (length standing.nodes) ∷ []) standing.unended) next
     inner.nodes inner.unended in
     let whole : GraphNode = record { tag = tag; held = held_with (map place (numbers_held held)) (emptied held) } in
-    let last : Composition = record { nodes = standing.nodes ++ whole ∷ inside; unended = adding (suc (length standing.nodes) ∷ []) standing.unended; carriers = next.carriers } in
+    let last : Composition =
+    record { nodes = standing.nodes ++ whole ∷ inside; unended = adding (suc (length standing.nodes) ∷ []) standing.unended; carriers = next.carriers } in
     let count : length last.nodes ≡ length next.nodes =
     omega (
       arith,

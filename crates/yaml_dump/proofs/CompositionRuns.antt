@@ -52,9 +52,10 @@ collection_runs graph before after number below tag held standing orderly is sta
     ∙ regrouped before (below_steps below) after number in
     let first = collection_begun (anchor_of (graph_steps graph) number) tag (emptied held) standing in
     let next = behind graph (below_steps below) first in
-    let all = behind_collection graph number (record { tag = tag; held = held }) (below_steps below) standing first (ended next.unended next) node (opens standing)
-    (closes next) in
-    let children = inner first (opened_stands graph before (below_steps below ++ leaves number ∷ after) number tag (emptied held) standing orderly turns stands) in
+    let all = behind_collection graph number (record { tag = tag; held = held }) (below_steps below) standing first (ended next.unended next)
+    node (opens standing) (closes next) in
+    let children = inner first
+    (opened_stands graph before (below_steps below ++ leaves number ∷ after) number tag (emptied held) standing orderly turns stands) in
     subst (Composes graph before (over_node number below) (number_in_order (order_of graph) number ∷ []) standing) (sym all)
     (collection_composes graph before (below_steps below) after number tag held standing next orderly turns stands node
     (subst (λ (met : List ℕ). Composes graph (before ++ enters number ∷ []) (below_steps below) (map (number_in_order (order_of graph)) met) first next) numbers

@@ -95,7 +95,8 @@ opened_some true now more is = is
 opened_some false now more is = is
 
 -- events behind the start
-pub dumps_then : (nodeless : Bool) (document : List Event) (before middle after : State) (closed : Bool) (more : List Event) (answer : Result (Unit {0}) yaml_error_t)
+pub dumps_then : (nodeless : Bool) (document : List Event) (before middle after : State) (closed : Bool) (more : List Event)
+    (answer : Result (Unit {0}) yaml_error_t)
     → EmitsAll (record before { opened = true }) (opening_unless before.opened) middle → EmitsEach (record middle { closed = closed }) more answer after
     → opening_unless before.opened ++ more ≡ dump_events before nodeless document
     → OnOk answer (after.closed ≡ (before.closed || nodeless)) → OnErr answer (after.closed ≡ before.closed)
@@ -133,8 +134,8 @@ dumps_then nodeless document before middle after closed more (Err error) first f
     })
 
 -- the start failed
-pub dumps_unopened : (nodeless : Bool) (document : List Event) (before after : State) (opened : Bool) (error : yaml_error_t) → before.opened ≡ opened → before.error ≡ None
-    → OpensFrom opened before (Err error) after → DumpsEvents nodeless document before (Err error) after
+pub dumps_unopened : (nodeless : Bool) (document : List Event) (before after : State) (opened : Bool) (error : yaml_error_t)
+    → before.opened ≡ opened → before.error ≡ None → OpensFrom opened before (Err error) after → DumpsEvents nodeless document before (Err error) after
 dumps_unopened nodeless document before after true error was none opens = absurd (let wrong = opens.0 in cc)
 dumps_unopened nodeless document before after false error was none opens =
     let more : List Event = if nodeless then closing_unless before.closed else document in
@@ -264,8 +265,8 @@ closed_none opened closed false events none = or-false closed
 closed_none opened true true events none = refl
 closed_none opened false true events none = let wrong = (no_parts (opening_unless opened) (stream_end ∷ []) none).1 in cc
 
-pub keeps_dumping : (nodeless : Bool) (document : List Event) (before after : State) (answer : Result (Unit {0}) yaml_error_t) → DumpsEvents nodeless document before answer after
-    → KeepsRest before after
+pub keeps_dumping : (nodeless : Bool) (document : List Event) (before after : State) (answer : Result (Unit {0}) yaml_error_t)
+    → DumpsEvents nodeless document before answer after → KeepsRest before after
 keeps_dumping nodeless document before after (Ok done) all =
     keeps_by before after true (before.closed || nodeless) (dump_events before nodeless document) (Ok tt) all.moves
     (λ none.
@@ -281,14 +282,15 @@ keeps_dumping nodeless document before after (Err error) (inl failed) =
       set = record { given = refl; started = refl; has_output = refl; opened = refl; closed = refl; taken = refl };
       begun = inl refl;
     })
-keeps_dumping nodeless document before after (Err error) (inr dump) = keeps_failing before after after.opened (dump_events before nodeless document) error dump.fails
+keeps_dumping nodeless document before after (Err error) (inr dump) =
+    keeps_failing before after after.opened (dump_events before nodeless document) error dump.fails
 
-pub opened_by : (nodeless : Bool) (document : List Event) (before after : State) (answer : Result (Unit {0}) yaml_error_t) → DumpsEvents nodeless document before answer after
-    → OnOk answer (after.opened ≡ true)
+pub opened_by : (nodeless : Bool) (document : List Event) (before after : State) (answer : Result (Unit {0}) yaml_error_t)
+    → DumpsEvents nodeless document before answer after → OnOk answer (after.opened ≡ true)
 opened_by nodeless document before after (Ok done) all = all.moves.set.opened
 opened_by nodeless document before after (Err error) fails = tt
 
-pub unclosed_failing : (nodeless : Bool) (document : List Event) (before after : State) (error : yaml_error_t) → DumpsEvents nodeless document before (Err error) after
-    → after.closed ≡ before.closed
+pub unclosed_failing : (nodeless : Bool) (document : List Event) (before after : State) (error : yaml_error_t)
+    → DumpsEvents nodeless document before (Err error) after → after.closed ≡ before.closed
 unclosed_failing nodeless document before after error (inl failed) = ap (λ (s : State). s.closed) failed.1
 unclosed_failing nodeless document before after error (inr dump) = dump.fails.failed.set.closed ∙ dump.fails.moved.set.closed

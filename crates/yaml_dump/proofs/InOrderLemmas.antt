@@ -124,7 +124,8 @@ walk_of graph is =
 -- ---- a node by other numbers
 
 numbers_by_pairs : (place : ℕ → ℕ) (pairs : List NumberPair)
-    → flat_map (λ (pair : NumberPair). pair.key ∷ pair.value ∷ []) (map (λ (pair : NumberPair). record { key = place pair.key; value = place pair.value }) pairs)
+    → flat_map (λ (pair : NumberPair). pair.key ∷ pair.value ∷ [])
+      (map (λ (pair : NumberPair). record { key = place pair.key; value = place pair.value }) pairs)
     ≡ map place (flat_map (λ (pair : NumberPair). pair.key ∷ pair.value ∷ []) pairs)
 numbers_by_pairs place [] = refl
 numbers_by_pairs place (pair ∷ pairs) = ap (λ (rest : List ℕ). place pair.key ∷ place pair.value ∷ rest) (numbers_by_pairs place pairs)
@@ -134,7 +135,8 @@ numbers_by place (scalar_held value style) = refl
 numbers_by place (sequence_held items style) = refl
 numbers_by place (mapping_held pairs style) = numbers_by_pairs place pairs
 
-pub opening_by : (place : ℕ → ℕ) (anchor : Option Text) (tag : Text) (held : Held) → opening_event_of anchor tag (held_by place held) ≡ opening_event_of anchor tag held
+pub opening_by : (place : ℕ → ℕ) (anchor : Option Text) (tag : Text) (held : Held)
+    → opening_event_of anchor tag (held_by place held) ≡ opening_event_of anchor tag held
 opening_by place anchor tag (scalar_held value style) = refl
 opening_by place anchor tag (sequence_held items style) = refl
 opening_by place anchor tag (mapping_held pairs style) = refl

@@ -174,7 +174,8 @@ module _ {A : Type 0} where
             ∙ ap (λ o. option_or o (if has_prefix bytes d then Some place else None)) (finds.prefixes bytes)
             ∙ ap (λ n. option_or (position (has_prefix bytes) list) (if has_prefix bytes d then Some n else None)) at
             ∙ sym (position_more (has_prefix bytes) list d);
-        lengths = list_all-append (λ e. list_any (is_prefix_length e) new.lengths.items) list (d ∷ []) ∙ and_from _ _ (lengths_stay old.lengths.items new.lengths.items n lengths list finds.lengths) own;
+        lengths = list_all-append (λ e. list_any (is_prefix_length e) new.lengths.items) list (d ∷ [])
+            ∙ and_from _ _ (lengths_stay old.lengths.items new.lengths.items n lengths list finds.lengths) own;
       }
 
   pub found_by_length : (tag : List ℕ) (n : ℕ) (index : Index A) (list : List (yaml_tag_directive_t A)) → n < length tag → Finds index list
@@ -213,7 +214,8 @@ module _ {A : Type 0} where
       ∙ ap (earlier (first_place before list)) (f ∙ position-first (fits_by tag n) list)
       ∙ sym (first-or before (fits_by tag n) list)
       ∙ sym (position-first (λ d. before d || fits_by tag n d) list)
-      ∙ sym (position-alike (fits_some tag (take (i + 1) lengths)) (λ d. before d || fits_by tag n d) (λ d. list_any_more (λ m. fits_by tag m d) lengths i 0 h) list)
+      ∙ sym (position-alike (fits_some tag (take (i + 1) lengths)) (λ d. before d || fits_by tag n d)
+        (λ d. list_any_more (λ m. fits_by tag m d) lengths i 0 h) list)
 
   pub found_all : (tag : List ℕ) (index : Index A) (list : List (yaml_tag_directive_t A)) (lengths : List ℕ) (i : ℕ) → lengths ≡ index.lengths.items
       → length lengths ≤ i → Finds index list
@@ -289,8 +291,8 @@ module _ {A : Type 0} where
   )
 
 -- there is an index
-pub indexed : {A : Type 0} (index : Option (Box (Index A) A)) (list : List (yaml_tag_directive_t A)) (box : Box (Index A) A) (inside : Index A) → IsIndexed 8 index list
-    → index ≡ Some box → inside ≡ box.value → (8 ≤ length list) × Finds inside (drop 8 list)
+pub indexed : {A : Type 0} (index : Option (Box (Index A) A)) (list : List (yaml_tag_directive_t A)) (box : Box (Index A) A) (inside : Index A)
+    → IsIndexed 8 index list → index ≡ Some box → inside ≡ box.value → (8 ≤ length list) × Finds inside (drop 8 list)
 indexed {A} index list box inside h is same =
     let found = subst (λ (o : Option (Box (Index A) A)). IsIndexed 8 o list) is h in
     (found.0, subst (λ (i : Index A). Finds i (drop 8 list)) (sym same) found.1)

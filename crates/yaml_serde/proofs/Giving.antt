@@ -171,8 +171,8 @@ module _ {W : Type 0} (contents : W → Option (List ℕ)) (outside : Outside) w
   pub stands_begun : (answer : Result (Unit {0}) yaml_error_t) (kind : CollectionKind) {outlet : Outlet W} {base : ℕ} {before after : WriterState}
       {event : Event} → IsWriterEvent event → Begins kind before event answer after → StandsIn outlet base before → StandsIn outlet base after
   stands_begun (Ok done) kind {outlet} {base} {before} {after} {event} call gave stands =
-      gave_one outlet base before (with_collection before kind) after event (Ok done) call refl refl (open_more outside.start.levels before.levels kind stands.above)
-      gave stands
+      gave_one outlet base before (with_collection before kind) after event (Ok done) call refl refl
+      (open_more outside.start.levels before.levels kind stands.above) gave stands
   stands_begun (Err error) kind {outlet} {base} {before} {after} {event} call (inl failed) stands =
       gave_one outlet base before (with_collection before kind) after event (Err error) call refl refl
       (open_more outside.start.levels before.levels kind stands.above) failed stands

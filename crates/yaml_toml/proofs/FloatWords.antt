@@ -163,8 +163,10 @@ module _ (bs : List ℕ) (b : ℕ) where
   exponent_at true e ends =
       let parts = and_parts (slice_index bs b == 101 || slice_index bs b == 69) (is_ascii_digit (slice_index bs (exponent_start bs b))) e in
       elim (or_cases (slice_index bs b == 101) (slice_index bs b == 69) parts.0) [
-        | inl small ↦ exponent_signed false (eqb-true (slice_index bs b) 101 small) (slice_index bs (b + 1) == 45) (slice_index bs (b + 1) == 43) refl refl parts.1 ends
-        | inr large ↦ exponent_signed true (eqb-true (slice_index bs b) 69 large) (slice_index bs (b + 1) == 45) (slice_index bs (b + 1) == 43) refl refl parts.1 ends
+        | inl small ↦ exponent_signed false (eqb-true (slice_index bs b) 101 small)
+            (slice_index bs (b + 1) == 45) (slice_index bs (b + 1) == 43) refl refl parts.1 ends
+        | inr large ↦ exponent_signed true (eqb-true (slice_index bs b) 69 large)
+            (slice_index bs (b + 1) == 45) (slice_index bs (b + 1) == 43) refl refl parts.1 ends
       ]
 
 -- ---- the fraction, and the exponent behind it

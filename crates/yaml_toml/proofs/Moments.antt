@@ -107,7 +107,8 @@ kept false x y e = absurd (no_some e)
 
 valid_offset : (minutes : ℤ) (offset : ClockOffset) → offset_of minutes ≡ Some offset → is_zone_offset (Some offset) ≡ true
 valid_offset minutes offset e =
-    let both = kept (nat_lt (magnitude minutes) 1440) (record { west = is_west minutes; hours = magnitude minutes / 60; minutes = magnitude minutes % 60 }) offset e in
+    let both = kept (nat_lt (magnitude minutes) 1440)
+    (record { west = is_west minutes; hours = magnitude minutes / 60; minutes = magnitude minutes % 60 }) offset e in
     let small = both.0 in
     subst (λ (o : ClockOffset). is_zone_offset (Some o) ≡ true) both.1
     (and_from (nat_le (magnitude minutes / 60) 23) (nat_le (magnitude minutes % 60) 59) (grind (arith, nat_tests, small)) (grind (arith, nat_tests)))
@@ -137,7 +138,8 @@ valid_by date None (Some offset) moment valid e = absurd (no_some e)
 valid_by date (Some time) None moment valid e = absurd (no_some e)
 valid_by date (Some time) (Some offset) moment valid e = by (time_of time offset) refl e
   where
-    by : (o : Option ClockTime) → time_of time offset ≡ o → option_map (λ clock. record { date = date; time = Some clock }) o ≡ Some moment → is_moment moment ≡ true
+    by : (o : Option ClockTime) → time_of time offset ≡ o
+        → option_map (λ clock. record { date = date; time = Some clock }) o ≡ Some moment → is_moment moment ≡ true
     by None is e = absurd (no_some e)
     by (Some clock) is e =
         subst (λ (m : Moment). is_moment m ≡ true) (some_is (record { date = date; time = Some clock }) moment e)
@@ -149,7 +151,8 @@ valid_dated None time offset moment e = absurd (no_some e)
 valid_dated (Some date) time offset moment e = by (is_calendar_date (calendar_date date.year date.month date.day)) refl e
   where
     by : (b : Bool) → is_calendar_date (calendar_date date.year date.month date.day) ≡ b
-        → option_and_then (λ day. moment_by day time offset) (cond b (Some (calendar_date date.year date.month date.day)) None) ≡ Some moment → is_moment moment ≡ true
+        → option_and_then (λ day. moment_by day time offset) (cond b (Some (calendar_date date.year date.month date.day)) None) ≡ Some moment
+        → is_moment moment ≡ true
     by true is e = valid_by (calendar_date date.year date.month date.day) time offset moment is e
     by false is e = absurd (no_some e)
 

@@ -20,9 +20,11 @@ arrays :
 arrays = refl
 
 -- [[a]], and again with b = {}: the root, the array, its second table, and b
-last_table : document_nesting (node (codes "a") (tables (item (table Closed no_nodes) no_items) (node (codes "b") (table Closed no_nodes) no_nodes)) no_nodes) ≡ 4
+last_table :
+    document_nesting (node (codes "a") (tables (item (table Closed no_nodes) no_items) (node (codes "b") (table Closed no_nodes) no_nodes)) no_nodes) ≡ 4
 last_table = refl
 
 -- [[a]] with b = {}, and again: it lies in a table that is complete
-first_table : document_nesting (node (codes "a") (tables (item (table Closed (node (codes "b") (table Closed no_nodes) no_nodes)) no_items) no_nodes) no_nodes) ≡ 4
+first_table :
+    document_nesting (node (codes "a") (tables (item (table Closed (node (codes "b") (table Closed no_nodes) no_nodes)) no_items) no_nodes) no_nodes) ≡ 4
 first_table = refl

@@ -186,7 +186,8 @@ collection_writes tag kind spelled brackets place undented empty entries text st
     ap (λ (c : Cursor). let made : Standing = record { cursor = c; open_ended = standing.open_ended } in made) (spelled.stands false before.cursor) in
     let inner = entries (deeper 2 place.column) start.standing in
     let within : Writes text standing.open_ended inner =
-    subst (λ (from : Standing). Writes text standing.open_ended (entries (deeper 2 place.column) from)) (sym stood) (goes (spelled.column false before.cursor)) in
+    subst (λ (from : Standing). Writes text standing.open_ended (entries (deeper 2 place.column) from))
+    (sym stood) (goes (spelled.column false before.cursor)) in
     let end = λ (from : Standing). one_piece (end_piece s brackets true empty place.column from) in
     let ended : Writes (entries_end brackets.opening brackets.closing (line_column place.column) empty) standing.open_ended (end inner.standing) =
     subst (λ (from : Standing). Writes (entries_end brackets.opening brackets.closing (line_column place.column) empty) standing.open_ended (end from))
@@ -340,7 +341,8 @@ mutual
       let before = items_write items column at open_ended in
       let role = as_item (has_no_nodes (value_nodes items)) in
       let last = λ (from : Standing). render_node (value_node item) s force (entry_place true role column) from in
-      let behind : Writes (entry_lead (codes "[") (has_no_values items) ++ (line_at column ++ value_text column item)) open_ended (last (standing_at before.column open_ended)) =
+      let behind : Writes (entry_lead (codes "[") (has_no_values items) ++ (line_at column ++ value_text column item))
+        open_ended (last (standing_at before.column open_ended)) =
       writes_text _ _
       (item_lead (has_no_nodes (value_nodes items)) column before.column open_ended (value_text column item)
       ∙ ap (λ first. entry_lead (codes "[") first ++ (line_at column ++ value_text column item)) (no_nodes_either items))
@@ -362,7 +364,8 @@ mutual
       ∙ ap (λ first. entry_lead (codes "{") first ++ (line_at column ++ (codes "? " ++ value_text column key))) (no_pairs_either pairs))
       (value_writes key (Some (role, column)) (standing_at before.column open_ended)) in
       let both = writes_then (render_pairs (value_pairs pairs) s force true column (standing_at at open_ended)) middle before of_key in
-      let last = λ (from : Standing). render_node (value_node value) s force (entry_place true (as_value (is_simple true force (value_node key))) column) from in
+      let last = λ (from : Standing).
+      render_node (value_node value) s force (entry_place true (as_value (is_simple true force (value_node key))) column) from in
       let of_value : Writes (line_at column ++ (codes ": " ++ value_text column value)) open_ended (last (standing_at both.column open_ended)) =
       subst
       (λ simple. Writes (line_at column ++ (codes ": " ++ value_text column value)) open_ended

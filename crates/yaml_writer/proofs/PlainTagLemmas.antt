@@ -180,7 +180,8 @@ negatives = codes "-.inf -.Inf -.INF"
 abbrev nans : Text
 nans = codes ".nan .NaN .NAN"
 
-by_groups : (text : Text) → option_map canonical_tag (word_meant text) ≡ picked (is_one_of null_words text) (is_one_of bool_words text) (is_one_of float_words text)
+by_groups : (text : Text)
+    → option_map canonical_tag (word_meant text) ≡ picked (is_one_of null_words text) (is_one_of bool_words text) (is_one_of float_words text)
 by_groups [] = refl
 by_groups (c ∷ rest) =
     ap (option_map canonical_tag)

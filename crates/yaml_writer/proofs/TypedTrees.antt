@@ -55,7 +55,8 @@ typed_stream stream = record stream { documents = typed_documents stream.documen
 both_typed : (first second one other : List Event) → one ≡ map typed_event first → other ≡ map typed_event second
     → one ++ other ≡ map typed_event (first ++ second)
 both_typed first second one other a b =
-    ap (λ (events : List Event). events ++ other) a ∙ ap (λ (events : List Event). map typed_event first ++ events) b ∙ sym (map-append typed_event first second)
+    ap (λ (events : List Event). events ++ other) a ∙ ap (λ (events : List Event). map typed_event first ++ events) b
+    ∙ sym (map-append typed_event first second)
 
 mutual
   node_typed : (node : Node) → node_events (typed_node node) ≡ map typed_event (node_events node)
@@ -71,7 +72,8 @@ mutual
   nodes_typed : (items : Nodes) → nodes_events (typed_nodes items) ≡ map typed_event (nodes_events items)
   nodes_typed no_nodes = refl
   nodes_typed (nodes_and items item) =
-      both_typed (nodes_events items) (node_events item) (nodes_events (typed_nodes items)) (node_events (typed_node item)) (nodes_typed items) (node_typed item)
+      both_typed (nodes_events items) (node_events item) (nodes_events (typed_nodes items)) (node_events (typed_node item))
+      (nodes_typed items) (node_typed item)
 
   pairs_typed : (pairs : Pairs) → pairs_events (typed_pairs pairs) ≡ map typed_event (pairs_events pairs)
   pairs_typed no_pairs = refl

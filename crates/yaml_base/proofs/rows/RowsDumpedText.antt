@@ -14,7 +14,8 @@ text_of_last (documents_and before document) = dumped_text document.root
 
 -- the text of the document that has these nodes, from the tree of its events
 abbrev text_of_nodes : List GraphNode → Text
-text_of_nodes nodes = unwrap_or (option_map (λ (stream : Stream). text_of_last stream.documents) (tree_of (stream_of (document_event_list (graph_of nodes))))) []
+text_of_nodes nodes =
+    unwrap_or (option_map (λ (stream : Stream). text_of_last stream.documents) (tree_of (stream_of (document_event_list (graph_of nodes))))) []
 
 -- a scalar of one letter with a tag
 abbrev tagged : Text → List GraphNode
@@ -84,7 +85,8 @@ trees =
     ∷ (sequence_node (start_of None) (nodes_and no_nodes (sequence_node (start_of None) no_nodes)), codes "---\n[\n  [],\n]\n")  -- brackets alone
     -- anchors alone, and brackets behind indicators
     ∷ (
-      mapping_node (start_of (Some (codes "x"))) (pairs_and no_pairs (mapping_node (start_of None) no_pairs) (sequence_node (start_of (Some (codes "y"))) no_nodes)),
+      mapping_node (start_of (Some (codes "x")))
+        (pairs_and no_pairs (mapping_node (start_of None) no_pairs) (sequence_node (start_of (Some (codes "y"))) no_nodes)),
       codes "---\n&x {\n  ? {}\n  : &y [],\n}\n",
     )
     ∷ []

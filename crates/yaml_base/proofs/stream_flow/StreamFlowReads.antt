@@ -230,7 +230,8 @@ white_trimmed breaks12 (c ∷ white) h =
     ap (prepend_to_trimmed (is_space_or_break breaks12 c) c) (white_trimmed breaks12 white parts.1) ∙ ap (λ x. prepend_to_trimmed x c []) parts.0
 
 -- white space after a text whose last character isn't white is cut off
-pub shown_trimmed : (breaks12 : Bool) (text : Text) (c : ℕ) (white : Text) → is_read_white breaks12 c ≡ false → list_all (is_space_or_break breaks12) white ≡ true
+pub shown_trimmed : (breaks12 : Bool) (text : Text) (c : ℕ) (white : Text)
+    → is_read_white breaks12 c ≡ false → list_all (is_space_or_break breaks12) white ≡ true
     → trimmed breaks12 (text ++ (c ∷ white)) ≡ text ++ (c ∷ [])
 shown_trimmed breaks12 [] c white shown h =
     ap (λ x. prepend_to_trimmed x c (trimmed breaks12 white)) (not_white breaks12 c shown) ∙ ap (λ t. c ∷ t) (white_trimmed breaks12 white h)

@@ -54,7 +54,8 @@ passes_colon rules levels = passes_indicator rules (within levels (colon_awaited
 pub passes_late_colon : (rules : Rules) (levels : List OpenFlow)
     → Passes rules (within levels (colon_awaited (after_white true))) (0x3A ∷ []) (within levels (node_awaited false))
 passes_late_colon rules levels =
-    passes_indicator rules (within levels (colon_awaited (after_white true))) (within levels (node_awaited false)) 0x3A (class_fixed rules.breaks12 0x3A refl) refl
+    passes_indicator rules (within levels (colon_awaited (after_white true))) (within levels (node_awaited false))
+    0x3A (class_fixed rules.breaks12 0x3A refl) refl
 
 -- a `?` where a key may stand
 pub passes_question : (rules : Rules) (levels : List OpenFlow) (to : FlowReading) → flow_step rules (within levels entry_awaited) (symbol 0x3F) ≡ to

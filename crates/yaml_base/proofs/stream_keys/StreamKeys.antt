@@ -30,7 +30,8 @@ key_found rules before (c ∷ t) after key clear read h =
     grind (arith, append_assoc, key_found rules (before ++ (c ∷ [])) t after key clear.1 (ap (key_of_text rules) (append_assoc before (c ∷ []) t) ∙ read) h)
 
 -- nothing is said of no value
-pub none_parsed : (properties : Properties) (standing : Stood) (x : Bool) → ◌≡◌ {A = Option Tree} (scalar_parsed properties standing (if x then None else None)) None
+pub none_parsed : (properties : Properties) (standing : Stood) (x : Bool)
+    → ◌≡◌ {A = Option Tree} (scalar_parsed properties standing (if x then None else None)) None
 none_parsed properties standing x = grind (arith)
 
 -- what no alias begins with none stands before a space

@@ -137,7 +137,8 @@ empty_key_fits : (s : Effective) (own directives : List TagDirective) (start : C
     → name_count start.anchor + tag_count directives (collection_tag s.canonical start) ≤ most_key_bytes
     → list_any is_break (a ∷ b ∷ []) ≡ false → is_among (codes "?:-.") a ≡ false → begins_content (a ∷ []) ≡ true → (a == space) ≡ false → (a == 0x2A) ≡ false
     → (a == 0x3A) ≡ false → (b == 0x3A) ≡ false
-    → word_after (rules_of s own) false None (record { anchor = start.anchor; tag = tag_meant (collection_tag s.canonical start) false }) (a ∷ b ∷ []) ≡ Some tree
+    → word_after (rules_of s own) false None (record { anchor = start.anchor; tag = tag_meant (collection_tag s.canonical start) false }) (a ∷ b ∷ [])
+    ≡ Some tree
     → (let begun : Rendered = render_begun s directives start cursor in
     space_if true cursor ≡ [] → KeyFits (rules_of s own) ((begun.text ++ []) ++ ((space_if true begun.cursor ++ (a ∷ [])) ++ (b ∷ []))) tree)
 empty_key_fits s own directives start a b tree cursor named stands count line other content shows star colon_a colon_b read nothing =
@@ -153,7 +154,8 @@ empty_key_fits s own directives start a b tree cursor named stands count line ot
     (sym (empty_whole (render_begun s directives start cursor) cursor before a b (lead_rendered s.portable directives start.anchor tag false cursor)
     ∙ ap (λ t. t ++ (before ++ (a ∷ b ∷ []))) nothing))
     (key_fits rules (before ++ (a ∷ b ∷ [])) tree
-    (lead_prefix rules start.anchor (tag_written s.portable directives tag false) (tag_meant tag false) (a ∷ b ∷ []) given (other_prefix a (b ∷ []) shows other))
+    (lead_prefix rules start.anchor (tag_written s.portable directives tag false) (tag_meant tag false) (a ∷ b ∷ [])
+      given (other_prefix a (b ∷ []) shows other))
     of key.clear key.reads)
 
 -- Keys

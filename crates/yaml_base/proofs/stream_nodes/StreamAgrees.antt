@@ -79,7 +79,8 @@ same_option None = refl
 same_option (Some text) = same_text text
 
 -- plain is chosen only where it fits
-pub plain_fits : (allowed : Allowances) (fits block_fits : Bool) (style : ScalarStyle) → is_plain (fitting_style allowed fits block_fits style) ≡ true → fits ≡ true
+pub plain_fits : (allowed : Allowances) (fits block_fits : Bool) (style : ScalarStyle)
+    → is_plain (fitting_style allowed fits block_fits style) ≡ true → fits ≡ true
 plain_fits allowed fits block_fits style h = grind (arith, nat_tests, false≢true)
 
 -- a scalar without a written tag stands as its flags let it

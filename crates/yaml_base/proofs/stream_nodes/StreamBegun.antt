@@ -33,7 +33,8 @@ pub lead_line : (rules : Rules) (anchor tag : Option Text) (parsed : Option Pars
     → OneLine rules.breaks12 (lead anchor tag)
 lead_line rules None None parsed named tagged = refl
 lead_line rules (Some name) None parsed named tagged =
-    one_line_both rules.breaks12 (0x26 ∷ name) (space ∷ []) (properties_line rules (Some name) None parsed named tagged) (unbroken_line rules.breaks12 (space ∷ []) refl)
+    one_line_both rules.breaks12 (0x26 ∷ name) (space ∷ []) (properties_line rules (Some name) None parsed named tagged)
+    (unbroken_line rules.breaks12 (space ∷ []) refl)
 lead_line rules None (Some tag) parsed named tagged =
     one_line_both rules.breaks12 tag (space ∷ []) (properties_line rules None (Some tag) parsed named tagged) (unbroken_line rules.breaks12 (space ∷ []) refl)
 lead_line rules (Some name) (Some tag) parsed named tagged =

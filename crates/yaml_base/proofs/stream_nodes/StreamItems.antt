@@ -76,7 +76,8 @@ item_splits : (rules : Rules) (s : Effective) (directives : List TagDirective) (
 item_splits rules s directives items last e fit =
     let o = fit.opens refl in
     let line : Line = record { text = spaces e ++ (0x2D ∷ o.head); ending = o.ending } in
-    subst (λ ls. Splits true e ls (ls ∷ [])) (sym (indicated_lines rules.breaks12 e 0x2D (item_text items last s directives e) o (unbroken_line rules.breaks12 (0x2D ∷ []) refl)))
+    subst (λ ls. Splits true e ls (ls ∷ []))
+    (sym (indicated_lines rules.breaks12 e 0x2D (item_text items last s directives e) o (unbroken_line rules.breaks12 (0x2D ∷ []) refl)))
     (splits_one true e line o.rest (outside true e (0x2D ∷ o.head) refl) (item_inside rules s directives items last e fit true e (omega arith)))
 
 -- the lines of a sequence split into its items

@@ -36,7 +36,8 @@ module _ (breaks12 : Bool) where
   marker_says cursor =
       let line = new_line 0 cursor in
       let symbol = render_indicator document_start line.cursor in
-      says_after (says_after (line_says breaks12 0 cursor) (indicator_says true false false line.cursor (says_begins breaks12))) (line_says breaks12 0 symbol.cursor)
+      says_after (says_after (line_says breaks12 0 cursor) (indicator_says true false false line.cursor (says_begins breaks12)))
+      (line_says breaks12 0 symbol.cursor)
 
 -- a new line after what leaves indention off breaks the line
 pub line_breaks : (at : ℕ) (cursor : Cursor) → cursor.indention ≡ false → (new_line at cursor).text ≡ line_feed ∷ replicate at space

@@ -146,7 +146,8 @@ choice_allowed s place simple content = by (is_literal content.style && s.litera
         (chosen_allowed (allowed false) asked (is_empty content.value) tag content.plain_implicit content.quoted_implicit place.in_flow simple s.canonical))
     by true e =
         let both = and_parts (is_literal content.style) s.literal_blanks e in
-        literal_under s place.in_flow content.value (allowed true) (fits_plain (allowed true) (is_empty content.value) tag content.plain_implicit place.in_flow simple)
+        literal_under s place.in_flow content.value (allowed true)
+        (fits_plain (allowed true) (is_empty content.value) tag content.plain_implicit place.in_flow simple)
         (s.canonical || (simple && (allowed true).multiline)) ((allowed true).block && not place.in_flow && not simple) asked
         (asked_literal (is_root place) s.portable (begins_blank content.value) content.style both.0)
         (λ fits. record {

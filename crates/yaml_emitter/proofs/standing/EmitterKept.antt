@@ -54,7 +54,8 @@ waits_behind [] event still more = waits_alone event (more refl)
 waits_behind (first ∷ rest) event still more = still
 
 -- Where it may not pass the queue, and none waits, it awaits others.
-pub awaits_more : {E : Type 0} (seen : E → Event) (queue : List E) (awaits : Bool) → (length queue == 0 && awaits) ≡ false → map seen queue ≡ [] → awaits ≡ false
+pub awaits_more : {E : Type 0} (seen : E → Event) (queue : List E) (awaits : Bool)
+    → (length queue == 0 && awaits) ≡ false → map seen queue ≡ [] → awaits ≡ false
 awaits_more seen [] awaits apart empty = apart
 awaits_more seen (event ∷ rest) awaits apart empty = cc
 

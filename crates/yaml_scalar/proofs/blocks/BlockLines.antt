@@ -26,8 +26,10 @@ lines-rendered : (tabs breaks12 : Bool) (indent : ℕ) (ps : List Part) → Clea
 lines-rendered tabs breaks12 indent [] h = refl
 lines-rendered tabs breaks12 indent (line text ∷ rest) h =
     rendered-append (replicate indent space ++ text) (indented indent rest)
-    (rendered-append (replicate indent space) text (spaces-rendered indent) (line-rendered tabs breaks12 text h.0)) (lines-rendered tabs breaks12 indent rest h.2)
-lines-rendered tabs breaks12 indent (line_break b ∷ rest) h = and_from _ _ (ordinary-rendered tabs breaks12 b h.0) (lines-rendered tabs breaks12 indent rest h.2)
+    (rendered-append (replicate indent space) text (spaces-rendered indent) (line-rendered tabs breaks12 text h.0))
+    (lines-rendered tabs breaks12 indent rest h.2)
+lines-rendered tabs breaks12 indent (line_break b ∷ rest) h =
+    and_from _ _ (ordinary-rendered tabs breaks12 b h.0) (lines-rendered tabs breaks12 indent rest h.2)
 
 -- a text without a break, before another
 line-indented : (tabs breaks12 : Bool) (text rest : Text) → IsLine tabs breaks12 text → is_indented_text rest ≡ true → is_indented_text (text ++ rest) ≡ true
@@ -97,9 +99,11 @@ header-indented : (folded blank : Bool) (e : Ending) (n : ℕ) (lines : Text) �
 header-indented folded blank e n lines high b h = grind (arith, symbol-indented, append_assoc, digit-indented, hint-indented, and_from)
 
 -- a body of clean lines
-body-rendered : (tabs breaks12 folded : Bool) (indent best_indent : ℕ) (value : Text) (ps : List Part) (cursor : Cursor) → best_indent ≤ 9 → Clean tabs breaks12 ps
+body-rendered : (tabs breaks12 folded : Bool) (indent best_indent : ℕ) (value : Text) (ps : List Part) (cursor : Cursor)
+    → best_indent ≤ 9 → Clean tabs breaks12 ps
     → is_rendered_text (block_body (block_indicator_of folded) best_indent value (indented indent ps) cursor).text ≡ true
-body-rendered tabs breaks12 folded indent best_indent value ps cursor high clean = grind (arith, block-text, header-rendered, lines-rendered tabs breaks12 indent ps clean)
+body-rendered tabs breaks12 folded indent best_indent value ps cursor high clean =
+    grind (arith, block-text, header-rendered, lines-rendered tabs breaks12 indent ps clean)
 
 body-indented : (tabs breaks12 folded : Bool) (indent best_indent : ℕ) (value : Text) (ps : List Part) (cursor : Cursor) → best_indent ≤ 9 → 2 ≤ indent
     → Clean tabs breaks12 ps

@@ -34,7 +34,8 @@ Clean tabs breaks12 (line text ∷ rest) = IsLine tabs breaks12 text × BeginsBr
 Clean tabs breaks12 (line_break b ∷ rest) = Ordinary tabs breaks12 b × (is_break b ≡ true) × Clean tabs breaks12 rest
 
 -- a character of a line, before clean parts
-pub clean-begun : (tabs breaks12 : Bool) (c : ℕ) (ps : List Part) → Ordinary tabs breaks12 c → is_break c ≡ false → Clean tabs breaks12 ps → Clean tabs breaks12 (begun c ps)
+pub clean-begun : (tabs breaks12 : Bool) (c : ℕ) (ps : List Part)
+    → Ordinary tabs breaks12 c → is_break c ≡ false → Clean tabs breaks12 ps → Clean tabs breaks12 (begun c ps)
 clean-begun tabs breaks12 c [] o e h = ((o, e, tt), tt, tt)
 clean-begun tabs breaks12 c (line text ∷ rest) o e h = ((o, e, h.0), h.1, h.2)
 clean-begun tabs breaks12 c (line_break b ∷ rest) o e h = ((o, e, tt), tt, h)
@@ -119,7 +120,8 @@ element-broken : (c : ℕ) (es : List Element) (b : Bool) → b ≡ true → (if
 element-broken c es b e = rw e refl
 
 -- a reader cuts indented clean parts where they were joined
-pub elements-indented : (tabs breaks12 : Bool) (less : ℕ) (ps : List Part) → Clean tabs breaks12 ps → elements breaks12 (indented (suc less) ps) ≡ shifted (suc less) ps
+pub elements-indented : (tabs breaks12 : Bool) (less : ℕ) (ps : List Part)
+    → Clean tabs breaks12 ps → elements breaks12 (indented (suc less) ps) ≡ shifted (suc less) ps
 elements-indented tabs breaks12 less [] h = refl
 elements-indented tabs breaks12 less (line text ∷ rest) h =
     let further : elements breaks12 (indented (suc less) rest) ≡ shifted (suc less) rest = elements-indented tabs breaks12 less rest h.2 in

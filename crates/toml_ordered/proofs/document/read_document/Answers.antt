@@ -122,7 +122,8 @@ returns-in-Err-define-clause-conflict c =
     let l = c.lines in
     let start_is = c.skip_blank-start.ensures.rest in
     let read = rw start_is at c.in-Ok.ensures.value in
-    expressions_conflict c.args.text.now l.rest.now (document_view l.read) _ (length c.skip_blank-start.result.now) _ c.in-Err-define.fault c.here.result l.invariant.5
+    expressions_conflict c.args.text.now l.rest.now (document_view l.read) _ (length c.skip_blank-start.result.now) _
+    c.in-Err-define.fault c.here.result l.invariant.5
     (record {
       rest = l.rest.now;
       after = c.in-Ok.found.1.now;

@@ -21,7 +21,8 @@ pub define_at-returns-in_default-clause-value : goal.define_at-returns-in_defaul
 define_at-returns-in_default-clause-value c c' =
     let edit : Edit = at_key (string_bytes c'.args.entry.key) (definition_view c'.args.entry.what) in
     let ns = keys_view c'.args.keys.now.items c'.args.index.now in
-    let here : along_route c'.args.route c'.args.entry ns ≡ edit ns = ap (λ (steps : List (Way × List ℕ)). along steps edit ns) c'.in_default.ensures ∙ along_end edit ns in
+    let here : along_route c'.args.route c'.args.entry ns ≡ edit ns =
+    ap (λ (steps : List (Way × List ℕ)). along steps edit ns) c'.in_default.ensures ∙ along_end edit ns in
     rw here c'.at_key.ensures.value
 
 pub define_at-returns-in_default-clause-firsts : goal.define_at-returns-in_default-clause-firsts
@@ -58,7 +59,8 @@ define_at-returns-in_ok-clone-in-None-clause-value c c' =
     let ns = keys_view c'.args.keys.now.items c'.args.index.now in
     let none = rw c'.as_str.ensures.value at c'.in-None.ensures.found in
     let inner = keys_view c'.define_at.new.keys.items c'.define_at.new.index in
-    let within : along (steps_of c'.in-Some.rest) edit (keys_view [] c'.new-places.result) ≡ Some inner = rw c'.new-inner.ensures.items at c'.in_default-define_at.ensures.value in
+    let within : along (steps_of c'.in-Some.rest) edit (keys_view [] c'.new-places.result) ≡ Some inner =
+    rw c'.new-inner.ensures.items at c'.in_default-define_at.ensures.value in
     let same : string_bytes c'.in_ok-clone-in-None.field-0 ≡ k = grind (arith, common_steps) in
     let whole : along_route c'.args.route c'.args.entry ns ≡ Some (append ns k (table (made_by c'.in-Some.way) inner)) =
     ap (λ (steps : List (Way × List ℕ)). along steps edit ns) c'.in-Some.ensures
@@ -76,7 +78,8 @@ define_at-returns-in_ok-clone-in-None-clause-firsts c c' =
     let inner = c'.define_at.new.keys in
     let table = DraftTable c'.origin.result inner c'.define_at.new.index in
     let within : AddsFirsts rest left no_nodes no_firsts (keys_firsts inner.items) = rw c'.new-inner.ensures.items at c'.in_default-define_at.ensures.firsts in
-    let within_table : AddsFirsts rest left no_nodes no_firsts (draft_firsts table) = rw (draft_firsts-Table c'.origin.result inner c'.define_at.new.index) within in
+    let within_table : AddsFirsts rest left no_nodes no_firsts (draft_firsts table) =
+    rw (draft_firsts-Table c'.origin.result inner c'.define_at.new.index) within in
     let same : string_bytes c'.in_ok-clone-in-None.field-0 ≡ k = grind (arith, common_steps) in
     let whole : whole_of c'.args.route c'.args.entry ≡ k ∷ rest =
     ap (λ (steps : List (Way × List ℕ)). map (λ step. step.1) steps ++ string_bytes c'.args.entry.key ∷ []) c'.in-Some.ensures in
@@ -130,14 +133,17 @@ pub pass-returns-in-Some-clause-firsts : goal.pass-returns-in-Some-clause-firsts
 pass-returns-in-Some-clause-firsts c c' =
     let t = c'.in-Table in
     let is = table_is _ _ _ _ _ _ _ t.is t.origin-is t.inner-is t.index-is in
-    adds_same c'.define_at.result _ _ _ _ _ _ _ _ (ap (λ (d : CodeDraft). keys_in (Some (draft_view d))) is ∙ ap (λ (x : TomlNode). keys_in (Some x)) (draft_view-Table _ _ _))
-    (ap draft_firsts is ∙ draft_firsts-Table _ _ _) (draft_firsts-Table c'.in-Some.after c'.define_at.new.keys c'.define_at.new.index) c'.define_at.ensures.firsts
+    adds_same c'.define_at.result _ _ _ _ _ _ _ _
+    (ap (λ (d : CodeDraft). keys_in (Some (draft_view d))) is ∙ ap (λ (x : TomlNode). keys_in (Some x)) (draft_view-Table _ _ _))
+    (ap draft_firsts is ∙ draft_firsts-Table _ _ _)
+    (draft_firsts-Table c'.in-Some.after c'.define_at.new.keys c'.define_at.new.index) c'.define_at.ensures.firsts
 
 pub pass-returns-in-Some-clause-again : goal.pass-returns-in-Some-clause-again
 pass-returns-in-Some-clause-again c c' =
     let t = c'.in-Table in
     let is = ap draft_firsts (table_is _ _ _ _ _ _ _ t.is t.origin-is t.inner-is t.index-is) ∙ draft_firsts-Table _ _ _ in
-    IfErr-weaker c'.define_at.result _ _ (λ fault again. inr (subst (λ (f : Firsts). IsAgain (whole_of c'.args.route c'.args.entry) c'.args.entry.left f fault) (sym is) again))
+    IfErr-weaker c'.define_at.result _ _
+    (λ fault again. inr (subst (λ (f : Firsts). IsAgain (whole_of c'.args.route c'.args.entry) c'.args.entry.left f fault) (sym is) again))
     c'.define_at.ensures.again
 
 pub pass-returns-in-Header-clause-value : goal.pass-returns-in-Header-clause-value
@@ -152,7 +158,8 @@ pub pass-returns-in-Header-clause-firsts : goal.pass-returns-in-Header-clause-fi
 pass-returns-in-Header-clause-firsts c c' =
     let t = c'.in-Tables in
     let is = tables_is _ _ _ _ _ _ _ t.is refl t.last-is t.index-is in
-    adds_same c'.define_at-in-Header.result _ _ _ _ _ _ _ _ (ap (λ (d : CodeDraft). keys_in (Some (draft_view d))) is ∙ ap (λ (x : TomlNode). keys_in (Some x)) (draft_view-Tables _ _ _))
+    adds_same c'.define_at-in-Header.result _ _ _ _ _ _ _ _
+    (ap (λ (d : CodeDraft). keys_in (Some (draft_view d))) is ∙ ap (λ (x : TomlNode). keys_in (Some x)) (draft_view-Tables _ _ _))
     (ap draft_firsts is ∙ draft_firsts-Tables _ _ _) (draft_firsts-Tables _ c'.define_at-in-Header.new.keys c'.define_at-in-Header.new.index)
     c'.define_at-in-Header.ensures.firsts
 

@@ -68,7 +68,8 @@ array-items-preserved c c' =
                 ∙ rw (c'.in_ok-push.ensures.items, items_view-push c'.items.found.items c'.in-Ok.read.0),
           ),
       (ends_then c'.args.s.now l.rest.now c'.in-Ok-past_element.next.now l.invariant.3
-          (item_left c'.args.depth l.rest.now _ c'.in-Ok.read.1.now c'.in-Ok-past_element.next.now 93 (rw start_is at c'.in-Ok.ensures.value) c'.in-Ok-past_element.ensures.value)),
+          (item_left c'.args.depth l.rest.now _ c'.in-Ok.read.1.now c'.in-Ok-past_element.next.now 93
+          (rw start_is at c'.in-Ok.ensures.value) c'.in-Ok-past_element.ensures.value)),
     )
 
 pub array-returns-in-Err-clause-conflict : goal.array-returns-in-Err-clause-conflict
@@ -146,7 +147,8 @@ braces-returns-in-Err-past_element-clause-value c c' n h refused =
     let read = keyval_is (val c'.args.depth) (skip_blank l.rest.now) key _ _ _ named c'.in-Ok-value.ensures.value in
     let (m, room, loop) = l.invariant.2 n h in
     loop
-    ∙ members_unended (val c'.args.depth) m _ _ l.rest.now key _ _ (omega arith) other read (rw sealed_member at c'.in_default.ensures.value) (c'.in-Err-past_element.ensures.value refused)
+    ∙ members_unended (val c'.args.depth) m _ _ l.rest.now key _ _ (omega arith) other read
+      (rw sealed_member at c'.in_default.ensures.value) (c'.in-Err-past_element.ensures.value refused)
 
 pub braces-members-preserved : goal.braces-members-preserved
 braces-members-preserved c c' =
@@ -167,12 +169,14 @@ braces-members-preserved c c' =
           let (m, room, loop) = l.invariant.2 n h in (
             m - 1,
             omega arith,
-            loop ∙ members_more (val c'.args.depth) m _ _ l.rest.now key _ _ _ (omega arith) other read (rw sealed_member at c'.in_default.ensures.value) c'.in-Ok-past_element.ensures.value,
+            loop ∙ members_more (val c'.args.depth) m _ _ l.rest.now key _ _ _ (omega arith) other read
+              (rw sealed_member at c'.in_default.ensures.value) c'.in-Ok-past_element.ensures.value,
           ),
       (ends_then c'.args.s.now l.rest.now c'.in-Ok-past_element.next.now l.invariant.3
-          (pair_left c'.args.depth l.rest.now key c'.in-Ok.read.1.now _ c'.in-Ok-value.read.1.now c'.in-Ok-past_element.next.now 125 named c'.in-Ok-value.ensures.value
-          c'.in-Ok-past_element.ensures.value)),
-      (knows_more_pairs c'.args.depth c'.args.s.now l.rest.now c'.in-Ok-past_element.next.now (table_view l.found) key (length c'.skip_blank-start.result.now) _ _ l.invariant.4
+          (pair_left c'.args.depth l.rest.now key c'.in-Ok.read.1.now _ c'.in-Ok-value.read.1.now c'.in-Ok-past_element.next.now 125
+          named c'.in-Ok-value.ensures.value c'.in-Ok-past_element.ensures.value)),
+      (knows_more_pairs c'.args.depth c'.args.s.now l.rest.now c'.in-Ok-past_element.next.now
+          (table_view l.found) key (length c'.skip_blank-start.result.now) _ _ l.invariant.4
           (record {
             rest = l.rest.now;
             after = c'.in-Ok.read.1.now;
@@ -269,7 +273,8 @@ value-returns-in-Ok-braces-clause-value c c' =
     let a : (first s == 91) ≡ false = grind (arith, common_steps) in
     let b : (first s == 123) ≡ true = grind (arith, common_steps) in
     val_table c'.args.depth s some a b
-    ∙ rw (← c'.skip-else-byte-eq91.ensures.rest, c'.in-Ok-braces.ensures.value (length s) c'.skip-else-byte-eq91.ensures.shorter, node_view-Table Closed c'.in-Ok-braces.members)
+    ∙ rw (← c'.skip-else-byte-eq91.ensures.rest, c'.in-Ok-braces.ensures.value (length s) c'.skip-else-byte-eq91.ensures.shorter,
+      node_view-Table Closed c'.in-Ok-braces.members)
 
 pub value-returns-then-byte-ne123-clause-conflict : goal.value-returns-then-byte-ne123-clause-conflict
 value-returns-then-byte-ne123-clause-conflict c c' = IfErr-weaker c'.atom.result _ _ (λ f none. other_than _ f none) c'.atom.ensures.once
@@ -280,5 +285,6 @@ value-returns-in-Err-clause-conflict c c' =
 
 pub value-returns-in-Err-braces-clause-conflict : goal.value-returns-in-Err-braces-clause-conflict
 value-returns-in-Err-braces-clause-conflict c c' =
-    conflict_in c'.args.s.now c'.skip-else-byte-eq91.result.now _ (skip_ends c'.args.s.now c'.skip-else-byte-eq91.result.now c'.skip-else-byte-eq91.ensures.rest)
+    conflict_in c'.args.s.now c'.skip-else-byte-eq91.result.now _
+    (skip_ends c'.args.s.now c'.skip-else-byte-eq91.result.now c'.skip-else-byte-eq91.ensures.rest)
     c'.in-Err-braces.ensures.conflict

@@ -10,8 +10,8 @@ pub returns-clause-firsts : goal.returns-clause-firsts
 returns-clause-firsts c =
     let dots = path_view c.deref.result.now in
     let whole : map (λ step. step.1) (steps_along [] dots) ≡ path_view c.args.key.path.items = path_steps [] dots ∙ ap path_view c.deref.ensures.value in
-    subst (λ (path : List (List ℕ)). IfOk c.define_at.result (λ _. AddsFirsts (path ++ string_bytes c.args.key.last ∷ []) c.args.left (table_view c.args.table.now)
-    (keys_firsts c.args.table.now.keys.items) (keys_firsts c.define_at.new.keys.items))) whole c.define_at.ensures.firsts
+    subst (λ (path : List (List ℕ)). IfOk c.define_at.result (λ _. AddsFirsts (path ++ string_bytes c.args.key.last ∷ []) c.args.left
+    (table_view c.args.table.now) (keys_firsts c.args.table.now.keys.items) (keys_firsts c.define_at.new.keys.items))) whole c.define_at.ensures.firsts
 
 pub returns-clause-again : goal.returns-clause-again
 returns-clause-again c =

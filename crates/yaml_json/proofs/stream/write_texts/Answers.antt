@@ -105,8 +105,8 @@ returns-in-Err-begin_next g c =
       place = l.invariant.7;
       gives = record {
         stops = stops_next s.depth s.flow s.unique_names a.held.now a.writer.now (g.W.Write.contents a.sink.now) l.rest.now l.writer
-            (g.W.Write.contents l.sink) l.invariant.4 c.in-Some.end c.in-Some.ensures given named readable wrote a.reading.now.place error c.begin_next.new.writer
-            (g.W.Write.contents c.begin_next.new.sink) c.in-Err-begin_next.ensures.failed;
+            (g.W.Write.contents l.sink) l.invariant.4 c.in-Some.end c.in-Some.ensures given named readable wrote a.reading.now.place error
+            c.begin_next.new.writer (g.W.Write.contents c.begin_next.new.sink) c.in-Err-begin_next.ensures.failed;
         grew = grew_then a.writer.now l.writer c.begin_next.new.writer (emitter_error error) l.invariant.6
             (grew_then l.writer given c.begin_next.new.writer (emitter_error error) (grew_kept l.writer given gave.given.kept)
             c.in-Err-begin_next.ensures.grew);

@@ -32,7 +32,8 @@ returns-in-123 g c = record {
 
 pub returns-in-91 : goal.returns-in-91
 returns-in-91 g c = record {
-  steps = opens_array c.args.text.now c.opening-in-91.result (ap head (sym c.as_bytes.ensures.value) ∙ sym c.byte_at.ensures ∙ c.in-91.is) c.opening-in-91.ensures;
+  steps = opens_array c.args.text.now c.opening-in-91.result
+      (ap head (sym c.as_bytes.ensures.value) ∙ sym c.byte_at.ensures ∙ c.in-91.is) c.opening-in-91.ensures;
   over =
       let d = c.args.text.now in
       leads_on d (drop 1 d) c.opening-in-91.result.rest.now

@@ -1,4 +1,5 @@
-use Rattle.yaml_writer.proofs.Common.{ℕ, ◌==◌, Bool, if◌then◌else◌, [], ◌∷◌, ◌++◌, ◌≡◌, ◌∙◌, ap, chars, encode_utf8_all, nil_from_length, string_bytes, sym, Text}
+use Rattle.yaml_writer.proofs.Common.{ℕ, ◌==◌, Bool, if◌then◌else◌, [], ◌∷◌, ◌++◌, ◌≡◌, ◌∙◌, ap, chars,
+  encode_utf8_all, nil_from_length, string_bytes, sym, Text}
 use Rattle.std.proofs.lemmas.Bool.{eqb-true, false_from_ne_true}
 use Rattle.std.proofs.lemmas.Str.{IsUtf8-past_char, chars-nil, chars_past_char}
 use Rattle.std.specs.Str.Iter.{chars_rest}
@@ -32,7 +33,8 @@ loop-character-preserved g c =
     let stood : string_bytes l.lines ++ encode_utf8_all (commented l.spot (c.in-Some.character ∷ rest))
     ≡ encode_utf8_all (comment_lines (chars c.args.text.now)) =
     ap (λ (t : Text). string_bytes l.lines ++ encode_utf8_all (commented l.spot t)) (sym step) ∙ l.invariant.0 in (
-      ap (λ (spot : LineSpot). bytes ++ encode_utf8_all (commented spot rest)) (sym (ap (λ (feed : Bool). if feed then Start else Within) (false_from_ne_true (c.in-Some.character == 10) (λ is. c.if-character-eq10.false (eqb-true c.in-Some.character 10 is)))))
+      ap (λ (spot : LineSpot). bytes ++ encode_utf8_all (commented spot rest)) (sym (ap (λ (feed : Bool). if feed then Start else Within)
+          (false_from_ne_true (c.in-Some.character == 10) (λ is. c.if-character-eq10.false (eqb-true c.in-Some.character 10 is)))))
           ∙ next_commented (string_bytes l.lines) bytes l.spot c.in-Some.character rest (encode_utf8_all (comment_lines (chars c.args.text.now)))
           c.in_ok-push_commented.ensures stood,
       IsUtf8-past_char _ _ c.in-Some.character l.invariant.1 c.in-Some.ensures.steps.0,

@@ -22,7 +22,8 @@ returns g c = λ empty.
     rw (← c.self.view_is)
     (alias_done (machine_state c.self.inside) c.self.inside.directives c.self.inside.frames
     (chars c.args.name.now) empty c.is_simple_alias_key-simple.result _ _ c.write_alias.new.pen c.write_alias.result
-    (seen_at_node c.self.inside (at_node_inside c.self.inside c.self.view_is (sym c.is_at_node.ensures ∙ c.if-not-is_at_node.false))) (sym c.in_ok-analyze_anchor.ensures) c.next_place-place.ensures.place
+    (seen_at_node c.self.inside (at_node_inside c.self.inside c.self.view_is (sym c.is_at_node.ensures ∙ c.if-not-is_at_node.false)))
+    (sym c.in_ok-analyze_anchor.ensures) c.next_place-place.ensures.place
     c.is_simple_alias_key-simple.ensures
     (c.advance-self-inside.ensures.stage c.self.inside.directives)
     (c.write_alias.ensures (machine_state c.self.inside).open_ended))

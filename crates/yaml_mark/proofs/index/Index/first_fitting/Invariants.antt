@@ -5,4 +5,5 @@ use Rattle.yaml_mark.proofs.index.Index.first_fitting.Given as goal
 use Rattle.yaml_mark.specs.Index.{Finds}
 
 abbrev pub invariant-loop-length : goal.invariant-loop-length
-invariant-loop-length g l = (list : List (yaml_tag_directive_t g.row.A.Denot)) → Finds l.self list → l.first ≡ position (fits_some l.tag (take l.length-index l.length-items)) list
+invariant-loop-length g l =
+    (list : List (yaml_tag_directive_t g.row.A.Denot)) → Finds l.self list → l.first ≡ position (fits_some l.tag (take l.length-index l.length-items)) list

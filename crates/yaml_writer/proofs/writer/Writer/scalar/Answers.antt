@@ -1,4 +1,5 @@
-use Rattle.yaml_writer.proofs.Common.{ℕ, Bool, List, Option, None, chars, is_none, is_some, false, true, not, ◌||◌, ◌≡◌, refl, ap, ap₂, subst, sym, ◌∙◌, option_or, Event, Text, scalar}
+use Rattle.yaml_writer.proofs.Common.{ℕ, Bool, List, Option, None, chars, is_none, is_some, false, true, not, ◌||◌, ◌≡◌, refl, ap, ap₂,
+  subst, sym, ◌∙◌, option_or, Event, Text, scalar}
 use Rattle.yaml_writer.proofs.Common.{seen_scalar_style, writer_state_of, WriterState}
 use Rattle.yaml_base.proofs.Common.{Some, false≢true, or_parts}
 use Rattle.std.specs.{Borrow.Bor, Prelude.Result}
@@ -51,7 +52,8 @@ returns g c =
     let bare_with = λ (none : Bool).
     scalar (record { anchor = None; tag = own; value = value; plain_implicit = none; quoted_implicit = none; style = style }) in
     let same : bare_with c.is_none-implicit.result ≡ event c.args.self.now =
-    ap bare_with (none_seen c.args.own c.is_none-implicit.result c.is_none-implicit.ensures) ∙ bare_event before own value style no_anchor no_tag ∙ ap event c.self.view_is in
+    ap bare_with (none_seen c.args.own c.is_none-implicit.result c.is_none-implicit.ensures) ∙ bare_event before own value style no_anchor no_tag
+    ∙ ap event c.self.view_is in
     let emits = subst (λ (e : Event). EmitsScalar before.emitter e answer emitter) same c.yaml_emitter_emit_scalar.ensures.emits in
     subst (λ (r : Result (Unit {0}) yaml_error_t). Gives c.args.self.now (event c.args.self.now) r (record before { emitter = emitter }))
     (sym c.into_result.ensures)
