@@ -6,7 +6,7 @@ use Rattle.yaml_base.proofs.Common.{at_value, Partial, before_stream, and_from, 
 use Rattle.yaml_base.proofs.Common.{pushed, partial_of, empty_scalar, outer_missing, levels_missing, missing, missing_after, completion, some_if}
 use Rattle.yaml_base.proofs.Common.{name_or_tag_fault, content_fault, expected, place_fault, most_open, begins_collection, ends_collection, open_levels}
 use Rattle.yaml_base.{proofs.NoFaults.neither, proofs.NoFaults.is_none_none, proofs.OpenCounts.open_count-levels, proofs.Pushes.partial_of_events}
-use Rattle.yaml_base.{proofs.Trees.stream_pushed, specs.Pieces.innermost_missing, specs.Refusal.BeginsAccepted, specs.Refusal.RefusedExactly}
+use Rattle.yaml_base.{proofs.Trees.stream_pushed, specs.Pieces.innermost_missing, specs.Refusal.IsAcceptedPrefix, specs.Refusal.RefusedExactly}
 use Rattle.yaml_base.{specs.declared.errors.yaml_error_t.yaml_error_t, specs.declared.errors.yaml_error_t.TheVariants.TooDeep}
 use Rattle.yaml_base.proofs.Common.{depth_fault, refusal_at, refusal, is_sound, open_count, nat_tests}
 use Rattle.yaml_base.proofs.Completions.{pushed-append, stream_completed, completion_pushed, prefix_is_partial}
@@ -24,7 +24,7 @@ pub record Stands (canonical : Bool) (events : List Event) : Type 0 where
   pub shallow : IsShallow events
 
 -- What begins an accepted list stands.
-pub stands_from_begins : (canonical : Bool) (events : List Event) → BeginsAccepted canonical events → Stands canonical events
+pub stands_from_begins : (canonical : Bool) (events : List Event) → IsAcceptedPrefix canonical events → Stands canonical events
 stands_from_begins canonical events given =
     let rest = given.rest in
     let whole : partial_of (events ++ rest) ≡ Some (after_stream given.accepted.stream) = ap partial_of (sym given.accepted.is_stream)
@@ -114,7 +114,7 @@ shallow_more events more shallow few prefix rest is =
     shallow_cut events more prefix rest shallow few (cut_at prefix rest events more is)
 
 -- What stands begins an accepted list: its completion.
-pub begins_from_stands : (canonical : Bool) (events : List Event) → Stands canonical events → BeginsAccepted canonical events
+pub begins_from_stands : (canonical : Bool) (events : List Event) → Stands canonical events → IsAcceptedPrefix canonical events
 begins_from_stands canonical events stands =
     let p = stands.partial in
     let easy = missing_easy canonical p in

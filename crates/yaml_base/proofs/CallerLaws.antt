@@ -9,7 +9,8 @@ use Rattle.yaml_base.proofs.Common.{is_written_in_flow, Brackets, square, curly,
 use Rattle.yaml_base.proofs.Common.{is_undented, deeper, is_simple_scalar, is_simple_collection, render_flow_place, render_place, settings_for, text_written}
 use Rattle.yaml_base.proofs.Common.{bytes_written, list_layout, Encoding, Effective, effective, Frame, Stage, at_stream, at_document, at_node, at_document_end}
 use Rattle.yaml_base.proofs.Common.{next_place, stage_after, Stepped, leaf_step, frame_opened, start_step, step, ends_next, Steps, then_steps, steps}
-use Rattle.yaml_base.proofs.Common.{begins_no_plain, holds_no_plain, read_plain, is_empty, allowed_by_quotes, allowed_by_blanks, Choice, is_literal, chosen}
+use Rattle.yaml_base.proofs.Common.{begins_no_plain, holds_no_plain, read_plain, is_empty, allowed_by_quotes, allowed_by_blanks, ChosenStyle,
+  is_literal, chosen}
 use Rattle.yaml_base.{proofs.Common.nat_tests, proofs.Decoding.decode-encode, proofs.StepLaws.stream_steps, proofs.Trees.tree_of-stream_events}
 use Rattle.yaml_base.{specs.Decode.decode, specs.Settings.escapes_separators, specs.Steps.is_first, specs.Steps.end_step, specs.Steps.node_step}
 use Rattle.yaml_base.specs.Layout.{is_simple_alias, render_block_place, scalar_piece}
@@ -42,13 +43,13 @@ plain_holds_no_indicator breaks12 flow (x ∷ before) c rest value h =
     inside_here breaks12 flow (x ∷ before) c rest (read_holds breaks12 flow x (before ++ c ∷ rest) value h)
 
 -- a scalar's piece after what its place puts, with its body
-abbrev lead_after : Effective → List TagDirective → Place → Choice → Scalar → Rendered → Rendered
+abbrev lead_after : Effective → List TagDirective → Place → ChosenStyle → Scalar → Rendered → Rendered
 lead_after s directives place choice content placed =
     render_then
     (render_then placed (render_properties s.portable directives content.anchor (scalar_tag s.canonical content) choice.bare))
     (render_separation choice.style place.in_flow content.value)
 
-abbrev scalar_made : Place → Choice → Scalar → ℕ → (lead body : Rendered) → RenderedPiece
+abbrev scalar_made : Place → ChosenStyle → Scalar → ℕ → (lead body : Rendered) → RenderedPiece
 scalar_made place choice content open_ended lead body =
     record {
       piece = record { lead = lead.text; body = Some (body_at place choice.style content.value body) };
@@ -100,7 +101,7 @@ module _ (s : Effective) (e : Encoding) (limit : ℕ) (breaks12 : Bool) (same : 
       let indent = deeper s.indent place.column in
       let lead = λ (placed : Rendered). lead_after s directives place choice content placed in
       let placed = render_place s place simple standing.cursor in
-      ap (λ (choice : Choice).
+      ap (λ (choice : ChosenStyle).
       let lead = lead_after s directives place choice content (render_place other place simple standing.cursor) in
       scalar_made place choice content standing.open_ended lead (render_body choice.style other width indent content.value lead.cursor))
       (choice_other place simple content)

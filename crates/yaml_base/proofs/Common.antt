@@ -35,7 +35,7 @@ pub use Rattle.yaml_base.specs.Event.{scalar, sequence_start, sequence_end, mapp
 pub use Rattle.yaml_base.specs.Grammar.{Node, alias_node, scalar_node, Nodes, sequence_node, Pairs, mapping_node, no_nodes, nodes_and, no_pairs, pairs_and}
 pub use Rattle.yaml_base.specs.Grammar.{Document, Documents, no_documents, documents_and, Stream, node_events, nodes_events, pairs_events, document_events}
 pub use Rattle.yaml_base.specs.Grammar.{documents_events, stream_events, Level, at_item, at_key, at_value, Partial, before_stream, between_documents, with_node}
-pub use Rattle.yaml_base.specs.Grammar.{within_document, after_root, after_stream, closed, push_within, push, pushed, partial_of, finished, tree_of}
+pub use Rattle.yaml_base.specs.Grammar.{within_document, after_root, after_stream, closed, push_within, push, pushed, partial_of, finish_stream, tree_of}
 pub use Rattle.yaml_base.specs.Layout.{Role, Body, as_root, as_item, as_key, render_if, as_value, Piece, Place, is_key, render_closing_marker, piece_text}
 pub use Rattle.yaml_base.specs.Layout.{is_in_mapping, text_of, is_undented, bodies_of, render_version, line_column, Standing, deeper, RenderedPiece, one_piece}
 pub use Rattle.yaml_base.specs.Layout.{entries_column, RenderedPieces, byte_count, then_pieces, render_tag_directives, name_count, piece_without_body, is_short}
@@ -73,7 +73,7 @@ pub use Rattle.yaml_base.specs.graphs.Unfolding.{Placed, alias_placed, PlacedNod
 pub use Rattle.yaml_base.specs.graphs.Unfolding.{HasShape, HaveShapes, Occurrence, alias_occurrence, node_occurrence, occurrences, occurrences_below, IsReached}
 pub use Rattle.yaml_base.specs.graphs.Unfolding.{has_anchor, is_occurrence_of, NamesItsNode, NameTheirNodes, first_reached, child_reached, TreeUnfolds}
 pub use Rattle.yaml_base.specs.graphs.Unfolding.{ContentUnfolds, IsWholeGraph}
-pub use Rattle.yaml_base.specs.reading.CanonicalReader.{shorthand_read, verbatim_read, tag_read, canonical_content}
+pub use Rattle.yaml_base.specs.reading.CanonicalReader.{shorthand_read, verbatim_read, read_tag, canonical_content}
 pub use Rattle.yaml_base.specs.reading.Content.{tagged, untagged, Content, scalar_content, sequence_content, mapping_content, no_contents, contents_and}
 pub use Rattle.yaml_base.specs.reading.Content.{no_content_pairs, content_pairs_and, DocumentContent, node_content}
 pub use Rattle.yaml_base.specs.reading.ReadBlock.{elements, strip, digit_first, after_digit, chomping_first, after_chomping, after_break, read_lines}
@@ -82,7 +82,7 @@ pub use Rattle.yaml_base.specs.reading.ReadDouble.{QuotePlace, between, goes_on,
 pub use Rattle.yaml_base.specs.reading.ReadDouble.{quoted_from, quoted_reading, value_before, value_alone, read_double}
 pub use Rattle.yaml_base.specs.reading.ReadPlain.{is_read_white, begins_white, begins_with_three, begins_no_plain, begins_with_hash, holds_no_plain, read_plain}
 pub use Rattle.yaml_base.specs.reading.ReadTags.{ParsedTag, bare_parsed, name_parsed, CutText, prefix_among, directives_assumed, cut_after_exclamation}
-pub use Rattle.yaml_base.specs.reading.ReadTags.{name_joined, without_closing_angle, tag_parsed}
+pub use Rattle.yaml_base.specs.reading.ReadTags.{name_joined, without_closing_angle, parse_tag}
 pub use Rattle.yaml_base.specs.reading.TidyText.{begins_with_spaces, begins_with_blank_line, begins_with_deep_line, has_deep_lines, has_no_space_before_break}
 pub use Rattle.yaml_base.specs.reading.TidyText.{ends_white, has_clean_edges, is_tidy_style, is_tidy_character, is_tidy}
 pub use Rattle.yaml_base.specs.scalars.Analysis.{Charset, Allowances, somewhere, is_empty, is_special, bars_block, allows_block, allowances}
@@ -90,7 +90,7 @@ pub use Rattle.yaml_base.specs.scalars.Analysis.{is_special_but_tab, is_blank_to
 pub use Rattle.yaml_base.specs.scalars.BlockHeader.{ending, indentation_hint, ending_hint, render_hint, ends_in_break}
 pub use Rattle.yaml_base.specs.scalars.DoubleQuoted.{short_escapes, letter_among, escape_after_backslash, escape_text, needs_escape, character_text}
 pub use Rattle.yaml_base.specs.scalars.DoubleQuoted.{double_inside, render_quote}
-pub use Rattle.yaml_base.specs.scalars.Style.{Choice, lacks_tag_and_flags, is_plain, is_block, is_literal, requested_style, quoted_style, fitting_style}
+pub use Rattle.yaml_base.specs.scalars.Style.{ChosenStyle, lacks_tag_and_flags, is_plain, is_block, is_literal, requested_style, quoted_style, fitting_style}
 pub use Rattle.yaml_base.specs.scalars.Style.{fits_plain, chosen}
 pub use Rattle.yaml_base.specs.streams.StreamContent.{Stood, stood_plain, stood_quoted, stood_bare, Tagging, with_tag, without_tag, Tree, alias_tree}
 pub use Rattle.yaml_base.specs.streams.StreamContent.{scalar_tree, Trees, sequence_tree, TreePairs, mapping_tree, no_trees, trees_and, no_tree_pairs}
@@ -112,7 +112,7 @@ pub use Rattle.yaml_base.specs.streams.StreamNodes.{is_space_or_break, text_by_k
 pub use Rattle.yaml_base.specs.streams.StreamNodes.{kind_of_node, ReadsText, node_by_kind, node_lines, begins_properties, after_properties, text_or_properties}
 pub use Rattle.yaml_base.specs.streams.StreamNodes.{node_read}
 pub use Rattle.yaml_base.specs.streams.StreamScalars.{Rules, Properties, no_properties, PropertiesRead, cut_before_space, name_read, anchor_of_word}
-pub use Rattle.yaml_base.specs.streams.StreamScalars.{tag_of_word, tag_first, properties_read, collection_tag_parsed, tagging_parsed}
+pub use Rattle.yaml_base.specs.streams.StreamScalars.{tag_of_word, leading_tag, properties_read, collection_tag_parsed, tagging_of}
 pub use Rattle.yaml_base.specs.streams.StreamScalars.{style_of_first_character, stood_in_style, scalar_parsed, scalar_of_style, an_alias, empty_sequence}
 pub use Rattle.yaml_base.specs.streams.StreamScalars.{empty_mapping, a_scalar, kind_of_word, word_by_kind, word_after, word_read}
 pub use Rattle.yaml_base.specs.streams.StreamTokens.{FlowToken, word, opens, symbol, blank, line_end, FlowPlace, free, FlowStep, FlowClass, is_white_blank}

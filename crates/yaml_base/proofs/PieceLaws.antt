@@ -1,6 +1,6 @@
 -- One piece for each event; and written pieces are final: every continuation begins with them.
 use Rattle.yaml_base.proofs.Common.{arith, suc, unwrap_or, option_map, option_and_then, Option, Some, length, take, Bool, false, true, ◌&&◌, List, [], ◌++◌}
-use Rattle.yaml_base.proofs.Common.{◌∷◌, refl, ◌≡◌, ap, sym, ◌∙◌, Event, Stream, stream_events, Partial, after_stream, push, pushed, partial_of, finished}
+use Rattle.yaml_base.proofs.Common.{◌∷◌, refl, ◌≡◌, ap, sym, ◌∙◌, Event, Stream, stream_events, Partial, after_stream, push, pushed, partial_of, finish_stream}
 use Rattle.yaml_base.proofs.Common.{first_standing, layout, Standing, missing, completion, list_layout, first_ends_collection, last_closes_at_once}
 use Rattle.yaml_base.proofs.Common.{begins_collection, ends_collection, Effective, Stage, at_stream, step, ends_next, Steps, then_steps, steps, nat_tests}
 use Rattle.std.proofs.lemmas.List.{length-take-le, take_at}
@@ -58,7 +58,7 @@ open_steps prefix rest s true true last first other = cc
 pub list_layout_steps : (events : List Event) (t : Stream) (s : Effective) → partial_of events ≡ Some (after_stream t)
     → list_layout s events ≡ (steps s false events at_stream first_standing).pieces
 list_layout_steps events t s whole =
-    ap (λ o. unwrap_or (option_map (layout s) (option_and_then finished o)) []) whole
+    ap (λ o. unwrap_or (option_map (layout s) (option_and_then finish_stream o)) []) whole
     ∙ sym (stream_steps t s) ∙ ap (λ all. (steps s false all at_stream first_standing).pieces) (partial_of_events _ _ whole)
 
 -- A prefix's pieces in any whole list that begins with it and doesn't at once close a collection that it begins last.

@@ -3,7 +3,7 @@ use Rattle.yaml_base.proofs.Common.{arith, option_and_then, Option, Some, List, 
 use Rattle.yaml_base.proofs.Common.{Event, stream_end, sequence_end, mapping_end, Node, alias_node, scalar_node, Nodes, sequence_node, Pairs, mapping_node}
 use Rattle.yaml_base.proofs.Common.{no_nodes, nodes_and, no_pairs, pairs_and, Documents, no_documents, documents_and, Stream, node_events}
 use Rattle.yaml_base.proofs.Common.{nodes_events, pairs_events, document_events, documents_events, stream_events, Level, at_item, at_key, at_value}
-use Rattle.yaml_base.proofs.Common.{between_documents, within_document, after_stream, with_node, pushed, partial_of, finished, tree_of, Encoding}
+use Rattle.yaml_base.proofs.Common.{between_documents, within_document, after_stream, with_node, pushed, partial_of, finish_stream, tree_of, Encoding}
 
 -- Pushing a node's events appends the node.
 mutual
@@ -40,7 +40,7 @@ pub stream_pushed : (t : Stream) → partial_of (stream_events t) ≡ Some (afte
 stream_pushed t = documents_pushed t.documents t.encoding (stream_end ∷ [])
 
 pub tree_of-stream_events : (t : Stream) → tree_of (stream_events t) ≡ Some t
-tree_of-stream_events t = ap (option_and_then finished) (stream_pushed t)
+tree_of-stream_events t = ap (option_and_then finish_stream) (stream_pushed t)
 
 -- Two trees with the same events are the same tree.
 pub one_tree : (t u : Stream) → stream_events t ≡ stream_events u → t ≡ u

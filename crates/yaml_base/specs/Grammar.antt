@@ -134,13 +134,13 @@ abbrev pub partial_of : List Event → Option Partial
 partial_of events = pushed before_stream events
 
 -- the stream, where it has ended
-abbrev pub finished : Partial → Option Stream
-finished (after_stream stream) = Some stream
-finished _ = None
+abbrev pub finish_stream : Partial → Option Stream
+finish_stream (after_stream stream) = Some stream
+finish_stream _ = None
 
 -- the tree of a whole list
 abbrev pub tree_of : List Event → Option Stream
-tree_of events = option_and_then finished (partial_of events)
+tree_of events = option_and_then finish_stream (partial_of events)
 
 -- a list is the events of at most one stream
 abbrev pub OneTree : Type 0

@@ -10,7 +10,7 @@ use Rattle.yaml_base.specs.Event.{ScalarStyle, plain, single_quoted, double_quot
 use Rattle.yaml_base.specs.Percent.{percent_escaped, suffix_escaped}
 use Rattle.yaml_base.specs.Tags.{Spelling, shorthand, verbatim, spelling}
 use Rattle.yaml_base.specs.scalars.Analysis.{Allowances, Charset, is_empty, allows_block, allows_literal, allowances}
-use Rattle.yaml_base.specs.scalars.Style.{Choice, is_block, is_literal, chosen}
+use Rattle.yaml_base.specs.scalars.Style.{ChosenStyle, is_block, is_literal, chosen}
 use Rattle.yaml_base.specs.scalars.Plain.{plain_body}
 use Rattle.yaml_base.specs.scalars.SingleQuoted.{single_quoted_body}
 use Rattle.yaml_base.specs.scalars.DoubleQuoted.{double_quoted_body}
@@ -181,7 +181,7 @@ style_asked_at s place content =
     then double_quoted else content.style
 
 -- the style of a scalar at its place
-abbrev pub choice_of : Effective → Place → (simple : Bool) → Scalar → Choice
+abbrev pub choice_of : Effective → Place → (simple : Bool) → Scalar → ChosenStyle
 choice_of s place simple content =
     chosen
     (allowed_under s content)
@@ -189,7 +189,7 @@ choice_of s place simple content =
     content.plain_implicit content.quoted_implicit (place.in_flow) simple s.canonical
 
 -- what stands before a scalar's body: its place's indicators, its anchor and tag, and a space
-abbrev pub scalar_lead : Effective → List TagDirective → Place → (simple : Bool) → Choice → Scalar → Cursor → Rendered
+abbrev pub scalar_lead : Effective → List TagDirective → Place → (simple : Bool) → ChosenStyle → Scalar → Cursor → Rendered
 scalar_lead s directives place simple choice content cursor =
     render_then
     (render_then

@@ -107,12 +107,12 @@ pub record IsAccepted (canonical : Bool) (events : List Event) : Type 0 where
   pub shallow : (prefix rest : List Event) → prefix ++ rest ≡ events → open_count prefix ≤ most_open
 
 -- some accepted list begins with these events
-pub record BeginsAccepted (canonical : Bool) (events : List Event) : Type 0 where
+pub record IsAcceptedPrefix (canonical : Bool) (events : List Event) : Type 0 where
   pub rest : List Event
   pub accepted : IsAccepted canonical (events ++ rest)
 
 -- after events that begin an accepted list, an event is refused exactly where no accepted list goes on with it
 abbrev pub RefusedExactly : Type 0
 RefusedExactly =
-    (canonical : Bool) (before : List Event) (event : Event) → BeginsAccepted canonical before
-    → (refusal canonical before event ≡ None) ↔ BeginsAccepted canonical (before ++ event ∷ [])
+    (canonical : Bool) (before : List Event) (event : Event) → IsAcceptedPrefix canonical before
+    → (refusal canonical before event ≡ None) ↔ IsAcceptedPrefix canonical (before ++ event ∷ [])

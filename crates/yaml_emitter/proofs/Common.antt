@@ -27,7 +27,8 @@ pub use Rattle.yaml_base.proofs.Common.{both_break, Effective, effective, Stage,
 pub use Rattle.yaml_base.proofs.Common.{stage_after, ends_next, Steps, steps, reads_alike, name_fault, anchor_fault, alias_fault, tag_fault, version_fault}
 pub use Rattle.yaml_base.proofs.Common.{exclamation_mark, handle_fault, prefix_fault, directive_fault, gives_handle, next_directive_fault, directives_fault}
 pub use Rattle.yaml_base.proofs.Common.{directives_fault_after, directives_in_force, Spelling, verbatim, spelling, spelled, canonical_content, DocumentContent}
-pub use Rattle.yaml_base.proofs.Common.{Charset, Allowances, is_empty, is_special, allowances, needs_escape, Choice, lacks_tag_and_flags, is_plain, fits_plain}
+pub use Rattle.yaml_base.proofs.Common.{Charset, Allowances, is_empty, is_special, allowances, needs_escape, ChosenStyle, lacks_tag_and_flags,
+  is_plain, fits_plain}
 pub use Rattle.yaml_base.proofs.Common.{requested_style, quoted_style, fitting_style, chosen, agrees, stream_trees}
 pub use Rattle.std.proofs.Common.{add-one, drop-cons, drop-drop, length-take-le, of_z, rules, take-append-drop, take_all, take_at, to_z, w32, zero-add}
 pub use Rattle.std.proofs.lemmas.{Grind.common_steps, Grind.elements, Int.ints, Int.to_z-of_z, List.drop-map, List.Elements.All-nil, List.Elements.All-cons}
@@ -40,7 +41,7 @@ pub use Rattle.yaml_base.{proofs.Progress.written-append, proofs.QueueLaws.writt
 pub use Rattle.yaml_base.{proofs.Trees.tree_of-stream_events, proofs.stream_documents.StreamEachDocument.all_of_both, specs.Encoding.text_bytes}
 pub use Rattle.yaml_base.{specs.Indicators.render_indicator, specs.Indicators.spaced, specs.Indicators.yaml_directive, specs.Meaning.BodyMeans}
 pub use Rattle.yaml_base.{specs.Meaning.option_scalars, specs.Output.flushes, specs.Output.last_flushes, specs.Pieces.pieces, specs.Prefix.IsPrefix}
-pub use Rattle.yaml_base.{specs.Pieces.last_begins_collection, specs.Ready.held_back, specs.Refusal.properties_fault, specs.Refusal.BeginsAccepted}
+pub use Rattle.yaml_base.{specs.Pieces.last_begins_collection, specs.Ready.held_back, specs.Refusal.properties_fault, specs.Refusal.IsAcceptedPrefix}
 pub use Rattle.yaml_base.specs.Settings.{nothing_given}
 pub use Rattle.yaml_base.{specs.Tags.last_from, specs.Tags.without_last, specs.Tags.default_directives, specs.WrittenTexts.HoldsRaw, specs.Characters.backslash}
 pub use Rattle.yaml_base.{specs.reading.Content.documents_content, specs.scalars.Analysis.begins_with, specs.scalars.Analysis.allows_plain}

@@ -6,7 +6,7 @@ use Rattle.yaml_base.specs.Event.{Event}
 use Rattle.yaml_base.specs.Grammar.{Document, Documents}
 use Rattle.yaml_base.specs.Pieces.{pieces}
 use Rattle.yaml_base.specs.Output.{settings_for, bytes_written}
-use Rattle.yaml_base.specs.Refusal.{BeginsAccepted}
+use Rattle.yaml_base.specs.Refusal.{IsAcceptedPrefix}
 use Rattle.yaml_base.specs.declared.errors.yaml_error_t.{yaml_error_t}
 use Rattle.yaml_base.specs.declared.errors.yaml_error_t.TheVariants.{WriteError, Memory}
 use Rattle.yaml_emitter.specs.State.{State}
@@ -24,7 +24,7 @@ KeepsFirstDocuments given all count output =
 abbrev pub KeepsAcceptedDocuments : Settings → List Event → (output : List ℕ) → Type 0
 KeepsAcceptedDocuments given all output =
     (encoding : Option Encoding) (documents : Documents) (last : Document) (later : List Event) → whole_documents encoding documents last ++ later ≡ all
-    → BeginsAccepted given.canonical (whole_documents encoding documents last)
+    → IsAcceptedPrefix given.canonical (whole_documents encoding documents last)
     → IsPrefix (bytes_written (settings_for given all) (pieces (settings_for given all) all (length (whole_documents encoding documents last)))) output
 
 -- the documents that were complete stay in the output: without an error all of them; after a refusal those with which an accepted

@@ -5,7 +5,7 @@ use Rattle.yaml_base.specs.Prefix.{IsPrefix}
 use Rattle.yaml_base.specs.Settings.{Settings}
 use Rattle.yaml_base.specs.Encoding.{cut}
 use Rattle.yaml_base.specs.Event.{Event, stream_end, document_start, sequence_start, mapping_start}
-use Rattle.yaml_base.specs.Refusal.{IsAccepted, BeginsAccepted, refusal}
+use Rattle.yaml_base.specs.Refusal.{IsAccepted, IsAcceptedPrefix, refusal}
 use Rattle.yaml_base.specs.Ready.{awaited, written, held_back}
 use Rattle.yaml_base.specs.NodeLayout.{bodies_of}
 use Rattle.yaml_base.specs.Pieces.{list_layout, pieces}
@@ -77,8 +77,8 @@ pub record RefusedAt (given : Settings) (all : List Event) (error : yaml_error_t
   pub parts : prefix ++ event ∷ later ≡ all
   pub became_ready : length prefix < written all
   pub refusal : refusal given.canonical prefix event ≡ Some error
-  pub begins : BeginsAccepted given.canonical prefix
-  pub ends : BeginsAccepted given.canonical (prefix ++ event ∷ []) → ⊥
+  pub begins : IsAcceptedPrefix given.canonical prefix
+  pub ends : IsAcceptedPrefix given.canonical (prefix ++ event ∷ []) → ⊥
   pub text : HasText given all (length prefix) state
   pub output : BeginsOutput given all prefix (length prefix) state
 
@@ -161,7 +161,7 @@ pub record IsWritten (given : Settings) (all : List Event) (state : State) : Typ
   pub reads : given.canonical ≡ true → canonical_content given.breaks12 state.page.output ≡ content_of all
   pub reads_back : reads_alike given.portable given.canonical all ≡ true
       → agrees given.canonical all (stream_trees given.breaks12 state.page.output) ≡ true
-  pub reads_by_either : given.portable ≡ true → (breaks12 : Bool)
+  pub reads_with_either_breaks : given.portable ≡ true → (breaks12 : Bool)
       → agrees given.canonical all (stream_trees breaks12 state.page.output) ≡ true
   pub raw : HoldsRaw (settings_for given all) state.page.text
   pub tidy : All (BodyIsTidy (settings_for given all)) (bodies_of (list_layout (settings_for given all) all))

@@ -5,7 +5,7 @@ use Rattle.std.specs.List.{list_all}
 use Rattle.yaml_base.specs.Settings.{Settings, Effective}
 use Rattle.yaml_base.specs.Event.{Event}
 use Rattle.yaml_base.specs.Prefix.{IsPrefix}
-use Rattle.yaml_base.specs.Refusal.{BeginsAccepted, refusal}
+use Rattle.yaml_base.specs.Refusal.{IsAcceptedPrefix, refusal}
 use Rattle.yaml_base.specs.Ready.{written, held_back}
 use Rattle.yaml_base.specs.Layout.{Piece, first_standing}
 use Rattle.yaml_base.specs.Steps.{at_stream, Steps, steps, progress}
@@ -45,7 +45,7 @@ IsSettled s (event ∷ events) machine = machine.settings ≡ s
 pub record HasProgress (given : Settings) (all prefix : List Event) (progress : Steps) (machine : MachineState) : Type 0 where
   pub given_kept : machine.given ≡ given
   pub settled : IsSettled (settings_for given all) prefix machine
-  pub stands : BeginsAccepted given.canonical prefix
+  pub stands : IsAcceptedPrefix given.canonical prefix
   pub stage : machine.stage ≡ progress.stage
   pub standing : standing_of machine ≡ progress.standing
   pub page : HoldsPieces (settings_for given all) prefix progress.pieces machine.page
@@ -83,7 +83,7 @@ pub data HoldsCut (given : Settings) (s : Effective) (prefix : List Event) (even
     (page : Page) : Type 0 where
   holds_before : error ≡ Memory → HoldsPieces s prefix before.pieces page → HoldsCut given s prefix event before with_event error page
   holds_part :
-      BeginsAccepted given.canonical (prefix ++ event ∷ []) → IsPage s page
+      IsAcceptedPrefix given.canonical (prefix ++ event ∷ []) → IsPage s page
       → (error ≡ WriteError → page.error ≡ Some WriteError)
       → IsPrefix (text_written s before.pieces) page.text
       → IsPrefix page.text (text_written s with_event.pieces)
@@ -96,7 +96,7 @@ pub record StandsCut (given : Settings) (all : List Event) (error : yaml_error_t
   pub later : List Event
   pub failed : FailedAt all prefix event later
   pub given_kept : machine.given ≡ given
-  pub stands : BeginsAccepted given.canonical prefix
+  pub stands : IsAcceptedPrefix given.canonical prefix
   pub page :
       let s = settings_for given all in
       let before = steps s (closes_last prefix (event ∷ later)) prefix at_stream first_standing in
@@ -111,7 +111,7 @@ pub record StandsUnflushed (given : Settings) (all : List Event) (error : yaml_e
   pub later : List Event
   pub parts : before ++ later ≡ all
   pub given_kept : machine.given ≡ given
-  pub stands : BeginsAccepted given.canonical (take (written before) before)
+  pub stands : IsAcceptedPrefix given.canonical (take (written before) before)
   pub page :
       HoldsPiecesWith (Some error) (settings_for given all) (take (written before) before)
       (progress (settings_for given all) before).pieces machine.page

@@ -9,7 +9,7 @@ use Rattle.yaml_json.proofs.YamlOf.{sent_reads}
 use Rattle.yaml_json.specs.{declared.error.StreamError.StreamError, Places.HasPlaceWithin}
 use Rattle.yaml_json.proofs.TextsInTurn.{ends_with, one_more, joined_more, text_names, more_names, some_text, begins_nothing}
 use Rattle.yaml_json.specs.Sent.{AreUtf8, MayBeUnsent, SentTexts, SentSoFar, SentDocuments, StopsPartAt, StopsSending}
-use Rattle.yaml_writer.specs.WasGiven.{AddsTaking, IsAllTaken, WroteTaking, BeginsNext, BeginsUnsent}
+use Rattle.yaml_writer.specs.WasGiven.{AddsTaking, IsAllTaken, WroteTaking, BeginsNext, NextUnsent}
 use Rattle.yaml_writer.proofs.GivenLemmas.{adds_then}
 use Rattle.std.proofs.KnownBytes.{Appends-nil, Appends-trans}
 use Rattle.yaml_json.proofs.SentParts.{gives_all, separated}
@@ -204,7 +204,7 @@ module _ (depth : ℕ) (in_flow unique : Bool) (text : List ℕ) (was : WriterSt
         }
 
   -- since the sink failed
-  pub sending_fails : (after : WriterState) (holds : Option (List ℕ)) (fault : Error) → later ≡ texts_in left → BeginsUnsent given held after holds
+  pub sending_fails : (after : WriterState) (holds : Option (List ℕ)) (fault : Error) → later ≡ texts_in left → NextUnsent given held after holds
       → StopsSending depth unique in_flow text was start (faults.WriteFailed fault) after holds
   sending_fails after holds fault is fails =
       let before = events_with_separators was.canonical in_flow sending.parts in

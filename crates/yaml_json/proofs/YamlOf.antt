@@ -36,7 +36,8 @@ yaml_of given in_flow depth text bytes first filled stands canonical wrote finis
       read = wrote.read;
       stream = stream;
       reads = reads_as_json given in_flow text wrote.json bytes numbers texts stream.accepted whole;
-      reads_by_either = λ portable breaks12. reads_as_json (record given { breaks12 = breaks12 }) in_flow text wrote.json bytes numbers texts stream.accepted
+      reads_with_either_breaks = λ portable breaks12. reads_as_json (record given { breaks12 = breaks12 }) in_flow text wrote.json bytes
+          numbers texts stream.accepted
           (whole_by_either given breaks12 (events ++ closing) bytes portable whole);
     }
 
@@ -67,7 +68,7 @@ texts_read depth in_flow text was now taken part rest joined each adds given sen
       each = each;
       stream = stream;
       reads = reads_as_values given in_flow part rest all numbers texts stream.accepted whole;
-      reads_by_either = λ portable breaks12. reads_as_values (record given { breaks12 = breaks12 }) in_flow part rest all numbers texts stream.accepted
+      reads_with_either_breaks = λ portable breaks12. reads_as_values (record given { breaks12 = breaks12 }) in_flow part rest all numbers texts stream.accepted
           (whole_by_either given breaks12 (events ++ closing) all portable whole);
     }
 

@@ -11,7 +11,7 @@ use Rattle.yaml_base.specs.declared.errors.yaml_error_t.{yaml_error_t}
 use Rattle.yaml_base.specs.declared.errors.yaml_error_t.TheVariants.{Memory}
 use Rattle.yaml_emitter.specs.State.{State}
 use Rattle.yaml_writer.specs.Failing.{FailedWith, HasErrorSaid}
-use Rattle.yaml_writer.specs.WasGiven.{AddsTaking, BeginsUnsent, IsAllTaken, WroteTaking, between}
+use Rattle.yaml_writer.specs.WasGiven.{AddsTaking, NextUnsent, IsAllTaken, WroteTaking, between}
 use Rattle.yaml_writer.specs.Writing.{AddsEvents, Finishes, StandsTaken, WriterState, opening}
 use Rattle.yaml_json.specs.Cuts.{HasScanned}
 use Rattle.yaml_json.specs.Failing.{events_with_separators, writers_error}
@@ -72,7 +72,7 @@ Advances depth in_flow unique ahead before held left now holds =
 
 -- the writer failed at the start of the next document, and nothing was given to the sink; or the sink failed
 abbrev pub FailsNext : WriterState → Option (List ℕ) → StreamError → WriterState → Option (List ℕ) → Type 0
-FailsNext before held (faults.WriteFailed error) after holds = BeginsUnsent before held after holds
+FailsNext before held (faults.WriteFailed error) after holds = NextUnsent before held after holds
 FailsNext before held (faults.Refused (errors.Emitter error)) after holds = FailedWith before between error after × (holds ≡ held)
 FailsNext before held _ after holds = ⊥
 

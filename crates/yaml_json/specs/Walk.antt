@@ -201,7 +201,7 @@ pub record BeganFirstValue (depth : ℕ) (in_flow : Bool) (ahead : List Token) (
   pub began : BeganValue depth in_flow token levels before opened now
 
 -- the writer failed at the first of these tokens, with which a value begins
-pub record FailedAtFirst (depth : ℕ) (in_flow : Bool) (ahead : List Token) (levels : List CollectionKind) (before : WriterState) (error : yaml_error_t)
+pub record FailedAtToken (depth : ℕ) (in_flow : Bool) (ahead : List Token) (levels : List CollectionKind) (before : WriterState) (error : yaml_error_t)
     (now : WriterState) : Type 0 where
   pub token : Token
   pub after : List Token
@@ -211,7 +211,7 @@ pub record FailedAtFirst (depth : ℕ) (in_flow : Bool) (ahead : List Token) (le
 -- an allocation failed, and nothing changed; or that
 abbrev pub FirstFailed : (depth : ℕ) → (in_flow : Bool) → List Token → List CollectionKind → WriterState → yaml_error_t → WriterState → Type 0
 FirstFailed depth in_flow ahead levels before error now =
-    ((error ≡ Memory) × (now ≡ before)) ⊎ FailedAtFirst depth in_flow ahead levels before error now
+    ((error ≡ Memory) × (now ≡ before)) ⊎ FailedAtToken depth in_flow ahead levels before error now
 
 -- the text ends too early, or the writer failed
 abbrev pub EndsEarly : Stop → Type 0

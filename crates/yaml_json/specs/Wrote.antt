@@ -55,7 +55,7 @@ pub record IsYamlOfTexts (given : Settings) (in_flow : Bool) (depth : ℕ) (text
   pub each : AreJson depth parts
   pub stream : IsStream given (opening ++ parts_events given.canonical in_flow parts ++ closing) bytes
   pub reads : ReadsAsValues given.breaks12 bytes (map (λ part. part.1) parts)
-  pub reads_by_either : given.portable ≡ true → (breaks12 : Bool) → ReadsAsValues breaks12 bytes (map (λ part. part.1) parts)
+  pub reads_with_either_breaks : given.portable ≡ true → (breaks12 : Bool) → ReadsAsValues breaks12 bytes (map (λ part. part.1) parts)
 
 -- where the writer was at the start of its first document, the stream that it then finishes, with what was taken of it before,
 -- is read as the values of the text
@@ -71,4 +71,4 @@ pub record IsYamlOf (given : Settings) (in_flow : Bool) (depth : ℕ) (text byte
   pub read : value depth (tokens text) ≡ Some (json, [])
   pub stream : IsStream given (opening ++ json_events given.canonical in_flow json ++ closing) bytes
   pub reads : ReadsAsJson given.breaks12 bytes json
-  pub reads_by_either : given.portable ≡ true → (breaks12 : Bool) → ReadsAsJson breaks12 bytes json
+  pub reads_with_either_breaks : given.portable ≡ true → (breaks12 : Bool) → ReadsAsJson breaks12 bytes json

@@ -8,7 +8,7 @@ use Rattle.yaml_base.specs.Percent.{percent_escaped, suffix_escaped, prefix_esca
 use Rattle.yaml_base.specs.Tags.{directives_fault, directives_in_force, spelling, spelled}
 use Rattle.yaml_base.specs.reading.ReadPercent.{percent_read}
 use Rattle.yaml_base.specs.reading.ReadTags.{name_parsed}
-use Rattle.yaml_base.specs.reading.CanonicalReader.{tag_read}
+use Rattle.yaml_base.specs.reading.CanonicalReader.{read_tag}
 
 -- decoding undoes escaping
 abbrev pub EscapedTextReads : Text → Type 0
@@ -33,7 +33,7 @@ written_tag portable own tag = spelled portable (spelling (directives_in_force o
 -- a written tag is read as the tag
 abbrev pub WrittenTagReads : (portable : Bool) → List TagDirective → Text → Type 0
 WrittenTagReads portable own tag =
-    directives_fault own ≡ None → all_scalars tag ≡ true → tag_read own (written_tag portable own tag) ≡ Some (name_parsed tag)
+    directives_fault own ≡ None → all_scalars tag ≡ true → read_tag own (written_tag portable own tag) ≡ Some (name_parsed tag)
 
 -- escaped text has nothing that could end it, or that has a meaning in a tag
 abbrev pub EscapedTextSeparatesNothing : Text → Type 0

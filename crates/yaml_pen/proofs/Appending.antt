@@ -3,11 +3,11 @@ use Rattle.yaml_base.proofs.Common.{ℕ, Option, None, Some, List, length, take,
 use Rattle.std.proofs.Math.Seq.{take-append_seam, take-length}
 use Rattle.yaml_base.{proofs.Prefixes.prefix_itself, specs.Prefix.IsPrefix, specs.declared.errors.yaml_error_t.yaml_error_t}
 use Rattle.yaml_base.specs.declared.errors.yaml_error_t.TheVariants.{WriteError}
-use Rattle.yaml_pen.specs.{Outlet.Appended, Outlet.Bytes, Outlet.bytes_of, Outlet.Emptied, Outlet.IsOutlet, Outlet.whole_output, Page.IsFlushedOutput}
+use Rattle.yaml_pen.specs.{Outlet.Appended, Outlet.OutletState, Outlet.bytes_of, Outlet.Emptied, Outlet.IsOutlet, Outlet.whole_output, Page.IsFlushedOutput}
 use Rattle.yaml_pen.proofs.{Common.Ok, Common.IsSome, Common.false≢true, Common.result_of_error, Writing.none_from_result}
 
 -- room was made where there was none, or there was some: nothing failed, and no byte is lost
-pub record MadeRoom (before after : Bytes) : Type 0 where
+pub record MadeRoom (before after : OutletState) : Type 0 where
   pub no_error : before.error ≡ None
   pub unfailed : after.error ≡ None
   pub all : after.all ≡ before.all
@@ -15,19 +15,19 @@ pub record MadeRoom (before after : Bytes) : Type 0 where
   pub taken : after.taken ≡ before.taken
   pub output : IsPrefix before.output after.output
 
-pub room_flushed : (before after : Bytes) → Emptied before after (Ok tt) → IsPrefix before.output after.output → MadeRoom before after
+pub room_flushed : (before after : OutletState) → Emptied before after (Ok tt) → IsPrefix before.output after.output → MadeRoom before after
 room_flushed before after emptied output =
     let unfailed = none_from_result after.error emptied.answered in
     record {
       no_error = (emptied.all unfailed).0;
       unfailed = unfailed;
-      all = ap (λ (b : Bytes). b.all) emptied.kept;
-      limit = ap (λ (b : Bytes). b.limit) emptied.kept;
-      taken = ap (λ (b : Bytes). b.taken) emptied.kept;
+      all = ap (λ (b : OutletState). b.all) emptied.kept;
+      limit = ap (λ (b : OutletState). b.limit) emptied.kept;
+      taken = ap (λ (b : OutletState). b.taken) emptied.kept;
       output = output;
     }
 
-pub room_left : (bytes : Bytes) → bytes.error ≡ None → MadeRoom bytes bytes
+pub room_left : (bytes : OutletState) → bytes.error ≡ None → MadeRoom bytes bytes
 room_left bytes none =
     record { no_error = none; unfailed = none; all = refl; limit = refl; taken = refl; output = prefix_itself bytes.output }
 
@@ -54,7 +54,7 @@ still_flushed kept buffer more output limit error none whole flushed =
       named = flushed.named;
     }
 
-pub appended : (bytes : List ℕ) (before : Bytes) (kept count : ℕ) (buffer now taken left : List ℕ) (limit : ℕ) (error : Option yaml_error_t)
+pub appended : (bytes : List ℕ) (before : OutletState) (kept count : ℕ) (buffer now taken left : List ℕ) (limit : ℕ) (error : Option yaml_error_t)
     → MadeRoom before (bytes_of kept buffer taken left limit error) → IsOutlet kept count buffer taken left limit error → now ≡ buffer ++ bytes
     → Appended bytes before (bytes_of kept now taken left limit error) (Ok tt)
 appended bytes before kept count buffer now taken left limit error room outlet is =

@@ -1,5 +1,6 @@
 -- What a pen does whose bytes are refused.
-use Rattle.yaml_pen.proofs.Common.{IsSome, Option, None, Some, Err, List, ℕ, Bool, if◌then◌else◌, [], refl, ◌≡◌, append-nil, ap, subst, sym, ◌∙◌, Cursor, Bytes}
+use Rattle.yaml_pen.proofs.Common.{IsSome, Option, None, Some, Err, List, ℕ, Bool, if◌then◌else◌, [], refl, ◌≡◌, append-nil, ap, subst, sym, ◌∙◌,
+  Cursor, OutletState}
 use Rattle.yaml_pen.proofs.Common.{Rendered, decode, encode, seen_encoding, Page, IsReady, IsFlushedOutput, page_of, IsPen, named_text, Wrote}
 use Rattle.yaml_base.specs.{declared.encodings.yaml_break_t.yaml_break_t, declared.encodings.yaml_encoding_t.yaml_encoding_t}
 use Rattle.yaml_base.specs.declared.errors.yaml_error_t.{yaml_error_t}
@@ -9,7 +10,7 @@ some_is_not_none : (given : Option yaml_error_t) (error : yaml_error_t) → give
 some_is_not_none given error some none = cc
 
 -- it writes nothing where its bytes are refused
-Wrote-refused-page : (encoding : yaml_encoding_t) (line_break : yaml_break_t) (bytes : List ℕ) (before after : Bytes) (whitespace indention due : Bool)
+Wrote-refused-page : (encoding : yaml_encoding_t) (line_break : yaml_break_t) (bytes : List ℕ) (before after : OutletState) (whitespace indention due : Bool)
     (column : ℕ) (render : Cursor → Rendered) (error : yaml_error_t)
     → IsPen (page_of encoding due line_break before whitespace indention) before.all column
     → Appended bytes before after (Err error)
@@ -17,7 +18,7 @@ Wrote-refused-page : (encoding : yaml_encoding_t) (line_break : yaml_break_t) (b
     → Wrote render (page_of encoding due line_break before whitespace indention) (page_of encoding due line_break after whitespace indention) (Err error)
 Wrote-refused-page encoding line_break bytes before after whitespace indention due column render error pen appended ready =
     let seen = seen_encoding encoding in
-    let page : Bytes → Page = λ b. page_of encoding due line_break b whitespace indention in
+    let page : OutletState → Page = λ b. page_of encoding due line_break b whitespace indention in
     let failed = some_from_result after.error error appended.answered in
     let same : after.all ≡ before.all = appended.none (subst (λ (o : Option yaml_error_t). IsSome o) (sym failed) refl) in
     let text : before.all ≡ encode seen (decode seen before.all) =
@@ -39,7 +40,7 @@ Wrote-refused-page encoding line_break bytes before after whitespace indention d
       stopped = λ some. ap page (appended.stopped some);
     }
 
-pub Wrote-refused : (encoding : yaml_encoding_t) (line_break : yaml_break_t) (bytes : List ℕ) (before after : Bytes) (whitespace indention due : Bool)
+pub Wrote-refused : (encoding : yaml_encoding_t) (line_break : yaml_break_t) (bytes : List ℕ) (before after : OutletState) (whitespace indention due : Bool)
     (column : ℕ) (page : Page) (render : Cursor → Rendered) (error : yaml_error_t)
     → IsPen (page_of encoding due line_break before whitespace indention) before.all column
     → Appended bytes before after (Err error)

@@ -1,7 +1,7 @@
 -- A pen that wrote no byte has no text.
 use Rattle.yaml_pen.proofs.Common.{min, ℕ, if◌then◌else◌, unwrap_or, Option, None, Some, Bool, false, true, List, [], refl, ◌≡◌, ap, sym, ◌∙◌, false≢true}
 use Rattle.yaml_pen.proofs.Common.{chars-nil, all_scalars, Text, column_after, character_bytes, encode, seen_encoding, seen_break, Encoding, utf8}
-use Rattle.yaml_pen.proofs.Common.{utf16_little, utf16_big, line_feed_break, Bytes, HasSoundOutput, Page, has_bom, IsFlushedOutput, page_of, IsPen}
+use Rattle.yaml_pen.proofs.Common.{utf16_little, utf16_big, line_feed_break, OutletState, HasSoundOutput, Page, has_bom, IsFlushedOutput, page_of, IsPen}
 use Rattle.yaml_base.specs.{Characters.byte_order_mark, Decode.decode, declared.encodings.yaml_break_t.yaml_break_t}
 use Rattle.yaml_base.specs.{declared.encodings.yaml_encoding_t.yaml_encoding_t}
 
@@ -23,7 +23,7 @@ nothing_begun (Some utf16_little) = refl
 nothing_begun (Some utf16_big) = refl
 
 -- a pen without bytes is a pen in any encoding
-pub IsPen-begun : (encoding old : yaml_encoding_t) (line_break : yaml_break_t) (bytes : Bytes) (whitespace indention : Bool) (column : ℕ) (due : Bool)
+pub IsPen-begun : (encoding old : yaml_encoding_t) (line_break : yaml_break_t) (bytes : OutletState) (whitespace indention : Bool) (column : ℕ) (due : Bool)
     → bytes.all ≡ [] → bytes.error ≡ None → due ≡ has_bom (seen_encoding encoding)
     → IsFlushedOutput bytes.all bytes.output bytes.limit bytes.error
     → column ≡ min (column_after (decode (seen_encoding old) bytes.all) 0) 4294967295
@@ -43,7 +43,8 @@ IsPen-begun encoding old line_break bytes whitespace indention column due empty 
     }
 
 -- its page differs from that before by the settings alone
-pub page-begun : (encoding old : yaml_encoding_t) (line_break old_break : yaml_break_t) (bytes : Bytes) (whitespace indention due old_due : Bool) (page : Page)
+pub page-begun : (encoding old : yaml_encoding_t) (line_break old_break : yaml_break_t) (bytes : OutletState)
+    (whitespace indention due old_due : Bool) (page : Page)
     → bytes.all ≡ [] → due ≡ has_bom (seen_encoding encoding)
     → page_of old old_due old_break bytes whitespace indention ≡ page
     → page_of encoding due line_break bytes whitespace indention
@@ -91,7 +92,7 @@ bom-decoded utf16_little _ = refl
 bom-decoded utf16_big _ = refl
 
 -- the page after the byte order mark, of a text
-abbrev page_with : yaml_encoding_t → yaml_break_t → Bytes → Text → Bool → Bool → Page
+abbrev page_with : yaml_encoding_t → yaml_break_t → OutletState → Text → Bool → Bool → Page
 page_with encoding line_break bytes text whitespace indention =
     record {
       encoding = seen_encoding encoding;
@@ -106,7 +107,7 @@ page_with encoding line_break bytes text whitespace indention =
     }
 
 -- a pen is one after its byte order mark
-pub IsPen-bom_written : (e : Encoding) (encoding : yaml_encoding_t) (line_break : yaml_break_t) (bytes after : Bytes) (whitespace indention due : Bool)
+pub IsPen-bom_written : (e : Encoding) (encoding : yaml_encoding_t) (line_break : yaml_break_t) (bytes after : OutletState) (whitespace indention due : Bool)
     (column : ℕ)
     → IsPen (page_of encoding due line_break bytes whitespace indention) bytes.all column → due ≡ true
     → seen_encoding encoding ≡ Some e
@@ -115,7 +116,7 @@ pub IsPen-bom_written : (e : Encoding) (encoding : yaml_encoding_t) (line_break 
 IsPen-bom_written e encoding line_break bytes after whitespace indention due column pen is_due seen is sound =
     let empty : bytes.all ≡ [] = pen.bytes ∙ ap (λ d. if d then [] else encode (seen_encoding encoding) (decode (seen_encoding encoding) bytes.all)) is_due in
     let marks : has_bom (Some e) ≡ true = ap has_bom (sym seen) ∙ pen.marks is_due in
-    let all : after.all ≡ character_bytes e byte_order_mark = ap (λ (b : Bytes). b.all) is in
+    let all : after.all ≡ character_bytes e byte_order_mark = ap (λ (b : OutletState). b.all) is in
     let text : decode (seen_encoding encoding) after.all ≡ [] = ap (λ s. decode s after.all) seen ∙ ap (decode (Some e)) all ∙ bom-decoded e marks in
     record {
       bytes = all ∙ sym (bom-encoded e marks) ∙ ap (λ s. encode s []) (sym seen) ∙ ap (encode (seen_encoding encoding)) (sym text);
@@ -126,7 +127,7 @@ IsPen-bom_written e encoding line_break bytes after whitespace indention due col
       marks = λ h. absurd (false≢true h);
     }
 
-pub page-bom_written : (e : Encoding) (encoding : yaml_encoding_t) (line_break : yaml_break_t) (bytes after : Bytes) (whitespace indention due : Bool)
+pub page-bom_written : (e : Encoding) (encoding : yaml_encoding_t) (line_break : yaml_break_t) (bytes after : OutletState) (whitespace indention due : Bool)
     (column : ℕ)
     (page : Page)
     → IsPen (page_of encoding due line_break bytes whitespace indention) bytes.all column → due ≡ true
@@ -137,11 +138,11 @@ pub page-bom_written : (e : Encoding) (encoding : yaml_encoding_t) (line_break :
 page-bom_written e encoding line_break bytes after whitespace indention due column page pen is_due seen is viewed =
     let empty : bytes.all ≡ [] = pen.bytes ∙ ap (λ d. if d then [] else encode (seen_encoding encoding) (decode (seen_encoding encoding) bytes.all)) is_due in
     let marks : has_bom (Some e) ≡ true = ap has_bom (sym seen) ∙ pen.marks is_due in
-    let all : after.all ≡ character_bytes e byte_order_mark = ap (λ (b : Bytes). b.all) is in
+    let all : after.all ≡ character_bytes e byte_order_mark = ap (λ (b : OutletState). b.all) is in
     let text : decode (seen_encoding encoding) after.all ≡ decode (seen_encoding encoding) bytes.all =
     ap (λ s. decode s after.all) seen ∙ ap (decode (Some e)) all ∙ bom-decoded e marks ∙ sym (decode-empty (seen_encoding encoding) bytes.all empty) in
     let no_bom : Page → Page = λ (p : Page). record p { bom_due = false } in
-    ap (λ (b : Bytes). page_with encoding line_break b (decode (seen_encoding encoding) after.all) whitespace indention) is
+    ap (λ (b : OutletState). page_with encoding line_break b (decode (seen_encoding encoding) after.all) whitespace indention) is
     ∙ ap (λ t. page_with encoding line_break bytes t whitespace indention) text
     ∙ ap no_bom viewed
 

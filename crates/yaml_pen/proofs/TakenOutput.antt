@@ -1,5 +1,5 @@
 -- An outlet holds the same bytes when what is left of its output is taken.
-use Rattle.yaml_pen.proofs.Common.{ℕ, ◌+◌, ◌≤◌, ◌≡◌, Option, length, take, List, [], ◌++◌, append-nil, length-append, ap, subst, sym, arith, Bytes}
+use Rattle.yaml_pen.proofs.Common.{ℕ, ◌+◌, ◌≤◌, ◌≡◌, Option, length, take, List, [], ◌++◌, append-nil, length-append, ap, subst, sym, arith, OutletState}
 use Rattle.yaml_pen.proofs.Common.{IsFlushedOutput}
 use Rattle.std.proofs.{Math.Seq.drop-append_seam, Common.drop}
 use Rattle.yaml_base.specs.declared.errors.yaml_error_t.{yaml_error_t}
@@ -18,7 +18,7 @@ pub moved : (kept : ℕ) (buffer taken left : List ℕ) (limit : ℕ) (error : O
     ≡ record (bytes_of kept buffer taken left limit error) { taken = length (whole_output taken left) }
 unfolding whole_output
 moved kept buffer taken left limit error =
-    ap (λ (output : List ℕ). let b : Bytes = record {
+    ap (λ (output : List ℕ). let b : OutletState = record {
       all = take kept output ++ buffer;
       output = output;
       taken = length (taken ++ left);

@@ -3,7 +3,8 @@ use Rattle.yaml_pen.proofs.Common.{min, ℕ, ◌+◌, if◌then◌else◌, ◌==
 use Rattle.yaml_pen.proofs.Common.{[], ◌++◌, ◌∷◌, refl, ◌≡◌, append-nil, ap, subst, sym, ◌∙◌, arith, and_from, or_parts, false≢true, encodes-chars, list_any}
 use Rattle.yaml_pen.proofs.Common.{all_scalars, chars, encode_utf8_all, Text, line_feed, is_break, Cursor, Rendered, column_after, render_text, decode, encode}
 use Rattle.yaml_pen.proofs.Common.{character_bytes, text_bytes, break_text, with_breaks_written, IsPrefix, seen_encoding, seen_break, Encoding, utf8, utf16_big}
-use Rattle.yaml_pen.proofs.Common.{utf16_little, LineBreak, line_feed_break, Bytes, HasSoundOutput, Page, has_bom, IsReady, result_of_error, IsFlushedOutput}
+use Rattle.yaml_pen.proofs.Common.{utf16_little, LineBreak, line_feed_break, OutletState, HasSoundOutput, Page, has_bom, IsReady, result_of_error,
+  IsFlushedOutput}
 use Rattle.yaml_pen.proofs.Common.{page_of, IsPen, named_text, Wrote}
 use Rattle.std.specs.Char.{IsScalar}
 use Rattle.yaml_base.specs.{Cursor.next_column, Settings.carriage_return_break, Settings.both_break, declared.encodings.yaml_break_t.yaml_break_t}
@@ -31,7 +32,7 @@ some_from_result None error is = cc
 some_from_result (Some other) error is = cc
 
 -- bytes grew by those of a text, and nothing failed
-pub record AddsEvent (e : Encoding) (raw : Text) (before after : Bytes) : Type 0 where
+pub record AddsEvent (e : Encoding) (raw : Text) (before after : OutletState) : Type 0 where
   pub all : after.all ≡ before.all ++ text_bytes e raw
   pub no_error : before.error ≡ None
   pub unfailed : after.error ≡ None
@@ -40,7 +41,7 @@ pub record AddsEvent (e : Encoding) (raw : Text) (before after : Bytes) : Type 0
   pub output : IsPrefix before.output after.output
   pub sound : HasSoundOutput after
 
-pub AddsEvent-appended : (e : Encoding) (raw : Text) (bytes : List ℕ) (before after : Bytes)
+pub AddsEvent-appended : (e : Encoding) (raw : Text) (bytes : List ℕ) (before after : OutletState)
     → Appended bytes before after (Ok tt) → bytes ≡ text_bytes e raw → AddsEvent e raw before after
 AddsEvent-appended e raw bytes before after appended is =
     let none = none_from_result after.error appended.answered in
@@ -55,7 +56,7 @@ AddsEvent-appended e raw bytes before after appended is =
     }
 
 -- the text of a pen's bytes, in an encoding that is known
-are_text : (e : Encoding) (encoding : yaml_encoding_t) (line_break : yaml_break_t) (bytes : Bytes) (whitespace indention due : Bool) (column : ℕ)
+are_text : (e : Encoding) (encoding : yaml_encoding_t) (line_break : yaml_break_t) (bytes : OutletState) (whitespace indention due : Bool) (column : ℕ)
     → IsPen (page_of encoding due line_break bytes whitespace indention) bytes.all column → due ≡ false → seen_encoding encoding ≡ Some e
     → AreText (Some e) bytes.all
 are_text e encoding line_break bytes whitespace indention due column pen not_due seen =
@@ -65,22 +66,22 @@ are_text e encoding line_break bytes whitespace indention due column pen not_due
       scalars = sym (ap (λ s. all_scalars (decode s bytes.all)) seen) ∙ pen.scalars;
     }
 
-bytes_of_text : (e : Encoding) (encoding : yaml_encoding_t) (bytes : Bytes) (due : Bool) → due ≡ false → seen_encoding encoding ≡ Some e
+bytes_of_text : (e : Encoding) (encoding : yaml_encoding_t) (bytes : OutletState) (due : Bool) → due ≡ false → seen_encoding encoding ≡ Some e
     → AreText (Some e) bytes.all
     → bytes.all ≡ (if due then [] else encode (seen_encoding encoding) (decode (seen_encoding encoding) bytes.all))
 bytes_of_text e encoding bytes due not_due seen are =
     are.encoded ∙ sym (ap (λ s. encode s (decode s bytes.all)) seen)
     ∙ sym (ap (λ d. if d then [] else encode (seen_encoding encoding) (decode (seen_encoding encoding) bytes.all)) not_due)
 
-text_added : (e : Encoding) (encoding : yaml_encoding_t) (raw : Text) (before after : Bytes)
+text_added : (e : Encoding) (encoding : yaml_encoding_t) (raw : Text) (before after : OutletState)
     → AreText (Some e) before.all → all_scalars raw ≡ true → seen_encoding encoding ≡ Some e → AddsEvent e raw before after
     → decode (seen_encoding encoding) after.all ≡ decode (seen_encoding encoding) before.all ++ raw
 text_added e encoding raw before after are scalars seen adds =
     ap (λ s. decode s after.all) seen ∙ ap (decode (Some e)) adds.all ∙ decode-grown e before.all raw are scalars
     ∙ sym (ap (λ s. decode s before.all ++ raw) seen)
 
-pub IsPen-added : (e : Encoding) (raw : Text) (encoding : yaml_encoding_t) (line_break : yaml_break_t) (before after : Bytes) (whitespace indention due : Bool)
-    (column stored : ℕ)
+pub IsPen-added : (e : Encoding) (raw : Text) (encoding : yaml_encoding_t) (line_break : yaml_break_t) (before after : OutletState)
+    (whitespace indention due : Bool) (column stored : ℕ)
     → IsPen (page_of encoding due line_break before whitespace indention) before.all column → due ≡ false → seen_encoding encoding ≡ Some e
     → all_scalars raw ≡ true → AddsEvent e raw before after
     → stored ≡ min (column_after raw (column_after (decode (seen_encoding encoding) before.all) 0)) 4294967295
@@ -100,7 +101,7 @@ IsPen-added e raw encoding line_break before after whitespace indention due colu
     }
 
 -- it writes the text
-Wrote-page : (e : Encoding) (raw : Text) (encoding : yaml_encoding_t) (line_break : yaml_break_t) (before after : Bytes) (whitespace indention due : Bool)
+Wrote-page : (e : Encoding) (raw : Text) (encoding : yaml_encoding_t) (line_break : yaml_break_t) (before after : OutletState) (whitespace indention due : Bool)
     (column : ℕ) (render : Cursor → Rendered)
     → IsPen (page_of encoding due line_break before whitespace indention) before.all column
     → seen_encoding encoding ≡ Some e
@@ -130,8 +131,8 @@ Wrote-page e raw encoding line_break before after whitespace indention due colum
       stopped = λ some. absurd (false≢true (subst (λ (o : Option yaml_error_t). IsSome o) adds.no_error some));
     }
 
-pub Wrote-added : (e : Encoding) (raw : Text) (encoding : yaml_encoding_t) (line_break : yaml_break_t) (before after : Bytes) (whitespace indention due : Bool)
-    (column : ℕ) (page : Page) (render : Cursor → Rendered)
+pub Wrote-added : (e : Encoding) (raw : Text) (encoding : yaml_encoding_t) (line_break : yaml_break_t) (before after : OutletState)
+    (whitespace indention due : Bool) (column : ℕ) (page : Page) (render : Cursor → Rendered)
     → IsPen (page_of encoding due line_break before whitespace indention) before.all column
     → seen_encoding encoding ≡ Some e
     → all_scalars raw ≡ true → AddsEvent e raw before after

@@ -7,7 +7,7 @@ use Rattle.yaml_base.specs.declared.errors.yaml_error_t.TheVariants.{WriteError,
 use Rattle.yaml_pen.specs.Page.{IsFlushedOutput, result_of_error}
 
 -- all bytes so far, those flushed, how many of these the caller has taken, the limit and the first error
-pub record Bytes : Type 0 where
+pub record OutletState : Type 0 where
   pub all : List ℕ
   pub output : List ℕ
   pub taken : ℕ
@@ -19,13 +19,13 @@ unfoldable pub whole_output : List ℕ → List ℕ → List ℕ
 whole_output taken left = taken ++ left
 
 -- the bytes of an outlet: its output up to a place, and the buffer after it
-abbrev pub bytes_of : ℕ → List ℕ → List ℕ → List ℕ → ℕ → Option yaml_error_t → Bytes
+abbrev pub bytes_of : ℕ → List ℕ → List ℕ → List ℕ → ℕ → Option yaml_error_t → OutletState
 bytes_of kept buffer taken left limit error =
     let output = whole_output taken left in
     record { all = take kept output ++ buffer; output = output; taken = length taken; limit = limit; error = error }
 
 -- what is flushed of the bytes is sound
-abbrev pub HasSoundOutput : Bytes → Type 0
+abbrev pub HasSoundOutput : OutletState → Type 0
 HasSoundOutput bytes = IsFlushedOutput bytes.all bytes.output bytes.limit bytes.error
 
 -- an output that was kept up to a place, and a buffer of what follows; without an error all is kept; what is taken is counted
@@ -43,7 +43,7 @@ FlushesBuffer buffer before after limit (Err Memory) = after ≡ before
 FlushesBuffer buffer before after limit (Err _) = ⊥
 
 -- a flush: all bytes are flushed, or those that the limit leaves, or none more
-pub record Emptied (before after : Bytes) (answer : Result (Unit {0}) yaml_error_t) : Type 0 where
+pub record Emptied (before after : OutletState) (answer : Result (Unit {0}) yaml_error_t) : Type 0 where
   pub answered : answer ≡ result_of_error after.error
   pub kept : after ≡ record before { output = after.output; error = after.error }
   pub sound_output : HasSoundOutput after
@@ -52,7 +52,7 @@ pub record Emptied (before after : Bytes) (answer : Result (Unit {0}) yaml_error
   pub stopped : IsSome before.error → after ≡ before
 
 -- bytes are appended whole, or a flush failed
-pub record Appended (bytes : List ℕ) (before after : Bytes) (answer : Result (Unit {0}) yaml_error_t) : Type 0 where
+pub record Appended (bytes : List ℕ) (before after : OutletState) (answer : Result (Unit {0}) yaml_error_t) : Type 0 where
   pub answered : answer ≡ result_of_error after.error
   pub limit : after.limit ≡ before.limit
   pub taken : after.taken ≡ before.taken

@@ -7,11 +7,11 @@ use Rattle.yaml_base.specs.Seen.{seen_encoding, seen_break}
 use Rattle.yaml_base.specs.declared.encodings.yaml_encoding_t.{yaml_encoding_t}
 use Rattle.yaml_base.specs.declared.encodings.yaml_break_t.{yaml_break_t}
 use Rattle.yaml_pen.specs.Page.{Page, IsFlushedOutput, written_bytes, has_bom}
-use Rattle.yaml_pen.specs.Outlet.{Bytes}
+use Rattle.yaml_pen.specs.Outlet.{OutletState}
 use Rattle.yaml_base.specs.Decode.{decode}
 
 -- the page of a pen's fields: the text is that of the bytes, and the column is that of the text
-abbrev pub page_of : yaml_encoding_t → Bool → yaml_break_t → Bytes → Bool → Bool → Page
+abbrev pub page_of : yaml_encoding_t → Bool → yaml_break_t → OutletState → Bool → Bool → Page
 page_of encoding bom_due line_break bytes whitespace indention =
     let text = decode (seen_encoding encoding) bytes.all in
     record {

@@ -28,9 +28,9 @@ pub(crate) struct Outlet<A: Allocator> {
 }
 
 impl<A: Allocator> Model for Outlet<A> {
-    ghost use Rattle.yaml_pen.specs.Outlet.{Bytes, IsOutlet, bytes_of};
+    ghost use Rattle.yaml_pen.specs.Outlet.{OutletState, IsOutlet, bytes_of};
 
-    ghost Value = { Bytes };
+    ghost Value = { OutletState };
 
     ghost view = { λ o. bytes_of o.kept o.buffer.value.items o.taken.bytes o.output.items o.limit o.error };
 

@@ -110,22 +110,22 @@ tag_mark tag _ (whole stays) = (0x3C ∷ (percent_escaped tag ++ codes "> "), re
 tag_mark tag _ (of_type suffix some same) = (0x21 ∷ (percent_escaped suffix ++ space ∷ []), refl)
 tag_mark tag _ (of_document suffix some same) = (percent_escaped suffix ++ space ∷ [], refl)
 
-tag_first : (tag rest : Text) → tag_fault tag ≡ None
+leading_tag : (tag rest : Text) → tag_fault tag ≡ None
     → (more : Text) × (encode_utf8_all (tag_text (Some tag) false ++ rest) ≡ 0x21 ∷ encode_utf8_all more)
-tag_first tag rest sound =
+leading_tag tag rest sound =
     let mark = tag_mark tag (tag_text (Some tag) false) (is_spelled tag sound) in
     (mark.0 ++ rest, ap (λ t. encode_utf8_all (t ++ rest)) mark.1 ∙ word_encoded (codes "!") (mark.0 ++ rest) refl)
 
 -- no anchor stands before it
 pub no_anchor_mark : (tag rest : Text) → tag_fault tag ≡ None → past_word (codes "&") (encode_utf8_all (tag_text (Some tag) false ++ rest)) ≡ None
 no_anchor_mark tag rest sound =
-    let first = tag_first tag rest sound in ap (past_word (codes "&")) first.1
+    let first = leading_tag tag rest sound in ap (past_word (codes "&")) first.1
 
 -- no alias begins with an anchor or a tag
 pub no_alias_mark : (anchor : Option Text) (tag written rest : Text) (inside : List ℕ) → tag_fault tag ≡ None
     → encode_utf8_all (node_opening anchor tag written ++ rest) ≡ codes "*" ++ inside → ⊥
 no_alias_mark None tag written rest inside sound is =
-    let first = tag_first tag (written ++ rest) sound in
+    let first = leading_tag tag (written ++ rest) sound in
     first_differs 0x21 0x2A (encode_utf8_all first.0) inside refl
     (sym (ap encode_utf8_all (append_assoc (tag_text (Some tag) false) written rest) ∙ first.1) ∙ is)
 no_alias_mark (Some name) tag written rest inside sound is =

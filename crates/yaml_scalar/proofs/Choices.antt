@@ -1,6 +1,6 @@
 -- The style of a value that only double quotes can write doesn't depend on its breaks.
 use Rattle.yaml_scalar.proofs.Common.{arith, if◌then◌else◌, Bool, false, not, true, ◌&&◌, ◌||◌, [], ◌∷◌, refl, ◌≡◌, ap, sym, ◌∙◌, and_parts, Text, Charset}
-use Rattle.yaml_scalar.proofs.Common.{Allowances, allowances, Choice, chosen, Barred, barred_in, allowed_by}
+use Rattle.yaml_scalar.proofs.Common.{Allowances, allowances, ChosenStyle, chosen, Barred, barred_in, allowed_by}
 use Rattle.yaml_base.proofs.Common.{ScalarStyle, any_style, plain, single_quoted, double_quoted, literal, folded, is_plain, quoted_style, fitting_style}
 use Rattle.yaml_scalar.{proofs.Barred.or_none, specs.Barred.all_styles, specs.ScalarData.ChooseAlike}
 
@@ -51,7 +51,7 @@ pub alike : (found : Barred) (more : Bool) (value : Text) → (all_styles found 
     → ChooseAlike (allowed_by found value) (allowed_by (record found { multiline = found.multiline || more }) value)
 alike found more value none asked empty tag_written plain_implicit quoted_implicit flow simple_key canonical = go (all_styles found) refl
   where
-    choice : Bool → Choice
+    choice : Bool → ChosenStyle
     choice multiline =
         chosen (allowed_by (record found { multiline = multiline }) value) asked empty tag_written plain_implicit quoted_implicit flow simple_key canonical
 

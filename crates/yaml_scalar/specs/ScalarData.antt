@@ -3,7 +3,7 @@ use Rattle.std.specs.Prelude.{◌≡◌, Bool, true, false}
 use Rattle.yaml_base.specs.scalars.Analysis.{Allowances, Charset}
 use Rattle.yaml_base.specs.Event.{ScalarStyle}
 use Rattle.yaml_base.specs.Seen.{seen_scalar_style}
-use Rattle.yaml_base.specs.scalars.Style.{Choice, chosen}
+use Rattle.yaml_base.specs.scalars.Style.{ChosenStyle, chosen}
 use Rattle.yaml_base.specs.declared.styles.yaml_scalar_style_t.{yaml_scalar_style_t}
 use Rattle.yaml_scalar.specs.declared.analysis.scalar_data_t.{scalar_data_t}
 use Rattle.yaml_scalar.specs.declared.analysis.CharacterSet.{CharacterSet}
@@ -31,7 +31,7 @@ is_flow Flow = true
 is_flow Block = false
 
 -- a style and whether the bare tag is written
-abbrev pub seen_choice : yaml_scalar_style_t × Bool → Choice
+abbrev pub seen_choice : yaml_scalar_style_t × Bool → ChosenStyle
 seen_choice given = record { style = seen_scalar_style given.0; bare = given.1 }
 
 -- two analyses lead to the same choices

@@ -65,8 +65,8 @@ pub(crate) fn with_value<T: Serialize, D: Target>(
 }
 
 impl<D: Target> ValueSerializer<D> {
-    /// Makes ready for a node that is no map.
-    fn ready(&mut self) -> Result<(), Error> {
+    /// Prepares for a node that is no map.
+    fn prepare_node(&mut self) -> Result<(), Error> {
         match self.next {
             Next::Members => Err(Error::from(Cause::Flattened)),
             Next::Entry | Next::EntryOfData => self.open_map(),
@@ -143,13 +143,13 @@ impl<D: Target> ValueSerializer<D> {
     }
 
     fn text(&mut self, value: &str) -> Result<(), Error> {
-        self.ready()?;
+        self.prepare_node()?;
         self.give_text(value)
     }
 
     /// Writes a node that is neither a text nor a collection.
     fn node(&mut self, scalar: Scalar<'_>) -> Result<(), Error> {
-        self.ready()?;
+        self.prepare_node()?;
         self.document.scalar(scalar)?;
         self.path.pass_scalar(scalar)
     }
@@ -246,7 +246,7 @@ impl<D: Target> Serializer for ValueSerializer<D> {
     }
 
     fn begin_seq(&mut self, _len: Option<usize>) -> Result<(), Error> {
-        self.ready()?;
+        self.prepare_node()?;
         self.document.begin_sequence()?;
         self.path.enter(LevelKind::Sequence)
     }

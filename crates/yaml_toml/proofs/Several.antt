@@ -198,6 +198,6 @@ documents_read in_flow part rest was now taken each adds given sent bytes stands
     record {
       stream = stream;
       reads = reads_as_tables given in_flow part rest all numbers texts stream.accepted whole;
-      reads_by_either = λ portable breaks12. reads_as_tables (record given { breaks12 = breaks12 }) in_flow part rest all numbers texts stream.accepted
+      reads_with_either_breaks = λ portable breaks12. reads_as_tables (record given { breaks12 = breaks12 }) in_flow part rest all numbers texts stream.accepted
           (whole_by_either given breaks12 (events ++ closing) all portable whole);
     }

@@ -68,6 +68,7 @@ yaml_of given in_flow text bytes first filled stands canonical wrote finishes =
       read = wrote.read;
       stream = stream;
       reads = reads_as_toml given in_flow wrote.root bytes wrote.numbers texts stream.accepted whole;
-      reads_by_either = λ portable breaks12. reads_as_toml (record given { breaks12 = breaks12 }) in_flow wrote.root bytes wrote.numbers texts stream.accepted
+      reads_with_either_breaks = λ portable breaks12. reads_as_toml (record given { breaks12 = breaks12 }) in_flow wrote.root bytes
+          wrote.numbers texts stream.accepted
           (whole_by_either given breaks12 (events ++ closing) bytes portable whole);
     }

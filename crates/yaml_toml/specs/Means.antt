@@ -90,4 +90,4 @@ pub record IsYamlOfToml (given : Settings) (in_flow : Bool) (text bytes : List �
   pub read : ordered_document text ≡ Some root
   pub stream : IsStream given (opening ++ toml_events given.canonical in_flow (table Header root) ++ closing) bytes
   pub reads : ReadsAsToml given.breaks12 bytes root
-  pub reads_by_either : given.portable ≡ true → (breaks12 : Bool) → ReadsAsToml breaks12 bytes root
+  pub reads_with_either_breaks : given.portable ≡ true → (breaks12 : Bool) → ReadsAsToml breaks12 bytes root

@@ -45,7 +45,7 @@ pub record ReadsAsTables (breaks12 : Bool) (bytes : List ℕ) (roots : List Toml
 pub record IsYamlOfSeveral (given : Settings) (in_flow : Bool) (parts : List (List ℕ × TomlNodes)) (bytes : List ℕ) : Type 0 where
   pub stream : IsStream given (opening ++ several_events given.canonical in_flow parts ++ closing) bytes
   pub reads : ReadsAsTables given.breaks12 bytes (map (λ part. part.1) parts)
-  pub reads_by_either : given.portable ≡ true → (breaks12 : Bool) → ReadsAsTables breaks12 bytes (map (λ part. part.1) parts)
+  pub reads_with_either_breaks : given.portable ≡ true → (breaks12 : Bool) → ReadsAsTables breaks12 bytes (map (λ part. part.1) parts)
 
 -- where a writer was at the start of its first document, and was given the documents of some texts, one at least, and these bytes were
 -- taken meanwhile, the stream that it then finishes, with what was taken of it, is read as their tables, in order

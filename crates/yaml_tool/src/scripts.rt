@@ -66,7 +66,7 @@ impl<A: Allocator + Copy> Progress<A> {
     /// # Errors
     ///
     /// Returns `BadLine` with the line's number if it is bad or not allowed there, and `OutOfMemory` if an allocation failed.
-    fn take_line(&mut self, alloc: A, number: u64, bytes: &[u8]) -> Result<(), ScriptError>
+    fn add_line(&mut self, alloc: A, number: u64, bytes: &[u8]) -> Result<(), ScriptError>
         ensures taken { OnOk result (after_line number (seen_progress self.old) bytes.now ≡ Some (seen_progress self.new)) }
         ensures fault { IfErr result (λ error. IsFaultAt error number (after_line number (seen_progress self.old) bytes.now)) }
     {
@@ -127,7 +127,7 @@ pub(crate) fn take_lines<'a, A: Allocator + Copy>(
     let mut number = number;
     let mut rest = bytes;
     while let Some(end) = memchr(b'\n', rest) {
-        progress.take_line(alloc, number, &rest[..end])?;
+        progress.add_line(alloc, number, &rest[..end])?;
         rest = &rest[end + 1..];
         number += 1;
     }
@@ -149,7 +149,7 @@ pub(crate) fn finish<A: Allocator + Copy>(
 {
     let mut progress = progress;
     let (number, last) = take_lines(alloc, &mut progress, number, bytes)?;
-    progress.take_line(alloc, number, last)?;
+    progress.add_line(alloc, number, last)?;
     Ok(Script {
         settings: settings_of(progress.settings.as_slice()),
         events: progress.events,

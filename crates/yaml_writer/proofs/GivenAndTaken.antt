@@ -6,7 +6,7 @@ use Rattle.yaml_base.specs.{Sinks.AppendsFirst, declared.errors.yaml_error_t.yam
 use Rattle.yaml_emitter.{proofs.Common.with_all_taken, proofs.standing.Taking.stands_taken}
 use Rattle.yaml_writer.proofs.Taken.{left_taken, moves_add, moves_taken}
 use Rattle.yaml_writer.specs.Failing.{FailedWith}
-use Rattle.yaml_writer.specs.WasGiven.{AddsTaking, BeginsNext, BeginsUnsent, IsBare, WasGiven, WroteTaking, between}
+use Rattle.yaml_writer.specs.WasGiven.{AddsTaking, BeginsNext, NextUnsent, IsBare, WasGiven, WroteTaking, between}
 
 -- nothing was given, and nothing taken
 pub took_nothing : (writer : WriterState) → IsBare writer → WroteTaking writer [] [] writer
@@ -90,7 +90,7 @@ begun_taken before middle after bytes held holds bare passed takes kept sends =
 
 -- or the sink failed, which was given all that was left
 pub begun_unsent : (before middle : WriterState) (held holds : Option (List ℕ)) → PassedEvents before between (Ok tt) middle
-    → AppendsFirst held holds (output_left middle.emitter.page) → BeginsUnsent before held middle holds
+    → AppendsFirst held holds (output_left middle.emitter.page) → NextUnsent before held middle holds
 begun_unsent before middle held holds passed sends =
     record {
       offered = output_left middle.emitter.page;

@@ -5,7 +5,7 @@ use Rattle.yaml_writer.proofs.Common.{float_tag, not, Allowances, requested_styl
 use Rattle.yaml_base.proofs.Common.{bytes_eq, false≢true, bytes_eq-Decides, ScalarStyle, Scalar, scalar_tag, collection_tag, scalar_node, is_empty}
 use Rattle.yaml_base.proofs.Common.{is_plain, resolved_by_core, resolved_by_11, digits_value, any_style, single_quoted, double_quoted, literal}
 use Rattle.yaml_base.proofs.Common.{folded, TagDirective, Place, is_simple_at, charset_of, style_asked_at, choice_of, allowances, allowed_under}
-use Rattle.yaml_base.proofs.Common.{is_block, Choice, chosen, Stood, stood_plain, stood_quoted, Tagging, with_tag, without_tag, json_value}
+use Rattle.yaml_base.proofs.Common.{is_block, ChosenStyle, chosen, Stood, stood_plain, stood_quoted, Tagging, with_tag, without_tag, json_value}
 use Rattle.yaml_base.proofs.Common.{number_meant, means_number, Resolved, meant_integer, meant_decimal, meant_text, signed}
 use Rattle.yaml_base.proofs.{JsonSpelling.spelling_keeps_value, NumbersRead.spelling_read, PlainUnderQuotes.still_plain}
 use Rattle.yaml_base.proofs.stream_nodes.StreamAgrees.{node_tree, standing_in, tagging_in}
@@ -100,7 +100,7 @@ plain_numbers parts valid unicode breaks12 flow simple =
 
 module _ (schema : Schema) (s : Effective) (place : Place) (simple : Bool) where
   -- the style of a scalar, and how it is tagged, by whether the form is canonical
-  abbrev style_by : Scalar → Bool → Choice
+  abbrev style_by : Scalar → Bool → ChosenStyle
   style_by content canonical =
       chosen (allowed_under s content) (style_asked_at s place content) (is_empty content.value)
       (is_some (scalar_tag canonical content)) content.plain_implicit content.quoted_implicit place.in_flow simple canonical

@@ -5,7 +5,7 @@ use Rattle.yaml_base.proofs.Common.{begins_collection, open_count, is_sound, opt
 use Rattle.yaml_base.proofs.Common.{name_or_tag_fault, expected, place_fault, open_levels, depth_fault, refusal_at, refusal, stream_events}
 use Rattle.yaml_base.{proofs.Accepted.begins_from_stands, proofs.Trees.stream_pushed}
 use Rattle.yaml_base.{proofs.Completions.pushed-append, proofs.Completions.prefix_is_partial, proofs.NoFaults.neither, proofs.NoFaults.is_none_none}
-use Rattle.yaml_base.specs.Refusal.{BeginsAccepted}
+use Rattle.yaml_base.specs.Refusal.{IsAcceptedPrefix}
 use Rattle.yaml_base.{specs.declared.errors.yaml_error_t.yaml_error_t, specs.declared.errors.yaml_error_t.TheVariants.TooDeep}
 
 -- ---- a fault that is returned is that of the depth, where there is no other
@@ -40,7 +40,7 @@ module _ (canonical : Bool) (all : List Event) (tree : Stream) (flat : stream_ev
 
   -- an accepted one, where it doesn't leave too many collections open
   pub begins_if_shallow : (prefix rest : List Event) → prefix ++ rest ≡ all
-      → ((first later : List Event) → first ++ later ≡ prefix → open_count first ≤ most_open) → BeginsAccepted canonical prefix
+      → ((first later : List Event) → first ++ later ≡ prefix → open_count first ≤ most_open) → IsAcceptedPrefix canonical prefix
   begins_if_shallow prefix rest parts shallow =
       let begun = prefix_is_partial prefix rest (after_stream tree) (pushes prefix rest parts) in
       begins_from_stands canonical prefix

@@ -4,7 +4,7 @@ use Rattle.yaml_writer.proofs.Common.{refl, ◌≡◌, length-append, append-nil
 use Rattle.yaml_writer.proofs.Common.{document_end, settings_for, list_layout, written, IsAccepted, Settings, Effective, ends_last, some_from_result}
 use Rattle.yaml_writer.proofs.Common.{IsRefusal, HasRoomAndMemory, Promised, StandsAfter, State, none_from_result, result_of_error, RefusesOne, PassesLimit}
 use Rattle.yaml_writer.proofs.Common.{IsUnfinishedBy, closing_by}
-use Rattle.yaml_base.specs.{Output.bytes_written, Refusal.BeginsAccepted, declared.errors.yaml_error_t.yaml_error_t}
+use Rattle.yaml_base.specs.{Output.bytes_written, Refusal.IsAcceptedPrefix, declared.errors.yaml_error_t.yaml_error_t}
 use Rattle.yaml_emitter.proofs.standing.{Standing.settings_grown, StandingEnds.whole_accepted, StandingPromises.most_few}
 use Rattle.yaml_emitter.specs.Promises.{begins_with_start}
 use Rattle.yaml_writer.proofs.{Finishing.refuses_one, MissingNodes.misses, Overflow.overflowed}
@@ -60,10 +60,11 @@ module _ (implicit : Bool) where
 
   module _ (canonical : Bool) (all : List Event) (unaccepted : IsAccepted canonical (all ++ closing) → ⊥) where
     -- where the events are no stream, no stream begins with them
-    begins_none : BeginsAccepted canonical (all ++ closing) → ⊥
+    begins_none : IsAcceptedPrefix canonical (all ++ closing) → ⊥
     begins_none begins =
         unaccepted
-        (subst (IsAccepted canonical) same (whole_accepted canonical (all ++ document_end implicit ∷ []) (subst (BeginsAccepted canonical) (sym same) begins)))
+        (subst (IsAccepted canonical) same
+        (whole_accepted canonical (all ++ document_end implicit ∷ []) (subst (IsAcceptedPrefix canonical) (sym same) begins)))
       where
         same : (all ++ document_end implicit ∷ []) ++ stream_end ∷ [] ≡ all ++ closing
         same = append_assoc all (document_end implicit ∷ []) (stream_end ∷ [])
@@ -106,7 +107,7 @@ module _ (implicit : Bool) where
         by : (later : List Event) → one.later ≡ later → RefusesOne canonical (all ++ closing) error
         by [] none =
             let before = shorter one.prefix (one.event ∷ one.later) (all ++ closing) stream_end one.parts (λ is. cc) in
-            absurd (begins_none (subst (BeginsAccepted canonical) (is_all before.0 before.1 none) one.begins))
+            absurd (begins_none (subst (IsAcceptedPrefix canonical) (is_all before.0 before.1 none) one.begins))
         by (x ∷ later) some =
             let longer = one.prefix ++ one.event ∷ [] in
             let before =

@@ -4,7 +4,7 @@ use Rattle.yaml_base.specs.Event.{Event}
 use Rattle.yaml_base.specs.Grammar.{Partial, within_document, partial_of}
 use Rattle.yaml_base.specs.Output.{settings_for, bytes_written}
 use Rattle.yaml_base.specs.Pieces.{list_layout}
-use Rattle.yaml_base.specs.Refusal.{IsAccepted, BeginsAccepted, most_open, refusal}
+use Rattle.yaml_base.specs.Refusal.{IsAccepted, IsAcceptedPrefix, most_open, refusal}
 use Rattle.yaml_base.specs.Settings.{Settings}
 use Rattle.yaml_base.specs.declared.errors.yaml_error_t.{yaml_error_t}
 use Rattle.yaml_base.specs.declared.errors.yaml_error_t.TheVariants.{ExpectedNode, Memory, TooDeep, WriteError}
@@ -20,7 +20,7 @@ pub record RefusesOne (canonical : Bool) (all : List Event) (error : yaml_error_
   pub event : Event
   pub later : List Event
   pub parts : prefix ++ event ∷ later ≡ all
-  pub begins : BeginsAccepted canonical prefix
+  pub begins : IsAcceptedPrefix canonical prefix
   pub refusal : refusal canonical prefix event ≡ Some error
 
 -- a document is open, and its root, or what comes next in its innermost collection, is missing

@@ -65,7 +65,7 @@ pub record BeginsNext (before : WriterState) (held : Option (List ℕ)) (after :
   pub whole : IsAllTaken after.emitter
 
 -- a writer was given the start of the next document, and the sink a beginning of all that was written before; nothing was taken
-pub record BeginsUnsent (before : WriterState) (held : Option (List ℕ)) (after : WriterState) (holds : Option (List ℕ)) : Type 0 where
+pub record NextUnsent (before : WriterState) (held : Option (List ℕ)) (after : WriterState) (holds : Option (List ℕ)) : Type 0 where
   pub offered : List ℕ
   pub sends : AppendsFirst held holds offered
   pub adds : AddsEvents before.emitter between after.emitter

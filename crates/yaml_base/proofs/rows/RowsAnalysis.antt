@@ -1,6 +1,6 @@
 -- Worked values: what they allow, and the style and the bare tag that are chosen for them.
 use Rattle.yaml_base.proofs.Common.{codes, Bool, false, true, [], ◌∷◌, refl, ◌≡◌, Text, ScalarStyle, any_style, plain, single_quoted, double_quoted, literal}
-use Rattle.yaml_base.proofs.Common.{folded, Charset, Allowances, allowances, Choice, lacks_tag_and_flags, chosen}
+use Rattle.yaml_base.proofs.Common.{folded, Charset, Allowances, allowances, ChosenStyle, lacks_tag_and_flags, chosen}
 use Rattle.yaml_base.proofs.rows.Cases.{GivesOfFive, GivesOfTwo}
 
 abbrev ascii : Charset
@@ -46,11 +46,11 @@ what_is_allowed : GivesOfTwo allowances (
     ∷ [])
 what_is_allowed = refl
 
-abbrev choice : ScalarStyle → Bool → Choice
+abbrev choice : ScalarStyle → Bool → ChosenStyle
 choice style bare = record { style = style; bare = bare }
 
 -- a scalar in block without a written tag, with these flags
-abbrev in_block : Text → ScalarStyle → (plain_implicit quoted_implicit canonical : Bool) → Choice
+abbrev in_block : Text → ScalarStyle → (plain_implicit quoted_implicit canonical : Bool) → ChosenStyle
 in_block value style plain_implicit quoted_implicit canonical =
     chosen (allowances ascii value) style false false plain_implicit quoted_implicit false false canonical
 

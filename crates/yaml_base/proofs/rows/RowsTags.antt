@@ -1,6 +1,6 @@
 -- Worked rows of tags, names and directives, computed.
 use Rattle.yaml_base.proofs.Common.{ℕ, Option, None, Some, codes, pos, false, List, [], ◌++◌, ◌∷◌, refl, ◌≡◌, Text, TagDirective, percent_escaped, anchor_fault}
-use Rattle.yaml_base.proofs.Common.{alias_fault, tag_fault, version_fault, directives_fault, directives_in_force, spelling, spelled, tag_read, percent_read}
+use Rattle.yaml_base.proofs.Common.{alias_fault, tag_fault, version_fault, directives_fault, directives_in_force, spelling, spelled, read_tag, percent_read}
 use Rattle.yaml_base.proofs.Common.{bare_parsed, name_parsed}
 use Rattle.std.specs.Str.{chars, is_utf8}
 use lib.Utf8.{encode}
@@ -47,7 +47,7 @@ spellings : Gives (spelled false) (
 unfolding encode
 spellings = refl
 
-tags_read : GivesOfTwo tag_read (
+tags_read : GivesOfTwo read_tag (
     ([], codes "!", Some bare_parsed)  -- reads bare
     ∷ (directive (codes "!e!") (codes "!x") ∷ [], codes "!e!y%21", Some (name_parsed (codes "!xy!")))  -- reads shorthand
     ∷ ([], codes "!!int", Some (name_parsed (codes "tag:yaml.org,2002:int")))  -- reads default
@@ -61,20 +61,20 @@ tags_read = refl
 
 -- outputs of wrong writers: a sign that isn't escaped, a handle that the document doesn't give, `%` left as it was
 reads_other_tags :
-    (tag_read [] (codes "!a!b") ≡ None) × (tag_read [] (codes "a") ≡ None) × (tag_read [] (codes "!%") ≡ None)
-    × (tag_read [] (codes "!<a%2>") ≡ None) × (tag_read [] (codes "!%C3") ≡ None) × (tag_read [] [] ≡ None)
+    (read_tag [] (codes "!a!b") ≡ None) × (read_tag [] (codes "a") ≡ None) × (read_tag [] (codes "!%") ≡ None)
+    × (read_tag [] (codes "!<a%2>") ≡ None) × (read_tag [] (codes "!%C3") ≡ None) × (read_tag [] [] ≡ None)
 unfolding is_utf8 chars encode
 reads_other_tags = (refl, refl, refl, refl, refl, refl)
 
 -- a document's own directive comes before the one assumed, and the first of two before the second
 reads_by_the_first_directive :
-    (tag_read (directive (codes "!!") (codes "x:") ∷ directive (codes "!!") (codes "y:") ∷ []) (codes "!!a") ≡ Some (name_parsed (codes "x:a")))
-    × (tag_read (directive (codes "!") (codes "x:") ∷ []) (codes "!a") ≡ Some (name_parsed (codes "x:a")))
-    × (tag_read [] (codes "!!<a>") ≡ Some (name_parsed (codes "tag:yaml.org,2002:<a>")))
+    (read_tag (directive (codes "!!") (codes "x:") ∷ directive (codes "!!") (codes "y:") ∷ []) (codes "!!a") ≡ Some (name_parsed (codes "x:a")))
+    × (read_tag (directive (codes "!") (codes "x:") ∷ []) (codes "!a") ≡ Some (name_parsed (codes "x:a")))
+    × (read_tag [] (codes "!!<a>") ≡ Some (name_parsed (codes "tag:yaml.org,2002:<a>")))
 unfolding is_utf8 chars encode
 reads_by_the_first_directive = (refl, refl, refl)
 
-reads_no_unknown_handle : tag_read [] (codes "!e!y") ≡ None
+reads_no_unknown_handle : read_tag [] (codes "!e!y") ≡ None
 reads_no_unknown_handle = refl
 
 names : anchor_fault (codes "a-_9Z") ≡ None

@@ -6,7 +6,7 @@ use Rattle.yaml_base.proofs.stream_documents.StreamRootBegins.{properties_begin,
 use Rattle.yaml_base.proofs.{stream_documents.StreamLeafMarkers.leaf_markerless, stream_flow.StreamFlowFits.flows_fit, stream_flow.StreamFlowKinds.KeysFit}
 use Rattle.yaml_base.proofs.{stream_flow.StreamFlowScalars.rules_of, stream_nodes.StreamAgrees.node_tree, stream_nodes.StreamLeads.tag_is_written}
 use Rattle.yaml_base.proofs.{stream_nodes.StreamTexts.node_own, stream_documents.StreamRootBegins.plain_asked, stream_documents.StreamRootStood.root_settled}
-use Rattle.yaml_base.proofs.Common.{directives_in_force, is_empty, Choice, is_plain, and-false}
+use Rattle.yaml_base.proofs.Common.{directives_in_force, is_empty, ChosenStyle, is_plain, and-false}
 use Rattle.yaml_base.proofs.stream_flow.StreamFlowReads.{sequence_reads, mapping_reads}
 use Rattle.yaml_base.proofs.stream_nodes.StreamLeaves.{ScalarsFit, SimpleKeysFit, leaves_stand}
 use Rattle.yaml_base.proofs.stream_documents.StreamRootsStand.{root_cursor, Begins, LeafStands, is_leaf, PropertiesStand, RootStands}
@@ -26,7 +26,7 @@ scalar_begins : (s : Effective) (own directives : List TagDirective) (cursor : C
     → Begins s.breaks12 cursor (node_own (scalar_node content) s directives root_place cursor)
 scalar_begins s own directives cursor content names stands some = by (is_plain choice.style && is_empty content.value) refl
   where
-    choice : Choice
+    choice : ChosenStyle
     choice = choice_of s root_place false content
 
     tag : Option Text

@@ -3,7 +3,7 @@ use Rattle.yaml_base.proofs.Common.{ℕ, if◌then◌else◌, ◌==◌, option_m
 use Rattle.yaml_base.proofs.Common.{true≢false, ap, ◌∙◌, arith, and_parts, or_parts, false≢true, nat_tests, list_all, Text, is_among, is_alpha, ScalarStyle}
 use Rattle.yaml_base.proofs.Common.{plain, is_read_white, holds_no_plain, Properties, read_plain, ParsedTag, has_clean_edges, is_tidy, is_plain, Tree}
 use Rattle.yaml_base.proofs.Common.{alias_tree, scalar_tree, sequence_tree, mapping_tree, no_trees, no_tree_pairs, Rules, name_read, collection_tag_parsed}
-use Rattle.yaml_base.proofs.Common.{tagging_parsed, stood_in_style, scalar_parsed, scalar_of_style, word_by_kind, word_after, word_read, word, FlowStep}
+use Rattle.yaml_base.proofs.Common.{tagging_of, stood_in_style, scalar_parsed, scalar_of_style, word_by_kind, word_after, word_read, word, FlowStep}
 use Rattle.yaml_base.proofs.{Common.begins_plain, Common.class_of, Common.begun_token, Common.flow_tokens, stream_keys.StreamAliasKeys.alias_word}
 use Rattle.yaml_base.proofs.{stream_lines.StreamTidyLaws.tidy_at_root, stream_nodes.StreamAgrees.tagging_in, stream_nodes.StreamLeads.lead_then}
 use Rattle.yaml_base.proofs.{stream_nodes.StreamStands.tag_meant, stream_flow.StreamSays.Says, stream_flow.StreamSays.class_fixed}
@@ -48,7 +48,7 @@ lead_opens rules anchor tag parsed rest h k = grind (arith, nat_tests)
 
 -- how a scalar is tagged that is written so
 pub tagging_meant : (tag : Option Text) (style : ScalarStyle) (bare : Bool) → (bare ≡ true → is_plain style ≡ false)
-    → tagging_parsed (tag_meant tag bare) (stood_in_style style) ≡ Some (tagging_in tag (record { style = style; bare = bare }))
+    → tagging_of (tag_meant tag bare) (stood_in_style style) ≡ Some (tagging_in tag (record { style = style; bare = bare }))
 tagging_meant tag style bare h = grind (arith, nat_tests, true≢false)
 
 -- the tree of a scalar

@@ -1,11 +1,11 @@
 -- No `:` in an anchor or a tag ends a key: what stands before it is no word, and no alias.
 use Rattle.yaml_base.proofs.Common.{nat_tests, arith, ℕ, ◌+◌, if◌then◌else◌, ◌==◌, is_some, option_map, option_and_then, Option, None, Some, length, Bool}
 use Rattle.yaml_base.proofs.Common.{false, not, true, ◌||◌, [], ◌++◌, ◌∷◌, refl, ◌≡◌, eqb-true, true≢false, append-nil, append_assoc, ap, subst, sym, ◌∙◌}
-use Rattle.yaml_base.proofs.Common.{and_parts, and_from, false≢true, list_all, Text, space, is_alpha, ParsedTag, tag_parsed, Stood, Tree, is_alias}
+use Rattle.yaml_base.proofs.Common.{and_parts, and_from, false≢true, list_all, Text, space, is_alpha, ParsedTag, parse_tag, Stood, Tree, is_alias}
 use Rattle.yaml_base.proofs.Common.{ends_indicator, Indented, past_indentation, spaces, word_of_alias, key_of_text, key_from, Rules, Properties}
 use Rattle.yaml_base.proofs.stream_nodes.StreamProperties.{WrittenTag, IsTagged, IsNamed, properties_text, has_no_space, word_whole, name_letters}
 use Rattle.yaml_base.{proofs.stream_flow.StreamPropertyWords.lead, specs.streams.StreamScalars.WordKind, proofs.stream_lines.StreamInside.indented_spaces}
-use Rattle.yaml_base.proofs.Common.{PropertiesRead, cut_before_space, tag_of_word, tag_first, scalar_parsed, an_alias, word_by_kind, word_after, word_read}
+use Rattle.yaml_base.proofs.Common.{PropertiesRead, cut_before_space, tag_of_word, leading_tag, scalar_parsed, an_alias, word_by_kind, word_after, word_read}
 use Rattle.yaml_base.proofs.stream_nodes.StreamProperties.{no_white_no_space, space_after, content_indented, with_anchor}
 use Rattle.yaml_base.proofs.stream_keys.StreamKeys.{NoKey, no_alias_before, key_by_word}
 
@@ -91,11 +91,11 @@ nothing_after rules flow properties count =
 
 -- the beginning of a tag, whatever it says
 tag_alone : (rules : Rules) (flow : Bool) (anchor : Option Text) (column : ℕ) (b : Text) → has_no_space b ≡ true
-    → after_read rules flow (tag_first rules.directives anchor column (0x21 ∷ b)) ≡ None
+    → after_read rules flow (leading_tag rules.directives anchor column (0x21 ∷ b)) ≡ None
 tag_alone rules flow anchor column b h =
     let cut : cut_before_space (0x21 ∷ b) ≡ record { prefix = 0x21 ∷ b; rest = [] } =
     ap cut_before_space (sym (append-nil (0x21 ∷ b))) ∙ word_whole (0x21 ∷ b) [] h refl in
-    ap (λ cut. after_read rules flow (tag_of_word rules.directives anchor column cut)) cut ∙ by (tag_parsed rules.directives (0x21 ∷ b))
+    ap (λ cut. after_read rules flow (tag_of_word rules.directives anchor column cut)) cut ∙ by (parse_tag rules.directives (0x21 ∷ b))
   where
     by : (parsed : Option ParsedTag)
         → after_read rules flow (option_map (λ parsed. record {
@@ -119,10 +119,10 @@ tag_no_word rules flow (Some name) b named h = grind (arith, append_assoc, with_
 
 -- a text that begins with an anchor or a tag is no alias
 tag_other : (rules : Rules) (anchor : Option Text) (column : ℕ) (u : Text) → reads_alias
-    (after_read rules false (tag_first rules.directives anchor column (0x21 ∷ u))) ≡ false
+    (after_read rules false (leading_tag rules.directives anchor column (0x21 ∷ u))) ≡ false
 tag_other rules anchor column u = grind (arith, properties_other)
 
-anchor_other : (rules : Rules) (name : Text) (column : ℕ) (t : Text) → reads_alias (after_read rules false (tag_first rules.directives (Some name) column t))
+anchor_other : (rules : Rules) (name : Text) (column : ℕ) (t : Text) → reads_alias (after_read rules false (leading_tag rules.directives (Some name) column t))
     ≡ false
 anchor_other rules name column [] = properties_other rules false (record { anchor = Some name; tag = None }) (past_indentation (spaces column)).text refl
 anchor_other rules name column (c ∷ t) = grind (arith, eqb-true, tag_other, properties_other)

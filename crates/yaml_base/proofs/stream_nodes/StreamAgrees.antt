@@ -3,7 +3,7 @@ use Rattle.yaml_base.proofs.Common.{arith, if◌then◌else◌, is_some, Option,
 use Rattle.yaml_base.proofs.Common.{and_parts, and_from, false≢true, Decides-int_eq, Text, ScalarStyle, TagDirective, Scalar, scalar_tag, collection_tag, Node}
 use Rattle.yaml_base.proofs.Common.{alias_node, scalar_node, Nodes, sequence_node, Pairs, mapping_node, no_nodes, nodes_and, no_pairs, pairs_and, Document}
 use Rattle.yaml_base.proofs.Common.{root_place, allowed_under, style_asked_at, choice_of, is_written_in_flow, entry_place, as_item, as_key, as_value, Place}
-use Rattle.yaml_base.proofs.Common.{has_no_nodes, has_no_pairs, is_simple, is_simple_at, Effective, directives_in_force, Allowances, is_empty, Choice}
+use Rattle.yaml_base.proofs.Common.{has_no_nodes, has_no_pairs, is_simple, is_simple_at, Effective, directives_in_force, Allowances, is_empty, ChosenStyle}
 use Rattle.yaml_base.proofs.Common.{lacks_tag_and_flags, is_plain, requested_style, fitting_style, fits_plain, Stood, stood_plain, stood_quoted, stood_bare}
 use Rattle.yaml_base.proofs.Common.{Tagging, with_tag, without_tag, Tree, alias_tree, scalar_tree, Trees, sequence_tree, TreePairs, mapping_tree, no_trees}
 use Rattle.yaml_base.proofs.Common.{trees_and, no_tree_pairs, tree_pairs_and, DocumentTree, document_agrees, nat_tests}
@@ -15,7 +15,7 @@ abbrev pub standing_in : ScalarStyle → (bare : Bool) → Stood
 standing_in style bare = if bare then stood_bare else if is_plain style then stood_plain else stood_quoted
 
 -- how a scalar is tagged in the style that was chosen
-abbrev pub tagging_in : Option Text → Choice → Tagging
+abbrev pub tagging_in : Option Text → ChosenStyle → Tagging
 tagging_in None choice = without_tag (standing_in choice.style choice.bare)
 tagging_in (Some tag) choice = with_tag tag
 

@@ -89,7 +89,7 @@ properties_begun s own directives anchor tag cursor c t named stands is shows da
           ∙ properties_parsed own anchor written (tag_meant tag false) 0 [] named tagged refl (λ h. refl);
       blank = ap is_spaces (append-nil (spaces count)) ∙ blank_spaces count;
       anchor_read = refl;
-      tag_read = tag_of_collection tag;
+      read_tag = tag_of_collection tag;
       ends = properties_ended s.portable directives anchor tag cursor c t is;
     }
 

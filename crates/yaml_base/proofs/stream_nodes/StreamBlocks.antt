@@ -106,7 +106,7 @@ pub record Said (rules : Rules) (anchor tag : Option Text) (cursor : Cursor) (be
   pub reads : properties_read rules.directives (head ∷ tail) ≡ Some read
   pub blank : is_spaces read.text ≡ true
   pub anchor_read : read.properties.anchor ≡ anchor
-  pub tag_read : collection_tag_parsed read.properties.tag ≡ Some tag
+  pub read_tag : collection_tag_parsed read.properties.tag ≡ Some tag
   pub ends : begun.cursor.indention ≡ false
 
 pub data BegunKind (rules : Rules) (anchor tag : Option Text) (cursor : Cursor) (begun : Rendered) : Type 0 where
@@ -256,8 +256,8 @@ parsed_reads : (rules : Rules) (n e : ℕ) (column : Option ℕ) (text : Text) (
     → kind_of_node rules (c ∷ t) ≡ begins_text
     → OneLine rules.breaks12 (c ∷ t) → (depth : ℕ) → suc n ≤ depth → (here : Bool) (k : ℕ)
     → node_read depth rules here column (lines_of rules.breaks12 ((spaces k ++ (c ∷ t)) ++ (line_feed ∷ text))) ≡ Some (make anchor tag)
-parsed_reads rules n e column text c t make block read anchor tag reads blank anchor_read tag_read begins shows kind one zero deep here k = absurd (omega arith)
-parsed_reads rules n e column text c t make block read anchor tag reads blank anchor_read tag_read begins shows kind one (suc depth) deep here k =
+parsed_reads rules n e column text c t make block read anchor tag reads blank anchor_read read_tag begins shows kind one zero deep here k = absurd (omega arith)
+parsed_reads rules n e column text c t make block read anchor tag reads blank anchor_read read_tag begins shows kind one (suc depth) deep here k =
     let lines = lines_of rules.breaks12 text in
     let line : Line = record { text = spaces k ++ (c ∷ t); ending = line_feed ∷ [] } in
     let by : ReadsText = λ at text. text_or_properties (begins_properties text) rules (node_read depth rules) column at text in
@@ -271,7 +271,7 @@ parsed_reads rules n e column text c t make block read anchor tag reads blank an
     ∙ ap (λ x. node_by_kind x rules (node_read depth rules) by no_properties (here || false) true begun (line_feed ∷ []) lines (line ∷ lines)) kind
     ∙ ap (λ x. text_or_properties x rules (node_read depth rules) column k (c ∷ t) (line_feed ∷ []) lines) begins
     ∙ ap (after_properties rules (node_read depth rules) column k (line_feed ∷ []) lines) reads
-    ∙ block_below rules n e text make block depth (omega arith) (λ at. text_read rules column read.properties) read.properties tag tag_read false
+    ∙ block_below rules n e text make block depth (omega arith) (λ at. text_read rules column read.properties) read.properties tag read_tag false
     (blanked k read.text (line_feed ∷ []))
     (blank_both k read.text blank)
     ∙ ap (λ a. Some (make a tag)) anchor_read
@@ -299,7 +299,7 @@ parsed_fits rules n e place cursor begun entries text make anchor tag block all 
           (sym (append_assoc (spaces k) prefix (line_feed ∷ text))
           ∙ ap (λ t. t ++ (line_feed ∷ text)) (spaces_both k parsed.count (k + parsed.count) core refl))
           ∙ parsed_reads rules n e place.column text parsed.head parsed.tail make block parsed.read anchor tag parsed.reads parsed.blank parsed.anchor_read
-          parsed.tag_read
+          parsed.read_tag
           parsed.begins parsed.shows parsed.kind
           parsed.one_line depth deep here (k + parsed.count);
     }

@@ -7,7 +7,7 @@ use Rattle.yaml_base.proofs.{stream_flow.StreamFlowScalars.rules_of, stream_flow
 use Rattle.yaml_base.proofs.{stream_lines.StreamInside.blank_spaces, stream_lines.StreamInside.blank_both, stream_lines.StreamLineLaws.is_closed}
 use Rattle.yaml_base.proofs.{stream_nodes.StreamAgrees.tagging_in, stream_nodes.StreamBegun.begun_kind, stream_nodes.StreamFits.Fits}
 use Rattle.yaml_base.proofs.{stream_nodes.StreamProperties.IsNamed, stream_nodes.StreamScalarsFit.render_styled, stream_nodes.StreamStands.TagStands}
-use Rattle.yaml_base.proofs.Common.{no_properties, collection_tag_parsed, tagging_parsed}
+use Rattle.yaml_base.proofs.Common.{no_properties, collection_tag_parsed, tagging_of}
 use Rattle.yaml_base.proofs.stream_lines.StreamClosed.{closed, spaces_line, lines_broken}
 use Rattle.yaml_base.proofs.stream_nodes.StreamLeafFits.{TextReads, text_fits}
 use Rattle.yaml_base.proofs.stream_nodes.StreamBlocks.{Said, BegunKind, unsaid, is_parsed, below_ends}
@@ -38,7 +38,7 @@ nothing_fits rules place cursor = record {
 
 -- what properties say is how the scalar is tagged
 empty_tagging : (read : Option ParsedTag) (tag : Option Text) → collection_tag_parsed read ≡ Some tag
-    → tagging_parsed read stood_plain ≡ Some (tagging_in tag (record { style = plain; bare = false }))
+    → tagging_of read stood_plain ≡ Some (tagging_in tag (record { style = plain; bare = false }))
 empty_tagging read tag h = grind (arith, nat_tests, none_not_some)
 
 -- the words of properties alone are read as the empty scalar
@@ -59,7 +59,7 @@ parsed_reads_nothing rules column anchor tag cursor begun parsed = record {
       ∙ ap (after_properties rules reads column at (line_feed ∷ []) []) parsed.reads
       ∙ ap (λ x. node_at rules reads (λ at. text_read rules column parsed.read.properties) parsed.read.properties (false || x) (not x)
       (if x then [] else blanked at parsed.read.text (line_feed ∷ []) ∷ [])) (blank_both at parsed.read.text parsed.blank)
-      ∙ ap (option_map (λ tagging. scalar_tree parsed.read.properties.anchor tagging [])) (empty_tagging parsed.read.properties.tag tag parsed.tag_read)
+      ∙ ap (option_map (λ tagging. scalar_tree parsed.read.properties.anchor tagging [])) (empty_tagging parsed.read.properties.tag tag parsed.read_tag)
       ∙ ap (λ a. Some (scalar_tree a (tagging_in tag (record { style = plain; bare = false })) [])) parsed.anchor_read;
 }
 

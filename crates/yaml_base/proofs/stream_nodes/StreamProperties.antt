@@ -1,9 +1,9 @@
 -- The anchor and the tag before a node, as they are written, are read as they were given, and spaces of their length stay.
 use Rattle.yaml_base.proofs.Common.{nat_tests, suc, zero, ℕ, ◌+◌, ◌==◌, option_and_then, Option, None, Some, length, Bool, false, not, true, ◌&&◌, ◌||◌, List}
 use Rattle.yaml_base.proofs.Common.{[], ◌++◌, ◌∷◌, refl, ◌≡◌, eqb-true, length-append, append-nil, append_assoc, ap, sym, ◌∙◌, arith, and_parts, or_parts}
-use Rattle.yaml_base.proofs.Common.{false≢true, list_all, list_any, Text, space, is_alpha, is_blank, is_break, TagDirective, ParsedTag, CutText, tag_parsed}
+use Rattle.yaml_base.proofs.Common.{false≢true, list_all, list_any, Text, space, is_alpha, is_blank, is_break, TagDirective, ParsedTag, CutText, parse_tag}
 use Rattle.yaml_base.proofs.Common.{ends_indicator, Indented, indented_step, past_indentation, spaces, Rules, no_properties, PropertiesRead, cut_before_space}
-use Rattle.yaml_base.proofs.Common.{name_read, anchor_of_word, tag_first, properties_read, word_after, word_read, not-true}
+use Rattle.yaml_base.proofs.Common.{name_read, anchor_of_word, leading_tag, properties_read, word_after, word_read, not-true}
 use Rattle.yaml_base.{proofs.stream_lines.StreamCuts.none_not_some, specs.streams.StreamScalars.cut_word_step, specs.streams.StreamScalars.anchor_first}
 use Rattle.yaml_base.proofs.AllPass.{all_pass}
 
@@ -16,7 +16,7 @@ pub record WrittenTag (directives : List TagDirective) (text : Text) (parsed : P
   pub rest : Text
   pub begins : text ≡ 0x21 ∷ rest
   pub no_white : holds_white text ≡ false
-  pub says : tag_parsed directives text ≡ Some parsed
+  pub says : parse_tag directives text ≡ Some parsed
 
 -- a written tag, if there is one, and what it says
 abbrev pub IsTagged : List TagDirective → Option Text → Option ParsedTag → Type 0
@@ -109,12 +109,12 @@ read_as anchor parsed count rest =
 
 -- without a tag
 no_tag : (directives : List TagDirective) (anchor : Option Text) (column : ℕ) (rest : Text) → begins_content rest ≡ true
-    → tag_first directives anchor column rest ≡ read_as anchor None column rest
+    → leading_tag directives anchor column rest ≡ read_as anchor None column rest
 no_tag directives anchor column rest h = grind (arith, nat_tests, append-nil, and_parts, not-true)
 
 -- a tag, before a space or the end
 with_tag : (directives : List TagDirective) (anchor : Option Text) (column : ℕ) (tag rest : Text) (parsed : ParsedTag) → WrittenTag directives tag parsed
-    → ends_indicator rest ≡ true → tag_first directives anchor column (tag ++ rest) ≡ read_as anchor (Some parsed) (column + length tag) rest
+    → ends_indicator rest ≡ true → leading_tag directives anchor column (tag ++ rest) ≡ read_as anchor (Some parsed) (column + length tag) rest
 with_tag directives anchor column tag rest parsed written h = grind (arith, nat_tests, word_whole, no_white_no_space)
 
 -- an anchor, before a space or the end
@@ -130,7 +130,7 @@ no_anchor n rest h = grind (arith, nat_tests, and_parts, not-true)
 -- what follows the reading of an anchor
 abbrev then_tag : List TagDirective → Option PropertiesRead → Option PropertiesRead
 then_tag directives found =
-    option_and_then (λ read. let after : Indented = past_indentation read.text in tag_first directives read.properties.anchor after.column after.text) found
+    option_and_then (λ read. let after : Indented = past_indentation read.text in leading_tag directives read.properties.anchor after.column after.text) found
 
 -- where a tag begins the text after spaces
 tag_content : (directives : List TagDirective) (n : ℕ) (tag rest : Text) (parsed : ParsedTag) → WrittenTag directives tag parsed
@@ -152,11 +152,11 @@ pub properties_parsed : (directives : List TagDirective) (anchor tag : Option Te
 properties_parsed directives None None None n rest named tagged own ends = grind (arith, no_anchor, content_indented, no_tag)
 properties_parsed directives (Some name) None None n rest named tagged own ends =
     ap (then_tag directives) (with_anchor name _ named (ends refl))
-    ∙ ap (λ t. let after : Indented = past_indentation t in tag_first directives (Some name) after.column after.text) (spaces_both _ n rest)
-    ∙ ap (λ (after : Indented). tag_first directives (Some name) after.column after.text) (content_indented _ rest own) ∙ no_tag _ _ _ rest own
+    ∙ ap (λ t. let after : Indented = past_indentation t in leading_tag directives (Some name) after.column after.text) (spaces_both _ n rest)
+    ∙ ap (λ (after : Indented). leading_tag directives (Some name) after.column after.text) (content_indented _ rest own) ∙ no_tag _ _ _ rest own
 properties_parsed directives None (Some tag) (Some parsed) n rest named tagged own ends =
     ap (then_tag directives) (no_anchor_tag tagged.begins)
-    ∙ ap (λ (after : Indented). tag_first directives None after.column after.text) (tag_content _ 0 tag _ _ tagged)
+    ∙ ap (λ (after : Indented). leading_tag directives None after.column after.text) (tag_content _ 0 tag _ _ tagged)
     ∙ with_tag _ None 0 tag _ _ tagged (ends refl)
     ∙ ap (λ t. let made : Option PropertiesRead = Some (record { properties = record { anchor = None; tag = Some parsed }; text = t }) in made)
     (spaces_both _ n rest ∙ (let e : (0 + length tag) + n ≡ length tag + n = omega arith in ap (λ k. spaces k ++ rest) e))
@@ -168,8 +168,8 @@ properties_parsed directives None (Some tag) (Some parsed) n rest named tagged o
 properties_parsed directives (Some name) (Some tag) (Some parsed) n rest named tagged own ends =
     ap (λ t. then_tag directives (anchor_first (0x26 ∷ t))) (append_assoc name (space ∷ tag) (spaces n ++ rest))
     ∙ ap (then_tag directives) (with_anchor name _ named refl)
-    ∙ ap (λ t. let after : Indented = past_indentation t in tag_first directives (Some name) after.column after.text)
-    (space_after (suc (length name)) (tag ++ (spaces n ++ rest))) ∙ ap (λ (after : Indented). tag_first directives (Some name) after.column after.text)
+    ∙ ap (λ t. let after : Indented = past_indentation t in leading_tag directives (Some name) after.column after.text)
+    (space_after (suc (length name)) (tag ++ (spaces n ++ rest))) ∙ ap (λ (after : Indented). leading_tag directives (Some name) after.column after.text)
     (tag_content directives (suc (suc (length name))) tag (spaces n ++ rest) parsed tagged)
     ∙ with_tag directives (Some name) (suc (suc (length name))) tag (spaces n ++ rest) parsed tagged (ends refl)
     ∙ ap (λ t. let made : Option PropertiesRead = Some (record { properties = record { anchor = Some name; tag = Some parsed }; text = t }) in made)

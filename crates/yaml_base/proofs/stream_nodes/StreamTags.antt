@@ -2,9 +2,9 @@
 use Rattle.yaml_base.proofs.Common.{ℕ, ◌==◌, None, codes, Bool, false, not, true, ◌||◌, List, [], ◌++◌, ◌∷◌, refl, ◌≡◌, inl, inr, ap, sym, ◌∙◌, arith}
 use Rattle.yaml_base.proofs.Common.{and_parts, and_from, or_parts, or_from, not-true, nat_tests, list_any-append, list_all, list_any, all_scalars, Text}
 use Rattle.yaml_base.proofs.Common.{is_among, is_alpha, TagDirective, is_tag_character, character_written, percent_escaped, suffix_escaped, exclamation_mark}
-use Rattle.yaml_base.proofs.Common.{directives_fault, directives_in_force, Spelling, verbatim, spelling, spelled, tag_read, is_uri_character, name_parsed}
+use Rattle.yaml_base.proofs.Common.{directives_fault, directives_in_force, Spelling, verbatim, spelling, spelled, read_tag, is_uri_character, name_parsed}
 use Rattle.yaml_base.proofs.PercentLaws.{stands_written, escaped_stands, suffix_stands, character_is_no_flow_indicator, portable_suffix_has_no_flow_indicator}
-use Rattle.yaml_base.{proofs.Common.cut_after_exclamation, proofs.Common.tag_parsed, proofs.TagWords.written_tag_ends_no_word}
+use Rattle.yaml_base.{proofs.Common.cut_after_exclamation, proofs.Common.parse_tag, proofs.TagWords.written_tag_ends_no_word}
 use Rattle.yaml_base.{specs.StreamLaw.has_flow_indicator, specs.reading.ReadTags.may_follow_handle, proofs.stream_nodes.StreamProperties.WrittenTag}
 use Rattle.yaml_base.{proofs.AllPass.all_pass, proofs.TagReads.stands_no_exclamation, proofs.TagReads.cut_at_handle, proofs.TagReads.written_tag_reads}
 use Rattle.yaml_base.proofs.PercentLaws.{written_is_no_less, alpha_is_no_less, escaped_begins, suffix_begins}
@@ -54,13 +54,13 @@ suffix_reads portable text h = grind (arith, suffix_text, uri_text, suffix_stand
 
 -- where what stands in a tag may stand there, a stream's tag says what a canonical one says
 verbatim_as_read : (own : List TagDirective) (c : ℕ) (name : Text) → list_all is_uri_character (c ∷ name) ≡ true
-    → tag_parsed own (codes "!<" ++ ((c ∷ name) ++ codes ">")) ≡ tag_read own (codes "!<" ++ ((c ∷ name) ++ codes ">"))
+    → parse_tag own (codes "!<" ++ ((c ∷ name) ++ codes ">")) ≡ read_tag own (codes "!<" ++ ((c ∷ name) ++ codes ">"))
 verbatim_as_read own c name h = grind (arith, closing_angle_dropped)
 
 -- a text that begins with `!` and goes on with another character than `<`
 by_handle : (own : List TagDirective) (d : ℕ) (rest handle : Text) (c : ℕ) (suffix : Text) → (d == 0x3C) ≡ false
     → cut_after_exclamation (exclamation_mark ∷ d ∷ rest) ≡ record { prefix = handle; rest = c ∷ suffix } → list_all may_follow_handle (c ∷ suffix) ≡ true
-    → tag_parsed own (exclamation_mark ∷ d ∷ rest) ≡ tag_read own (exclamation_mark ∷ d ∷ rest)
+    → parse_tag own (exclamation_mark ∷ d ∷ rest) ≡ read_tag own (exclamation_mark ∷ d ∷ rest)
 by_handle own d rest handle c suffix less cut h = grind (arith)
 
 -- a handle and what stands after it go on so
@@ -78,11 +78,11 @@ second_indicator handle c suffix (inr form) h = by form.0 form.1 form.2
 
 -- a shorthand says what a canonical one says
 shorthand_as_read : (own : List TagDirective) (handle : Text) (c : ℕ) (suffix : Text) → IsHandle handle → list_all stands_written (c ∷ suffix) ≡ true
-    → list_all may_follow_handle (c ∷ suffix) ≡ true → tag_parsed own (handle ++ (c ∷ suffix)) ≡ tag_read own (handle ++ (c ∷ suffix))
+    → list_all may_follow_handle (c ∷ suffix) ≡ true → parse_tag own (handle ++ (c ∷ suffix)) ≡ read_tag own (handle ++ (c ∷ suffix))
 shorthand_as_read own handle c suffix form stands h =
     let second = second_indicator _ c _ form (and_parts _ _ stands).0 in
-    ap (tag_parsed own) second.2 ∙ by_handle own second.0 second.1 handle c suffix second.3
-    (ap cut_after_exclamation (sym second.2) ∙ cut_at_handle _ _ form (stands_no_exclamation (c ∷ suffix) stands)) h ∙ ap (tag_read own) (sym second.2)
+    ap (parse_tag own) second.2 ∙ by_handle own second.0 second.1 handle c suffix second.3
+    (ap cut_after_exclamation (sym second.2) ∙ cut_at_handle _ _ form (stands_no_exclamation (c ∷ suffix) stands)) h ∙ ap (read_tag own) (sym second.2)
 
 nothing_begins : {c : ℕ} {t : Text} → ◌≡◌ {A = Text} [] (c ∷ t) → ⊥
 nothing_begins e = cc
@@ -90,7 +90,7 @@ nothing_begins e = cc
 -- a spelling is read as a canonical reader reads it
 abbrev AsRead : (portable : Bool) → List TagDirective → Spelling → Type 0
 AsRead portable own s =
-    (portable || not (has_flow_indicator s)) ≡ true → tag_parsed own (spelled portable s) ≡ tag_read own (spelled portable s)
+    (portable || not (has_flow_indicator s)) ≡ true → parse_tag own (spelled portable s) ≡ read_tag own (spelled portable s)
 
 spelling_as_read : (portable : Bool) (own : List TagDirective) (d : ℕ) (tag : Text) → directives_fault own ≡ None
     → AsRead portable own (spelling (directives_in_force own) (d ∷ tag))
@@ -103,12 +103,12 @@ spelling_as_read portable own d tag sound =
     whole k = at (percent_escaped (d ∷ tag)) (escaped_begins d tag) (uri_text (percent_escaped (d ∷ tag)) (escaped_stands (d ∷ tag)))
       where
         at : (name : Text) → (c : ℕ) × (more : Text) × (name ≡ c ∷ more) → list_all is_uri_character name ≡ true
-            → tag_parsed own (codes "!<" ++ name ++ codes ">") ≡ tag_read own (codes "!<" ++ name ++ codes ">")
+            → parse_tag own (codes "!<" ++ name ++ codes ">") ≡ read_tag own (codes "!<" ++ name ++ codes ">")
         at [] begins h = absurd (nothing_begins begins.2)
         at (c ∷ name) begins h = verbatim_as_read own c name h
 
     by : (handle : Text) → IsHandle handle → (suffix : Text) → (c : ℕ) × (more : Text) × (suffix ≡ c ∷ more) → list_all stands_written suffix ≡ true
-        → list_all may_follow_handle suffix ≡ true → tag_parsed own (handle ++ suffix) ≡ tag_read own (handle ++ suffix)
+        → list_all may_follow_handle suffix ≡ true → parse_tag own (handle ++ suffix) ≡ read_tag own (handle ++ suffix)
     by handle form [] begins stands h = absurd (nothing_begins begins.2)
     by handle form (c ∷ suffix) begins stands h = shorthand_as_read own handle c suffix form stands h
 

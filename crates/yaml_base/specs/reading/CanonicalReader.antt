@@ -30,10 +30,10 @@ verbatim_read text = option_map name_parsed (option_and_then percent_read text)
 
 -- a written tag, from its `!` to its last character; since a space ends it, it may hold the flow indicators
 -- (YAML 1.1, section 8.2 Node Tags, c-ns-tag-property)
-abbrev pub tag_read : List TagDirective → Text → Option ParsedTag
-tag_read own [] = None
-tag_read own (c ∷ []) = if c == 0x21 then Some bare_parsed else None
-tag_read own (c ∷ d ∷ rest) =
+abbrev pub read_tag : List TagDirective → Text → Option ParsedTag
+read_tag own [] = None
+read_tag own (c ∷ []) = if c == 0x21 then Some bare_parsed else None
+read_tag own (c ∷ d ∷ rest) =
     if not (c == 0x21) then None
     else (if d == 0x3C then verbatim_read (without_closing_angle rest) else shorthand_read own (cut_after_exclamation (c ∷ d ∷ rest)))
 
@@ -101,7 +101,7 @@ with_open documents head levels opened (Some bare_parsed) = failed
 -- (YAML 1.1, sections 8.4 Alias Nodes and 8.5.1 Flow Nodes, c-ns-alias-node, ns-flow-node(n,c))
 abbrev pub canonical_node_read : List DocumentContent → Head → List OpenContent → Option Text → Option ParsedTag → Token → Reading
 canonical_node_read documents head levels None None (anchor_token name) = within documents head levels (node_awaited (Some name) None)
-canonical_node_read documents head levels given None (tag_token text) = with_tag documents head levels given (tag_read head.directives text)
+canonical_node_read documents head levels given None (tag_token text) = with_tag documents head levels given (read_tag head.directives text)
 canonical_node_read documents head levels None None (alias_token name) = with_content documents head levels (alias_content name)
 canonical_node_read documents head levels given read (scalar_token value) =
     with_content documents head levels (scalar_content given (scalar_tag_read read) value)

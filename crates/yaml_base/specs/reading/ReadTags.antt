@@ -79,10 +79,10 @@ verbatim_parsed (Some []) = None
 verbatim_parsed (Some (c ∷ name)) = if list_all is_uri_character (c ∷ name) then option_map name_parsed (percent_read (c ∷ name)) else None
 
 -- a written tag, from its `!` to its last character, by a document's own directives and those assumed (YAML 1.1, section 8.2 Node Tags, c-ns-tag-property)
-abbrev pub tag_parsed : List TagDirective → Text → Option ParsedTag
-tag_parsed own [] = None
-tag_parsed own (c ∷ []) = if c == 0x21 then Some bare_parsed else None
-tag_parsed own (c ∷ d ∷ rest) =
+abbrev pub parse_tag : List TagDirective → Text → Option ParsedTag
+parse_tag own [] = None
+parse_tag own (c ∷ []) = if c == 0x21 then Some bare_parsed else None
+parse_tag own (c ∷ d ∷ rest) =
     if not (c == 0x21) then None
     else (if d == 0x3C then verbatim_parsed (without_closing_angle rest)
     else (let cut = cut_after_exclamation (c ∷ d ∷ rest) in shorthand_parsed own cut.prefix cut.rest))

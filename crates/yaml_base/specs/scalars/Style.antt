@@ -5,7 +5,7 @@ use Rattle.yaml_base.specs.scalars.Analysis.{Allowances}
 use Rattle.yaml_base.specs.Event.{ScalarStyle, any_style, plain, single_quoted, double_quoted, literal, folded}
 
 -- the style that is written, and whether the bare tag stands before it
-pub record Choice : Type 0 where
+pub record ChosenStyle : Type 0 where
   pub style : ScalarStyle
   pub bare : Bool
 
@@ -60,7 +60,7 @@ fits_plain allowed empty tag_written plain_implicit flow simple_key =
 -- outside flow and simple keys; the bare tag tells a quoted scalar apart that has no tag and no flag
 abbrev pub chosen :
     Allowances → ScalarStyle
-    → (empty tag_written plain_implicit quoted_implicit flow simple_key canonical : Bool) → Choice
+    → (empty tag_written plain_implicit quoted_implicit flow simple_key canonical : Bool) → ChosenStyle
 chosen allowed asked empty tag_written plain_implicit quoted_implicit flow simple_key canonical =
     let style =
     fitting_style allowed

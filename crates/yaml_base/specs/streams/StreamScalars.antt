@@ -11,7 +11,7 @@ use Rattle.yaml_base.specs.reading.ReadPlain.{read_plain}
 use Rattle.yaml_base.specs.reading.ReadSingle.{read_single}
 use Rattle.yaml_base.specs.reading.ReadDouble.{read_double}
 use Rattle.yaml_base.specs.reading.ReadBlock.{read_block}
-use Rattle.yaml_base.specs.reading.ReadTags.{ParsedTag, bare_parsed, name_parsed, CutText, tag_parsed}
+use Rattle.yaml_base.specs.reading.ReadTags.{ParsedTag, bare_parsed, name_parsed, CutText, parse_tag}
 use Rattle.yaml_base.specs.reading.TidyText.{is_tidy}
 use Rattle.yaml_base.specs.streams.StreamContent.{Stood, stood_plain, stood_quoted, stood_bare, Tagging, with_tag, without_tag, Tree, alias_tree, scalar_tree}
 use Rattle.yaml_base.specs.streams.StreamContent.{sequence_tree, mapping_tree, no_trees, no_tree_pairs}
@@ -71,12 +71,12 @@ abbrev pub tag_of_word : List TagDirective → Option Text → ℕ → CutText �
 tag_of_word directives anchor column word =
     option_map
     (λ parsed. record { properties = record { anchor = anchor; tag = Some parsed }; text = spaces (column + length word.prefix) ++ word.rest })
-    (tag_parsed directives word.prefix)
+    (parse_tag directives word.prefix)
 
 -- the tag that a text begins with at a column, if it begins with one (YAML 1.1, section 8.2 Node Tags, c-ns-tag-property)
-abbrev pub tag_first : List TagDirective → Option Text → ℕ → Text → Option PropertiesRead
-tag_first directives anchor column [] = Some (record { properties = record { anchor = anchor; tag = None }; text = spaces column })
-tag_first directives anchor column (c ∷ rest) =
+abbrev pub leading_tag : List TagDirective → Option Text → ℕ → Text → Option PropertiesRead
+leading_tag directives anchor column [] = Some (record { properties = record { anchor = anchor; tag = None }; text = spaces column })
+leading_tag directives anchor column (c ∷ rest) =
     if c == 0x21 then tag_of_word directives anchor column (cut_before_space (c ∷ rest))
     else Some (record { properties = record { anchor = anchor; tag = None }; text = spaces column ++ c ∷ rest })
 
@@ -84,7 +84,7 @@ tag_first directives anchor column (c ∷ rest) =
 abbrev pub properties_read : List TagDirective → Text → Option PropertiesRead
 properties_read directives text =
     option_and_then
-    (λ read. let after = past_indentation read.text in tag_first directives read.properties.anchor after.column after.text)
+    (λ read. let after = past_indentation read.text in leading_tag directives read.properties.anchor after.column after.text)
     (anchor_first text)
 
 -- the tag of a collection: the bare tag isn't one (this project)
@@ -94,11 +94,11 @@ collection_tag_parsed (Some (name_parsed name)) = Some (Some name)
 collection_tag_parsed (Some bare_parsed) = None
 
 -- how a scalar is tagged that stood so: the bare tag stands before none that is plain (this project)
-abbrev pub tagging_parsed : Option ParsedTag → Stood → Option Tagging
-tagging_parsed None standing = Some (without_tag standing)
-tagging_parsed (Some (name_parsed name)) standing = Some (with_tag name)
-tagging_parsed (Some bare_parsed) stood_quoted = Some (without_tag stood_bare)
-tagging_parsed (Some bare_parsed) _ = None
+abbrev pub tagging_of : Option ParsedTag → Stood → Option Tagging
+tagging_of None standing = Some (without_tag standing)
+tagging_of (Some (name_parsed name)) standing = Some (with_tag name)
+tagging_of (Some bare_parsed) stood_quoted = Some (without_tag stood_bare)
+tagging_of (Some bare_parsed) _ = None
 
 -- Scalars
 
@@ -126,7 +126,7 @@ stood_in_style _ = stood_quoted
 -- a scalar after its properties
 abbrev pub scalar_parsed : Properties → Stood → Option Text → Option Tree
 scalar_parsed properties standing value =
-    option_and_then (λ text. option_map (λ tagging. scalar_tree properties.anchor tagging text) (tagging_parsed properties.tag standing)) value
+    option_and_then (λ text. option_map (λ tagging. scalar_tree properties.anchor tagging text) (tagging_of properties.tag standing)) value
 
 -- a scalar's text, tidy where it stands (this project)
 abbrev pub scalar_of_style : ScalarStyle → Rules → (flow : Bool) → Option ℕ → Properties → Text → Option Tree

@@ -4,7 +4,7 @@ use Rattle.yaml_emitter.proofs.Common.{Text, TagDirective, Event, scalar, sequen
 use Rattle.yaml_emitter.proofs.Common.{Pairs, mapping_node, no_nodes, nodes_and, no_pairs, pairs_and, has_no_nodes, has_no_pairs, directives_in_force}
 use Rattle.yaml_emitter.proofs.Common.{spelling, spelled, node_awaited, Head, Reading, within, token_read, Token, scalar_token, opens_sequence}
 use Rattle.yaml_emitter.proofs.Common.{closes_sequence, opens_mapping, closes_mapping, key_token, value_token, comma, DocumentContent}
-use Rattle.yaml_base.proofs.Common.{tag_read, scalar_content, node_content, ParsedTag, bare_parsed, name_parsed}
+use Rattle.yaml_base.proofs.Common.{read_tag, scalar_content, node_content, ParsedTag, bare_parsed, name_parsed}
 use Rattle.yaml_base.specs.reading.CanonicalReader.{OpenContent, open_sequence, open_mapping, entry_awaited, comma_awaited, with_content, with_tag}
 use Rattle.yaml_base.specs.reading.Content.{Contents, content_tag, nodes_content, pairs_content}
 use Rattle.yaml_emitter.proofs.canonical.CanonicalEvents.{EachNode, EachItem, EachPair}
@@ -18,7 +18,7 @@ parsed_of None false = None
 -- a tag that is read back in a document with these directives
 abbrev pub TagReads : (portable : Bool) → List TagDirective → Option Text → Type 0
 TagReads portable own None = Unit {0}
-TagReads portable own (Some tag) = tag_read own (spelled portable (spelling (directives_in_force own) tag)) ≡ Some (name_parsed tag)
+TagReads portable own (Some tag) = read_tag own (spelled portable (spelling (directives_in_force own) tag)) ≡ Some (name_parsed tag)
 
 -- an event's tag is read back
 abbrev pub TagOf : (portable : Bool) → List TagDirective → Event → Type 0

@@ -3,7 +3,8 @@ use Rattle.yaml_emitter.proofs.Common.{ℕ, ◌+◌, if◌then◌else◌, is_som
 use Rattle.yaml_emitter.proofs.Common.{◌∷◌, refl, ◌≡◌, subst, sym, ◌∙◌, and_parts, false≢true, Text, Cursor, Rendered, render_then, ScalarStyle, any_style}
 use Rattle.yaml_emitter.proofs.Common.{plain, single_quoted, double_quoted, literal, folded, TagDirective, scalar_tag, render_anchor, charset_of, choice_of}
 use Rattle.yaml_emitter.proofs.Common.{allowed_by_quotes, allowed_by_blanks, allowed_under, scalar_piece, Place, deeper, byte_count, name_count, tag_count}
-use Rattle.yaml_emitter.proofs.Common.{is_short, is_simple_scalar, render_place, seen_scalar_style, Effective, Spelling, spelling, Charset, Allowances, Choice}
+use Rattle.yaml_emitter.proofs.Common.{is_short, is_simple_scalar, render_place, seen_scalar_style, Effective, Spelling, spelling, Charset,
+  Allowances, ChosenStyle}
 use Rattle.yaml_emitter.proofs.Common.{is_empty, allows_plain, lacks_tag_and_flags, is_plain, requested_style, quoted_style, fitting_style, fits_plain, chosen}
 use Rattle.yaml_emitter.proofs.Common.{seen_name, seen_scalar, render_scalar_text, StandsPlain, render_spelled_tag, piece_at, Page, Wrote}
 use Rattle.std.proofs.{Common.chars, lemmas.Bool.not-true}
@@ -66,12 +67,12 @@ allowed_but double_quotes = allowed_by_quotes double_quotes all_allowed
 chosen_plain : (double_quotes : Bool) (asked : ScalarStyle) (quoted_implicit flow simple : Bool) → requested_style false asked ≡ plain
     → chosen (allowed_but double_quotes) asked false false true quoted_implicit flow simple false ≡ record { style = plain; bare = false }
 chosen_plain double_quotes asked quoted_implicit flow simple h =
-    let whole : ScalarStyle → Choice = λ style. record { style = style; bare = not false && not quoted_implicit && not (is_plain style) } in
+    let whole : ScalarStyle → ChosenStyle = λ style. record { style = style; bare = not false && not quoted_implicit && not (is_plain style) } in
     let style : ScalarStyle → ScalarStyle =
     fitting_style (allowed_but double_quotes) (fits_plain all_allowed false false true flow simple) (true && not flow && not simple) in
     ap (λ (s : ScalarStyle). whole (style s)) (asked_still simple asked h)
     ∙ ap (λ (b : Bool). whole (if b then plain else quoted_style (allowed_but double_quotes))) (fits flow simple)
-    ∙ ap (λ (b : Bool). let c : Choice = record { style = plain; bare = b } in c) (not_bare quoted_implicit)
+    ∙ ap (λ (b : Bool). let c : ChosenStyle = record { style = plain; bare = b } in c) (not_bare quoted_implicit)
 
 -- no block style is asked for, so its header is no matter
 never_block : (style : ScalarStyle) (root portable blank : Bool) → requested_style false style ≡ plain
@@ -105,7 +106,7 @@ pub simple_ascii_choice : (s : Effective) (place : Place) (simple : Bool) {conte
 simple_ascii_choice s place simple {content} is =
     let seen = seen_scalar content in
     let charset : Charset = charset_of s in
-    let by : Allowances → (empty tag implicit canonical : Bool) → Choice =
+    let by : Allowances → (empty tag implicit canonical : Bool) → ChosenStyle =
     λ a empty tag implicit canonical. chosen a seen.style empty tag implicit seen.quoted_implicit place.in_flow simple canonical in
     let allowed = is.simple_ascii.allows charset in
     let others : Allowances = allowed_but s.double_quotes in
@@ -138,7 +139,7 @@ pub wrote_simple_ascii : (s : Effective) (directives : List TagDirective) (place
     → Wrote (render_plain_at s place simple None value) before after answer
     → Wrote (piece_at (scalar_piece s directives place simple (seen_scalar content)) open_ended) before after answer
 wrote_simple_ascii s directives place simple {content} {value} open_ended {before} {after} {answer} is same wrote =
-    let choice : Choice = record { style = plain; bare = false } in
+    let choice : ChosenStyle = record { style = plain; bare = false } in
     let none : Option Spelling = None in
     let own : Wrote (render_plain_at s place simple None content.value.now) before after answer =
     subst (λ (v : List ℕ). Wrote (render_plain_at s place simple None v) before after answer) (sym same) wrote in

@@ -4,7 +4,8 @@ use Rattle.yaml_emitter.proofs.Common.{ℕ, if◌then◌else◌, ◌==◌, optio
 use Rattle.yaml_emitter.proofs.Common.{List, refl, ◌≡◌, append_assoc, inl, inr, ap, subst, sym, ◌∙◌, arith, and_parts, ints, chars, Text, Cursor, Rendered}
 use Rattle.yaml_emitter.proofs.Common.{render_then, ScalarStyle, any_style, plain, single_quoted, double_quoted, literal, folded, TagDirective, Scalar, Place}
 use Rattle.yaml_emitter.proofs.Common.{scalar_tag, render_anchor, render_properties, render_separation, render_body, allowed_under, charset_of, choice_of, Page}
-use Rattle.yaml_emitter.proofs.Common.{scalar_piece, deeper, render_place, Effective, Spelling, spelling, Charset, Allowances, is_empty, Choice, quoted_style}
+use Rattle.yaml_emitter.proofs.Common.{scalar_piece, deeper, render_place, Effective, Spelling, spelling, Charset, Allowances, is_empty, ChosenStyle,
+  quoted_style}
 use Rattle.yaml_emitter.proofs.Common.{fitting_style, seen_effective, render_scalar_text, style_fits, render_spelled_tag, piece_at, wrote_as, Wrote}
 use Rattle.yaml_base.proofs.Charsets.{literal_allowed}
 use Rattle.yaml_base.proofs.Common.{allows_literal, false≢true, [], ◌∷◌}
@@ -181,7 +182,7 @@ chosen_fits s place simple content =
 
 module _ (s : Effective) (directives : List TagDirective) (place : Place) (simple : Bool) (content : Scalar) where
   -- what stands before a scalar's text, its tag as it is spelled, and the text
-  abbrev pub render_scalar : Choice → Option Spelling → Cursor → Rendered
+  abbrev pub render_scalar : ChosenStyle → Option Spelling → Cursor → Rendered
   render_scalar choice tag cursor =
       render_then
       (render_then (render_place s place simple cursor)
@@ -202,13 +203,13 @@ module _ (s : Effective) (directives : List TagDirective) (place : Place) (simpl
       (lead-spelled s directives place simple content.anchor (scalar_tag s.canonical content) tag choice.bare cursor is)
       ∙ ap (λ (text : Text). let l : Rendered = record { text = text; cursor = whole.cursor } in l) (sym (append_assoc lead.text separation.text body.text))
 
-  pub wrote_scalar : (open_ended : ℕ) {choice : Choice} {tag : Option Spelling} {before after : Page} {answer : Result (Unit {0}) yaml_error_t}
+  pub wrote_scalar : (open_ended : ℕ) {choice : ChosenStyle} {tag : Option Spelling} {before after : Page} {answer : Result (Unit {0}) yaml_error_t}
       → choice ≡ choice_of s place simple content → tag ≡ option_map (spelling directives) (scalar_tag s.canonical content)
       → Wrote (render_scalar choice tag) before after answer
       → Wrote (piece_at (scalar_piece s directives place simple content) open_ended) before after answer
   wrote_scalar open_ended {choice} {tag} {before} is tag_is wrote =
       wrote_as (piece_at (scalar_piece s directives place simple content) open_ended)
-      (ap (λ (c : Choice). render_scalar c tag before.cursor) is ∙ whole_rendered open_ended tag before.cursor tag_is)
+      (ap (λ (c : ChosenStyle). render_scalar c tag before.cursor) is ∙ whole_rendered open_ended tag before.cursor tag_is)
       wrote
 
 -- what holds of an answer by its kind holds where it is Ok

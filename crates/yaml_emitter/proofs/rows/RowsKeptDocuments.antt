@@ -3,7 +3,7 @@
 use Rattle.yaml_emitter.proofs.Common.{ℕ, ◌≤◌, None, Some, codes, length, false, true, List, [], ◌++◌, ◌∷◌, refl, ◌≡◌, subst, arith, Text, any_style, Event}
 use Rattle.yaml_emitter.proofs.Common.{DocumentStart, document_start, mapping_end, scalar_node, Document, Documents, no_documents, documents_and, settings_for}
 use Rattle.yaml_emitter.proofs.Common.{bytes_written, pieces, IsPrefix, refusal, nothing_given, BeginsOutput, State, StaysFlushed, whole_documents, Option}
-use Rattle.yaml_emitter.proofs.Common.{KeepsDocuments, stream_end, BeginsAccepted, most_open, Promised}
+use Rattle.yaml_emitter.proofs.Common.{KeepsDocuments, stream_end, IsAcceptedPrefix, most_open, Promised}
 use Rattle.yaml_base.specs.declared.errors.{yaml_error_t.yaml_error_t, yaml_error_t.TheVariants.ExpectedDocumentStart, yaml_error_t.TheVariants.ExpectedNode}
 use Rattle.yaml_emitter.proofs.{AcceptedLists.few_open, standing.KeptDocuments.documents_kept}
 use Rattle.yaml_emitter.specs.{KeptDocuments.DocumentsStay, KeptDocuments.KeepsAcceptedDocuments}
@@ -78,7 +78,7 @@ emptied_before : (state : State) → BeginsOutput nothing_given (begun ++ mappin
 emptied_before state h = not_empty state.page.output (stopped_before state h)
 
 -- the two begin an accepted list
-two_begin : BeginsAccepted false two
+two_begin : IsAcceptedPrefix false two
 two_begin =
     let few : 0 ≤ most_open = omega arith in
     let whole = two ++ stream_end ∷ [] in

@@ -41,16 +41,16 @@ waits_without (event ∷ rest) last still = by (is_ready event rest) refl
     by true e = absurd (false≢true (sym still ∙ ready_stays event rest (last ∷ []) e))
     by false e = refl
 
-waits_alone : (event : Event) → (awaited event == 0) ≡ false → is_head_ready (event ∷ []) ≡ false
-waits_alone (document_start start) more = refl
-waits_alone (sequence_start start) more = refl
-waits_alone (mapping_start start) more = refl
-waits_alone event more = cc
+single_waits : (event : Event) → (awaited event == 0) ≡ false → is_head_ready (event ∷ []) ≡ false
+single_waits (document_start start) more = refl
+single_waits (sequence_start start) more = refl
+single_waits (mapping_start start) more = refl
+single_waits event more = cc
 
 -- An event that can't be written is put behind those that wait, and the first of them goes on waiting.
 pub waits_behind : (waiting : List Event) (event : Event) → StillWait waiting event → (waiting ≡ [] → (awaited event == 0) ≡ false)
     → is_head_ready (waiting ++ event ∷ []) ≡ false
-waits_behind [] event still more = waits_alone event (more refl)
+waits_behind [] event still more = single_waits event (more refl)
 waits_behind (first ∷ rest) event still more = still
 
 -- Where it may not pass the queue, and none waits, it awaits others.

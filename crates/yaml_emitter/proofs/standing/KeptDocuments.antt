@@ -2,7 +2,7 @@
 use Rattle.yaml_emitter.proofs.Common.{ℕ, ◌≤◌, Option, None, length, take, true, List, [], ◌++◌, ◌∷◌, refl, ◌≡◌, take_at, append_assoc, ap, subst, sym, ◌∙◌}
 use Rattle.yaml_emitter.proofs.Common.{arith, prefix_then, Event, stream_start, document_start, document_end, Document, Documents, documents_and, node_events}
 use Rattle.yaml_emitter.proofs.Common.{documents_events, last_flushes, IsPrefix, written, Encoding, Settings, BeginsOutput, OutputBegins, Promised, State, inl}
-use Rattle.yaml_emitter.proofs.Common.{whole_documents, KeepsDocuments, RefusedAt, IsRefusal, IsAccepted, BeginsAccepted, inr}
+use Rattle.yaml_emitter.proofs.Common.{whole_documents, KeepsDocuments, RefusedAt, IsRefusal, IsAccepted, IsAcceptedPrefix, inr}
 use Rattle.std.proofs.lemmas.Bool.{cases_lt}
 use Rattle.std.specs.Prelude.{◌<◌, Some}
 use Rattle.yaml_base.specs.declared.errors.yaml_error_t.TheVariants.{Memory, WriteError}
@@ -52,7 +52,7 @@ longer_begins (y ∷ prefix) (x ∷ whole) event rest later is longer =
 
 -- of the events given, those that begin an accepted list come before the one that was refused
 accepted_before : (given : Settings) (all whole later : List Event) (error : yaml_error_t) (state : State) (h : RefusedAt given all error state)
-    → whole ++ later ≡ all → BeginsAccepted given.canonical whole → length whole ≤ length h.prefix
+    → whole ++ later ≡ all → IsAcceptedPrefix given.canonical whole → length whole ≤ length h.prefix
 accepted_before given all whole later error state h parts begins =
     elim (cases_lt (length h.prefix) (length whole)) [
       | inl longer ↦

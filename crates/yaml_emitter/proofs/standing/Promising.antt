@@ -98,7 +98,7 @@ promises_whole given all state h none accepted =
       reads_back = λ portable.
           ap (λ (bytes : List ℕ). agrees given.canonical all (stream_trees given.breaks12 bytes)) output
           ∙ output_reads_back given all (record { accepted = accepted; scalars = h.texts; portable = portable; uncut = uncut });
-      reads_by_either = λ portable breaks12.
+      reads_with_either_breaks = λ portable breaks12.
           ap (λ (bytes : List ℕ). agrees given.canonical all (stream_trees breaks12 bytes)) output
           ∙ output_reads_by_either given breaks12 all portable
           (record { accepted = accepted; scalars = h.texts; portable = ap (λ on. reads_alike on given.canonical all) portable; uncut = uncut });

@@ -5,7 +5,7 @@ use Rattle.yaml_emitter.proofs.Common.{flat_map-append, stands_from_begins, refu
 use Rattle.yaml_emitter.proofs.Common.{open_at_written, Event, stream_start, sequence_start, sequence_end, mapping_start, mapping_end, at_item, at_key, Partial}
 use Rattle.yaml_emitter.proofs.Common.{at_value, before_stream, within_document, push, pushed, partial_of, first_standing, stream_start_piece, Piece, text_of}
 use Rattle.yaml_emitter.proofs.Common.{piece_text, Standing, with_breaks_written, encoding_asked, settings_for, text_written, last_flushes, written, held_back}
-use Rattle.yaml_emitter.proofs.Common.{last_begins_collection, first_ends_collection, begins_collection, ends_collection, refusal, BeginsAccepted, Encoding}
+use Rattle.yaml_emitter.proofs.Common.{last_begins_collection, first_ends_collection, begins_collection, ends_collection, refusal, IsAcceptedPrefix, Encoding}
 use Rattle.yaml_emitter.proofs.Common.{Settings, Effective, effective, at_stream, step, Steps, steps, stage_refusal, closes_at_once, render_event, refusal_now}
 use Rattle.yaml_emitter.proofs.Common.{WritesPage, WritesEvent, IsPage, HoldsPieces, HasProgress, StandsWithoutError, closes_last, HasReached, MachineState}
 use Rattle.yaml_emitter.proofs.Common.{standing_of, StaysFlushed, wrote_all, Page, encoded, new_page, Wrote}
@@ -205,7 +205,7 @@ refusal_same given all prefix event follows s state h =
 -- An event that isn't refused goes on with an accepted list.
 pub accepted_next : (given : Settings) (all prefix : List Event) (event : Event) (follows : Bool) (s : Effective) (state : MachineState)
     → HasProgress given all prefix (steps s follows prefix at_stream first_standing) state → refusal_now state event ≡ None
-    → BeginsAccepted given.canonical (prefix ++ event ∷ [])
+    → IsAcceptedPrefix given.canonical (prefix ++ event ∷ [])
 accepted_next given all prefix event follows s state h none =
     (refused_exactly given.canonical prefix event h.stands).0 (sym (refusal_same given all prefix event follows s state h) ∙ none)
 
@@ -271,7 +271,7 @@ page_started s encoding = (
 pub taken_first : (event : Event) (rest : List Event) (given : Settings) (empty : Bool) (before after : MachineState)
     → IsStreamStart event
     → HasProgress given (event ∷ rest) [] (steps (settings_for given (event ∷ rest)) false [] at_stream first_standing) before
-    → BeginsAccepted given.canonical (event ∷ [])
+    → IsAcceptedPrefix given.canonical (event ∷ [])
     → WritesEvent event empty before after
     → HasProgress given (event ∷ rest) (event ∷ []) (steps (settings_for given (event ∷ rest)) empty (event ∷ []) at_stream first_standing) after
 taken_first (stream_start encoding) rest given empty before after start h begun done =

@@ -3,7 +3,8 @@ use Rattle.yaml_emitter.proofs.Common.{suc, zero, ℕ, ◌≤◌, option_and_the
 use Rattle.yaml_emitter.proofs.Common.{take-append-drop, append-nil, append_assoc, ap, subst, sym, ◌∙◌, arith, stands_from_begins, pushed-append, stream_pushed}
 use Rattle.yaml_emitter.proofs.Common.{prefix_is_partial, list_layout_steps, encode, cut, Event, stream_end, Stream, stream_events, at_item, at_key, at_value}
 use Rattle.yaml_emitter.proofs.Common.{Partial, before_stream, within_document, after_stream, pushed, partial_of, first_standing, settings_for, text_written}
-use Rattle.yaml_emitter.proofs.Common.{bytes_written, output_of, list_layout, written, IsAccepted, BeginsAccepted, Settings, Effective, at_stream, steps, State}
+use Rattle.yaml_emitter.proofs.Common.{bytes_written, output_of, list_layout, written, IsAccepted, IsAcceptedPrefix, Settings, Effective, at_stream,
+  steps, State}
 use Rattle.yaml_emitter.proofs.Common.{RefusedAt, EndsExactly, HoldsPiecesWith, StandsWithoutError, StateStands, machine_of, Page, encoded}
 use Rattle.yaml_base.{proofs.QueueLaws.stream_written, specs.Grammar.between_documents, specs.declared.errors.yaml_error_t.yaml_error_t}
 use Rattle.yaml_emitter.{proofs.standing.StandingFull.drop-all, proofs.standing.StandingFull.take-length, proofs.standing.StandingPromises.stands_well}
@@ -25,7 +26,7 @@ nothing_after : (rest : List Event) (t : Stream) (q : Partial) → pushed (after
 nothing_after [] t q h = refl
 nothing_after (x ∷ rest) t q h = cc
 
-pub whole_accepted : (canonical : Bool) (all : List Event) → BeginsAccepted canonical (all ++ stream_end ∷ []) → IsAccepted canonical (all ++ stream_end ∷ [])
+pub whole_accepted : (canonical : Bool) (all : List Event) → IsAcceptedPrefix canonical (all ++ stream_end ∷ []) → IsAccepted canonical (all ++ stream_end ∷ [])
 whole_accepted canonical all begins =
     let events = all ++ stream_end ∷ [] in
     let stands = stands_from_begins canonical events begins in
@@ -73,7 +74,7 @@ promises_end given all state h room =
           (none, well.held ∙ ap (λ n. drop n events) (all_written given.canonical events accepted) ∙ drop-all events)),
       (λ whole.
           let well = stands_well given events state h whole.0 in
-          whole_accepted given.canonical all (subst (BeginsAccepted given.canonical) (all_taken given events state well whole.1) well.progress.stands)),
+          whole_accepted given.canonical all (subst (IsAcceptedPrefix given.canonical) (all_taken given events state well whole.1) well.progress.stands)),
     )
 
 -- An accepted list is written whole.

@@ -3,7 +3,7 @@ use Rattle.yaml_emitter.proofs.Common.{suc, if◌then◌else◌, IsSome, option_
 use Rattle.yaml_emitter.proofs.Common.{◌++◌, ◌∷◌, refl, ◌≡◌, append_assoc, ap, subst, sym, ◌∙◌, arith, false≢true, stands_from_begins, Event, sequence_start}
 use Rattle.yaml_emitter.proofs.Common.{sequence_end, mapping_start, mapping_end, no_nodes, no_pairs, at_item, at_key, Partial, before_stream, within_document}
 use Rattle.yaml_emitter.proofs.Common.{push, pushed, first_standing, settings_for, text_written, IsPrefix, is_ready, written, refusal_at, refusal}
-use Rattle.yaml_emitter.proofs.Common.{BeginsAccepted, Settings, at_stream, Steps, steps, closes_at_once, event_stepped, render_event, unwritten}
+use Rattle.yaml_emitter.proofs.Common.{IsAcceptedPrefix, Settings, at_stream, Steps, steps, closes_at_once, event_stepped, render_event, unwritten}
 use Rattle.yaml_emitter.proofs.Common.{partly_written, CutShort, Processed, IsPage, HoldsPieces, HasProgress, FailedAt, closes_last, StandsRefused}
 use Rattle.yaml_emitter.proofs.Common.{holds_before, holds_part, StandsCut, at_event, StandsFailed, HasReached, failed_by, MachineState, Page, Wrote}
 use Rattle.yaml_base.specs.declared.errors.{yaml_error_t.yaml_error_t, yaml_error_t.TheVariants.Memory, yaml_error_t.TheVariants.WriteError}
@@ -43,7 +43,7 @@ own_accepted (event ∷ []) next rest canonical p q h closes = own_one event nex
 own_accepted (event ∷ other ∷ more) next rest canonical p q h closes = own_later (other ∷ more) next rest (own_accepted (other ∷ more) next rest) canonical
     (push p event) q h closes
 
-refused_opens : (canonical : Bool) (prefix rest : List Event) (event : Event) (fault : yaml_error_t) (closes : Bool) → BeginsAccepted canonical prefix
+refused_opens : (canonical : Bool) (prefix rest : List Event) (event : Event) (fault : yaml_error_t) (closes : Bool) → IsAcceptedPrefix canonical prefix
     → refusal canonical prefix event ≡ Some fault → closes_last prefix (event ∷ rest) ≡ closes → closes ≡ false
 refused_opens canonical prefix rest event fault false begun refused is = refl
 refused_opens canonical prefix rest event fault true begun refused is =
@@ -82,7 +82,7 @@ refused_stands given all prefix rest event error before after h is done =
 cut_page : (prefix rest : List Event) (given : Settings) (all : List Event) (event : Event) (before after : MachineState)
     (answer : Result (Unit {0}) yaml_error_t)
     → HasProgress given all prefix (steps (settings_for given all) (closes_last prefix (event ∷ rest)) prefix at_stream first_standing) before
-    → BeginsAccepted given.canonical (prefix ++ event ∷ [])
+    → IsAcceptedPrefix given.canonical (prefix ++ event ∷ [])
     → Wrote (render_event before event (closes_at_once event rest)) before.page after.page answer
     → IsPage (settings_for given all) after.page
     × IsPrefix (text_written (settings_for given all)

@@ -3,7 +3,7 @@ use Rattle.yaml_emitter.proofs.Common.{suc, zero, ℕ, ◌<◌, ◌≤◌, if◌
 use Rattle.yaml_emitter.proofs.Common.{List, [], ◌++◌, ◌∷◌, ◌⊎◌, refl, ◌≡◌, length-append, take-append-drop, length-take-le, append-nil, append_assoc, inl}
 use Rattle.yaml_emitter.proofs.Common.{inr, ap, subst, sym, ◌∙◌, arith, written_within, encode, Event, sequence_start, sequence_end, mapping_start}
 use Rattle.yaml_emitter.proofs.Common.{mapping_end, before_stream, first_standing, Piece, Standing, settings_for, is_ready, written, most_open, open_count}
-use Rattle.yaml_emitter.proofs.Common.{BeginsAccepted, Settings, Effective, at_stream, steps, progress, nothing_given, closes_at_once, HoldsPiecesWith}
+use Rattle.yaml_emitter.proofs.Common.{IsAcceptedPrefix, Settings, Effective, at_stream, steps, progress, nothing_given, closes_at_once, HoldsPiecesWith}
 use Rattle.yaml_emitter.proofs.Common.{HoldsPieces, StandsWithoutError, FailedAt, closes_last, StandsRefused, HoldsCut, StandsCut, StandsUnflushed}
 use Rattle.yaml_emitter.proofs.Common.{StandsStopped, at_event, between_events, StandsFailed, MachineStands, StateStands, State, MachineState, machine_of}
 use Rattle.yaml_emitter.proofs.Common.{new_machine, StaysFlushed, none_from_result, some_from_result, Page, new_page, Flushed}
@@ -161,7 +161,7 @@ no_open : (prefix rest : List Event) → prefix ++ rest ≡ [] → open_count pr
 no_open [] rest h = omega arith
 no_open (x ∷ prefix) rest h = cc
 
-pub nothing_begins : (canonical : Bool) → BeginsAccepted canonical []
+pub nothing_begins : (canonical : Bool) → IsAcceptedPrefix canonical []
 nothing_begins canonical = begins_from_stands canonical [] (record { partial = before_stream; is_partial = refl; sound = refl; shallow = no_open })
 
 pub new_stands : (given : Settings) (state : State) → state.given ≡ given → state.page ≡ new_page given.limit → state.stage ≡ at_stream → state.open_ended ≡ 0

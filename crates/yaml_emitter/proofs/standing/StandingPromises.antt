@@ -4,7 +4,7 @@ use Rattle.yaml_emitter.proofs.Common.{take-append-drop, length-take-le, append_
 use Rattle.yaml_emitter.proofs.Common.{refused_exactly, steps-append, prefix_same, prefix_then, written_within, cut, Event, document_start, sequence_start}
 use Rattle.yaml_emitter.proofs.Common.{sequence_end, mapping_start, mapping_end, before_stream, first_standing, Piece, settings_for, text_written}
 use Rattle.yaml_emitter.proofs.Common.{list_layout, pieces, last_begins_collection, IsPrefix, is_ready, written, held_back, ends_collection, refusal_at}
-use Rattle.yaml_emitter.proofs.Common.{refusal, IsAccepted, BeginsAccepted, Settings, Effective, at_stream, ends_next, Steps, steps, closes_at_once}
+use Rattle.yaml_emitter.proofs.Common.{refusal, IsAccepted, IsAcceptedPrefix, Settings, Effective, at_stream, ends_next, Steps, steps, closes_at_once}
 use Rattle.yaml_emitter.proofs.Common.{RefusedAt, BeginsOutput, OutputBegins, IsRefusal, is_head_ready, HoldsPiecesWith, StandsWithoutError, closes_last}
 use Rattle.yaml_emitter.proofs.Common.{StandsRefused, holds_before, holds_part, StandsCut, StandsUnflushed, StandsStopped, at_event, between_events}
 use Rattle.yaml_emitter.proofs.Common.{StandsFailed, MachineStands, StateStands, State, machine_of, StaysFlushed, Page}
@@ -89,7 +89,7 @@ output_by_pieces given all prefix later follows error state parts h flushed on =
     }
 
 output_from : (given : Settings) (all prefix later : List Event) (error : Option yaml_error_t) (state : State) → prefix ++ later ≡ all
-    → BeginsAccepted given.canonical prefix
+    → IsAcceptedPrefix given.canonical prefix
     → HoldsPiecesWith error (settings_for given all) prefix (steps (settings_for given all) false prefix at_stream first_standing).pieces state.page
     → StaysFlushed given all (length prefix) state.page.output
     → BeginsOutput given all prefix (length prefix) state
@@ -157,7 +157,7 @@ and_right_false false = refl
 
 -- A prefix whose last event may be closed at once by the next: both ways a list goes on.
 closing_more : (canonical : Bool) (s : Effective) (prefix later : List Event) (closes : Bool) → closes_last prefix later ≡ closes
-    → BeginsAccepted canonical prefix
+    → IsAcceptedPrefix canonical prefix
     → ContinuesScript canonical s prefix (steps s (closes_last prefix later) prefix at_stream first_standing).pieces
 closing_more canonical s prefix later false is begins =
     subst (λ follows. ContinuesScript canonical s prefix (steps s follows prefix at_stream first_standing).pieces) (sym is) (goes_on canonical s prefix begins)

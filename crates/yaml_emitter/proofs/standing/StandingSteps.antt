@@ -3,7 +3,7 @@ use Rattle.yaml_emitter.proofs.Common.{suc, ◌+◌, ◌≤◌, if◌then◌else
 use Rattle.yaml_emitter.proofs.Common.{◌∷◌, refl, ◌≡◌, length-append, take_at, append_assoc, ap, subst, sym, ◌∙◌, arith, stands_from_begins, pushed-append}
 use Rattle.yaml_emitter.proofs.Common.{encode, Event, stream_end, document_start, document_end, sequence_start, mapping_start, Partial, before_stream, pushed}
 use Rattle.yaml_emitter.proofs.Common.{partial_of, first_standing, Piece, Standing, settings_for, bytes_written, flushes, last_begins_collection}
-use Rattle.yaml_emitter.proofs.Common.{first_ends_collection, awaited, is_ready, written, held_back, BeginsAccepted, Settings, Effective, at_stream, step}
+use Rattle.yaml_emitter.proofs.Common.{first_ends_collection, awaited, is_ready, written, held_back, IsAcceptedPrefix, Settings, Effective, at_stream, step}
 use Rattle.yaml_emitter.proofs.Common.{Steps, steps, closes_at_once, event_stepped, render_event, WritesEvent, Processed, is_head_ready, HoldsPieces}
 use Rattle.yaml_emitter.proofs.Common.{HasProgress, StandsWithoutError, closes_last, HasReached, MachineState, standing_of, wrote_all, Page, encoded}
 use Rattle.std.proofs.lemmas.List.{drop_at}
@@ -44,7 +44,7 @@ taken_later : (given : Settings) (all : List Event) (x : Event) (prefix rest : L
     → IsLater event → (x ∷ prefix) ++ event ∷ rest ≡ all
     → HasProgress given all (x ∷ prefix) (steps (settings_for given all) (closes_last (x ∷ prefix) (event ∷ rest)) (x ∷ prefix) at_stream first_standing) before
     → partial_of ((x ∷ prefix) ++ event ∷ []) ≡ Some q
-    → BeginsAccepted given.canonical ((x ∷ prefix) ++ event ∷ [])
+    → IsAcceptedPrefix given.canonical ((x ∷ prefix) ++ event ∷ [])
     → WritesEvent event (closes_at_once event rest) before after
     → HasProgress given all ((x ∷ prefix) ++ event ∷ [])
     (steps (settings_for given all) (closes_at_once event rest) ((x ∷ prefix) ++ event ∷ []) at_stream first_standing) after
@@ -82,7 +82,7 @@ taken_next : (prefix rest : List Event) (given : Settings) (all : List Event) (e
     → prefix ++ event ∷ rest ≡ all
     → HasProgress given all prefix (steps (settings_for given all) (closes_last prefix (event ∷ rest)) prefix at_stream first_standing) before
     → partial_of (prefix ++ event ∷ []) ≡ Some q
-    → BeginsAccepted given.canonical (prefix ++ event ∷ [])
+    → IsAcceptedPrefix given.canonical (prefix ++ event ∷ [])
     → WritesEvent event (closes_at_once event rest) before after
     → HasProgress given all (prefix ++ event ∷ [])
     (steps (settings_for given all) (closes_at_once event rest) (prefix ++ event ∷ []) at_stream first_standing) after

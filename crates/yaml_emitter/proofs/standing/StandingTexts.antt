@@ -4,7 +4,7 @@ use Rattle.yaml_emitter.proofs.Common.{◌∷◌, refl, ◌≡◌, take-append-d
 use Rattle.yaml_emitter.proofs.Common.{stands_from_begins, refused_exactly, prefix_layout, prefix_same, stream_pushed, Text, text_bytes, encode, cut, Event}
 use Rattle.yaml_emitter.proofs.Common.{sequence_start, mapping_start, no_nodes, no_pairs, at_item, at_key, Partial, before_stream, within_document}
 use Rattle.yaml_emitter.proofs.Common.{after_stream, push, pushed, partial_of, first_standing, Piece, text_written, bytes_written, completion, list_layout}
-use Rattle.yaml_emitter.proofs.Common.{pieces, last_begins_collection, first_ends_collection, IsPrefix, refusal_at, refusal, IsAccepted, BeginsAccepted}
+use Rattle.yaml_emitter.proofs.Common.{pieces, last_begins_collection, first_ends_collection, IsPrefix, refusal_at, refusal, IsAccepted, IsAcceptedPrefix}
 use Rattle.yaml_emitter.proofs.Common.{Effective, at_stream, steps, IsPage, HoldsPiecesWith, encode-append, Page, encoded}
 use Rattle.yaml_base.{proofs.PieceLaws.begun_pieces, specs.Pieces.empty_scalar, specs.Pieces.last_closes_at_once}
 use Rattle.yaml_base.{specs.declared.errors.yaml_error_t.yaml_error_t, specs.declared.errors.yaml_error_t.TheVariants.WriteError}
@@ -92,7 +92,7 @@ and_false : (b : Bool) → b && false ≡ false
 and_false true = refl
 and_false false = refl
 
-pub goes_on : (canonical : Bool) (s : Effective) (prefix : List Event) → BeginsAccepted canonical prefix
+pub goes_on : (canonical : Bool) (s : Effective) (prefix : List Event) → IsAcceptedPrefix canonical prefix
     → ContinuesScript canonical s prefix (steps s false prefix at_stream first_standing).pieces
 goes_on canonical s prefix begins = going (last_begins_collection prefix) refl
   where

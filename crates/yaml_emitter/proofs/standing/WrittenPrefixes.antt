@@ -7,15 +7,15 @@ use Rattle.std.specs.Prelude.{◌≤◌, unwrap_or}
 use Rattle.yaml_emitter.specs.Queue.{one_less, open_behind}
 use Rattle.yaml_base.specs.Ready.{is_start, is_end}
 
-abbrev one_if : Bool → ℕ
-one_if b = cond b 1 0
+abbrev count_of : Bool → ℕ
+count_of b = cond b 1 0
 
 -- some prefix of the list, with so many starts and ends before it, has as many starts as ends
 abbrev closes_after : ℕ → ℕ → List Event → Bool
 closes_after starts ends [] = false
 closes_after starts ends (event ∷ rest) =
-    ((starts + one_if (is_start event)) == (ends + one_if (is_end event)))
-    || closes_after (starts + one_if (is_start event)) (ends + one_if (is_end event)) rest
+    ((starts + count_of (is_start event)) == (ends + count_of (is_end event)))
+    || closes_after (starts + count_of (is_start event)) (ends + count_of (is_end event)) rest
 
 abbrev balanced_after : ℕ → ℕ → List Event → Bool
 balanced_after starts ends events = (starts + count_by is_start events) == (ends + count_by is_end events)
@@ -32,15 +32,15 @@ list_any_same p q same (x ∷ xs) = ap (λ b. b || list_any p xs) (same x) ∙ a
 balanced_after-cons :
     (starts ends : ℕ) (event : Event) (prefix : List Event)
     → balanced_after starts ends (event ∷ prefix)
-    ≡ balanced_after (starts + one_if (is_start event)) (ends + one_if (is_end event)) prefix
+    ≡ balanced_after (starts + count_of (is_start event)) (ends + count_of (is_end event)) prefix
 balanced_after-cons starts ends event prefix =
-    let s : starts + count_by is_start (event ∷ prefix) ≡ (starts + one_if (is_start event)) + count_by is_start prefix =
+    let s : starts + count_by is_start (event ∷ prefix) ≡ (starts + count_of (is_start event)) + count_by is_start prefix =
     ap (λ n. starts + n) (sum_by-cons (λ x. cond (is_start x) 1 0) event prefix)
-    ∙ sym (add_assoc starts (one_if (is_start event)) (count_by is_start prefix)) in
-    let e : ends + count_by is_end (event ∷ prefix) ≡ (ends + one_if (is_end event)) + count_by is_end prefix =
-    ap (λ n. ends + n) (sum_by-cons (λ x. cond (is_end x) 1 0) event prefix) ∙ sym (add_assoc ends (one_if (is_end event)) (count_by is_end prefix)) in
+    ∙ sym (add_assoc starts (count_of (is_start event)) (count_by is_start prefix)) in
+    let e : ends + count_by is_end (event ∷ prefix) ≡ (ends + count_of (is_end event)) + count_by is_end prefix =
+    ap (λ n. ends + n) (sum_by-cons (λ x. cond (is_end x) 1 0) event prefix) ∙ sym (add_assoc ends (count_of (is_end event)) (count_by is_end prefix)) in
     ap (λ n. n == (ends + count_by is_end (event ∷ prefix))) s
-    ∙ ap (λ n. ((starts + one_if (is_start event)) + count_by is_start prefix) == n) e
+    ∙ ap (λ n. ((starts + count_of (is_start event)) + count_by is_start prefix) == n) e
 
 balanced_after-nothing : (starts ends : ℕ) → balanced_after starts ends [] ≡ (starts == ends)
 balanced_after-nothing starts ends = ap (λ n. n == (ends + 0)) (add-zero starts) ∙ ap (λ n. starts == n) (add-zero ends)
@@ -50,8 +50,8 @@ closes_after-nonempty_prefixes :
     → list_any (balanced_after starts ends) (nonempty_prefixes events) ≡ closes_after starts ends events
 closes_after-nonempty_prefixes starts ends [] = refl
 closes_after-nonempty_prefixes starts ends (event ∷ rest) =
-    let s = starts + one_if (is_start event) in
-    let e = ends + one_if (is_end event) in
+    let s = starts + count_of (is_start event) in
+    let e = ends + count_of (is_end event) in
     ap (λ b. balanced_after starts ends (event ∷ []) || b)
     (list_any-map (balanced_after starts ends) (λ prefix. event ∷ prefix) (nonempty_prefixes rest)
     ∙ list_any_same (λ prefix. balanced_after starts ends (event ∷ prefix)) (balanced_after s e) (balanced_after-cons starts ends event)
@@ -89,7 +89,7 @@ closed_by depth (event ∷ rest) = unwrap_or (option_map (λ more. closed_by mor
 closed_step : (rest : List Event) (depth starts ends : ℕ) → starts ≡ suc (depth + ends)
     → ((depth starts ends : ℕ) → starts ≡ suc (depth + ends) → closes_after starts ends rest ≡ closed_by depth rest)
     → (s t : Bool) → (s && t) ≡ false
-    → (((starts + one_if s) == (ends + one_if t)) || closes_after (starts + one_if s) (ends + one_if t) rest)
+    → (((starts + count_of s) == (ends + count_of t)) || closes_after (starts + count_of s) (ends + count_of t) rest)
     ≡ unwrap_or (option_map (λ more. closed_by more rest) (if s then Some (depth + 1) else (if t then one_less depth else Some depth))) true
 closed_step rest depth starts ends e later true true h = cc
 closed_step rest depth starts ends e later true false h =
@@ -114,8 +114,8 @@ pub closed_start : (first : Event) (events : List Event) → is_start first ≡ 
     → list_any is_balanced (nonempty_prefixes (first ∷ events)) ≡ closed_by 0 events
 closed_start first events starts =
     closes_after-none (first ∷ events)
-    ∙ ap (λ s. ((0 + one_if s) == (0 + one_if (is_end first))) || closes_after (0 + one_if s) (0 + one_if (is_end first)) events) starts
-    ∙ ap (λ t. ((0 + 1) == (0 + one_if t)) || closes_after (0 + 1) (0 + one_if t) events) (ap (λ s. s && is_end first) (sym starts) ∙ apart first)
+    ∙ ap (λ s. ((0 + count_of s) == (0 + count_of (is_end first))) || closes_after (0 + count_of s) (0 + count_of (is_end first)) events) starts
+    ∙ ap (λ t. ((0 + 1) == (0 + count_of t)) || closes_after (0 + 1) (0 + count_of t) events) (ap (λ s. s && is_end first) (sym starts) ∙ apart first)
     ∙ closed_is events 0 1 0 refl
 
 -- looking at one event more

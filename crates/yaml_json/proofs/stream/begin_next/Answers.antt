@@ -1,7 +1,7 @@
 use Rattle.yaml_json.proofs.Common.{None, WriterState, between, refl, subst, sym}
 use Rattle.yaml_writer.proofs.GivenAndTaken.{begun_taken, begun_unsent, begun_not}
 use Rattle.yaml_writer.proofs.GivenLemmas.{bare_awaits_none}
-use Rattle.yaml_writer.specs.WasGiven.{BeginsUnsent}
+use Rattle.yaml_writer.specs.WasGiven.{NextUnsent}
 use Rattle.yaml_json.proofs.Growing.{grew_then, grew_passed, grew_failing, grew_sent}
 use Rattle.yaml_json.specs.{Failing.Grew}
 use Rattle.yaml_pen.specs.Page.{output_left}
@@ -34,7 +34,7 @@ returns-in-Err-send g c =
     let passed = c.in_default.ensures.passed (bare_awaits_none before c.requires) in
     let left = c.in-Err-send.ensures.left in
     record {
-      failed = subst (λ (w : WriterState). BeginsUnsent before (g.W.Write.contents c.args.sink.now) w (g.W.Write.contents c.send.new.sink)) (sym left)
+      failed = subst (λ (w : WriterState). NextUnsent before (g.W.Write.contents c.args.sink.now) w (g.W.Write.contents c.send.new.sink)) (sym left)
           (begun_unsent before middle (g.W.Write.contents c.args.sink.now) (g.W.Write.contents c.send.new.sink) passed c.in-Err-send.ensures.first);
       grew = subst (λ (w : WriterState). Grew before None w) (sym left) (grew_passed before middle between passed);
     }

@@ -3,16 +3,16 @@ use Rattle.yaml_tool.proofs.ScriptLemmas.{shorter, fault_first, good_first, exit
 use Rattle.yaml_tool.proofs.SearchLemmas.{line_ends, one_line}
 use Rattle.yaml_tool.proofs.scripts.take_lines.Goals as goal
 
-pub returns-in_err-take_line-clause-fault : goal.returns-in_err-take_line-clause-fault
-returns-in_err-take_line-clause-fault g c =
+pub returns-in_err-add_line-clause-fault : goal.returns-in_err-add_line-clause-fault
+returns-in_err-add_line-clause-fault g c =
     let before = seen_progress c.args.progress.now in
     let bytes = c.args.bytes.now in
     let rest = c.loop-end.rest.now in
-    exit_with (λ error. (more : List ℕ) → IsFaultOf error (script_after_lines c.args.number before (bytes ++ more))) c.in_err-take_line.field-0.0
+    exit_with (λ error. (more : List ℕ) → IsFaultOf error (script_after_lines c.args.number before (bytes ++ more))) c.in_err-add_line.field-0.0
     c.from_residual.result c.from_residual.ensures
-    (λ more. subst (IsFaultOf c.in_err-take_line.field-0.0) (sym (c.loop-end.invariant.0 more))
-    (fault_first c.in_err-take_line.field-0.0 c.loop-end.number (seen_progress c.loop-end.progress) rest _ _ more
-    (line_ends rest c.in-Some.end c.in-Some.ensures) c.in_err-take_line.ensures.fault))
+    (λ more. subst (IsFaultOf c.in_err-add_line.field-0.0) (sym (c.loop-end.invariant.0 more))
+    (fault_first c.in_err-add_line.field-0.0 c.loop-end.number (seen_progress c.loop-end.progress) rest _ _ more
+    (line_ends rest c.in-Some.end c.in-Some.ensures) c.in_err-add_line.ensures.fault))
 
 pub loop-end-preserved : goal.loop-end-preserved
 loop-end-preserved g c =
@@ -21,7 +21,7 @@ loop-end-preserved g c =
       λ more.
           c.loop-end.invariant.0 more
           ∙ good_first c.loop-end.number (seen_progress c.loop-end.progress)
-          (seen_progress c.take_line.new.self) rest _ _ more cut c.in_ok-take_line.ensures.taken,
+          (seen_progress c.add_line.new.self) rest _ _ more cut c.in_ok-add_line.ensures.taken,
       omega (arith, shorter rest _ _ cut, c.loop-end.invariant.1),
     )
 

@@ -1,4 +1,4 @@
-use Rattle.yaml_emitter.proofs.Common.{ap, refl, subst, sym, ◌∙◌, scalar, Choice, seen_scalar, seen_effective, machine_state, seen_place, MachineState}
+use Rattle.yaml_emitter.proofs.Common.{ap, refl, subst, sym, ◌∙◌, scalar, ChosenStyle, seen_scalar, seen_effective, machine_state, seen_place, MachineState}
 use Rattle.yaml_emitter.proofs.Common.{StandsPlain, seen_open_ended, plain, deeper, render_scalar_text, wrote_then, wrote_failed}
 use Rattle.yaml_emitter.proofs.Common.{FitsSigned as SFits, rules, w32, to_z-of_z, chars}
 use Rattle.yaml_base.proofs.Common.{open_ended_after}
@@ -90,7 +90,7 @@ returns g c = λ content stands same names empty.
     c.next_place-place.ensures.place
     (c.is_simple_ascii_key-simple.ensures c.self.inside.settings.canonical c.self.inside.directives content inside same)
     (c.advance-self-inside.ensures.stage c.self.inside.directives)
-    (sym (ap (λ (choice : Choice). open_ended_after choice.style (seen_scalar content).value (seen_open_ended c.self.inside.open_ended))
+    (sym (ap (λ (choice : ChosenStyle). open_ended_after choice.style (seen_scalar content).value (seen_open_ended c.self.inside.open_ended))
     (simple_ascii_choice (seen_effective c.self.inside.settings) (seen_place c.next_place-place.result) c.is_simple_ascii_key-simple.result inside)))
     (wrote_simple_ascii (seen_effective settings) c.self.inside.directives (seen_place place) simple (seen_open_ended c.self.inside.open_ended) inside same
     (wrote_then c.in_ok-write_lead.ensures

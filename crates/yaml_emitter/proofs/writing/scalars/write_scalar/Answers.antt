@@ -1,4 +1,4 @@
-use Rattle.yaml_emitter.proofs.Common.{ap, ◌∙◌, deeper, seen_scalar_style, Choice, seen_scalar, seen_effective, seen_place, render_scalar_text}
+use Rattle.yaml_emitter.proofs.Common.{ap, ◌∙◌, deeper, seen_scalar_style, ChosenStyle, seen_scalar, seen_effective, seen_place, render_scalar_text}
 use Rattle.yaml_emitter.proofs.Common.{◌≡◌, chars, OnOk, false≢true, subst, seen_open_ended, style_fits, wrote_exit, wrote_then, wrote_failed}
 use Rattle.std.proofs.lemmas.Result.{IfOk-from_err}
 use Rattle.yaml_base.specs.Layout.{open_ended_after}
@@ -32,7 +32,7 @@ pub write_text-requires-clause-fits : goal.write_text-requires-clause-fits
 write_text-requires-clause-fits g c =
     let site = c.args.site.now in
     let content = seen_scalar c.args.content.now in
-    ap (λ (choice : Choice). style_fits choice.style content.value site.simple) c.in_ok-style.ensures.choice
+    ap (λ (choice : ChosenStyle). style_fits choice.style content.value site.simple) c.in_ok-style.ensures.choice
     ∙ chosen_fits (seen_effective site.settings.now) (seen_place site.place) site.simple content
 
 pub returns : goal.returns
@@ -46,7 +46,7 @@ returns g c =
           (wrote_then c.in_ok-write_lead.ensures c.write_text.ensures.written);
       ready = c.write_text.ensures.written.ready;
       open_ended_is =
-          subst (λ (choice : Choice). OnOk c.write_text.result (seen_open_ended c.write_text.new.open_ended
+          subst (λ (choice : ChosenStyle). OnOk c.write_text.result (seen_open_ended c.write_text.new.open_ended
           ≡ open_ended_after choice.style (chars c.args.content.now.value.now) (seen_open_ended c.args.open_ended.now)))
           c.in_ok-style.ensures.choice c.write_text.ensures.open_ended;
     }

@@ -1,5 +1,5 @@
 use Rattle.std.proofs.lemmas.Grind.{common_steps}
-use Rattle.yaml_pen.proofs.Common.{None, ◌++◌, ◌≡◌, ◌≤◌, ◌+◌, ap, length, subst, sym, ◌∙◌, arith, elements, Bytes}
+use Rattle.yaml_pen.proofs.Common.{None, ◌++◌, ◌≡◌, ◌≤◌, ◌+◌, ap, length, subst, sym, ◌∙◌, arith, elements, OutletState}
 use Rattle.yaml_pen.proofs.Appending.{MadeRoom, room_flushed, room_left, appended, unfailed}
 use Rattle.yaml_pen.proofs.outlet.Outlet.append_all.Goals as goal
 use Rattle.yaml_pen.proofs.outlet.Outlet.append_all.Goals.{then-remaining_capacity-bytes+in_ok-flush, else-remaining_capacity-bytes}
@@ -7,7 +7,7 @@ use Rattle.yaml_pen.proofs.outlet.Outlet.append_all.Goals.{then-remaining_capaci
 pub returns : goal.returns
 returns g c =
     let none = unfailed c.self.inside.error c.in_default.not-Some in
-    let no_error : c.args.self.now.error ≡ None = sym (ap (λ (b : Bytes). b.error) c.self.view_is) ∙ none in
+    let no_error : c.args.self.now.error ≡ None = sym (ap (λ (b : OutletState). b.error) c.self.view_is) ∙ none in
     let from = c.args.self.now in
     let room : MadeRoom from c.if-remaining_capacity-bytes.self = elim c.if-remaining_capacity-bytes.branch [
       | then-remaining_capacity-bytes+in_ok-flush w ↦

@@ -1,4 +1,4 @@
-use Rattle.yaml_pen.proofs.Common.{ℕ, length, List, ◌++◌, ap, sym, ◌∙◌, Bytes}
+use Rattle.yaml_pen.proofs.Common.{ℕ, length, List, ◌++◌, ap, sym, ◌∙◌, OutletState}
 use Rattle.yaml_pen.proofs.TakenOutput.{moved, still_outlet}
 use Rattle.yaml_pen.proofs.outlet.Outlet.consume_output.Goals as goal
 
@@ -16,4 +16,4 @@ returns g c =
     let taken = c.with-self-inside.ensures ∙ ap (λ (l : List ℕ). inside.taken.bytes ++ l) c.as_slice.ensures.value in
     rw (taken, c.clear.ensures.items)
     (moved inside.kept inside.buffer.value.items inside.taken.bytes inside.output.items inside.limit inside.error
-    ∙ ap (λ (b : Bytes). record b { taken = length b.output }) c.self.view_is)
+    ∙ ap (λ (b : OutletState). record b { taken = length b.output }) c.self.view_is)

@@ -1,4 +1,4 @@
-use Rattle.yaml_pen.proofs.Common.{None, [], ◌∷◌, ◌++◌, ◌≡◌, ap, subst, sym, ◌∙◌, arith, elements, Bytes}
+use Rattle.yaml_pen.proofs.Common.{None, [], ◌∷◌, ◌++◌, ◌≡◌, ap, subst, sym, ◌∙◌, arith, elements, OutletState}
 use Rattle.yaml_pen.proofs.Appending.{MadeRoom, room_flushed, room_left, appended, unfailed}
 use Rattle.yaml_pen.proofs.outlet.Outlet.push.Goals as goal
 use Rattle.yaml_pen.proofs.outlet.Outlet.push.Goals.{then-is_full+in_ok-flush, else-is_full}
@@ -9,7 +9,7 @@ push-requires g c = grind (arith, elements) steps 300000
 pub returns : goal.returns
 returns g c =
     let none = unfailed c.self.inside.error c.in_default.not-Some in
-    let no_error : c.args.self.now.error ≡ None = sym (ap (λ (b : Bytes). b.error) c.self.view_is) ∙ none in
+    let no_error : c.args.self.now.error ≡ None = sym (ap (λ (b : OutletState). b.error) c.self.view_is) ∙ none in
     let from = c.args.self.now in
     let room : MadeRoom from c.if-is_full.self = elim c.if-is_full.branch [
       | then-is_full+in_ok-flush w ↦ subst (MadeRoom from) (sym w.self-is) (room_flushed _ _ w.in_ok-flush.ensures.emptied w.in_ok-flush.ensures.output)

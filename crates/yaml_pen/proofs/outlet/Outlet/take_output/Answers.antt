@@ -1,4 +1,4 @@
-use Rattle.yaml_pen.proofs.Common.{ℕ, length, List, ◌++◌, ap, sym, ◌∙◌, Bytes}
+use Rattle.yaml_pen.proofs.Common.{ℕ, length, List, ◌++◌, ap, sym, ◌∙◌, OutletState}
 use Rattle.std.proofs.Common.{drop}
 use Rattle.yaml_pen.proofs.TakenOutput.{left_of, moved, still_outlet}
 use Rattle.yaml_pen.proofs.outlet.Outlet.take_output.Goals as goal
@@ -17,7 +17,7 @@ pub returns-clause-rest : goal.returns-clause-rest
 returns-clause-rest g c =
     let inside = c.self.inside in
     rw c.replace-rest.ensures.value
-    (left_of inside.taken.bytes inside.output.items ∙ ap (λ (b : Bytes). drop b.taken b.output) c.self.view_is)
+    (left_of inside.taken.bytes inside.output.items ∙ ap (λ (b : OutletState). drop b.taken b.output) c.self.view_is)
 
 pub returns-clause-taken : goal.returns-clause-taken
 returns-clause-taken g c =
@@ -27,4 +27,4 @@ returns-clause-taken g c =
     let left = ap (λ v. v.items) c.replace-rest.ensures.after ∙ c.new-none.ensures.items in
     rw (taken, left)
     (moved inside.kept inside.buffer.value.items inside.taken.bytes inside.output.items inside.limit inside.error
-    ∙ ap (λ (b : Bytes). record b { taken = length b.output }) c.self.view_is)
+    ∙ ap (λ (b : OutletState). record b { taken = length b.output }) c.self.view_is)

@@ -5,10 +5,10 @@ use Rattle.yaml_base.specs.scripts.Script as notation
 use Rattle.yaml_tool.{specs.Lines.seen_line, specs.Scripts.after_line, specs.declared.lines.Line.Line}
 use Rattle.std.specs.Result.{OnOk}
 use Rattle.yaml_tool.specs.Scripts.{IsFaultAt}
-use Rattle.yaml_tool.proofs.scripts.Progress.take_line.Goals.{in-Ok-push-2, in-Err-push}
-use Rattle.yaml_tool.proofs.scripts.Progress.take_line.Goals.{then-not-is_empty-via-then-not-is_empty, then-not-is_empty-via-else-not-is_empty+then-is_set}
+use Rattle.yaml_tool.proofs.scripts.Progress.add_line.Goals.{in-Ok-push-2, in-Err-push}
+use Rattle.yaml_tool.proofs.scripts.Progress.add_line.Goals.{then-not-is_empty-via-then-not-is_empty, then-not-is_empty-via-else-not-is_empty+then-is_set}
 use Rattle.std.proofs.{Common.arith, Common.true, Common.false, lemmas.Grind.common_steps}
-use Rattle.yaml_tool.proofs.scripts.Progress.take_line.Goals as goal
+use Rattle.yaml_tool.proofs.scripts.Progress.add_line.Goals as goal
 
 -- a parsed line goes to those before it as what it says
 line_goes : {A : Type 0} (number : ℕ) (before : ScriptState) (bytes : List ℕ) (parsed : Option (Line A)) (given line : Line A)
