@@ -1,7 +1,7 @@
 -- A table while it is read beside the keys and values that it stands for.
 use Rattle.std.proofs.Common.{◌≡◌, ℕ, zero, suc, ◌+◌, ◌<◌, ◌≤◌, ◌==◌, true, false, Bool, List, [], ◌∷◌, ◌++◌, map, length, Option, Some}
-use Rattle.std.proofs.Common.{None, cond, String, Result, Ok, Err, ap₂, option_map, Vec, BTreeMap, Global, string_bytes,
-  bytes_eq, refl, sym, ap, subst, ◌∙◌, inl, inr, rules, arith, set, get_or}
+use Rattle.std.proofs.Common.{None, cond, String, Result, Ok, Err, ap₂, option_map, Vec, BTreeMap, Global, string_bytes, bytes_eq, refl, sym, ap, subst, ◌∙◌}
+use Rattle.std.proofs.Common.{inl, inr, rules, arith, set, get_or}
 use Rattle.std.proofs.lemmas.List.{length-append, append_assoc}
 use Rattle.std.proofs.lemmas.Bool.{cases_Bool, eq-eqb, eqb-true, false≢true}
 use Rattle.std.proofs.lemmas.Slice.Eq.{bytes_eq-Decides}

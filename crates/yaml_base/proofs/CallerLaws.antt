@@ -9,8 +9,8 @@ use Rattle.yaml_base.proofs.Common.{is_written_in_flow, Brackets, square, curly,
 use Rattle.yaml_base.proofs.Common.{is_undented, deeper, is_simple_scalar, is_simple_collection, render_flow_place, render_place, settings_for, text_written}
 use Rattle.yaml_base.proofs.Common.{bytes_written, list_layout, Encoding, Effective, effective, Frame, Stage, at_stream, at_document, at_node, at_document_end}
 use Rattle.yaml_base.proofs.Common.{next_place, stage_after, Stepped, leaf_step, frame_opened, start_step, step, ends_next, Steps, then_steps, steps}
-use Rattle.yaml_base.proofs.Common.{begins_no_plain, holds_no_plain, read_plain, is_empty, allowed_by_quotes, allowed_by_blanks, ChosenStyle,
-  is_literal, chosen}
+use Rattle.yaml_base.proofs.Common.{begins_no_plain, holds_no_plain, read_plain, is_empty, allowed_by_quotes, allowed_by_blanks, ChosenStyle, is_literal}
+use Rattle.yaml_base.proofs.Common.{chosen}
 use Rattle.yaml_base.{proofs.Common.nat_tests, proofs.Decoding.decode-encode, proofs.StepLaws.stream_steps, proofs.Trees.tree_of-stream_events}
 use Rattle.yaml_base.{specs.Decode.decode, specs.Settings.escapes_separators, specs.Steps.is_first, specs.Steps.end_step, specs.Steps.node_step}
 use Rattle.yaml_base.specs.Layout.{is_simple_alias, render_block_place, scalar_piece}

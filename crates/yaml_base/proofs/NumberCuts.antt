@@ -95,7 +95,7 @@ at_exponent whole fraction (Some exponent) h g e = by (exponent_negative exponen
     signed_uncut sign other =
         slice_split_none is_exponent_letter (sign ∷ exponent.digits)
         (All-cons (λ c. is_exponent_letter c ≡ false) sign exponent.digits other
-          (uncut_by is_decimal is_exponent_letter digit_no_exponent_letter exponent.digits digits))
+        (uncut_by is_decimal is_exponent_letter digit_no_exponent_letter exponent.digits digits))
 
     prefix : (sign : ℕ) → is_exponent_letter sign ≡ false
         → slice_split is_exponent_letter (mantissa_of whole fraction ++ 0x65 ∷ sign ∷ exponent.digits)

@@ -125,7 +125,7 @@ walk_of graph is =
 
 numbers_by_pairs : (place : ℕ → ℕ) (pairs : List NumberPair)
     → flat_map (λ (pair : NumberPair). pair.key ∷ pair.value ∷ [])
-      (map (λ (pair : NumberPair). record { key = place pair.key; value = place pair.value }) pairs)
+    (map (λ (pair : NumberPair). record { key = place pair.key; value = place pair.value }) pairs)
     ≡ map place (flat_map (λ (pair : NumberPair). pair.key ∷ pair.value ∷ []) pairs)
 numbers_by_pairs place [] = refl
 numbers_by_pairs place (pair ∷ pairs) = ap (λ (rest : List ℕ). place pair.key ∷ place pair.value ∷ rest) (numbers_by_pairs place pairs)

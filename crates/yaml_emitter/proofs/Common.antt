@@ -27,8 +27,8 @@ pub use Rattle.yaml_base.proofs.Common.{both_break, Effective, effective, Stage,
 pub use Rattle.yaml_base.proofs.Common.{stage_after, ends_next, Steps, steps, reads_alike, name_fault, anchor_fault, alias_fault, tag_fault, version_fault}
 pub use Rattle.yaml_base.proofs.Common.{exclamation_mark, handle_fault, prefix_fault, directive_fault, gives_handle, next_directive_fault, directives_fault}
 pub use Rattle.yaml_base.proofs.Common.{directives_fault_after, directives_in_force, Spelling, verbatim, spelling, spelled, canonical_content, DocumentContent}
-pub use Rattle.yaml_base.proofs.Common.{Charset, Allowances, is_empty, is_special, allowances, needs_escape, ChosenStyle, lacks_tag_and_flags,
-  is_plain, fits_plain}
+pub use Rattle.yaml_base.proofs.Common.{Charset, Allowances, is_empty, is_special, allowances, needs_escape, ChosenStyle, lacks_tag_and_flags, is_plain}
+pub use Rattle.yaml_base.proofs.Common.{fits_plain}
 pub use Rattle.yaml_base.proofs.Common.{requested_style, quoted_style, fitting_style, chosen, agrees, stream_trees}
 pub use Rattle.std.proofs.Common.{add-one, drop-cons, drop-drop, length-take-le, of_z, rules, take-append-drop, take_all, take_at, to_z, w32, zero-add}
 pub use Rattle.std.proofs.lemmas.{Grind.common_steps, Grind.elements, Int.ints, Int.to_z-of_z, List.drop-map, List.Elements.All-nil, List.Elements.All-cons}

@@ -179,8 +179,10 @@ module _ (before after : WriterState) where
       → OnOk answer (GaveEvent first event (Ok tt) after)
       → IfErr answer (λ error. GaveEvent first event (Err error) after ⊎ ((error ≡ Memory) × (after ≡ before))) → Kept before result after
   kept_event first is event (Ok done) (Ok same) answers gave failed =
-      record { grows = subst (λ (s : State). Grows s.page after.emitter.page) is gave.moves.grows;
-        sound = none_from_result after.emitter.error gave.moves.answered }
+      record {
+        grows = subst (λ (s : State). Grows s.page after.emitter.page) is gave.moves.grows;
+        sound = none_from_result after.emitter.error gave.moves.answered;
+      }
   kept_event first is event (Ok done) (Err stop) answers gave failed = absurd answers
   kept_event first is event (Err error) (Ok same) answers gave failed = absurd answers
   kept_event first is event (Err error) (Err stop) answers gave (inl given) =

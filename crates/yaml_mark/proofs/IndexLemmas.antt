@@ -215,7 +215,7 @@ module _ {A : Type 0} where
       ∙ sym (first-or before (fits_by tag n) list)
       ∙ sym (position-first (λ d. before d || fits_by tag n d) list)
       ∙ sym (position-alike (fits_some tag (take (i + 1) lengths)) (λ d. before d || fits_by tag n d)
-        (λ d. list_any_more (λ m. fits_by tag m d) lengths i 0 h) list)
+      (λ d. list_any_more (λ m. fits_by tag m d) lengths i 0 h) list)
 
   pub found_all : (tag : List ℕ) (index : Index A) (list : List (yaml_tag_directive_t A)) (lengths : List ℕ) (i : ℕ) → lengths ≡ index.lengths.items
       → length lengths ≤ i → Finds index list

@@ -30,6 +30,6 @@ pub use types.Part.{agg}
 pub use types.Run.{enter, no_more, returns}
 pub use Rattle.yaml_base.{proofs.Prefixes.prefix_same, specs.Cursor.render_text, specs.Decode.decode, specs.Encoding.character_bytes}
 pub use Rattle.yaml_base.{specs.Encoding.text_bytes, specs.Prefix.IsPrefix, specs.Seen.seen_encoding, specs.Seen.seen_break}
-pub use Rattle.yaml_pen.specs.{Lines.spaces_to, Lines.line_begun, Outlet.OutletState, Outlet.HasSoundOutput, Pen.page_of, Pen.IsPen,
-  Wrote.named_text, Wrote.Wrote}
+pub use Rattle.yaml_pen.specs.{Lines.spaces_to, Lines.line_begun, Outlet.OutletState, Outlet.HasSoundOutput, Pen.page_of, Pen.IsPen, Wrote.named_text}
+pub use Rattle.yaml_pen.specs.{Wrote.Wrote}
 pub use Rattle.yaml_pen.specs.Page.{Page, has_bom, IsReady, result_of_error, IsFlushedOutput}

@@ -1,6 +1,6 @@
 -- What a pen does whose bytes are refused.
-use Rattle.yaml_pen.proofs.Common.{IsSome, Option, None, Some, Err, List, ℕ, Bool, if◌then◌else◌, [], refl, ◌≡◌, append-nil, ap, subst, sym, ◌∙◌,
-  Cursor, OutletState}
+use Rattle.yaml_pen.proofs.Common.{IsSome, Option, None, Some, Err, List, ℕ, Bool, if◌then◌else◌, [], refl, ◌≡◌, append-nil, ap, subst, sym, ◌∙◌, Cursor}
+use Rattle.yaml_pen.proofs.Common.{OutletState}
 use Rattle.yaml_pen.proofs.Common.{Rendered, decode, encode, seen_encoding, Page, IsReady, IsFlushedOutput, page_of, IsPen, named_text, Wrote}
 use Rattle.yaml_base.specs.{declared.encodings.yaml_break_t.yaml_break_t, declared.encodings.yaml_encoding_t.yaml_encoding_t}
 use Rattle.yaml_base.specs.declared.errors.yaml_error_t.{yaml_error_t}

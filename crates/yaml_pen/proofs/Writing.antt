@@ -3,8 +3,8 @@ use Rattle.yaml_pen.proofs.Common.{min, ℕ, ◌+◌, if◌then◌else◌, ◌==
 use Rattle.yaml_pen.proofs.Common.{[], ◌++◌, ◌∷◌, refl, ◌≡◌, append-nil, ap, subst, sym, ◌∙◌, arith, and_from, or_parts, false≢true, encodes-chars, list_any}
 use Rattle.yaml_pen.proofs.Common.{all_scalars, chars, encode_utf8_all, Text, line_feed, is_break, Cursor, Rendered, column_after, render_text, decode, encode}
 use Rattle.yaml_pen.proofs.Common.{character_bytes, text_bytes, break_text, with_breaks_written, IsPrefix, seen_encoding, seen_break, Encoding, utf8, utf16_big}
-use Rattle.yaml_pen.proofs.Common.{utf16_little, LineBreak, line_feed_break, OutletState, HasSoundOutput, Page, has_bom, IsReady, result_of_error,
-  IsFlushedOutput}
+use Rattle.yaml_pen.proofs.Common.{utf16_little, LineBreak, line_feed_break, OutletState, HasSoundOutput, Page, has_bom, IsReady, result_of_error}
+use Rattle.yaml_pen.proofs.Common.{IsFlushedOutput}
 use Rattle.yaml_pen.proofs.Common.{page_of, IsPen, named_text, Wrote}
 use Rattle.std.specs.Char.{IsScalar}
 use Rattle.yaml_base.specs.{Cursor.next_column, Settings.carriage_return_break, Settings.both_break, declared.encodings.yaml_break_t.yaml_break_t}

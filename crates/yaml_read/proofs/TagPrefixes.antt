@@ -5,8 +5,8 @@ use Rattle.yaml_base.{proofs.PercentLaws.are_bytes, proofs.AsciiWords.ascii_of, 
 use Rattle.std.proofs.lemmas.Str.{IsUtf8-from_ascii, IsUtf8-string_bytes, IsUtf8-append}
 use Rattle.std.{specs.Prelude.String, specs.Prelude.Vec, specs.Str.IsUtf8, specs.String.string_vec}
 use Rattle.yaml_read.proofs.TagBytes.{all_unread, byte_more, bytes_escaped, bytes_more, bytes_of}
-use Rattle.yaml_read.{proofs.Encoded.are_ascii, proofs.TagTexts.chars_behind, proofs.TagTexts.utf8_behind,
-  specs.WrittenTags.byte_in_tag, specs.WrittenTags.ends_tag}
+use Rattle.yaml_read.{proofs.Encoded.are_ascii, proofs.TagTexts.chars_behind, proofs.TagTexts.utf8_behind, specs.WrittenTags.byte_in_tag}
+use Rattle.yaml_read.{specs.WrittenTags.ends_tag}
 
 pub record WordSoFar (prefix text items rest : List ℕ) : Type 0 where
   pub word : List ℕ

@@ -12,8 +12,8 @@ pub use Rattle.yaml_base.proofs.Common.{FoldUnit, unit_of, folding_read, is_read
 pub use Rattle.yaml_base.proofs.Common.{begins_with_spaces, begins_with_blank_line, begins_with_deep_line, has_deep_lines, Allowances, somewhere, is_empty}
 pub use Rattle.yaml_base.proofs.Common.{is_special, bars_block, allows_block, allowances, ending, indentation_hint, is_special_but_tab, is_blank_to_line_end}
 pub use Rattle.yaml_base.proofs.Common.{begins_with_blanks_alone, bars_literal, allows_literal, ending_hint, render_hint, short_escapes, letter_among, parts}
-pub use Rattle.yaml_base.proofs.Common.{escape_after_backslash, escape_text, needs_escape, character_text, double_inside, render_quote, folded_parts,
-  ChosenStyle}
+pub use Rattle.yaml_base.proofs.Common.{escape_after_backslash, escape_text, needs_escape, character_text, double_inside, render_quote, folded_parts}
+pub use Rattle.yaml_base.proofs.Common.{ChosenStyle}
 pub use Rattle.yaml_base.proofs.Common.{render_runs, quotes_doubled, single_quote, chosen}
 pub use Rattle.std.{proofs.Math.Bool.and-false, proofs.Math.Bool.and-true, proofs.Math.Utf8.scalar, proofs.lemmas.Bool.false_from_ne_true}
 pub use Rattle.std.{proofs.lemmas.Bool.cases_Bool, proofs.lemmas.Int.ints, proofs.lemmas.Int.to_z-of_z, proofs.lemmas.List.nil_from_length}

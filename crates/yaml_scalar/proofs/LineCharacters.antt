@@ -28,7 +28,7 @@ pub break_text : (written : Text → Text) (past doubled goes_on : Bool) (indent
 break_text written past doubled goes_on indent before c rest kind twice goes =
     ap (λ (b : Bool). (if b then line_feed ∷ [] else []) ++ (c ∷ (if goes_on then [] else indentation indent))) twice
     ∙ ap (λ (b : Bool). (if (c == line_feed && not (is_same_kind before breaks)) then line_feed ∷ [] else [])
-      ++ (c ∷ (if b then [] else indentation indent))) goes
+    ++ (c ∷ (if b then [] else indentation indent))) goes
     ∙ ap (λ (k : Kind). step_text written past indent before k c rest) kind
 
 -- any other character

@@ -14,8 +14,8 @@ use Rattle.yaml_emitter.specs.StandsAfter.{StandsAfter}
 use Rattle.yaml_emitter.specs.State.{State}
 use Rattle.yaml_writer.specs.Binary.{bytes_event}
 use Rattle.yaml_writer.specs.Floats.{special_event}
-use Rattle.yaml_writer.specs.Writing.{WriterState, Gives, IsStream, StandsTaken, bool_event, closing, end_event, int_event,
-  mapping_event, null_event, number_event}
+use Rattle.yaml_writer.specs.Writing.{WriterState, Gives, IsStream, StandsTaken, bool_event, closing, end_event, int_event, mapping_event, null_event}
+use Rattle.yaml_writer.specs.Writing.{number_event}
 use Rattle.yaml_writer.specs.Writing.{opening, sequence_event, text_event}
 use Rattle.yaml_writer.specs.declared.floats.SpecialFloat.{SpecialFloat}
 use Rattle.yaml_base.specs.declared.kinds.CollectionKind.{CollectionKind}

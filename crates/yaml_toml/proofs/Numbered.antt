@@ -142,7 +142,7 @@ word_numbers word =
     (cond_some (WordHasNumbers word) (bytes_eq word (codes "false")) (Some (scalar.Boolean false)) _ tt
     (cond_some (WordHasNumbers word) (looks_like_datetime word) (option_map scalar.Datetime (parse_datetime word)) (number word)
     (map_some scalar.Datetime (WordHasNumbers word) (parse_datetime word)
-      (all_some (λ d. WordHasNumbers word (scalar.Datetime d)) (parse_datetime word) (λ d. tt)))
+    (all_some (λ d. WordHasNumbers word (scalar.Datetime d)) (parse_datetime word) (λ d. tt)))
     (number_numbers word)))
 
 pub scalars_numbers : ScalarsHaveNumbers

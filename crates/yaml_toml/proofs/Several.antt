@@ -103,7 +103,7 @@ are_read_alike root roots canonical in_flow =
     let first = toml_document root canonical in_flow in
     and_from (not (loses_document canonical documents)) (not (list_any (document_has_flow_indicator canonical) documents))
     (not_from_false (loses_document canonical documents)
-      (and_right (not (is_explicit canonical true first.start)) (is_written_as_nothing canonical first.root) refl))
+    (and_right (not (is_explicit canonical true first.start)) (is_written_as_nothing canonical first.root) refl))
     (not_from_false (list_any (document_has_flow_indicator canonical) documents) (all_unsigned (root ∷ roots) canonical in_flow))
 
 portable_several : (portable canonical in_flow : Bool) (part : List ℕ × toml.TomlNodes) (rest : Parts)
@@ -166,8 +166,12 @@ module _ (given : Settings) (in_flow : Bool) (part : List ℕ × toml.TomlNodes)
 
   abbrev accepted : IsAccepted given.canonical all
   accepted =
-      record { stream = stream_of roots given.canonical in_flow; is_stream = stream_flat part rest given.canonical in_flow;
-        sound = taken.sound; shallow = taken.shallow }
+      record {
+        stream = stream_of roots given.canonical in_flow;
+        is_stream = stream_flat part rest given.canonical in_flow;
+        sound = taken.sound;
+        shallow = taken.shallow;
+      }
 
   found : stream_trees given.breaks12 bytes ≡ Some (map plain_document (trees_for s in_flow roots))
   found =

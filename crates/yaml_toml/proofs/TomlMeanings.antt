@@ -83,7 +83,7 @@ module _ (reader : SchemaReader) (reads : ReadsToml reader) (s : Effective) (pla
 
   moment_means : (moment : Moment) → is_moment moment ≡ true
       → IsDated reader moment (tagging_in (scalar_tag s.canonical (moment_content s.canonical moment))
-        (choice_of s place simple (moment_content s.canonical moment)))
+      (choice_of s place simple (moment_content s.canonical moment)))
       (timestamp_text moment) × (moment_in (timestamp_text moment) ≡ Some moment)
   moment_means moment valid = (dated moment.date moment.time s.canonical valid, (timestamps_read moment valid).1)
 

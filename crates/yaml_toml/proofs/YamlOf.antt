@@ -31,8 +31,12 @@ module _ (given : Settings) (in_flow : Bool) (keys : toml.TomlNodes) (bytes : Li
   -- the stream is that of the table
   abbrev accepted : IsAccepted given.canonical all
   accepted =
-      record { stream = toml_stream keys given.canonical in_flow; is_stream = stream_flat keys given.canonical in_flow;
-        sound = taken.sound; shallow = taken.shallow }
+      record {
+        stream = toml_stream keys given.canonical in_flow;
+        is_stream = stream_flat keys given.canonical in_flow;
+        sound = taken.sound;
+        shallow = taken.shallow;
+      }
 
   found : stream_trees given.breaks12 bytes ≡ Some (plain_document tree ∷ [])
   found =

@@ -342,7 +342,7 @@ mutual
       let role = as_item (has_no_nodes (value_nodes items)) in
       let last = λ (from : Standing). render_node (value_node item) s force (entry_place true role column) from in
       let behind : Writes (entry_lead (codes "[") (has_no_values items) ++ (line_at column ++ value_text column item))
-        open_ended (last (standing_at before.column open_ended)) =
+      open_ended (last (standing_at before.column open_ended)) =
       writes_text _ _
       (item_lead (has_no_nodes (value_nodes items)) column before.column open_ended (value_text column item)
       ∙ ap (λ first. entry_lead (codes "[") first ++ (line_at column ++ value_text column item)) (no_nodes_either items))

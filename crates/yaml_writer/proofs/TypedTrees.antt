@@ -5,8 +5,8 @@ use Rattle.yaml_writer.proofs.Common.{mapping_start, Effective, surely_text}
 use Rattle.yaml_base.proofs.Common.{bytes_eq, bytes_eq-Decides, false≢true, map-append, unwrap_or, ScalarStyle, stream_start, document_start, sequence_end}
 use Rattle.yaml_base.proofs.Common.{mapping_end, Scalar, TagDirective, scalar_tag, collection_tag, Node, alias_node, scalar_node, Nodes, sequence_node, Pairs}
 use Rattle.yaml_base.proofs.Common.{mapping_node, no_nodes, nodes_and, no_pairs, pairs_and, Document, Documents, no_documents, documents_and, Stream, Place}
-use Rattle.yaml_base.proofs.Common.{node_events, nodes_events, pairs_events, document_events, documents_events, stream_events, ChosenStyle,
-  charset_of, choice_of}
+use Rattle.yaml_base.proofs.Common.{node_events, nodes_events, pairs_events, document_events, documents_events, stream_events, ChosenStyle, charset_of}
+use Rattle.yaml_base.proofs.Common.{choice_of}
 use Rattle.yaml_base.proofs.Common.{style_asked_at, allowed_under, allowances, is_empty, chosen, is_simple_at, is_simple, entry_place, as_item, as_key, Tagging}
 use Rattle.yaml_base.proofs.Common.{as_value, has_no_nodes, has_no_pairs, is_written_in_flow, is_plain, stood_plain, stood_quoted, stood_bare, with_tag, agrees}
 use Rattle.yaml_base.proofs.Common.{without_tag, DocumentTree, document_agrees, documents_in_order, resolved_by_core, resolved_by_11, meant_text, Collection}

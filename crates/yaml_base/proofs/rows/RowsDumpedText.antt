@@ -86,7 +86,7 @@ trees =
     -- anchors alone, and brackets behind indicators
     ∷ (
       mapping_node (start_of (Some (codes "x")))
-        (pairs_and no_pairs (mapping_node (start_of None) no_pairs) (sequence_node (start_of (Some (codes "y"))) no_nodes)),
+          (pairs_and no_pairs (mapping_node (start_of None) no_pairs) (sequence_node (start_of (Some (codes "y"))) no_nodes)),
       codes "---\n&x {\n  ? {}\n  : &y [],\n}\n",
     )
     ∷ []

@@ -85,8 +85,10 @@ pub document_joined : (s : Effective) (first : Bool) (document : Document) (stan
     → RenderedDocument s first document standing
 document_joined s first document standing at settled =
     let starts : render_document_start s first document.start standing
-    ≡ record { text = before_root s (standing.open_ended == 0) document.start ++ marker_text explicit s.canonical;
-      cursor = root_cursor (explicit && not s.canonical) } =
+    ≡ record {
+      text = before_root s (standing.open_ended == 0) document.start ++ marker_text explicit s.canonical;
+      cursor = root_cursor (explicit && not s.canonical);
+    } =
     start_rendered s first document.start standing at in
     let start : Piece = (document_start_piece s first document.start standing).piece in
     let own : Cursor → Rendered = node_own document.root s (directives_in_force document.start.directives) root_place in

@@ -128,7 +128,7 @@ long_pair_entry rules s column cursor own value key_tree value_tree key node anc
           ap (λ t. ends_word rules.breaks12 (t ++ rest))
           (late_whole ∙ append_assoc (colon.first ∷ colon.more) (0x3A ∷ space ∷ []) node.content)
           ∙ white_indicator_ends rules.breaks12 (colon.first ∷ colon.more) 0x3A (space ∷ node.content) colon.white
-            (class_fixed rules.breaks12 0x3A refl) rest k);
+          (class_fixed rules.breaks12 0x3A refl) rest k);
     }
 
 -- Entries together

@@ -155,7 +155,7 @@ empty_key_fits s own directives start a b tree cursor named stands count line ot
     ∙ ap (λ t. t ++ (before ++ (a ∷ b ∷ []))) nothing))
     (key_fits rules (before ++ (a ∷ b ∷ [])) tree
     (lead_prefix rules start.anchor (tag_written s.portable directives tag false) (tag_meant tag false) (a ∷ b ∷ [])
-      given (other_prefix a (b ∷ []) shows other))
+    given (other_prefix a (b ∷ []) shows other))
     of key.clear key.reads)
 
 -- Keys

@@ -27,7 +27,7 @@ question rules n own tree role e fit depth deep pairs =
     let o = fit.opens refl in
     let before : HeldPairs = record { pairs = pairs; key = None } in
     ap (entry_read rules (node_read depth rules) e (held pairs None))
-      (indicated_lines rules.breaks12 e 0x3F (closed own) o (unbroken_line rules.breaks12 (0x3F ∷ []) refl))
+    (indicated_lines rules.breaks12 e 0x3F (closed own) o (unbroken_line rules.breaks12 (0x3F ∷ []) refl))
     ∙ ap (entry_at rules (node_read depth rules) e o.ending o.rest before) (past_spaces e (0x3F ∷ o.head))
     ∙ ap (λ x. entry_by_kind (if x then key_entry else simple_entry) rules (node_read depth rules) e o.ending o.rest before (0x3F ∷ o.head)) o.symbol
     ∙ ap (λ ls. with_key before (node_read depth rules true (Some e) ls)) (sym (blanked_lines rules.breaks12 (suc e) (closed own) o))
@@ -43,7 +43,7 @@ colon rules n own tree role e fit depth deep pairs key =
     let o = fit.opens refl in
     let before : HeldPairs = record { pairs = pairs; key = Some key } in
     ap (entry_read rules (node_read depth rules) e (held pairs (Some key)))
-      (indicated_lines rules.breaks12 e 0x3A (closed own) o (unbroken_line rules.breaks12 (0x3A ∷ []) refl))
+    (indicated_lines rules.breaks12 e 0x3A (closed own) o (unbroken_line rules.breaks12 (0x3A ∷ []) refl))
     ∙ ap (entry_at rules (node_read depth rules) e o.ending o.rest before) (past_spaces e (0x3A ∷ o.head))
     ∙ ap (λ x. entry_by_kind (if x then value_entry else simple_entry) rules (node_read depth rules) e o.ending o.rest before (0x3A ∷ o.head)) o.symbol
     ∙ ap (λ ls. with_held_value pairs (Some key) (node_read depth rules true (Some e) ls)) (sym (blanked_lines rules.breaks12 (suc e) (closed own) o))

@@ -84,13 +84,15 @@ squares_say : (breaks12 : Bool) → BracketsSay breaks12 square opens_sequence c
 squares_say breaks12 = record {
   opening = symbol_says breaks12 0x5B opens_sequence refl refl refl refl;
   closing = symbol_says breaks12 0x5D closes_sequence refl refl refl refl;
-  apart = record { meets = λ rest. refl } }
+  apart = record { meets = λ rest. refl };
+}
 
 curlies_say : (breaks12 : Bool) → BracketsSay breaks12 curly opens_mapping closes_mapping
 curlies_say breaks12 = record {
   opening = symbol_says breaks12 0x7B opens_mapping refl refl refl refl;
   closing = symbol_says breaks12 0x7D closes_mapping refl refl refl refl;
-  apart = record { meets = λ rest. refl } }
+  apart = record { meets = λ rest. refl };
+}
 
 in_flow : (s : Effective) (at : Option Spot) (start : Collection) (empty : Bool) → is_written_in_flow (in_canonical s) (place_of at) start empty ≡ true
 in_flow s None start empty = refl

@@ -72,7 +72,7 @@ module _ (breaks12 : Bool) (s : Effective) where
       let opening = opening_or_comma (codes "{") first cursor in
       let line = new_line column opening.cursor in
       says_after (says_after (opening_says (codes "{") opens_mapping (symbol_says breaks12 0x7B opens_mapping refl refl refl refl) first cursor)
-        (line_says breaks12 column opening.cursor))
+      (line_says breaks12 column opening.cursor))
       (indicator_says true false false line.cursor (symbol_says breaks12 0x3F key_token refl refl refl refl))
   role_says (as_value true) column cursor = indicator_says false false false cursor (symbol_says breaks12 0x3A value_token refl refl refl refl)
   role_says (as_value false) column cursor =

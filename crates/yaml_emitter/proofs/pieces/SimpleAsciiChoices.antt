@@ -3,8 +3,8 @@ use Rattle.yaml_emitter.proofs.Common.{ℕ, ◌+◌, if◌then◌else◌, is_som
 use Rattle.yaml_emitter.proofs.Common.{◌∷◌, refl, ◌≡◌, subst, sym, ◌∙◌, and_parts, false≢true, Text, Cursor, Rendered, render_then, ScalarStyle, any_style}
 use Rattle.yaml_emitter.proofs.Common.{plain, single_quoted, double_quoted, literal, folded, TagDirective, scalar_tag, render_anchor, charset_of, choice_of}
 use Rattle.yaml_emitter.proofs.Common.{allowed_by_quotes, allowed_by_blanks, allowed_under, scalar_piece, Place, deeper, byte_count, name_count, tag_count}
-use Rattle.yaml_emitter.proofs.Common.{is_short, is_simple_scalar, render_place, seen_scalar_style, Effective, Spelling, spelling, Charset,
-  Allowances, ChosenStyle}
+use Rattle.yaml_emitter.proofs.Common.{is_short, is_simple_scalar, render_place, seen_scalar_style, Effective, Spelling, spelling, Charset, Allowances}
+use Rattle.yaml_emitter.proofs.Common.{ChosenStyle}
 use Rattle.yaml_emitter.proofs.Common.{is_empty, allows_plain, lacks_tag_and_flags, is_plain, requested_style, quoted_style, fitting_style, fits_plain, chosen}
 use Rattle.yaml_emitter.proofs.Common.{seen_name, seen_scalar, render_scalar_text, StandsPlain, render_spelled_tag, piece_at, Page, Wrote}
 use Rattle.std.proofs.{Common.chars, lemmas.Bool.not-true}

@@ -4,8 +4,8 @@ use Rattle.yaml_emitter.proofs.Common.{ℕ, if◌then◌else◌, ◌==◌, optio
 use Rattle.yaml_emitter.proofs.Common.{List, refl, ◌≡◌, append_assoc, inl, inr, ap, subst, sym, ◌∙◌, arith, and_parts, ints, chars, Text, Cursor, Rendered}
 use Rattle.yaml_emitter.proofs.Common.{render_then, ScalarStyle, any_style, plain, single_quoted, double_quoted, literal, folded, TagDirective, Scalar, Place}
 use Rattle.yaml_emitter.proofs.Common.{scalar_tag, render_anchor, render_properties, render_separation, render_body, allowed_under, charset_of, choice_of, Page}
-use Rattle.yaml_emitter.proofs.Common.{scalar_piece, deeper, render_place, Effective, Spelling, spelling, Charset, Allowances, is_empty, ChosenStyle,
-  quoted_style}
+use Rattle.yaml_emitter.proofs.Common.{scalar_piece, deeper, render_place, Effective, Spelling, spelling, Charset, Allowances, is_empty, ChosenStyle}
+use Rattle.yaml_emitter.proofs.Common.{quoted_style}
 use Rattle.yaml_emitter.proofs.Common.{fitting_style, seen_effective, render_scalar_text, style_fits, render_spelled_tag, piece_at, wrote_as, Wrote}
 use Rattle.yaml_base.proofs.Charsets.{literal_allowed}
 use Rattle.yaml_base.proofs.Common.{allows_literal, false≢true, [], ◌∷◌}

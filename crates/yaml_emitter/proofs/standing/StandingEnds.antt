@@ -3,8 +3,8 @@ use Rattle.yaml_emitter.proofs.Common.{suc, zero, ℕ, ◌≤◌, option_and_the
 use Rattle.yaml_emitter.proofs.Common.{take-append-drop, append-nil, append_assoc, ap, subst, sym, ◌∙◌, arith, stands_from_begins, pushed-append, stream_pushed}
 use Rattle.yaml_emitter.proofs.Common.{prefix_is_partial, list_layout_steps, encode, cut, Event, stream_end, Stream, stream_events, at_item, at_key, at_value}
 use Rattle.yaml_emitter.proofs.Common.{Partial, before_stream, within_document, after_stream, pushed, partial_of, first_standing, settings_for, text_written}
-use Rattle.yaml_emitter.proofs.Common.{bytes_written, output_of, list_layout, written, IsAccepted, IsAcceptedPrefix, Settings, Effective, at_stream,
-  steps, State}
+use Rattle.yaml_emitter.proofs.Common.{bytes_written, output_of, list_layout, written, IsAccepted, IsAcceptedPrefix, Settings, Effective, at_stream, steps}
+use Rattle.yaml_emitter.proofs.Common.{State}
 use Rattle.yaml_emitter.proofs.Common.{RefusedAt, EndsExactly, HoldsPiecesWith, StandsWithoutError, StateStands, machine_of, Page, encoded}
 use Rattle.yaml_base.{proofs.QueueLaws.stream_written, specs.Grammar.between_documents, specs.declared.errors.yaml_error_t.yaml_error_t}
 use Rattle.yaml_emitter.{proofs.standing.StandingFull.drop-all, proofs.standing.StandingFull.take-length, proofs.standing.StandingPromises.stands_well}

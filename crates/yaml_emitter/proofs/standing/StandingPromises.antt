@@ -243,7 +243,7 @@ unflushed_output given all error state h =
       stops_before
           (output_from given all prefix (rest ++ h.later) (Some error) state whole h.stands h.page
           (subst (λ count. StaysFlushed given all count state.page.output)
-            (sym (length-take-le (written h.before) h.before (written_within h.before))) h.flushed)),
+          (sym (length-take-le (written h.before) h.before (written_within h.before))) h.flushed)),
     )
 
 refused_output : (given : Settings) (all : List Event) (error : yaml_error_t) (state : State) → StandsRefused given all error (machine_of state)

@@ -148,7 +148,7 @@ braces-returns-in-Err-past_element-clause-value c c' n h refused =
     let (m, room, loop) = l.invariant.2 n h in
     loop
     ∙ members_unended (val c'.args.depth) m _ _ l.rest.now key _ _ (omega arith) other read
-      (rw sealed_member at c'.in_default.ensures.value) (c'.in-Err-past_element.ensures.value refused)
+    (rw sealed_member at c'.in_default.ensures.value) (c'.in-Err-past_element.ensures.value refused)
 
 pub braces-members-preserved : goal.braces-members-preserved
 braces-members-preserved c c' =
@@ -170,7 +170,7 @@ braces-members-preserved c c' =
             m - 1,
             omega arith,
             loop ∙ members_more (val c'.args.depth) m _ _ l.rest.now key _ _ _ (omega arith) other read
-              (rw sealed_member at c'.in_default.ensures.value) c'.in-Ok-past_element.ensures.value,
+                (rw sealed_member at c'.in_default.ensures.value) c'.in-Ok-past_element.ensures.value,
           ),
       (ends_then c'.args.s.now l.rest.now c'.in-Ok-past_element.next.now l.invariant.3
           (pair_left c'.args.depth l.rest.now key c'.in-Ok.read.1.now _ c'.in-Ok-value.read.1.now c'.in-Ok-past_element.next.now 125
@@ -273,8 +273,11 @@ value-returns-in-Ok-braces-clause-value c c' =
     let a : (first s == 91) ≡ false = grind (arith, common_steps) in
     let b : (first s == 123) ≡ true = grind (arith, common_steps) in
     val_table c'.args.depth s some a b
-    ∙ rw (← c'.skip-else-byte-eq91.ensures.rest, c'.in-Ok-braces.ensures.value (length s) c'.skip-else-byte-eq91.ensures.shorter,
-      node_view-Table Closed c'.in-Ok-braces.members)
+    ∙ rw (
+      ← c'.skip-else-byte-eq91.ensures.rest,
+      c'.in-Ok-braces.ensures.value (length s) c'.skip-else-byte-eq91.ensures.shorter,
+      node_view-Table Closed c'.in-Ok-braces.members,
+    )
 
 pub value-returns-then-byte-ne123-clause-conflict : goal.value-returns-then-byte-ne123-clause-conflict
 value-returns-then-byte-ne123-clause-conflict c c' = IfErr-weaker c'.atom.result _ _ (λ f none. other_than _ f none) c'.atom.ensures.once

@@ -20,7 +20,7 @@ returns-in-Some g c =
     let before = c.args.emitter.now in
     subst
     (λ (error : Option yaml_error_t). DumpsFrom error (graph_of c.args.document) (formed c.args.form.now (graph_of c.args.document))
-      before (Err c.in-Some.error) before)
+    before (Err c.in-Some.error) before)
     (sym c.in-Some.is ∙ c.error.ensures) (refl, refl)
 
 pub returns-in_default-moved_events : goal.returns-in_default-moved_events

@@ -91,7 +91,7 @@ returns-in-Err-clause-moves g c =
       grows = subst (λ (s : State). Grows s.page c.flush.new.self.page) c.emitter.view_is (flushed_grows c.flush.ensures.flushed);
       set =
           subst (λ (s : State). KeepsSet (record s { started = s.started })
-            (state_of (record c.emitter.inside { queue = c.clear.new.self; machine = c.flush.new.self })))
+          (state_of (record c.emitter.inside { queue = c.clear.new.self; machine = c.flush.new.self })))
           c.emitter.view_is
           (record {
             given = ap (λ (m : MachineState). m.given) c.flush.ensures.kept;

@@ -31,8 +31,11 @@ returns-in-Ok-extend_from_slice g c =
 pub returns-in-Interrupted : goal.returns-in-Interrupted
 returns-in-Interrupted g c =
     record {
-      come = ([], sym (append-nil c.args.incoming.now.held.items),
-          none_came (g.R.Read.remaining c.args.reader.now) (g.R.Read.remaining c.read.new.self) (search rules));
+      come = (
+        [],
+        sym (append-nil c.args.incoming.now.held.items),
+        none_came (g.R.Read.remaining c.args.reader.now) (g.R.Read.remaining c.read.new.self) (search rules),
+      );
       incoming = c.requires.0;
       place = refl;
       end = λ none. absurd (false≢true (sym none));

@@ -31,8 +31,8 @@ use prog.Wp.{Tables, WpFn}
 use seplogic.Ra.Ura.{Ura}
 use sound.WpLaws.{WpFn-mono, fm_of}
 use types.ByLocal.{alloc_all, free_all, get, lands_as, look_at, pass_all, sets, through}
-use types.Kit.{ !, Item, await, by, done, feq_i, fjoin, fsplit, given, join, keep, later, learn,
-  move, qed, raw, split, split3, suffices, use1, ‵, ◌$◌, ◌∵◌, ◌⊛◌}
+use types.Kit.{ !, Item, await, by, done, feq_i, fjoin, fsplit, given, join, keep, later, learn, move, qed, raw, split, split3, suffices, use1, ‵, ◌$◌, ◌∵◌}
+use types.Kit.{◌⊛◌}
 use types.Logic.{Logic}
 use types.Run.{addr, and_then, enter, fld, no_more, of_opd, returns, stop, unit_lit}
 use Rattle.yaml_test_allocator.specs.contracts.Refusing as S

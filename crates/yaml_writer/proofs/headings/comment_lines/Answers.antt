@@ -1,5 +1,5 @@
-use Rattle.yaml_writer.proofs.Common.{ℕ, ◌==◌, Bool, if◌then◌else◌, [], ◌∷◌, ◌++◌, ◌≡◌, ◌∙◌, ap, chars,
-  encode_utf8_all, nil_from_length, string_bytes, sym, Text}
+use Rattle.yaml_writer.proofs.Common.{ℕ, ◌==◌, Bool, if◌then◌else◌, [], ◌∷◌, ◌++◌, ◌≡◌, ◌∙◌, ap, chars, encode_utf8_all, nil_from_length, string_bytes, sym}
+use Rattle.yaml_writer.proofs.Common.{Text}
 use Rattle.std.proofs.lemmas.Bool.{eqb-true, false_from_ne_true}
 use Rattle.std.proofs.lemmas.Str.{IsUtf8-past_char, chars-nil, chars_past_char}
 use Rattle.std.specs.Str.Iter.{chars_rest}

@@ -15,7 +15,7 @@ returns-in-Err-clause-again c =
     let whole : map (λ step. step.1) (steps_along header []) ++ string_bytes c.in_ok-clone.field-0 ∷ []
     ≡ path_view c.args.key.path.items ++ string_bytes c.args.key.last ∷ [] =
     ap (λ (path : List (List ℕ)). path ++ string_bytes c.in_ok-clone.field-0 ∷ [])
-      (path_steps header [] ∙ append-nil header ∙ ap path_view c.deref.ensures.value)
+    (path_steps header [] ∙ append-nil header ∙ ap path_view c.deref.ensures.value)
     ∙ ap (λ (last : List ℕ). path_view c.args.key.path.items ++ last ∷ []) same in
     subst (λ (path : List (List ℕ)). IsAgain path c.args.left (keys_firsts c.args.self.now.root.keys.items) c.in-Err.fault) whole c.in-Err.ensures.again
 
@@ -26,7 +26,7 @@ returns-clause-firsts c =
     let whole : map (λ step. step.1) (steps_along header []) ++ string_bytes c.in_ok-clone.field-0 ∷ []
     ≡ path_view c.args.key.path.items ++ string_bytes c.args.key.last ∷ [] =
     ap (λ (path : List (List ℕ)). path ++ string_bytes c.in_ok-clone.field-0 ∷ [])
-      (path_steps header [] ∙ append-nil header ∙ ap path_view c.deref.ensures.value)
+    (path_steps header [] ∙ append-nil header ∙ ap path_view c.deref.ensures.value)
     ∙ ap (λ (last : List ℕ). path_view c.args.key.path.items ++ last ∷ []) same in
     subst (λ (path : List (List ℕ)). AddsFirsts path c.args.left (table_view c.args.self.now.root) (keys_firsts c.args.self.now.root.keys.items)
     (keys_firsts c.define_at.new.keys.items)) whole c.in_default.ensures.firsts

@@ -8,7 +8,7 @@ use Rattle.yaml_emitter.proofs.machine.Machine.end_collection.Goals as goal
 pub write_collection_end-requires : goal.write_collection_end-requires
 write_collection_end-requires g c =
     ready_inside c.self.inside c.self.invariant (at_node_inside c.self.inside c.self.view_is
-      (ending_at_node c.args.self.now.stage (is_mapping c.args.kind) (sym c.may_end.ensures ∙ c.if-not-may_end.false)))
+    (ending_at_node c.args.self.now.stage (is_mapping c.args.kind) (sym c.may_end.ensures ∙ c.if-not-may_end.false)))
 
 pub invariant_of-self-in-Some : goal.invariant_of-self-in-Some
 invariant_of-self-in-Some g c =
@@ -23,14 +23,14 @@ returns-in-Some g c = λ empty.
     (seen_frame c.in-Some.frame) c.pop.new.self (is_mapping c.args.kind) empty c.next_place-around.result.column _ c.write_collection_end.new.pen
     c.write_collection_end.result
     ((seen_at_node c.self.inside (at_node_inside c.self.inside c.self.view_is
-      (ending_at_node c.args.self.now.stage (is_mapping c.args.kind) (sym c.may_end.ensures ∙ c.if-not-may_end.false))))
+    (ending_at_node c.args.self.now.stage (is_mapping c.args.kind) (sym c.may_end.ensures ∙ c.if-not-may_end.false))))
     ∙ ap (at_node c.self.inside.directives) c.in-Some.ensures)
     (may_end_here c.self.inside.frames
     (seen_frame c.in-Some.frame) c.pop.new.self (is_mapping c.args.kind) c.may_end.result c.in-Some.ensures
     (c.may_end.ensures
     ∙ ap (λ (st : Stage). stage_allows st (end_of_kind (is_mapping c.args.kind))) (sym (ap (λ (s : MachineState). s.stage) c.self.view_is)
     ∙ seen_at_node c.self.inside (at_node_inside c.self.inside c.self.view_is
-      (ending_at_node c.args.self.now.stage (is_mapping c.args.kind) (sym c.may_end.ensures ∙ c.if-not-may_end.false)))))
+    (ending_at_node c.args.self.now.stage (is_mapping c.args.kind) (sym c.may_end.ensures ∙ c.if-not-may_end.false)))))
     c.if-not-may_end.false)
     (ap (λ (p : Place). p.column) c.next_place-around.ensures.place)
     (c.advance-self-inside.ensures.stage c.self.inside.directives)

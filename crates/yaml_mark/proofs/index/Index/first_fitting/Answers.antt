@@ -15,4 +15,4 @@ pub returns : goal.returns
 returns g c = λ list finds.
     c.loop-length.invariant list finds
     ∙ found_all c.args.tag.now c.args.self.now list c.deref-length-items.result.now c.loop-length.length-index
-      c.deref-length-items.ensures.value c.loop-length-test.false finds
+    c.deref-length-items.ensures.value c.loop-length-test.false finds

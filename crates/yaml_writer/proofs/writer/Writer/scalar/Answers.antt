@@ -1,5 +1,5 @@
-use Rattle.yaml_writer.proofs.Common.{ℕ, Bool, List, Option, None, chars, is_none, is_some, false, true, not, ◌||◌, ◌≡◌, refl, ap, ap₂,
-  subst, sym, ◌∙◌, option_or, Event, Text, scalar}
+use Rattle.yaml_writer.proofs.Common.{ℕ, Bool, List, Option, None, chars, is_none, is_some, false, true, not, ◌||◌, ◌≡◌, refl, ap, ap₂, subst, sym, ◌∙◌}
+use Rattle.yaml_writer.proofs.Common.{option_or, Event, Text, scalar}
 use Rattle.yaml_writer.proofs.Common.{seen_scalar_style, writer_state_of, WriterState}
 use Rattle.yaml_base.proofs.Common.{Some, false≢true, or_parts}
 use Rattle.std.specs.{Borrow.Bor, Prelude.Result}
