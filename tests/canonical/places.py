@@ -1,0 +1,139 @@
+"""Where bytes stop to be a value's canonical bytes: the first word that can't stand where it stands, or the first list or map that lies too
+deep, by the words of `crates/yaml_read/specs/Grammar.antt`. None of the words that may stand in one place begins another, so there is one
+such place, and the contract of `read_canonical` (`IsPlaced`) allows no other.
+
+How a character is written is the model's to say: `writes` is its module `layout`, and `reads` its module `readers`."""
+import re
+
+MOST_NESTED = 1000
+TAGS = ["!!null ", "!!bool ", "!!int ", "!!str ", "!!seq ", "!!map "]
+BRACKETS = {"!!seq ": "[]", "!!map ": "{}"}
+INTEGER = re.compile(r'"(0|-?[1-9][0-9]{0,18})"')
+ESCAPE = re.compile(r"\\(?:x[0-9A-F]{2}|u[0-9A-F]{4}|U[0-9A-F]{8}|[!-~])")
+SPACES = re.compile(" *")
+
+
+class Stops(Exception):
+    """No word that may stand here does."""
+
+
+class TooDeep(Exception):
+    """A list or a map lies too deep."""
+
+
+class Words:
+    def __init__(self, text, writes, reads):
+        self.text, self.at, self.writes, self.reads = text, 0, writes, reads
+
+    def take(self, *words):
+        """Passes that one of these words which stands here, and returns it."""
+        for word in words:
+            if self.text.startswith(word, self.at):
+                self.at += len(word)
+                return word
+        raise Stops
+
+    def indentation(self, depth):
+        """Passes two spaces for each level, a word for each."""
+        levels = (SPACES.match(self.text, self.at).end() - self.at) // 2
+        self.at += 2 * min(levels, depth)
+        if levels < depth:
+            raise Stops
+
+    def line(self, depth):
+        self.take("\n")
+        self.indentation(depth)
+
+    def character(self):
+        c = self.text[self.at:self.at + 1]
+        if c == "\\":
+            found = ESCAPE.match(self.text, self.at)
+            c = found and self.reads.read_double(f'"{found.group()}"')
+            if not c or not self.writes.escaped(c, True) or self.writes.escape(c) != found.group():
+                raise Stops
+            self.at = found.end()
+        elif c == "" or self.writes.escaped(c, True):
+            raise Stops
+        else:
+            self.at += 1
+
+    def scalar(self, tag):
+        if tag == "!!null ":
+            self.take('"null"')
+        elif tag == "!!bool ":
+            self.take('"true"', '"false"')
+        elif tag == "!!int ":
+            found = INTEGER.match(self.text, self.at)
+            if found is None or not -2**63 <= int(found.group(1)) < 2**63:
+                raise Stops
+            self.at = found.end()
+        else:
+            self.take('"')
+            while self.text[self.at:self.at + 1] != '"':
+                self.character()
+            self.at += 1
+
+    def node(self, open_ones):
+        """Passes a whole node, or the beginning of a list or a map up to the first node in it, which it opens."""
+        begin = self.at
+        tag = self.take(*TAGS)
+        if tag not in BRACKETS:
+            return self.scalar(tag)
+        opening, closing = BRACKETS[tag]
+        self.take(opening)
+        if len(open_ones) >= MOST_NESTED:
+            self.at = begin
+            raise TooDeep
+        if self.take(closing, "\n") == "\n":
+            self.indentation(len(open_ones) + 1)
+            if opening == "{":
+                self.take("? ")
+            open_ones.append("key" if opening == "{" else "item")
+            return True
+
+    def behind_node(self, open_ones):
+        """Passes what leads to the next node, and returns whether there is one."""
+        while open_ones:
+            inner, depth = open_ones[-1], len(open_ones) - 1
+            if inner == "key":
+                self.line(depth)
+                self.take("  : ")
+                open_ones[-1] = "value"
+                return True
+            self.take(",")
+            self.line(depth)
+            lead, closing = ("  ", "]") if inner == "item" else ("  ? ", "}")
+            if self.take(lead, closing) == lead:
+                open_ones[-1] = "item" if inner == "item" else "key"
+                return True
+            open_ones.pop()
+        return False
+
+    def document(self):
+        self.take("---\n")
+        open_ones = []
+        while self.node(open_ones) or self.behind_node(open_ones):
+            pass
+        self.take("\n")
+        if self.at < len(self.text):
+            raise Stops
+
+
+def place_in(text):
+    """The line and the column behind a text."""
+    return text.count("\n") + 1, len(text) - text.rfind("\n")
+
+
+def place(data, writes, reads):
+    """The line, the column, and what an answer says of them; zeros where the bytes are canonical."""
+    try:
+        words = Words(data.decode(), writes, reads)
+    except UnicodeDecodeError as error:
+        return *place_in(data[:error.start].decode()), "not canonical"
+    try:
+        words.document()
+    except Stops:
+        return *place_in(words.text[:words.at]), "not canonical"
+    except TooDeep:
+        return *place_in(words.text[:words.at]), "nested too deep"
+    return 0, 0, "done"
