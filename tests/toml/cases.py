@@ -1,11 +1,12 @@
 """Texts of TOML: the cases that Python's own tests hold, TOML files of this machine, random documents, and spoiled ones."""
 import pathlib
 import random
+import subprocess
 import sysconfig
 
 PLACES = ["/usr/lib", "/usr/share", "/opt", "/root/.pyenv/versions", "/root/.rustup", "/root/.cargo", "/home"]
 # Where Python's tests of tomllib stand: cases of toml-test among them.
-CASES = ["test/test_tomllib/data"]
+CASES = "test/test_tomllib/data"
 WORDS = ["", "a", "no", "1.0", "2001-12-14", "07:32:00", "~", "null", "x: y", "# a", "'", '"', "\\", "a\nb", "a\n", " a", "a ", "\t", "\u00e9", "\U0001F600", "\u2028",
          "- a", "[", "{", "=", ".", "1_000", "0x1F", "inf", "nan", "true", "a" * 130]
 BARE = "abcXYZ019_-"
@@ -17,12 +18,20 @@ SCALARS = ["0", "-0", "+99", "1_000", "0xdead_BEEF", "0o755", "0b1101", "9223372
 SPOILS = list("ab019_-+.:=[]{},'\"#\\ \t\n\r\x00\x7f\u00e9\u2028TZe") + ["[[", "]]", '"""', "'''", "\r\n", "= 1", "\\u00e9", "\\U00110000", "\\q", "true", "inf", "0x", "99999999999999999999"]
 
 
+def libraries():
+    """The folders of the standard library of this Python and, where it is another, of the one that `python3` names."""
+    named = subprocess.run(["python3", "-c", "import sysconfig; print(sysconfig.get_path('stdlib'))"], capture_output=True, text=True)
+    return dict.fromkeys([sysconfig.get_path("stdlib"), *named.stdout.splitlines()])
+
+
 def python_cases():
-    """The names and the bytes of the cases of Python's own tests, where they are installed."""
-    for under in CASES:
-        folder = pathlib.Path(sysconfig.get_path("stdlib")) / under
-        for path in sorted(folder.rglob("*.toml")):
-            yield str(path.relative_to(folder)), path.read_bytes()
+    """The names and the bytes of the cases of Python's own tests, from the first library in which they are installed."""
+    for library in libraries():
+        folder = pathlib.Path(library) / CASES
+        found = sorted(folder.rglob("*.toml"))
+        if found:
+            yield from ((str(path.relative_to(folder)), path.read_bytes()) for path in found)
+            return
 
 
 def toml_files(count, seed, most=200_000):
