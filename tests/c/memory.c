@@ -132,6 +132,12 @@ static int32_t from_json(size_t capacity) {
     return yaml_from_json((const uint8_t *)text, sizeof text - 1, &settings, out, capacity, &result);
 }
 
+static int32_t from_toml(size_t capacity) {
+    static const struct yaml_c_toml_settings settings = {0, 0, 0, 0, 0, 0, 0};
+    static const char text[] = "first = [1, {\"a\\tb\" = \"" LETTERS "\"}]\n[second]\nthird.fourth = \"" LETTERS LETTERS "\"\n";
+    return yaml_from_toml((const uint8_t *)text, sizeof text - 1, &settings, out, capacity, &result);
+}
+
 static int32_t canonical_from_json(size_t capacity) {
     static const char text[] = "{\"first\": [1, {\"a\\tb\": \"" LETTERS "\"}], \"second\": \"" LETTERS LETTERS "\"}";
     return yaml_canonical_from_json((const uint8_t *)text, sizeof text - 1, out, capacity, &result);
@@ -304,6 +310,7 @@ int main(void) {
     refuse_each_of_kept(1, whole, length);
     refuse_each("yaml_run", run);
     refuse_each("yaml_from_json", from_json);
+    refuse_each("yaml_from_toml", from_toml);
     refuse_each("yaml_canonical_from_json", canonical_from_json);
     refuse_each("yaml_c_emitter_emit_json", json_in_stream);
     if (!refused_new || !refused_texts || !refused_events || !refused_flushes)

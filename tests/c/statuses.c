@@ -1,5 +1,5 @@
-/* Calls of yaml_emit, one for each status and for each kind of event that has no reading, of yaml_from_json, one for each setting and
- * status, and of both and yaml_run with NULL where there is nothing; a line for each that isn't as written. */
+/* Calls of yaml_emit, one for each status and for each kind of event that has no reading, of yaml_from_json and yaml_from_toml, one for
+ * each setting and status, and of these and yaml_run with NULL where there is nothing; a line for each that isn't as written. */
 #include <stdio.h>
 #include <stdlib.h>
 #include <string.h>
@@ -284,6 +284,71 @@ static void json_refused(void) {
     expect_json("too deep in the second line", "[1,\n {}]", given, YAML_TOO_DEEP, 2, 2, "");
 }
 
+/* What a call of yaml_from_toml with a buffer of `capacity` bytes comes to, where the whole YAML has `length` bytes. */
+static void expect_toml(const char *name, const char *text, struct yaml_c_toml_settings given, size_t capacity, int32_t status, size_t length,
+                        uint64_t line, uint64_t column, const char *written) {
+    size_t i, size = strlen(written);
+    int32_t got;
+    memset(out, 0xa5, sizeof out);
+    memset(&result, 0xff, sizeof result);
+    got = yaml_from_toml((const uint8_t *)text, strlen(text), &given, out, capacity, &result);
+    calls++;
+    int good = got == status && result.length == length && result.line == line && result.column == column && result.event == 0
+        && result.error == 0 && memcmp(out, written, size) == 0;
+    for (i = size; i < sizeof out; i++) good = good && out[i] == 0xa5;
+    if (good) return;
+    failures++;
+    printf("%s, TOML: status %d, length %lu, line %lu, column %lu\n%.*s\n", name, (int)got, (unsigned long)result.length,
+           (unsigned long)result.line, (unsigned long)result.column, (int)result.length, (const char *)out);
+}
+
+static void toml_done(const char *name, const char *text, struct yaml_c_toml_settings given, const char *written) {
+    expect_toml(name, text, given, sizeof out, YAML_DONE, strlen(written), 0, 0, written);
+}
+
+static void toml_stops(const char *name, const char *text, struct yaml_c_toml_settings given, int32_t status, uint64_t line, uint64_t column) {
+    expect_toml(name, text, given, sizeof out, status, 0, line, column, "");
+}
+
+static void toml_settings(void) {
+    static const char text[] = "a = [1, {b = 2}]\n", yaml[] = "---\na:\n  - 1\n  - b: 2\n";
+    struct yaml_c_toml_settings given;
+    memset(&given, 0, sizeof given);
+    toml_done("the defaults", text, given, yaml);
+    expect_toml("a buffer of just its length", text, given, sizeof yaml - 1, YAML_DONE, sizeof yaml - 1, 0, 0, yaml);
+    expect_toml("a buffer one byte short", text, given, sizeof yaml - 2, YAML_TOO_SMALL, sizeof yaml - 1, 0, 0, "");
+    toml_done("no key", "# nothing\n", given, "--- {}\n");
+    toml_done("keys as they are first defined", "b.d = 1 # one\na = 2\nb.c = 3\n", given, "---\nb:\n  d: 1\n  c: 3\na: 2\n");
+    given.indent = 4;
+    toml_done("an indent of 4", text, given, "---\na:\n    - 1\n    -   b: 2\n");
+    given.no_indented_sequences = 1;
+    toml_done("and sequences that aren't indented", text, given, "---\na:\n- 1\n-   b: 2\n");
+    given.no_portable = 1;
+    toml_done("and not portable", text, given, "a:\n- 1\n-   b: 2\n");
+    given.flow = 1;
+    toml_done("and in flow", text, given, "{a: [1, {b: 2}]}\n");
+    memset(&given, 0, sizeof given);
+    toml_done("single quotes", "a = \"no\"\n", given, "---\na: 'no'\n");
+    given.double_quotes = 1;
+    toml_done("double quotes", "a = 'no'\n", given, "---\na: \"no\"\n");
+    given.width = 20;
+    toml_done("a width of 20", "a = 'aaaa bbbb cccc dddd eeee ffff'\n", given, "---\na: aaaa bbbb cccc dddd\n  eeee ffff\n");
+    given.depth = 2;
+    toml_done("as deep as may be", "a = [1]\n", given, "---\na:\n  - 1\n");
+}
+
+static void toml_refused(void) {
+    struct yaml_c_toml_settings given;
+    memset(&given, 0, sizeof given);
+    toml_stops("no TOML", "a = 1\nb c = 1\n", given, YAML_NOT_TOML, 2, 3);
+    toml_stops("no UTF-8", "a = \"\xff\"\n", given, YAML_NOT_TOML, 1, 6);
+    toml_stops("no UTF-8 behind a character of two bytes", "a = \"\xc3\xa9\xff\"\n", given, YAML_NOT_TOML, 1, 7);
+    toml_stops("a key twice", "a = 1\nb = 2\na = 3\n", given, YAML_DUPLICATE_NAME, 3, 1);
+    toml_stops("a table twice", "[a]\nb = 1\n[a]\n", given, YAML_DUPLICATE_NAME, 3, 1);
+    given.depth = 1;
+    toml_stops("too deep", "a = 1\nb = []\n", given, YAML_TOO_DEEP, 0, 0);
+}
+
 /* Arrays in arrays, 100,000 deep, by yaml_from_json, over a text and a buffer of so many bytes, and 5 more. */
 static int is_deep_json(size_t levels, uint8_t *text, uint8_t *brackets) {
     struct yaml_c_json_settings given;
@@ -401,6 +466,17 @@ static void null_json(void) {
     expect_null("neither", yaml_from_json(NULL, 0, NULL, NULL, 0, &result), YAML_NOT_JSON, "");
 }
 
+static void null_toml(void) {
+    static const uint8_t text[] = "a = 1\n";
+    static const struct yaml_c_toml_settings zeros = {0, 0, 0, 0, 0, 0, 0};
+    const struct yaml_c_toml_settings *defaults = NULL;
+    expect_null("no TOML", yaml_from_toml(NULL, 0, defaults, out, sizeof out, &result), YAML_DONE, "--- {}\n");
+    expect_null("no settings of TOML", yaml_from_toml(text, 6, NULL, out, sizeof out, &result), YAML_DONE, "---\na: 1\n");
+    expect_null("no room for TOML's YAML", yaml_from_toml(text, 6, defaults, NULL, 0, &result), YAML_TOO_SMALL, "---\na: 1\n");
+    expect_null("neither", yaml_from_toml(NULL, 0, NULL, NULL, 0, &result), YAML_TOO_SMALL, "--- {}\n");
+    expect_null("a direct call", (yaml_from_toml)(text, 6, &zeros, out, sizeof out, &result), YAML_DONE, "---\na: 1\n");
+}
+
 static void null_events(void) {
     begin();
     expect_null("no events", yaml_emit(NULL, 0, directives, 1, texts, texts_len, &settings, out, sizeof out, &result), YAML_DONE, "");
@@ -422,6 +498,7 @@ static void nulls(void) {
     memset(&result, 0xff, sizeof result);
     null_scripts();
     null_json();
+    null_toml();
     null_events();
 }
 
@@ -437,6 +514,8 @@ int main(void) {
     refused();
     json_settings();
     json_refused();
+    toml_settings();
+    toml_refused();
     nulls();
     deep();
     printf("%d calls, %d not as written\n", calls, failures);
