@@ -1,14 +1,9 @@
 -- Which errors tell that no value has some bytes.
-use Rattle.yaml_base.proofs.Common.{ℕ, List, Some, ◌≡◌, sym, ◌∙◌, ◌⊎◌, inl, inr, encode_utf8_all, encode, utf8}
+use Rattle.yaml_base.proofs.Common.{ℕ, List, ◌≡◌, sym, ◌∙◌, inl, inr, encode_utf8_all}
 use Rattle.yaml_base.{specs.values.ValueText.document_text, proofs.Decoding.text_bytes-utf8, specs.values.TypedValues.TypedValue}
-use Rattle.std.specs.Prelude.{Err, ◌≢◌}
-use Rattle.yaml_read.specs.{Errors.Tells, Readable.CanBeRead, Words.OrMemory, declared.errors.ReadError.ReadError, declared.errors.Stop.Stop}
-use Rattle.yaml_read.specs.declared.errors.ReadError.TheVariants as told
+use Rattle.std.specs.Prelude.{Err}
+use Rattle.yaml_read.specs.{Errors.Tells, ReadBack.IsJust, Readable.CanBeRead, Words.OrMemory, declared.errors.ReadError.ReadError, declared.errors.Stop.Stop}
 use Rattle.yaml_read.specs.declared.errors.Stop.TheVariants as stop
-
--- memory gave out, or no value has these bytes
-abbrev pub IsJust : List ℕ → ReadError → Type 0
-IsJust bytes error = (error ≡ told.Memory) ⊎ ((value : TypedValue) → CanBeRead value → encode (Some utf8) (document_text value) ≢ bytes)
 
 -- a text that is no value's
 pub stopped : {T : Type 0} (Holds : TypedValue → T → Type 0) (bytes text : List ℕ) (why : Stop) (error : ReadError) → text ≡ bytes → Tells why error

@@ -11,6 +11,7 @@ pub mod Scalars
 pub mod FirstCharacters
 pub mod Completeness
 pub mod Texts
+pub mod ReadBack
 pub mod Opening
 pub mod CharactersRead
 pub mod HeadsRead

@@ -1,6 +1,7 @@
 pub mod Shorter
 pub mod Words
 pub mod Readable
+pub mod ReadBack
 pub mod Entries
 pub mod Remaining
 pub mod Heads

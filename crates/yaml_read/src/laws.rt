@@ -1,14 +1,31 @@
 //! Laws of canonical bytes and their words, the contracts of functions that do nothing.
-ghost use Rattle.std.specs.Prelude.{◌-◌, ◌<◌, List, length, take, ℕ};
+ghost use Rattle.std.specs.Prelude.{◌-◌, ◌<◌, ◌≡◌, IfErr, IfOk, List, Result, Vec, length, take, ℕ};
 ghost use Rattle.yaml_base.specs.graphs.Isomorphic.{Isomorphic};
 ghost use Rattle.yaml_base.specs.graphs.Meetings.{Graph};
-ghost use Rattle.yaml_base.specs.values.TypedValues.{TypedValue, most_nested};
+ghost use Rattle.yaml_base.specs.values.TypedValues.{TypedValue, WritesValue, most_nested, nesting};
 ghost use Rattle.yaml_read.specs.DocumentTexts.{AreDumpedBytes};
 ghost use Rattle.yaml_read.specs.Grammar.{behind_value, node};
 ghost use Rattle.yaml_read.specs.Opened.{HasRead, IsOpen};
 ghost use Rattle.yaml_read.specs.Places.{BreaksOff};
+ghost use Rattle.yaml_read.specs.ReadBack.{IsAnswerTo};
+ghost use Rattle.yaml_read.specs.Readable.{CanBeRead};
 ghost use Rattle.yaml_read.specs.Remaining.{IsDue, IsRead, OpenLevel};
 ghost use Rattle.yaml_read.specs.TextsAndWords.{BeginsText, BeginsValue, BeginsWith, GoesOnWith};
+ghost use Rattle.yaml_read.specs.declared.errors.ReadError.TheVariants as told;
+ghost use Rattle.yaml_read.specs.declared.errors.ReadError.{ReadError};
+ghost use Rattle.yaml_value.specs.SeenValues.{seen_value};
+ghost use Rattle.yaml_value.specs.declared.value.Value.{Value};
+
+use std::alloc::Allocator;
+
+/// States that a value that was written is read back. A value that `write_canonical` wrote, which nests at most 1,000 deep, can be
+/// read; and what `read_canonical` answers to the canonical bytes of a value that can be read is this value, or `Memory`.
+pub fn written_values_are_read<A: Allocator>()
+    ensures readable { (value : Value A) (bytes : List ℕ) → WritesValue (seen_value value) bytes → ¬ (most_nested < nesting (seen_value value))
+        → CanBeRead (seen_value value) }
+    ensures read { (value : TypedValue) (bytes : Vec ℕ A) (answer : Result (Value A) ReadError) → CanBeRead value → WritesValue value bytes.items
+        → IsAnswerTo bytes.items answer → IfOk answer (λ found. seen_value found ≡ value) × IfErr answer (λ error. error ≡ told.Memory) }
+{}
 
 /// States that the words that may stand at a node and behind one are those with which texts of values go on there: where a text
 /// has a node, or goes on behind one, words of these stand there; and any of these words begin the text of some value, or go on

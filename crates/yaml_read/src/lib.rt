@@ -18,6 +18,9 @@ mod tags;
 
 pub use documents::read_document;
 pub use errors::ReadError;
-pub use laws::{dumped_bytes_tell_graphs, texts_begin_up_to_places, words_are_those_of_texts};
+pub use laws::{
+    dumped_bytes_tell_graphs, texts_begin_up_to_places, words_are_those_of_texts,
+    written_values_are_read,
+};
 pub use reading::read_canonical;
 pub use yaml_value::Value;
