@@ -7,5 +7,4 @@ pub mod Dumped
 pub mod CycleFits
 pub mod GraphsCompared
 pub mod PairReads
-pub mod ReadBack
 pub mod Opened

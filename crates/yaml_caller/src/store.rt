@@ -10,7 +10,7 @@ use sha2::{Digest, Sha256};
 use std::alloc::Allocator;
 use thiserror::Error;
 use yaml_base::yaml_error_t;
-use yaml_read::{ReadError, read_canonical};
+use yaml_read::{ReadError, read_canonical, written_values_are_read};
 use yaml_value::{Value, write_canonical};
 
 /// A value as a store keeps it.
@@ -93,6 +93,8 @@ pub fn sealed_and_opened<A: Allocator + Copy>(
     ensures failed { IfErr result (λ error. (error ≡ yaml_error_t.TooDeep) ⊎ (error ≡ yaml_error_t.Memory)) }
 {
     let entry = seal(alloc, value)?;
+    // A law: a value that was written can be read.
+    written_values_are_read::<A>();
     Ok(open(alloc, &entry))
 }
 

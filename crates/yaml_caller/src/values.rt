@@ -6,7 +6,7 @@ ghost use Rattle.yaml_value.specs.SeenValues.{seen_value};
 
 use std::alloc::Allocator;
 use yaml_base::yaml_error_t;
-use yaml_read::{ReadError, read_canonical};
+use yaml_read::{ReadError, read_canonical, written_values_are_read};
 use yaml_value::{Value, write_canonical};
 
 /// Returns whether two values have the same canonical bytes: exactly where they are the same value.
@@ -42,5 +42,7 @@ pub fn written_and_read<A: Allocator + Copy>(
     ensures failed { IfErr result (λ error. (error ≡ yaml_error_t.TooDeep) ⊎ (error ≡ yaml_error_t.Memory)) }
 {
     let bytes = write_canonical(alloc, value)?;
+    // A law: what was written is read back.
+    written_values_are_read::<A>();
     Ok(read_canonical(alloc, bytes.as_slice()))
 }

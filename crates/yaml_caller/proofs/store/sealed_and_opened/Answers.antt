@@ -1,5 +1,5 @@
 use Rattle.yaml_value.specs.SeenValues.{seen_value}
-use Rattle.yaml_caller.proofs.Opened.{no_error, only_memory, sealed_readable}
+use Rattle.yaml_caller.proofs.Opened.{no_error, only_memory}
 use Rattle.std.proofs.lemmas.Result.{IfOk-from_err}
 use Rattle.yaml_caller.proofs.store.sealed_and_opened.Goals as goal
 
@@ -14,5 +14,5 @@ returns-clause-opened g c =
     let entry = c.in_ok-entry.entry in
     let sealed = c.in_ok-entry.ensures.sealed in
     only_memory (seen_value c.args.value.now) entry.bytes.items entry.digest c.open.result sealed
-    (sealed_readable g.row.A.Denot c.args.value.now entry.bytes.items entry.digest sealed
+    (c.written_values_are_read.ensures.readable c.args.value.now entry.bytes.items sealed.written
     (λ deep. no_error entry (c.in_ok-entry.ensures.too_deep.1 deep))) c.open.ensures.complete

@@ -1,8 +1,8 @@
-use Rattle.std.proofs.Common.{sym, ◌∙◌, subst}
-use Rattle.yaml_base.specs.values.TypedValues.{WritesValue}
-use Rattle.yaml_value.specs.SeenValues.{seen_value}
-use Rattle.yaml_caller.proofs.ReadBack.{read_same, refused_for_memory, written_readable}
+use Rattle.std.proofs.Common.{subst}
 use Rattle.std.proofs.lemmas.Result.{IfOk-from_err}
+use Rattle.yaml_value.specs.SeenValues.{seen_value}
+use Rattle.yaml_read.specs.ReadBack.{IsAnswerTo}
+use Rattle.yaml_caller.proofs.Opened.{no_error}
 use Rattle.yaml_caller.proofs.values.written_and_read.Goals as goal
 
 pub returns-in_err-bytes-clause-same : goal.returns-in_err-bytes-clause-same
@@ -13,11 +13,24 @@ returns-in_err-bytes-clause-read g c = IfOk-from_err c.from_residual.result _ c.
 
 pub returns-clause-same : goal.returns-clause-same
 returns-clause-same g c =
-    read_same (seen_value c.args.value.now) c.as_slice.result.now c.read_canonical.result
-    (subst (WritesValue (seen_value c.args.value.now)) (sym c.as_slice.ensures.value) c.in_ok-bytes.ensures.written) c.read_canonical.ensures.read
+    let law = c.written_values_are_read.ensures in
+    let read = c.read_canonical in
+    let bytes = c.in_ok-bytes.bytes in
+    let value = c.args.value.now in
+    let written = c.in_ok-bytes.ensures.written in
+    let readable = law.readable value bytes.items written (λ deep. no_error bytes (c.in_ok-bytes.ensures.too_deep.1 deep)) in
+    let answers : IsAnswerTo c.as_slice.result.now read.result = record { read = read.ensures.read; complete = read.ensures.complete } in
+    (law.read (seen_value value) bytes read.result readable written
+    (subst (λ items. IsAnswerTo items read.result) c.as_slice.ensures.value answers)).0
 
 pub returns-clause-read : goal.returns-clause-read
 returns-clause-read g c =
-    refused_for_memory (seen_value c.args.value.now) c.as_slice.result.now c.read_canonical.result
-    (written_readable g.row.A.Denot c.args.value.now c.in_ok-bytes.bytes c.in_ok-bytes.ensures.written c.in_ok-bytes.ensures.too_deep)
-    (c.as_slice.ensures.value ∙ c.in_ok-bytes.ensures.layout) c.read_canonical.ensures.complete
+    let law = c.written_values_are_read.ensures in
+    let read = c.read_canonical in
+    let bytes = c.in_ok-bytes.bytes in
+    let value = c.args.value.now in
+    let written = c.in_ok-bytes.ensures.written in
+    let readable = law.readable value bytes.items written (λ deep. no_error bytes (c.in_ok-bytes.ensures.too_deep.1 deep)) in
+    let answers : IsAnswerTo c.as_slice.result.now read.result = record { read = read.ensures.read; complete = read.ensures.complete } in
+    (law.read (seen_value value) bytes read.result readable written
+    (subst (λ items. IsAnswerTo items read.result) c.as_slice.ensures.value answers)).1
