@@ -1,9 +1,11 @@
-//! Random values, written and read back.
+//! Random values, written and read back, also with one byte changed, and where memory is refused.
+use super::refused::refuse_growths;
 use super::{read, written};
 use crate::tests::equal;
 use std::alloc::Global;
 use std::process::Abort;
-use yaml_read::Value;
+use yaml_read::{ReadError, Value};
+use yaml_test_allocator::Refusing;
 
 /// Numbers that follow from a seed (a linear congruence, of which the high bits are used).
 #[derive(Drop)]
@@ -149,20 +151,74 @@ fn random_value(rt: &impl Abort, alloc: Global, random: &mut Random, parts: u64)
     values.pop().unwrap_or(Value::Null)
 }
 
-/// Checks that what is written of a value is read, and the value that is read is written as the same bytes.
-fn check_value(rt: &impl Abort, alloc: Global, value: &Value<Global>) {
-    let bytes = written(alloc, value).expect(rt, "not written");
-    let back = read(alloc, bytes.as_slice()).expect(rt, "not read");
-    let again = written(alloc, &back).expect(rt, "not written");
-    equal(rt, &again.as_slice(), &bytes.as_slice());
+/// Returns the canonical bytes of a value of at most 30 parts.
+fn random_bytes(rt: &impl Abort, alloc: Global, random: &mut Random) -> Vec<u8> {
+    let parts = random.below(30).saturating_add(1);
+    let value = random_value(rt, alloc, random, parts);
+    written(alloc, &value).expect(rt, "not written")
+}
+
+/// Returns the bytes with one of them changed to another, or left out.
+fn spoiled(rt: &impl Abort, alloc: Global, random: &mut Random, bytes: &[u8]) -> Vec<u8> {
+    let offset = random.small(bytes.len().max(1)).min(bytes.len());
+    let (before, rest) = bytes.split_at(offset);
+    let mut spoiled = Vec::from_slice(alloc, before).expect(rt, "no memory");
+    if let Some((byte, behind)) = rest.split_first() {
+        if random.below(8) > 0 {
+            let change = u8::try_from(random.below(255).saturating_add(1)).unwrap_or(1);
+            spoiled.push(*byte ^ change).expect(rt, "no memory");
+        }
+        spoiled.extend_from_slice(behind).expect(rt, "no memory");
+    }
+    spoiled
+}
+
+/// Reads a value and writes it again, which gives the same bytes; or returns why it isn't read.
+fn read_and_written(rt: &impl Abort, alloc: Global, bytes: &[u8]) -> Option<ReadError> {
+    match read(alloc, bytes) {
+        Ok(value) => {
+            let again = written(alloc, &value).expect(rt, "not written");
+            equal(rt, &again.as_slice(), &bytes);
+            None
+        }
+        Err(error) => Some(error),
+    }
+}
+
+/// Checks that the bytes of a value are read, and that with one of them changed they are those of another value, or not canonical.
+/// Returns whether these are read.
+fn check_random(rt: &impl Abort, alloc: Global, random: &mut Random) -> bool {
+    let bytes = random_bytes(rt, alloc, random);
+    equal(rt, &read_and_written(rt, alloc, bytes.as_slice()), &None);
+    let other = spoiled(rt, alloc, random, bytes.as_slice());
+    match read_and_written(rt, alloc, other.as_slice()) {
+        None => true,
+        Some(error) => {
+            let is_named = matches!(error, ReadError::NotCanonical { .. });
+            equal(rt, &(error, is_named), &(error, true));
+            false
+        }
+    }
 }
 
 #[test]
 fn random_values_are_read_back(rt: HostRuntime) {
     let mut random = Random { state: 56 };
-    for _ in 0..1_000 {
-        let parts = random.below(30).saturating_add(1);
-        let value = random_value(&rt, rt.alloc(), &mut random, parts);
-        check_value(&rt, rt.alloc(), &value);
+    let mut others = 0usize;
+    for _ in 0..10_000 {
+        if check_random(&rt, rt.alloc(), &mut random) {
+            others = others.saturating_add(1);
+        }
+    }
+    equal(&rt, &(others > 0), &true);
+}
+
+#[test]
+fn a_refused_growth_is_reported(rt: HostRuntime) {
+    let heap = Refusing::new(rt.alloc());
+    let mut random = Random { state: 57 };
+    for _ in 0..100 {
+        let bytes = random_bytes(&rt, rt.alloc(), &mut random);
+        refuse_growths(&rt, &heap, bytes.as_slice());
     }
 }

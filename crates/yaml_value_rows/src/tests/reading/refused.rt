@@ -42,7 +42,7 @@ pub(super) fn is_reported(
 }
 
 /// Refuses each growth in turn, and reads the bytes after each.
-fn check_row(rt: &impl Abort, heap: &Refusing<Global>, bytes: &[u8]) {
+pub(super) fn refuse_growths(rt: &impl Abort, heap: &Refusing<Global>, bytes: &[u8]) {
     for number in 1..usize::MAX {
         heap.refuse(number);
         if !is_reported(rt, heap, read(heap, bytes).err()) {
@@ -56,6 +56,6 @@ fn check_row(rt: &impl Abort, heap: &Refusing<Global>, bytes: &[u8]) {
 fn a_refused_growth_is_reported(rt: HostRuntime) {
     let heap = Refusing::new(rt.alloc());
     for text in TAKEN {
-        check_row(&rt, &heap, text.as_bytes());
+        refuse_growths(&rt, &heap, text.as_bytes());
     }
 }
