@@ -1,5 +1,8 @@
 //! Rows of types, marks, pens and scalars; emitters call by call, documents dumped, and errors in a caller; scripts that are
 //! read, and whole runs.
+//!
+//! What has parts to be let go, as events, documents, pens and emitters have, is handed to `drop`: to let it go where a block
+//! ends is dearer to prove.
 ghost use Rattle.yaml_pen.specs.Page.{IsReady};
 
 mod dumps;
@@ -30,6 +33,11 @@ fn equal_at<T: PartialEq + Debug>(rt: &impl Abort, name: &str, got: &T, wanted: 
     equal(rt, &(name, got), &(name, wanted));
 }
 
+/// Checks that the two are equal, and lets them go.
+fn same_values<T: PartialEq + Debug + Drop>(rt: &impl Abort, got: T, wanted: T) {
+    equal(rt, &got, &wanted);
+}
+
 /// Returns a text that a test hands over, for which there is memory.
 fn owned<A: Allocator>(rt: &impl Abort, alloc: A, s: &str) -> String<A> {
     String::from_str(alloc, s).expect(rt, "no memory")
@@ -49,7 +57,10 @@ fn directives<A: Allocator + Copy>(
 ) -> Vec<yaml_tag_directive_t<A>, A> {
     match event_of(rt, alloc, line) {
         YAML_DOCUMENT_START_EVENT { tag_directives, .. } => tag_directives,
-        _ => Vec::new(alloc),
+        other => {
+            drop(other);
+            Vec::new(alloc)
+        }
     }
 }
 
@@ -80,8 +91,8 @@ const SIGNS: &[(char, &str)] = &[
 /// Returns a row, or a line of one, in the characters that it means.
 fn meant(rt: &impl Abort, alloc: Global, row: &str) -> String {
     let mut meant = joined(rt, alloc, &[row]);
-    for (sign, meaning) in SIGNS {
-        let next = meant.as_str().replace(alloc, *sign, meaning);
+    for sign in SIGNS {
+        let next = meant.as_str().replace(alloc, sign.0, sign.1);
         meant = next.expect(rt, "no memory");
     }
     meant

@@ -131,6 +131,7 @@ fn directives_are_refused_in_order(rt: HostRuntime) {
     for (line, answer) in DIRECTIVES {
         let given = directive(&rt, rt.alloc(), line);
         equal(&rt, &analyze_tag_directive(&given), answer);
+        drop(given);
     }
 }
 
@@ -139,10 +140,11 @@ type Given<'a> = (&'a str, bool, Answer, usize);
 
 // Directives are added, and so many are in force after each.
 fn check_given(rt: &impl Abort, alloc: Global, added: &mut Directives<Global>, rows: &[Given]) {
-    for (line, as_default, answer, count) in rows {
-        let given = directive(rt, alloc, line);
-        let got = added.append(&given, *as_default);
-        equal(rt, &(got, added.len()), &(*answer, *count));
+    for row in rows {
+        let given = directive(rt, alloc, row.0);
+        let answer = added.append(&given, row.1);
+        drop(given);
+        equal(rt, &(row.0, row.1, answer, added.len()), row);
     }
 }
 
@@ -180,6 +182,7 @@ fn a_handle_is_given_once(rt: HostRuntime) {
     check_given(&rt, alloc, &mut added, GIVEN);
     check_start(&rt, alloc, &added, IN_FORCE);
     check_alone(&rt, alloc, &mut added, SECOND);
+    drop(added);
 }
 
 /// A tag, the number of its directive, and the length of that one's prefix.
@@ -249,7 +252,9 @@ const CUTS: &[(&str, &[Cut])] = &[("+DOC 1 -", BY_DEFAULTS), (OWN, BY_OWN), (MAN
 #[test]
 fn tags_are_cut_at_the_first_prefix_of_a_documents_own_and_of_the_defaults(rt: HostRuntime) {
     for (start, rows) in CUTS {
-        check_cuts(&rt, &in_force(&rt, rt.alloc(), start), rows);
+        let directives = in_force(&rt, rt.alloc(), start);
+        check_cuts(&rt, &directives, rows);
+        drop(directives);
     }
 }
 
@@ -270,6 +275,7 @@ fn a_handle_is_given_once_among_many(rt: HostRuntime) {
     append_all(&rt, alloc, &mut added, (MANY, false));
     check_given(&rt, alloc, &mut added, GIVEN_AGAIN);
     check_alone(&rt, alloc, &mut added, r#"+DOC 1 - "!8!" "t:a""#);
+    drop(added);
 }
 
 type Heap = Refusing<Global>;
@@ -314,6 +320,7 @@ fn make_and_add<A: Allocator + Copy>(rt: &impl Abort, heap: &Heap, alloc: A, num
     let given = directives(rt, alloc, ADDED);
     let mut added = Directives::new(alloc);
     add_refused(rt, heap, &mut added, given.as_slice(), number);
+    drop(added);
 }
 
 // Answers whether there is that growth.

@@ -157,6 +157,7 @@ fn check_calls(rt: &impl Abort, alloc: Global, row: &Written) {
     equal(rt, &write_line(&mut pen), &Ok(LINE));
     equal(rt, &end_line(&mut pen), &Ok(((3, false, false), 0)));
     check_flushed(rt, &mut pen, row.1);
+    drop(pen);
 }
 
 const CALLS: &[Written] = &[
@@ -209,6 +210,7 @@ fn line_breaks_are_those_of_the_setting(rt: HostRuntime) {
     equal(&rt, &write_breaks(&mut pen), &Ok(()));
     equal(&rt, &write_indicators(&mut pen), &Ok(()));
     check_flushed(&rt, &mut pen, b"a\r\n\r\n\r-b c");
+    drop(pen);
 }
 
 // After a refusal each call answers that error, a run too, and nothing more is flushed.
@@ -248,6 +250,7 @@ fn check_limit(rt: &impl Abort, alloc: Global, row: &Written, limit: usize) {
         Some(cut) if limit < row.1.len() => check_cut(rt, alloc, &mut pen, cut),
         _ => check_flushed(rt, &mut pen, row.1),
     }
+    drop(pen);
 }
 
 const FACES: &[Written] = &[
@@ -349,6 +352,7 @@ fn check_parts(rt: &impl Abort, alloc: Global, text: Text, row: &Cycle, ahead: u
     equal(rt, &pen.flush(), &Ok(()));
     let start = start_of(row.0, usize::from(ahead));
     check_bytes(rt, pen.output(), start, 100_010, row.1);
+    drop(pen);
 }
 
 const CYCLES: &[Cycle] = &[

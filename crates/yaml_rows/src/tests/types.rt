@@ -1,14 +1,14 @@
 //! Refusals, classes of characters, and documents.
 mod documents;
 
-use super::{check_words, equal};
+use super::{check_words, equal, same_values};
 use std::alloc::Global;
 use yaml_base::*;
 
 #[test]
 fn the_default_event_is_the_end_of_a_stream(rt: HostRuntime) {
     let end: yaml_event_t<Global> = YAML_STREAM_END_EVENT;
-    equal(&rt, &Default::default(), &end);
+    same_values(&rt, Default::default(), end);
 }
 
 /// An error, its kind, what is wrong, and its words.
@@ -50,10 +50,10 @@ const REFUSALS: &[Refusal] = &[
 
 #[test]
 fn refusals_have_their_words(rt: HostRuntime) {
-    for (error, kind, problem, words) in REFUSALS {
-        let got = (*error, error.kind(), error.problem());
-        equal(&rt, &got, &(*error, *kind, *problem));
-        check_words(&rt, rt.alloc(), error, words);
+    for row in REFUSALS {
+        let got = (row.0, row.0.kind(), row.0.problem(), row.3);
+        equal(&rt, &got, row);
+        check_words(&rt, rt.alloc(), &row.0, row.3);
     }
 }
 

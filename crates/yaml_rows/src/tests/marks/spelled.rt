@@ -88,7 +88,9 @@ fn check_tags(rt: &impl Abort, alloc: Global, start: &str, rows: &[Tag]) {
         let answer = write_tag(&mut pen, row.0, &directives);
         equal_at(rt, row.0, &answer, &Ok(()));
         check_flushed(rt, &mut pen, row.1.as_bytes());
+        drop(pen);
     }
+    drop(directives);
 }
 
 const SPELLED: &[Tag] = &[
@@ -161,6 +163,7 @@ fn check_character(rt: &impl Abort, alloc: Global, character: char) {
     let answer = write_tag_content(&mut pen, text, false);
     equal_at(rt, text, &answer, &Ok(()));
     check_flushed(rt, &mut pen, wanted.as_bytes());
+    drop(pen);
 }
 
 // Each character up to U+00FF, and the first and last of each longer form of UTF-8.
@@ -190,6 +193,7 @@ fn a_directive_line_is_separated(rt: HostRuntime) {
     equal(&rt, &(pen.whitespace(), pen.indention()), &(false, false));
     equal(&rt, &answer, &Ok(()));
     check_flushed(&rt, &mut pen, "%TAG !e! %21x".as_bytes());
+    drop(pen);
 }
 
 // A text as a prefix, and then as what stands after a handle.
@@ -220,5 +224,6 @@ fn prefixes_and_suffixes_are_portable_where_asked(rt: HostRuntime) {
         let answer = write_ends(&mut pen, row.0, row.1);
         equal_at(&rt, row.0, &answer, &Ok(()));
         check_flushed(&rt, &mut pen, row.2.as_bytes());
+        drop(pen);
     }
 }

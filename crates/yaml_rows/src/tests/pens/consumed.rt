@@ -59,6 +59,7 @@ fn what_is_consumed_is_taken(rt: HostRuntime) {
     check_letter(&rt, &mut pen, b'e', Err(yaml_error_t::WriteError), b"d");
     consume(&rt, &mut pen);
     equal(&rt, &pen.error(), &Some(yaml_error_t::WriteError));
+    drop(pen);
 }
 
 fn consume_letters<A: Allocator>(rt: &impl Abort, pen: &mut Pen<A>)
@@ -79,6 +80,7 @@ fn consume_parts<A: Allocator + Copy>(rt: &impl Abort, alloc: A) {
     consume_letters(rt, &mut pen);
     consume_letters(rt, &mut pen);
     consume_letters(rt, &mut pen);
+    drop(pen);
 }
 
 // The pen's own growth and that of the first part are all.

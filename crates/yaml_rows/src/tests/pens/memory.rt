@@ -52,6 +52,7 @@ fn check_text<A: Allocator>(rt: &impl Abort, alloc: Global, pen: &mut Pen<A>, ro
 fn check_pen<A: Allocator + Copy>(rt: &impl Abort, alloc: Global, heap: A, row: &Row) {
     let mut pen = made(rt, heap, usize::MAX, YAML_UTF8_ENCODING);
     check_text(rt, alloc, &mut pen, row);
+    drop(pen);
 }
 
 fn check_growth(rt: &impl Abort, alloc: Global, row: &Row) {

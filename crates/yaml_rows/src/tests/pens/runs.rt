@@ -16,6 +16,7 @@ fn check_run(rt: &impl Abort, alloc: Global, limit: usize) {
     if limit < 50_000 {
         check_stopped(rt, alloc, &mut pen, yaml_error_t::WriteError);
     }
+    drop(pen);
 }
 
 const LIMITS: &[usize] = &[0, 1, 16_383, 16_384, 16_385, 33_333, 49_999, 50_000];

@@ -62,6 +62,7 @@ fn check_item(rt: &impl Abort, alloc: Global, row: &Item) {
     equal(rt, &answer, &Ok(()));
     write_scalars(rt, &mut pen, row.1, row.3);
     check_flushed(rt, &mut pen, row.4.as_bytes());
+    drop(pen);
 }
 
 const LAYOUT: Layout = Layout {
@@ -218,5 +219,6 @@ fn hints_stand_alone(rt: HostRuntime) {
         let mut pen = begun(&rt, rt.alloc());
         equal_at(&rt, row.0, &write_header(&mut pen, row), &Ok(row.3));
         check_flushed(&rt, &mut pen, row.2.as_bytes());
+        drop(pen);
     }
 }

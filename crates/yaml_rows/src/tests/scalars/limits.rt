@@ -68,6 +68,7 @@ fn check_limit(rt: &impl Abort, alloc: Global, limit: usize, row: &Text) {
         Some(cut) if limit < row.2.len() => check_stopped(rt, &mut pen, cut),
         _ => check_flushed(rt, &mut pen, row.2.as_bytes()),
     }
+    drop(pen);
 }
 
 const TEXTS: &[Text] = &[

@@ -36,6 +36,7 @@ fn check_value(
             let state = if text.contains('+') { 2 } else { 0 };
             equal_at(rt, value, &answer, &Ok(state));
             check_flushed(rt, &mut pen, text.as_bytes());
+            drop(pen);
         }
         Err(error) => equal(rt, &Some(error), &None),
     }
@@ -44,12 +45,14 @@ fn check_value(
 fn check_root(rt: &impl Abort, alloc: Global, layout: &Layout, row: &str) {
     let row = meant(rt, alloc, row);
     let (line, text) = row.as_str().split_once(" |").expect(rt, "a text");
-    match event_of(rt, alloc, line) {
+    let event = event_of(rt, alloc, line);
+    match &event {
         YAML_SCALAR_EVENT { value, style, .. } => {
-            check_value(rt, alloc, layout, (style, value.as_str()), text)
+            check_value(rt, alloc, layout, (*style, value.as_str()), text)
         }
         _ => equal(rt, &line, &"a scalar"),
     }
+    drop(event);
 }
 
 const NO_WIDTH: i32 = i32::MAX;
