@@ -30,13 +30,16 @@ fn check_reported(rt: &impl Abort, alloc: Global, answer: anyhow::Result<()>, wo
         Ok(()) => same(rt, b"", words.as_bytes()),
         Err(error) => {
             check_words(rt, alloc, &error, words);
+            drop(error);
         }
     }
 }
 
 #[test]
 fn a_caller_passes_errors_on(rt: HostRuntime) {
-    let refused = emit_the_end(&rt, &mut made(&rt, rt.alloc(), &HUNDRED));
+    let mut emitter = made(&rt, rt.alloc(), &HUNDRED);
+    let refused = emit_the_end(&rt, &mut emitter);
+    drop(emitter);
     check_reported(&rt, rt.alloc(), refused, "expected STREAM-START");
     let numbered = outside(NodeNumber(-7));
     check_reported(&rt, rt.alloc(), numbered, "no node has the number -7");

@@ -1,7 +1,7 @@
 //! Documents composed of events, and lists of events that no document has.
 use super::Given::{Mapping, Sequence, Text};
 use super::{Given, document};
-use crate::tests::{check_words, equal, event_of};
+use crate::tests::{check_words, equal, event_of, same_values};
 use std::alloc::Global;
 use std::process::Abort;
 use yaml_base::{yaml_event_t, yaml_node_pair_t};
@@ -78,9 +78,8 @@ const HOLDS_ITSELF: (&[&str], &[Given]) = (
 
 fn check_composed(rt: &impl Abort, alloc: Global, lines: &[&str], given: &[Given]) {
     let events = events_of_lines(rt, alloc, lines);
-    let wanted = document(rt, alloc, given);
     let composed = document_of_events(alloc, events.as_slice()).expect(rt, "a document");
-    equal(rt, &composed, &wanted);
+    same_values(rt, composed, document(rt, alloc, given));
 }
 
 #[test]

@@ -12,12 +12,14 @@ use yaml_tool::read_script;
 type Events = Vec<yaml_event_t<Global>>;
 
 // The events of a document.
-pub(super) fn events_of(rt: &impl Abort, alloc: Global, graph: &yaml_document_t<Global>) -> Events {
-    document_events(alloc, graph).expect(rt, "no memory")
+pub(super) fn events_of(rt: &impl Abort, alloc: Global, graph: yaml_document_t<Global>) -> Events {
+    let events = document_events(alloc, &graph).expect(rt, "no memory");
+    drop(graph);
+    events
 }
 
 // The document has the events of these lines of a script.
-fn check_events(rt: &impl Abort, alloc: Global, graph: &yaml_document_t<Global>, lines: &str) {
+fn check_events(rt: &impl Abort, alloc: Global, graph: yaml_document_t<Global>, lines: &str) {
     let events = events_of(rt, alloc, graph);
     let script = read_script(alloc, lines.as_bytes()).expect(rt, "lines");
     equal(rt, &events.len(), &script.events.len());
@@ -76,7 +78,7 @@ const GRAPHS: &[(&[Given], &str)] = &[
 fn nodes_are_met_from_the_root_in_their_order(rt: HostRuntime) {
     for (given, lines) in GRAPHS {
         let graph = document(&rt, rt.alloc(), given);
-        check_events(&rt, rt.alloc(), &graph, lines);
+        check_events(&rt, rt.alloc(), graph, lines);
     }
 }
 
@@ -97,7 +99,7 @@ const TAGGED_EVENTS: &str = r#"+DOC 0 1.1 "!e!" "tag:e,2026:"
 #[test]
 fn tags_styles_and_directives_are_copied(rt: HostRuntime) {
     let tagged = marked_document(&rt, rt.alloc(), TAGGED);
-    check_events(&rt, rt.alloc(), &tagged, TAGGED_EVENTS);
+    check_events(&rt, rt.alloc(), tagged, TAGGED_EVENTS);
 }
 
 /// Places, from 0 on, each with its event's line: the text behind 99,999 starts, the last of as many ends, and the document's end.
@@ -109,11 +111,12 @@ const DEEP: &[(usize, &str)] = &[
 
 // A text in sequences, each the one item of the one before.
 fn check_deep(rt: &impl Abort, alloc: Global, given: &[Given]) {
-    let events = events_of(rt, alloc, &document(rt, alloc, given));
+    let events = events_of(rt, alloc, document(rt, alloc, given));
     equal(rt, &events.len(), &200_001);
     for (place, line) in DEEP {
         let wanted = event_of(rt, alloc, line);
         equal(rt, &events.get(*place), &Some(&wanted));
+        drop(wanted);
     }
 }
 

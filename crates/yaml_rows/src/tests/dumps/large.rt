@@ -72,7 +72,7 @@ fn check_text<'a>(rt: &impl Abort, alloc: Global, given: &'a [Given<'a>], text: 
 
 // A document of these nodes has so many events.
 fn check_count(rt: &impl Abort, alloc: Global, given: &[Given], count: usize) {
-    let events = events_of(rt, alloc, &document(rt, alloc, given));
+    let events = events_of(rt, alloc, document(rt, alloc, given));
     equal(rt, &events.len(), &count);
 }
 

@@ -1,7 +1,6 @@
 //! Documents dumped: texts worked out by hand, and dumps in wrong moments.
 use super::Given;
 use super::Given::{Mapping, Sequence, Tagged, Text};
-use super::events::events_of;
 use super::steps::Step::{Close, Closed, Dump, End, Error, Open, Opened, Output, Start};
 use super::steps::{Row, Step, check_rows};
 use super::streams::{BIG, CUT, EMPTY, MARKED, ONE_BYTE};

@@ -222,7 +222,9 @@ fn give_line<A: Allocator + Copy>(
 ) -> Answer {
     let event = event_of(rt, alloc, line);
     if let (Some(growth), Some(content)) = (way, content_of(&event)) {
-        return give_refused(rt, heap, emitter, &content, growth);
+        let answer = give_refused(rt, heap, emitter, &content, growth);
+        drop(event);
+        return answer;
     }
     give(rt, emitter, event)
 }
@@ -234,9 +236,9 @@ fn check_lines<A: Allocator + Copy>(
     emitter: &mut yaml_emitter_t<A>,
     (row, way): (&Row, Way),
 ) {
-    for (line, held) in row.1 {
-        let answer = give_line(rt, heap, alloc, emitter, (line, way));
-        equal_at(rt, line, &(answer, emitter.held()), &(Ok(()), *held));
+    for line in row.1 {
+        let answer = give_line(rt, heap, alloc, emitter, (line.0, way));
+        equal_at(rt, line.0, &(answer, emitter.held()), &(Ok(()), line.1));
     }
     let (line, wanted) = row.2;
     let answer = give_line(rt, heap, alloc, emitter, (line, way));
@@ -256,6 +258,7 @@ fn check_row<A: Allocator + Copy>(
 ) {
     let mut emitter = made(rt, alloc, row.0);
     check_lines(rt, heap, alloc, &mut emitter, (row, way));
+    drop(emitter);
 }
 
 #[test]

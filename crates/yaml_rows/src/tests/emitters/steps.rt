@@ -200,7 +200,10 @@ fn make_and_take<A: Allocator + Copy, S: Taken>(
     steps: &[S],
 ) {
     match begun(alloc, settings) {
-        Ok(mut emitter) => take_steps(rt, heap, alloc, &mut emitter, steps),
+        Ok(mut emitter) => {
+            take_steps(rt, heap, alloc, &mut emitter, steps);
+            drop(emitter);
+        }
         Err(error) => check_answer(rt, heap, Err(error), Ok(())),
     }
 }

@@ -182,7 +182,10 @@ fn check_script<A: Allocator + Copy>(
     script: Script<A>,
 ) {
     match begun(alloc, &script.settings) {
-        Ok(mut emitter) => check_events(rt, walk, &mut emitter, script.events),
+        Ok(mut emitter) => {
+            check_events(rt, walk, &mut emitter, script.events);
+            drop(emitter);
+        }
         Err(error) => equal(rt, &(walk.heap.left(), error), &(0, yaml_error_t::Memory)),
     }
 }

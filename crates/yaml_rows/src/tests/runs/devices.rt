@@ -154,10 +154,12 @@ fn check_interrupted(
         room,
         taken: Vec::new(alloc),
     };
-    let error = match write_to_sink(&mut writer, b"---") {
+    let answer = write_to_sink(&mut writer, b"---");
+    let error = match &answer {
         Ok(()) => None,
         Err(error) => Some(error.kind()),
     };
+    drop(answer);
     let got = (room, error, writer.taken.as_slice());
     equal(rt, &got, &(room, failed, taken));
 }

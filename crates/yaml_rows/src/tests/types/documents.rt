@@ -35,6 +35,7 @@ fn a_document_gives_back_what_it_was_handed(rt: HostRuntime) {
     let document = marked_document(&rt, rt.alloc(), SEQUENCES);
     check_settings(&rt, &document);
     check_nodes(&rt, rt.alloc(), &document);
+    drop(document);
 }
 
 /// Nodes, and the first of their numbers that names none: of two nodes, and of one.
