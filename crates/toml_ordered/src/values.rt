@@ -74,6 +74,7 @@ fn array(alloc: Global, s: &str, depth: usize) -> Result<(Vec<Node>, &str), Faul
 
 /// Reads the rest of a table in braces.
 #[cycle(value)]
+#[inline(never)]
 fn braces(alloc: Global, s: &str, depth: usize) -> Result<(Nodes, &str), Fault>
     ensures value { (n : ℕ) → length s.now < n → ParsesPrefixTo (λ found. entries_view found.items) result (spec.members (spec.val depth) n no_nodes s.now) }
     ensures shorter { Shortens s.now result }
@@ -105,6 +106,7 @@ fn braces(alloc: Global, s: &str, depth: usize) -> Result<(Nodes, &str), Fault>
 }
 
 /// Defines a pair of a table in braces.
+#[inline(never)]
 fn put(
     alloc: Global,
     table: &mut OpenTable,
@@ -161,6 +163,7 @@ pub(crate) fn key_and_equals(alloc: Global, s: &str) -> Result<(Key, &str), Faul
 }
 
 /// Reads a string or a scalar.
+#[inline(never)]
 fn atom(alloc: Global, s: &str) -> Result<(Node, &str), Fault>
     ensures value { ParsesPrefixTo node_view result (spec.atom s.now) }
     ensures shorter { Shortens s.now result }
