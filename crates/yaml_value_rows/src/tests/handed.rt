@@ -10,7 +10,8 @@ use yaml_writer::YAML_BLOCK_SEQUENCE_STYLE;
 
 /// Returns the kind of a sink's error; nothing where it fails otherwise, or the value is written.
 fn sink_failure<T: Serialize>(alloc: Global, room: usize, value: &T) -> Option<io::ErrorKind> {
-    match sink_of(alloc, room, value) {
+    let answer = sink_of(alloc, room, value);
+    let kind = match &answer {
         Err(
             Error {
                 cause: Cause::Sink(error),
@@ -18,7 +19,9 @@ fn sink_failure<T: Serialize>(alloc: Global, room: usize, value: &T) -> Option<i
             },
         ) => Some(error.kind()),
         _ => None,
-    }
+    };
+    drop(answer);
+    kind
 }
 
 #[test]
@@ -39,13 +42,15 @@ fn bytes_are_handed_on_while_a_value_is_written(rt: HostRuntime) {
         taken: Vec::new(alloc),
         room: usize::MAX,
     };
+    let answer = to_writer(alloc, &mut sink, &ByHand::Lines(10_000));
     let is_custom = matches!(
-        to_writer(alloc, &mut sink, &ByHand::Lines(10_000)),
+        &answer,
         Err(Error {
             cause: Cause::Custom(_),
             ..
         })
     );
+    drop(answer);
     equal(&rt, &(is_custom, sink.taken.len() >= 60_000), &(true, true));
 }
 
@@ -57,7 +62,9 @@ fn check_given<T: Serialize>(
     value: &T,
     is_done: &bool,
 ) {
-    equal(rt, &write(alloc, writer, value).is_ok(), is_done);
+    let answer = write(alloc, writer, value);
+    equal(rt, &answer.is_ok(), is_done);
+    drop(answer);
 }
 
 /// Begins a sequence whose first item has a tag.
@@ -106,4 +113,5 @@ fn a_value_ends_only_what_it_began(rt: HostRuntime) {
     check_given(&rt, rt.alloc(), &mut refused, &ByHand::Deaf, &false);
     let error = Some(yaml_error_t::ExpectedDocumentEnd);
     equal(&rt, &refused.error(), &error);
+    drop(refused);
 }

@@ -34,20 +34,26 @@ fn check_text<T: Serialize>(rt: &impl Abort, alloc: Global, value: &T, expected:
     same(rt, sink.taken.as_slice(), expected);
 }
 
-/// Checks that the value is refused with these words.
-pub(super) fn check_refused<T: Serialize>(rt: &impl Abort, alloc: Global, value: &T, wanted: &str) {
-    let error = yaml_of(alloc, value).err().expect(rt, "an error");
+/// Checks that there is an error, with these words.
+pub(super) fn check_error(rt: &impl Abort, alloc: Global, error: Option<Error>, wanted: &str) {
+    let error = error.expect(rt, "an error");
     let words = error.to_string(alloc).expect(rt, "no memory");
     equal(rt, &words.as_str(), &wanted);
+    drop(error);
+}
+
+/// Checks that the value is refused with these words.
+pub(super) fn check_refused<T: Serialize>(rt: &impl Abort, alloc: Global, value: &T, wanted: &str) {
+    check_error(rt, alloc, yaml_of(alloc, value).err(), wanted);
 }
 
 #[derive(Drop, Serialize)]
-pub(super) struct Server<'a> {
-    name: &'a str,
+pub(super) struct Server {
+    name: &'static str,
     ports: Vec<u16>,
 }
 
-pub(super) fn alpha(alloc: Global) -> Result<Server<'static>, AllocError> {
+pub(super) fn alpha(alloc: Global) -> Result<Server, AllocError> {
     Ok(Server {
         name: "alpha",
         ports: vec![in alloc; 80, 443]?,
@@ -55,13 +61,13 @@ pub(super) fn alpha(alloc: Global) -> Result<Server<'static>, AllocError> {
 }
 
 #[derive(Drop, Serialize)]
-pub(super) struct Limits<'a> {
+pub(super) struct Limits {
     limit: Option<u32>,
     backup: Option<bool>,
-    weights: (i8, &'a str),
+    weights: (i8, &'static str),
 }
 
-pub(super) const LIMITS: Limits<'static> = Limits {
+pub(super) const LIMITS: Limits = Limits {
     limit: None,
     backup: Some(false),
     weights: (-1, "yes"),
@@ -132,9 +138,9 @@ fn integers_have_up_to_128_bits(rt: HostRuntime) {
 
 /// An example that is serialized by hand.
 #[derive(Drop)]
-pub(super) enum ByHand<'a> {
+pub(super) enum ByHand {
     /// Bytes as they are, where std's types are sequences.
-    Raw(&'a [u8]),
+    Raw(&'static [u8]),
     /// The name of a variant with data, and no data.
     Name,
     /// So many values, and then a complaint or none.
@@ -189,9 +195,9 @@ fn give_deaf<S: Serializer>(out: &mut S) -> Result<(), S::Error> {
     Ok(())
 }
 
-impl Described for ByHand<'_> {}
+impl Described for ByHand {}
 
-impl Serialize for ByHand<'_> {
+impl Serialize for ByHand {
     fn serialize<S: Serializer>(&self, out: &mut S) -> Result<(), S::Error> {
         match self {
             ByHand::Raw(bytes) => out.bytes(bytes),
@@ -281,12 +287,21 @@ struct Inner {
 
 #[derive(Drop, Serialize)]
 #[serde(rename_all = "camelCase")]
-struct Outer {
-    first_name: u8,
+pub(super) struct Outer<T> {
+    first_name: T,
     #[serde(flatten)]
     inner: Inner,
     #[serde(flatten)]
     none: Option<Inner>,
+}
+
+/// Returns a struct of this name, of another struct's member, and of none.
+pub(super) fn named<T>(first_name: T) -> Outer<T> {
+    Outer {
+        first_name,
+        inner: Inner { depth: 2 },
+        none: None,
+    }
 }
 
 #[derive(Drop, Serialize)]
@@ -297,12 +312,8 @@ pub(super) struct Wrong {
 
 #[test]
 fn flattened_members_go_into_the_map_around_them(rt: HostRuntime) {
-    let outer = Outer {
-        first_name: 1,
-        inner: Inner { depth: 2 },
-        none: None,
-    };
-    check_text(&rt, rt.alloc(), &outer, "---\nfirstName: 1\ndepth: 2\n");
+    let text = "---\nfirstName: 1\ndepth: 2\n";
+    check_text(&rt, rt.alloc(), &named(1u8), text);
     let words = "a flattened value is neither a struct nor a map";
     check_refused(&rt, rt.alloc(), &Wrong { number: 1 }, words);
 }

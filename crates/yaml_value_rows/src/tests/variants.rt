@@ -1,6 +1,6 @@
 //! Variants with data as mappings of one key, against YAML written by hand.
-use crate::tests::serialized::{ByHand, Color, Holder, Label, Shape, map_of};
-use crate::tests::{Narrow, answers, equal, finished, same};
+use crate::tests::serialized::{ByHand, Color, Holder, Label, Shape, check_error, map_of};
+use crate::tests::{Narrow, answers, finished, same};
 use serde::Serialize;
 use std::alloc::Global;
 use std::process::Abort;
@@ -85,7 +85,11 @@ fn data_may_have_a_tag(rt: HostRuntime) {
 /// Gives a value to a writer. (Tests need none of the clauses of the call.)
 fn give(alloc: Global, value: &Shape) -> Result<Vec<u8>, yaml_error_t> {
     let mut writer = Writer::new(alloc, value_settings())?;
-    if write_with(alloc, one_key_map(), &mut writer, value).is_err() {
+    let answer = write_with(alloc, one_key_map(), &mut writer, value);
+    let is_refused = answer.is_err();
+    drop(answer);
+    if is_refused {
+        drop(writer);
         return Err(yaml_error_t::ExpectedNode);
     }
     finished(writer)
@@ -101,8 +105,6 @@ fn a_variant_is_a_node_of_a_writer(rt: HostRuntime) {
 #[test]
 fn a_name_alone_is_refused(rt: HostRuntime) {
     let alloc = rt.alloc();
-    let error = bytes_of(alloc, &ByHand::Name).err().expect(&rt, "an error");
-    let words = error.to_string(alloc).expect(&rt, "no memory");
     let wanted = "expected SCALAR, SEQUENCE-START, MAPPING-START, or ALIAS";
-    equal(&rt, &words.as_str(), &wanted);
+    check_error(&rt, alloc, bytes_of(alloc, &ByHand::Name).err(), wanted);
 }
