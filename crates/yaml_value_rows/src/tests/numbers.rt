@@ -49,6 +49,7 @@ fn check_spelling(rt: &impl Abort, alloc: Global, row: &Row) {
         &(row.0, is_changed, found),
         &(row.0, is_another(row), wanted),
     );
+    drop(spelling);
 }
 
 const NUMBERS: &[Row] = &[

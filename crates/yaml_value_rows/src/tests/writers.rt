@@ -193,6 +193,7 @@ fn give_all(
 fn check_table(rt: &impl Abort, alloc: Global, settings: Settings, table: &Table) {
     let mut writer = writer(rt, alloc, settings);
     give_all(rt, alloc, settings, &mut writer, table);
+    drop(writer);
 }
 
 const WRITTEN: &[Table] = &[

@@ -197,12 +197,15 @@ fn check_circle(
 
 #[test]
 fn a_node_met_twice_has_an_anchor(rt: HostRuntime) {
-    let events = document_events(rt.alloc(), &circle(&rt, rt.alloc()));
+    let circle = circle(&rt, rt.alloc());
+    let events = document_events(rt.alloc(), &circle);
     equal(&rt, &events.expect(&rt, "no memory").len(), &6);
+    drop(circle);
     let empty = document_of(rt.alloc(), Vec::new(rt.alloc()));
     let mut emitter = emitter_with_output(&rt, rt.alloc());
     let empty = empty.expect(&rt, "there are no numbers");
     check_circle(&rt, rt.alloc(), &mut emitter, empty);
+    drop(emitter);
 }
 
 /// Checks that a document's nodes follow the start of a stream.
@@ -220,6 +223,7 @@ fn check_bare(rt: &impl Abort, alloc: Global, emitter: &mut yaml_emitter_t<Globa
 fn nodes_follow_a_stream_start(rt: HostRuntime) {
     let mut emitter = emitter_with_output(&rt, rt.alloc());
     check_bare(&rt, rt.alloc(), &mut emitter);
+    drop(emitter);
 }
 
 /// Returns how the call ends, and whether the stream is then closed.
@@ -241,6 +245,8 @@ fn check_opened(rt: &impl Abort, emitter: &mut yaml_emitter_t<Global>)
 fn an_open_stream_is_closed(rt: HostRuntime) {
     let mut emitter = yaml_emitter_initialize(rt.alloc()).expect(&rt, "no memory");
     equal(&rt, &closed(&mut emitter), &(Ok(()), false));
+    drop(emitter);
     let mut emitter = emitter_with_output(&rt, rt.alloc());
     check_opened(&rt, &mut emitter);
+    drop(emitter);
 }

@@ -220,6 +220,7 @@ fn check_stream(rt: &impl Abort, alloc: Global, steps: &[Step]) {
     for step in steps {
         check_step(rt, alloc, &mut emitter, &mut sent, step);
     }
+    drop(emitter);
 }
 
 /// Bytes appear at a document's end. Until then the sequence's start is queued: it awaits one more event.
@@ -288,4 +289,5 @@ fn the_first_error_is_sticky(rt: HostRuntime) {
     let mut emitter = emitter_with_output(&rt, rt.alloc());
     check_refused(&rt, rt.alloc(), &mut emitter, "close");
     check_refused(&rt, rt.alloc(), &mut emitter, "stream");
+    drop(emitter);
 }

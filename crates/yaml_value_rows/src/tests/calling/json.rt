@@ -31,8 +31,9 @@ fn send_texts<R: Read, W: Write>(
 fn texts_are_sent_one_by_one(rt: HostRuntime) {
     let mut sink: Vec<u8> = Vec::new(rt.alloc());
     let mut reader = b"{\"a\": 1} \"no\"".as_slice();
-    let is_sent = send_texts(rt.alloc(), &mut reader, &mut sink).is_ok();
-    equal(&rt, &is_sent, &true);
+    let answer = send_texts(rt.alloc(), &mut reader, &mut sink);
+    equal(&rt, &answer.is_ok(), &true);
+    drop(answer);
     same(&rt, sink.as_slice(), "---\na: 1\n--- 'no'\n");
 }
 

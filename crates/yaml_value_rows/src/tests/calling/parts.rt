@@ -54,6 +54,8 @@ fn a_tag_is_cut_after_its_prefix(rt: HostRuntime) {
     equal(&rt, &directives.append(&directive, false).is_ok(), &true);
     let cut = analyze_tag("tag:e.com,2000:note", &directives).expect(&rt, "a tag");
     equal(&rt, &(cut.directive, cut.prefix_length), &(Some(0), 15));
+    drop(directives);
+    drop(directive);
     let refused = analyze_anchor("a b", false);
     equal(&rt, &refused, &Err(yaml_error_t::AnchorAlphabet));
 }

@@ -91,7 +91,9 @@ fn json_values_are_documents(rt: HostRuntime) {
         json(&rt, alloc, "\"a\""),
     ];
     let mut sink = Vec::new(alloc);
-    let is_sent = send_each(alloc, &values, &mut sink).is_ok();
-    equal(&rt, &is_sent, &true);
+    let answer = send_each(alloc, &values, &mut sink);
+    equal(&rt, &answer.is_ok(), &true);
+    drop(answer);
+    drop(values);
     same(&rt, sink.as_slice(), "---\n'no':\n  - 1\n  - null\n--- a\n");
 }

@@ -1,5 +1,5 @@
 //! TOML, written as YAML.
-use crate::tests::equal;
+use crate::tests::same;
 use std::alloc::Global;
 use yaml_toml::{TomlError, TomlSettings, yaml_from_toml};
 
@@ -10,12 +10,8 @@ fn yaml_of_toml(alloc: Global, text: &str) -> Result<Vec<u8>, TomlError> {
 
 #[test]
 fn a_document_is_written(rt: HostRuntime) {
-    match yaml_of_toml(rt.alloc(), "name = \"no\"\n[size]\nwidth = 0x10\n") {
-        Ok(bytes) => equal(
-            &rt,
-            &bytes.as_slice(),
-            &b"---\nname: 'no'\nsize:\n  width: 16\n".as_slice(),
-        ),
-        Err(_) => equal(&rt, &false, &true),
-    }
+    let text = "name = \"no\"\n[size]\nwidth = 0x10\n";
+    let bytes = yaml_of_toml(rt.alloc(), text).ok().expect(&rt, "TOML");
+    let expected = "---\nname: 'no'\nsize:\n  width: 16\n";
+    same(&rt, bytes.as_slice(), expected);
 }

@@ -47,6 +47,7 @@ fn a_map_has_a_list(rt: HostRuntime) {
     let expected =
         "---\n!!map {\n  ? !!str \"b\"\n  : !!seq [\n    !!int \"5\",\n    !!str \"a\",\n  ],\n}\n";
     answers(&rt, write_canonical(alloc, &map), &Ok(expected));
+    drop(map);
 }
 
 #[test]
@@ -54,4 +55,6 @@ fn a_value_has_one_form(rt: HostRuntime) {
     let list = list_of(rt.alloc(), 5, "a").expect(&rt, "no memory");
     let other = list_of(rt.alloc(), 5, "5").expect(&rt, "no memory");
     check_forms(&rt, rt.alloc(), &list, &other);
+    drop(list);
+    drop(other);
 }
