@@ -1,3 +1,4 @@
+pub mod StreamNoComment
 pub mod StreamRoots
 pub mod StreamEachDocument
 pub mod StreamRootsStand

@@ -38,6 +38,30 @@ streams : Gives (stream_trees false) ((
 unfolding chars is_utf8 encode_utf8
 streams = refl
 
+-- a heading, and no documents behind it
+headings_alone : Gives (stream_trees false) ((codes "# a\n", Some []) ∷ (codes "#", Some []) ∷ (codes "#\n#a\n\n", Some []) ∷ [])
+unfolding chars is_utf8 encode_utf8
+headings_alone = refl
+
+headings : Gives (stream_trees false) ((codes "# a\nb\n", only (bare_word (codes "b")))
+    ∷ (codes "#\n#a: b # c\n# - d\n- e\n", only (items (bare_word (codes "e") ∷ [])))  -- several lines
+    ∷ (codes "#\ta\r\n#b\r# c\r\n- |\r\n  # d\r\n", only (items (in_quotes (codes "# d\n") ∷ [])))  -- a tab, and each kind of break
+    ∷ (codes "# a\n--- b\n---\n- c\n", Some (document (bare_word (codes "b")) ∷ document (items (bare_word (codes "c") ∷ [])) ∷ []))
+    ∷ (
+      codes "# a\n%YAML 1.1\n--- b\n",
+      Some (record { version = Some (record { major = pos 1; minor = pos 1 }); directives = []; root = bare_word (codes "b") } ∷ []),
+    )
+    ∷ (0xFE ∷ 0xFF ∷ 0 ∷ 0x23 ∷ 0 ∷ 0x0A ∷ 0 ∷ 0x61 ∷ 0 ∷ 0x0A ∷ [], only (bare_word (codes "a")))  -- utf16
+    ∷ [])
+unfolding chars is_utf8 encode_utf8
+headings = refl
+
+-- under the rules of YAML 1.2 U+2028 doesn't end a line of a heading
+headings_over_separators : (stream_trees false (codes "# a" ++ 0xE2 ∷ 0x80 ∷ 0xA8 ∷ codes "b\n") ≡ only (bare_word (codes "b")))
+    × (stream_trees true (codes "# a" ++ 0xE2 ∷ 0x80 ∷ 0xA8 ∷ codes "b\n") ≡ Some [])
+unfolding chars is_utf8 encode_utf8
+headings_over_separators = (refl, refl)
+
 -- U+2028 breaks a line, and under the rules of YAML 1.2 it doesn't
 line_separators : (stream_trees false (codes "- a" ++ 0xE2 ∷ 0x80 ∷ 0xA8 ∷ codes "- b\n") ≡ only (items (bare_word (codes "a") ∷ bare_word (codes "b") ∷ [])))
     × (stream_trees true (codes "- a" ++ 0xE2 ∷ 0x80 ∷ 0xA8 ∷ codes "- b\n") ≡ only (items (bare_word (codes "a\u{2028}- b") ∷ [])))

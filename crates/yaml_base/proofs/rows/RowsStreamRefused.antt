@@ -62,7 +62,7 @@ flow = refl
 
 -- scalars: tabs, comments, characters that aren't printable, a quote without its end, text after it, a fold without its
 -- backslash loses the space, a break alone in single quotes is a space, a blank before a break, a line that isn't deep
-scalars : (reads_none (stream_trees false) (codes "a\tb\n" ∷ codes "a # b\n" ∷ codes "# a\n" ∷ codes "\"\u{7}\"\n" ∷ codes "\"a\n" ∷ codes "\"a\" b\n"
+scalars : (reads_none (stream_trees false) (codes "a\tb\n" ∷ codes "a # b\n" ∷ codes "a\n# b\n" ∷ codes "\"\u{7}\"\n" ∷ codes "\"a\n" ∷ codes "\"a\" b\n"
     ∷ codes "\"a \n  b\"\n" ∷ codes "- 'a\n\nb'\n" ∷ codes "\"a\nb\"\n" ∷ codes "[\"a\nb\"]\n" ∷ []) ≡ true)
     × (stream_trees false (codes "\"a\n   b\"\n") ≡ only (in_quotes (codes "a b")))
     × (stream_trees false (codes "'a\n  b'\n") ≡ only (in_quotes (codes "a b")))
@@ -80,3 +80,11 @@ streams : (reads_none (stream_trees false) (codes "\na\n" ∷ codes " a\n" ∷ c
     × (stream_trees false (codes "\n") ≡ Some [])
 unfolding chars is_utf8 encode_utf8
 streams = (refl, refl)
+
+-- comments that are no heading: behind a document, behind its end, indented, behind an empty line or a directive; an empty line behind a
+-- heading; in one a character that isn't printable, a marker before it or behind it
+comments : reads_none (stream_trees false) (codes "- a\n# b\n" ∷ codes "--- a\n...\n# b\n" ∷ codes " # a\nb\n" ∷ codes "\n# a\n" ∷ codes "# a\n\n# b\nc\n"
+    ∷ codes "%YAML 1.1\n# a\n--- b\n" ∷ codes "# a\n\nb\n" ∷ codes "# \u{7}\na\n" ∷ (0xEF ∷ 0xBB ∷ 0xBF ∷ codes "# a\nb\n")
+    ∷ (codes "# a\n" ++ 0xEF ∷ 0xBB ∷ 0xBF ∷ codes "b\n") ∷ []) ≡ true
+unfolding chars is_utf8 encode_utf8
+comments = refl

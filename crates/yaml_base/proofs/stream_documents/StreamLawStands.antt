@@ -122,10 +122,12 @@ pub stream_read_back : (given : Settings) (encoding : Option Encoding) (events :
     ≡ Some (document_trees (effective given encoding) accepted.stream.documents)
 stream_read_back given encoding events accepted portable stands =
     let s : Effective = effective given encoding in
-    trees_of_bytes given.breaks12 s.line_break (text_of (list_layout s events)) (bytes_written s (list_layout s events)) stands.shown stands.characters
-    ∙ ap (λ (pieces : List Piece). documents_of given.breaks12 (text_of pieces)) (stream_layout s events accepted.stream accepted.is_stream)
+    let text = text_of (list_layout s events) in
+    trees_of_bytes given.breaks12 s.line_break text (bytes_written s (list_layout s events)) (document_trees s accepted.stream.documents)
+    stands.shown stands.characters
+    (ap (λ (pieces : List Piece). documents_of given.breaks12 (text_of pieces)) (stream_layout s events accepted.stream accepted.is_stream)
     ∙ stream_reads s accepted.stream (indent_deep given.indent) stands.documents
-    (first_written s (documents_in_order accepted.stream.documents) (kept given.portable portable))
+    (first_written s (documents_in_order accepted.stream.documents) (kept given.portable portable)))
   where
     found : tree_of events ≡ Some accepted.stream
     found = ap tree_of (sym accepted.is_stream) ∙ tree_of-stream_events accepted.stream

@@ -1,8 +1,10 @@
 -- A text of printable characters and tabs, however its line breaks are written, is read as its documents.
-use Rattle.yaml_base.proofs.Common.{nat_tests, arith, ℕ, option_and_then, Some, Bool, true, List, [], ◌∷◌, refl, ◌≡◌, eqb-true, ap, ◌∙◌, and_parts, and_from}
-use Rattle.yaml_base.proofs.Common.{false≢true, list_all-append, list_all, Text, is_tidy_character, with_breaks_written, is_rendered_text, LineBreak}
+use Rattle.yaml_base.proofs.Common.{nat_tests, arith, ℕ, if◌then◌else◌, option_and_then, None, Some, Bool, true, List, [], ◌∷◌, refl, ◌≡◌, eqb-true, ap}
+use Rattle.yaml_base.proofs.Common.{◌∙◌, and_parts, and_from, false≢true, list_all-append, list_all, Text, is_tidy_character, with_breaks_written}
 use Rattle.yaml_base.{proofs.AllPass.all_pass, proofs.BreakLaws.breaks-round, specs.streams.StreamReader.may_stand_raw, specs.streams.StreamReader.text_trees}
-use Rattle.yaml_base.proofs.Common.{characters_read, documents_of, stream_trees, or_left, ScalarStyle, literal}
+use Rattle.yaml_base.proofs.Common.{with_line_breaks_read, is_rendered_text, LineBreak, characters_read, documents_of, stream_trees, or_left, ScalarStyle}
+use Rattle.yaml_base.proofs.Common.{literal, DocumentTree}
+use Rattle.yaml_base.{proofs.stream_documents.StreamNoComment.no_heading_dropped, specs.streams.StreamReader.without_heading}
 
 -- printable characters and tabs, which are those of literal text
 abbrev pub is_shown : ℕ → Bool
@@ -30,13 +32,17 @@ printable_raw setting (c ∷ rest) h =
     let parts = and_parts (is_shown c) (list_all is_shown rest) h in
     grind (arith, nat_tests, and_parts, list_all-append, and_from, false≢true, printable_raw setting rest parts.1)
 
--- such a text with its breaks written reads as the documents of the text
-pub trees_of_text : (breaks12 : Bool) (setting : LineBreak) (text : Text) → list_all is_shown text ≡ true
-    → text_trees breaks12 (with_breaks_written setting text) ≡ documents_of breaks12 text
-trees_of_text breaks12 setting text h = grind (arith, printable_raw, breaks-round, printable_rendered)
+-- such a text with its breaks written reads as the documents of the text, where it has some
+pub trees_of_text : (breaks12 : Bool) (setting : LineBreak) (text : Text) (documents : List DocumentTree) → list_all is_shown text ≡ true
+    → documents_of breaks12 text ≡ Some documents → text_trees breaks12 (with_breaks_written setting text) ≡ Some documents
+trees_of_text breaks12 setting text documents h is =
+    let read = λ (t : Text). documents_of breaks12 (without_heading breaks12 t) in
+    ap (λ (raw : Bool). if raw then read (with_line_breaks_read (with_breaks_written setting text)) else None) (printable_raw setting text h)
+    ∙ ap read (breaks-round setting text (printable_rendered text h)) ∙ ap (documents_of breaks12) (no_heading_dropped breaks12 text documents is) ∙ is
 
 -- so do its bytes, from which its characters are read
-pub trees_of_bytes : (breaks12 : Bool) (setting : LineBreak) (text : Text) (bytes : List ℕ) → list_all is_shown text ≡ true
-    → characters_read bytes ≡ Some (with_breaks_written setting text) → stream_trees breaks12 bytes ≡ documents_of breaks12 text
-trees_of_bytes breaks12 setting text bytes h read =
-    ap (option_and_then (text_trees breaks12)) read ∙ trees_of_text breaks12 setting text h
+pub trees_of_bytes : (breaks12 : Bool) (setting : LineBreak) (text : Text) (bytes : List ℕ) (documents : List DocumentTree) → list_all is_shown text ≡ true
+    → characters_read bytes ≡ Some (with_breaks_written setting text) → documents_of breaks12 text ≡ Some documents
+    → stream_trees breaks12 bytes ≡ Some documents
+trees_of_bytes breaks12 setting text bytes documents h read is =
+    ap (option_and_then (text_trees breaks12)) read ∙ trees_of_text breaks12 setting text documents h is

@@ -1,0 +1,127 @@
+-- A text that begins with `#` has no documents. So nothing is dropped of a text that has some.
+use Rattle.yaml_base.proofs.Common.{ℕ, suc, ◌==◌, ◌&&◌, if◌then◌else◌, nat_le, length, fold, is_some, option_and_then, option_map, option_or, Option, None}
+use Rattle.yaml_base.proofs.Common.{Some, Bool, false, true, List, [], ◌++◌, ◌∷◌, refl, ◌≡◌, ap, eqb-true, sym, ◌∙◌, Text, documents_of}
+use Rattle.yaml_base.proofs.Common.{documents_at_end, Line, lines_of, Section, sections_of, sections_read, DocumentTree, Rules, Tree, ends_indicator, marker_of}
+use Rattle.std.proofs.lemmas.Option.{none-some}
+use Rattle.yaml_base.specs.Event.{plain}
+use Rattle.yaml_base.specs.reading.{ReadPlain.read_plain, TidyText.is_tidy}
+use Rattle.yaml_base.specs.streams.StreamContent.{stood_plain}
+use Rattle.yaml_base.specs.streams.StreamDocuments.{MarkerKind, no_exclamation, no_heading, prepend_section, section_read, with_read_document}
+use Rattle.yaml_base.specs.streams.StreamFlow.{is_alias, longest_key}
+use Rattle.yaml_base.specs.streams.StreamLines.{all_blank, prepend_to_first_line, text_of_lines}
+use Rattle.yaml_base.specs.streams.StreamNodes.{SimpleKey, key_ends, key_from, key_of_text, node_read, node_by_kind, trimmed, without_last_space}
+use Rattle.yaml_base.specs.streams.StreamNodes.{begins_mapping, begins_properties, begins_text, text_or_properties, word_of_alias, word_but_alias}
+use Rattle.yaml_base.specs.streams.StreamReader.{after_comments, without_heading}
+use Rattle.yaml_base.specs.streams.StreamScalars.{Properties, no_properties, scalar_parsed, word_after}
+
+-- Words
+
+-- no plain scalar begins with `#`
+no_plain : (breaks12 : Bool) (rest : Text) → read_plain breaks12 false (0x23 ∷ rest) ≡ None
+no_plain breaks12 [] = refl
+no_plain breaks12 (c ∷ []) = refl
+no_plain breaks12 (c ∷ d ∷ rest) = refl
+
+no_scalar : (tidy : Bool) (rules : Rules) (properties : Properties) (rest : Text)
+    → scalar_parsed properties stood_plain (if tidy then read_plain rules.breaks12 false (0x23 ∷ rest) else None) ≡ None
+no_scalar true rules properties rest = ap (scalar_parsed properties stood_plain) (no_plain rules.breaks12 rest)
+no_scalar false rules properties rest = refl
+
+-- nor does any node's own text
+no_word : (rules : Rules) (column : Option ℕ) (properties : Properties) (rest : Text) → word_after rules false column properties (0x23 ∷ rest) ≡ None
+no_word rules column properties [] = no_scalar (is_tidy plain rules.breaks12 column (0x23 ∷ [])) rules properties []
+no_word rules column properties (c ∷ []) = no_scalar (is_tidy plain rules.breaks12 column (0x23 ∷ c ∷ [])) rules properties (c ∷ [])
+no_word rules column properties (c ∷ d ∷ rest) =
+    no_scalar (is_tidy plain rules.breaks12 column (0x23 ∷ c ∷ d ∷ rest)) rules properties (c ∷ d ∷ rest)
+
+-- Keys
+
+no_alias : (rules : Rules) (text : Option Text) → option_and_then (word_of_alias rules) (option_map (λ rest. 0x23 ∷ rest) text) ≡ None
+no_alias rules None = refl
+no_alias rules (Some rest) =
+    ap (option_and_then (λ tree. if is_alias tree then Some tree else None)) (no_word rules None no_properties rest)
+
+no_spaced_alias : (rules : Rules) (rest : Text) → option_and_then (word_of_alias rules) (without_last_space (0x23 ∷ rest)) ≡ None
+no_spaced_alias rules [] = refl
+no_spaced_alias rules (c ∷ rest) = no_alias rules (without_last_space (c ∷ rest))
+
+neither : (short : Bool) (one other : Option Tree) → one ≡ None → other ≡ None → (if short then option_or one other else None) ≡ None
+neither true one other first second = ap (λ found. option_or found other) first ∙ second
+neither false one other first second = refl
+
+no_key_text : (rules : Rules) (rest : Text) → key_of_text rules (0x23 ∷ rest) ≡ None
+no_key_text rules rest =
+    neither (nat_le (length (0x23 ∷ rest)) longest_key) (word_but_alias rules (0x23 ∷ rest))
+    (option_and_then (word_of_alias rules) (without_last_space (0x23 ∷ rest)))
+    (ap (option_and_then (λ tree. if is_alias tree then None else Some tree)) (no_word rules None no_properties rest))
+    (no_spaced_alias rules rest)
+
+no_key_ends : (ends : Bool) (rules : Rules) (rest after : Text) → key_ends rules ends (0x23 ∷ rest) after ≡ None
+no_key_ends true rules rest after =
+    ap (option_map (λ key. record { key = key; length = length (0x23 ∷ rest); after = after })) (no_key_text rules rest)
+no_key_ends false rules rest after = refl
+
+-- nor any simple key
+no_key : (rules : Rules) (before text : Text) → key_from rules (0x23 ∷ before) text ≡ None
+no_key rules before [] = refl
+no_key rules before (c ∷ rest) =
+    ap (λ found. option_or found (key_from rules (0x23 ∷ (before ++ c ∷ [])) rest)) (no_key_ends (c == 0x3A && ends_indicator rest) rules before rest)
+    ∙ no_key rules (before ++ c ∷ []) rest
+
+-- Documents
+
+stays : (breaks12 : Bool) (rest : Text) → trimmed breaks12 (0x23 ∷ rest) ≡ 0x23 ∷ trimmed breaks12 rest
+stays true rest = refl
+stays false rest = refl
+
+-- no node stands on lines of which the first begins so
+no_node : (depth : ℕ) (rules : Rules) (text ending : Text) (rest : List Line)
+    → node_read (suc depth) rules true None (record { text = 0x23 ∷ text; ending = ending } ∷ rest) ≡ None
+no_node depth rules text ending rest =
+    ap (λ (found : Option SimpleKey). node_by_kind (if is_some found then begins_mapping else begins_text) rules (node_read depth rules)
+    (λ at text. text_or_properties (begins_properties text) rules (node_read depth rules) None at text) no_properties true true
+    (record { column = 0; text = 0x23 ∷ text }) ending rest (record { text = 0x23 ∷ text; ending = ending } ∷ rest)) (no_key rules [] text)
+    ∙ ap (word_after rules false None no_properties) (stays rules.breaks12 (text ++ (ending ++ text_of_lines rest)))
+    ∙ no_word rules None no_properties (trimmed rules.breaks12 (text ++ (ending ++ text_of_lines rest)))
+
+no_marker : (text : Text) → marker_of (0x23 ∷ text) ≡ no_exclamation
+no_marker [] = refl
+no_marker (c ∷ []) = refl
+no_marker (c ∷ d ∷ rest) = refl
+
+none_goes_on : (depth : ℕ) (breaks12 : Bool) (sections : List Section) → fold (section_read depth breaks12) None sections ≡ None
+none_goes_on depth breaks12 [] = refl
+none_goes_on depth breaks12 (section ∷ rest) = none_goes_on depth breaks12 rest
+
+no_sections : (depth : ℕ) (breaks12 : Bool) (text ending : Text) (rest : List Line)
+    → sections_read (suc depth) breaks12 (sections_of (record { text = 0x23 ∷ text; ending = ending } ∷ rest)) ≡ None
+no_sections depth breaks12 text ending rest =
+    let line : Line = record { text = 0x23 ∷ text; ending = ending } in
+    let after = sections_of rest in
+    ap (λ (marker : MarkerKind). sections_read (suc depth) breaks12 (prepend_section marker line after)) (no_marker text)
+    ∙ ap (λ found. option_and_then documents_at_end (fold (section_read (suc depth) breaks12) (with_read_document [] no_heading found) after.sections))
+    (no_node depth (record { breaks12 = breaks12; directives = [] }) text ending after.before)
+    ∙ ap (option_and_then documents_at_end) (none_goes_on (suc depth) breaks12 after.sections)
+
+no_lines : (depth : ℕ) (breaks12 : Bool) (lines : List Line)
+    → (if all_blank (prepend_to_first_line 0x23 lines) then Some [] else sections_read (suc depth) breaks12 (sections_of (prepend_to_first_line 0x23 lines)))
+    ≡ None
+no_lines depth breaks12 [] = no_sections depth breaks12 [] [] []
+no_lines depth breaks12 (line ∷ rest) = no_sections depth breaks12 line.text line.ending rest
+
+-- a text that begins with `#` has no documents
+pub no_documents_behind : (breaks12 : Bool) (rest : Text) → documents_of breaks12 (0x23 ∷ rest) ≡ None
+no_documents_behind true rest = no_lines (length (0x23 ∷ rest)) true (lines_of true rest)
+no_documents_behind false rest = no_lines (length (0x23 ∷ rest)) false (lines_of false rest)
+
+-- so one that has some has no heading
+pub no_heading_dropped : (breaks12 : Bool) (text : Text) (documents : List DocumentTree) → documents_of breaks12 text ≡ Some documents
+    → without_heading breaks12 text ≡ text
+no_heading_dropped breaks12 [] documents is = refl
+no_heading_dropped breaks12 (c ∷ rest) documents is = by (c == 0x23) refl
+  where
+    by : (x : Bool) → (c == 0x23) ≡ x → (if x then after_comments breaks12 true rest else c ∷ rest) ≡ c ∷ rest
+    by true e =
+        absurd (none-some documents (sym (no_documents_behind breaks12 rest)
+        ∙ ap (λ first. documents_of breaks12 (first ∷ rest)) (sym (eqb-true c 0x23 e)) ∙ is))
+    by false e = refl
