@@ -1,34 +1,25 @@
 -- Headings are passed over; and they are written character by character.
-use Rattle.yaml_writer.proofs.Common.{ℕ, ◌==◌, if◌then◌else◌, codes, None, Bool, false, not, true, ◌&&◌, ◌||◌, List, [], ◌++◌, ◌∷◌, refl, ◌≡◌, append_assoc, ap}
-use Rattle.yaml_writer.proofs.Common.{sym, ◌∙◌, encode_utf8_all, Text, is_break}
+use Rattle.yaml_writer.proofs.Common.{ℕ, ◌==◌, if◌then◌else◌, codes, None, Bool, false, not, true, ◌&&◌, ◌||◌, List, [], ◌++◌, ◌∷◌, refl, ◌≡◌, and_from, append_assoc}
+use Rattle.yaml_writer.proofs.Common.{ap, arith, eqb-true, list_all, list_all-append, sym, ◌∙◌, encode_utf8_all, Text}
 use Rattle.std.specs.Prelude.{Some, IsUtf8, chars, encode_utf8, option_and_then}
-use Rattle.std.proofs.lemmas.Str.{IsUtf8-append, chars-append, chars_from_encodes, encodes-append, encodes-chars, is_utf8-from_IsUtf8, scalars-chars}
-use Rattle.yaml_base.proofs.Decoding.{text_bytes-utf8}
-use Rattle.yaml_base.specs.{Settings.utf8, streams.StreamReader.text_trees}
-use Rattle.yaml_base.specs.reading.ReadBytes.{characters_read, utf8_read}
-use Rattle.yaml_base.specs.Characters.{carriage_return, is_printable, line_feed, line_separator, next_line, paragraph_separator, space}
+use Rattle.std.proofs.lemmas.Str.{IsUtf8-append, chars-append, chars_from_encodes, encodes-append, encodes-chars, scalars-chars}
+use Rattle.yaml_base.proofs.{AllPass.all_pass, BreakLaws.rendered-cons, Decoding.text_bytes-utf8, stream_lines.StreamBytes.is_shown}
+use Rattle.yaml_base.proofs.{Common.and-false, Common.documents_of, Common.nat_tests, Common.literal, stream_lines.StreamBytes.tidy_rendered}
+use Rattle.yaml_base.specs.Settings.{utf8}
+use Rattle.yaml_base.specs.LineBreaks.{is_read_break, is_rendered_text, with_line_breaks_read}
+use Rattle.yaml_base.specs.reading.ReadBytes.{characters_read}
+use Rattle.yaml_base.specs.streams.StreamReader.{after_comments, may_stand_raw, text_trees, without_heading}
+use Rattle.yaml_base.specs.Characters.{is_break, is_printable, line_feed, space, tab}
 use Rattle.yaml_emitter.proofs.canonical.CanonicalBytes.{characters_back}
-use Rattle.yaml_writer.specs.Headings.{HeadingsArePassedOver, after_comments, begins_with_comment, comment_end, comment_lines, comment_start, commented}
-use Rattle.yaml_writer.specs.Headings.{commented_bytes, in_comment, spot_after, trees_behind_heading, utf8_trees_behind_heading}
+use Rattle.yaml_writer.specs.Headings.{HeadingsArePassedOver, comment_end, comment_lines, comment_start, commented, commented_bytes, in_comment, spot_after}
 use Rattle.yaml_writer.specs.declared.headings.LineSpot.{LineSpot}
 use Rattle.yaml_writer.specs.declared.headings.LineSpot.TheVariants.{Start, Within}
 
 -- ---- the lines that were written are passed over
 
-feed_breaks : (c : ℕ) → (c == line_feed) ≡ true → is_break c ≡ true
-feed_breaks c is =
-    ap (λ (b : Bool). b || c == carriage_return || c == next_line || c == line_separator || c == paragraph_separator) is
-
-breaks_by : (c : ℕ) (feed printable broken : Bool) → is_break c ≡ broken → (feed ≡ true → broken ≡ true)
-    → is_break (if feed || (printable && not broken) then c else space) ≡ feed
-breaks_by c true printable broken is of_feed = is ∙ of_feed refl
-breaks_by c false true true is of_feed = refl
-breaks_by c false true false is of_feed = is
-breaks_by c false false broken is of_feed = refl
-
 -- a character of a comment breaks its line where it is LF
-breaks_alike : (c : ℕ) → is_break (in_comment c) ≡ (c == line_feed)
-breaks_alike c = breaks_by c (c == line_feed) (is_printable c) (is_break c) refl (feed_breaks c)
+breaks_alike : (breaks12 : Bool) (c : ℕ) → is_read_break breaks12 (in_comment c) ≡ (c == line_feed)
+breaks_alike breaks12 c = grind (arith, nat_tests)
 
 abbrev is_within : LineSpot → Bool
 is_within Start = false
@@ -38,64 +29,99 @@ within_after : (feed : Bool) → is_within (if feed then Start else Within) ≡ 
 within_after true = refl
 within_after false = refl
 
-line : (x : ℕ) (feed : Bool) (behind : Text) → is_break x ≡ feed → after_comments true (x ∷ behind) ≡ after_comments (not feed) behind
-line x feed behind is = ap (λ (b : Bool). after_comments (not b) behind) is
+line : (breaks12 : Bool) (x : ℕ) (feed : Bool) (behind : Text) → is_read_break breaks12 x ≡ feed
+    → after_comments breaks12 true (x ∷ behind) ≡ after_comments breaks12 (not feed) behind
+line breaks12 x feed behind is = ap (λ (b : Bool). after_comments breaks12 (not b) behind) is
 
-start : (x : ℕ) (feed : Bool) (behind : Text) → is_break x ≡ feed
-    → after_comments false ((if feed then codes "#" else codes "# ") ++ x ∷ behind) ≡ after_comments (not feed) behind
-start x true behind is = line x true behind is
-start x false behind is = line x false behind is
+first_line : (breaks12 : Bool) (x : ℕ) (feed : Bool) (behind : Text) → is_read_break breaks12 x ≡ feed
+    → after_comments breaks12 false ((if feed then codes "#" else codes "# ") ++ x ∷ behind) ≡ after_comments breaks12 (not feed) behind
+first_line true x true behind is = line true x true behind is
+first_line true x false behind is = line true x false behind is
+first_line false x true behind is = line false x true behind is
+first_line false x false behind is = line false x false behind is
 
-passes : (heading : Text) (spot : LineSpot) (text : Text)
-    → after_comments (is_within spot) (commented spot heading ++ text) ≡ after_comments false text
-passes [] Start text = refl
-passes [] Within text = refl
-passes (c ∷ rest) Start text =
-    ap (λ (t : Text). after_comments false t) (append_assoc (comment_start Start c) (in_comment c ∷ commented (spot_after c) rest) text)
-    ∙ start (in_comment c) (c == line_feed) (commented (spot_after c) rest ++ text) (breaks_alike c)
-    ∙ ap (λ (w : Bool). after_comments w (commented (spot_after c) rest ++ text)) (sym (within_after (c == line_feed)))
-    ∙ passes rest (spot_after c) text
-passes (c ∷ rest) Within text =
-    line (in_comment c) (c == line_feed) (commented (spot_after c) rest ++ text) (breaks_alike c)
-    ∙ ap (λ (w : Bool). after_comments w (commented (spot_after c) rest ++ text)) (sym (within_after (c == line_feed)))
-    ∙ passes rest (spot_after c) text
+passes : (breaks12 : Bool) (heading : Text) (spot : LineSpot) (text : Text)
+    → after_comments breaks12 (is_within spot) (commented spot heading ++ text) ≡ without_heading breaks12 text
+passes breaks12 [] Start text = refl
+passes breaks12 [] Within text = refl
+passes breaks12 (c ∷ rest) Start text =
+    ap (without_heading breaks12) (append_assoc (comment_start Start c) (in_comment c ∷ commented (spot_after c) rest) text)
+    ∙ first_line breaks12 (in_comment c) (c == line_feed) (commented (spot_after c) rest ++ text) (breaks_alike breaks12 c)
+    ∙ ap (λ (w : Bool). after_comments breaks12 w (commented (spot_after c) rest ++ text)) (sym (within_after (c == line_feed)))
+    ∙ passes breaks12 rest (spot_after c) text
+passes breaks12 (c ∷ rest) Within text =
+    line breaks12 (in_comment c) (c == line_feed) (commented (spot_after c) rest ++ text) (breaks_alike breaks12 c)
+    ∙ ap (λ (w : Bool). after_comments breaks12 w (commented (spot_after c) rest ++ text)) (sym (within_after (c == line_feed)))
+    ∙ passes breaks12 rest (spot_after c) text
 
--- what begins otherwise stays
-kept : (text : Text) → begins_with_comment text ≡ false → after_comments false text ≡ text
-kept [] none = refl
-kept (c ∷ rest) none = ap (λ (b : Bool). if b then after_comments true rest else c ∷ rest) none
+-- ---- they may stand in any stream, and each of their breaks is LF
 
-read_utf8 : (bytes : List ℕ) → IsUtf8 bytes → utf8_read bytes ≡ Some (chars bytes)
-read_utf8 bytes is = ap (λ (b : Bool). if b then Some (chars bytes) else None) (is_utf8-from_IsUtf8 bytes is)
+shown_by : (c : ℕ) (feed printable broken : Bool) → (c == line_feed) ≡ feed → is_printable c ≡ printable
+    → is_shown (if feed || (printable && not broken) then c else space) ≡ true
+shown_by c true printable broken feeds prints = ap is_shown (eqb-true c line_feed feeds)
+shown_by c false true true feeds prints = refl
+shown_by c false true false feeds prints = ap (λ (b : Bool). b || c == tab) prints
+shown_by c false false broken feeds prints = refl
 
--- the characters of a heading's bytes and of those behind it
-read_behind : (heading : Text) (bytes : List ℕ) → IsUtf8 (encode_utf8_all heading) → IsUtf8 bytes
-    → utf8_read (encode_utf8_all heading ++ bytes) ≡ Some (heading ++ chars bytes)
-read_behind heading bytes first is =
-    let lines = encode_utf8_all heading in
-    read_utf8 (lines ++ bytes) (IsUtf8-append lines bytes first is)
-    ∙ ap (λ (t : Text). Some t) (chars-append lines bytes first ∙ ap (λ (t : Text). t ++ chars bytes) (sym (chars_from_encodes heading lines first refl)))
+character_shown : (c : ℕ) → is_shown (in_comment c) ≡ true
+character_shown c = shown_by c (c == line_feed) (is_printable c) (is_break c) refl refl
+
+start_shown : (feed : Bool) (rest : Text) → list_all is_shown ((if feed then codes "#" else codes "# ") ++ rest) ≡ list_all is_shown rest
+start_shown true rest = refl
+start_shown false rest = refl
+
+shown : (heading : Text) (spot : LineSpot) → list_all is_shown (commented spot heading) ≡ true
+shown [] Start = refl
+shown [] Within = refl
+shown (c ∷ rest) Start =
+    start_shown (c == line_feed) (in_comment c ∷ commented (spot_after c) rest) ∙ and_from _ _ (character_shown c) (shown rest (spot_after c))
+shown (c ∷ rest) Within = and_from _ _ (character_shown c) (shown rest (spot_after c))
+
+shown_raw : (c : ℕ) → is_shown c ≡ true → may_stand_raw c ≡ true
+shown_raw c is = grind (arith, nat_tests)
+
+raw_behind : (lines text : Text) → list_all is_shown lines ≡ true → list_all may_stand_raw (lines ++ text) ≡ list_all may_stand_raw text
+raw_behind lines text is =
+    list_all-append may_stand_raw lines text
+    ∙ ap (λ (raw : Bool). raw && list_all may_stand_raw text) (all_pass is_shown may_stand_raw shown_raw lines is)
+
+-- reading line breaks leaves a rendered text before another
+breaks_read_behind : (lines text : Text) → is_rendered_text lines ≡ true → with_line_breaks_read (lines ++ text) ≡ lines ++ with_line_breaks_read text
+breaks_read_behind [] text is = refl
+breaks_read_behind (c ∷ rest) text is =
+    let parts = rendered-cons c rest is in
+    grind (arith, nat_tests, and-false, breaks_read_behind rest text parts.2)
+
+-- ---- so a stream behind them is read as by itself
+
+trees_behind : (breaks12 : Bool) (heading text : Text) → text_trees breaks12 (comment_lines heading ++ text) ≡ text_trees breaks12 text
+trees_behind breaks12 heading text =
+    let lines = comment_lines heading in
+    let is = shown heading Start in
+    let read = λ (raw : Bool) (t : Text). if raw then documents_of breaks12 (without_heading breaks12 t) else None in
+    ap (λ (raw : Bool). read raw (with_line_breaks_read (lines ++ text))) (raw_behind lines text is)
+    ∙ ap (read (list_all may_stand_raw text)) (breaks_read_behind lines text (tidy_rendered literal lines is))
+    ∙ ap (λ (t : Text). if list_all may_stand_raw text then documents_of breaks12 t else None) (passes breaks12 heading Start (with_line_breaks_read text))
 
 -- the characters of a stream in UTF-8
 read_alone : (bytes : List ℕ) → IsUtf8 bytes → characters_read bytes ≡ Some (chars bytes)
 read_alone bytes is =
     ap characters_read (sym (text_bytes-utf8 (chars bytes) ∙ encodes-chars bytes is)) ∙ characters_back utf8 (chars bytes) (scalars-chars bytes is)
 
--- what is read of the bytes behind a heading
-behind : (breaks12 : Bool) (heading : Text) (bytes : List ℕ) → IsUtf8 (encode_utf8_all (comment_lines heading)) → IsUtf8 bytes
-    → utf8_trees_behind_heading breaks12 (encode_utf8_all (comment_lines heading) ++ bytes) ≡ trees_behind_heading breaks12 (chars bytes)
-behind breaks12 heading bytes first is =
-    ap (option_and_then (trees_behind_heading breaks12)) (read_behind (comment_lines heading) bytes first is)
-    ∙ ap (λ (t : Text). text_trees breaks12 t) (passes heading Start (chars bytes))
+-- the characters of a heading's bytes and of those behind it
+read_behind : (heading : Text) (bytes : List ℕ) → IsUtf8 (encode_utf8_all heading) → IsUtf8 bytes
+    → characters_read (encode_utf8_all heading ++ bytes) ≡ Some (heading ++ chars bytes)
+read_behind heading bytes first is =
+    let lines = encode_utf8_all heading in
+    read_alone (lines ++ bytes) (IsUtf8-append lines bytes first is)
+    ∙ ap (λ (t : Text). Some t) (chars-append lines bytes first ∙ ap (λ (t : Text). t ++ chars bytes) (sym (chars_from_encodes heading lines first refl)))
 
 pub headings_passed : HeadingsArePassedOver
 headings_passed = record {
-  passed = λ breaks12 heading text. ap (λ (t : Text). text_trees breaks12 t) (passes heading Start text);
+  passed = trees_behind;
   bytes = λ breaks12 heading bytes first is.
-      behind breaks12 heading bytes first is ∙ sym (ap (option_and_then (trees_behind_heading breaks12)) (read_utf8 bytes is));
-  without = λ breaks12 text none. ap (λ (t : Text). text_trees breaks12 t) (kept text none);
-  stream = λ breaks12 heading bytes first is none.
-      behind breaks12 heading bytes first is ∙ ap (λ (t : Text). text_trees breaks12 t) (kept (chars bytes) none)
+      ap (option_and_then (text_trees breaks12)) (read_behind (comment_lines heading) bytes first is)
+      ∙ trees_behind breaks12 heading (chars bytes)
       ∙ sym (ap (option_and_then (text_trees breaks12)) (read_alone bytes is));
 }
 
