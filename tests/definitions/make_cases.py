@@ -10,7 +10,7 @@ The model was written from the rules alone and shares nothing with the definitio
             content, and whether the whole stream reads back with it
   text      a text for one of the readers, and its reading or null
   bytes     canonical bytes, most of them spoiled, and their content or null
-  stream    bytes in any mode, half of them spoiled, and the documents in them or null
+  stream    bytes in any mode, half of them spoiled, some behind a heading, and the documents in them or null
   script    a script, many of them spoiled, and what it says
   document  nodes, and the events of their document
 
@@ -75,8 +75,18 @@ def strict_reader():
     return Strict
 
 
+def without_heading(data, breaks12):
+    """The bytes of a stream, in UTF-8 without the lines at its front that begin with `#`, if it has some: the model's readers refuse these."""
+    text = readers.decode_stream(data)
+    if text is None or text[:1] != "#" or not all(c in "\r\n\t" or stream_reader.PRINTABLE(c) for c in text): return data
+    text = readers.normalize(text)
+    while text.startswith("#"): text = (re.split("[" + breaks_of(breaks12) + "]", text, maxsplit=1) + [""])[1]
+    return text.encode()
+
+
 def stream_read(data, breaks12):
     """The documents in some bytes, or None; 'differs' where the model's two readers don't agree."""
+    data = without_heading(data, breaks12)
     one, other = stream_reader.read(data, breaks_of(breaks12)), lines_reader.read(data, breaks_of(breaks12))
     return one if one == other else "differs"
 
@@ -155,6 +165,10 @@ SIGNS = ["- ", "-", "? ", ": ", ":", ",", "[", "]", "{", "}", "&a ", "*a", "!t "
          "\t", "'", '"', "|\n", ">-\n", "%YAML 1.1\n", "%TAG !e! x\n", "\\", "a", "k: ", "[]: "]
 
 
+# Headings, and comments that are none.
+FRONTS = ["# a\n", "#\n", "#a: b # c\r\n#\t\u2028", "# \u2029# a\r", "# a\n%YAML 1.1\n", "#", " # a\n", "\n# a\n", "# a\n\n", "# \u0007\n"]
+
+
 def of_stream(seed):
     r = random.Random(seed)
     s, events = gen.settings(r, seed), gen.events(r)
@@ -172,6 +186,7 @@ def of_stream(seed):
                 lines = text.split("\n"); j = r.randrange(len(lines))
                 lines[j] = r.choice([lines[j][1:], " " + lines[j], lines[j] + "\n" + lines[j], lines[j].strip(), ""])
                 text = "\n".join(lines)
+    if random.Random(text).random() < 0.2: text = r.choice(FRONTS) + text
     data = layout.encode(eff.encoding, text)
     return dict(bytes=data.hex(), breaks12=s.breaks12, trees=stream_read(data, s.breaks12))
 

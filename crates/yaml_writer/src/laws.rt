@@ -71,8 +71,7 @@ pub fn typed_events_are_read()
     ensures { TypedEventsAreRead }
 {}
 
-/// States that a stream behind lines of comments is read as the stream alone by a reader that passes over the lines at its front that
-/// begin with `#`; what doesn't begin so is read as ever.
+/// States that a text behind lines of comments is read as the text alone, and so are its bytes in UTF-8.
 pub fn headings_are_passed_over()
     ensures { HeadingsArePassedOver }
 {}
