@@ -18,7 +18,7 @@ found reading rest meant h = ap (λ r. first_reading (r ∷ rest)) h
 pub given : {A : Type 0} (test : Bool) (reading : A) → test ≡ true → (if test then Some reading else None) ≡ Some reading
 given test reading h = ap (λ x. if x then Some reading else None) h
 
-withheld : {A : Type 0} (test : Bool) (reading : A) → test ≡ false → (if test then Some reading else None) ≡ None
+pub withheld : {A : Type 0} (test : Bool) (reading : A) → test ≡ false → (if test then Some reading else None) ≡ None
 withheld test reading h = ap (λ x. if x then Some reading else None) h
 
 -- Digits before and after a point
@@ -80,7 +80,7 @@ pub no_letter : (letter : ℕ) (digits rest : Text) → is_decimal letter ≡ fa
 no_letter letter [] rest other h g = g
 no_letter letter (c ∷ digits) rest other h g = digit_unlike c letter other (and_parts (is_decimal c) (list_all is_decimal digits) h).0
 
-core_based_none : (letter base : ℕ) (negative : Bool) (c : ℕ) (rest : Text) → first_meets (λ d. d == letter) rest ≡ false
+pub core_based_none : (letter base : ℕ) (negative : Bool) (c : ℕ) (rest : Text) → first_meets (λ d. d == letter) rest ≡ false
     → core_based letter base (minus negative ++ (c ∷ rest)) ≡ None
 core_based_none letter base negative c rest h = grind (arith, nat_tests, withheld, and_left, and_right)
 

@@ -19,23 +19,23 @@ exponent_11_signed true digits h = exponent_read_signed true digits h
 exponent_11_signed false digits h = exponent_read_signed false digits h
 
 -- an integer has no point
-float_11_none : (negative : Bool) (c : ℕ) (digits : Text) → list_all is_decimal (c ∷ digits) ≡ true → float_11 negative (c ∷ digits) ≡ None
+pub float_11_none : (negative : Bool) (c : ℕ) (digits : Text) → list_all is_decimal (c ∷ digits) ≡ true → float_11 negative (c ∷ digits) ≡ None
 float_11_none negative c digits h = grind (arith, nat_tests, no_exponent, no_point)
 
-based_11_none : (negative : Bool) (letter base : ℕ) (c : ℕ) (rest : Text) → first_meets (λ d. d == letter) rest ≡ false
+pub based_11_none : (negative : Bool) (letter base : ℕ) (c : ℕ) (rest : Text) → first_meets (λ d. d == letter) rest ≡ false
     → based_11 negative letter base (c ∷ rest) ≡ None
 based_11_none negative letter base c rest h = grind (arith, nat_tests, and_left, and_right)
 
 -- digits of which the first isn't 0 are no octal number
-octal_11_none : (negative : Bool) (c : ℕ) (digits : Text) → (c == 0x30) ≡ false → octal_11 negative (c ∷ digits) ≡ None
+pub octal_11_none : (negative : Bool) (c : ℕ) (digits : Text) → (c == 0x30) ≡ false → octal_11 negative (c ∷ digits) ≡ None
 octal_11_none negative c digits h = grind (arith, nat_tests, and_left)
 
 -- a whole part: `0`, or its first digit isn't 0
-data Whole (c : ℕ) (digits : Text) : Type 0 where
+pub data Whole (c : ℕ) (digits : Text) : Type 0 where
   zero_alone : (c ∷ digits) ≡ codes "0" → Whole c digits
   leading : (c == 0x30) ≡ false → Whole c digits
 
-whole_11 : (c : ℕ) (digits : Text) → is_whole_part (c ∷ digits) ≡ true → Whole c digits
+pub whole_11 : (c : ℕ) (digits : Text) → is_whole_part (c ∷ digits) ≡ true → Whole c digits
 whole_11 c digits h = grind (arith, and_parts, bytes_eq-Decides, not-true)
 
 whole_no_octal : (negative : Bool) (c : ℕ) (digits : Text) → Whole c digits → octal_11 negative (c ∷ digits) ≡ None
@@ -47,7 +47,7 @@ decimal_11_read : (negative : Bool) (c : ℕ) (digits : Text) → list_all is_de
 decimal_11_read negative c digits h whole =
     grind (arith, nat_tests, digits_ungrouped, given, or_left, bytes_eq-Decides, or_right, and_from, and_parts, not_from_false, digits_grouped)
 
-integer_without_sign : (negative : Bool) (c : ℕ) (digits : Text) → list_all is_decimal (c ∷ digits) ≡ true → Whole c digits
+pub integer_without_sign : (negative : Bool) (c : ℕ) (digits : Text) → list_all is_decimal (c ∷ digits) ≡ true → Whole c digits
     → first_reading (numbers_11 negative (c ∷ digits)) ≡ meant_integer (signed negative (digits_value 10 (c ∷ digits)))
 integer_without_sign negative c digits h whole =
     grind (arith, passed, float_11_none, based_11_none, whole_no_octal, found, decimal_11_read, append-nil, no_letter, and_parts)
@@ -70,7 +70,7 @@ integer_by_11 negative c digits h whole =
     ap (λ t. resolved_by_11 (minus negative ++ t)) (sym (append-nil (c ∷ digits)))
     ∙ past_sign_11 _ c _ [] _ h refl (ap (λ t. first_reading (numbers_11 negative t)) (append-nil (c ∷ digits)) ∙ integer_without_sign _ c _ h whole)
 
-mantissa_11_read : (negative : Bool) (c : ℕ) (whole fraction : Text) → list_all is_decimal (c ∷ whole) ≡ true → list_all is_decimal fraction ≡ true
+pub mantissa_11_read : (negative : Bool) (c : ℕ) (whole fraction : Text) → list_all is_decimal (c ∷ whole) ≡ true → list_all is_decimal fraction ≡ true
     → mantissa_11 negative ((c ∷ whole) ∷ fraction ∷ []) ≡ Some (decimal_of negative (c ∷ whole) fraction)
 mantissa_11_read negative c whole fraction h g =
     ap (λ x. if x then decimal_of_digits negative (ungrouped (c ∷ whole)) (ungrouped fraction) else None) (and_from _ _

@@ -20,6 +20,9 @@ pub mod WaitingStarts
 pub mod PlainLemmas
 pub mod PlainNumbers
 pub mod ScalarMeanings
+pub mod PlainShapes
+pub mod ShapeCuts
+pub mod ShapesRead
 pub mod PlainTagLemmas
 pub mod TypedTrees
 pub mod Pushed

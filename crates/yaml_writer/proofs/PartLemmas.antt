@@ -39,7 +39,7 @@ cut_found sign (c ∷ text) rest h =
     both = and_parts (not (c == sign)) (lacks sign text) h
 
 -- the parts of a cut make the text
-abbrev Joins : ℕ → Text → Option (Text × Text) → Type 0
+abbrev pub Joins : ℕ → Text → Option (Text × Text) → Type 0
 Joins sign text None = ⊤
 Joins sign text (Some parts) = text ≡ parts.0 ++ (sign ∷ parts.1)
 
@@ -316,7 +316,7 @@ text_is_none text number e h other is =
 -- Code that cuts
 
 -- a text that doesn't begin with a sign
-first_unlike : (sign c : ℕ) (rest : Text) → ((more : Text) → (c ∷ rest) ≢ sign ∷ more) → (c == sign) ≡ false
+pub first_unlike : (sign c : ℕ) (rest : Text) → ((more : Text) → (c ∷ rest) ≢ sign ∷ more) → (c == sign) ≡ false
 first_unlike sign c rest h = ne_eqb c sign (λ e. h rest (ap (λ d. d ∷ rest) e))
 
 pub no_minus : (text : Text) → ((rest : Text) → text ≢ 0x2D ∷ rest) → (is_negative text ≡ false) × (past_minus text ≡ text)

@@ -97,12 +97,12 @@ unbroken (c ∷ rest) h = or_from (is_break c) (list_any is_break rest) (no_harm
 
 -- Beginnings
 
-no_exclamation : (c : ℕ) (rest : Text) → (c == 45 || c == 46) ≡ false → begins_like_marker (c ∷ rest) ≡ false
+pub no_exclamation : (c : ℕ) (rest : Text) → (c == 45 || c == 46) ≡ false → begins_like_marker (c ∷ rest) ≡ false
 no_exclamation c [] h = refl
 no_exclamation c (d ∷ []) h = refl
 no_exclamation c (d ∷ e ∷ rest) h = and_left ((c == 45 || c == 46) && d == c) (e == c) (and_left (c == 45 || c == 46) (d == c) h)
 
-no_exponent_letter_after : (c : ℕ) (rest : Text) → (c == 45) ≡ false → begins_like_marker (0x2D ∷ c ∷ rest) ≡ false
+pub no_exponent_letter_after : (c : ℕ) (rest : Text) → (c == 45) ≡ false → begins_like_marker (0x2D ∷ c ∷ rest) ≡ false
 no_exponent_letter_after c [] h = refl
 no_exponent_letter_after c (d ∷ rest) h = and_left (c == 45) (d == 45) h
 

@@ -1,20 +1,19 @@
 -- Texts that have a plain tag: where they stand, and how they are read.
 use Rattle.yaml_writer.proofs.Common.{if◌then◌else◌, Option, None, Some, option_map, option_or, codes, Bool, false, not, true, ◌&&◌, ◌||◌, List, [], map, ◌++◌}
-use Rattle.yaml_writer.proofs.Common.{◌∷◌, refl, ◌≡◌, ℕ, chars, ap, subst, sym, ◌∙◌, and_parts, not-true, list_all, list_any, IsUtf8, Text, is_word, is_space}
-use Rattle.yaml_writer.proofs.Common.{JsonNumber, is_json_number, yaml_number, is_json_integer, fraction_or_default, is_spelled, IsNumber, IsNoNumber, int_tag}
-use Rattle.yaml_writer.proofs.Common.{float_tag, encode_utf8_all, encodes-chars}
+use Rattle.yaml_writer.proofs.Common.{◌∷◌, refl, ◌≡◌, ℕ, chars, ap, sym, ◌∙◌, and_parts, and_from, not_from_false, not-true, list_all, list_any, IsUtf8, Text}
+use Rattle.yaml_writer.proofs.Common.{is_word, is_space, float_tag, encode_utf8_all, encodes-chars}
 use Rattle.yaml_base.proofs.Common.{bytes_eq, bytes_eq-Decides, list_any-append, named, slice_split, Resolved, words_of_core, resolved_by_core, resolved_by_11}
-use Rattle.yaml_base.proofs.Common.{number_meant, meant_integer, meant_decimal, signed, digits_value, is_empty}
+use Rattle.yaml_base.proofs.Common.{is_empty}
 use Rattle.yaml_base.proofs.AsciiWords.{is_ascii_text, ascii_of, same_word}
-use Rattle.yaml_base.proofs.{NumbersByCore.found, NumbersRead.spelling_read, SchemaWords.named_unlike}
-use Rattle.yaml_base.specs.{Options.some_if, scalars.Analysis.begins_unlike_plain, values.CanonicalTags.canonical_tag, values.JsonNumbers.value_with}
+use Rattle.yaml_base.proofs.{NumbersByCore.found, SchemaWords.named_unlike}
+use Rattle.yaml_base.specs.{scalars.Analysis.begins_unlike_plain, values.CanonicalTags.canonical_tag}
 use Rattle.yaml_base.specs.values.Resolved.{meant_null, meant_boolean, meant_infinity, meant_nan, words_of_repository}
 use Rattle.yaml_base.specs.values.TypedValues.{null_tag, bool_tag}
-use Rattle.yaml_writer.proofs.PartLemmas.{number_found, parts_join, text_is_number}
-use Rattle.yaml_writer.proofs.PlainNumbers.{is_harmless, stands_plain, written_numbers}
-use Rattle.yaml_writer.proofs.SpellingLemmas.{same_spelling}
-use Rattle.yaml_writer.specs.{NumberParts.number_in, Words.is_one_of, Writing.number_tag}
-use Rattle.yaml_writer.specs.PlainTags.{word_meant, spelled_number, null_words, bool_words, float_words, IsWrittenPlain, PlainTagsAreRead}
+use Rattle.yaml_writer.proofs.PlainNumbers.{is_harmless, stands_plain}
+use Rattle.yaml_writer.proofs.PlainShapes.{Shaped, begins_plainly, shaped_begins, shaped_harmless}
+use Rattle.yaml_writer.proofs.ShapesRead.{numbers_by_both}
+use Rattle.yaml_writer.specs.Words.{is_one_of}
+use Rattle.yaml_writer.specs.PlainTags.{word_meant, plain_number_tag, null_words, bool_words, float_words, IsWrittenPlain, PlainTagsAreRead}
 
 -- equal options hold the same
 some_same : {A : Type 0} {a b : A} → Some a ≡ Some b → a ≡ b
@@ -64,67 +63,29 @@ word_read : (text : Text) (meant : Resolved) → word_meant text ≡ Some meant 
 word_read [] meant e = none_some e
 word_read (c ∷ rest) meant e = (found _ _ meant (named_before words_of_core words_of_repository (c ∷ rest) meant e), found _ _ meant e)
 
--- ---- numbers
+-- ---- numbers, and both
 
--- a number's tag is that of its meaning
-tag_of_meaning : (number : JsonNumber) → canonical_tag (number_meant number) ≡ number_tag number
-tag_of_meaning number = by (is_json_integer number)
-  where
-    by : (x : Bool)
-        → canonical_tag
-        (if x then meant_integer (signed number.negative (digits_value 10 number.whole)) else meant_decimal
-        (value_with number (fraction_or_default (codes "0") number)))
-        ≡ (if x then int_tag else float_tag)
-    by true = refl
-    by false = refl
-
--- what a spelled number says of its text
-record Spelled (text : Text) (number : JsonNumber) : Type 0 where
-  valid : is_json_number number ≡ true
-  text_is : text ≡ yaml_number number
-
-spelled_is : (text : Text) (number : JsonNumber) → spelled_number text ≡ Some number → Spelled text number
-spelled_is text number e = by (is_json_number inside) (is_spelled inside) refl refl e
-  where
-    inside : JsonNumber
-    inside = number_in text
-
-    by : (x y : Bool) → is_json_number inside ≡ x → is_spelled inside ≡ y → some_if (x && y) inside ≡ Some number → Spelled text number
-    by true true valid spelled is =
-        subst (Spelled text) (some_same is) (record { valid = valid; text_is = sym (parts_join text) ∙ sym (same_spelling inside spelled) })
-    by true false valid spelled is = none_some is
-    by false y valid spelled is = none_some is
-
-number_stands : (text : Text) (number : JsonNumber) → Spelled text number → IsWrittenPlain text
-number_stands text number is =
-    subst IsWrittenPlain (sym is.text_is)
-    (λ charset flow simple_key. (written_numbers number charset false true false flow simple_key is.valid refl).0)
-
-number_read : (text : Text) (number : JsonNumber) → Spelled text number
-    → (canonical_tag (resolved_by_11 text) ≡ number_tag number) × (canonical_tag (resolved_by_core text) ≡ number_tag number)
-number_read text number is =
-    let read = spelling_read number is.valid in (
-      ap (λ t. canonical_tag (resolved_by_11 t)) is.text_is ∙ ap canonical_tag read.0 ∙ tag_of_meaning number,
-      ap (λ t. canonical_tag (resolved_by_core t)) is.text_is ∙ ap canonical_tag read.1 ∙ tag_of_meaning number,
-    )
-
--- ---- both
+number_stands : (text : Text) → Shaped text → IsWrittenPlain text
+number_stands text shaped =
+    let begins = begins_plainly text (shaped_begins text shaped) in
+    harmless_stands text
+    (and_from (list_all is_harmless text && not (is_empty text)) (not (begins_unlike_plain text))
+    (and_from (list_all is_harmless text) (not (is_empty text)) (shaped_harmless text shaped) (not_from_false _ begins.0))
+    (not_from_false _ begins.1))
 
 abbrev IsRead : Text → Text → Type 0
 IsRead text tag = IsWrittenPlain text × (canonical_tag (resolved_by_11 text) ≡ tag) × (canonical_tag (resolved_by_core text) ≡ tag)
 
 pub plain_tags_read : PlainTagsAreRead
-plain_tags_read text tag e = by (word_meant text) (spelled_number text) refl refl e
+plain_tags_read text tag e = by (word_meant text) (plain_number_tag text) refl refl e
   where
-    by : (word : Option Resolved) (number : Option JsonNumber) → word_meant text ≡ word → spelled_number text ≡ number
-        → option_or (option_map canonical_tag word) (option_map number_tag number) ≡ Some tag → IsRead text tag
+    by : (word : Option Resolved) (number : Option Text) → word_meant text ≡ word → plain_number_tag text ≡ number
+        → option_or (option_map canonical_tag word) number ≡ Some tag → IsRead text tag
     by (Some meant) number is other said =
         let read = word_read text meant is in
         (harmless_stands text (word_harmless text meant is), ap canonical_tag read.0 ∙ some_same said, ap canonical_tag read.1 ∙ some_same said)
-    by None (Some number) other is said =
-        let spelled = spelled_is text number is in
-        let read = number_read text number spelled in
-        (number_stands text number spelled, read.0 ∙ some_same said, read.1 ∙ some_same said)
+    by None (Some found) other is said =
+        let shape = numbers_by_both text tag (is ∙ said) in (number_stands text shape.0, shape.1.0, shape.1.1)
     by None None other is said = none_some said
 
 -- ---- code that looks for words
@@ -228,24 +189,6 @@ word_tag bytes nothing truth float utf8 a b c =
     (sym (words_by_chars (listed null_words) bytes refl utf8) ∙ a)
     ∙ ap (λ x. picked nothing x (is_one_of float_words (chars bytes))) (sym (words_by_chars (listed bool_words) bytes refl utf8) ∙ b)
     ∙ ap (picked nothing truth) (sym (words_by_chars (listed float_words) bytes refl utf8) ∙ c)
-
--- ---- code that looks for numbers
-
-pub number_spelled : (text : Text) (number : JsonNumber) → IsNumber text number
-    → spelled_number text ≡ (if is_spelled number then Some number else None)
-number_spelled text number is =
-    ap (λ (n : JsonNumber). some_if (is_json_number n && is_spelled n) n) (ap number_in is.text_is ∙ number_found number is.valid)
-    ∙ ap (λ x. some_if (x && is_spelled number) number) is.valid
-
-pub none_spelled : (text : Text) → IsNoNumber text → spelled_number text ≡ None
-none_spelled text none = by (is_json_number inside) refl
-  where
-    inside : JsonNumber
-    inside = number_in text
-
-    by : (x : Bool) → is_json_number inside ≡ x → some_if (is_json_number inside && is_spelled inside) inside ≡ None
-    by true valid = absurd (none inside (text_is_number text inside refl valid))
-    by false other = ap (λ x. some_if (x && is_spelled inside) inside) other
 
 -- ---- code that compares texts
 

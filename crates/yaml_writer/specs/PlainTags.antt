@@ -1,6 +1,6 @@
--- The tags that texts have where they stand plain, whichever schema reads them: words, and numbers as JSON writes them, which
--- have a point and a sign in their exponent if they are no integers.
-use Rattle.std.specs.Prelude.{◌≡◌, Bool, true, false, Option, None, Some, ◌&&◌, bytes_eq, codes, option_map, if◌then◌else◌}
+-- The tags that texts have where they stand plain, whichever schema reads them: those of null, booleans, integers and floats.
+use Rattle.std.specs.Prelude.{◌≡◌, Bool, true, false, Option, None, Some, List, [], ◌∷◌, ◌++◌, ◌==◌, ◌||◌, ◌&&◌, bytes_eq, is_some, codes, option_map, if◌then◌else◌}
+use Rattle.std.specs.List.{slice_split}
 use Rattle.std.specs.Option.{option_or}
 use Rattle.yaml_base.specs.Characters.{Text}
 use Rattle.yaml_base.specs.Event.{plain}
@@ -11,26 +11,62 @@ use Rattle.yaml_base.specs.scalars.Analysis.{Charset, allowances, is_empty}
 use Rattle.yaml_base.specs.scalars.Style.{chosen}
 use Rattle.yaml_base.specs.streams.StreamContent.{is_same_text}
 use Rattle.yaml_base.specs.values.CanonicalTags.{canonical_tag}
-use Rattle.yaml_base.specs.values.JsonNumbers.{JsonNumber, is_json_number}
-use Rattle.yaml_base.specs.values.Resolved.{Resolved, words_of_core}
+use Rattle.yaml_base.specs.values.JsonNumbers.{JsonExponent, is_whole_part}
+use Rattle.yaml_base.specs.values.Resolved.{Resolved, words_of_core, is_point, is_exponent_letter, is_plus_or_minus, first_meets, past_sign, are_digits}
 use Rattle.yaml_base.specs.values.SchemaCore.{resolved_by_core}
 use Rattle.yaml_base.specs.values.SchemaOf11.{resolved_by_11}
 use Rattle.yaml_base.specs.values.SurelyText.{is_surely_text}
-use Rattle.yaml_writer.specs.NumberParts.{number_in}
-use Rattle.yaml_writer.specs.Spellings.{is_spelled}
-use Rattle.yaml_writer.specs.Writing.{number_tag}
+use Rattle.yaml_base.specs.values.TypedValues.{int_tag}
+use Rattle.yaml_writer.specs.Writing.{float_tag}
 
 -- what a word of both schemas means; the empty text, which can't stand plain everywhere, is none
 abbrev pub word_meant : Text → Option Resolved
 word_meant text = if is_empty text then None else named words_of_core text
 
--- the number of JSON that a text is, where it is its own spelling
-abbrev pub spelled_number : Text → Option JsonNumber
-spelled_number text = some_if (is_json_number (number_in text) && is_spelled (number_in text)) (number_in text)
+-- `0`, or decimal digits of which the first isn't 0, or octal digits: the schemas read `017` as two integers, and neither `08`
+abbrev pub are_integer_digits : Text → Bool
+are_integer_digits digits = is_whole_part digits || are_digits 8 digits
+
+-- `0x` and hexadecimal digits
+abbrev pub is_hexadecimal : Text → Bool
+is_hexadecimal (zero_digit ∷ letter ∷ digits) = zero_digit == 0x30 && letter == 0x78 && are_digits 16 digits
+is_hexadecimal _ = false
+
+-- digits before and after one point, one or more in all
+abbrev pub is_pointed : List Text → Bool
+is_pointed (whole ∷ fraction ∷ []) = are_digits 10 (whole ++ fraction)
+is_pointed _ = false
+
+-- a sign and digits
+abbrev pub is_signed : Text → Bool
+is_signed text = first_meets is_plus_or_minus text && are_digits 10 (past_sign text)
+
+-- the same of an exponent that was cut off, where there is one
+abbrev pub is_signed_exponent : Option JsonExponent → Bool
+is_signed_exponent None = true
+is_signed_exponent (Some exponent) = is_some exponent.sign && are_digits 10 exponent.digits
+
+-- digits with a point; and an exponent, which has a sign, or none
+abbrev pub is_float_cut : List Text → Bool
+is_float_cut (mantissa ∷ []) = is_pointed (slice_split is_point mantissa)
+is_float_cut (mantissa ∷ exponent ∷ []) = is_pointed (slice_split is_point mantissa) && is_signed exponent
+is_float_cut _ = false
+
+-- an integer: a sign or none and such digits, or hexadecimal ones without a sign
+abbrev pub is_plain_integer : Text → Bool
+is_plain_integer text = are_integer_digits (past_sign text) || is_hexadecimal text
+
+-- a float: a sign or none, such digits, and an exponent behind `e` or `E` or none
+abbrev pub is_plain_float : Text → Bool
+is_plain_float text = is_float_cut (slice_split is_exponent_letter (past_sign text))
+
+-- the tag of a number that both schemas read
+abbrev pub plain_number_tag : Text → Option Text
+plain_number_tag text = option_or (some_if (is_plain_integer text) int_tag) (some_if (is_plain_float text) float_tag)
 
 -- the tag of such a word or number
 abbrev pub plain_tag : Text → Option Text
-plain_tag text = option_or (option_map canonical_tag (word_meant text)) (option_map number_tag (spelled_number text))
+plain_tag text = option_or (option_map canonical_tag (word_meant text)) (plain_number_tag text)
 
 -- that tag is this one
 abbrev pub has_plain_tag : Text → Text → Bool

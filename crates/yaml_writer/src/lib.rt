@@ -12,6 +12,7 @@ mod giving;
 mod headings;
 mod laws;
 mod numbers;
+mod plain_numbers;
 mod plain_tags;
 mod properties;
 mod scalars;

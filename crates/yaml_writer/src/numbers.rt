@@ -55,7 +55,7 @@ fn length_before(sign: u8, text: &str) -> usize
 }
 
 /// Returns what stands before and after the first of a sign.
-fn cut_at(sign: u8, text: &str) -> Option<(&str, &str)>
+pub(crate) fn cut_at(sign: u8, text: &str) -> Option<(&str, &str)>
     requires { sign < 128 }
     ensures { MatchOption result (parts.cut_at_first sign text.now ≡ None) (λ cut. parts.cut_at_first sign text.now ≡ Some (cut.0.now, cut.1.now)) }
 {
@@ -73,7 +73,7 @@ pub(crate) fn lacks_letters(text: &str) -> bool
     text.as_bytes().iter().all(|byte| *byte < b'A')
 }
 
-fn sign_cut(text: &str) -> (Option<Sign>, &str)
+pub(crate) fn sign_cut(text: &str) -> (Option<Sign>, &str)
     ensures sign { option_map is_minus result.0 ≡ parts.sign_of text.now }
     ensures digits { result.1.now ≡ schema.past_sign text.now }
 {
@@ -99,7 +99,7 @@ fn exponent_in(letter: ExponentLetter, text: &str) -> Exponent<'_>
 }
 
 /// Returns the mantissa and the exponent of a number without its sign.
-fn exponent_cut(text: &str) -> (&str, Option<Exponent<'_>>)
+pub(crate) fn exponent_cut(text: &str) -> (&str, Option<Exponent<'_>>)
     ensures { (result.0.now, option_map seen_exponent result.1) ≡ parts.exponent_cut text.now }
 {
     if lacks_letters(text) {
@@ -148,17 +148,24 @@ fn parts_of(text: &str) -> Parts<'_>
     }
 }
 
-fn is_all_decimal(text: &str) -> bool
+pub(crate) fn is_all_decimal(text: &str) -> bool
     ensures { result ≡ list_all schema.is_decimal text.now }
 {
     text.as_bytes().iter().all(|byte| byte.is_ascii_digit())
 }
 
 /// Returns whether a text is decimal digits, one or more.
-fn is_digits(text: &str) -> bool
+pub(crate) fn is_digits(text: &str) -> bool
     ensures { result ≡ schema.are_digits 10 text.now }
 {
     !text.is_empty() && is_all_decimal(text)
+}
+
+/// Returns whether a text is `0`, or decimal digits of which the first isn't 0.
+pub(crate) fn is_whole_part(text: &str) -> bool
+    ensures { result ≡ json.is_whole_part text.now }
+{
+    is_digits(text) && (text.as_bytes().first() != Some(&b'0') || text == "0")
 }
 
 impl Parts<'_> {
@@ -166,8 +173,7 @@ impl Parts<'_> {
     fn is_valid(&self) -> bool
         ensures { result ≡ json.is_json_number (seen_parts self.now) }
     {
-        is_digits(self.whole)
-            && (self.whole.as_bytes().first() != Some(&b'0') || self.whole == "0")
+        is_whole_part(self.whole)
             && self.fraction.is_none_or(is_digits)
             && self
                 .exponent

@@ -6,8 +6,7 @@ ghost use Rattle.yaml_base.specs.graphs.Meetings.{string_tag};
 ghost use Rattle.yaml_base.specs.values.CanonicalTags.{canonical_tag};
 ghost use Rattle.yaml_writer.specs.PlainTags as plain;
 
-use crate::numbers::number_of;
-use crate::scalars::tag_of_number;
+use crate::plain_numbers::plain_number_tag;
 use crate::tags::{YAML_BOOL_TAG, YAML_FLOAT_TAG, YAML_NULL_TAG, YAML_STR_TAG};
 use crate::texts::is_surely_text;
 
@@ -45,22 +44,14 @@ fn tag_of_word(text: &str) -> Option<&'static str>
 }
 
 /// Returns the tag that both schemas, the type repository of YAML 1.1 and the core schema of YAML 1.2, give a text which stands
-/// plain: that of null, booleans, integers or floats. It is `None` for all other texts, and for numbers that stand otherwise than
-/// JSON writes them, with a point and a sign in their exponent if they are no integers: `0x1F`, `+1`, `.5`, `1e5`. Needs no memory.
+/// plain: that of null, booleans, integers or floats. It is `None` for texts, and for what the two read apart: `1e5`, `0b1`,
+/// `1_000`, `08`. Needs no memory.
 pub fn plain_tag(text: &str) -> Option<&'static str>
     ensures { option_map (λ tag. chars tag.now) result ≡ plain.plain_tag (chars text.now) }
 {
-    if let Some(tag) = tag_of_word(text) {
-        return Some(tag);
-    }
-    match number_of(text) {
-        None => None,
-        Some(number) => {
-            if !number.is_spelled() {
-                return None;
-            }
-            Some(tag_of_number(&number))
-        }
+    match tag_of_word(text) {
+        Some(tag) => Some(tag),
+        None => plain_number_tag(text),
     }
 }
 

@@ -13,11 +13,26 @@ numbers : (plain_tag (codes "3") ≡ Some int_tag) × (plain_tag (codes "-12") �
     × (plain_tag (codes "-0.0") ≡ Some float_tag) × (plain_tag (codes "1.5e+3") ≡ Some float_tag)
 numbers = (refl, refl, refl, refl, refl)
 
--- what the schemas read in two ways, or what has another spelling
-others : (plain_tag (codes "") ≡ None) × (plain_tag (codes "no") ≡ None) × (plain_tag (codes "nUll") ≡ None) × (plain_tag (codes "007") ≡ None)
-    × (plain_tag (codes "0o17") ≡ None) × (plain_tag (codes "1:30") ≡ None) × (plain_tag (codes "1e5") ≡ None) × (plain_tag (codes "-0") ≡ None)
-    × (plain_tag (codes "2001-12-14") ≡ None) × (plain_tag (codes "a: b") ≡ None)
-others = (refl, refl, refl, refl, refl, refl, refl, refl, refl, refl)
+-- those that JSON writes otherwise or not at all
+integers_besides : (plain_tag (codes "0x1F") ≡ Some int_tag) × (plain_tag (codes "0xe") ≡ Some int_tag) × (plain_tag (codes "+1") ≡ Some int_tag)
+    × (plain_tag (codes "007") ≡ Some int_tag) × (plain_tag (codes "-017") ≡ Some int_tag) × (plain_tag (codes "-0") ≡ Some int_tag)
+    × (plain_tag (codes "00") ≡ Some int_tag)
+integers_besides = (refl, refl, refl, refl, refl, refl, refl)
+
+floats_besides : (plain_tag (codes ".5") ≡ Some float_tag) × (plain_tag (codes "1.") ≡ Some float_tag) × (plain_tag (codes "1.5E+3") ≡ Some float_tag)
+    × (plain_tag (codes "+.5e-3") ≡ Some float_tag) × (plain_tag (codes "-1.e+0") ≡ Some float_tag) × (plain_tag (codes "08.5") ≡ Some float_tag)
+floats_besides = (refl, refl, refl, refl, refl, refl)
+
+-- what only one schema reads so, or neither
+others : (plain_tag (codes "") ≡ None) × (plain_tag (codes "no") ≡ None) × (plain_tag (codes "nUll") ≡ None) × (plain_tag (codes "0o17") ≡ None)
+    × (plain_tag (codes "1:30") ≡ None) × (plain_tag (codes "1e5") ≡ None) × (plain_tag (codes "1.5e3") ≡ None) × (plain_tag (codes "2001-12-14") ≡ None)
+    × (plain_tag (codes "a: b") ≡ None)
+others = (refl, refl, refl, refl, refl, refl, refl, refl, refl)
+
+none_besides : (plain_tag (codes "0x") ≡ None) × (plain_tag (codes "-0x1F") ≡ None) × (plain_tag (codes "0b1") ≡ None) × (plain_tag (codes "08") ≡ None)
+    × (plain_tag (codes "1_000") ≡ None) × (plain_tag (codes ".") ≡ None) × (plain_tag (codes "+") ≡ None) × (plain_tag (codes "+-1") ≡ None)
+    × (plain_tag (codes "1.5.0") ≡ None) × (plain_tag (codes "1.5e+") ≡ None) × (plain_tag (codes "1.5e+3e+3") ≡ None) × (plain_tag (codes ".e+3") ≡ None)
+none_besides = (refl, refl, refl, refl, refl, refl, refl, refl, refl, refl, refl, refl)
 
 -- a scalar without an anchor, with these flags
 abbrev a_scalar : Text → Text → Bool → Bool → ScalarStyle → Scalar

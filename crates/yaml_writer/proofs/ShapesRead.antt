@@ -1,0 +1,365 @@
+-- Both schemas read numbers of these shapes as integers and floats.
+use Rattle.yaml_writer.proofs.Common.{ℕ, if◌then◌else◌, ◌==◌, option_map, Option, None, Some, codes, length, Bool, false, not, true, ◌&&◌, ◌||◌, List, []}
+use Rattle.yaml_writer.proofs.Common.{◌++◌, ◌∷◌, refl, ◌≡◌, eqb-true, true≢false, ap, sym, ◌∙◌, arith, and_parts, and_from, and_left, and_right, or_from}
+use Rattle.yaml_writer.proofs.Common.{not_from_false, not-true, list_all-append, list_all, list_any, Text, is_decimal, first_meets, are_digits, is_whole_part}
+use Rattle.yaml_writer.proofs.Common.{digit_unlike, int_tag, float_tag, append-nil, option_or, drop}
+use Rattle.yaml_base.specs.Options.{some_if}
+use Rattle.yaml_base.proofs.Common.{◌⊎◌, inl, inr, or_cases, or_left, or_right, slice_split, onto_first, ℤ, pos, named, digits_value, Resolved, Decimal}
+use Rattle.yaml_base.proofs.Common.{meant_integer, meant_decimal, first_reading, words_of_core, words_of_11, is_point, is_exponent_letter, is_plus_or_minus}
+use Rattle.yaml_base.proofs.Common.{past_sign, is_negative, signed, decimal_of_digits, exponent_read, times_power_of_ten, scientific, core_integer, core_based}
+use Rattle.yaml_base.proofs.Common.{core_mantissa, core_decimal, resolved_by_core, ungrouped, are_grouped, begins_grouped, based_11, octal_11, mantissa_11}
+use Rattle.yaml_base.proofs.Common.{exponent_11, float_11, in_date, timestamp_11, numbers_11, resolved_by_11, is_underscore}
+use Rattle.std.specs.Char.{is_digit}
+use Rattle.std.proofs.lemmas.List.Splits.{slice_split-cons_no}
+use Rattle.yaml_base.proofs.{AllPass.all_pass, SchemaWords.named_unlike, NumberCuts.no_timestamp}
+use Rattle.yaml_base.proofs.NumbersByCore.{passed, found, given, core_based_none, no_letter}
+use Rattle.yaml_base.proofs.NumbersRead.{float_11_none, based_11_none, integer_without_sign, mantissa_11_read, Whole, leading, zero_alone, whole_11}
+use Rattle.yaml_base.proofs.no_numbers.NoNumbers.{off, filled}
+use Rattle.yaml_base.proofs.no_numbers.NumbersBegin.{first_part, scientific_begins}
+use Rattle.yaml_base.specs.{values.CanonicalTags.canonical_tag, values.SchemaOf11.integer_of_digits, values.Resolved.meant_by_nobody}
+use Rattle.yaml_writer.proofs.PlainShapes.{Shaped, integer, based, float, Begins, by_digit, by_point, Pointed, Hexadecimal, shaped_begins, pointed_parts}
+use Rattle.yaml_writer.proofs.PlainShapes.{hexadecimal_parts, integer_digits, all_digits}
+use Rattle.yaml_writer.specs.PlainTags.{are_integer_digits, is_hexadecimal, is_pointed, is_signed, is_float_cut, is_plain_float}
+use Rattle.yaml_writer.specs.PlainTags.{plain_number_tag}
+
+-- ---- no words, and no timestamps
+
+pub past_sign_digit : (text : Text) → list_any is_decimal (past_sign text) ≡ true → list_any is_decimal text ≡ true
+past_sign_digit [] h = h
+past_sign_digit (c ∷ rest) h = by (is_plus_or_minus c) h
+  where
+    by : (x : Bool) → list_any is_decimal (if x then rest else c ∷ rest) ≡ true → list_any is_decimal (c ∷ rest) ≡ true
+    by true later = or_right (is_decimal c) _ later
+    by false all = all
+
+begins_digit : (text : Text) → Begins text → list_any is_decimal text ≡ true
+begins_digit text (by_digit c rest is digit) = past_sign_digit text (ap (list_any is_decimal) is ∙ or_left (is_decimal c) _ digit)
+begins_digit text (by_point c rest is digit) = past_sign_digit text (ap (list_any is_decimal) is ∙ or_left (is_decimal c) _ digit)
+
+-- a text with a digit is no word
+pub no_word_of : (table : List (Text × Resolved)) (text : Text) → list_all (λ entry. not (list_any is_decimal entry.0)) table ≡ true
+    → list_any is_decimal text ≡ true → named table text ≡ None
+no_word_of table text all digit = named_unlike (λ text. not (list_any is_decimal text)) table text all (ap not digit)
+
+-- digits behind a sign or none, and then what stands in no date
+pub no_date : (text digits rest : Text) → past_sign text ≡ digits ++ rest → list_all is_decimal digits ≡ true → first_meets in_date rest ≡ false
+    → timestamp_11 text ≡ None
+no_date [] digits rest is h other = refl
+no_date (s ∷ text) digits rest is h other = by (s == 0x2B) (s == 0x2D) refl refl is
+  where
+    by : (plus hyphen : Bool) → (s == 0x2B) ≡ plus → (s == 0x2D) ≡ hyphen → (if plus || hyphen then text else s ∷ text) ≡ digits ++ rest
+        → timestamp_11 (s ∷ text) ≡ None
+    by true hyphen e f is = ap (λ c. timestamp_11 (c ∷ text)) (eqb-true s 0x2B e) ∙ no_timestamp false [] (0x2B ∷ text) refl refl
+    by false true e f is =
+        ap (λ c. timestamp_11 (c ∷ text)) (eqb-true s 0x2D f) ∙ ap (λ t. timestamp_11 (0x2D ∷ t)) is ∙ no_timestamp true digits rest h other
+    by false false e f is = ap timestamp_11 is ∙ no_timestamp false digits rest h other
+
+pub unsigned_by_11 : (text : Text) → list_any is_decimal text ≡ true → timestamp_11 text ≡ None
+    → resolved_by_11 text ≡ first_reading (numbers_11 (is_negative text) (past_sign text))
+unsigned_by_11 text digit date = passed _ _ (no_word_of words_of_11 text refl digit) ∙ passed _ _ date
+
+-- ---- integers
+
+-- an integer by 1.1, without its sign
+octal_read : (negative : Bool) (c d : ℕ) (digits : Text) → (c == 0x30) ≡ true → list_all (λ c. is_digit c 8) (d ∷ digits) ≡ true
+    → octal_11 negative (c ∷ d ∷ digits) ≡ Some (meant_integer (signed negative (digits_value 8 (ungrouped (d ∷ digits)))))
+octal_read negative c d digits zero octal =
+    given (c == 0x30 && are_grouped 8 (d ∷ digits)) _ (and_from _ _ zero
+    (all_pass (λ c. is_digit c 8) (λ c. is_digit c 8 || is_underscore c) (λ c h. or_left (is_digit c 8) _ h) (d ∷ digits) octal))
+
+abbrev IsInteger : Bool → Text → Type 0
+IsInteger negative digits = canonical_tag (first_reading (numbers_11 negative digits)) ≡ int_tag
+
+octal_by_11 : (negative : Bool) (c : ℕ) (digits : Text) → list_all is_decimal (c ∷ digits) ≡ true → list_all (λ c. is_digit c 8) (c ∷ digits) ≡ true
+    → IsInteger negative (c ∷ digits)
+octal_by_11 negative c digits decimal octal = by (c == 0x30) digits refl decimal octal
+  where
+    by : (x : Bool) (digits : Text) → (c == 0x30) ≡ x → list_all is_decimal (c ∷ digits) ≡ true → list_all (λ c. is_digit c 8) (c ∷ digits) ≡ true
+        → IsInteger negative (c ∷ digits)
+    by false digits e decimal octal = ap canonical_tag (integer_without_sign negative c digits decimal (leading e))
+    by true [] e decimal octal =
+        ap canonical_tag (integer_without_sign negative c [] decimal (zero_alone (ap (λ c. c ∷ []) (eqb-true c 0x30 e))))
+    by true (d ∷ digits) e decimal octal =
+        let later = (and_parts (is_decimal c) (list_all is_decimal (d ∷ digits)) decimal).1 in
+        let digit = (and_parts (is_decimal d) (list_all is_decimal digits) later).0 in
+        ap canonical_tag
+        (passed _ _ (float_11_none negative c (d ∷ digits) decimal)
+        ∙ passed _ _ (based_11_none negative 0x62 2 c (d ∷ digits) (digit_unlike d 0x62 refl digit))
+        ∙ passed _ _ (based_11_none negative 0x78 16 c (d ∷ digits) (digit_unlike d 0x78 refl digit))
+        ∙ found _ _ _ (octal_read negative c d digits e (and_parts (is_digit c 8) (list_all (λ c. is_digit c 8) (d ∷ digits)) octal).1))
+
+integer_by_11 : (negative : Bool) (digits : Text) → are_digits 10 digits ≡ true → are_integer_digits digits ≡ true → IsInteger negative digits
+integer_by_11 negative [] decimal h = absurd (true≢false (sym decimal))
+integer_by_11 negative (c ∷ digits) decimal h = by (or_cases (is_whole_part (c ∷ digits)) (are_digits 8 (c ∷ digits)) h)
+  where
+    all : list_all is_decimal (c ∷ digits) ≡ true
+    all = all_digits 10 (c ∷ digits) decimal
+
+    by : (is_whole_part (c ∷ digits) ≡ true) ⊎ (are_digits 8 (c ∷ digits) ≡ true) → IsInteger negative (c ∷ digits)
+    by (inl whole) = ap canonical_tag (integer_without_sign negative c digits all (whole_11 c digits whole))
+    by (inr octal) = octal_by_11 negative c digits all (all_digits 8 (c ∷ digits) octal)
+
+-- ---- hexadecimal numbers
+
+-- a text's first part begins as the text
+pub onto_first_part : (c : ℕ) (parts : List Text) → first_part (onto_first c parts) ≡ c ∷ first_part parts
+onto_first_part c [] = refl
+onto_first_part c (part ∷ parts) = refl
+
+pub two_in_part : (sign : ℕ → Bool) (a b : ℕ) (text : Text) → sign a ≡ false → sign b ≡ false
+    → first_part (slice_split sign (a ∷ b ∷ text)) ≡ a ∷ b ∷ first_part (slice_split sign text)
+two_in_part sign a b text first second =
+    ap first_part (slice_split-cons_no sign a (b ∷ text) first) ∙ onto_first_part a (slice_split sign (b ∷ text))
+    ∙ ap (λ t. a ∷ first_part t) (slice_split-cons_no sign b text second) ∙ ap (λ t. a ∷ t) (onto_first_part b (slice_split sign text))
+
+-- what is no digit stands second in no mantissa
+pub mantissa_none : (negative : Bool) (a b : ℕ) (text : Text) (parts : List Text) → first_part parts ≡ a ∷ b ∷ text
+    → (is_decimal b || is_underscore b) ≡ false → mantissa_11 negative parts ≡ None
+mantissa_none negative a b text [] is other = refl
+mantissa_none negative a b text ([] ∷ rest) is other = cc
+mantissa_none negative a b text ((c ∷ whole) ∷ []) is other = refl
+mantissa_none negative a b text ((c ∷ whole) ∷ d ∷ e ∷ rest) is other = refl
+mantissa_none negative a b text ((c ∷ whole) ∷ fraction ∷ []) is other =
+    off (begins_grouped is_decimal (c ∷ whole) && are_grouped 10 fraction) _
+    (and_left (begins_grouped is_decimal (c ∷ whole)) (are_grouped 10 fraction)
+    (ap (begins_grouped is_decimal) is
+    ∙ and_right (first_meets is_decimal (a ∷ b ∷ text)) (are_grouped 10 (a ∷ b ∷ text))
+    (and_right (is_decimal a || is_underscore a) (are_grouped 10 (b ∷ text)) (and_left (is_decimal b || is_underscore b) (are_grouped 10 text) other))))
+
+-- so a text with such a character is no float
+pub float_none : (negative : Bool) (a b : ℕ) (text : Text) → is_exponent_letter a ≡ false → is_exponent_letter b ≡ false → is_point a ≡ false
+    → is_point b ≡ false → (is_decimal b || is_underscore b) ≡ false → float_11 negative (a ∷ b ∷ text) ≡ None
+float_none negative a b text mark_a mark_b point_a point_b other =
+    scientific_begins _ _ (slice_split is_exponent_letter (a ∷ b ∷ text))
+    (ap (λ t. mantissa_11 negative (slice_split is_point t)) first
+    ∙ mantissa_none negative a b _ (slice_split is_point (a ∷ b ∷ later)) (two_in_part is_point a b later point_a point_b) other)
+  where
+    later : Text
+    later = first_part (slice_split is_exponent_letter text)
+
+    first : first_part (slice_split is_exponent_letter (a ∷ b ∷ text)) ≡ a ∷ b ∷ later
+    first = two_in_part is_exponent_letter a b text mark_a mark_b
+
+hexadecimal_ungrouped : (digits : Text) → list_all (λ c. is_digit c 16) digits ≡ true → ungrouped digits ≡ digits
+hexadecimal_ungrouped [] h = refl
+hexadecimal_ungrouped (c ∷ digits) h =
+    let both = and_parts (is_digit c 16) (list_all (λ c. is_digit c 16) digits) h in
+    ap (λ x. if not x then c ∷ ungrouped digits else ungrouped digits) (other (c == 0x5F) refl both.0)
+    ∙ ap (λ text. c ∷ text) (hexadecimal_ungrouped digits both.1)
+  where
+    other : (x : Bool) → (c == 0x5F) ≡ x → is_digit c 16 ≡ true → (c == 0x5F) ≡ false
+    other false e digit = e
+    other true e digit = absurd (true≢false (sym digit ∙ ap (λ c. is_digit c 16) (eqb-true c 0x5F e)))
+
+hexadecimal_meant : (digits : Text) → are_digits 16 digits ≡ true → canonical_tag (first_reading (numbers_11 false (0x30 ∷ 0x78 ∷ digits))) ≡ int_tag
+hexadecimal_meant [] h = absurd (true≢false (sym h))
+hexadecimal_meant (d ∷ digits) h =
+    ap canonical_tag read ∙ ap (λ t. canonical_tag (integer_of_digits false 16 t)) (hexadecimal_ungrouped (d ∷ digits) all)
+    ∙ ap (λ x. canonical_tag (if x then meant_by_nobody else meant_integer (signed false (digits_value 16 (d ∷ digits))))) (filled (length digits))
+  where
+    all : list_all (λ c. is_digit c 16) (d ∷ digits) ≡ true
+    all = all_digits 16 (d ∷ digits) h
+
+    text : Text
+    text = 0x30 ∷ 0x78 ∷ d ∷ digits
+
+    meant : Resolved
+    meant = integer_of_digits false 16 (ungrouped (d ∷ digits))
+
+    grouped : are_grouped 16 (d ∷ digits) ≡ true
+    grouped = all_pass (λ c. is_digit c 16) (λ c. is_digit c 16 || is_underscore c) (λ c h. or_left (is_digit c 16) _ h) (d ∷ digits) all
+
+    base_read : based_11 false 0x78 16 text ≡ Some meant
+    base_read = given (are_grouped 16 (d ∷ digits)) meant grouped
+
+    others : List (Option Resolved)
+    others = drop 3 (numbers_11 false text)
+
+    read : first_reading (numbers_11 false text) ≡ meant
+    read =
+        passed (float_11 false text) (based_11 false 0x62 2 text ∷ based_11 false 0x78 16 text ∷ others)
+        (float_none false 0x30 0x78 (d ∷ digits) refl refl refl refl refl)
+        ∙ passed (based_11 false 0x62 2 text) (based_11 false 0x78 16 text ∷ others) (based_11_none false 0x62 2 0x30 (0x78 ∷ d ∷ digits) refl)
+        ∙ found (based_11 false 0x78 16 text) others meant base_read
+
+-- ---- floats
+
+abbrev GivesSome : {A : Type 0} → Option A → Type 0
+GivesSome {A} option = (a : A) × (option ≡ Some a)
+
+abbrev GivesDecimal : Option Resolved → Type 0
+GivesDecimal reading = (decimal : Decimal) × (reading ≡ Some (meant_decimal decimal))
+
+-- a float is read by parts
+float_read : (mantissa : Text → Option Decimal) (exponent : Text → Option ℤ)
+    → ((text : Text) → is_pointed (slice_split is_point text) ≡ true → GivesSome (mantissa text))
+    → ((text : Text) → is_signed text ≡ true → GivesSome (exponent text))
+    → (parts : List Text) → is_float_cut parts ≡ true → GivesDecimal (scientific mantissa exponent parts)
+float_read mantissa exponent one two [] h = absurd (true≢false (sym h))
+float_read mantissa exponent one two (m ∷ []) h =
+    let first = one m h in (_, ap (λ o. times_power_of_ten o (Some (pos 0))) first.1)
+float_read mantissa exponent one two (m ∷ e ∷ []) h =
+    let both = and_parts (is_pointed (slice_split is_point m)) (is_signed e) h in
+    let first = one m both.0 in
+    let second = two e both.1 in
+    (_, ap (λ o. times_power_of_ten o (exponent e)) first.1 ∙ ap (times_power_of_ten (Some first.0)) second.1)
+float_read mantissa exponent one two (a ∷ b ∷ c ∷ rest) h = absurd (true≢false (sym h))
+
+exponent_given : (text : Text) → is_signed text ≡ true → GivesSome (exponent_read text)
+exponent_given text h =
+    (_, given (are_digits 10 (past_sign text)) _ (and_parts (first_meets is_plus_or_minus text) (are_digits 10 (past_sign text)) h).1)
+
+exponent_11_given : (text : Text) → is_signed text ≡ true → GivesSome (exponent_11 text)
+exponent_11_given text h =
+    let read = exponent_given text h in
+    (read.0, ap (λ x. if x then exponent_read text else None) (and_parts (first_meets is_plus_or_minus text) (are_digits 10 (past_sign text)) h).0 ∙ read.1)
+
+core_mantissa_given : (negative : Bool) (parts : List Text) → is_pointed parts ≡ true → GivesSome (core_mantissa negative parts)
+core_mantissa_given negative [] h = absurd (true≢false (sym h))
+core_mantissa_given negative (whole ∷ []) h = absurd (true≢false (sym h))
+core_mantissa_given negative (whole ∷ fraction ∷ []) h = (_, given (are_digits 10 (whole ++ fraction)) _ h)
+core_mantissa_given negative (a ∷ b ∷ c ∷ rest) h = absurd (true≢false (sym h))
+
+mantissa_11_given : (negative : Bool) (parts : List Text) → is_pointed parts ≡ true → GivesSome (mantissa_11 negative parts)
+mantissa_11_given negative [] h = absurd (true≢false (sym h))
+mantissa_11_given negative (whole ∷ []) h = absurd (true≢false (sym h))
+mantissa_11_given negative ([] ∷ fraction ∷ []) h = (_, given (are_digits 10 fraction) _ h)
+mantissa_11_given negative ((c ∷ whole) ∷ fraction ∷ []) h =
+    let both = and_parts (list_all is_decimal (c ∷ whole)) (list_all is_decimal fraction)
+    (sym (list_all-append is_decimal (c ∷ whole) fraction) ∙ all_digits 10 ((c ∷ whole) ++ fraction) h) in
+    (_, mantissa_11_read negative c whole fraction both.0 both.1)
+mantissa_11_given negative (a ∷ b ∷ c ∷ rest) h = absurd (true≢false (sym h))
+
+float_11_given : (negative : Bool) (text : Text) → is_float_cut (slice_split is_exponent_letter text) ≡ true → GivesDecimal (float_11 negative text)
+float_11_given negative text h =
+    float_read (λ mantissa. mantissa_11 negative (slice_split is_point mantissa)) exponent_11
+    (λ m pointed. mantissa_11_given negative (slice_split is_point m) pointed) exponent_11_given (slice_split is_exponent_letter text) h
+
+core_decimal_given : (text : Text) → is_plain_float text ≡ true → GivesDecimal (core_decimal text)
+core_decimal_given text h =
+    float_read (λ mantissa. core_mantissa (is_negative text) (slice_split is_point mantissa)) exponent_read
+    (λ m pointed. core_mantissa_given (is_negative text) (slice_split is_point m) pointed) exponent_given
+    (slice_split is_exponent_letter (past_sign text)) h
+
+-- ---- what the core schema reads before floats
+
+-- `0` and a letter
+abbrev pub begins_based_by : ℕ → Text → Bool
+begins_based_by letter [] = false
+begins_based_by letter (c ∷ rest) = c == 0x30 && first_meets (λ d. d == letter) rest
+
+sign_no_zero : (c : ℕ) → is_plus_or_minus c ≡ true → (c == 0x30) ≡ false
+sign_no_zero c h = by (c == 0x30) refl
+  where
+    by : (x : Bool) → (c == 0x30) ≡ x → (c == 0x30) ≡ false
+    by false e = e
+    by true e = absurd (true≢false (sym h ∙ ap is_plus_or_minus (eqb-true c 0x30 e)))
+
+pub core_based_past : (letter base : ℕ) (text : Text) → begins_based_by letter (past_sign text) ≡ false → core_based letter base text ≡ None
+core_based_past letter base [] h = refl
+core_based_past letter base (s ∷ []) h = refl
+core_based_past letter base (s ∷ d ∷ text) h = by (is_plus_or_minus s) refl h
+  where
+    by : (x : Bool) → is_plus_or_minus s ≡ x → begins_based_by letter (if x then d ∷ text else s ∷ d ∷ text) ≡ false
+        → core_based letter base (s ∷ d ∷ text) ≡ None
+    by true e h = off _ _ (and_left (s == 0x30 && d == letter) (are_digits base text) (and_left (s == 0x30) (d == letter) (sign_no_zero s e)))
+    by false e h = off _ _ (and_left (s == 0x30 && d == letter) (are_digits base text) h)
+
+pointed_not_based : (letter : ℕ) (whole more : Text) → is_decimal letter ≡ false → (0x2E == letter) ≡ false → list_all is_decimal whole ≡ true
+    → begins_based_by letter (whole ++ (0x2E ∷ more)) ≡ false
+pointed_not_based letter [] more other point h = refl
+pointed_not_based letter (c ∷ whole) more other point h =
+    and_right (c == 0x30) _ (no_letter letter whole (0x2E ∷ more) other (and_parts (is_decimal c) (list_all is_decimal whole) h).1 point)
+
+pointed_no_digits : (whole more : Text) → are_digits 10 (whole ++ (0x2E ∷ more)) ≡ false
+pointed_no_digits whole more =
+    and_right (not (length (whole ++ (0x2E ∷ more)) == 0)) _
+    (list_all-append is_decimal whole (0x2E ∷ more) ∙ and_right (list_all is_decimal whole) false refl)
+
+-- ---- both schemas
+
+-- both give a text this tag
+abbrev pub BothRead : Text → Text → Type 0
+BothRead text tag = (canonical_tag (resolved_by_11 text) ≡ tag) × (canonical_tag (resolved_by_core text) ≡ tag)
+
+integer_read : (text : Text) → are_integer_digits (past_sign text) ≡ true → BothRead text int_tag
+integer_read text h =
+    let decimal = integer_digits (past_sign text) h in
+    let digit = begins_digit text (shaped_begins text (integer h)) in
+    let date = no_date text (past_sign text) [] (sym (append-nil (past_sign text))) (all_digits 10 (past_sign text) decimal) refl in (
+      ap canonical_tag (unsigned_by_11 text digit date) ∙ integer_by_11 (is_negative text) (past_sign text) decimal h,
+      ap canonical_tag (passed _ _ (no_word_of words_of_core text refl digit) ∙ found _ _ _ (given (are_digits 10 (past_sign text)) _ decimal)),
+    )
+
+hexadecimal_read : (digits : Text) → are_digits 16 digits ≡ true → BothRead (0x30 ∷ 0x78 ∷ digits) int_tag
+hexadecimal_read digits h = (
+  ap canonical_tag (unsigned_by_11 text refl (no_date text (0x30 ∷ []) (0x78 ∷ digits) refl refl refl)) ∙ hexadecimal_meant digits h,
+  ap canonical_tag
+      (passed (named words_of_core text) (core_integer text ∷ core_based 0x6F 8 text ∷ based_first) (no_word_of words_of_core text refl refl)
+      ∙ passed (core_integer text) (core_based 0x6F 8 text ∷ based_first)
+      (off (are_digits 10 text) (Some (meant_integer (signed false (digits_value 10 text)))) (and_right (not (length text == 0)) (list_all is_decimal text) refl))
+      ∙ passed (core_based 0x6F 8 text) based_first refl
+      ∙ found (core_based 0x78 16 text) (core_decimal text ∷ []) meant (given (are_digits 16 digits) meant h)),
+)
+  where
+    text : Text
+    text = 0x30 ∷ 0x78 ∷ digits
+
+    based_first : List (Option Resolved)
+    based_first = core_based 0x78 16 text ∷ core_decimal text ∷ []
+
+    meant : Resolved
+    meant = meant_integer (pos (digits_value 16 digits))
+
+float_by_both : (text : Text) → is_plain_float text ≡ true → BothRead text float_tag
+float_by_both text h = (
+  ap canonical_tag (unsigned_by_11 text digit date ∙ found _ _ _ (float_11_given (is_negative text) (past_sign text) h).1),
+  ap canonical_tag
+      (passed _ _ (no_word_of words_of_core text refl digit)
+      ∙ passed _ _ (off (are_digits 10 (past_sign text)) _ (ap (are_digits 10) parts.text_is ∙ pointed_no_digits parts.whole (parts.fraction ++ parts.rest)))
+      ∙ passed _ _ (core_based_past 0x6F 8 text (unbased 0x6F refl refl)) ∙ passed _ _ (core_based_past 0x78 16 text (unbased 0x78 refl refl))
+      ∙ found _ _ _ (core_decimal_given text h).1),
+)
+  where
+    parts : Pointed (past_sign text)
+    parts = pointed_parts (past_sign text) h
+
+    whole : list_all is_decimal parts.whole ≡ true
+    whole =
+        (and_parts (list_all is_decimal parts.whole) (list_all is_decimal parts.fraction)
+        (sym (list_all-append is_decimal parts.whole parts.fraction) ∙ all_digits 10 (parts.whole ++ parts.fraction) parts.digits)).0
+
+    digit : list_any is_decimal text ≡ true
+    digit = begins_digit text (shaped_begins text (float h))
+
+    date : timestamp_11 text ≡ None
+    date = no_date text parts.whole (0x2E ∷ (parts.fraction ++ parts.rest)) parts.text_is whole refl
+
+    unbased : (letter : ℕ) → is_decimal letter ≡ false → (0x2E == letter) ≡ false → begins_based_by letter (past_sign text) ≡ false
+    unbased letter other point =
+        ap (begins_based_by letter) parts.text_is ∙ pointed_not_based letter parts.whole (parts.fraction ++ parts.rest) other point whole
+
+-- so they read what has the tag of a number
+pub numbers_by_both : (text tag : Text) → plain_number_tag text ≡ Some tag → Shaped text × BothRead text tag
+numbers_by_both text tag e = by (are_integer_digits (past_sign text)) (is_hexadecimal text) (is_plain_float text) refl refl refl e
+  where
+    read : (found : Text) → BothRead text found → Some found ≡ Some tag → BothRead text tag
+    read found both same = let is : found ≡ tag = cc in (both.0 ∙ is, both.1 ∙ is)
+
+    none : None ≡ Some tag → ⊥
+    none e = cc
+
+    by : (x y z : Bool) → are_integer_digits (past_sign text) ≡ x → is_hexadecimal text ≡ y → is_plain_float text ≡ z
+        → option_or (some_if (x || y) int_tag) (some_if z float_tag) ≡ Some tag → Shaped text × BothRead text tag
+    by true y z h g f e = (integer h, read int_tag (integer_read text h) e)
+    by false true z h g f e =
+        let parts = hexadecimal_parts text g in
+        let both = hexadecimal_read parts.digits parts.hexadecimal in (
+          based g,
+          read int_tag (
+            ap (λ t. canonical_tag (resolved_by_11 t)) parts.text_is ∙ both.0,
+            ap (λ t. canonical_tag (resolved_by_core t)) parts.text_is ∙ both.1,
+          ) e,
+        )
+    by false false true h g f e = (float f, read float_tag (float_by_both text f) e)
+    by false false false h g f e = absurd (none e)
