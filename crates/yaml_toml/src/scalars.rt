@@ -12,7 +12,7 @@ use std::alloc::{Allocator, Global};
 use toml_datetime::Datetime;
 use toml_ordered::Node;
 use toml_parser::text::{first, skip};
-use yaml_writer::{SpecialFloat, Timestamp, Writer, number_of, yaml_error_t};
+use yaml_writer::{SpecialFloat, Timestamp, Writer, number_of, write_timestamp, yaml_error_t};
 
 /// Writes a value that is neither an array nor a table.
 pub(crate) fn write_scalar<A: Allocator + Copy>(
@@ -93,7 +93,7 @@ fn write_datetime<A: Allocator + Copy>(
     ensures { GivesScalar writer.old (date_content writer.old.canonical datetime.now (moment_of datetime.now)) result writer.new }
 {
     match Timestamp::try_from(*datetime).ok() {
-        Some(timestamp) => writer.timestamp(&timestamp),
+        Some(timestamp) => write_timestamp(writer, &timestamp),
         None => match format!(in alloc; "{datetime}") {
             Ok(text) => writer.text(text.as_str()),
             Err(_) => Err(yaml_error_t::Memory),

@@ -96,22 +96,24 @@ impl Timestamp {
     }
 }
 
-impl<A: Allocator + Copy> Writer<A> {
-    /// Writes a timestamp of YAML 1.1, in its `text`: a date plain, and one with a time of day with the tag
-    /// `tag:yaml.org,2002:timestamp`, as in flow its `:` keeps it from standing plain.
-    ///
-    /// # Errors
-    /// Those of the emitter, and `Memory`.
-    pub fn timestamp(&mut self, timestamp: &Timestamp) -> Result<(), yaml_error_t>
-        ensures { Gives self.old (timestamp_event self.old (seen_timestamp timestamp.now)) result self.new }
-    {
-        match timestamp.text(self.alloc) {
-            Ok(text) => {
-                let needed = self.canonical | timestamp.time.is_some();
-                let tag = own_tag(needed, YAML_TIMESTAMP_TAG);
-                self.scalar(tag, text.as_str(), YAML_PLAIN_SCALAR_STYLE)
-            }
-            Err(_) => Err(yaml_error_t::Memory),
+// (No method of `Writer`: each crate that names a writer would take in `jiff`, from which a date can be made.)
+/// Gives a writer a timestamp of YAML 1.1, in its `text`: a date plain, and one with a time of day with the tag
+/// `tag:yaml.org,2002:timestamp`, as in flow its `:` keeps it from standing plain.
+///
+/// # Errors
+/// Those of the emitter, and `Memory`.
+pub fn write_timestamp<A: Allocator + Copy>(
+    writer: &mut Writer<A>,
+    timestamp: &Timestamp,
+) -> Result<(), yaml_error_t>
+    ensures { Gives writer.old (timestamp_event writer.old (seen_timestamp timestamp.now)) result writer.new }
+{
+    match timestamp.text(writer.alloc) {
+        Ok(text) => {
+            let needed = writer.canonical | timestamp.time.is_some();
+            let tag = own_tag(needed, YAML_TIMESTAMP_TAG);
+            writer.scalar(tag, text.as_str(), YAML_PLAIN_SCALAR_STYLE)
         }
+        Err(_) => Err(yaml_error_t::Memory),
     }
 }

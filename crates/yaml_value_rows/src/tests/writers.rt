@@ -17,8 +17,8 @@ use std::mem::replace;
 use std::process::Abort;
 use yaml_writer::{
     Date, DocumentEnd, Quotes, Settings, Time, Timestamp, Writer, YAML_BLOCK_MAPPING_STYLE,
-    YAML_BLOCK_SEQUENCE_STYLE, YAML_FLOW_SEQUENCE_STYLE, number_of, value_settings, yaml_error_t,
-    yaml_scalar_style_t,
+    YAML_BLOCK_SEQUENCE_STYLE, YAML_FLOW_SEQUENCE_STYLE, number_of, value_settings,
+    write_timestamp, yaml_error_t, yaml_scalar_style_t,
 };
 
 /// A call of a writer.
@@ -77,7 +77,7 @@ fn give_timestamp(
     time: Option<Time>,
 ) -> Result<(), yaml_error_t> {
     match date {
-        Some(date) => writer.timestamp(&Timestamp { date, time }),
+        Some(date) => write_timestamp(writer, &Timestamp { date, time }),
         None => Ok(()),
     }
 }

@@ -17,9 +17,9 @@ returns-in-Some g c =
     let d = c.args.datetime.now in
     let moment = seen_timestamp c.in-Some.timestamp in
     let made : Some moment ≡ moment_of d = first_of (search rules, grind (arith, common_steps)) in
-    gives_scalar writer c.timestamp.new.self (timestamp_event writer moment) (date_content writer.canonical d (moment_of d)) c.timestamp.result
+    gives_scalar writer c.write_timestamp.new.writer (timestamp_event writer moment) (date_content writer.canonical d (moment_of d)) c.write_timestamp.result
     (timestamp_is writer moment c.requires ∙ ap (λ (found : Option Moment). scalar (date_content writer.canonical d found)) made)
-    c.timestamp.ensures
+    c.write_timestamp.ensures
 
 pub returns-in-Ok : goal.returns-in-Ok
 returns-in-Ok g c =

@@ -4,7 +4,8 @@ use std::alloc::Global;
 use std::process::Abort;
 use yaml_writer::{
     Date, DocumentEnd, SpecialFloat, Time, Timestamp, Writer, YAML_BLOCK_MAPPING_STYLE,
-    YAML_DOUBLE_QUOTED_SCALAR_STYLE, YAML_FLOW_SEQUENCE_STYLE, value_settings, yaml_error_t,
+    YAML_DOUBLE_QUOTED_SCALAR_STYLE, YAML_FLOW_SEQUENCE_STYLE, value_settings, write_timestamp,
+    yaml_error_t,
 };
 
 /// Gives a mapping of a text and of a sequence of values.
@@ -72,9 +73,9 @@ fn give_times(
 ) -> Result<(), yaml_error_t> {
     writer.begin_mapping(YAML_BLOCK_MAPPING_STYLE)?;
     writer.text("day")?;
-    writer.timestamp(&Timestamp { date, time: None })?;
+    write_timestamp(writer, &Timestamp { date, time: None })?;
     writer.text("at")?;
-    writer.timestamp(minute)?;
+    write_timestamp(writer, minute)?;
     writer.end()
 }
 
