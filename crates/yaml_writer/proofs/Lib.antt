@@ -23,6 +23,8 @@ pub mod ScalarMeanings
 pub mod PlainShapes
 pub mod ShapeCuts
 pub mod ShapesRead
+pub mod FloatsByBoth
+pub mod ShapesAll
 pub mod PlainTagLemmas
 pub mod TypedTrees
 pub mod Pushed

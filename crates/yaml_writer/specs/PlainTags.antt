@@ -103,3 +103,9 @@ abbrev pub PlainTagsAreRead : Type 0
 PlainTagsAreRead =
     (text tag : Text) → plain_tag text ≡ Some tag
     → IsWrittenPlain text × (canonical_tag (resolved_by_11 text) ≡ tag) × (canonical_tag (resolved_by_core text) ≡ tag)
+
+-- there are no others: both schemas give a text the same tag, other than that of texts, only where it is the plain tag
+abbrev pub PlainTagsAreAll : Type 0
+PlainTagsAreAll =
+    (text tag : Text) → is_empty text ≡ false → bytes_eq tag string_tag ≡ false
+    → canonical_tag (resolved_by_11 text) ≡ tag → canonical_tag (resolved_by_core text) ≡ tag → plain_tag text ≡ Some tag

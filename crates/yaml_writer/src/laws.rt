@@ -4,7 +4,7 @@ ghost use Rattle.yaml_base.specs.values.SurelyText.{SurelyTextIsText};
 ghost use Rattle.yaml_writer.specs.Dates.{DatesAreRead, WrittenDatesArePlain};
 ghost use Rattle.yaml_writer.specs.Floats.{SpecialFloatsAreRead};
 ghost use Rattle.yaml_writer.specs.Headings.{HeadingsArePassedOver};
-ghost use Rattle.yaml_writer.specs.PlainTags.{PlainTagsAreRead};
+ghost use Rattle.yaml_writer.specs.PlainTags.{PlainTagsAreAll, PlainTagsAreRead};
 ghost use Rattle.yaml_writer.specs.PlainTexts.{PlainTextsAreTexts};
 ghost use Rattle.yaml_writer.specs.ReadNumbers.{WrittenNumbersAreRead};
 ghost use Rattle.yaml_writer.specs.Times.{TimestampsAreRead, WrittenTimestampsArePlain};
@@ -62,6 +62,12 @@ pub fn written_timestamps_are_plain()
 /// both schemas give it this tag.
 pub fn plain_tags_are_read()
     ensures { PlainTagsAreRead }
+{}
+
+/// States that there are no other plain tags: a text to which both schemas give the same tag, other than that of texts, has it as its
+/// plain tag. The empty text is none of them: both read null, but it can't stand plain everywhere.
+pub fn plain_tags_are_all()
+    ensures { PlainTagsAreAll }
 {}
 
 /// States that what is read of a stream of typed events has the tags of these events, whichever schema gives tags to what is read
