@@ -1,6 +1,6 @@
 -- Headings are passed over; and they are written character by character.
-use Rattle.yaml_writer.proofs.Common.{ℕ, ◌==◌, if◌then◌else◌, codes, None, Bool, false, not, true, ◌&&◌, ◌||◌, List, [], ◌++◌, ◌∷◌, refl, ◌≡◌, and_from, append_assoc}
-use Rattle.yaml_writer.proofs.Common.{ap, arith, eqb-true, list_all, list_all-append, sym, ◌∙◌, encode_utf8_all, Text}
+use Rattle.yaml_writer.proofs.Common.{ℕ, ◌==◌, if◌then◌else◌, codes, None, Bool, false, not, true, ◌&&◌, ◌||◌, List, [], ◌++◌, ◌∷◌, refl, ◌≡◌}
+use Rattle.yaml_writer.proofs.Common.{and_from, append_assoc, ap, arith, eqb-true, list_all, list_all-append, sym, ◌∙◌, encode_utf8_all, Text}
 use Rattle.std.specs.Prelude.{Some, IsUtf8, chars, encode_utf8, option_and_then}
 use Rattle.std.proofs.lemmas.Str.{IsUtf8-append, chars-append, chars_from_encodes, encodes-append, encodes-chars, scalars-chars}
 use Rattle.yaml_base.proofs.{AllPass.all_pass, BreakLaws.rendered-cons, Decoding.text_bytes-utf8, stream_lines.StreamBytes.is_shown}
