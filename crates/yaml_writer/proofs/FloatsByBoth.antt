@@ -1,15 +1,17 @@
 -- What both schemas read as a float has the shape of one.
-use Rattle.yaml_writer.proofs.Common.{ℕ, if◌then◌else◌, ◌==◌, Option, None, Some, length, Bool, false, not, true, ◌&&◌, ◌||◌, List, [], ◌++◌, ◌∷◌, refl, ◌≡◌}
+use Rattle.yaml_writer.proofs.Common.{ℕ, if◌then◌else◌, ◌==◌, Option, None, Some, length, Bool, false, not, true, ◌&&◌, List, [], ◌++◌, ◌∷◌, refl, ◌≡◌}
 use Rattle.yaml_writer.proofs.Common.{eqb-true, true≢false, append-nil, ap, sym, ◌∙◌, and_parts, and_from, and_left, not_from_false, not-true, list_all-append}
 use Rattle.yaml_writer.proofs.Common.{list_all, Text, is_decimal, first_meets, are_digits, digit_unlike, float_tag}
-use Rattle.yaml_base.proofs.Common.{or_cases, ◌⊎◌, inl, inr, slice_split, bytes_eq, ℤ, pos, named, Resolved, Decimal, meant_integer, meant_decimal, first_reading}
-use Rattle.yaml_base.proofs.Common.{words_of_core, words_of_11, is_point, is_exponent_letter, is_plus_or_minus, past_sign, is_negative, decimal_of_digits}
+use Rattle.yaml_base.proofs.Common.{or_cases, ◌⊎◌, inl, inr, slice_split, bytes_eq, ℤ, pos, named, Resolved, Decimal, meant_integer, first_reading}
+use Rattle.yaml_base.proofs.Common.{words_of_core, words_of_11, is_point, is_exponent_letter, is_plus_or_minus, past_sign, is_negative}
 use Rattle.yaml_base.proofs.Common.{exponent_read, times_power_of_ten, scientific, core_mantissa, core_decimal, ungrouped, are_grouped, based_11, octal_11}
-use Rattle.yaml_base.proofs.Common.{decimal_11, mantissa_11, exponent_11, float_11, timestamp_11, numbers_11, resolved_by_11, is_colon, are_sixtieths, sixties_11}
+use Rattle.yaml_base.proofs.Common.{decimal_11, mantissa_11, exponent_11, float_11, timestamp_11, numbers_11, resolved_by_11, is_colon, are_sixtieths}
+use Rattle.yaml_base.proofs.Common.{sixties_11}
 use Rattle.yaml_base.proofs.Common.{fine_sixties_11, more_points_11, points_11}
 use Rattle.std.proofs.lemmas.List.Splits.{slice_split_none}
 use Rattle.yaml_base.proofs.{AllPass.all_pass, AllPass.uncut_by, no_numbers.NoNumbers.off}
-use Rattle.yaml_base.specs.{Options.some_if, Words.is_word, values.CanonicalTags.canonical_tag, values.Resolved.words_of_repository, values.Resolved.meant_by_nobody}
+use Rattle.yaml_base.specs.{Options.some_if, Words.is_word, values.CanonicalTags.canonical_tag, values.Resolved.words_of_repository}
+use Rattle.yaml_base.specs.{values.Resolved.meant_by_nobody}
 use Rattle.yaml_base.specs.values.Resolved.{meant_timestamp}
 use Rattle.yaml_base.proofs.Common.{signed, digits_value}
 use Rattle.yaml_base.specs.values.SchemaOf11.{integer_of_digits}

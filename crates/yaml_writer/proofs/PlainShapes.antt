@@ -1,17 +1,18 @@
 -- Numbers that both schemas read, by their shapes: the characters that they have, and how they begin.
-use Rattle.yaml_writer.proofs.Common.{ℕ, ◌<◌, append-nil, append_assoc, if◌then◌else◌, ◌==◌, Option, None, Some, nat_lt, length, Bool, false, not, true, ◌&&◌, ◌||◌, List, [], ◌++◌, ◌∷◌}
-use Rattle.yaml_writer.proofs.Common.{refl, ◌≡◌, eqb-true, ltb-true, true≢false, ap, sym, ◌∙◌, arith, and_parts, and_from, and_left, or_from, not_from_false}
-use Rattle.yaml_writer.proofs.Common.{not-true, list_all-append, digit_value, list_all, list_any, Text, is_space, is_decimal, first_meets, are_digits}
+use Rattle.yaml_writer.proofs.Common.{ℕ, ◌<◌, append-nil, append_assoc, if◌then◌else◌, ◌==◌, nat_lt, length, Bool, false, not, true, ◌&&◌, ◌||◌, List, []}
+use Rattle.yaml_writer.proofs.Common.{◌++◌, ◌∷◌}
+use Rattle.yaml_writer.proofs.Common.{refl, ◌≡◌, eqb-true, ltb-true, true≢false, ap, sym, ◌∙◌, arith, and_parts, and_from, or_from}
+use Rattle.yaml_writer.proofs.Common.{list_all-append, digit_value, list_all, Text, is_decimal, first_meets, are_digits}
 use Rattle.yaml_writer.proofs.Common.{is_whole_part, digit_unlike}
-use Rattle.yaml_base.proofs.Common.{agree_below_at, ◌⊎◌, inl, inr, or_cases, or_left, or_right, or_parts, onto_first, slice_split, lt-ltb, is_empty, is_point}
+use Rattle.yaml_base.proofs.Common.{agree_below_at, ◌⊎◌, inl, inr, or_cases, or_left, or_right, onto_first, slice_split, lt-ltb, is_empty, is_point}
 use Rattle.yaml_base.proofs.Common.{is_exponent_letter, is_plus_or_minus, past_sign}
 use Rattle.std.proofs.lemmas.List.Splits.{length-slice_split, slice_split-cons_yes, slice_split-cons_no}
 use Rattle.std.{proofs.lemmas.Bool.agree_below, specs.Char.is_digit}
 use Rattle.yaml_base.proofs.AllPass.{all_pass}
-use Rattle.yaml_base.specs.scalars.Analysis.{is_gap, ends_word, begins_like_marker, is_indicator, begins_unlike_plain}
+use Rattle.yaml_base.specs.scalars.Analysis.{is_gap, begins_like_marker, begins_unlike_plain}
 use Rattle.yaml_base.proofs.{AsciiWords.is_ascii_text, Common.nat_tests}
 use Rattle.yaml_writer.proofs.PlainNumbers.{begins_as_plain, digit_harmless, is_harmless, no_exclamation, no_exponent_letter_after, no_harm}
-use Rattle.yaml_writer.specs.PlainTags.{are_integer_digits, is_hexadecimal, is_pointed, is_signed, is_float_cut, is_plain_integer, is_plain_float}
+use Rattle.yaml_writer.specs.PlainTags.{are_integer_digits, is_hexadecimal, is_pointed, is_signed, is_float_cut, is_plain_float}
 
 -- ---- cuts
 
@@ -279,7 +280,8 @@ behind_minus c rest other gap =
     (or_from (begins_like_marker (0x2D ∷ c ∷ rest)) false (no_exponent_letter_after c rest other) refl) gap
 
 behind_plus : (rest : Text) → begins_unlike_plain (0x2B ∷ rest) ≡ false
-behind_plus rest = or_from (begins_like_marker (0x2B ∷ rest) || false) false (or_from (begins_like_marker (0x2B ∷ rest)) false (no_exclamation 0x2B rest refl) refl) refl
+behind_plus rest =
+    or_from (begins_like_marker (0x2B ∷ rest) || false) false (or_from (begins_like_marker (0x2B ∷ rest)) false (no_exclamation 0x2B rest refl) refl) refl
 
 behind_point : (c : ℕ) (rest : Text) → is_decimal c ≡ true → begins_unlike_plain (0x2E ∷ c ∷ rest) ≡ false
 behind_point c [] digit = refl
@@ -346,7 +348,8 @@ among_small test all plus hyphen point letter c h = by (or_cases (is_digit c 16 
     by (inr e) = same 0x78 letter e
 
 pub shaped_harmless : (text : Text) → Shaped text → list_all is_harmless text ≡ true
-shaped_harmless text shaped = all_pass in_plain_number is_harmless (λ c h. among_small is_harmless refl refl refl refl refl c h) text (shaped_stands text shaped)
+shaped_harmless text shaped =
+    all_pass in_plain_number is_harmless (λ c h. among_small is_harmless refl refl refl refl refl c h) text (shaped_stands text shaped)
 
 pub shaped_ascii : (text : Text) → Shaped text → is_ascii_text text ≡ true
 shaped_ascii text shaped =

@@ -1,14 +1,14 @@
 -- How the code cuts a number: at its point and at its exponent, as the shapes are cut; and by bytes as by characters.
-use Rattle.yaml_writer.proofs.Common.{ℕ, if◌then◌else◌, ◌==◌, is_some, option_map, Option, None, Some, codes, chars, length, Bool, false, not, true, ◌&&◌}
-use Rattle.yaml_writer.proofs.Common.{◌||◌, List, [], ◌++◌, ◌∷◌, refl, ◌≡◌, eqb-true, true≢false, append-nil, ap, sym, ◌∙◌, and_parts, and_from, or_from}
-use Rattle.yaml_writer.proofs.Common.{not_from_false, list_all-append, list_all, encode_utf8_all, encodes-chars, IsUtf8, Text, JsonExponent, is_decimal}
+use Rattle.yaml_writer.proofs.Common.{ℕ, if◌then◌else◌, ◌==◌, is_some, option_map, Option, None, Some, chars, Bool, false, not, true, ◌&&◌}
+use Rattle.yaml_writer.proofs.Common.{◌||◌, List, [], ◌++◌, ◌∷◌, refl, ◌≡◌, eqb-true, true≢false, ap, sym, ◌∙◌, and_parts, and_from, or_from}
+use Rattle.yaml_writer.proofs.Common.{not_from_false, list_all-append, list_all, encodes-chars, IsUtf8, Text, JsonExponent, is_decimal}
 use Rattle.yaml_writer.proofs.Common.{first_meets, are_digits, digit_unlike, and_left, option_or, int_tag, float_tag}
 use Rattle.yaml_base.proofs.Common.{All, ◌⊎◌, inl, inr, or_cases, or_left, or_right, onto_first, slice_split, is_point, is_exponent_letter, is_plus_or_minus}
 use Rattle.yaml_base.proofs.Common.{past_sign, chars-IsAscii}
 use Rattle.std.proofs.lemmas.{List.Splits.slice_split_none, List.Splits.slice_split_at, Str.encodes-IsAscii}
 use Rattle.yaml_base.proofs.{AllPass.all_pass, AllPass.uncut_by, AsciiWords.ascii_of, AsciiWords.is_ascii_text}
 use Rattle.yaml_writer.proofs.PartLemmas.{lacks, cut_none, cut_found, cut_joins, Joins, first_unlike}
-use Rattle.yaml_writer.proofs.PlainShapes.{Cut, uncut, cut, cut_of, some_part, Mantissa, mantissa_parts, Shaped, integer, based, float, shaped_ascii, all_digits}
+use Rattle.yaml_writer.proofs.PlainShapes.{Cut, uncut, cut, cut_of, some_part, mantissa_parts, Shaped, integer, based, float, shaped_ascii, all_digits}
 use Rattle.yaml_writer.specs.NumberParts.{cut_at_first, sign_of, around, exponent_cut}
 use Rattle.yaml_writer.specs.PlainTags.{are_integer_digits, is_hexadecimal, is_pointed, is_signed, is_signed_exponent, is_float_cut, is_plain_integer}
 use Rattle.yaml_writer.specs.PlainTags.{is_plain_float, plain_number_tag}

@@ -1,16 +1,16 @@
 -- What both schemas read alike, other than texts, is a word or a number of these shapes.
 use Rattle.yaml_writer.proofs.Common.{ℕ, if◌then◌else◌, ◌==◌, option_map, option_or, Option, None, Some, codes, length, Bool, false, not, true, ◌&&◌, ◌||◌}
-use Rattle.yaml_writer.proofs.Common.{List, [], ◌++◌, ◌∷◌, refl, ◌≡◌, eqb-true, true≢false, ap, sym, ◌∙◌, and_parts, and_from, and_left, and_right, or_from}
-use Rattle.yaml_writer.proofs.Common.{not_from_false, list_all-append, list_all, list_any, Text, is_word, is_decimal, first_meets, are_digits, is_whole_part}
+use Rattle.yaml_writer.proofs.Common.{List, [], ◌∷◌, refl, ◌≡◌, eqb-true, true≢false, ap, sym, ◌∙◌, and_parts, and_from, and_left, and_right, or_from}
+use Rattle.yaml_writer.proofs.Common.{not_from_false, list_all, list_any, Text, is_word, is_decimal, first_meets, are_digits, is_whole_part}
 use Rattle.yaml_writer.proofs.Common.{digit_unlike, int_tag, float_tag, drop}
-use Rattle.yaml_base.proofs.Common.{inl, inr, and_cases, ◌⊎◌, or_left, or_right, or_parts, slice_split, bytes_eq, bytes_eq-Decides, ℤ, pos, named, Resolved, Decimal}
-use Rattle.yaml_base.proofs.Common.{meant_integer, meant_decimal, meant_text, first_reading, words_of_core, words_of_11, is_point, is_exponent_letter}
-use Rattle.yaml_base.proofs.Common.{is_plus_or_minus, past_sign, is_negative, decimal_of_digits, exponent_read, times_power_of_ten, scientific, core_integer}
-use Rattle.yaml_base.proofs.Common.{core_based, core_mantissa, core_decimal, resolved_by_core, ungrouped, are_grouped, begins_grouped, based_11, octal_11}
-use Rattle.yaml_base.proofs.Common.{decimal_11, is_leading, mantissa_11, exponent_11, float_11, timestamp_11, numbers_11, resolved_by_11, is_underscore}
+use Rattle.yaml_base.proofs.Common.{or_left, or_right, or_parts, slice_split, bytes_eq, bytes_eq-Decides, ℤ, pos, named, Resolved, Decimal}
+use Rattle.yaml_base.proofs.Common.{meant_integer, meant_text, first_reading, words_of_core, is_point, is_exponent_letter}
+use Rattle.yaml_base.proofs.Common.{past_sign, is_negative, exponent_read, times_power_of_ten, scientific, core_integer}
+use Rattle.yaml_base.proofs.Common.{core_based, core_mantissa, core_decimal, resolved_by_core, are_grouped, begins_grouped, octal_11}
+use Rattle.yaml_base.proofs.Common.{decimal_11, is_leading, numbers_11, resolved_by_11, is_underscore}
 use Rattle.yaml_base.proofs.Common.{is_colon, are_sixtieths, sixties_11, fine_sixties_11, more_points_11, has_more_points, points_11, is_empty, string_tag}
-use Rattle.std.{specs.Char.is_digit, proofs.lemmas.List.Splits.slice_split_none}
-use Rattle.yaml_base.proofs.{AllPass.all_pass, AllPass.uncut_by, NumberCuts.uncut, NumberCuts.no_point, NumberCuts.no_exponent}
+use Rattle.std.{specs.Char.is_digit}
+use Rattle.yaml_base.proofs.{NumberCuts.uncut, NumberCuts.no_point, NumberCuts.no_exponent}
 use Rattle.yaml_base.proofs.NumbersByCore.{passed, found, given}
 use Rattle.yaml_base.proofs.NumbersRead.{float_11_none, based_11_none}
 use Rattle.yaml_base.proofs.no_numbers.NoNumbers.{off, filled}
@@ -21,8 +21,8 @@ use Rattle.yaml_writer.proofs.PlainShapes.{all_digits, integer_digits}
 use Rattle.yaml_writer.proofs.Common.{append-nil}
 use Rattle.yaml_base.proofs.Common.{signed, digits_value}
 use Rattle.yaml_writer.proofs.ShapesRead.{past_sign_digit, no_date, unsigned_by_11, two_in_part, float_none}
-use Rattle.yaml_writer.specs.PlainTags.{are_integer_digits, is_hexadecimal, is_plain_integer, is_plain_float, plain_number_tag, plain_tag, word_meant}
-use Rattle.yaml_writer.specs.PlainTags.{is_pointed, is_signed, is_float_cut, PlainTagsAreAll}
+use Rattle.yaml_writer.specs.PlainTags.{are_integer_digits, is_hexadecimal, is_plain_integer, is_plain_float, plain_number_tag, plain_tag}
+use Rattle.yaml_writer.specs.PlainTags.{PlainTagsAreAll}
 
 -- ---- digits that 1.1 reads as no integer
 
@@ -77,7 +77,8 @@ digits_text negative (c ∷ digits) decimal other =
     ∙ passed _ _ (ap (fine_sixties_11 negative) (no_point (c ∷ digits) all))
     ∙ passed _ _ (ap more_points_11 (no_exponent (c ∷ digits) all)
     ∙ off _ _ (ap has_more_points (no_point (c ∷ digits) all)))
-    ∙ passed _ _ (off _ _ (and_left (is_point c) (list_all is_point (c ∷ digits)) (digit_unlike c 0x2E refl (and_parts (is_decimal c) (list_all is_decimal digits) all).0)))
+    ∙ passed _ _ (off _ _ (and_left (is_point c) (list_all is_point (c ∷ digits))
+    (digit_unlike c 0x2E refl (and_parts (is_decimal c) (list_all is_decimal digits) all).0)))
   where
     all : list_all is_decimal (c ∷ digits) ≡ true
     all = all_digits 10 (c ∷ digits) decimal
@@ -89,7 +90,8 @@ digits_text negative (c ∷ digits) decimal other =
         → first_meets (λ d. d == letter) digits ≡ false
     second letter other [] all = refl
     second letter other (d ∷ digits) all =
-        digit_unlike d letter other (and_parts (is_decimal d) (list_all is_decimal digits) (and_parts (is_decimal c) (list_all is_decimal (d ∷ digits)) all).1).0
+        digit_unlike d letter other
+        (and_parts (is_decimal d) (list_all is_decimal digits) (and_parts (is_decimal c) (list_all is_decimal (d ∷ digits)) all).1).0
 
 -- ---- `0o` and digits
 

@@ -1,23 +1,23 @@
 -- Both schemas read numbers of these shapes as integers and floats.
-use Rattle.yaml_writer.proofs.Common.{ℕ, if◌then◌else◌, ◌==◌, option_map, Option, None, Some, codes, length, Bool, false, not, true, ◌&&◌, ◌||◌, List, []}
-use Rattle.yaml_writer.proofs.Common.{◌++◌, ◌∷◌, refl, ◌≡◌, eqb-true, true≢false, ap, sym, ◌∙◌, arith, and_parts, and_from, and_left, and_right, or_from}
-use Rattle.yaml_writer.proofs.Common.{not_from_false, not-true, list_all-append, list_all, list_any, Text, is_decimal, first_meets, are_digits, is_whole_part}
+use Rattle.yaml_writer.proofs.Common.{ℕ, if◌then◌else◌, ◌==◌, Option, None, Some, length, Bool, false, not, true, ◌&&◌, ◌||◌, List, []}
+use Rattle.yaml_writer.proofs.Common.{◌++◌, ◌∷◌, refl, ◌≡◌, eqb-true, true≢false, ap, sym, ◌∙◌, and_parts, and_from, and_left, and_right}
+use Rattle.yaml_writer.proofs.Common.{list_all-append, list_all, list_any, Text, is_decimal, first_meets, are_digits, is_whole_part}
 use Rattle.yaml_writer.proofs.Common.{digit_unlike, int_tag, float_tag, append-nil, option_or, drop}
 use Rattle.yaml_base.specs.Options.{some_if}
 use Rattle.yaml_base.proofs.Common.{◌⊎◌, inl, inr, or_cases, or_left, or_right, slice_split, onto_first, ℤ, pos, named, digits_value, Resolved, Decimal}
 use Rattle.yaml_base.proofs.Common.{meant_integer, meant_decimal, first_reading, words_of_core, words_of_11, is_point, is_exponent_letter, is_plus_or_minus}
-use Rattle.yaml_base.proofs.Common.{past_sign, is_negative, signed, decimal_of_digits, exponent_read, times_power_of_ten, scientific, core_integer, core_based}
+use Rattle.yaml_base.proofs.Common.{past_sign, is_negative, signed, exponent_read, times_power_of_ten, scientific, core_integer, core_based}
 use Rattle.yaml_base.proofs.Common.{core_mantissa, core_decimal, resolved_by_core, ungrouped, are_grouped, begins_grouped, based_11, octal_11, mantissa_11}
 use Rattle.yaml_base.proofs.Common.{exponent_11, float_11, in_date, timestamp_11, numbers_11, resolved_by_11, is_underscore}
 use Rattle.std.specs.Char.{is_digit}
 use Rattle.std.proofs.lemmas.List.Splits.{slice_split-cons_no}
 use Rattle.yaml_base.proofs.{AllPass.all_pass, SchemaWords.named_unlike, NumberCuts.no_timestamp}
-use Rattle.yaml_base.proofs.NumbersByCore.{passed, found, given, core_based_none, no_letter}
-use Rattle.yaml_base.proofs.NumbersRead.{float_11_none, based_11_none, integer_without_sign, mantissa_11_read, Whole, leading, zero_alone, whole_11}
+use Rattle.yaml_base.proofs.NumbersByCore.{passed, found, given, no_letter}
+use Rattle.yaml_base.proofs.NumbersRead.{float_11_none, based_11_none, integer_without_sign, mantissa_11_read, leading, zero_alone, whole_11}
 use Rattle.yaml_base.proofs.no_numbers.NoNumbers.{off, filled}
 use Rattle.yaml_base.proofs.no_numbers.NumbersBegin.{first_part, scientific_begins}
 use Rattle.yaml_base.specs.{values.CanonicalTags.canonical_tag, values.SchemaOf11.integer_of_digits, values.Resolved.meant_by_nobody}
-use Rattle.yaml_writer.proofs.PlainShapes.{Shaped, integer, based, float, Begins, by_digit, by_point, Pointed, Hexadecimal, shaped_begins, pointed_parts}
+use Rattle.yaml_writer.proofs.PlainShapes.{Shaped, integer, based, float, Begins, by_digit, by_point, Pointed, shaped_begins, pointed_parts}
 use Rattle.yaml_writer.proofs.PlainShapes.{hexadecimal_parts, integer_digits, all_digits}
 use Rattle.yaml_writer.specs.PlainTags.{are_integer_digits, is_hexadecimal, is_pointed, is_signed, is_float_cut, is_plain_float}
 use Rattle.yaml_writer.specs.PlainTags.{plain_number_tag}
@@ -297,7 +297,8 @@ hexadecimal_read digits h = (
   ap canonical_tag
       (passed (named words_of_core text) (core_integer text ∷ core_based 0x6F 8 text ∷ based_first) (no_word_of words_of_core text refl refl)
       ∙ passed (core_integer text) (core_based 0x6F 8 text ∷ based_first)
-      (off (are_digits 10 text) (Some (meant_integer (signed false (digits_value 10 text)))) (and_right (not (length text == 0)) (list_all is_decimal text) refl))
+      (off (are_digits 10 text) (Some (meant_integer (signed false (digits_value 10 text))))
+      (and_right (not (length text == 0)) (list_all is_decimal text) refl))
       ∙ passed (core_based 0x6F 8 text) based_first refl
       ∙ found (core_based 0x78 16 text) (core_decimal text ∷ []) meant (given (are_digits 16 digits) meant h)),
 )

@@ -1,5 +1,6 @@
 -- The tags that texts have where they stand plain, whichever schema reads them: those of null, booleans, integers and floats.
-use Rattle.std.specs.Prelude.{◌≡◌, Bool, true, false, Option, None, Some, List, [], ◌∷◌, ◌++◌, ◌==◌, ◌||◌, ◌&&◌, bytes_eq, is_some, codes, option_map, if◌then◌else◌}
+use Rattle.std.specs.Prelude.{◌≡◌, Bool, true, false, Option, None, Some, List, [], ◌∷◌, ◌++◌, ◌==◌, ◌||◌, ◌&&◌, bytes_eq, is_some, codes, option_map}
+use Rattle.std.specs.Prelude.{if◌then◌else◌}
 use Rattle.std.specs.List.{slice_split}
 use Rattle.std.specs.Option.{option_or}
 use Rattle.yaml_base.specs.Characters.{Text}
