@@ -49,7 +49,10 @@ fn after_spaces(text: &str, depth: usize) -> Result<&str, Stop>
 {
     let mut rest = text;
     for _level in 0..depth {
-        rest = after(rest, "  ")?;
+        match after(rest, "  ") {
+            Ok(next) => rest = next,
+            Err(stop) => return Err(stop),
+        }
     }
     Ok(rest)
 }
@@ -60,6 +63,8 @@ pub(crate) fn after_indent(text: &str, depth: usize) -> Result<&str, Stop>
     ensures lacks { IfErr result (LacksLine depth text.now) }
     ensures shorter { IfOk result (λ rest. length rest.now < length text.now) }
 {
-    let line = after(text, "\n")?;
-    after_spaces(line, depth)
+    match after(text, "\n") {
+        Ok(line) => after_spaces(line, depth),
+        Err(stop) => Err(stop),
+    }
 }

@@ -54,17 +54,19 @@ fn read_integer<A: Allocator + Copy>(alloc: A, text: &str) -> Result<(Value<A>, 
     ensures breaks { IfErr result (BreaksAt integer text.now) }
     ensures shorter { IfOk result (λ found. length found.1.now < length text.now) }
 {
-    let (digits, rest) = read_digits(alloc, text)?;
-    match digits.as_str().parse::<i64>() {
-        Ok(value) => {
-            let spelled = format!(in alloc; "{value}")?;
-            if spelled.as_str() == digits.as_str() {
-                Ok((Value::Int(value), rest))
-            } else {
-                Err(refused_at(text))
+    match read_digits(alloc, text) {
+        Ok((digits, rest)) => match digits.as_str().parse::<i64>() {
+            Ok(value) => {
+                let spelled = format!(in alloc; "{value}")?;
+                if spelled.as_str() == digits.as_str() {
+                    Ok((Value::Int(value), rest))
+                } else {
+                    Err(refused_at(text))
+                }
             }
-        }
-        Err(_) => Err(refused_at(text)),
+            Err(_) => Err(refused_at(text)),
+        },
+        Err(stop) => Err(stop),
     }
 }
 
@@ -78,10 +80,10 @@ fn read_truth<A: Allocator>(text: &str) -> Result<(Value<A>, &str), Stop>
 {
     match past(text, "\"true\"") {
         Some(rest) => Ok((Value::Bool(true), rest)),
-        None => {
-            let rest = after(text, "\"false\"")?;
-            Ok((Value::Bool(false), rest))
-        }
+        None => match after(text, "\"false\"") {
+            Ok(rest) => Ok((Value::Bool(false), rest)),
+            Err(stop) => Err(stop),
+        },
     }
 }
 
@@ -91,10 +93,12 @@ fn read_list<A: Allocator + Copy>(alloc: A, text: &str) -> Result<(Head<A>, &str
     ensures placed { IfErr result (IsHere text.now) }
     ensures shorter { IfOk result (λ found. length found.1.now < length text.now) }
 {
-    let inside = after(text, "[")?;
-    match past(inside, "]") {
-        Some(rest) => Ok((Head::Whole(Value::List(Vec::new(alloc))), rest)),
-        None => Ok((Head::Items, inside)),
+    match after(text, "[") {
+        Ok(inside) => match past(inside, "]") {
+            Some(rest) => Ok((Head::Whole(Value::List(Vec::new(alloc))), rest)),
+            None => Ok((Head::Items, inside)),
+        },
+        Err(stop) => Err(stop),
     }
 }
 
@@ -104,10 +108,12 @@ fn read_map<A: Allocator + Copy>(alloc: A, text: &str) -> Result<(Head<A>, &str)
     ensures placed { IfErr result (IsHere text.now) }
     ensures shorter { IfOk result (λ found. length found.1.now < length text.now) }
 {
-    let inside = after(text, "{")?;
-    match past(inside, "}") {
-        Some(rest) => Ok((Head::Whole(Value::Map(Vec::new(alloc))), rest)),
-        None => Ok((Head::Pairs, inside)),
+    match after(text, "{") {
+        Ok(inside) => match past(inside, "}") {
+            Some(rest) => Ok((Head::Whole(Value::Map(Vec::new(alloc))), rest)),
+            None => Ok((Head::Pairs, inside)),
+        },
+        Err(stop) => Err(stop),
     }
 }
 
@@ -143,8 +149,10 @@ fn read_tag(text: &str) -> Result<(Kind, &str), Stop>
     if let Some(rest) = past(text, "!!bool ") {
         return Ok((Kind::Bool, rest));
     }
-    let rest = after(text, "!!null ")?;
-    Ok((Kind::Null, rest))
+    match after(text, "!!null ") {
+        Ok(rest) => Ok((Kind::Null, rest)),
+        Err(stop) => Err(stop),
+    }
 }
 
 /// Returns the beginning of a node, from its tag on, and what follows.
@@ -155,25 +163,27 @@ pub(crate) fn read_head<A: Allocator + Copy>(alloc: A, text: &str) -> Result<(He
     ensures breaks { (depth : ℕ) → IfErr result (BreaksAt (node depth) text.now) }
     ensures shorter { IfOk result (λ found. length found.1.now < length text.now) }
 {
-    let (kind, behind) = read_tag(text)?;
-    match kind {
-        Kind::Null => {
-            let rest = after(behind, "\"null\"")?;
-            Ok((Head::Whole(Value::Null), rest))
-        }
-        Kind::Bool => {
-            let (value, rest) = read_truth(behind)?;
-            Ok((Head::Whole(value), rest))
-        }
-        Kind::Int => {
-            let (value, rest) = read_integer(alloc, behind)?;
-            Ok((Head::Whole(value), rest))
-        }
-        Kind::Text => {
-            let (value, rest) = read_quoted(alloc, behind)?;
-            Ok((Head::Whole(Value::Text(value)), rest))
-        }
-        Kind::List => read_list(alloc, behind),
-        Kind::Map => read_map(alloc, behind),
+    match read_tag(text) {
+        Ok((kind, behind)) => match kind {
+            Kind::Null => match after(behind, "\"null\"") {
+                Ok(rest) => Ok((Head::Whole(Value::Null), rest)),
+                Err(stop) => Err(stop),
+            },
+            Kind::Bool => match read_truth(behind) {
+                Ok((value, rest)) => Ok((Head::Whole(value), rest)),
+                Err(stop) => Err(stop),
+            },
+            Kind::Int => match read_integer(alloc, behind) {
+                Ok((value, rest)) => Ok((Head::Whole(value), rest)),
+                Err(stop) => Err(stop),
+            },
+            Kind::Text => match read_quoted(alloc, behind) {
+                Ok((value, rest)) => Ok((Head::Whole(Value::Text(value)), rest)),
+                Err(stop) => Err(stop),
+            },
+            Kind::List => read_list(alloc, behind),
+            Kind::Map => read_map(alloc, behind),
+        },
+        Err(stop) => Err(stop),
     }
 }

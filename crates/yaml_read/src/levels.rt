@@ -54,14 +54,18 @@ fn next_entry<'a>(text: &'a str, depth: usize, lead: &str, end: &str) -> Result<
     ensures breaks { IfErr result (BreaksAt (entry_end depth lead.now end.now) text.now) }
     ensures shorter { IfOk result (EntryShorter text.now) }
 {
-    let behind = after(text, ",")?;
-    let line = after_indent(behind, depth)?;
-    match past(line, lead) {
-        Some(rest) => Ok(Entry::Another(rest)),
-        None => {
-            let rest = after(line, end)?;
-            Ok(Entry::End(rest))
-        }
+    match after(text, ",") {
+        Ok(behind) => match after_indent(behind, depth) {
+            Ok(line) => match past(line, lead) {
+                Some(rest) => Ok(Entry::Another(rest)),
+                None => match after(line, end) {
+                    Ok(rest) => Ok(Entry::End(rest)),
+                    Err(stop) => Err(stop),
+                },
+            },
+            Err(stop) => Err(stop),
+        },
+        Err(stop) => Err(stop),
     }
 }
 
@@ -84,10 +88,12 @@ fn take_item<'a, A: Allocator>(
         Ok(()) => {}
         Err(_) => return Err(Stop::Memory),
     }
-    let entry = next_entry(text, depth, "  ", "]")?;
-    match entry {
-        Entry::Another(rest) => Ok(Turn::Continues(Level::Items(items), rest)),
-        Entry::End(rest) => Ok(Turn::Ends(Value::List(items), rest)),
+    match next_entry(text, depth, "  ", "]") {
+        Ok(entry) => match entry {
+            Entry::Another(rest) => Ok(Turn::Continues(Level::Items(items), rest)),
+            Entry::End(rest) => Ok(Turn::Ends(Value::List(items), rest)),
+        },
+        Err(stop) => Err(stop),
     }
 }
 
@@ -112,10 +118,12 @@ fn take_pair<'a, A: Allocator>(
         Ok(()) => {}
         Err(_) => return Err(Stop::Memory),
     }
-    let entry = next_entry(text, depth, "  ? ", "}")?;
-    match entry {
-        Entry::Another(rest) => Ok(Turn::Continues(Level::Pairs(pairs), rest)),
-        Entry::End(rest) => Ok(Turn::Ends(Value::Map(pairs), rest)),
+    match next_entry(text, depth, "  ? ", "}") {
+        Ok(entry) => match entry {
+            Entry::Another(rest) => Ok(Turn::Continues(Level::Pairs(pairs), rest)),
+            Entry::End(rest) => Ok(Turn::Ends(Value::Map(pairs), rest)),
+        },
+        Err(stop) => Err(stop),
     }
 }
 
@@ -133,9 +141,13 @@ fn take_key<'a, A: Allocator>(
     ensures breaks { IfErr result (BreaksAt (line_then depth (word_then (codes "  : ") nothing)) text.now) }
     ensures shorter { IfOk result (TurnShorter text.now) }
 {
-    let line = after_indent(text, depth)?;
-    let rest = after(line, "  : ")?;
-    Ok(Turn::Continues(Level::PairsAndKey(pairs, key), rest))
+    match after_indent(text, depth) {
+        Ok(line) => match after(line, "  : ") {
+            Ok(rest) => Ok(Turn::Continues(Level::PairsAndKey(pairs, key), rest)),
+            Err(stop) => Err(stop),
+        },
+        Err(stop) => Err(stop),
+    }
 }
 
 /// Takes a value in a list or a map that lies so deep.
@@ -176,11 +188,15 @@ fn finish<'a, A: Allocator>(value: Value<A>, text: &'a str) -> Result<Next<'a, A
     ensures lacks { IfErr result (LacksEnd text.now) }
     ensures shorter { IfOk result (NextShorter text.now) }
 {
-    let end = after(text, "\n")?;
-    if end.is_empty() {
-        Ok(Next::Done(value))
-    } else {
-        Err(refused_at(end))
+    match after(text, "\n") {
+        Ok(end) => {
+            if end.is_empty() {
+                Ok(Next::Done(value))
+            } else {
+                Err(refused_at(end))
+            }
+        }
+        Err(stop) => Err(stop),
     }
 }
 
@@ -200,16 +216,20 @@ pub(crate) fn settle<'a, A: Allocator>(
     let mut value = value;
     let mut rest = text;
     while let Some(level) = levels.pop() {
-        let turn = take_value(level, value, rest, levels.len())?;
-        match turn {
-            Turn::Continues(level, next) => {
-                push(levels, level)?;
-                return Ok(Next::Node(next));
-            }
-            Turn::Ends(whole, next) => {
-                value = whole;
-                rest = next;
-            }
+        match take_value(level, value, rest, levels.len()) {
+            Ok(turn) => match turn {
+                Turn::Continues(level, next) => {
+                    return match push(levels, level) {
+                        Ok(()) => Ok(Next::Node(next)),
+                        Err(stop) => Err(stop),
+                    };
+                }
+                Turn::Ends(whole, next) => {
+                    value = whole;
+                    rest = next;
+                }
+            },
+            Err(stop) => return Err(stop),
         }
     }
     finish(value, rest)
@@ -226,8 +246,10 @@ pub(crate) fn enter_list<'a, A: Allocator>(
     ensures breaks { IfErr result (BreaksAt (line_then (suc (length levels.old.items)) nothing) text.now) }
     ensures shorter { IfOk result (λ rest. length rest.now < length text.now) }
 {
-    push(levels, Level::Items(Vec::new(alloc)))?;
-    after_indent(text, levels.len())
+    match push(levels, Level::Items(Vec::new(alloc))) {
+        Ok(()) => after_indent(text, levels.len()),
+        Err(stop) => Err(stop),
+    }
 }
 
 /// Opens a map, up to its first key.
@@ -241,7 +263,11 @@ pub(crate) fn enter_map<'a, A: Allocator>(
     ensures breaks { IfErr result (BreaksAt (line_then (suc (length levels.old.items)) (word_then (codes "? ") nothing)) text.now) }
     ensures shorter { IfOk result (λ rest. length rest.now < length text.now) }
 {
-    push(levels, Level::Pairs(Vec::new(alloc)))?;
-    let line = after_indent(text, levels.len())?;
-    after(line, "? ")
+    match push(levels, Level::Pairs(Vec::new(alloc))) {
+        Ok(()) => match after_indent(text, levels.len()) {
+            Ok(line) => after(line, "? "),
+            Err(stop) => Err(stop),
+        },
+        Err(stop) => Err(stop),
+    }
 }

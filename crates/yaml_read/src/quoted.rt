@@ -85,9 +85,13 @@ fn read_digit(text: &str) -> Option<(u32, &str)>
     ensures sound { IfSome result (λ found. text.now ≡ encode_utf8_all (hex_digit found.0 ∷ []) ++ found.1.now) }
     ensures small { IfSome result (λ found. found.0 < 16) }
 {
-    let (c, rest) = first(text)?;
-    let digit = digit_of(c)?;
-    Some((digit, rest))
+    match first(text) {
+        Some((c, rest)) => match digit_of(c) {
+            Some(digit) => Some((digit, rest)),
+            None => None,
+        },
+        None => None,
+    }
 }
 
 /// Returns a number of two hexadecimal digits, and what follows.
@@ -97,9 +101,13 @@ pub(crate) fn read_two_digits(text: &str) -> Option<(u32, &str)>
     ensures sound { IfSome result (λ found. text.now ≡ encode_utf8_all (hex_digits 2 found.0) ++ found.1.now) }
     ensures small { IfSome result (λ found. found.0 < 256) }
 {
-    let (upper, behind) = read_digit(text)?;
-    let (lower, rest) = read_digit(behind)?;
-    Some((upper * 16 + lower, rest))
+    match read_digit(text) {
+        Some((upper, behind)) => match read_digit(behind) {
+            Some((lower, rest)) => Some((upper * 16 + lower, rest)),
+            None => None,
+        },
+        None => None,
+    }
 }
 
 /// Returns a number of four hexadecimal digits, and what follows.
@@ -109,9 +117,13 @@ fn read_four_digits(text: &str) -> Option<(u32, &str)>
     ensures sound { IfSome result (λ found. text.now ≡ encode_utf8_all (hex_digits 4 found.0) ++ found.1.now) }
     ensures small { IfSome result (λ found. found.0 < 65536) }
 {
-    let (upper, behind) = read_two_digits(text)?;
-    let (lower, rest) = read_two_digits(behind)?;
-    Some((upper * 256 + lower, rest))
+    match read_two_digits(text) {
+        Some((upper, behind)) => match read_two_digits(behind) {
+            Some((lower, rest)) => Some((upper * 256 + lower, rest)),
+            None => None,
+        },
+        None => None,
+    }
 }
 
 /// Returns the character of a number, which no shorter escape has and which can't stand as itself.
@@ -150,11 +162,15 @@ fn read_letter(letter: char, text: &str) -> Option<(char, &str)>
     ensures sound { IfSome result (λ found. (letter_meaning letter ≡ Some found.0) × (double.needs_escape true found.0 ≡ true)
         × (found.1.now ≡ text.now)) }
 {
-    let c = meaning_of(letter)?;
-    if needs_escape(c) {
-        Some((c, text))
-    } else {
-        None
+    match meaning_of(letter) {
+        Some(c) => {
+            if needs_escape(c) {
+                Some((c, text))
+            } else {
+                None
+            }
+        }
+        None => None,
     }
 }
 
@@ -165,13 +181,17 @@ fn read_escape(text: &str) -> Option<(char, &str)>
         → MatchOption result ⊥ (λ found. (found.0 ≡ c) × (found.1.now ≡ encode_utf8_all rest)) }
     ensures sound { IfSome result (λ found. IsEscape text.now found.0 found.1.now) }
 {
-    let (letter, rest) = first(text)?;
-    if letter == 'x' {
-        read_number(read_two_digits(rest), 0)
-    } else if letter == 'u' {
-        read_number(read_four_digits(rest), 0x100)
-    } else {
-        read_letter(letter, rest)
+    match first(text) {
+        Some((letter, rest)) => {
+            if letter == 'x' {
+                read_number(read_two_digits(rest), 0)
+            } else if letter == 'u' {
+                read_number(read_four_digits(rest), 0x100)
+            } else {
+                read_letter(letter, rest)
+            }
+        }
+        None => None,
     }
 }
 
@@ -180,13 +200,17 @@ fn read_character(text: &str) -> Option<(char, &str)>
     ensures reads { ReadsCharacter text.now result }
     ensures sound { IfSome result (λ found. IsCharacter text.now found.0 found.1.now) }
 {
-    let (c, rest) = first(text)?;
-    if c == '\\' {
-        read_escape(rest)
-    } else if needs_escape(c) {
-        None
-    } else {
-        Some((c, rest))
+    match first(text) {
+        Some((c, rest)) => {
+            if c == '\\' {
+                read_escape(rest)
+            } else if needs_escape(c) {
+                None
+            } else {
+                Some((c, rest))
+            }
+        }
+        None => None,
     }
 }
 
@@ -199,7 +223,10 @@ pub(crate) fn read_quoted<A: Allocator>(alloc: A, text: &str) -> Result<(String<
     ensures shorter { IfOk result (λ found. length found.1.now < length text.now) }
 {
     let mut value = String::new(alloc);
-    let mut rest = after(text, "\"")?;
+    let mut rest = match after(text, "\"") {
+        Ok(rest) => rest,
+        Err(stop) => return Err(stop),
+    };
     'characters: loop {
         match past(rest, "\"") {
             Some(end) => return Ok((value, end)),
@@ -209,7 +236,10 @@ pub(crate) fn read_quoted<A: Allocator>(alloc: A, text: &str) -> Result<(String<
             Some(found) => found,
             None => return Err(refused_at(rest)),
         };
-        value.push(c)?;
+        match value.push(c) {
+            Ok(()) => {}
+            Err(_) => return Err(Stop::Memory),
+        }
         rest = next;
     }
 }

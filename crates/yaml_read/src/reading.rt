@@ -55,24 +55,33 @@ fn step<'a, A: Allocator + Copy>(
     ensures stops { (whole : List ℕ) → IsOpen whole (seen_levels levels.old.items) text.now → IfErr result (StopsIn whole) }
     ensures shorter { IfOk result (NextShorter text.now) }
 {
-    let (head, rest) = read_head(alloc, text)?;
-    match head {
-        Head::Whole(value) => {
-            if is_collection(&value) {
-                check_room(levels, text)?;
+    match read_head(alloc, text) {
+        Ok((head, rest)) => match head {
+            Head::Whole(value) => {
+                if is_collection(&value) {
+                    match check_room(levels, text) {
+                        Ok(()) => {}
+                        Err(stop) => return Err(stop),
+                    }
+                }
+                settle(levels, value, rest)
             }
-            settle(levels, value, rest)
-        }
-        Head::Items => {
-            check_room(levels, text)?;
-            let next = enter_list(alloc, levels, rest)?;
-            Ok(Next::Node(next))
-        }
-        Head::Pairs => {
-            check_room(levels, text)?;
-            let next = enter_map(alloc, levels, rest)?;
-            Ok(Next::Node(next))
-        }
+            Head::Items => match check_room(levels, text) {
+                Ok(()) => match enter_list(alloc, levels, rest) {
+                    Ok(next) => Ok(Next::Node(next)),
+                    Err(stop) => Err(stop),
+                },
+                Err(stop) => Err(stop),
+            },
+            Head::Pairs => match check_room(levels, text) {
+                Ok(()) => match enter_map(alloc, levels, rest) {
+                    Ok(next) => Ok(Next::Node(next)),
+                    Err(stop) => Err(stop),
+                },
+                Err(stop) => Err(stop),
+            },
+        },
+        Err(stop) => Err(stop),
     }
 }
 
@@ -83,13 +92,18 @@ fn read_text<A: Allocator + Copy>(alloc: A, text: &str) -> Result<Value<A>, Stop
     ensures sound { IfOk result (λ value. (text.now ≡ encode_utf8_all (document_text (seen_value value))) × CanBeReadAt 0 (seen_value value)) }
     ensures stops { IfErr result (StopsAt text.now) }
 {
-    let mut rest = after(text, "---\n")?;
+    let mut rest = match after(text, "---\n") {
+        Ok(rest) => rest,
+        Err(stop) => return Err(stop),
+    };
     let mut levels = Vec::new(alloc);
     'nodes: loop {
-        let next = step(alloc, &mut levels, rest)?;
-        match next {
-            Next::Done(value) => return Ok(value),
-            Next::Node(next) => rest = next,
+        match step(alloc, &mut levels, rest) {
+            Ok(next) => match next {
+                Next::Done(value) => return Ok(value),
+                Next::Node(next) => rest = next,
+            },
+            Err(stop) => return Err(stop),
         }
     }
 }

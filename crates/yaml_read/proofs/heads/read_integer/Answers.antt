@@ -3,90 +3,86 @@ use Rattle.std.{proofs.lemmas.Int.to_z-of_z, proofs.lemmas.Slice.Eq.bytes_eq-Dec
 use Rattle.yaml_value.{specs.SeenValues.seen_value, specs.declared.value.Value.Value}
 use Rattle.yaml_base.{specs.values.TypedValues.int_value, specs.values.ValueText.in_quotes, specs.Seen.seen_text}
 use Rattle.yaml_read.proofs.{Scalars.digits_are, Scalars.fits_signed, Scalars.int_scalars, Scalars.not_parsed, Scalars.parsed, SeenLevels.seen_integer}
-use Rattle.yaml_read.proofs.{Words.at_exit, HeadsRead.bits_of_fits, HeadsRead.digits_seen, HeadsRead.parsed_fits, Breaking.err_exit, BreakingNodes.no_integer}
+use Rattle.yaml_read.proofs.{Words.at_exit, Breaking.err_exit, HeadsRead.bits_of_fits, HeadsRead.digits_seen, HeadsRead.parsed_fits, BreakingNodes.no_integer}
 use Rattle.yaml_read.specs.{Heads.IsWhole, Words.OrMemory, Grammar.integer, Places.BreaksAt}
 use Rattle.yaml_value.specs.declared.value.Value as declared
 use Rattle.yaml_read.specs.declared.errors.Stop.TheVariants as stop
 use Rattle.yaml_read.proofs.heads.read_integer.Goals as goal
 
-pub returns-in_err-digits-clause-reads : goal.returns-in_err-digits-clause-reads
-returns-in_err-digits-clause-reads g c =
+pub returns-clause-reads : goal.returns-clause-reads
+returns-clause-reads g c =
     λ n rest few is.
-    at_exit (OrMemory (IsWhole {A = g.row.A.Denot} (int_value n) rest)) c.in_err-digits.field-0.0 c.from_residual.result c.from_residual.ensures
-    (c.in_err-digits.ensures.reads (signed_decimal n) rest (int_scalars n few) is)
+    c.in-Err.ensures.reads (signed_decimal n) rest (int_scalars n few) is
 
-pub returns-in_err-spelled-in-Ok-clause-reads : goal.returns-in_err-spelled-in-Ok-clause-reads
-returns-in_err-spelled-in-Ok-clause-reads g c =
+pub returns-in_err-spelled-in-Ok-parse-clause-reads : goal.returns-in_err-spelled-in-Ok-parse-clause-reads
+returns-in_err-spelled-in-Ok-parse-clause-reads g c =
     λ n rest few is.
-    at_exit (OrMemory (IsWhole {A = g.row.A.Denot} (int_value n) rest)) stop.Memory c.from_residual-in_err-spelled-in-Ok.result
-    c.from_residual-in_err-spelled-in-Ok.ensures tt
+    at_exit (OrMemory (IsWhole {A = g.row.A.Denot} (int_value n) rest)) stop.Memory c.from_residual.result c.from_residual.ensures tt
 
 pub returns-then-eq-clause-reads : goal.returns-then-eq-clause-reads
 returns-then-eq-clause-reads g c =
     λ n rest few is.
-    let read = c.in_ok-digits.ensures.reads (signed_decimal n) rest (int_scalars n few) is in
-    let value = parsed c.in_ok-digits.digits n c.in-Ok.value c.as_str.result.now c.parse.result few read.0 c.as_str.ensures.value c.parse.ensures.value.0 in
-    let same : c.in-Ok.value ≡ n = cc in
+    let read = c.in-Ok.ensures.reads (signed_decimal n) rest (int_scalars n few) is in
+    let value = parsed c.in-Ok.digits n c.in-Ok-parse.value c.as_str.result.now c.parse.result few read.0 c.as_str.ensures.value c.parse.ensures.value.0 in
+    let same : c.in-Ok-parse.value ≡ n = cc in
     let fits = subst (FitsSigned w64) (sym same) (fits_signed n few) in (
-      ap (λ z. seen_value {A = g.row.A.Denot} (declared.Int z)) (to_z-of_z w64 c.in-Ok.value fits) ∙ seen_integer g.row.A.Denot c.in-Ok.value
+      ap (λ z. seen_value {A = g.row.A.Denot} (declared.Int z)) (to_z-of_z w64 c.in-Ok-parse.value fits) ∙ seen_integer g.row.A.Denot c.in-Ok-parse.value
           ∙ ap int_value same,
       read.1,
     )
 
+pub returns-in-Ok-parse-clause-reads : goal.returns-in-Ok-parse-clause-reads
+returns-in-Ok-parse-clause-reads g c =
+    λ n rest few is.
+    let read = c.in-Ok.ensures.reads (signed_decimal n) rest (int_scalars n few) is in
+    let value = parsed c.in-Ok.digits n c.in-Ok-parse.value c.as_str.result.now c.parse.result few read.0 c.as_str.ensures.value c.parse.ensures.value.0 in
+    let same : c.in-Ok-parse.value ≡ n = cc in
+    let fits = subst (FitsSigned w64) (sym same) (fits_signed n few) in
+    let digits = digits_are c.in-Ok.digits n few read.0 in
+    let spelled = c.in_ok-spelled-in-Ok-parse.ensures.ok ∙ ap signed_decimal (to_z-of_z w64 c.in-Ok-parse.value fits ∙ same) in
+    let one : c.as_str-in-Ok-parse.result.now ≡ c.as_str-in-Ok-parse-2.result.now =
+    c.as_str-in-Ok-parse.ensures.value ∙ spelled ∙ sym digits ∙ sym c.as_str-in-Ok-parse-2.ensures.value in
+    absurd (true≢false (sym ((bytes_eq-Decides c.as_str-in-Ok-parse.result.now c.as_str-in-Ok-parse-2.result.now).1 one) ∙ sym c.eq.ensures ∙ c.if-eq.false))
+
 pub returns-in-Ok-clause-reads : goal.returns-in-Ok-clause-reads
 returns-in-Ok-clause-reads g c =
     λ n rest few is.
-    let read = c.in_ok-digits.ensures.reads (signed_decimal n) rest (int_scalars n few) is in
-    let value = parsed c.in_ok-digits.digits n c.in-Ok.value c.as_str.result.now c.parse.result few read.0 c.as_str.ensures.value c.parse.ensures.value.0 in
-    let same : c.in-Ok.value ≡ n = cc in
-    let fits = subst (FitsSigned w64) (sym same) (fits_signed n few) in
-    let digits = digits_are c.in_ok-digits.digits n few read.0 in
-    let spelled = c.in_ok-spelled-in-Ok.ensures.ok ∙ ap signed_decimal (to_z-of_z w64 c.in-Ok.value fits ∙ same) in
-    let one : c.as_str-in-Ok.result.now ≡ c.as_str-in-Ok-2.result.now =
-    c.as_str-in-Ok.ensures.value ∙ spelled ∙ sym digits ∙ sym c.as_str-in-Ok-2.ensures.value in
-    absurd (true≢false (sym ((bytes_eq-Decides c.as_str-in-Ok.result.now c.as_str-in-Ok-2.result.now).1 one) ∙ sym c.eq.ensures ∙ c.if-eq.false))
-
-pub returns-clause-reads : goal.returns-clause-reads
-returns-clause-reads g c =
-    λ n rest few is.
-    let read = c.in_ok-digits.ensures.reads (signed_decimal n) rest (int_scalars n few) is in
-    let value = parsed c.in_ok-digits.digits n n c.as_str.result.now c.parse.result few read.0 c.as_str.ensures.value c.parse.ensures.value.0 in
-    absurd (not_parsed n c.in-Err.field-0 c.parse.result value c.in-Err.is)
+    let read = c.in-Ok.ensures.reads (signed_decimal n) rest (int_scalars n few) is in
+    let value = parsed c.in-Ok.digits n n c.as_str.result.now c.parse.result few read.0 c.as_str.ensures.value c.parse.ensures.value.0 in
+    absurd (not_parsed n c.in-Err-parse.field-0 c.parse.result value c.in-Err-parse.is)
 
 pub returns-then-eq-clause-sound : goal.returns-then-eq-clause-sound
 returns-then-eq-clause-sound g c =
-    let fits = parsed_fits c.as_str.result.now c.in-Ok.value c.parse.result c.parse.ensures.value.0 c.in-Ok.is in
-    let same = (bytes_eq-Decides c.as_str-in-Ok.result.now c.as_str-in-Ok-2.result.now).0 (sym c.eq.ensures ∙ c.if-eq.true) in
-    let made = to_z-of_z w64 c.in-Ok.value fits in
-    let digits = sym c.as_str-in-Ok-2.ensures.value ∙ sym same ∙ c.as_str-in-Ok.ensures.value ∙ c.in_ok-spelled-in-Ok.ensures.ok ∙ ap signed_decimal made in
+    let fits = parsed_fits c.as_str.result.now c.in-Ok-parse.value c.parse.result c.parse.ensures.value.0 c.in-Ok-parse.is in
+    let same = (bytes_eq-Decides c.as_str-in-Ok-parse.result.now c.as_str-in-Ok-parse-2.result.now).0 (sym c.eq.ensures ∙ c.if-eq.true) in
+    let made = to_z-of_z w64 c.in-Ok-parse.value fits in
+    let digits = sym c.as_str-in-Ok-parse-2.ensures.value ∙ sym same ∙ c.as_str-in-Ok-parse.ensures.value ∙ c.in_ok-spelled-in-Ok-parse.ensures.ok ∙ ap signed_decimal made in
     record {
-      number = c.in-Ok.value;
-      is = ap (λ z. seen_value {A = g.row.A.Denot} (declared.Int z)) made ∙ seen_integer g.row.A.Denot c.in-Ok.value;
-      bits = bits_of_fits c.in-Ok.value fits;
+      number = c.in-Ok-parse.value;
+      is = ap (λ z. seen_value {A = g.row.A.Denot} (declared.Int z)) made ∙ seen_integer g.row.A.Denot c.in-Ok-parse.value;
+      bits = bits_of_fits c.in-Ok-parse.value fits;
       text =
-          c.in_ok-digits.ensures.sound
-          ∙ ap (λ t. encode_utf8_all (in_quotes t) ++ c.in_ok-digits.rest.now)
-          (digits_seen c.in_ok-digits.digits c.in-Ok.value (bits_of_fits c.in-Ok.value fits) digits);
+          c.in-Ok.ensures.sound
+          ∙ ap (λ t. encode_utf8_all (in_quotes t) ++ c.in-Ok.rest.now)
+          (digits_seen c.in-Ok.digits c.in-Ok-parse.value (bits_of_fits c.in-Ok-parse.value fits) digits);
     }
-
-pub returns-in_err-digits-clause-breaks : goal.returns-in_err-digits-clause-breaks
-returns-in_err-digits-clause-breaks g c =
-    err_exit (BreaksAt integer c.args.text.now) c.in_err-digits.field-0.0 c.from_residual.result c.from_residual.ensures
-    (no_integer (λ n rest (found : String g.row.A.Denot × Bor (List ℕ)). (seen_text found.0 ≡ signed_decimal n) × (found.1.now ≡ encode_utf8_all rest))
-    c.args.text.now c.in_err-digits.field-0.0 c.utf8.text c.in_err-digits.ensures.placed
-    (λ n rest few is. c.in_err-digits.ensures.reads (signed_decimal n) rest (int_scalars n few) is))
-
-pub returns-in_err-spelled-in-Ok-clause-breaks : goal.returns-in_err-spelled-in-Ok-clause-breaks
-returns-in_err-spelled-in-Ok-clause-breaks g c =
-    err_exit (BreaksAt integer c.args.text.now) stop.Memory c.from_residual-in_err-spelled-in-Ok.result
-    c.from_residual-in_err-spelled-in-Ok.ensures tt
-
-pub returns-in-Ok-clause-breaks : goal.returns-in-Ok-clause-breaks
-returns-in-Ok-clause-breaks g c =
-    no_integer (λ n rest (found : Value g.row.A.Denot × Bor (List ℕ)). IsWhole (int_value n) rest found) c.args.text.now c.refused_at.result
-    c.utf8.text (inr c.refused_at.ensures) (returns-in-Ok-clause-reads g c)
 
 pub returns-clause-breaks : goal.returns-clause-breaks
 returns-clause-breaks g c =
-    no_integer (λ n rest (found : Value g.row.A.Denot × Bor (List ℕ)). IsWhole (int_value n) rest found) c.args.text.now c.refused_at-in-Err.result
-    c.utf8.text (inr c.refused_at-in-Err.ensures) (returns-clause-reads g c)
+    no_integer (λ n rest (found : String g.row.A.Denot × Bor (List ℕ)). (seen_text found.0 ≡ signed_decimal n) × (found.1.now ≡ encode_utf8_all rest))
+    c.args.text.now c.in-Err.stop c.utf8.text c.in-Err.ensures.placed
+    (λ n rest few is. c.in-Err.ensures.reads (signed_decimal n) rest (int_scalars n few) is)
+
+pub returns-in_err-spelled-in-Ok-parse-clause-breaks : goal.returns-in_err-spelled-in-Ok-parse-clause-breaks
+returns-in_err-spelled-in-Ok-parse-clause-breaks g c =
+    err_exit (BreaksAt integer c.args.text.now) stop.Memory c.from_residual.result c.from_residual.ensures tt
+
+pub returns-in-Ok-parse-clause-breaks : goal.returns-in-Ok-parse-clause-breaks
+returns-in-Ok-parse-clause-breaks g c =
+    no_integer (λ n rest (found : Value g.row.A.Denot × Bor (List ℕ)). IsWhole (int_value n) rest found) c.args.text.now c.refused_at.result
+    c.utf8.text (inr c.refused_at.ensures) (returns-in-Ok-parse-clause-reads g c)
+
+pub returns-in-Ok-clause-breaks : goal.returns-in-Ok-clause-breaks
+returns-in-Ok-clause-breaks g c =
+    no_integer (λ n rest (found : Value g.row.A.Denot × Bor (List ℕ)). IsWhole (int_value n) rest found) c.args.text.now c.refused_at-in-Err-parse.result
+    c.utf8.text (inr c.refused_at-in-Err-parse.ensures) (returns-in-Ok-clause-reads g c)

@@ -1,79 +1,71 @@
 use Rattle.std.proofs.Common.{◌≡◌, ◌*◌, ◌++◌, None, ap, subst, sym, ◌∙◌, arith, codes, Result}
 use Rattle.yaml_base.specs.values.ValueText.{line_at}
-use Rattle.yaml_read.proofs.Breaking.{err_exit, no_comma, no_entry, no_line_behind}
+use Rattle.yaml_read.proofs.Breaking.{no_comma, no_entry, no_line_behind}
 use Rattle.yaml_read.{specs.Entries.EntryFound, specs.Words.past_word, specs.declared.errors.Stop.Stop, specs.declared.levels.Entry.Entry, proofs.Turns.cut_is}
-use Rattle.yaml_read.{proofs.Turns.line_is, proofs.Words.at_exit, proofs.Words.no_word, specs.Grammar.entry_end, specs.Places.BreaksAt}
+use Rattle.yaml_read.{proofs.Turns.line_is, proofs.Words.no_word, specs.Grammar.entry_end, specs.Places.BreaksAt}
 use Rattle.yaml_read.proofs.levels.next_entry.Goals as goal
 
-pub returns-in_err-behind-clause-found : goal.returns-in_err-behind-clause-found
-returns-in_err-behind-clause-found c =
-    λ tail is. absurd (no_word (codes ",") c.args.text.now (line_at (c.args.depth * 2) ++ tail) c.in_err-behind.ensures.cut is)
+pub returns-in-Err-clause-found : goal.returns-in-Err-clause-found
+returns-in-Err-clause-found c =
+    λ tail is. absurd (no_word (codes ",") c.args.text.now (line_at (c.args.depth * 2) ++ tail) c.in-Err.ensures.cut is)
 
-pub returns-in_err-line-clause-found : goal.returns-in_err-line-clause-found
-returns-in_err-line-clause-found c =
+pub returns-in-Err-after_indent-clause-found : goal.returns-in-Err-after_indent-clause-found
+returns-in-Err-after_indent-clause-found c =
     λ tail is.
-    absurd (no_word (line_at (c.args.depth * 2)) c.in_ok-behind.behind.now tail c.in_err-line.ensures.cut
-    (cut_is (codes ",") c.args.text.now c.in_ok-behind.behind.now (line_at (c.args.depth * 2) ++ tail) c.in_ok-behind.ensures.cut is))
+    absurd (no_word (line_at (c.args.depth * 2)) c.in-Ok.behind.now tail c.in-Err-after_indent.ensures.cut
+    (cut_is (codes ",") c.args.text.now c.in-Ok.behind.now (line_at (c.args.depth * 2) ++ tail) c.in-Ok.ensures.cut is))
 
 pub returns-in-Some-clause-found : goal.returns-in-Some-clause-found
 returns-in-Some-clause-found c =
     λ tail is.
-    sym (line_is c.args.depth c.args.text.now c.in_ok-behind.behind.now c.in_ok-line.line.now tail c.in_ok-behind.ensures.cut c.in_ok-line.ensures.cut is)
+    sym (line_is c.args.depth c.args.text.now c.in-Ok.behind.now c.in-Ok-after_indent.line.now tail c.in-Ok.ensures.cut c.in-Ok-after_indent.ensures.cut is)
     ∙ c.in-Some.ensures.cut
 
-pub returns-in_err-rest-in-None-clause-found : goal.returns-in_err-rest-in-None-clause-found
-returns-in_err-rest-in-None-clause-found c =
+pub returns-in-Err-after-clause-found : goal.returns-in-Err-after-clause-found
+returns-in-Err-after-clause-found c =
     λ tail is.
-    let same = line_is c.args.depth c.args.text.now c.in_ok-behind.behind.now c.in_ok-line.line.now tail c.in_ok-behind.ensures.cut
-    c.in_ok-line.ensures.cut is in
-    at_exit (λ (r : Result Entry Stop). EntryFound c.args.lead.now c.args.end.now tail r) c.in_err-rest-in-None.field-0.0
-    c.from_residual-in_err-rest-in-None.result c.from_residual-in_err-rest-in-None.ensures (
+    let same = line_is c.args.depth c.args.text.now c.in-Ok.behind.now c.in-Ok-after_indent.line.now tail c.in-Ok.ensures.cut
+    c.in-Ok-after_indent.ensures.cut is in (
       subst (λ t. past_word c.args.lead.now t ≡ None) same c.in-None.ensures.cut,
-      subst (λ t. past_word c.args.end.now t ≡ None) same c.in_err-rest-in-None.ensures.cut,
+      subst (λ t. past_word c.args.end.now t ≡ None) same c.in-Err-after.ensures.cut,
     )
 
-pub returns-in_ok-rest-in-None-clause-found : goal.returns-in_ok-rest-in-None-clause-found
-returns-in_ok-rest-in-None-clause-found c =
+pub returns-in-Ok-after-clause-found : goal.returns-in-Ok-after-clause-found
+returns-in-Ok-after-clause-found c =
     λ tail is.
-    let same = line_is c.args.depth c.args.text.now c.in_ok-behind.behind.now c.in_ok-line.line.now tail c.in_ok-behind.ensures.cut
-    c.in_ok-line.ensures.cut is in
-    (subst (λ t. past_word c.args.lead.now t ≡ None) same c.in-None.ensures.cut, sym same ∙ c.in_ok-rest-in-None.ensures.cut)
+    let same = line_is c.args.depth c.args.text.now c.in-Ok.behind.now c.in-Ok-after_indent.line.now tail c.in-Ok.ensures.cut
+    c.in-Ok-after_indent.ensures.cut is in
+    (subst (λ t. past_word c.args.lead.now t ≡ None) same c.in-None.ensures.cut, sym same ∙ c.in-Ok-after.ensures.cut)
 
 pub returns-in-Some-clause-cut : goal.returns-in-Some-clause-cut
 returns-in-Some-clause-cut c =
-    c.in_ok-behind.ensures.cut
-    ∙ ap (λ t. codes "," ++ t) (c.in_ok-line.ensures.cut ∙ ap (λ t. line_at (c.args.depth * 2) ++ t) c.in-Some.ensures.cut)
+    c.in-Ok.ensures.cut
+    ∙ ap (λ t. codes "," ++ t) (c.in-Ok-after_indent.ensures.cut ∙ ap (λ t. line_at (c.args.depth * 2) ++ t) c.in-Some.ensures.cut)
 
-pub returns-in_ok-rest-in-None-clause-cut : goal.returns-in_ok-rest-in-None-clause-cut
-returns-in_ok-rest-in-None-clause-cut c =
-    c.in_ok-behind.ensures.cut
-    ∙ ap (λ t. codes "," ++ t) (c.in_ok-line.ensures.cut ∙ ap (λ t. line_at (c.args.depth * 2) ++ t) c.in_ok-rest-in-None.ensures.cut)
+pub returns-in-Ok-after-clause-cut : goal.returns-in-Ok-after-clause-cut
+returns-in-Ok-after-clause-cut c =
+    c.in-Ok.ensures.cut
+    ∙ ap (λ t. codes "," ++ t) (c.in-Ok-after_indent.ensures.cut ∙ ap (λ t. line_at (c.args.depth * 2) ++ t) c.in-Ok-after.ensures.cut)
 
-pub returns-in_err-behind-clause-breaks : goal.returns-in_err-behind-clause-breaks
-returns-in_err-behind-clause-breaks c =
-    err_exit (BreaksAt (entry_end c.args.depth c.args.lead.now c.args.end.now) c.args.text.now) c.in_err-behind.field-0.0 c.from_residual.result
-    c.from_residual.ensures
-    (no_comma c.args.depth c.args.lead.now c.args.end.now c.args.text.now c.in_err-behind.field-0.0 c.in_err-behind.ensures.cut
-    c.in_err-behind.ensures.placed)
+pub returns-in-Err-clause-breaks : goal.returns-in-Err-clause-breaks
+returns-in-Err-clause-breaks c =
+    no_comma c.args.depth c.args.lead.now c.args.end.now c.args.text.now c.in-Err.stop c.in-Err.ensures.cut
+    c.in-Err.ensures.placed
 
-pub returns-in_err-line-clause-breaks : goal.returns-in_err-line-clause-breaks
-returns-in_err-line-clause-breaks c =
-    err_exit (BreaksAt (entry_end c.args.depth c.args.lead.now c.args.end.now) c.args.text.now) c.in_err-line.field-0.0
-    c.from_residual-in_err-line.result c.from_residual-in_err-line.ensures
-    (no_line_behind c.args.depth c.args.lead.now c.args.end.now c.args.text.now c.in_ok-behind.behind.now c.in_err-line.field-0.0
-    c.in_ok-behind.ensures.cut c.in_err-line.ensures.lacks)
+pub returns-in-Err-after_indent-clause-breaks : goal.returns-in-Err-after_indent-clause-breaks
+returns-in-Err-after_indent-clause-breaks c =
+    no_line_behind c.args.depth c.args.lead.now c.args.end.now c.args.text.now c.in-Ok.behind.now c.in-Err-after_indent.stop
+    c.in-Ok.ensures.cut c.in-Err-after_indent.ensures.lacks
 
-pub returns-in_err-rest-in-None-clause-breaks : goal.returns-in_err-rest-in-None-clause-breaks
-returns-in_err-rest-in-None-clause-breaks c =
-    err_exit (BreaksAt (entry_end c.args.depth c.args.lead.now c.args.end.now) c.args.text.now) c.in_err-rest-in-None.field-0.0
-    c.from_residual-in_err-rest-in-None.result c.from_residual-in_err-rest-in-None.ensures
-    (no_entry c.args.depth c.args.lead.now c.args.end.now c.args.text.now c.in_ok-behind.behind.now c.in_ok-line.line.now
-    c.in_err-rest-in-None.field-0.0 c.in_ok-behind.ensures.cut c.in_ok-line.ensures.cut c.in-None.ensures.cut c.in_err-rest-in-None.ensures.cut
-    c.in_err-rest-in-None.ensures.placed)
+pub returns-in-Err-after-clause-breaks : goal.returns-in-Err-after-clause-breaks
+returns-in-Err-after-clause-breaks c =
+    no_entry c.args.depth c.args.lead.now c.args.end.now c.args.text.now c.in-Ok.behind.now c.in-Ok-after_indent.line.now
+    c.in-Err-after.stop c.in-Ok.ensures.cut c.in-Ok-after_indent.ensures.cut c.in-None.ensures.cut c.in-Err-after.ensures.cut
+    c.in-Err-after.ensures.placed
 
 pub returns-in-Some-clause-shorter : goal.returns-in-Some-clause-shorter
-returns-in-Some-clause-shorter c = omega (arith, c.in_ok-behind.ensures.shorter, c.in_ok-line.ensures.shorter, c.in-Some.ensures.shorter)
+returns-in-Some-clause-shorter c = omega (arith, c.in-Ok.ensures.shorter, c.in-Ok-after_indent.ensures.shorter, c.in-Some.ensures.shorter)
 
-pub returns-in_ok-rest-in-None-clause-shorter : goal.returns-in_ok-rest-in-None-clause-shorter
-returns-in_ok-rest-in-None-clause-shorter c =
-    omega (arith, c.in_ok-behind.ensures.shorter, c.in_ok-line.ensures.shorter, c.in_ok-rest-in-None.ensures.shorter)
+pub returns-in-Ok-after-clause-shorter : goal.returns-in-Ok-after-clause-shorter
+returns-in-Ok-after-clause-shorter c =
+    omega (arith, c.in-Ok.ensures.shorter, c.in-Ok-after_indent.ensures.shorter, c.in-Ok-after.ensures.shorter)

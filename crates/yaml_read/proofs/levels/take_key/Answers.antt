@@ -1,51 +1,47 @@
 use Rattle.std.proofs.Common.{◌*◌, ◌++◌, ◌∷◌, [], refl, subst, sym, ap, ◌∙◌, codes}
 use Rattle.yaml_base.specs.values.ValueText.{line_at}
 use Rattle.yaml_value.specs.SeenValues.{seen_pairs, seen_value}
-use Rattle.yaml_read.proofs.Breaking.{err_exit, line_lacks, line_passed, missing}
+use Rattle.yaml_read.proofs.Breaking.{line_lacks, line_passed, missing}
 use Rattle.yaml_read.{specs.Remaining.IsDue, proofs.Turns.cut_is, proofs.Turns.key_bytes, proofs.Turns.key_ends, proofs.Words.no_word, proofs.Opening.key_on}
 use Rattle.yaml_read.{specs.Grammar.line_then, specs.Grammar.nothing, specs.Grammar.word_then, specs.Places.BreaksAt}
 use Rattle.yaml_read.proofs.levels.take_key.Goals as goal
 
-pub returns-in_err-line-clause-reached : goal.returns-in_err-line-clause-reached
-returns-in_err-line-clause-reached g c =
+pub returns-in-Err-clause-reached : goal.returns-in-Err-clause-reached
+returns-in-Err-clause-reached g c =
     λ root levels depth read.
     let ends = key_ends root levels (seen_pairs c.args.pairs.items) (seen_value c.args.key) c.args.text.now read in
-    absurd (no_word (line_at (c.args.depth * 2)) c.args.text.now (codes "  : " ++ ends.tail) c.in_err-line.ensures.cut
+    absurd (no_word (line_at (c.args.depth * 2)) c.args.text.now (codes "  : " ++ ends.tail) c.in-Err.ensures.cut
     (key_bytes root levels (seen_pairs c.args.pairs.items) (seen_value c.args.key) c.args.depth c.args.text.now depth ends))
 
-pub returns-in_err-rest-clause-reached : goal.returns-in_err-rest-clause-reached
-returns-in_err-rest-clause-reached g c =
+pub returns-in-Err-after-clause-reached : goal.returns-in-Err-after-clause-reached
+returns-in-Err-after-clause-reached g c =
     λ root levels depth read.
     let ends = key_ends root levels (seen_pairs c.args.pairs.items) (seen_value c.args.key) c.args.text.now read in
-    absurd (no_word (codes "  : ") c.in_ok-line.line.now ends.tail c.in_err-rest.ensures.cut
-    (cut_is (line_at (c.args.depth * 2)) c.args.text.now c.in_ok-line.line.now (codes "  : " ++ ends.tail) c.in_ok-line.ensures.cut
+    absurd (no_word (codes "  : ") c.in-Ok.line.now ends.tail c.in-Err-after.ensures.cut
+    (cut_is (line_at (c.args.depth * 2)) c.args.text.now c.in-Ok.line.now (codes "  : " ++ ends.tail) c.in-Ok.ensures.cut
     (key_bytes root levels (seen_pairs c.args.pairs.items) (seen_value c.args.key) c.args.depth c.args.text.now depth ends)))
 
-pub returns-clause-reached : goal.returns-clause-reached
-returns-clause-reached g c =
+pub returns-in-Ok-after-clause-reached : goal.returns-in-Ok-after-clause-reached
+returns-in-Ok-after-clause-reached g c =
     λ root levels depth read.
     let ends = key_ends root levels (seen_pairs c.args.pairs.items) (seen_value c.args.key) c.args.text.now read in
-    let line = cut_is (line_at (c.args.depth * 2)) c.args.text.now c.in_ok-line.line.now (codes "  : " ++ ends.tail) c.in_ok-line.ensures.cut
+    let line = cut_is (line_at (c.args.depth * 2)) c.args.text.now c.in-Ok.line.now (codes "  : " ++ ends.tail) c.in-Ok.ensures.cut
     (key_bytes root levels (seen_pairs c.args.pairs.items) (seen_value c.args.key) c.args.depth c.args.text.now depth ends) in
-    subst (IsDue root _) (sym (cut_is (codes "  : ") c.in_ok-line.line.now c.in_ok-rest.rest.now ends.tail c.in_ok-rest.ensures.cut line)) ends.due
+    subst (IsDue root _) (sym (cut_is (codes "  : ") c.in-Ok.line.now c.in-Ok-after.rest.now ends.tail c.in-Ok-after.ensures.cut line)) ends.due
 
-pub returns-clause-read : goal.returns-clause-read
-returns-clause-read g c =
+pub returns-in-Ok-after-clause-read : goal.returns-in-Ok-after-clause-read
+returns-in-Ok-after-clause-read g c =
     λ whole levels depth read.
-    key_on whole levels (seen_pairs c.args.pairs.items) (seen_value c.args.key) c.args.text.now c.in_ok-rest.rest.now read
-    (c.in_ok-line.ensures.cut ∙ ap (λ t. line_at (c.args.depth * 2) ++ t) c.in_ok-rest.ensures.cut
-    ∙ ap (λ n. line_at (n * 2) ++ (codes "  : " ++ c.in_ok-rest.rest.now)) depth)
+    key_on whole levels (seen_pairs c.args.pairs.items) (seen_value c.args.key) c.args.text.now c.in-Ok-after.rest.now read
+    (c.in-Ok.ensures.cut ∙ ap (λ t. line_at (c.args.depth * 2) ++ t) c.in-Ok-after.ensures.cut
+    ∙ ap (λ n. line_at (n * 2) ++ (codes "  : " ++ c.in-Ok-after.rest.now)) depth)
 
-pub returns-in_err-line-clause-breaks : goal.returns-in_err-line-clause-breaks
-returns-in_err-line-clause-breaks g c =
-    err_exit (BreaksAt (line_then c.args.depth (word_then (codes "  : ") nothing)) c.args.text.now) c.in_err-line.field-0.0 c.from_residual.result
-    c.from_residual.ensures
-    (line_lacks c.args.depth c.args.text.now (word_then (codes "  : ") nothing) c.in_err-line.field-0.0 (codes "  : " ∷ []) c.in_err-line.ensures.lacks
-    (refl, tt))
+pub returns-in-Err-clause-breaks : goal.returns-in-Err-clause-breaks
+returns-in-Err-clause-breaks g c =
+    line_lacks c.args.depth c.args.text.now (word_then (codes "  : ") nothing) c.in-Err.stop (codes "  : " ∷ []) c.in-Err.ensures.lacks
+    (refl, tt)
 
-pub returns-in_err-rest-clause-breaks : goal.returns-in_err-rest-clause-breaks
-returns-in_err-rest-clause-breaks g c =
-    err_exit (BreaksAt (line_then c.args.depth (word_then (codes "  : ") nothing)) c.args.text.now) c.in_err-rest.field-0.0
-    c.from_residual-in_err-rest.result c.from_residual-in_err-rest.ensures
-    (line_passed c.args.depth c.args.text.now c.in_ok-line.line.now (word_then (codes "  : ") nothing) c.in_err-rest.field-0.0 c.in_ok-line.ensures.cut
-    (missing (codes "  : ") c.in_ok-line.line.now nothing c.in_err-rest.field-0.0 [] c.in_err-rest.ensures.cut c.in_err-rest.ensures.placed tt))
+pub returns-in-Err-after-clause-breaks : goal.returns-in-Err-after-clause-breaks
+returns-in-Err-after-clause-breaks g c =
+    line_passed c.args.depth c.args.text.now c.in-Ok.line.now (word_then (codes "  : ") nothing) c.in-Err-after.stop c.in-Ok.ensures.cut
+    (missing (codes "  : ") c.in-Ok.line.now nothing c.in-Err-after.stop [] c.in-Err-after.ensures.cut c.in-Err-after.ensures.placed tt)

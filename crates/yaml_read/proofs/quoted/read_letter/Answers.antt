@@ -3,17 +3,17 @@ use Rattle.std.proofs.lemmas.Option.{none-some, same_Some}
 use Rattle.yaml_base.specs.scalars.DoubleQuoted.{needs_escape}
 use Rattle.yaml_read.proofs.quoted.read_letter.Goals as goal
 
-pub returns-in_err-c-clause-reads : goal.returns-in_err-c-clause-reads
-returns-in_err-c-clause-reads c = λ d needs means. absurd (none-some d (c.in_err-c.ensures ∙ means))
+pub returns-in-None-clause-reads : goal.returns-in-None-clause-reads
+returns-in-None-clause-reads c = λ d needs means. absurd (none-some d (c.in-None.ensures ∙ means))
 
 pub returns-then-needs_escape-clause-reads : goal.returns-then-needs_escape-clause-reads
-returns-then-needs_escape-clause-reads c = λ d needs means. (same_Some c.in_ok-c.c d (c.in_ok-c.ensures ∙ means), refl)
+returns-then-needs_escape-clause-reads c = λ d needs means. (same_Some c.in-Some.c d (c.in-Some.ensures ∙ means), refl)
 
 pub returns-else-needs_escape-clause-reads : goal.returns-else-needs_escape-clause-reads
 returns-else-needs_escape-clause-reads c =
     λ d needs means.
-    let same = same_Some c.in_ok-c.c d (c.in_ok-c.ensures ∙ means) in
+    let same = same_Some c.in-Some.c d (c.in-Some.ensures ∙ means) in
     true≢false (sym needs ∙ ap (needs_escape true) (sym same) ∙ sym c.needs_escape.ensures ∙ c.if-needs_escape.false)
 
 pub returns-then-needs_escape-clause-sound : goal.returns-then-needs_escape-clause-sound
-returns-then-needs_escape-clause-sound c = (sym c.in_ok-c.ensures, sym c.needs_escape.ensures ∙ c.if-needs_escape.true, refl)
+returns-then-needs_escape-clause-sound c = (sym c.in-Some.ensures, sym c.needs_escape.ensures ∙ c.if-needs_escape.true, refl)

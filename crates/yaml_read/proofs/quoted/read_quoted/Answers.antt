@@ -1,15 +1,15 @@
 use Rattle.std.proofs.Common.{◌≡◌, ◌∷◌, List, [], ℕ, None, Some, inl, refl, subst, sym, rules, arith, codes, String, Bor, encode_utf8_all, string_bytes}
 use Rattle.yaml_base.specs.Seen.{seen_text}
-use Rattle.yaml_read.proofs.{QuotedTexts.ReadsOn, QuotedTexts.reads_more, QuotedTexts.text_read, Breaking.err_exit, Breaking.missing, CharactersRead.one_more}
-use Rattle.yaml_read.proofs.{QuotedTexts.opening_there, BreakingNodes.no_character, BreakingNodes.passes_character, BreakingNodes.passes_quote, Words.at_exit}
+use Rattle.yaml_read.proofs.{QuotedTexts.ReadsOn, QuotedTexts.reads_more, QuotedTexts.text_read, Breaking.missing, CharactersRead.one_more}
+use Rattle.yaml_read.proofs.{QuotedTexts.opening_there, BreakingNodes.no_character, BreakingNodes.passes_character, BreakingNodes.passes_quote}
 use Rattle.yaml_read.proofs.{QuotedTexts.reads_first, BreakingNodes.utf8_left, CharactersRead.ReadSoFar, CharactersRead.all_read, CharactersRead.none_yet}
 use Rattle.yaml_read.specs.{Words.OrMemory, Grammar.characters, Grammar.quoted_text, Places.BreaksAt}
 use Rattle.yaml_read.specs.declared.errors.Stop.TheVariants as stop
 use Rattle.yaml_read.proofs.CharactersRead.{character_shorter}
 use Rattle.yaml_read.proofs.quoted.read_quoted.Goals as goal
 
-pub returns-in_err-rest-clause-reads : goal.returns-in_err-rest-clause-reads
-returns-in_err-rest-clause-reads g c = λ value rest scalars is. absurd (opening_there c.args.text.now value rest is c.in_err-rest.ensures.cut)
+pub returns-in-Err-clause-reads : goal.returns-in-Err-clause-reads
+returns-in-Err-clause-reads g c = λ value rest scalars is. absurd (opening_there c.args.text.now value rest is c.in-Err.ensures.cut)
 
 pub returns-in-Some-clause-reads : goal.returns-in-Some-clause-reads
 returns-in-Some-clause-reads g c =
@@ -22,21 +22,20 @@ returns-in-None-read_character-clause-reads g c =
     absurd (reads_more c.args.text.now (string_bytes c.characters.value) c.characters.rest.now None c.characters.invariant.2 c.in-None.ensures.cut
     c.in-None-read_character.ensures.reads value rest scalars is)
 
-pub returns-in_err-push-clause-reads : goal.returns-in_err-push-clause-reads
-returns-in_err-push-clause-reads g c =
+pub returns-in-Err-push-clause-reads : goal.returns-in-Err-push-clause-reads
+returns-in-Err-push-clause-reads g c =
     λ value rest scalars is.
-    at_exit (OrMemory (λ (found : String _ × Bor (List ℕ)). (seen_text found.0 ≡ value) × (found.1.now ≡ encode_utf8_all rest))) stop.Memory
-    c.from_residual-in_err-push.result c.from_residual-in_err-push.ensures tt
+    tt
 
 pub characters-init : goal.characters-init
 characters-init g c = (
   search rules,
-  omega (arith, c.in_ok-rest.ensures.shorter),
-  subst (λ (value : List ℕ). ReadsOn c.args.text.now value c.in_ok-rest.rest.now) (sym c.new-value.ensures.bytes)
-      (reads_first c.args.text.now c.in_ok-rest.rest.now c.in_ok-rest.ensures.cut),
-  subst (λ (value : List ℕ). ReadSoFar c.args.text.now value c.in_ok-rest.rest.now) (sym c.new-value.ensures.bytes)
-      (none_yet c.args.text.now c.in_ok-rest.rest.now c.in_ok-rest.ensures.cut),
-  passes_quote c.args.text.now c.in_ok-rest.rest.now c.in_ok-rest.ensures.cut,
+  omega (arith, c.in-Ok.ensures.shorter),
+  subst (λ (value : List ℕ). ReadsOn c.args.text.now value c.in-Ok.rest.now) (sym c.new-value.ensures.bytes)
+      (reads_first c.args.text.now c.in-Ok.rest.now c.in-Ok.ensures.cut),
+  subst (λ (value : List ℕ). ReadSoFar c.args.text.now value c.in-Ok.rest.now) (sym c.new-value.ensures.bytes)
+      (none_yet c.args.text.now c.in-Ok.rest.now c.in-Ok.ensures.cut),
+  passes_quote c.args.text.now c.in-Ok.rest.now c.in-Ok.ensures.cut,
 )
 
 pub characters-smaller : goal.characters-smaller
@@ -52,13 +51,13 @@ characters-preserved g c = (
     character_shorter c.characters.rest.now c.in-Some-read_character.found.0
         c.in-Some-read_character.found.1.now c.in-Some-read_character.ensures.sound,
   ),
-  subst (λ (value : List ℕ). ReadsOn c.args.text.now value c.in-Some-read_character.found.1.now) (sym c.in_ok-push.ensures.bytes)
+  subst (λ (value : List ℕ). ReadsOn c.args.text.now value c.in-Some-read_character.found.1.now) (sym c.in-Ok-push.ensures.bytes)
       (record {
         left = λ value rest scalars is.
             reads_more c.args.text.now (string_bytes c.characters.value) c.characters.rest.now (Some c.in-Some-read_character.found)
             c.characters.invariant.2 c.in-None.ensures.cut c.in-Some-read_character.ensures.reads value rest scalars is;
       }),
-  subst (λ (value : List ℕ). ReadSoFar c.args.text.now value c.in-Some-read_character.found.1.now) (sym c.in_ok-push.ensures.bytes)
+  subst (λ (value : List ℕ). ReadSoFar c.args.text.now value c.in-Some-read_character.found.1.now) (sym c.in-Ok-push.ensures.bytes)
       (one_more c.args.text.now (string_bytes c.characters.value) c.characters.rest.now c.in-Some-read_character.found.1.now
       c.in-Some-read_character.found.0 c.characters.invariant.3 c.in-Some-read_character.ensures.sound),
   passes_character c.args.text.now c.characters.rest.now c.in-Some-read_character.found.1.now c.in-Some-read_character.found.0
@@ -69,11 +68,10 @@ pub returns-in-Some-clause-sound : goal.returns-in-Some-clause-sound
 returns-in-Some-clause-sound g c =
     all_read c.args.text.now c.characters.rest.now c.in-Some.end.now c.characters.value c.characters.invariant.3 c.in-Some.ensures.cut
 
-pub returns-in_err-rest-clause-breaks : goal.returns-in_err-rest-clause-breaks
-returns-in_err-rest-clause-breaks g c =
-    err_exit (BreaksAt quoted_text c.args.text.now) c.in_err-rest.field-0.0 c.from_residual.result c.from_residual.ensures
-    (missing (codes "\"") c.args.text.now characters c.in_err-rest.field-0.0 (codes "\"" ∷ []) c.in_err-rest.ensures.cut c.in_err-rest.ensures.placed
-    (inl (refl, tt)))
+pub returns-in-Err-clause-breaks : goal.returns-in-Err-clause-breaks
+returns-in-Err-clause-breaks g c =
+    missing (codes "\"") c.args.text.now characters c.in-Err.stop (codes "\"" ∷ []) c.in-Err.ensures.cut c.in-Err.ensures.placed
+    (inl (refl, tt))
 
 pub returns-in-None-read_character-clause-breaks : goal.returns-in-None-read_character-clause-breaks
 returns-in-None-read_character-clause-breaks g c =
@@ -81,6 +79,6 @@ returns-in-None-read_character-clause-breaks g c =
     (utf8_left c.args.text.now (string_bytes c.characters.value) c.characters.rest.now c.utf8.text c.characters.invariant.3) c.in-None.ensures.cut
     c.in-None-read_character.ensures.reads c.refused_at.ensures
 
-pub returns-in_err-push-clause-breaks : goal.returns-in_err-push-clause-breaks
-returns-in_err-push-clause-breaks g c =
-    err_exit (BreaksAt quoted_text c.args.text.now) stop.Memory c.from_residual-in_err-push.result c.from_residual-in_err-push.ensures tt
+pub returns-in-Err-push-clause-breaks : goal.returns-in-Err-push-clause-breaks
+returns-in-Err-push-clause-breaks g c =
+    tt

@@ -1,37 +1,36 @@
 use Rattle.std.proofs.Common.{◌≡◌, List, subst, sym, rules, Ok, codes}
 use Rattle.yaml_value.{specs.SeenValues.seen_value, specs.declared.value.Value.Value}
 use Rattle.yaml_read.proofs.Opening.{TextOpen, text_open, text_read}
-use Rattle.yaml_read.{specs.Remaining.Reached, proofs.Turns.root_due, proofs.Turns.text_due, proofs.Breaking.err_exit, proofs.Placing.text_stops}
+use Rattle.yaml_read.{specs.Remaining.Reached, proofs.Turns.root_due, proofs.Turns.text_due, proofs.Placing.text_stops}
 use Rattle.yaml_read.{specs.Remaining.seen_levels, proofs.Placing.marker_stops, specs.declared.levels.Level.Level, specs.declared.levels.Next.Next}
-use Rattle.yaml_read.{proofs.Turns.TextDue, specs.Words.OrMemory, proofs.Words.at_exit, proofs.Words.no_word, specs.Opened.NextRead, specs.Places.StopsAt}
+use Rattle.yaml_read.{proofs.Turns.TextDue, specs.Words.OrMemory, proofs.Words.no_word, specs.Opened.NextRead, specs.Places.StopsAt}
 use Rattle.yaml_read.proofs.reading.read_text.Goals as goal
 
 pub nodes-init : goal.nodes-init
 nodes-init g c = (
   search rules,
-  subst (λ (levels : List (Level g.row.A.Denot)). TextDue c.args.text.now (seen_levels levels) c.in_ok-rest.rest.now) (sym c.new-levels.ensures.items)
-      (text_due c.args.text.now c.in_ok-rest.rest.now c.in_ok-rest.ensures.cut),
-  subst (λ (levels : List (Level g.row.A.Denot)). TextOpen c.args.text.now (seen_levels levels) c.in_ok-rest.rest.now) (sym c.new-levels.ensures.items)
-      (text_open c.args.text.now c.in_ok-rest.rest.now c.in_ok-rest.ensures.cut),
+  subst (λ (levels : List (Level g.row.A.Denot)). TextDue c.args.text.now (seen_levels levels) c.in-Ok.rest.now) (sym c.new-levels.ensures.items)
+      (text_due c.args.text.now c.in-Ok.rest.now c.in-Ok.ensures.cut),
+  subst (λ (levels : List (Level g.row.A.Denot)). TextOpen c.args.text.now (seen_levels levels) c.in-Ok.rest.now) (sym c.new-levels.ensures.items)
+      (text_open c.args.text.now c.in-Ok.rest.now c.in-Ok.ensures.cut),
 )
 
-pub returns-in_err-rest-clause-reads : goal.returns-in_err-rest-clause-reads
-returns-in_err-rest-clause-reads g c =
+pub returns-in-Err-clause-reads : goal.returns-in-Err-clause-reads
+returns-in-Err-clause-reads g c =
     λ value readable is.
     let root = root_due value c.args.text.now readable is in
-    absurd (no_word (codes "---\n") c.args.text.now root.0 c.in_err-rest.ensures.cut root.1)
+    absurd (no_word (codes "---\n") c.args.text.now root.0 c.in-Err.ensures.cut root.1)
 
-pub returns-in_err-next-clause-reads : goal.returns-in_err-next-clause-reads
-returns-in_err-next-clause-reads g c =
+pub returns-in-Err-step-clause-reads : goal.returns-in-Err-step-clause-reads
+returns-in-Err-step-clause-reads g c =
     λ value readable is.
-    at_exit (OrMemory (λ (found : Value _). seen_value found ≡ value)) c.in_err-next.field-0.0 c.from_residual-in_err-next.result
-    c.from_residual-in_err-next.ensures (c.in_err-next.ensures.reached value (c.nodes.invariant.1.due value readable is))
+    c.in-Err-step.ensures.reached value (c.nodes.invariant.1.due value readable is)
 
 pub returns-in-Done-clause-reads : goal.returns-in-Done-clause-reads
 returns-in-Done-clause-reads g c =
     λ value readable is.
     subst (λ (next : Next _). Reached value (seen_levels c.step.new.levels.items) (Ok next)) c.in-Done.is
-    (c.in_ok-next.ensures.reached value (c.nodes.invariant.1.due value readable is))
+    (c.in-Ok-step.ensures.reached value (c.nodes.invariant.1.due value readable is))
 
 pub nodes-preserved : goal.nodes-preserved
 nodes-preserved g c = (
@@ -39,14 +38,14 @@ nodes-preserved g c = (
   record {
     due = λ value readable is.
         subst (λ (next : Next _). Reached value (seen_levels c.step.new.levels.items) (Ok next)) c.in-Node.is
-        (c.in_ok-next.ensures.reached value (c.nodes.invariant.1.due value readable is));
+        (c.in-Ok-step.ensures.reached value (c.nodes.invariant.1.due value readable is));
   },
   record {
     whole = c.nodes.invariant.2.whole;
     text_is = c.nodes.invariant.2.text_is;
     opened =
         subst (λ (next : Next g.row.A.Denot). NextRead c.nodes.invariant.2.whole (seen_levels c.step.new.levels.items) next) c.in-Node.is
-        (c.in_ok-next.ensures.read c.nodes.invariant.2.whole c.nodes.invariant.2.opened);
+        (c.in-Ok-step.ensures.read c.nodes.invariant.2.whole c.nodes.invariant.2.opened);
   },
 )
 
@@ -54,16 +53,14 @@ pub returns-in-Done-clause-sound : goal.returns-in-Done-clause-sound
 returns-in-Done-clause-sound g c =
     let opened = c.nodes.invariant.2 in
     let read = subst (λ (next : Next g.row.A.Denot). NextRead opened.whole (seen_levels c.step.new.levels.items) next) c.in-Done.is
-    (c.in_ok-next.ensures.read opened.whole opened.opened) in
+    (c.in-Ok-step.ensures.read opened.whole opened.opened) in
     (text_read (seen_value c.in-Done.value) c.args.text.now opened.whole opened.text_is read.0, read.1)
 
-pub returns-in_err-rest-clause-stops : goal.returns-in_err-rest-clause-stops
-returns-in_err-rest-clause-stops g c =
-    err_exit (StopsAt c.args.text.now) c.in_err-rest.field-0.0 c.from_residual.result c.from_residual.ensures
-    (marker_stops c.args.text.now c.in_err-rest.field-0.0 c.in_err-rest.ensures.cut c.in_err-rest.ensures.placed)
+pub returns-in-Err-clause-stops : goal.returns-in-Err-clause-stops
+returns-in-Err-clause-stops g c =
+    marker_stops c.args.text.now c.in-Err.stop c.in-Err.ensures.cut c.in-Err.ensures.placed
 
-pub returns-in_err-next-clause-stops : goal.returns-in_err-next-clause-stops
-returns-in_err-next-clause-stops g c =
+pub returns-in-Err-step-clause-stops : goal.returns-in-Err-step-clause-stops
+returns-in-Err-step-clause-stops g c =
     let opened = c.nodes.invariant.2 in
-    err_exit (StopsAt c.args.text.now) c.in_err-next.field-0.0 c.from_residual-in_err-next.result c.from_residual-in_err-next.ensures
-    (text_stops c.args.text.now opened.whole c.in_err-next.field-0.0 opened.text_is (c.in_err-next.ensures.stops opened.whole opened.opened))
+    text_stops c.args.text.now opened.whole c.in-Err-step.stop opened.text_is (c.in-Err-step.ensures.stops opened.whole opened.opened)
