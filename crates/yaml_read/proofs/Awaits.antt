@@ -2,12 +2,12 @@
 use Rattle.yaml_base.proofs.Common.{ℕ, ◌-◌, ◌+◌, ◌*◌, suc, true, false, Option, None, Some, List, [], ◌∷◌, ◌++◌, refl, ◌≡◌, ap, subst, sym, ◌∙◌, append_assoc}
 use Rattle.yaml_base.proofs.Common.{append-nil, arith, codes, false≢true, length, Text, encode_utf8_all}
 use Rattle.yaml_base.specs.values.ValueText.{line_at}
-use Rattle.std.{specs.Prelude.Result, specs.Prelude.Ok, specs.Prelude.Err, specs.Prelude.IfOk, specs.Prelude.Vec, specs.Result.IsErr, specs.Result.IsErrAnd}
+use Rattle.std.{specs.Prelude.Result, specs.Prelude.Ok, specs.Prelude.Err, specs.Prelude.IfOk, specs.Prelude.Vec}
 use Rattle.std.{proofs.lemmas.List.append_cancel_left, specs.Borrow.Bor, specs.Option.MatchOption, specs.Option.option_to_list, proofs.Common.vec_len}
 use Rattle.yaml_read.specs.Awaits.{EntryStands, IsInnermostAwait, IsLastAwait, LeadStands, awaits_onto, can_end, seen_await, seen_awaits}
 use Rattle.yaml_read.specs.EventTexts.{Pending, closing_text, item_awaited, key_awaited, lead_text, next_awaited, left_open, outside, trail_text, value_awaited}
 use Rattle.yaml_read.specs.declared.levels.Entry.TheVariants.{Another, End}
-use Rattle.yaml_read.proofs.{Words.at_exit, Words.memory_is, Words.no_word, Encoded.are_ascii, Encoded.line_encoded, Encoded.word_encoded, Turns.line_deeper}
+use Rattle.yaml_read.proofs.{Words.no_word, Encoded.are_ascii, Encoded.line_encoded, Encoded.word_encoded, Turns.line_deeper}
 use Rattle.yaml_read.specs.{Words.OrMemory, Words.past_word, declared.errors.Stop.Stop, declared.leads.Await.Await, declared.levels.Entry.Entry}
 use Rattle.yaml_read.specs.declared.errors.Stop.TheVariants as stop
 
@@ -51,11 +51,6 @@ taken_off old new None is cases =
 taken_off old new (Some awaited) is cases = sym (ap (λ awaits. outside (seen_awaits awaits)) is ∙ ap outside (await_more new.items awaited))
 
 -- ---- results
-
--- what a `?` returns, of an error that is want of memory, or that can't be
-pub memory_exit : {T : Type 0} (answer : Result T Stop) (Holds : T → Type 0) (error : Stop) → IsErr answer × IsErrAnd answer (λ given. given ≡ error)
-    → error ≡ stop.Memory → OrMemory Holds answer
-memory_exit answer Holds error exits is = at_exit (OrMemory Holds) error answer exits (memory_is Holds error is)
 
 pub or_memory_by : {T : Type 0} (result : Result T Stop) (P Q : T → Type 0) → OrMemory (λ _. Unit {0}) result → IfOk result P
     → ((found : T) → P found → Q found) → OrMemory Q result

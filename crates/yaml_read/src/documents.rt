@@ -29,8 +29,10 @@ fn events_of_text<A: Allocator + Copy>(
     ensures sound { IfOk result (λ found. AreEventsOf text.now (map seen_event found.items)) }
     ensures stops { IfErr result (DocumentStops text.now) }
 {
-    let node = after(text, "---\n")?;
-    read_events(alloc, node)
+    match after(text, "---\n") {
+        Ok(node) => read_events(alloc, node),
+        Err(stop) => Err(stop),
+    }
 }
 
 /// Returns the document that has these events.

@@ -47,8 +47,10 @@ fn begin_events<A: Allocator + Copy>(alloc: A) -> Result<Vec<yaml_event_t<A>, A>
     ensures memory { IfErr result (λ error. error ≡ stop.Memory) }
 {
     let mut events = Vec::new(alloc);
-    push(&mut events, start_event(alloc))?;
-    Ok(events)
+    match push(&mut events, start_event(alloc)) {
+        Ok(()) => Ok(events),
+        Err(stop) => Err(stop),
+    }
 }
 
 /// Ends a document behind its root, which a line's end follows, and nothing else.
@@ -61,14 +63,17 @@ fn end_events<A: Allocator>(
     ensures reads { text.now ≡ codes "\n" → OrMemory (λ _. Unit {0}) result }
     ensures stops { IfErr result (StopsAmong text.now) }
 {
-    let end = after(text, "\n")?;
+    let end = match after(text, "\n") {
+        Ok(end) => end,
+        Err(stop) => return Err(stop),
+    };
     if end.is_empty() {
         let mut events = events;
-        push(
-            &mut events,
-            yaml_event_t::YAML_DOCUMENT_END_EVENT { implicit: true },
-        )?;
-        Ok(events)
+        let last = yaml_event_t::YAML_DOCUMENT_END_EVENT { implicit: true };
+        match push(&mut events, last) {
+            Ok(()) => Ok(events),
+            Err(stop) => Err(stop),
+        }
     } else {
         Err(refused_at(end))
     }
@@ -85,7 +90,10 @@ pub(crate) fn read_events<A: Allocator + Copy>(
         × HasRunText [] events node × All IsInNode events × (text.now ≡ encode_utf8_all (node ++ line_feed ∷ []))) }
     ensures stops { IfErr result (RunStops text.now) }
 {
-    let mut events = begin_events(alloc)?;
+    let mut events = match begin_events(alloc) {
+        Ok(events) => events,
+        Err(stop) => return Err(stop),
+    };
     let mut awaits = Vec::new(alloc);
     let mut rest = text;
     'steps: loop {
@@ -93,7 +101,10 @@ pub(crate) fn read_events<A: Allocator + Copy>(
             Ok(found) => found,
             Err(stop) => return Err(stopped_within(stop, rest)),
         };
-        push(&mut events, event)?;
+        match push(&mut events, event) {
+            Ok(()) => {}
+            Err(stop) => return Err(stop),
+        }
         match progress {
             Progress::Continues(next) => rest = next,
             Progress::RootEnds(next) => return end_events(events, next),
