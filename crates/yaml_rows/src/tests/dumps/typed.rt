@@ -135,6 +135,12 @@ fn check(rt: &impl Abort, alloc: Global, settings: &Settings, row: &Row) {
     drop(emitter);
 }
 
+fn check_rows(rt: &impl Abort, alloc: Global, settings: &Settings, rows: &[Row]) {
+    for row in rows {
+        check(rt, alloc, settings, row);
+    }
+}
+
 /// Rows under settings.
 const TABLES: &[(&Settings, &[Row])] = &[
     (&UNSET, TEXTS),
@@ -146,9 +152,7 @@ const TABLES: &[(&Settings, &[Row])] = &[
 #[test]
 fn a_typed_dump_keeps_the_type_of_each_scalar(rt: HostRuntime) {
     for (settings, rows) in TABLES {
-        for row in *rows {
-            check(&rt, rt.alloc(), settings, row);
-        }
+        check_rows(&rt, rt.alloc(), settings, rows);
     }
 }
 
