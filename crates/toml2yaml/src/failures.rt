@@ -6,6 +6,8 @@ ghost use Rattle.yaml_program.specs.Faults as faults;
 use yaml_program::{Failure, Reason};
 use yaml_toml::TomlError;
 
+const TOO_DEEP: &str = "arrays and tables nest too deep";
+
 /// Returns the failure of a text that is refused at this place, since it is this.
 pub fn refused(line: usize, column: usize, words: &'static str) -> Failure
     ensures { faults.failure_status result ≡ 1 }
@@ -22,6 +24,7 @@ pub fn failure_of(error: TomlError) -> Failure
 {
     match error {
         TomlError::NotToml { line, column } => refused(line, column, "not TOML"),
+        TomlError::TooDeepToRead { line, column } => refused(line, column, TOO_DEEP),
         TomlError::DefinedAgain {
             key,
             first_line,
@@ -38,7 +41,7 @@ pub fn failure_of(error: TomlError) -> Failure
         },
         TomlError::TooDeep => Failure::Refused {
             place: None,
-            reason: Reason::Words("arrays and tables nest too deep"),
+            reason: Reason::Words(TOO_DEEP),
         },
         TomlError::Emitter(error) => Failure::Unwritten(error),
     }

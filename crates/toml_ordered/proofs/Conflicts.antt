@@ -1,27 +1,20 @@
 -- Keys that are defined again: what is known of the keys so far.
 use Rattle.std.proofs.Common.{Some, suc, ◌≡◌, ℕ, ◌<◌, ◌≤◌, ◌+◌, List, length, min, string_bytes, None, sym, ap, subst, ◌∙◌, inl, inr, arith}
-use Rattle.std.proofs.lemmas.List.{length-append}
 use Rattle.toml_parser.specs.Lexical.{right_brace, skip_blank}
 use Rattle.toml_parser.specs.Strings.{Key}
 use Rattle.toml.specs.Parse.{after_element}
 use Rattle.toml_ordered.specs.declared.fault.Fault.{Fault}
 use Rattle.toml_ordered.specs.declared.fault.Fault.TheVariants as fault
-use Rattle.toml_ordered.proofs.Endings.{ends_self, ends_then, skip_blank_ends}
+use Rattle.toml_ordered.proofs.Depths.{blank_within, ends_within, pair_nests_within}
+use Rattle.toml_ordered.proofs.Endings.{ends_self, ends_then}
 use Rattle.toml_ordered.specs.Data.{TomlNode, TomlNodes}
-use Rattle.toml_ordered.specs.Firsts.{Firsts, no_firsts, HasFirst, AddsFirsts, IfAgain, IsAgain}
+use Rattle.toml_ordered.specs.Firsts.{Firsts, no_firsts, HasFirst, AddsFirsts, IfAgain, IsAgain, FaultTells}
 use Rattle.toml_ordered.specs.Grammar.{keyval, line, val}
-use Rattle.toml_ordered.specs.Places.{EndsWith, after_pairs, ReadsUpTo, ExpressionAt, FirstDefines, PairAt, PairFirstDefines, PairsConflict, IsConflict}
+use Rattle.toml_ordered.specs.Places.{EndsWith, after_pairs, ReadsUpTo, ExpressionAt, FirstDefines, PairAt, PairFirstDefines, PairsConflict}
+use Rattle.toml_ordered.specs.Nesting.{HasReason, PairNestsPast}
 use Rattle.toml_ordered.specs.Places.{moved_to, moved_within, key_parts, whole_path}
 use Rattle.toml_ordered.specs.Reading.{IsMemory}
 use Rattle.toml_ordered.specs.Tables.{TomlDocument, Expression, define, put}
-
-pub ends_within : (text end : List ℕ) → EndsWith text end → length end ≤ length text
-ends_within text end ends =
-    let whole : length text ≡ length ends.0 + length end = ap length ends.1 ∙ length-append ends.0 end in
-    omega (arith, whole)
-
-pub blank_within : (text : List ℕ) → length (skip_blank text) ≤ length text
-blank_within text = ends_within text (skip_blank text) (skip_blank_ends text)
 
 -- ---- faults of another kind
 
@@ -29,10 +22,11 @@ blank_within text = ends_within text (skip_blank text) (skip_blank_ends text)
 abbrev pub IsOther : Fault → Type 0
 IsOther found = IfAgain found (λ _ _ _. ⊥)
 
-pub other_than : (holds : List ℕ → ℕ → ℕ → Type 0) (found : Fault) → IsOther found → IfAgain found holds
-other_than holds fault.Memory none = tt
-other_than holds (fault.NotToml left) none = tt
-other_than holds (fault.DefinedAgain key first second) none = absurd none
+pub other_than : (again : List ℕ → ℕ → ℕ → Type 0) (deep : ℕ → Type 0) (found : Fault) → IsOther found → FaultTells found again deep
+other_than again deep fault.Memory none = tt
+other_than again deep (fault.NotToml left) none = tt
+other_than again deep (fault.TooDeep left) none = absurd none
+other_than again deep (fault.DefinedAgain key first second) none = absurd none
 
 -- ---- how far a text is read
 
@@ -71,10 +65,12 @@ knows_more_pairs depth text rest next found name here old new knows at within sh
 pub pairs_conflict : (depth : ℕ) (text rest : List ℕ) (found : TomlNodes) (name : Key) (here : ℕ) (old : Firsts) (refused : Fault)
     → KnowsPairs depth text old rest → (at : PairAt depth text found name here) → here ≤ length rest
     → (value : TomlNode) (after : List ℕ) → keyval (val depth) (skip_blank at.rest) ≡ Some ((name, value), after)
-    → ((IsMemory refused → ⊥) → put name value found ≡ None) → IsAgain (key_parts name) here old refused → IfAgain refused (PairsConflict text)
-pairs_conflict depth text rest found name here old fault.Memory knows at within value after pair denies again = tt
-pairs_conflict depth text rest found name here old (fault.NotToml left) knows at within value after pair denies again = tt
-pairs_conflict depth text rest found name here old (fault.DefinedAgain key first second) knows at within value after pair denies again =
+    → ((IsMemory refused → ⊥) → put name value found ≡ None) → IsAgain (key_parts name) here old refused → (deep : ℕ → Type 0)
+    → FaultTells refused (PairsConflict text) deep
+pairs_conflict depth text rest found name here old fault.Memory knows at within value after pair denies again deep = tt
+pairs_conflict depth text rest found name here old (fault.NotToml left) knows at within value after pair denies again deep = tt
+pairs_conflict depth text rest found name here old (fault.TooDeep left) knows at within value after pair denies again deep = absurd again
+pairs_conflict depth text rest found name here old (fault.DefinedAgain key first second) knows at within value after pair denies again deep =
     let known = knows again.1 _ first again.2 in
     let past = known.1 in
     let is = again.0 in
@@ -98,12 +94,13 @@ pairs_conflict depth text rest found name here old (fault.DefinedAgain key first
     other : fault.DefinedAgain key first second ≡ fault.Memory → ⊥
     other m = cc
 
--- a conflict in what ends the text
-pub conflict_in : (text middle : List ℕ) (refused : Fault) → EndsWith text middle → IfAgain refused (PairsConflict middle)
-    → IfAgain refused (PairsConflict text)
-conflict_in text middle fault.Memory ends pairs = tt
-conflict_in text middle (fault.NotToml left) ends pairs = tt
-conflict_in text middle (fault.DefinedAgain key first second) ends pairs = record {
+-- why what ends the text isn't read
+pub reason_in : (text middle : List ℕ) (refused : Fault) (inner outer : ℕ → Type 0) → EndsWith text middle → ((left : ℕ) → inner left → outer left)
+    → FaultTells refused (PairsConflict middle) inner → FaultTells refused (PairsConflict text) outer
+reason_in text middle fault.Memory inner outer ends out pairs = tt
+reason_in text middle (fault.NotToml left) inner outer ends out pairs = tt
+reason_in text middle (fault.TooDeep left) inner outer ends out deep = out left deep
+reason_in text middle (fault.DefinedAgain key first second) inner outer ends out pairs = record {
   depth = pairs.depth;
   inside = pairs.inside;
   stands = ends_then text middle pairs.inside ends pairs.stands;
@@ -153,13 +150,14 @@ knows_more text rest next doc e here old new knows at within shorter adds path k
 -- an expression that is refused
 pub expressions_conflict : (text rest : List ℕ) (doc : TomlDocument) (e : Expression) (here : ℕ) (old : Firsts) (refused moved : Fault)
     → KnowsFirsts text old rest → ExpressionAt text doc e here → here ≤ length rest → ((IsMemory refused → ⊥) → define doc e ≡ None)
-    → IsAgain (whole_path doc e.0 e.1) here old refused → moved ≡ moved_to here refused → IsConflict text moved
+    → IsAgain (whole_path doc e.0 e.1) here old refused → moved ≡ moved_to here refused → HasReason text moved
 expressions_conflict text rest doc e here old refused moved knows at within denied again is =
-    subst (IsConflict text) (sym is) (by refused denied again)
+    subst (HasReason text) (sym is) (by refused denied again)
   where
-    by : (f : Fault) → ((IsMemory f → ⊥) → define doc e ≡ None) → IsAgain (whole_path doc e.0 e.1) here old f → IsConflict text (moved_to here f)
+    by : (f : Fault) → ((IsMemory f → ⊥) → define doc e ≡ None) → IsAgain (whole_path doc e.0 e.1) here old f → HasReason text (moved_to here f)
     by fault.Memory denies found = tt
     by (fault.NotToml left) denies found = tt
+    by (fault.TooDeep left) denies found = absurd found
     by (fault.DefinedAgain key first second) denies found =
         let known = knows found.1 _ first found.2 in
         let past = known.1 in
@@ -177,14 +175,20 @@ expressions_conflict text rest doc e here old refused moved knows at within deni
         other : fault.DefinedAgain key first second ≡ fault.Memory → ⊥
         other m = cc
 
--- an expression in which a table in braces is refused
-pub braces_conflict : (text rest : List ℕ) (doc : TomlDocument) (refused moved : Fault) → ReadsUpTo text doc rest
-    → IfAgain refused (PairsConflict (skip_blank rest)) → moved ≡ moved_within (length (skip_blank rest)) refused → IsConflict text moved
-braces_conflict text rest doc refused moved read pairs is = subst (IsConflict text) (sym is) (by refused pairs)
+-- an expression in which a value is refused
+pub value_reason : (text rest : List ℕ) (doc : TomlDocument) (refused moved : Fault) → ReadsUpTo text doc rest
+    → FaultTells refused (PairsConflict (skip_blank rest)) (PairNestsPast (skip_blank rest)) → moved ≡ moved_within (length (skip_blank rest)) refused
+    → HasReason text moved
+value_reason text rest doc refused moved read pairs is = subst (HasReason text) (sym is) (by refused pairs)
   where
-    by : (f : Fault) → IfAgain f (PairsConflict (skip_blank rest)) → IsConflict text (moved_within (length (skip_blank rest)) f)
+    by : (f : Fault) → FaultTells f (PairsConflict (skip_blank rest)) (PairNestsPast (skip_blank rest))
+        → HasReason text (moved_within (length (skip_blank rest)) f)
     by fault.Memory found = tt
     by (fault.NotToml left) found = tt
+    by (fault.TooDeep left) found =
+        let within = pair_nests_within (skip_blank rest) left found in
+        let same : min left (length (skip_blank rest)) ≡ left = omega (arith, within) in
+        record { doc = doc; rest = rest; read = read; nests = subst (PairNestsPast (skip_blank rest)) (sym same) found }
     by (fault.DefinedAgain key first second) found =
         let ends = ends_within (skip_blank rest) found.inside found.stands in
         let past = pair_within found.depth found.inside found.found found.name second found.at in

@@ -175,6 +175,7 @@ fails_so (Err y) e Q P failed same holds = subst P (sym (same y failed)) holds
 pub again_nothing : (whole all : Path) (here : ℕ) (old : Firsts) (found : Fault) → IsAgain whole here no_firsts found → IsAgain all here old found
 again_nothing whole all here old fault.Memory again = tt
 again_nothing whole all here old (fault.NotToml left) again = tt
+again_nothing whole all here old (fault.TooDeep left) again = again
 again_nothing whole all here old (fault.DefinedAgain key first second) again = absurd again.2
 
 -- the key itself, which stands at the beginning of the whole path
@@ -182,6 +183,7 @@ pub again_here : (k : List ℕ) (rest : Path) (here : ℕ) (at : ℕ) (es : List
     → get_or es at e ≡ e → IsPassed (string_bytes e.0) e.2 here found → IsAgain (k ∷ rest) here (keys_firsts es) found
 again_here k rest here at es e fault.Memory has is_e passed = tt
 again_here k rest here at es e (fault.NotToml left) has is_e passed = tt
+again_here k rest here at es e (fault.TooDeep left) has is_e passed = passed
 again_here k rest here at es e (fault.DefinedAgain key first second) has is_e passed =
     let is_key : string_bytes key ≡ k = passed.0 ∙ ap (λ (d : Draft). string_bytes d.0) (sym is_e) ∙ sym (name_is k at es e has) in
     let is_first : first ≡ (get_or es at e).2 = passed.1 ∙ ap (λ (d : Draft). d.2) (sym is_e) in (
@@ -197,6 +199,7 @@ pub again_inside : (k : List ℕ) (whole : Path) (here : ℕ) (at : ℕ) (es : L
     → IsAgain whole here (draft_firsts e.1) found → IsAgain (k ∷ whole) here (keys_firsts es) found
 again_inside k whole here at es e fault.Memory has is_e again = tt
 again_inside k whole here at es e (fault.NotToml left) has is_e again = tt
+again_inside k whole here at es e (fault.TooDeep left) has is_e again = again
 again_inside k whole here at es e (fault.DefinedAgain key first second) has is_e again = (
   again.0,
   k ∷ again.1,

@@ -2,6 +2,7 @@ pub mod Trees
 pub mod DraftKeys
 pub mod FirstKeys
 pub mod Endings
+pub mod Depths
 pub mod Conflicts
 pub mod Turns
 pub mod Stopping

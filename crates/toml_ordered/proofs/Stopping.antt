@@ -14,6 +14,10 @@ placed text IsThere f (fault.NotToml left) memory there stops = stops (λ m. oth
   where
     other : fault.NotToml left ≡ fault.Memory → ⊥
     other e = cc
+placed text IsThere f (fault.TooDeep left) memory there stops = stops (λ m. other (memory m)) left there
+  where
+    other : fault.TooDeep left ≡ fault.Memory → ⊥
+    other e = cc
 placed text IsThere f (fault.DefinedAgain key first second) memory there stops = stops (λ m. other (memory m)) second there
   where
     other : fault.DefinedAgain key first second ≡ fault.Memory → ⊥

@@ -62,11 +62,16 @@ AddsFirsts whole here keys old new =
     (path : List (List ℕ)) (key : List ℕ) (left : ℕ) → HasFirst new path key left
     → HasFirst old path key left ⊎ ((left ≡ here) × IsNewKey whole keys path key)
 
--- of a fault that a key is defined again
+-- of a fault that a key is defined again, or that a value nests too deep
+abbrev pub FaultTells : Fault → (again : List ℕ → (first second : ℕ) → Type 0) → (deep : (left : ℕ) → Type 0) → Type 0
+FaultTells fault.Memory again deep = Unit {0}
+FaultTells (fault.NotToml left) again deep = Unit {0}
+FaultTells (fault.TooDeep left) again deep = deep left
+FaultTells (fault.DefinedAgain key first second) again deep = again (string_bytes key) first second
+
+-- of a fault that a key is defined again; nothing nests too deep
 abbrev pub IfAgain : Fault → (List ℕ → (first second : ℕ) → Type 0) → Type 0
-IfAgain fault.Memory holds = Unit {0}
-IfAgain (fault.NotToml left) holds = Unit {0}
-IfAgain (fault.DefinedAgain key first second) holds = holds (string_bytes key) first second
+IfAgain found holds = FaultTells found holds (λ _. ⊥)
 
 -- a definition along the whole path, here, passes a key that was first defined before
 abbrev pub IsAgain : (whole : List (List ℕ)) → (here : ℕ) → (old : Firsts) → Fault → Type 0

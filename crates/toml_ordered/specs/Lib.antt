@@ -5,4 +5,5 @@ pub mod Drafts
 pub mod Firsts
 pub mod Reading
 pub mod Places
+pub mod Nesting
 pub mod Sorted

@@ -4,7 +4,7 @@ use Rattle.toml_parser.specs.Lexical.{right_brace, skip_blank}
 use Rattle.toml_parser.specs.Strings.{Key}
 use Rattle.toml.specs.Parse.{after_element, key_equals, skip_bom}
 use Rattle.toml_ordered.specs.Data.{TomlNode, TomlNodes, no_nodes}
-use Rattle.toml_ordered.specs.Firsts.{IfAgain, IsNewKey, PassesKey}
+use Rattle.toml_ordered.specs.Firsts.{IsNewKey, PassesKey}
 use Rattle.toml_ordered.specs.Grammar.{keyval, line, val}
 use Rattle.toml_ordered.specs.Tables.{Definition, TomlDocument, Expression, define, key_value, put}
 use Rattle.toml_ordered.specs.declared.fault.Fault.{Fault}
@@ -14,18 +14,21 @@ use Rattle.toml_ordered.specs.declared.fault.Fault.TheVariants as fault
 abbrev pub place_left : Fault → Option ℕ
 place_left fault.Memory = None
 place_left (fault.NotToml left) = Some left
+place_left (fault.TooDeep left) = Some left
 place_left (fault.DefinedAgain key first second) = Some second
 
 -- the fault, with its place here
 abbrev pub moved_to : ℕ → Fault → Fault
 moved_to here fault.Memory = fault.Memory
 moved_to here (fault.NotToml left) = fault.NotToml here
+moved_to here (fault.TooDeep left) = fault.TooDeep here
 moved_to here (fault.DefinedAgain key first second) = fault.DefinedAgain key first here
 
 -- the fault, with its place here or behind
 abbrev pub moved_within : ℕ → Fault → Fault
 moved_within here fault.Memory = fault.Memory
 moved_within here (fault.NotToml left) = fault.NotToml (min left here)
+moved_within here (fault.TooDeep left) = fault.TooDeep (min left here)
 moved_within here (fault.DefinedAgain key first second) = fault.DefinedAgain key first (min second here)
 
 -- a document and the rest of a text after one more expression
@@ -152,7 +155,3 @@ pub record PairsConflictIn (text : List ℕ) (key : List ℕ) (first second : �
 -- two expressions define the key, or two pairs of a table in braces
 abbrev pub Conflict : (text : List ℕ) → (key : List ℕ) → (first second : ℕ) → Type 0
 Conflict text key first second = ExpressionsConflict text key first second ⊎ PairsConflictIn text key first second
-
--- of a fault that a key is defined again
-abbrev pub IsConflict : List ℕ → Fault → Type 0
-IsConflict text found = IfAgain found (Conflict text)

@@ -5,9 +5,10 @@ ghost use Rattle.toml_parser.specs.Reading.{key_view, path_view};
 ghost use Rattle.toml.specs.Parse.{header_key, skip_bom};
 ghost use Rattle.toml_ordered.specs.Data.{entries_view, node_view};
 ghost use Rattle.toml_ordered.specs.Drafts.{sealed, table_view};
-ghost use Rattle.toml_ordered.specs.Firsts.{AddsFirsts, IfAgain, IsAgain, keys_firsts};
+ghost use Rattle.toml_ordered.specs.Firsts.{AddsFirsts, FaultTells, IfAgain, IsAgain, keys_firsts};
 ghost use Rattle.toml_ordered.specs.Grammar as spec;
-ghost use Rattle.toml_ordered.specs.Places.{IsConflict, FaultIsPlaced, PairsConflict, key_parts, whole_path};
+ghost use Rattle.toml_ordered.specs.Nesting.{HasReason, PairNestsPast};
+ghost use Rattle.toml_ordered.specs.Places.{FaultIsPlaced, PairsConflict, key_parts, whole_path};
 ghost use Rattle.toml_ordered.specs.Reading.{ParsesTo, ParsesPrefixTo, Shortens, definition_view, document_view, expression_view};
 ghost use Rattle.toml_ordered.specs.Tables.{define, defined_header, defined_pair};
 
@@ -117,12 +118,12 @@ impl Document {
 ///
 /// # Errors
 ///
-/// `NotToml` where the text isn't TOML 1.1, or a key has more than 80 parts, or arrays and tables in braces nest more than 80 deep;
-/// `DefinedAgain` where a key is defined twice; `Memory` where an allocation fails.
+/// `NotToml` where the text isn't TOML 1.1, or a key has more than 80 parts; `TooDeep` where arrays and tables in braces nest more than
+/// 80 deep; `DefinedAgain` where a key is defined twice; `Memory` where an allocation fails.
 pub fn read_document(alloc: Global, text: &str) -> Result<Nodes, Fault>
     ensures value { ParsesTo (λ root. entries_view root.items) result (spec.ordered_document text.now) }
     ensures placed { IfErr result (FaultIsPlaced text.now) }
-    ensures conflict { IfErr result (IsConflict text.now) }
+    ensures reason { IfErr result (HasReason text.now) }
 {
     let mut read = Document {
         root: OpenTable::new(alloc),
@@ -161,7 +162,7 @@ fn past_mark(s: &str) -> &str
 fn line(alloc: Global, s: &str) -> Result<((Key, Definition), &str), Fault>
     ensures value { ParsesPrefixTo expression_view result (spec.line s.now) }
     ensures shorter { Shortens s.now result }
-    ensures conflict { IfErr result (λ fault. IfAgain fault (PairsConflict s.now)) }
+    ensures reason { IfErr result (λ fault. FaultTells fault (PairsConflict s.now) (PairNestsPast s.now)) }
 {
     let (expression, rest) = match expression(alloc, s) {
         Ok(read) => read,
@@ -179,7 +180,7 @@ fn line(alloc: Global, s: &str) -> Result<((Key, Definition), &str), Fault>
 fn expression(alloc: Global, s: &str) -> Result<((Key, Definition), &str), Fault>
     ensures value { ParsesPrefixTo expression_view result (spec.expression s.now) }
     ensures shorter { Shortens s.now result }
-    ensures conflict { IfErr result (λ fault. IfAgain fault (PairsConflict s.now)) }
+    ensures reason { IfErr result (λ fault. FaultTells fault (PairsConflict s.now) (PairNestsPast s.now)) }
 {
     if first(s) == b'[' {
         return header(alloc, s);

@@ -16,6 +16,10 @@ pub enum Fault {
     NotToml {
         left: usize,
     },
+    /// An array or a table in braces begins here, within 80 others.
+    TooDeep {
+        left: usize,
+    },
     /// An expression defines a key, or something in it, that is defined already and takes no more.
     DefinedAgain {
         key: String,
@@ -37,6 +41,9 @@ impl Fault {
             Fault::NotToml { left } => Fault::NotToml {
                 left: left.min(most),
             },
+            Fault::TooDeep { left } => Fault::TooDeep {
+                left: left.min(most),
+            },
             Fault::DefinedAgain { key, first, second } => Fault::DefinedAgain {
                 key,
                 first,
@@ -55,6 +62,7 @@ impl Fault {
         match self {
             Fault::Memory => Fault::Memory,
             Fault::NotToml { .. } => Fault::NotToml { left },
+            Fault::TooDeep { .. } => Fault::TooDeep { left },
             Fault::DefinedAgain { key, first, .. } => Fault::DefinedAgain {
                 key,
                 first,
@@ -105,4 +113,11 @@ pub(crate) fn not_toml(rest: &str) -> Fault
     ensures { result ≡ fault.NotToml (length rest.now) }
 {
     Fault::NotToml { left: rest.len() }
+}
+
+/// Returns that arrays and tables in braces nest too deep where this is left.
+pub(crate) fn too_deep(rest: &str) -> Fault
+    ensures { result ≡ fault.TooDeep (length rest.now) }
+{
+    Fault::TooDeep { left: rest.len() }
 }

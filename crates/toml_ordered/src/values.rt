@@ -4,14 +4,15 @@ ghost use Rattle.toml_parser.specs.Reading.{key_view};
 ghost use Rattle.toml.specs.Parse.{after_element, key_equals};
 ghost use Rattle.toml_ordered.specs.Data.{entries_view, items_view, no_items, no_nodes, node_view};
 ghost use Rattle.toml_ordered.specs.Drafts.{sealed, table_view};
-ghost use Rattle.toml_ordered.specs.Firsts.{AddsFirsts, IfAgain, IsAgain, keys_firsts};
+ghost use Rattle.toml_ordered.specs.Firsts.{AddsFirsts, FaultTells, IfAgain, IsAgain, keys_firsts};
 ghost use Rattle.toml_ordered.specs.Grammar as spec;
+ghost use Rattle.toml_ordered.specs.Nesting.{InItem, InPair, NestsPast};
 ghost use Rattle.toml_ordered.specs.Places.{PairsConflict, key_parts};
 ghost use Rattle.toml_ordered.specs.Reading.{ParsesTo, ParsesPrefixTo, Shortens};
 ghost use Rattle.toml_ordered.specs.Tables as tables;
 
 use crate::drafts::OpenTable;
-use crate::fault::{Fault, not_toml};
+use crate::fault::{Fault, not_toml, too_deep};
 use crate::route::Route;
 use crate::tables::{Definition, Entry, define_at};
 use crate::tree::{Node, Nodes, Origin};
@@ -24,14 +25,14 @@ use toml_parser::{Key, Scalar, dotted_key, quoted, starts_string, unquoted};
 pub(crate) fn value(alloc: Global, s: &str, depth: usize) -> Result<(Node, &str), Fault>
     ensures value { ParsesPrefixTo node_view result (spec.val depth s.now) }
     ensures shorter { Shortens s.now result }
-    ensures conflict { IfErr result (λ fault. IfAgain fault (PairsConflict s.now)) }
+    ensures reason { IfErr result (λ fault. FaultTells fault (PairsConflict s.now) (λ left. NestsPast depth left s.now)) }
 {
     let byte = first(s);
     if byte != b'[' && byte != b'{' {
         return atom(alloc, s);
     }
     if depth == 0 {
-        return Err(not_toml(s));
+        return Err(too_deep(s));
     }
     if byte == b'[' {
         match array(alloc, skip(s, 1), depth - 1) {
@@ -51,7 +52,7 @@ pub(crate) fn value(alloc: Global, s: &str, depth: usize) -> Result<(Node, &str)
 fn array(alloc: Global, s: &str, depth: usize) -> Result<(Vec<Node>, &str), Fault>
     ensures value { (n : ℕ) → length s.now < n → ParsesPrefixTo (λ found. items_view found.items) result (spec.items (spec.val depth) n no_items s.now) }
     ensures shorter { Shortens s.now result }
-    ensures conflict { IfErr result (λ fault. IfAgain fault (PairsConflict s.now)) }
+    ensures reason { IfErr result (λ fault. FaultTells fault (PairsConflict s.now) (λ left. InItem depth (NestsPast depth left) s.now)) }
 {
     let mut found = Vec::new(alloc);
     let mut rest = s;
@@ -78,7 +79,7 @@ fn array(alloc: Global, s: &str, depth: usize) -> Result<(Vec<Node>, &str), Faul
 fn braces(alloc: Global, s: &str, depth: usize) -> Result<(Nodes, &str), Fault>
     ensures value { (n : ℕ) → length s.now < n → ParsesPrefixTo (λ found. entries_view found.items) result (spec.members (spec.val depth) n no_nodes s.now) }
     ensures shorter { Shortens s.now result }
-    ensures conflict { IfErr result (λ fault. IfAgain fault (PairsConflict s.now)) }
+    ensures reason { IfErr result (λ fault. FaultTells fault (PairsConflict s.now) (λ left. InPair depth (NestsPast depth left) s.now)) }
 {
     let mut found = OpenTable::new(alloc);
     let mut rest = s;

@@ -63,6 +63,7 @@ toml_answer_of (Err error) = fails error
 abbrev pub toml_error_results : TomlError → (out : List ℕ) → CallResults
 toml_error_results (errors.NotToml line column) out = results_failed 11 (at_place line column) out
 toml_error_results (errors.DefinedAgain key first_line first_column line column) out = results_failed 7 (at_place line column) out
+toml_error_results (errors.TooDeepToRead line column) out = results_failed 6 (at_place line column) out
 toml_error_results errors.TooDeep out = results_failed 6 nothing_reported out
 toml_error_results (errors.Emitter emitter_errors.TooDeep) out = results_failed 6 nothing_reported out
 toml_error_results (errors.Emitter error) out = results_failed 3 nothing_reported out

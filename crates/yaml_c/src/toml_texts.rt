@@ -92,6 +92,10 @@ fn move_toml(answer: Result<Vec<u8>, TomlError>, out: &mut [u8], report: &mut Ca
             *report = CallResult::at_place(line, column);
             NOT_TOML
         }
+        Err(TomlError::TooDeepToRead { line, column }) => {
+            *report = CallResult::at_place(line, column);
+            TOO_DEEP
+        }
         Err(TomlError::DefinedAgain { line, column, .. }) => {
             *report = CallResult::at_place(line, column);
             DUPLICATE_NAME

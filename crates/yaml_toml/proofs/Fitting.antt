@@ -128,6 +128,7 @@ module _ (depth : ℕ) (text : List ℕ) where
   stop_explained root stop.TooDeep errors.TooDeep read is nests = record { root = root; read = read; deeper = nests }
   stop_explained root (stop.Failed failure) errors.TooDeep read is nests = absurd (subst IsNothing is tt)
   stop_explained root stopped (errors.NotToml line column) read is nests = tt
+  stop_explained root stopped (errors.TooDeepToRead line column) read is nests = tt
   stop_explained root stopped (errors.DefinedAgain key first_line first_column line column) read is nests = tt
   stop_explained root stopped (errors.Emitter failure) read is nests = tt
 
@@ -136,7 +137,9 @@ module _ (depth : ℕ) (text : List ℕ) where
       → IfSome (place_left found) (λ left. IsBeforeLeft text left error) → ExplainsDepth depth text error
   fault_explained fault.Memory errors.TooDeep is at = absurd (subst IsNothing is tt)
   fault_explained (fault.NotToml left) errors.TooDeep is at = absurd at
+  fault_explained (fault.TooDeep left) errors.TooDeep is at = absurd at
   fault_explained (fault.DefinedAgain key first second) errors.TooDeep is at = absurd at
   fault_explained found (errors.NotToml line column) is at = tt
+  fault_explained found (errors.TooDeepToRead line column) is at = tt
   fault_explained found (errors.DefinedAgain key first_line first_column line column) is at = tt
   fault_explained found (errors.Emitter failure) is at = tt

@@ -18,6 +18,7 @@ said_memory was = inl (refl, λ none. none)
 said_fault : (was : WriterState) (found : Fault) → HasErrorSaid was (fault_error found) was
 said_fault was fault.Memory = said_memory was
 said_fault was (fault.NotToml left) = λ none. none
+said_fault was (fault.TooDeep left) = λ none. none
 said_fault was (fault.DefinedAgain key first second) = λ none. none
 
 -- nothing was given
@@ -27,6 +28,7 @@ said_of was found error is = subst (λ (said : Option yaml_error_t). HasErrorSai
 
 writers_none : (error : TomlError) → DeniesToml error → toml_writers_error error ≡ None
 writers_none (errors.NotToml line column) denies = refl
+writers_none (errors.TooDeepToRead line column) denies = refl
 writers_none (errors.DefinedAgain key first_line first_column line column) denies = refl
 writers_none errors.TooDeep denies = absurd denies
 writers_none (errors.Emitter error) denies = absurd denies
@@ -44,4 +46,5 @@ pub placed_of : (text : List ℕ) (found : Fault) (error : TomlError) → toml_w
     → IfSome (place_left found) (λ left. IsBeforeLeft text left error) → HasTomlPlace text error
 placed_of text fault.Memory error is stops at = λ denies. absurd (denied fault.Memory error is denies refl)
 placed_of text (fault.NotToml left) error is stops at = λ denies. (left, stops, at)
+placed_of text (fault.TooDeep left) error is stops at = λ denies. (left, stops, at)
 placed_of text (fault.DefinedAgain key first second) error is stops at = λ denies. (second, stops, at)

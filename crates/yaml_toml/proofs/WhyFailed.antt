@@ -150,6 +150,7 @@ gave_nothing depth due was = record {
 fault_memory : (found : Fault) → IfSome (fault_error found) (λ code. code ≡ Memory)
 fault_memory fault.Memory = refl
 fault_memory (fault.NotToml left) = tt
+fault_memory (fault.TooDeep left) = tt
 fault_memory (fault.DefinedAgain key first second) = tt
 
 module _ (depth : ℕ) (in_flow : Bool) (text : List ℕ) (was : WriterState) (error : TomlError) where
@@ -188,6 +189,7 @@ module _ (given : Settings) (in_flow : Bool) (depth : ℕ) (text : List ℕ) (fi
   pub text_failed : (error : TomlError) → StopsInDocument depth in_flow text first error now → HasErrorSaid first (toml_writers_error error) now
       → IfSome (toml_writers_error error) (TomlFailsBy given in_flow depth text)
   text_failed (errors.NotToml line column) stops sound = tt
+  text_failed (errors.TooDeepToRead line column) stops sound = tt
   text_failed (errors.DefinedAgain key first_line first_column line column) stops sound = tt
   text_failed errors.TooDeep stops sound = tt
   text_failed (errors.Emitter code) stops sound = said code stops sound

@@ -1,5 +1,6 @@
 -- Where an error says that a text is refused.
 use Rattle.std.specs.Prelude.{ℕ, ◌-◌, List, length, string_bytes}
+use Rattle.toml_ordered.specs.Nesting.{NestsTooDeep}
 use Rattle.toml_ordered.specs.Places.{Conflict, StopsAtExpression}
 use Rattle.yaml_writer.specs.Places.{AreOf}
 use Rattle.yaml_toml.specs.Walk.{DeniesToml}
@@ -10,6 +11,7 @@ use Rattle.yaml_toml.specs.declared.error.TomlError.TheVariants as errors
 abbrev pub IsBeforeLeft : (text : List ℕ) → (left : ℕ) → TomlError → Type 0
 IsBeforeLeft text left (errors.NotToml line column) = AreOf text (length text - left) line column
 IsBeforeLeft text left (errors.DefinedAgain key first_line first_column line column) = AreOf text (length text - left) line column
+IsBeforeLeft text left (errors.TooDeepToRead line column) = AreOf text (length text - left) line column
 IsBeforeLeft text left _ = ⊥
 
 -- where an error says that the text is no document of TOML, the text is read up to an expression that is refused, and the error's place is
@@ -17,9 +19,11 @@ IsBeforeLeft text left _ = ⊥
 abbrev pub HasTomlPlace : (text : List ℕ) → TomlError → Type 0
 HasTomlPlace text error = DeniesToml error → (left : ℕ) × StopsAtExpression text left × IsBeforeLeft text left error
 
--- where an error says that a key is defined again, the text defines this key so, at both places that the error has
-abbrev pub HasConflict : (text : List ℕ) → TomlError → Type 0
-HasConflict text (errors.DefinedAgain key first_line first_column line column) =
+-- where an error says that a key is defined again, the text defines this key so, at both places that the error has; and where it says that
+-- nothing is read that deep, a value in the text nests so deep at its place
+abbrev pub HasTomlReason : (text : List ℕ) → TomlError → Type 0
+HasTomlReason text (errors.TooDeepToRead line column) = (left : ℕ) × NestsTooDeep text left × AreOf text (length text - left) line column
+HasTomlReason text (errors.DefinedAgain key first_line first_column line column) =
     (first : ℕ) × (second : ℕ) × Conflict text (string_bytes key) first second
     × AreOf text (length text - first) first_line first_column × AreOf text (length text - second) line column
-HasConflict text _ = Unit {0}
+HasTomlReason text _ = Unit {0}

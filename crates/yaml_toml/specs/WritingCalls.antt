@@ -8,7 +8,7 @@ use Rattle.yaml_writer.specs.Writing.{WriterState}
 use Rattle.yaml_toml.specs.Depth.{ExplainsDepth, NestsWithin}
 use Rattle.yaml_toml.specs.Failing.{StopsInDocument, TomlFailsBy}
 use Rattle.yaml_toml.specs.Means.{IsYamlOfToml}
-use Rattle.yaml_toml.specs.Places.{HasConflict, HasTomlPlace}
+use Rattle.yaml_toml.specs.Places.{HasTomlPlace, HasTomlReason}
 use Rattle.yaml_toml.specs.Walk.{DeniesToml, IsSoundAfterToml, WroteToml, toml_writers_error}
 use Rattle.yaml_toml.specs.declared.error.TomlError.{TomlError}
 use Rattle.yaml_toml.specs.declared.settings.TomlSettings.{TomlSettings}
@@ -32,7 +32,7 @@ pub record DocumentUnwritten (settings : TomlSettings) (text : List ℕ) (was : 
   pub deep : ExplainsDepth settings.depth text error
   pub stopped : StopsInDocument settings.depth settings.flow text was error now
   pub place : HasTomlPlace text error
-  pub conflict : HasConflict text error
+  pub reason : HasTomlReason text error
 
 abbrev pub WritesToml : TomlSettings → List ℕ → WriterState → Result (Unit {0}) TomlError → WriterState → Type 0
 WritesToml settings text was (Ok done) now = DocumentWritten settings text was now
@@ -51,7 +51,7 @@ pub record HasNoTomlYaml (given : Settings) (in_flow : Bool) (depth : ℕ) (text
   pub deep : ExplainsDepth depth text error
   pub failed : IfSome (toml_writers_error error) (TomlFailsBy given in_flow depth text)
   pub place : HasTomlPlace text error
-  pub conflict : HasConflict text error
+  pub reason : HasTomlReason text error
 
 abbrev pub ReturnsTomlYaml : {A : Type 0} → TomlSettings → List ℕ → Result (Vec ℕ A) TomlError → Type 0
 ReturnsTomlYaml settings text (Ok bytes) = HasTomlYaml (seen_settings settings.writer) settings.flow settings.depth text bytes.items

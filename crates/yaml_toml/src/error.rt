@@ -5,8 +5,7 @@ use yaml_writer::yaml_error_t;
 /// The reason why a text isn't written as YAML. Lines end with LF, and lines and columns count from 1, columns in characters.
 #[derive(Debug, Drop, Error)]
 pub enum TomlError {
-    /// The text is no TOML: it can't go on here. So it is where a key has more than 80 parts, or arrays and tables in braces nest
-    /// more than 80 deep.
+    /// The text is no TOML: it can't go on here. So it is where a key has more than 80 parts.
     #[error("line {line}, column {column}: not TOML")]
     NotToml {
         line: usize,
@@ -19,6 +18,12 @@ pub enum TomlError {
         key: String,
         first_line: usize,
         first_column: usize,
+        line: usize,
+        column: usize,
+    },
+    /// An array or a table in braces begins here within 80 others: none is read that deep, whatever was allowed.
+    #[error("line {line}, column {column}: arrays and tables nest too deep")]
+    TooDeepToRead {
         line: usize,
         column: usize,
     },

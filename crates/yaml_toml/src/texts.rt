@@ -1,9 +1,10 @@
 //! TOML documents as YAML.
 ghost use Rattle.std.specs.Prelude.{◌≡◌, ◌-◌, IfSome, length};
-ghost use Rattle.toml_ordered.specs.Places.{IsConflict, place_left};
+ghost use Rattle.toml_ordered.specs.Nesting.{HasReason};
+ghost use Rattle.toml_ordered.specs.Places.{place_left};
 ghost use Rattle.yaml_writer.specs.Places.{AreOf};
 ghost use Rattle.yaml_writer.specs.WasGiven.{IsBare};
-ghost use Rattle.yaml_toml.specs.Places.{HasConflict, IsBeforeLeft};
+ghost use Rattle.yaml_toml.specs.Places.{HasTomlReason, IsBeforeLeft};
 ghost use Rattle.yaml_toml.specs.Walk.{fault_error, toml_writers_error};
 ghost use Rattle.yaml_toml.specs.WritingCalls.{ReturnsTomlYaml, WritesToml};
 
@@ -26,13 +27,17 @@ fn place_before(text: &str, left: usize) -> (usize, usize)
 fn error_of(text: &str, fault: Fault) -> TomlError
     ensures error { toml_writers_error result ≡ fault_error fault }
     ensures place { IfSome (place_left fault) (λ left. IsBeforeLeft text.now left result) }
-    ensures conflict { IsConflict text.now fault → HasConflict text.now result }
+    ensures reason { HasReason text.now fault → HasTomlReason text.now result }
 {
     match fault {
         Fault::Memory => TomlError::Emitter(yaml_error_t::Memory),
         Fault::NotToml { left } => {
             let (line, column) = place_before(text, left);
             TomlError::NotToml { line, column }
+        }
+        Fault::TooDeep { left } => {
+            let (line, column) = place_before(text, left);
+            TomlError::TooDeepToRead { line, column }
         }
         Fault::DefinedAgain { key, first, second } => {
             let (first_line, first_column) = place_before(text, first);
@@ -56,9 +61,10 @@ fn error_of(text: &str, fault: Fault) -> TomlError
 ///
 /// # Errors
 ///
-/// `NotToml` and `DefinedAgain` where the text is no document of TOML 1.1: nothing is written then. `TooDeep` where arrays and tables
-/// nest too deep. `Emitter` with the error of the writer's emitter, which has it now, or with `Memory` where an allocation fails. After an
-/// error the writer was given the first of the document's events, and nothing that was written is lost.
+/// `NotToml` and `DefinedAgain` where the text is no document of TOML 1.1, and `TooDeepToRead` where arrays and tables in braces nest more
+/// than 80 deep, whatever `settings.depth` allows: nothing is written then. `TooDeep` where arrays and tables nest deeper than it allows.
+/// `Emitter` with the error of the writer's emitter, which has it now, or with `Memory` where an allocation fails. After an error the writer
+/// was given the first of the document's events, and nothing that was written is lost.
 pub fn write_toml<A: Allocator + Copy>(
     alloc: Global,
     writer: &mut Writer<A>,
@@ -83,8 +89,9 @@ pub fn write_toml<A: Allocator + Copy>(
 ///
 /// # Errors
 ///
-/// `NotToml`, `DefinedAgain` and `TooDeep` as by `write_toml`. `Emitter` with `WriteError` where the bytes pass the limit, with `Memory`
-/// where an allocation fails, and with `TooDeep` where arrays and tables nest more than 1,000,000 deep and `settings.depth` allows it.
+/// `NotToml`, `DefinedAgain`, `TooDeepToRead` and `TooDeep` as by `write_toml`. `Emitter` with `WriteError` where the bytes pass the limit,
+/// with `Memory` where an allocation fails, and with `TooDeep` where arrays and tables nest more than 1,000,000 deep and `settings.depth`
+/// allows it.
 pub fn yaml_from_toml(
     alloc: Global,
     text: &str,

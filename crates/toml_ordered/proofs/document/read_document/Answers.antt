@@ -1,7 +1,7 @@
 use Rattle.std.proofs.Common.{◌≡◌, ◌==◌, ◌≤◌, ◌-◌, suc, length, false, inl, inr, ◌∙◌, rules, arith, ap}
 use Rattle.std.proofs.lemmas.Grind.{common_steps}
 use Rattle.toml_parser.specs.Lexical.{skip_blank}
-use Rattle.toml_ordered.proofs.Conflicts.{braces_conflict, expressions_conflict, knows_more, knows_none, reads_more}
+use Rattle.toml_ordered.proofs.Conflicts.{expressions_conflict, knows_more, knows_none, reads_more, value_reason}
 use Rattle.toml_ordered.proofs.Stopping.{placed}
 use Rattle.toml_ordered.specs.Firsts.{keys_firsts}
 use Rattle.toml_ordered.proofs.Turns.{document_none, document_some, lines_end, lines_more, lines_bad, lines_again}
@@ -109,16 +109,16 @@ lines-preserved c =
       reads_more c.args.text.now doc _ l.rest.now _ _ l.invariant.6 read c.in_default.ensures.value,
     )
 
-pub returns-in-Err-clause-conflict : goal.returns-in-Err-clause-conflict
-returns-in-Err-clause-conflict c =
+pub returns-in-Err-clause-reason : goal.returns-in-Err-clause-reason
+returns-in-Err-clause-reason c =
     let l = c.lines in
     let start_is = c.skip_blank-start.ensures.rest in
-    braces_conflict c.args.text.now l.rest.now (document_view l.read) c.in-Err.fault c.here_or_behind.result
+    value_reason c.args.text.now l.rest.now (document_view l.read) c.in-Err.fault c.here_or_behind.result
     l.invariant.6
-    (rw start_is at c.in-Err.ensures.conflict) (rw start_is at c.here_or_behind.ensures.moved)
+    (rw start_is at c.in-Err.ensures.reason) (rw start_is at c.here_or_behind.ensures.moved)
 
-pub returns-in-Err-define-clause-conflict : goal.returns-in-Err-define-clause-conflict
-returns-in-Err-define-clause-conflict c =
+pub returns-in-Err-define-clause-reason : goal.returns-in-Err-define-clause-reason
+returns-in-Err-define-clause-reason c =
     let l = c.lines in
     let start_is = c.skip_blank-start.ensures.rest in
     let read = rw start_is at c.in-Ok.ensures.value in

@@ -1,11 +1,13 @@
-use Rattle.std.proofs.Common.{◌≡◌, suc, ◌==◌, ◌-◌, ◌<◌, ◌||◌, true, false, length, le_refl, ◌∙◌, Some, rules, arith, ap}
+use Rattle.std.proofs.Common.{◌≡◌, suc, ◌==◌, ◌-◌, ◌<◌, ◌||◌, true, false, length, le_refl, ◌∙◌, Some, refl, inl, inr, rules, arith, ap}
 use Rattle.std.proofs.lemmas.Grind.{common_steps}
 use Rattle.toml_parser.specs.Lexical.{first, skip_blank}
 use Rattle.toml_parser.specs.Reading.{key_view}
 use Rattle.toml_parser.specs.Strings.{Key}
 use Rattle.toml.specs.Parse.{key_equals}
 use Rattle.std.proofs.lemmas.Result.{IfErr-weaker}
-use Rattle.toml_ordered.proofs.Conflicts.{conflict_in, knows_more_pairs, more_pairs, knows_no_pairs, other_than, pairs_conflict}
+use Rattle.std.specs.Prelude.{◌⊎◌}
+use Rattle.toml_ordered.proofs.Conflicts.{knows_more_pairs, more_pairs, knows_no_pairs, other_than, pairs_conflict, reason_in}
+use Rattle.toml_ordered.proofs.Depths.{more_items, nests_array, nests_here, nests_table}
 use Rattle.toml_ordered.proofs.Endings.{ends_self, ends_then, item_left, pair_left, skip_ends, start_ends, value_ends}
 use Rattle.toml_ordered.specs.Firsts.{keys_firsts}
 use Rattle.toml_ordered.proofs.Trees.{items_view-push, node_view-Array, node_view-Table}
@@ -14,6 +16,7 @@ use Rattle.toml_ordered.proofs.Turns.{members_bad, members_again, members_unende
 use Rattle.toml_ordered.specs.Data.{node_view}
 use Rattle.toml_ordered.specs.Drafts.{sealed, table_view}
 use Rattle.toml_ordered.specs.Grammar.{val}
+use Rattle.toml_ordered.specs.Nesting.{InItem, InPair, NestsPast}
 use Rattle.toml_ordered.specs.Places.{PairsConflict}
 use Rattle.toml_ordered.specs.declared.tree.Origin.TheVariants.{Closed}
 use Rattle.toml_ordered.proofs.values.+value.Goals as goal
@@ -21,7 +24,7 @@ use Rattle.toml_ordered.proofs.values.+value.Goals as goal
 -- ---- arrays
 
 pub array-items-init : goal.array-items-init
-array-items-init c c' = (search rules, le_refl _, λ n h. (n, h, rw c'.new-found.ensures.items), ends_self c'.args.s.now)
+array-items-init c c' = (search rules, le_refl _, λ n h. (n, h, rw c'.new-found.ensures.items), ends_self c'.args.s.now, 0, refl)
 
 pub array-returns-then-first-eq93-clause-value : goal.array-returns-then-first-eq93-clause-value
 array-returns-then-first-eq93-clause-value c c' n h =
@@ -70,17 +73,32 @@ array-items-preserved c c' =
       (ends_then c'.args.s.now l.rest.now c'.in-Ok-past_element.next.now l.invariant.3
           (item_left c'.args.depth l.rest.now _ c'.in-Ok.read.1.now c'.in-Ok-past_element.next.now 93
           (rw start_is at c'.in-Ok.ensures.value) c'.in-Ok-past_element.ensures.value)),
+      suc l.invariant.4,
+      more_items c'.args.depth l.invariant.4 c'.args.s.now l.rest.now _ _ _ l.invariant.5 (rw start_is at c'.in-Ok.ensures.value)
+          c'.in-Ok-past_element.ensures.value,
     )
 
-pub array-returns-in-Err-clause-conflict : goal.array-returns-in-Err-clause-conflict
-array-returns-in-Err-clause-conflict c c' =
+pub array-returns-in-Err-clause-reason : goal.array-returns-in-Err-clause-reason
+array-returns-in-Err-clause-reason c c' =
     let l = c'.items in
     let start = c'.skip_blank-start.result.now in
-    conflict_in c'.args.s.now start _ (start_ends c'.args.s.now l.rest.now start l.invariant.3 c'.skip_blank-start.ensures.rest) c'.in-Err.ensures.conflict
+    reason_in c'.args.s.now start _ (λ left. NestsPast c'.args.depth left start) (λ left. InItem c'.args.depth (NestsPast c'.args.depth left) c'.args.s.now)
+    (start_ends c'.args.s.now l.rest.now start l.invariant.3 c'.skip_blank-start.ensures.rest)
+    (λ left deep. (
+      start,
+      record {
+        rest = l.rest.now;
+        ends = l.invariant.3;
+        count = l.invariant.4;
+        read = l.invariant.5;
+        here = c'.skip_blank-start.ensures.rest;
+      },
+      deep,
+    )) c'.in-Err.ensures.reason
 
-pub array-returns-in-Err-past_element-clause-conflict : goal.array-returns-in-Err-past_element-clause-conflict
-array-returns-in-Err-past_element-clause-conflict c c' =
-    other_than (PairsConflict c'.args.s.now) c'.in-Err-past_element.fault c'.in-Err-past_element.ensures.once
+pub array-returns-in-Err-past_element-clause-reason : goal.array-returns-in-Err-past_element-clause-reason
+array-returns-in-Err-past_element-clause-reason c c' =
+    other_than (PairsConflict c'.args.s.now) _ c'.in-Err-past_element.fault c'.in-Err-past_element.ensures.once
 
 -- ---- tables in braces
 
@@ -191,20 +209,36 @@ braces-members-preserved c c' =
           (rw sealed_member at c'.in_default.ensures.value) c'.in-Ok-past_element.ensures.value,
     )
 
-pub braces-returns-in-Err-clause-conflict : goal.braces-returns-in-Err-clause-conflict
-braces-returns-in-Err-clause-conflict c c' =
-    other_than (PairsConflict c'.args.s.now) c'.in-Err.fault c'.in-Err.ensures.once
+pub braces-returns-in-Err-clause-reason : goal.braces-returns-in-Err-clause-reason
+braces-returns-in-Err-clause-reason c c' =
+    other_than (PairsConflict c'.args.s.now) _ c'.in-Err.fault c'.in-Err.ensures.once
 
-pub braces-returns-in-Err-value-clause-conflict : goal.braces-returns-in-Err-value-clause-conflict
-braces-returns-in-Err-value-clause-conflict c c' =
+pub braces-returns-in-Err-value-clause-reason : goal.braces-returns-in-Err-value-clause-reason
+braces-returns-in-Err-value-clause-reason c c' =
     let l = c'.members in
     let key : Key = key_view c'.in-Ok.read.0 in
     let named : key_equals (skip_blank l.rest.now) ≡ Some (key, c'.in-Ok.read.1.now) = rw c'.skip_blank-start.ensures.rest at c'.in-Ok.ensures.value in
-    conflict_in c'.args.s.now c'.in-Ok.read.1.now _ (value_ends c'.args.s.now l.rest.now key c'.in-Ok.read.1.now l.invariant.3 named)
-    c'.in-Err-value.ensures.conflict
+    reason_in c'.args.s.now c'.in-Ok.read.1.now _ (λ left. NestsPast c'.args.depth left c'.in-Ok.read.1.now)
+    (λ left. InPair c'.args.depth (NestsPast c'.args.depth left) c'.args.s.now)
+    (value_ends c'.args.s.now l.rest.now key c'.in-Ok.read.1.now l.invariant.3 named)
+    (λ left deep. (
+      table_view l.found,
+      key,
+      length (skip_blank l.rest.now),
+      record {
+        rest = l.rest.now;
+        after = c'.in-Ok.read.1.now;
+        ends = l.invariant.3;
+        count = l.invariant.5;
+        read = l.invariant.6;
+        begins = named;
+        here = refl;
+      },
+      deep,
+    )) c'.in-Err-value.ensures.reason
 
-pub braces-returns-in-Err-put-clause-conflict : goal.braces-returns-in-Err-put-clause-conflict
-braces-returns-in-Err-put-clause-conflict c c' =
+pub braces-returns-in-Err-put-clause-reason : goal.braces-returns-in-Err-put-clause-reason
+braces-returns-in-Err-put-clause-reason c c' =
     let l = c'.members in
     let key : Key = key_view c'.in-Ok.read.0 in
     let named : key_equals (skip_blank l.rest.now) ≡ Some (key, c'.in-Ok.read.1.now) = rw c'.skip_blank-start.ensures.rest at c'.in-Ok.ensures.value in
@@ -220,11 +254,11 @@ braces-returns-in-Err-put-clause-conflict c c' =
       read = l.invariant.6;
       begins = named;
       here = ap length c'.skip_blank-start.ensures.rest;
-    }) c'.skip_blank-start.ensures.within _ _ read (λ real. rw sealed_member at (c'.in-Err-put.ensures.value real)) c'.in-Err-put.ensures.again
+    }) c'.skip_blank-start.ensures.within _ _ read (λ real. rw sealed_member at (c'.in-Err-put.ensures.value real)) c'.in-Err-put.ensures.again _
 
-pub braces-returns-in-Err-past_element-clause-conflict : goal.braces-returns-in-Err-past_element-clause-conflict
-braces-returns-in-Err-past_element-clause-conflict c c' =
-    other_than (PairsConflict c'.args.s.now) c'.in-Err-past_element.fault c'.in-Err-past_element.ensures.once
+pub braces-returns-in-Err-past_element-clause-reason : goal.braces-returns-in-Err-past_element-clause-reason
+braces-returns-in-Err-past_element-clause-reason c c' =
+    other_than (PairsConflict c'.args.s.now) _ c'.in-Err-past_element.fault c'.in-Err-past_element.ensures.once
 
 -- ---- values
 
@@ -241,6 +275,13 @@ value-returns-then-depth-eq0-clause-value c c' refused =
     let bracket : ((first s == 91) || (first s == 123)) ≡ true = grind (arith, common_steps) in
     let zero : c'.args.depth ≡ 0 = omega arith in
     rw zero (val_deep s bracket)
+
+pub value-returns-then-depth-eq0-clause-reason : goal.value-returns-then-depth-eq0-clause-reason
+value-returns-then-depth-eq0-clause-reason c c' =
+    let s = c'.args.s.now in
+    let zero : c'.args.depth ≡ 0 = omega arith in
+    let opening : (first s ≡ 91) ⊎ (first s ≡ 123) = grind (arith, common_steps) in
+    nests_here c'.args.depth s c'.too_deep.result (PairsConflict s) zero opening c'.too_deep.ensures
 
 pub value-returns-in-Err-clause-value : goal.value-returns-in-Err-clause-value
 value-returns-in-Err-clause-value c c' refused =
@@ -279,15 +320,24 @@ value-returns-in-Ok-braces-clause-value c c' =
       node_view-Table Closed c'.in-Ok-braces.members,
     )
 
-pub value-returns-then-byte-ne123-clause-conflict : goal.value-returns-then-byte-ne123-clause-conflict
-value-returns-then-byte-ne123-clause-conflict c c' = IfErr-weaker c'.atom.result _ _ (λ f none. other_than _ f none) c'.atom.ensures.once
+pub value-returns-then-byte-ne123-clause-reason : goal.value-returns-then-byte-ne123-clause-reason
+value-returns-then-byte-ne123-clause-reason c c' = IfErr-weaker c'.atom.result _ _ (λ f none. other_than _ _ f none) c'.atom.ensures.once
 
-pub value-returns-in-Err-clause-conflict : goal.value-returns-in-Err-clause-conflict
-value-returns-in-Err-clause-conflict c c' =
-    conflict_in c'.args.s.now c'.skip.result.now _ (skip_ends c'.args.s.now c'.skip.result.now c'.skip.ensures.rest) c'.in-Err.ensures.conflict
+pub value-returns-in-Err-clause-reason : goal.value-returns-in-Err-clause-reason
+value-returns-in-Err-clause-reason c c' =
+    let s = c'.args.s.now in
+    let some : 0 < c'.args.depth = omega arith in
+    let opening : first s ≡ 91 = grind (arith, common_steps) in
+    reason_in s c'.skip.result.now _ (λ left. InItem (c'.args.depth - 1) (NestsPast (c'.args.depth - 1) left) c'.skip.result.now)
+    (λ left. NestsPast c'.args.depth left s) (skip_ends s c'.skip.result.now c'.skip.ensures.rest)
+    (λ left deep. nests_array c'.args.depth left s some opening (rw c'.skip.ensures.rest at deep)) c'.in-Err.ensures.reason
 
-pub value-returns-in-Err-braces-clause-conflict : goal.value-returns-in-Err-braces-clause-conflict
-value-returns-in-Err-braces-clause-conflict c c' =
-    conflict_in c'.args.s.now c'.skip-else-byte-eq91.result.now _
-    (skip_ends c'.args.s.now c'.skip-else-byte-eq91.result.now c'.skip-else-byte-eq91.ensures.rest)
-    c'.in-Err-braces.ensures.conflict
+pub value-returns-in-Err-braces-clause-reason : goal.value-returns-in-Err-braces-clause-reason
+value-returns-in-Err-braces-clause-reason c c' =
+    let s = c'.args.s.now in
+    let inside = c'.skip-else-byte-eq91.result.now in
+    let some : 0 < c'.args.depth = omega arith in
+    let opening : first s ≡ 123 = grind (arith, common_steps) in
+    reason_in s inside _ (λ left. InPair (c'.args.depth - 1) (NestsPast (c'.args.depth - 1) left) inside)
+    (λ left. NestsPast c'.args.depth left s) (skip_ends s inside c'.skip-else-byte-eq91.ensures.rest)
+    (λ left deep. nests_table c'.args.depth left s some opening (rw c'.skip-else-byte-eq91.ensures.rest at deep)) c'.in-Err-braces.ensures.reason

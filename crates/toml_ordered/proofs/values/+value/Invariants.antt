@@ -5,6 +5,7 @@ use Rattle.toml_ordered.specs.Data.{no_items, no_nodes, items_view}
 use Rattle.toml_ordered.specs.Drafts.{table_view}
 use Rattle.toml_ordered.specs.Firsts.{keys_firsts}
 use Rattle.toml_ordered.specs.Grammar.{val, items, members}
+use Rattle.toml_ordered.specs.Nesting.{after_items}
 use Rattle.toml_ordered.specs.Places.{EndsWith, after_pairs}
 use Rattle.toml_ordered.proofs.Conflicts.{KnowsPairs}
 use Rattle.toml_ordered.proofs.values.+value.Given as goal
@@ -24,7 +25,7 @@ invariant-array-items l =
     shadow (Utf8 l.rest) × (length l.rest ≤ length l.fn.s)
     × ((n : ℕ) → length l.fn.s < n → (m : ℕ) × (length l.rest < m)
     × (items (val l.fn.depth) n no_items l.fn.s ≡ items (val l.fn.depth) m (items_view l.found.items) l.rest))
-    × EndsWith l.fn.s l.rest
+    × EndsWith l.fn.s l.rest × (count : ℕ) × (after_items l.fn.depth count l.fn.s ≡ Some l.rest)
 
 abbrev pub decreases-array-items : goal.decreases-array-items
 decreases-array-items l = length l.rest

@@ -25,7 +25,7 @@ returns-in-Err g c =
       deep = fault_explained s.depth text fault error says.error says.place;
       stopped = stops_unread s.depth s.flow text was error fault says.error;
       place = placed_of text fault error says.error found.placed says.place;
-      conflict = says.conflict found.conflict;
+      reason = says.reason found.reason;
     }
 
 pub returns-in-Ok-write_root : goal.returns-in-Ok-write_root
@@ -56,7 +56,7 @@ returns-in-Err-TooDeep g c =
       deep = stop_explained s.depth text root stop.TooDeep errors.TooDeep read refl step.nests;
       stopped = stops_read s.depth s.flow text was errors.TooDeep now root read step.stopped;
       place = λ denies. absurd denies;
-      conflict = tt;
+      reason = tt;
     }
 
 pub returns : goal.returns
@@ -75,5 +75,5 @@ returns g c =
       deep = stop_explained s.depth text root (stop.Failed c.in-Err-Failed.error) (errors.Emitter c.in-Err-Failed.error) read refl step.nests;
       stopped = stops_read s.depth s.flow text was (errors.Emitter c.in-Err-Failed.error) now root read step.stopped;
       place = λ denies. absurd denies;
-      conflict = tt;
+      reason = tt;
     }

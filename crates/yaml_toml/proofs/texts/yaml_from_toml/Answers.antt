@@ -6,7 +6,7 @@ use Rattle.yaml_toml.proofs.YamlOf.{yaml_of}
 use Rattle.yaml_toml.proofs.texts.yaml_from_toml.Goals as goal
 
 pub returns-in_default : goal.returns-in_default
-returns-in_default c = record { refused = λ denied. absurd denied; deep = tt; failed = inl refl; place = λ denied. absurd denied; conflict = tt }
+returns-in_default c = record { refused = λ denied. absurd denied; deep = tt; failed = inl refl; place = λ denied. absurd denied; reason = tt }
 
 pub returns-in-Err : goal.returns-in-Err
 returns-in-Err c =
@@ -19,7 +19,7 @@ returns-in-Err c =
       failed = text_failed (seen_settings s.writer) s.flow s.depth c.args.text.now first.writer c.write_toml.new.writer first.ensures.stands
           first.ensures.canonical c.in-Err.error unwritten.stopped unwritten.sound;
       place = unwritten.place;
-      conflict = unwritten.conflict;
+      reason = unwritten.reason;
     }
 
 pub returns-in-Ok-finish : goal.returns-in-Ok-finish
@@ -45,5 +45,5 @@ returns-in-Err-finish c =
       failed = finish_failed (seen_settings s.writer) s.flow s.depth c.args.text.now first.writer now first.ensures.stands first.ensures.canonical
           wrote.written wrote.nests c.in-Err-finish.error (c.in-Err-finish.ensures.unfinished (bare_awaits_none now wrote.written.wrote.bare));
       place = λ denied. absurd denied;
-      conflict = tt;
+      reason = tt;
     }

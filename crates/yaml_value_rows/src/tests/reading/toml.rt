@@ -48,6 +48,9 @@ fn check_printed(rt: &impl Abort, alloc: Global, error: &TomlError, wanted: &str
 fn errors_print_their_place(rt: HostRuntime) {
     let error = TomlError::NotToml { line: 2, column: 5 };
     check_printed(&rt, rt.alloc(), &error, "line 2, column 5: not TOML");
+    let error = TomlError::TooDeepToRead { line: 2, column: 5 };
+    let words = "line 2, column 5: arrays and tables nest too deep";
+    check_printed(&rt, rt.alloc(), &error, words);
     let error = TomlError::DefinedAgain {
         key: String::from_str(rt.alloc(), "a").expect(&rt, "no memory"),
         first_line: 1,

@@ -1,0 +1,73 @@
+-- Values that nest too deep.
+use Rattle.std.proofs.Common.{◌≡◌, ℕ, zero, suc, ◌+◌, ◌-◌, ◌<◌, ◌≤◌, List, Some, drop, length, refl, ap, subst, sym, ◌∙◌, inl, inr, arith}
+use Rattle.std.proofs.lemmas.List.{length-append}
+use Rattle.std.specs.Prelude.{◌⊎◌}
+use Rattle.toml_parser.specs.Lexical.{first, right_bracket, skip_blank}
+use Rattle.toml_parser.specs.Strings.{recursion_limit}
+use Rattle.toml.specs.Parse.{after_element, key_equals}
+use Rattle.toml_ordered.proofs.Endings.{end_left, ends_drop, key_equals_ends, skip_blank_ends, value_ends}
+use Rattle.toml_ordered.specs.Data.{TomlNode}
+use Rattle.toml_ordered.specs.Firsts.{FaultTells}
+use Rattle.toml_ordered.specs.Grammar.{val}
+use Rattle.toml_ordered.specs.Nesting.{InItem, InPair, NestsPast, PairNestsPast, after_items}
+use Rattle.toml_ordered.specs.Places.{EndsWith}
+use Rattle.toml_ordered.specs.declared.fault.Fault.{Fault}
+use Rattle.toml_ordered.specs.declared.fault.Fault.TheVariants as fault
+
+pub ends_within : (text end : List ℕ) → EndsWith text end → length end ≤ length text
+ends_within text end ends =
+    let whole : length text ≡ length ends.0 + length end = ap length ends.1 ∙ length-append ends.0 end in
+    omega (arith, whole)
+
+pub blank_within : (text : List ℕ) → length (skip_blank text) ≤ length text
+blank_within text = ends_within text (skip_blank text) (skip_blank_ends text)
+
+pub more_items : (depth count : ℕ) (text rest : List ℕ) (x : TomlNode) (after next : List ℕ) → after_items depth count text ≡ Some rest
+    → val depth (skip_blank rest) ≡ Some (x, after) → after_element right_bracket after ≡ Some next → after_items depth (suc count) text ≡ Some next
+more_items depth count text rest x after next reads read element = rw (reads, read, element)
+
+-- ---- where they are
+
+pub nests_here : (depth : ℕ) (text : List ℕ) (found : Fault) (again : List ℕ → ℕ → ℕ → Type 0) → depth ≡ 0 → (first text ≡ 91) ⊎ (first text ≡ 123)
+    → found ≡ fault.TooDeep (length text) → FaultTells found again (λ left. NestsPast depth left text)
+nests_here depth text found again none opening is =
+    subst (λ (f : Fault). FaultTells f again (λ left. NestsPast depth left text)) (sym is)
+    (subst (λ (n : ℕ). NestsPast n (length text) text) (sym none) (opening, refl))
+
+pub nests_array : (depth left : ℕ) (text : List ℕ) → 0 < depth → first text ≡ 91 → InItem (depth - 1) (NestsPast (depth - 1) left) (drop 1 text)
+    → NestsPast depth left text
+nests_array zero left text some opening inside = absurd (omega (arith, some))
+nests_array (suc depth) left text some opening inside =
+    let less : suc depth - 1 ≡ depth = omega arith in
+    inl (opening, subst (λ (n : ℕ). InItem n (NestsPast n left) (drop 1 text)) less inside)
+
+pub nests_table : (depth left : ℕ) (text : List ℕ) → 0 < depth → first text ≡ 123 → InPair (depth - 1) (NestsPast (depth - 1) left) (drop 1 text)
+    → NestsPast depth left text
+nests_table zero left text some opening inside = absurd (omega (arith, some))
+nests_table (suc depth) left text some opening inside =
+    let less : suc depth - 1 ≡ depth = omega arith in
+    inr (opening, subst (λ (n : ℕ). InPair n (NestsPast n left) (drop 1 text)) less inside)
+
+-- what is left there is left of the text
+nests_within : (depth left : ℕ) (text : List ℕ) → NestsPast depth left text → left ≤ length text
+nests_within zero left text deep = let here = deep.1 in omega (arith, here)
+nests_within (suc depth) left text (inl deep) =
+    let (item, at, inner) = deep.1 in
+    let within = nests_within depth left item inner in
+    let is = ap length at.here in
+    let blank = blank_within at.rest in
+    let rest = ends_within (drop 1 text) at.rest at.ends in
+    let behind = ends_within text (drop 1 text) (ends_drop 1 text) in
+    omega (arith, within, is, blank, rest, behind)
+nests_within (suc depth) left text (inr deep) =
+    let (found, name, here, at, inner) = deep.1 in
+    let within = nests_within depth left at.after inner in
+    let value = ends_within (drop 1 text) at.after (value_ends (drop 1 text) at.rest name at.after at.ends at.begins) in
+    let behind = ends_within text (drop 1 text) (ends_drop 1 text) in
+    omega (arith, within, value, behind)
+
+pub pair_nests_within : (text : List ℕ) (left : ℕ) → PairNestsPast text left → left ≤ length text
+pair_nests_within text left (name, value, begins, deep) =
+    let within = nests_within recursion_limit left value deep in
+    let ends = ends_within text value (end_left text (key_equals text) name value (key_equals_ends text) begins) in
+    omega (arith, within, ends)

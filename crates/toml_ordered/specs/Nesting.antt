@@ -1,0 +1,57 @@
+-- Values in which arrays and tables in braces nest too deep to be read.
+use Rattle.std.specs.Prelude.{◌≡◌, ◌⊎◌, ℕ, zero, suc, List, drop, length, Option, Some, option_and_then}
+use Rattle.toml_parser.specs.Lexical.{first, left_brace, left_bracket, right_bracket, skip_blank}
+use Rattle.toml_parser.specs.Strings.{Key, recursion_limit}
+use Rattle.toml.specs.Parse.{after_element, key_equals}
+use Rattle.toml_ordered.specs.Data.{TomlNodes}
+use Rattle.toml_ordered.specs.Firsts.{FaultTells}
+use Rattle.toml_ordered.specs.Grammar.{val}
+use Rattle.toml_ordered.specs.Places.{Conflict, EndsWith, PairAt, ReadsUpTo}
+use Rattle.toml_ordered.specs.Tables.{TomlDocument}
+use Rattle.toml_ordered.specs.declared.fault.Fault.{Fault}
+
+-- the rest of the text after one more item of an array
+abbrev pub next_item : (depth : ℕ) → List ℕ → Option (List ℕ)
+next_item depth text = option_and_then (λ v. after_element right_bracket v.1) (val depth (skip_blank text))
+
+-- the rest after the first items, so many, of the text behind a bracket
+abbrev pub after_items : (depth : ℕ) → ℕ → (text : List ℕ) → Option (List ℕ)
+after_items depth zero text = Some text
+after_items depth (suc count) text = option_and_then (next_item depth) (after_items depth count text)
+
+-- an item begins here; the text is that of an array, behind the bracket
+pub record ItemAt (depth : ℕ) (text : List ℕ) (item : List ℕ) : Type 0 where
+  pub rest : List ℕ
+  pub ends : EndsWith text rest
+  pub count : ℕ
+  pub read : after_items depth count text ≡ Some rest
+  pub here : item ≡ skip_blank rest
+
+-- of the item of an array behind those that are read, or of the value of a table in braces behind its pairs that are read
+abbrev pub InItem : (depth : ℕ) → (List ℕ → Type 0) → (text : List ℕ) → Type 0
+InItem depth holds text = (item : List ℕ) × ItemAt depth text item × holds item
+
+abbrev pub InPair : (depth : ℕ) → (List ℕ → Type 0) → (text : List ℕ) → Type 0
+InPair depth holds text = (found : TomlNodes) × (name : Key) × (here : ℕ) × (at : PairAt depth text found name here) × holds at.after
+
+-- so deep in the value that begins here another array or table in braces begins, with this much left
+abbrev pub NestsPast : (depth left : ℕ) → (text : List ℕ) → Type 0
+NestsPast zero left text = ((first text ≡ left_bracket) ⊎ (first text ≡ left_brace)) × (left ≡ length text)
+NestsPast (suc depth) left text =
+    ((first text ≡ left_bracket) × InItem depth (NestsPast depth left) (drop 1 text))
+    ⊎ ((first text ≡ left_brace) × InPair depth (NestsPast depth left) (drop 1 text))
+
+-- it does so past the limit in the value of the pair that begins here
+abbrev pub PairNestsPast : (text : List ℕ) → (left : ℕ) → Type 0
+PairNestsPast text left = (name : Key) × (value : List ℕ) × (key_equals text ≡ Some (name, value)) × NestsPast recursion_limit left value
+
+-- the text is read up to an expression that is such a pair
+pub record NestsTooDeep (text : List ℕ) (left : ℕ) : Type 0 where
+  pub doc : TomlDocument
+  pub rest : List ℕ
+  pub read : ReadsUpTo text doc rest
+  pub nests : PairNestsPast (skip_blank rest) left
+
+-- why a text is refused: by two definitions of a key, or by a value that nests too deep
+abbrev pub HasReason : (text : List ℕ) → Fault → Type 0
+HasReason text found = FaultTells found (Conflict text) (NestsTooDeep text)
