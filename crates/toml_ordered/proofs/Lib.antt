@@ -3,6 +3,7 @@ pub mod DraftKeys
 pub mod FirstKeys
 pub mod Endings
 pub mod Depths
+pub mod RowsNesting
 pub mod Conflicts
 pub mod Turns
 pub mod Stopping
