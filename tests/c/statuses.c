@@ -345,6 +345,10 @@ static void toml_refused(void) {
     toml_stops("no UTF-8 behind a character of two bytes", "a = \"\xc3\xa9\xff\"\n", given, YAML_NOT_TOML, 1, 7);
     toml_stops("a key twice", "a = 1\nb = 2\na = 3\n", given, YAML_DUPLICATE_NAME, 3, 1);
     toml_stops("a table twice", "[a]\nb = 1\n[a]\n", given, YAML_DUPLICATE_NAME, 3, 1);
+#define TEN_ARRAYS "[[[[[[[[[["
+#define EIGHTY_ARRAYS TEN_ARRAYS TEN_ARRAYS TEN_ARRAYS TEN_ARRAYS TEN_ARRAYS TEN_ARRAYS TEN_ARRAYS TEN_ARRAYS
+    toml_stops("80 arrays without their ends", "a = " EIGHTY_ARRAYS, given, YAML_NOT_TOML, 1, 85);
+    toml_stops("a table in 80 arrays", "a = " EIGHTY_ARRAYS "{}", given, YAML_TOO_DEEP, 1, 85);
     given.depth = 1;
     toml_stops("too deep", "a = 1\nb = []\n", given, YAML_TOO_DEEP, 0, 0);
 }
