@@ -153,8 +153,9 @@ static void set(void) {
 
 /* Scalars that keep their tags: tag, value, and flags that would say otherwise. */
 static void typed(void) {
-    static const char *const tags[] = {YAML_C_STR_TAG, YAML_C_STR_TAG, YAML_C_INT_TAG, YAML_C_INT_TAG, YAML_C_BOOL_TAG, YAML_C_NULL_TAG, "!t", NULL};
-    static const char *const values[] = {"yes", "a", "3", "0x1F", "true", "null", "no", "no"};
+    static const char *const tags[] = {YAML_C_STR_TAG,  YAML_C_STR_TAG,  YAML_C_INT_TAG, YAML_C_INT_TAG, YAML_C_INT_TAG,
+                                       YAML_C_BOOL_TAG, YAML_C_NULL_TAG, "!t",           NULL};
+    static const char *const values[] = {"yes", "a", "3", "0x1F", "08", "true", "null", "no", "no"};
     size_t i;
     begin();
     give(YAML_C_SEQUENCE_START, "", YAML_DONE, 0);
@@ -172,7 +173,7 @@ static void typed(void) {
     }
     give(YAML_C_SEQUENCE_END, "", YAML_DONE, 0);
     give(YAML_C_DOCUMENT_END, "", YAML_DONE, 0);
-    take("types", 128, "- 'yes'\n- a\n- 3\n- !!int 0x1F\n- true\n- null\n- !t no\n- no\n");
+    take("types", 128, "- 'yes'\n- a\n- 3\n- 0x1F\n- !!int 08\n- true\n- null\n- !t no\n- no\n");
     yaml_c_emitter_delete(emitter);
 }
 

@@ -116,7 +116,8 @@ pub fn yaml_emitter_dump<A: Allocator + Copy>(
 
 /// Emits a document's events as `yaml_emitter_dump` does, with the flags that keep each scalar's tag (`typed_event`): what is read back has
 /// the tag of each node, whichever schema gives tags to what is written without one, the type repository of YAML 1.1 or the core schema of
-/// YAML 1.2 (`typed_dumps_read_back`). So a string `no` stands in quotes, and an integer `3` stands plain.
+/// YAML 1.2 (`typed_dumps_read_back`; but for two kinds of streams where portable mode is off). So a string `no` stands in quotes, and an
+/// integer `3` stands plain.
 ///
 /// # Errors
 /// Those of `yaml_emitter_dump`, in the same cases.

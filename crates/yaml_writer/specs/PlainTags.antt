@@ -24,7 +24,8 @@ use Rattle.yaml_writer.specs.Writing.{float_tag}
 abbrev pub word_meant : Text → Option Resolved
 word_meant text = if is_empty text then None else named words_of_core text
 
--- `0`, or decimal digits of which the first isn't 0, or octal digits: the schemas read `017` as two integers, and neither `08`
+-- `0`, or decimal digits of which the first isn't 0, or octal digits: the schemas read `017` as two integers, and the core
+-- schema alone `08`
 abbrev pub are_integer_digits : Text → Bool
 are_integer_digits digits = is_whole_part digits || are_digits 8 digits
 

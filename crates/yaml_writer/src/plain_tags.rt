@@ -44,8 +44,8 @@ fn tag_of_word(text: &str) -> Option<&'static str>
 }
 
 /// Returns the tag that both schemas, the type repository of YAML 1.1 and the core schema of YAML 1.2, give a text which stands
-/// plain: that of null, booleans, integers or floats. It is `None` for texts, and for what the two read apart: `1e5`, `0b1`,
-/// `1_000`, `08`. Needs no memory.
+/// plain: that of null, booleans, integers or floats. It is `None` for texts, for what the two read apart: `1e5`, `0b1`, `1_000`,
+/// `08`, and for the empty text, a null by both, which can't stand plain everywhere. Needs no memory.
 pub fn plain_tag(text: &str) -> Option<&'static str>
     ensures { option_map (λ tag. chars tag.now) result ≡ plain.plain_tag (chars text.now) }
 {

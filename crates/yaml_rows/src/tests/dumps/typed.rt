@@ -35,7 +35,7 @@ const TEXTS: &[Row] = &[
     (&[Quoted(STR, "a")], "\"a\"\n"),
 ];
 
-/// Words and numbers stand plain where both schemas read their tag; else the tag is written.
+/// Words and numbers stand plain where that is their plain tag; else the tag is written.
 const OTHERS: &[Row] = &[
     (&[Tagged(NULL, "~")], "~\n"),
     (&[Tagged(NULL, "null")], "null\n"),
