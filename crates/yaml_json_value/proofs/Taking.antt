@@ -58,7 +58,7 @@ pub no_integer : {A : Type 0} (digits : List ℕ) (before : List OpenCollection)
     → IsIntegerIn digits (Err why) → Taken (Token.number digits) before levels (Err why)
 no_integer digits before levels stop.Misplaced none = absurd none
 no_integer digits before levels stop.NotInteger none = (digits, refl, none)
-no_integer digits before levels stop.Memory none = tt
+no_integer digits before levels stop.Memory none = absurd none
 
 -- a level was opened, or not
 pub entered : {A : Type 0} (level : Level A) (old new : List (Level A)) (answer : Result (Option (Value A)) Stop) → answer ≡ Ok None

@@ -33,7 +33,7 @@ abbrev pub IsIntegerIn : (digits : List ℕ) → Result ℤ Stop → Type 0
 IsIntegerIn digits (Ok number) = IsIntegerText digits × (number ≡ integer_of digits)
 IsIntegerIn digits (Err stop.Misplaced) = ⊥
 IsIntegerIn digits (Err stop.NotInteger) = IsIntegerText digits → ⊥
-IsIntegerIn digits (Err stop.Memory) = Unit {0}
+IsIntegerIn digits (Err stop.Memory) = ⊥
 
 -- the level has the value more, unless memory ran out
 abbrev pub HasMore : {A : Type 0} → OpenCollection → TypedValue → Result (Level A) Stop → Type 0

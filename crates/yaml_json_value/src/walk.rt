@@ -52,13 +52,12 @@ fn take_name<A: Allocator + Copy>(
 }
 
 fn take_number<A: Allocator + Copy>(
-    alloc: A,
     levels: &mut Vec<Level<A>, A>,
     digits: &str,
 ) -> Result<Option<Value<A>>, Stop>
     ensures { Taken (spec.number digits.now) (seen_all_open levels.old.items) levels.new.items result }
 {
-    match integer_in(alloc, digits) {
+    match integer_in(digits) {
         Ok(number) => settle(levels, Value::Int(number)),
         Err(stop) => Err(stop),
     }
@@ -75,7 +74,7 @@ fn take_token<'a, A: Allocator + Copy>(
     match token {
         Token::Null => settle(levels, Value::Null),
         Token::Bool(flag) => settle(levels, Value::Bool(flag)),
-        Token::Number(digits) => take_number(alloc, levels, digits),
+        Token::Number(digits) => take_number(levels, digits),
         Token::String(text) => take_text(alloc, levels, text),
         Token::Key(name) => take_name(alloc, levels, name),
         Token::BeginArray => enter(levels, Level::Items(Vec::new(alloc))),

@@ -2,16 +2,11 @@
 use Rattle.yaml_base.proofs.Common.{ℕ, ◌+◌, ◌*◌, ◌<◌, [], ◌∷◌, ◌++◌, ◌≡◌, ◌∙◌, zero, suc, None, List, refl, ap, subst, sym, inl, inr, arith, append_assoc}
 use Rattle.yaml_base.{proofs.Common.codes, proofs.Common.flat_map, proofs.Common.replicate, proofs.Common.space, specs.values.ValueText.line_at}
 use Rattle.std.specs.Prelude.{Result, Ok, Err, IfErr}
-use Rattle.std.{proofs.lemmas.List.replicate-append-replicate, specs.Borrow.Bor, specs.Result.IsErr, specs.Result.IsErrAnd}
+use Rattle.std.{proofs.lemmas.List.replicate-append-replicate, specs.Borrow.Bor}
 use Rattle.yaml_read.specs.Grammar.{these_or_those, entry_end, levels_then, line_then, nothing, word_then}
 use Rattle.yaml_read.specs.Places.{BreaksAt, BreaksOff, IsHere, LacksLevel, LacksLine, no_level, no_line}
-use Rattle.yaml_read.{specs.Words.Cuts, specs.Words.past_word, specs.declared.errors.Stop.Stop, proofs.Words.at_exit, proofs.Words.no_word}
+use Rattle.yaml_read.{specs.Words.Cuts, specs.Words.past_word, specs.declared.errors.Stop.Stop, proofs.Words.no_word}
 use Rattle.yaml_read.specs.declared.errors.Stop.TheVariants as stop
-
--- what a `?` returns
-pub err_exit : {T : Type 0} (P : Stop → Type 0) (error : Stop) (answer : Result T Stop) → IsErr answer × IsErrAnd answer (λ given. given ≡ error)
-    → P error → IfErr answer P
-err_exit {T} P error answer is holds = at_exit (λ (r : Result T Stop). IfErr r P) error answer is holds
 
 -- ---- at a word
 

@@ -1,8 +1,8 @@
 -- Words at a text's beginning.
 use Rattle.yaml_base.proofs.Common.{ℕ, ◌==◌, ◌+◌, ◌*◌, ◌-◌, ◌<◌, Bool, true, false, Option, None, Some, List, [], ◌∷◌, ◌++◌, refl, ◌≡◌, ap, subst, sym, ◌∙◌}
-use Rattle.yaml_base.proofs.Common.{if◌then◌else◌, option_and_then, true≢false, eqb-true, arith, nat_tests, append_assoc, replicate, space, codes}
+use Rattle.yaml_base.proofs.Common.{if◌then◌else◌, option_and_then, eqb-true, arith, nat_tests, append_assoc, replicate, space, codes}
 use Rattle.std.proofs.lemmas.List.{replicate-append-replicate}
-use Rattle.std.specs.{Prelude.Result, Prelude.Ok, Prelude.Err, Result.IsErr, Result.IsErrAnd, Borrow.Bor}
+use Rattle.std.specs.{Prelude.Result, Prelude.Ok, Prelude.Err, Borrow.Bor}
 use Rattle.yaml_read.{specs.Words.past_word, specs.Words.Cuts, specs.Words.OpensAt, specs.Words.OrMemory, specs.declared.errors.Stop.Stop}
 use Rattle.yaml_read.specs.declared.errors.Stop.TheVariants as stop
 
@@ -98,12 +98,6 @@ pub error_stays : {S T : Type 0} (Held : S → Type 0) (Holds : T → Type 0) (e
 error_stays Held Holds stop.Memory is = tt
 error_stays Held Holds (stop.Refused n) is = is
 error_stays Held Holds (stop.TooDeep n) is = is
-
--- what a `?` returns
-pub at_exit : {T : Type 0} (P : Result T Stop → Type 0) (error : Stop) (answer : Result T Stop) → IsErr answer × IsErrAnd answer (λ given. given ≡ error)
-    → P (Err error) → P answer
-at_exit P error (Ok found) is holds = absurd (true≢false (sym is.0))
-at_exit P error (Err given) is holds = subst (λ (e : Stop). P (Err e)) (sym is.1) holds
 
 -- a word that wasn't opened
 pub opens_error : (word text : List ℕ) (error : Stop) → past_word word text ≡ None → OpensAt word text (Err error)

@@ -57,8 +57,7 @@ fn read_integer<A: Allocator + Copy>(alloc: A, text: &str) -> Result<(Value<A>, 
     match read_digits(alloc, text) {
         Ok((digits, rest)) => match digits.as_str().parse::<i64>() {
             Ok(value) => {
-                let spelled = format!(in alloc; "{value}")?;
-                if spelled.as_str() == digits.as_str() {
+                if digits.as_str() == itoa::Buffer::new().format(value) {
                     Ok((Value::Int(value), rest))
                 } else {
                     Err(refused_at(text))

@@ -179,8 +179,12 @@ fn push_integer<A: Allocator + Copy>(
     ensures pushed { OnOk result (seen_events events.new.items ≡ seen_events events.old.items ++ node_events (value_node (typed.int_value value))) }
     ensures bits { mag value < 2 ^ 63 }
 {
-    let digits = format!(in alloc; "{value}")?;
-    push_scalar(alloc, events, YAML_INT_TAG, digits.as_str())
+    push_scalar(
+        alloc,
+        events,
+        YAML_INT_TAG,
+        itoa::Buffer::new().format(value),
+    )
 }
 
 fn push_text<A: Allocator + Copy>(

@@ -3,7 +3,7 @@ use Rattle.std.{proofs.lemmas.Int.to_z-of_z, proofs.lemmas.Slice.Eq.bytes_eq-Dec
 use Rattle.yaml_value.{specs.SeenValues.seen_value, specs.declared.value.Value.Value}
 use Rattle.yaml_base.{specs.values.TypedValues.int_value, specs.values.ValueText.in_quotes, specs.Seen.seen_text}
 use Rattle.yaml_read.proofs.{Scalars.digits_are, Scalars.fits_signed, Scalars.int_scalars, Scalars.not_parsed, Scalars.parsed, SeenLevels.seen_integer}
-use Rattle.yaml_read.proofs.{Words.at_exit, Breaking.err_exit, HeadsRead.bits_of_fits, HeadsRead.digits_seen, HeadsRead.parsed_fits, BreakingNodes.no_integer}
+use Rattle.yaml_read.proofs.{HeadsRead.bits_of_fits, HeadsRead.digits_seen, HeadsRead.parsed_fits, BreakingNodes.no_integer}
 use Rattle.yaml_read.specs.{Heads.IsWhole, Words.OrMemory, Grammar.integer, Places.BreaksAt}
 use Rattle.yaml_value.specs.declared.value.Value as declared
 use Rattle.yaml_read.specs.declared.errors.Stop.TheVariants as stop
@@ -13,11 +13,6 @@ pub returns-clause-reads : goal.returns-clause-reads
 returns-clause-reads g c =
     λ n rest few is.
     c.in-Err.ensures.reads (signed_decimal n) rest (int_scalars n few) is
-
-pub returns-in_err-spelled-in-Ok-parse-clause-reads : goal.returns-in_err-spelled-in-Ok-parse-clause-reads
-returns-in_err-spelled-in-Ok-parse-clause-reads g c =
-    λ n rest few is.
-    at_exit (OrMemory (IsWhole {A = g.row.A.Denot} (int_value n) rest)) stop.Memory c.from_residual.result c.from_residual.ensures tt
 
 pub returns-then-eq-clause-reads : goal.returns-then-eq-clause-reads
 returns-then-eq-clause-reads g c =
@@ -39,10 +34,9 @@ returns-in-Ok-parse-clause-reads g c =
     let same : c.in-Ok-parse.value ≡ n = cc in
     let fits = subst (FitsSigned w64) (sym same) (fits_signed n few) in
     let digits = digits_are c.in-Ok.digits n few read.0 in
-    let spelled = c.in_ok-spelled-in-Ok-parse.ensures.ok ∙ ap signed_decimal (to_z-of_z w64 c.in-Ok-parse.value fits ∙ same) in
-    let one : c.as_str-in-Ok-parse.result.now ≡ c.as_str-in-Ok-parse-2.result.now =
-    c.as_str-in-Ok-parse.ensures.value ∙ spelled ∙ sym digits ∙ sym c.as_str-in-Ok-parse-2.ensures.value in
-    absurd (true≢false (sym ((bytes_eq-Decides c.as_str-in-Ok-parse.result.now c.as_str-in-Ok-parse-2.result.now).1 one) ∙ sym c.eq.ensures ∙ c.if-eq.false))
+    let spelled = c.format.ensures.text ∙ ap signed_decimal (to_z-of_z w64 c.in-Ok-parse.value fits ∙ same) in
+    let one : c.as_str-in-Ok-parse.result.now ≡ c.format.result.now = c.as_str-in-Ok-parse.ensures.value ∙ digits ∙ sym spelled in
+    absurd (true≢false (sym ((bytes_eq-Decides c.as_str-in-Ok-parse.result.now c.format.result.now).1 one) ∙ sym c.eq.ensures ∙ c.if-eq.false))
 
 pub returns-in-Ok-clause-reads : goal.returns-in-Ok-clause-reads
 returns-in-Ok-clause-reads g c =
@@ -54,9 +48,9 @@ returns-in-Ok-clause-reads g c =
 pub returns-then-eq-clause-sound : goal.returns-then-eq-clause-sound
 returns-then-eq-clause-sound g c =
     let fits = parsed_fits c.as_str.result.now c.in-Ok-parse.value c.parse.result c.parse.ensures.value.0 c.in-Ok-parse.is in
-    let same = (bytes_eq-Decides c.as_str-in-Ok-parse.result.now c.as_str-in-Ok-parse-2.result.now).0 (sym c.eq.ensures ∙ c.if-eq.true) in
+    let same = (bytes_eq-Decides c.as_str-in-Ok-parse.result.now c.format.result.now).0 (sym c.eq.ensures ∙ c.if-eq.true) in
     let made = to_z-of_z w64 c.in-Ok-parse.value fits in
-    let digits = sym c.as_str-in-Ok-parse-2.ensures.value ∙ sym same ∙ c.as_str-in-Ok-parse.ensures.value ∙ c.in_ok-spelled-in-Ok-parse.ensures.ok ∙ ap signed_decimal made in
+    let digits = sym c.as_str-in-Ok-parse.ensures.value ∙ same ∙ c.format.ensures.text ∙ ap signed_decimal made in
     record {
       number = c.in-Ok-parse.value;
       is = ap (λ z. seen_value {A = g.row.A.Denot} (declared.Int z)) made ∙ seen_integer g.row.A.Denot c.in-Ok-parse.value;
@@ -72,10 +66,6 @@ returns-clause-breaks g c =
     no_integer (λ n rest (found : String g.row.A.Denot × Bor (List ℕ)). (seen_text found.0 ≡ signed_decimal n) × (found.1.now ≡ encode_utf8_all rest))
     c.args.text.now c.in-Err.stop c.utf8.text c.in-Err.ensures.placed
     (λ n rest few is. c.in-Err.ensures.reads (signed_decimal n) rest (int_scalars n few) is)
-
-pub returns-in_err-spelled-in-Ok-parse-clause-breaks : goal.returns-in_err-spelled-in-Ok-parse-clause-breaks
-returns-in_err-spelled-in-Ok-parse-clause-breaks g c =
-    err_exit (BreaksAt integer c.args.text.now) stop.Memory c.from_residual.result c.from_residual.ensures tt
 
 pub returns-in-Ok-parse-clause-breaks : goal.returns-in-Ok-parse-clause-breaks
 returns-in-Ok-parse-clause-breaks g c =
