@@ -1,5 +1,5 @@
 -- Keys that are defined again: what is known of the keys so far.
-use Rattle.std.proofs.Common.{Some, suc, ◌≡◌, ℕ, ◌<◌, ◌≤◌, ◌+◌, List, length, min, string_bytes, None, sym, ap, subst, ◌∙◌, inl, inr, arith}
+use Rattle.std.proofs.Common.{Some, suc, ◌≡◌, ℕ, ◌<◌, ◌≤◌, List, length, min, string_bytes, None, sym, subst, ◌∙◌, inl, inr, arith}
 use Rattle.toml_parser.specs.Lexical.{right_brace, skip_blank}
 use Rattle.toml_parser.specs.Strings.{Key}
 use Rattle.toml.specs.Parse.{after_element}

@@ -1,4 +1,4 @@
-use Rattle.std.proofs.Common.{◌≡◌, suc, ◌==◌, ◌-◌, ◌<◌, ◌||◌, true, false, length, le_refl, ◌∙◌, Some, refl, inl, inr, rules, arith, ap}
+use Rattle.std.proofs.Common.{◌≡◌, suc, ◌==◌, ◌-◌, ◌<◌, ◌||◌, true, false, length, le_refl, ◌∙◌, Some, refl, rules, arith, ap}
 use Rattle.std.proofs.lemmas.Grind.{common_steps}
 use Rattle.toml_parser.specs.Lexical.{first, skip_blank}
 use Rattle.toml_parser.specs.Reading.{key_view}

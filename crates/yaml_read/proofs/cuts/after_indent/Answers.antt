@@ -1,7 +1,7 @@
-use Rattle.std.proofs.Common.{◌*◌, List, ℕ, replicate, Bor, codes, Result}
-use Rattle.yaml_base.{specs.Characters.space, specs.values.ValueText.line_at}
-use Rattle.yaml_read.{proofs.Words.cuts_behind, proofs.Words.first_none, specs.Words.Cuts, specs.declared.errors.Stop.Stop}
-use Rattle.yaml_read.{proofs.Breaking.level_behind, specs.Places.LacksLine, specs.Places.no_line}
+use Rattle.std.proofs.Common.{◌*◌, replicate, codes}
+use Rattle.yaml_base.{specs.Characters.space}
+use Rattle.yaml_read.{proofs.Words.cuts_behind, proofs.Words.first_none}
+use Rattle.yaml_read.{proofs.Breaking.level_behind, specs.Places.no_line}
 use Rattle.yaml_read.proofs.cuts.after_indent.Goals as goal
 
 pub returns-in-Err-clause-cut : goal.returns-in-Err-clause-cut

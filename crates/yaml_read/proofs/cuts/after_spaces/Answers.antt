@@ -1,7 +1,5 @@
-use Rattle.std.proofs.Common.{◌*◌, replicate, rules, arith, List, ℕ, Bor, Result}
-use Rattle.yaml_base.specs.Characters.{space}
+use Rattle.std.proofs.Common.{rules, arith}
 use Rattle.yaml_read.proofs.Words.{spaces_lack, spaces_more}
-use Rattle.yaml_read.{specs.Words.Cuts, specs.declared.errors.Stop.Stop, specs.Places.LacksLevel}
 use Rattle.yaml_read.proofs.cuts.after_spaces.Goals as goal
 
 pub returns-in-Err-clause-cut : goal.returns-in-Err-clause-cut

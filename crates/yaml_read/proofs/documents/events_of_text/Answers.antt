@@ -1,7 +1,7 @@
 use Rattle.std.proofs.Common.{◌++◌, ◌∷◌, [], codes, encode_utf8_all}
 use Rattle.yaml_base.specs.Characters.{line_feed}
 use Rattle.yaml_read.proofs.DocumentsRead.{events_sound, events_stop, first_line_stops}
-use Rattle.yaml_read.{specs.DocumentPlaces.DocumentStops, proofs.Turns.cut_is, proofs.Words.no_word}
+use Rattle.yaml_read.{proofs.Turns.cut_is, proofs.Words.no_word}
 use Rattle.yaml_read.proofs.documents.events_of_text.Goals as goal
 
 pub returns-in-Err-clause-reads : goal.returns-in-Err-clause-reads

@@ -1,10 +1,10 @@
 use Rattle.std.proofs.Common.{◌≡◌, ◌++◌, List, ℕ, ap, subst, sym, ◌∙◌, refl, [], arith}
-use Rattle.std.{specs.Prelude.codes, specs.Prelude.Result, specs.Str.encode_utf8_all, specs.Borrow.Bor, proofs.lemmas.Result.IfOk-weaker}
+use Rattle.std.{specs.Prelude.codes, specs.Str.encode_utf8_all, proofs.lemmas.Result.IfOk-weaker}
 use Rattle.yaml_base.{specs.Characters.Text, specs.values.TypedValues.TypedValue, specs.values.TypedValues.text_value, specs.values.ValueText.value_text}
 use Rattle.yaml_read.proofs.HeadTexts.{TailOf, list_head, map_head, no_tag, tail_of}
 use Rattle.yaml_read.proofs.HeadsRead.{integer_read, list_read, map_read, null_read, string_read, truth_read}
-use Rattle.yaml_read.specs.{Heads.HeadRead, Heads.tag_word, Readable.CanBeReadAt, declared.heads.Kind.Kind, declared.errors.Stop.Stop, declared.heads.Head.Head}
-use Rattle.yaml_read.specs.{Sound.IsValue, Grammar.node, Grammar.nothing, Places.BreaksAt}
+use Rattle.yaml_read.specs.{Heads.tag_word, Readable.CanBeReadAt, declared.heads.Kind.Kind}
+use Rattle.yaml_read.specs.{Sound.IsValue, Grammar.nothing}
 use Rattle.yaml_read.proofs.{Encoded.word_encoded, SeenLevels.seen_null, SeenLevels.seen_string, Turns.cut_is}
 use Rattle.yaml_read.proofs.{Breaking.missing, BreakingNodes.no_list, BreakingNodes.no_map, BreakingNodes.no_tag_there, BreakingNodes.tag_passed}
 use Rattle.yaml_value.specs.SeenValues.{seen_value}

@@ -4,9 +4,8 @@ use Rattle.yaml_value.{specs.SeenValues.seen_value, specs.declared.value.Value.V
 use Rattle.yaml_base.{specs.values.TypedValues.int_value, specs.values.ValueText.in_quotes, specs.Seen.seen_text}
 use Rattle.yaml_read.proofs.{Scalars.digits_are, Scalars.fits_signed, Scalars.int_scalars, Scalars.not_parsed, Scalars.parsed, SeenLevels.seen_integer}
 use Rattle.yaml_read.proofs.{HeadsRead.bits_of_fits, HeadsRead.digits_seen, HeadsRead.parsed_fits, BreakingNodes.no_integer}
-use Rattle.yaml_read.specs.{Heads.IsWhole, Words.OrMemory, Grammar.integer, Places.BreaksAt}
+use Rattle.yaml_read.specs.{Heads.IsWhole}
 use Rattle.yaml_value.specs.declared.value.Value as declared
-use Rattle.yaml_read.specs.declared.errors.Stop.TheVariants as stop
 use Rattle.yaml_read.proofs.heads.read_integer.Goals as goal
 
 pub returns-clause-reads : goal.returns-clause-reads

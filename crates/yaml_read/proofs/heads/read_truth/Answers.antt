@@ -1,6 +1,6 @@
 use Rattle.std.proofs.Common.{◌++◌, true, false, refl, ap, sym, ◌∙◌, codes}
 use Rattle.yaml_read.proofs.HeadsRead.{false_there, no_truth_there, seen_truth, true_there, word_bytes}
-use Rattle.yaml_read.{proofs.Breaking.neither, specs.Grammar.truth, specs.Places.BreaksAt}
+use Rattle.yaml_read.{proofs.Breaking.neither}
 use Rattle.yaml_read.proofs.heads.read_truth.Goals as goal
 
 pub returns-in-Some-clause-sound : goal.returns-in-Some-clause-sound

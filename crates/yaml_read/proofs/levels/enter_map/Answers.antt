@@ -1,8 +1,8 @@
-use Rattle.std.proofs.Common.{◌≡◌, ◌+◌, ◌*◌, ◌++◌, ◌∷◌, List, [], ℕ, suc, None, refl, subst, arith, Bor, codes, length, Result}
+use Rattle.std.proofs.Common.{◌≡◌, ◌+◌, ◌*◌, ◌++◌, ◌∷◌, [], suc, None, refl, subst, arith, codes, length}
 use Rattle.yaml_base.specs.values.ValueText.{line_at}
-use Rattle.yaml_read.{specs.Words.past_word, specs.Grammar.nothing, specs.Places.BreaksAt, specs.Places.LacksLine}
-use Rattle.yaml_read.{proofs.Words.first_none, proofs.Words.opens_cut, specs.Grammar.line_then, specs.Grammar.word_then}
-use Rattle.yaml_read.{proofs.Words.opens_error, specs.Words.OpensAt, proofs.Breaking.line_and_word, proofs.Breaking.line_lacks, specs.declared.errors.Stop.Stop}
+use Rattle.yaml_read.{specs.Words.past_word, specs.Grammar.nothing, specs.Places.LacksLine}
+use Rattle.yaml_read.{proofs.Words.first_none, proofs.Words.opens_cut, specs.Grammar.word_then}
+use Rattle.yaml_read.{proofs.Words.opens_error, proofs.Breaking.line_and_word, proofs.Breaking.line_lacks}
 use Rattle.yaml_read.proofs.levels.enter_map.Goals as goal
 
 pub returns-in-Err-after_indent-clause-cut : goal.returns-in-Err-after_indent-clause-cut

@@ -1,6 +1,6 @@
 use Rattle.std.proofs.Common.{◌++◌, [], ap, ◌∙◌, arith, codes, length}
 use Rattle.yaml_value.specs.SeenValues.{seen_value}
-use Rattle.yaml_read.specs.Places.{LacksEnd, more_follows, no_end}
+use Rattle.yaml_read.specs.Places.{more_follows, no_end}
 use Rattle.yaml_read.proofs.{Opening.nothing_left, Opening.root_ends, Opening.some_left, Opening.value_out, Turns.cut_is, Words.no_word}
 use Rattle.yaml_read.proofs.levels.finish.Goals as goal
 

@@ -1,8 +1,8 @@
-use Rattle.std.proofs.Common.{◌≡◌, ◌*◌, ◌++◌, None, ap, subst, sym, ◌∙◌, arith, codes, Result}
+use Rattle.std.proofs.Common.{◌≡◌, ◌*◌, ◌++◌, None, ap, subst, sym, ◌∙◌, arith, codes}
 use Rattle.yaml_base.specs.values.ValueText.{line_at}
 use Rattle.yaml_read.proofs.Breaking.{no_comma, no_entry, no_line_behind}
-use Rattle.yaml_read.{specs.Entries.EntryFound, specs.Words.past_word, specs.declared.errors.Stop.Stop, specs.declared.levels.Entry.Entry, proofs.Turns.cut_is}
-use Rattle.yaml_read.{proofs.Turns.line_is, proofs.Words.no_word, specs.Grammar.entry_end, specs.Places.BreaksAt}
+use Rattle.yaml_read.{specs.Words.past_word, proofs.Turns.cut_is}
+use Rattle.yaml_read.{proofs.Turns.line_is, proofs.Words.no_word}
 use Rattle.yaml_read.proofs.levels.next_entry.Goals as goal
 
 pub returns-in-Err-clause-found : goal.returns-in-Err-clause-found

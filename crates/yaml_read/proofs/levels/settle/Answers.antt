@@ -1,9 +1,9 @@
-use Rattle.std.proofs.Common.{◌≡◌, ◌<◌, List, subst, sym, ◌∙◌, rules, arith, Result, Ok, length}
+use Rattle.std.proofs.Common.{◌≡◌, ◌<◌, List, subst, sym, ◌∙◌, rules, arith, Ok, length}
 use Rattle.yaml_value.specs.SeenValues.{seen_value}
-use Rattle.yaml_read.specs.Remaining.{IsDue, IsRead, OpenLevel, Reached, TurnReached, seen_level, seen_levels}
+use Rattle.yaml_read.specs.Remaining.{IsDue, IsRead, OpenLevel, TurnReached, seen_level, seen_levels}
 use Rattle.yaml_read.specs.Opened.{HasRead, IsOpen, TurnRead}
 use Rattle.yaml_read.proofs.BreakingNodes.{end_stops, value_stops}
-use Rattle.yaml_read.specs.{declared.errors.Stop.Stop, declared.levels.Next.Next, declared.levels.Turn.Turn, Places.StopsIn, Shorter.TurnShorter}
+use Rattle.yaml_read.specs.{declared.levels.Turn.Turn, Shorter.TurnShorter}
 use Rattle.yaml_read.proofs.{SeenLevels.levels_length, SeenLevels.no_levels, Turns.popped, Turns.turn_error, Opening.taken}
 use Rattle.yaml_read.proofs.levels.settle.Goals as goal
 

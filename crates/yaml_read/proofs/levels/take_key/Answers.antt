@@ -3,7 +3,7 @@ use Rattle.yaml_base.specs.values.ValueText.{line_at}
 use Rattle.yaml_value.specs.SeenValues.{seen_pairs, seen_value}
 use Rattle.yaml_read.proofs.Breaking.{line_lacks, line_passed, missing}
 use Rattle.yaml_read.{specs.Remaining.IsDue, proofs.Turns.cut_is, proofs.Turns.key_bytes, proofs.Turns.key_ends, proofs.Words.no_word, proofs.Opening.key_on}
-use Rattle.yaml_read.{specs.Grammar.line_then, specs.Grammar.nothing, specs.Grammar.word_then, specs.Places.BreaksAt}
+use Rattle.yaml_read.{specs.Grammar.nothing, specs.Grammar.word_then}
 use Rattle.yaml_read.proofs.levels.take_key.Goals as goal
 
 pub returns-in-Err-clause-reached : goal.returns-in-Err-clause-reached

@@ -1,10 +1,8 @@
-use Rattle.std.proofs.Common.{◌≡◌, ◌∷◌, List, [], ℕ, None, Some, inl, refl, subst, sym, rules, arith, codes, String, Bor, encode_utf8_all, string_bytes}
-use Rattle.yaml_base.specs.Seen.{seen_text}
+use Rattle.std.proofs.Common.{◌∷◌, List, [], ℕ, None, Some, inl, refl, subst, sym, rules, arith, codes, string_bytes}
 use Rattle.yaml_read.proofs.{QuotedTexts.ReadsOn, QuotedTexts.reads_more, QuotedTexts.text_read, Breaking.missing, CharactersRead.one_more}
 use Rattle.yaml_read.proofs.{QuotedTexts.opening_there, BreakingNodes.no_character, BreakingNodes.passes_character, BreakingNodes.passes_quote}
 use Rattle.yaml_read.proofs.{QuotedTexts.reads_first, BreakingNodes.utf8_left, CharactersRead.ReadSoFar, CharactersRead.all_read, CharactersRead.none_yet}
-use Rattle.yaml_read.specs.{Words.OrMemory, Grammar.characters, Grammar.quoted_text, Places.BreaksAt}
-use Rattle.yaml_read.specs.declared.errors.Stop.TheVariants as stop
+use Rattle.yaml_read.specs.{Grammar.characters}
 use Rattle.yaml_read.proofs.CharactersRead.{character_shorter}
 use Rattle.yaml_read.proofs.quoted.read_quoted.Goals as goal
 

@@ -1,15 +1,15 @@
-use Rattle.std.proofs.Common.{◌≡◌, ◌+◌, ◌*◌, ◌++◌, ◌∷◌, [], ℕ, ◌∙◌, ◌<◌, true≢false, List, ap, subst, sym, arith, true, inl, inr, codes, Result, Ok, length}
+use Rattle.std.proofs.Common.{◌≡◌, ◌+◌, ◌*◌, ◌++◌, ◌∷◌, [], ℕ, ◌∙◌, ◌<◌, true≢false, List, ap, subst, sym, arith, true, inl, inr, codes, Ok, length}
 use Rattle.std.{proofs.Common.Bor, proofs.Common.encode_utf8_all, proofs.lemmas.List.append-nil, proofs.lemmas.Result.IfOk-weaker}
 use Rattle.yaml_base.specs.values.TypedValues.{TypedValue, most_nested, no_value_pairs, no_values}
 use Rattle.yaml_base.{specs.Characters.Text, specs.values.ValueText.line_at, specs.values.ValueText.value_text}
 use Rattle.yaml_value.specs.SeenValues.{seen_value}
-use Rattle.yaml_read.specs.Remaining.{IsDue, OpenLevel, Reached, column_in, is_nested, items_open, pairs_open, seen_levels}
+use Rattle.yaml_read.specs.Remaining.{IsDue, OpenLevel, column_in, is_nested, items_open, pairs_open, seen_levels}
 use Rattle.yaml_read.specs.declared.levels.Next.TheVariants.{Done, Node}
 use Rattle.yaml_read.proofs.Turns.{into, into_error, list_opens, map_opens, nested_readable, whole_read}
 use Rattle.yaml_read.proofs.reading.step.Goals.{then-is_collection+in-Ok-check_room, else-is_collection}
 use Rattle.yaml_read.proofs.BreakingNodes.{list_line_breaks, map_line_breaks, nested_begins, node_stops, opens_deep}
-use Rattle.yaml_read.specs.{Heads.HeadRead, Readable.CanBeReadAt, declared.errors.Stop.Stop, declared.heads.Head.Head, declared.levels.Level.Level}
-use Rattle.yaml_read.specs.{Shorter.NextShorter, declared.levels.Next.Next, Opened.IsOpen, Sound.HeadIs, Sound.IsValue, Places.StopsIn}
+use Rattle.yaml_read.specs.{Heads.HeadRead, Readable.CanBeReadAt, declared.heads.Head.Head, declared.levels.Level.Level}
+use Rattle.yaml_read.specs.{Shorter.NextShorter, declared.levels.Next.Next, Opened.IsOpen, Sound.HeadIs, Sound.IsValue}
 use Rattle.yaml_read.proofs.{SeenLevels.levels_length, Opening.list_in, Opening.map_in, Opening.value_in}
 use Rattle.yaml_read.specs.declared.heads.Head.TheVariants as head
 use Rattle.yaml_read.proofs.reading.step.Goals as goal

@@ -4,7 +4,7 @@ use Rattle.yaml_base.{specs.Event.Event, specs.Event.document_end, specs.Seen.se
 use Rattle.yaml_read.proofs.EventRuns.{RunDue, RunRead, memory_stops, next_of, run_begins, run_goes, run_sound, stops_at_end, stops_at_event, event_shorter}
 use Rattle.yaml_read.proofs.EventRuns.{within_reads}
 use Rattle.yaml_read.{proofs.Words.memory_is, proofs.Awaits.or_memory_by, specs.Awaits.seen_awaits, specs.EventSteps.bytes_behind, specs.EventSteps.open_now}
-use Rattle.yaml_read.{specs.RunPlaces.RunStops, specs.RunPlaces.in_document, specs.declared.steps.Progress.Progress}
+use Rattle.yaml_read.{specs.RunPlaces.in_document, specs.declared.steps.Progress.Progress}
 use Rattle.yaml_read.proofs.runs.read_events.Goals as goal
 
 pub steps-init : goal.steps-init
