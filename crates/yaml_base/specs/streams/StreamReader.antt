@@ -1,7 +1,7 @@
 -- Reading whole streams back, in every mode, without any word of what writes them: bytes to documents, or nothing. The
--- reader is strict: it refuses what readers of YAML 1.1 disagree on, tabs outside literal text, comments and characters that
--- aren't printable among it, so that a text that it reads means the same to all of them. It drops a heading: the lines
--- at a stream's front that begin with `#`.
+-- reader drops a heading: the lines at a stream's front that begin with `#`. It is strict: it refuses what readers of YAML 1.1
+-- disagree on, other comments, tabs outside literal text and a heading, and characters that aren't printable among it, so
+-- that a text that it reads means the same to all of them.
 --     stream_trees breaks12 bytes      the documents in some bytes, or nothing
 -- Source, unless a definition names its own: YAML 1.1, section 7.4 Complete Stream, l-yaml-stream, as this project narrows it.
 use Rattle.std.specs.Prelude.{ℕ, Bool, true, false, Option, None, List, [], ◌∷◌, ◌==◌, ◌||◌, not, option_and_then, if◌then◌else◌}
