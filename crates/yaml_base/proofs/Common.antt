@@ -96,8 +96,8 @@ pub use Rattle.yaml_base.specs.streams.StreamContent.{Stood, stood_plain, stood_
 pub use Rattle.yaml_base.specs.streams.StreamContent.{scalar_tree, Trees, sequence_tree, TreePairs, mapping_tree, no_trees, trees_and, no_tree_pairs}
 pub use Rattle.yaml_base.specs.streams.StreamContent.{tree_pairs_and, DocumentTree, document_agrees, documents_in_order, agrees}
 pub use Rattle.yaml_base.specs.streams.StreamDocuments.{begins_with_marker, start_marker, end_marker, no_exclamation, marker_of, Section, Sections, sections_of}
-pub use Rattle.yaml_base.specs.streams.StreamDocuments.{Heading, no_heading, heading_read, stands_at_margin, root_below, after_heading, with_read_document}
-pub use Rattle.yaml_base.specs.streams.StreamDocuments.{with_heading, section_by_kind, directive_lines, document_lines, begins_with_percent, prefix_kind}
+pub use Rattle.yaml_base.specs.streams.StreamDocuments.{Prologue, no_prologue, prologue_read, stands_at_margin, root_below, after_prologue, with_read_document}
+pub use Rattle.yaml_base.specs.streams.StreamDocuments.{with_prologue, section_by_kind, directive_lines, document_lines, begins_with_percent, prefix_kind}
 pub use Rattle.yaml_base.specs.streams.StreamDocuments.{lines_before_marker_read, documents_at_end, sections_read, documents_of}
 pub use Rattle.yaml_base.specs.streams.StreamFlow.{is_alias, longest_key, is_key_text, no_key, key_due, key_held, OpenFlow, in_sequence, in_mapping, at_once}
 pub use Rattle.yaml_base.specs.streams.StreamFlow.{after_blank, after_white, Awaited, collection_awaited, entry_awaited, node_awaited, comma_awaited}

@@ -12,8 +12,8 @@ pub mod StreamSizes
 pub mod StreamDocumentsRead
 pub mod StreamWholeReads
 pub mod StreamLawStands
-pub mod StreamHeadings
-pub mod StreamHeadingLines
+pub mod StreamPrologues
+pub mod StreamPrologueLines
 pub mod StreamLeafMarkers
 pub mod StreamRootLeaves
 pub mod StreamRootBegins

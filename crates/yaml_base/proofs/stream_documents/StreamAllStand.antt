@@ -3,7 +3,7 @@ use Rattle.yaml_base.proofs.Common.{nat_tests, ◌≤◌, Option, Some, true, Li
 use Rattle.yaml_base.proofs.Common.{no_documents, documents_and, root_place, has_no_documents, render_documents, first_standing, text_of, has_scalar_values}
 use Rattle.yaml_base.proofs.Common.{MeaningIsKept, has_scalar_texts, text_written, bytes_written, list_layout, IsAccepted, Encoding, Settings, Effective}
 use Rattle.yaml_base.{proofs.Trees.tree_of-stream_events, proofs.stream_documents.StreamEachDocument.AllDocuments}
-use Rattle.yaml_base.{proofs.stream_documents.StreamHeadingLines.heading_stands, proofs.stream_documents.StreamRootLeaves.root_stands}
+use Rattle.yaml_base.{proofs.stream_documents.StreamPrologueLines.prologue_stands, proofs.stream_documents.StreamRootLeaves.root_stands}
 use Rattle.yaml_base.{proofs.stream_keys.StreamKeysFit.keys_fit, proofs.stream_keys.StreamSimpleKeys.simple_keys_fit}
 use Rattle.yaml_base.{proofs.stream_lines.StreamClosed.margin_cursor, proofs.stream_nodes.StreamScalarLeaves.scalars_fit, specs.StreamLaw.StreamReadsBack}
 use Rattle.yaml_base.{proofs.stream_lines.StreamBytes.is_shown, proofs.stream_nodes.StreamStands.BodyStands, proofs.stream_nodes.StreamStands.BodiesHold}
@@ -36,7 +36,7 @@ documents_stand s (documents_and before document) low high sound bodies =
             (simple_keys_fit s own (directives_in_force own))
             (keys_fit s own (directives_in_force own)) parts.1.0.names
             (subst (λ (l : Rendered). BodiesHold (BodyStands s) document.root s (directives_in_force own) root_place l.cursor) at bodies.1);
-        heading = heading_stands s document.start parts.1.0.version parts.1.0.directives parts.1.0.prefixes;
+        prologue = prologue_stands s document.start parts.1.0.version parts.1.0.directives parts.1.0.prefixes;
       },
     )
 

@@ -1,11 +1,11 @@
 -- One document more of a stream: its directives, its `---` and its root, or a root without `---` at the stream's start.
 use Rattle.yaml_base.proofs.Common.{ℕ, ◌==◌, is_some, Option, None, Some, codes, length, Bool, false, not, true, ◌&&◌, List, [], ◌++◌, ◌∷◌, refl, ◌≡◌}
 use Rattle.yaml_base.proofs.Common.{eqb-true, append-nil, append_assoc, ap, subst, sym, ◌∙◌, arith, or_parts, false≢true, Text, line_feed, Version}
-use Rattle.yaml_base.proofs.Common.{TagDirective, DocumentStart, has_directives, Effective, DocumentTree, start_marker, Section, Heading, no_heading}
+use Rattle.yaml_base.proofs.Common.{TagDirective, DocumentStart, has_directives, Effective, DocumentTree, start_marker, Section, Prologue, no_prologue}
 use Rattle.yaml_base.proofs.stream_lines.{StreamClosed.lines_broken, StreamClosed.closed_both, StreamLineLaws.is_closed, StreamLineLaws.unbroken_line}
-use Rattle.yaml_base.proofs.Common.{heading_read, and-false, after_heading, with_heading, section_by_kind, lines_of}
-use Rattle.yaml_base.proofs.stream_documents.StreamRootsStand.{heading_text, HeadingStands}
-use Rattle.yaml_base.proofs.stream_documents.StreamSoFar.{WalkProgress, prefix_alone, one_more, Percents, percents_markerless, percents_shown, prefix_heading}
+use Rattle.yaml_base.proofs.Common.{prologue_read, and-false, after_prologue, with_prologue, section_by_kind, lines_of}
+use Rattle.yaml_base.proofs.stream_documents.StreamRootsStand.{prologue_text, PrologueStands}
+use Rattle.yaml_base.proofs.stream_documents.StreamSoFar.{WalkProgress, prefix_alone, one_more, Percents, percents_markerless, percents_shown, prefix_prologue}
 use Rattle.yaml_base.specs.streams.StreamDocuments.{StreamPlace, after_root, document_read}
 
 -- Ends
@@ -18,36 +18,37 @@ dots = codes "..." ++ (line_feed ∷ [])
 -- document its root is read
 abbrev pub Awaits : (breaks12 : Bool) → ℕ → Text → List DocumentTree → (ended : Bool) → Type 0
 Awaits breaks12 depth text documents true =
-    (lines : Text) (parsed : Heading) → is_closed breaks12 lines ≡ true → Percents (lines_of breaks12 lines)
-    → heading_read (lines_of breaks12 lines) ≡ Some parsed
-    → WalkProgress breaks12 depth (text ++ lines) (record { documents = documents; place = after_heading parsed })
+    (lines : Text) (parsed : Prologue) → is_closed breaks12 lines ≡ true → Percents (lines_of breaks12 lines)
+    → prologue_read (lines_of breaks12 lines) ≡ Some parsed
+    → WalkProgress breaks12 depth (text ++ lines) (record { documents = documents; place = after_prologue parsed })
 Awaits breaks12 depth text documents false = WalkProgress breaks12 depth text (record { documents = documents; place = after_root })
 
 -- so it is at a stream's start
 pub awaits_first : (breaks12 : Bool) (depth : ℕ) → Awaits breaks12 depth [] [] true
-awaits_first breaks12 depth = grind (arith, prefix_alone, percents_markerless, prefix_heading)
+awaits_first breaks12 depth = grind (arith, prefix_alone, percents_markerless, prefix_prologue)
 
 -- and behind `...`
 pub awaits_ended : (breaks12 : Bool) (depth : ℕ) (text : Text) (documents : List DocumentTree)
     → WalkProgress breaks12 depth text (record { documents = documents; place = after_root })
     → Awaits breaks12 depth (text ++ dots) documents true
 awaits_ended breaks12 depth text documents so = λ lines parsed ends percents reads.
-    subst (λ t. WalkProgress breaks12 depth t (record { documents = documents; place = after_heading parsed })) (sym (append_assoc text dots lines))
+    subst (λ t. WalkProgress breaks12 depth t (record { documents = documents; place = after_prologue parsed })) (sym (append_assoc text dots lines))
     (one_more breaks12 depth text _ _ _ _ _ so (closed_both breaks12 dots lines refl ends)
     (lines_broken breaks12 (codes "...") lines (unbroken_line breaks12 (codes "...") refl)) refl (percents_markerless (lines_of breaks12 lines) percents)
-    (ap (λ ls. with_heading documents (heading_read ls)) (percents_shown (lines_of breaks12 lines) percents) ∙ ap (with_heading documents) reads))
+    (ap (λ ls. with_prologue documents (prologue_read ls)) (percents_shown (lines_of breaks12 lines) percents) ∙ ap (with_prologue documents) reads))
 
 -- Directives
 
--- the next `---` begins a document with this heading
-pub record Headed (breaks12 : Bool) (depth : ℕ) (text : Text) (documents : List DocumentTree) (heading : Heading) : Type 0 where
+-- the next `---` begins a document with this prologue
+pub record BehindPrologue (breaks12 : Bool) (depth : ℕ) (text : Text) (documents : List DocumentTree) (prologue : Prologue) : Type 0 where
   pub place : StreamPlace
   pub so_far : WalkProgress breaks12 depth text (record { documents = documents; place = place })
-  pub opens : (section : Section) → section_by_kind start_marker depth breaks12 documents place section ≡ document_read depth breaks12 documents heading section
+  pub opens : (section : Section)
+      → section_by_kind start_marker depth breaks12 documents place section ≡ document_read depth breaks12 documents prologue section
 
 -- what a document's start says
-abbrev pub heading_parsed : DocumentStart → Heading
-heading_parsed start = record { version = start.version; directives = start.directives }
+abbrev pub prologue_parsed : DocumentStart → Prologue
+prologue_parsed start = record { version = start.version; directives = start.directives }
 
 -- `...` where it is needed
 abbrev pub dots_if : Bool → Text
@@ -74,39 +75,41 @@ no_directives start h =
         by false e h = false≢true (sym h)
 
 -- are written as nothing
-pub nothing_headed : (s : Effective) (start : DocumentStart) → has_directives start ≡ false → heading_text s start ≡ []
-nothing_headed s start h = grind (arith, no_directives)
+pub no_prologue_written : (s : Effective) (start : DocumentStart) → has_directives start ≡ false → prologue_text s start ≡ []
+no_prologue_written s start h = grind (arith, no_directives)
 
 -- and say nothing
-pub nothing_parsed : (start : DocumentStart) → has_directives start ≡ false → no_heading ≡ heading_parsed start
+pub nothing_parsed : (start : DocumentStart) → has_directives start ≡ false → no_prologue ≡ prologue_parsed start
 nothing_parsed start h = grind (arith, no_directives)
 
 -- the directives of a document, behind `...` where the document before them is open
-pub headed : (s : Effective) (depth : ℕ) (text : Text) (documents : List DocumentTree) (start : DocumentStart) (ended : Bool)
-    → Awaits s.breaks12 depth text documents ended → HeadingStands s start
-    → Headed s.breaks12 depth (text ++ (dots_if (has_directives start && not ended) ++ heading_text s start)) documents (heading_parsed start)
-headed s depth text documents start true awaits stands =
-    subst (λ x. Headed s.breaks12 depth (text ++ (dots_if x ++ heading_text s start)) documents (heading_parsed start)) (sym (and-false (has_directives start)))
+pub behind_prologue : (s : Effective) (depth : ℕ) (text : Text) (documents : List DocumentTree) (start : DocumentStart) (ended : Bool)
+    → Awaits s.breaks12 depth text documents ended → PrologueStands s start
+    → BehindPrologue s.breaks12 depth (text ++ (dots_if (has_directives start && not ended) ++ prologue_text s start)) documents (prologue_parsed start)
+behind_prologue s depth text documents start true awaits stands =
+    subst (λ x. BehindPrologue s.breaks12 depth (text ++ (dots_if x ++ prologue_text s start)) documents (prologue_parsed start))
+    (sym (and-false (has_directives start)))
     (record {
-      place = after_heading (heading_parsed start);
-      so_far = awaits (heading_text s start) (heading_parsed start) stands.ends stands.percents stands.reads;
+      place = after_prologue (prologue_parsed start);
+      so_far = awaits (prologue_text s start) (prologue_parsed start) stands.ends stands.percents stands.reads;
       opens = λ section. refl;
     })
-headed s depth text documents start false awaits stands = by (has_directives start) refl
+behind_prologue s depth text documents start false awaits stands = by (has_directives start) refl
   where
     by : (x : Bool) → has_directives start ≡ x
-        → Headed s.breaks12 depth (text ++ (dots_if (x && true) ++ heading_text s start)) documents (heading_parsed start)
+        → BehindPrologue s.breaks12 depth (text ++ (dots_if (x && true) ++ prologue_text s start)) documents (prologue_parsed start)
     by true h =
-        subst (λ t. Headed s.breaks12 depth t documents (heading_parsed start)) (append_assoc text dots (heading_text s start))
+        subst (λ t. BehindPrologue s.breaks12 depth t documents (prologue_parsed start)) (append_assoc text dots (prologue_text s start))
         (record {
-          place = after_heading (heading_parsed start);
-          so_far = awaits_ended s.breaks12 depth text documents awaits (heading_text s start) (heading_parsed start) stands.ends stands.percents stands.reads;
+          place = after_prologue (prologue_parsed start);
+          so_far = awaits_ended s.breaks12 depth text documents awaits (prologue_text s start) (prologue_parsed start) stands.ends stands.percents stands.reads;
           opens = λ section. refl;
         })
     by false h =
-        subst (λ t. Headed s.breaks12 depth t documents (heading_parsed start)) (sym (append-nil text) ∙ ap (λ t. text ++ t) (sym (nothing_headed s start h)))
+        subst (λ t. BehindPrologue s.breaks12 depth t documents (prologue_parsed start))
+        (sym (append-nil text) ∙ ap (λ t. text ++ t) (sym (no_prologue_written s start h)))
         (record {
           place = after_root;
           so_far = awaits;
-          opens = λ section. ap (λ heading. document_read depth s.breaks12 documents heading section) (nothing_parsed start h);
+          opens = λ section. ap (λ prologue. document_read depth s.breaks12 documents prologue section) (nothing_parsed start h);
         })

@@ -5,7 +5,7 @@ use Rattle.yaml_base.proofs.Common.{DocumentStart, Document, render_if, render_c
 use Rattle.yaml_base.proofs.Common.{is_explicit, render_document_start, document_start_piece, document_end_piece, root_place, render_document, Piece}
 use Rattle.yaml_base.proofs.Common.{piece_text, text_of, Standing, RenderedPiece, RenderedPieces, one_piece, render_node, Effective, directives_in_force}
 use Rattle.yaml_base.proofs.{Common.nat_tests, stream_documents.StreamDocumentReads.dots_if, stream_documents.StreamRootAdded.text_with_marker}
-use Rattle.yaml_base.proofs.stream_documents.StreamRootsStand.{root_cursor, render_root, heading_text}
+use Rattle.yaml_base.proofs.stream_documents.StreamRootsStand.{root_cursor, render_root, prologue_text}
 use Rattle.yaml_base.proofs.stream_lines.StreamClosed.{closing, closed, Settled, new_line_closes, margin_cursor}
 use Rattle.yaml_base.proofs.stream_nodes.StreamTexts.{node_own, node_joined}
 
@@ -18,7 +18,7 @@ marker_text false canonical = []
 
 -- what is rendered before a root, where the document before it is ended or open
 abbrev pub before_root : Effective → (ended : Bool) → DocumentStart → Text
-before_root s ended start = dots_if (has_directives start && not ended) ++ heading_text s start
+before_root s ended start = dots_if (has_directives start && not ended) ++ prologue_text s start
 
 directives_end : (portable : Bool) (directives : List TagDirective) (cursor : Cursor) → cursor ≡ margin_cursor 0
     → (render_tag_directives portable directives cursor).cursor ≡ margin_cursor 0

@@ -6,8 +6,8 @@ use Rattle.yaml_base.{proofs.stream_lines.StreamClosed.closed, proofs.stream_nod
 use Rattle.yaml_base.proofs.stream_documents.{StreamDocumentTexts.before_root, StreamDocumentTexts.root_part, StreamDocumentTexts.document_text}
 use Rattle.yaml_base.proofs.stream_documents.{StreamRootAdded.with_document, StreamRootAdded.added_with_marker, StreamRootAdded.markerless_added}
 use Rattle.yaml_base.proofs.stream_documents.{StreamRootStood.root_fits, StreamRootStood.root_stood, StreamSoFar.WalkProgress}
-use Rattle.yaml_base.proofs.stream_documents.StreamDocumentReads.{Awaits, awaits_ended, dots_if, nothing_headed, headed}
-use Rattle.yaml_base.proofs.stream_documents.StreamRootsStand.{render_root, RootStands, heading_text, HeadingStands, DocumentStands}
+use Rattle.yaml_base.proofs.stream_documents.StreamDocumentReads.{Awaits, awaits_ended, dots_if, no_prologue_written, behind_prologue}
+use Rattle.yaml_base.proofs.stream_documents.StreamRootsStand.{render_root, RootStands, prologue_text, PrologueStands, DocumentStands}
 
 -- One document more
 
@@ -23,18 +23,19 @@ ended_more breaks12 depth text documents implicit h = grind (arith, nat_tests, a
 
 -- a document with its marker
 explicit_more : (s : Effective) (depth : ℕ) (text : Text) (documents : List DocumentTree) (document : Document) (ended : Bool) → 2 ≤ s.indent
-    → RootStands s document (not s.canonical) → HeadingStands s document.start → size document.root ≤ depth → Awaits s.breaks12 depth text documents ended
+    → RootStands s document (not s.canonical) → PrologueStands s document.start → size document.root ≤ depth → Awaits s.breaks12 depth text documents ended
     → Awaits s.breaks12 depth (text ++ (before_root s ended document.start ++ (root_part true s document ++ dots_if (not document.end_implicit))))
     (with_document s documents document)
     (not document.end_implicit)
-explicit_more s depth text documents document ended deep stands heading small awaits =
+explicit_more s depth text documents document ended deep stands prologue small awaits =
     let before = before_root s ended document.start in
     let root = root_part true s document in
     let stood = root_stood s document (not s.canonical) deep stands (λ e. something_canonical s.canonical document.root (not-false s.canonical e)) in
     subst (λ t. Awaits s.breaks12 depth t (with_document s documents document) (not document.end_implicit))
     (append_assoc (text ++ before) root (dots_if (not document.end_implicit)) ∙ append_assoc text before (root ++ dots_if (not document.end_implicit)))
     (ended_more s.breaks12 depth ((text ++ before) ++ root) (with_document s documents document) document.end_implicit
-    (added_with_marker (not s.canonical) s depth (text ++ before) documents document (headed s depth text documents document.start ended awaits heading)
+    (added_with_marker (not s.canonical) s depth (text ++ before) documents document
+    (behind_prologue s depth text documents document.start ended awaits prologue)
     (root_fits s document (not s.canonical) deep stands) small stood))
 
 -- the first document, without a marker
@@ -46,7 +47,7 @@ implicit_more s depth document ended deep stands small none some =
     let stood = root_stood s document false deep stands (λ e. some) in
     subst (λ t. Awaits s.breaks12 depth (t ++ (root_part false s document ++ dots_if (not document.end_implicit))) (with_document s [] document)
     (not document.end_implicit))
-    (sym (ap (λ x. dots_if (x && not ended) ++ heading_text s document.start) none ∙ nothing_headed s document.start none))
+    (sym (ap (λ x. dots_if (x && not ended) ++ prologue_text s document.start) none ∙ no_prologue_written s document.start none))
     (ended_more s.breaks12 depth (closed (render_root false s document)) (with_document s [] document) document.end_implicit
     (markerless_added s depth document none (root_fits s document false deep stands) small stood))
 
@@ -71,5 +72,5 @@ first_more s depth document deep stands small some awaits = by (is_explicit (s.c
     by : (x : Bool) → is_explicit (s.canonical || s.portable) true document.start ≡ x → RootStands s document (x && not s.canonical)
         → Awaits s.breaks12 depth (before_root s true document.start ++ (root_part x s document ++ dots_if (not document.end_implicit)))
         (with_document s [] document) (not document.end_implicit)
-    by true e root = explicit_more s depth [] [] document true deep root stands.heading small awaits
+    by true e root = explicit_more s depth [] [] document true deep root stands.prologue small awaits
     by false e root = implicit_more s depth document true deep root small (without_marker (s.canonical || s.portable) true document.start e) (some e)

@@ -6,7 +6,7 @@ use Rattle.std.proofs.lemmas.Option.{none-some}
 use Rattle.yaml_base.specs.Event.{plain}
 use Rattle.yaml_base.specs.reading.{ReadPlain.read_plain, TidyText.is_tidy}
 use Rattle.yaml_base.specs.streams.StreamContent.{stood_plain}
-use Rattle.yaml_base.specs.streams.StreamDocuments.{MarkerKind, no_exclamation, no_heading, prepend_section, section_read, with_read_document}
+use Rattle.yaml_base.specs.streams.StreamDocuments.{MarkerKind, no_exclamation, no_prologue, prepend_section, section_read, with_read_document}
 use Rattle.yaml_base.specs.streams.StreamFlow.{is_alias, longest_key}
 use Rattle.yaml_base.specs.streams.StreamLines.{all_blank, prepend_to_first_line, text_of_lines}
 use Rattle.yaml_base.specs.streams.StreamNodes.{SimpleKey, key_ends, key_from, key_of_text, node_read, node_by_kind, trimmed, without_last_space}
@@ -99,7 +99,7 @@ no_sections depth breaks12 text ending rest =
     let line : Line = record { text = 0x23 ∷ text; ending = ending } in
     let after = sections_of rest in
     ap (λ (marker : MarkerKind). sections_read (suc depth) breaks12 (prepend_section marker line after)) (no_marker text)
-    ∙ ap (λ found. option_and_then documents_at_end (fold (section_read (suc depth) breaks12) (with_read_document [] no_heading found) after.sections))
+    ∙ ap (λ found. option_and_then documents_at_end (fold (section_read (suc depth) breaks12) (with_read_document [] no_prologue found) after.sections))
     (no_node depth (record { breaks12 = breaks12; directives = [] }) text ending after.before)
     ∙ ap (option_and_then documents_at_end) (none_goes_on (suc depth) breaks12 after.sections)
 

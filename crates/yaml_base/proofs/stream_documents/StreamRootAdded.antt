@@ -1,11 +1,11 @@
 -- A root behind `---`, or one without it at a stream's start, is one document more of the stream.
 use Rattle.yaml_base.proofs.Common.{arith, ℕ, ◌≤◌, if◌then◌else◌, Option, None, Some, codes, Bool, false, not, true, ◌||◌, List, [], ◌++◌, ◌∷◌, refl, ◌≡◌, ap}
 use Rattle.yaml_base.proofs.Common.{sym, ◌∙◌, and_from, false≢true, list_all, Text, line_feed, Document, has_directives, root_place, Effective, Tree}
-use Rattle.yaml_base.proofs.Common.{DocumentTree, begins_with_marker, start_marker, end_marker, no_exclamation, marker_of, Heading, stands_at_margin}
+use Rattle.yaml_base.proofs.Common.{DocumentTree, begins_with_marker, start_marker, end_marker, no_exclamation, marker_of, Prologue, stands_at_margin}
 use Rattle.yaml_base.proofs.Common.{root_below, with_read_document, section_by_kind, document_lines, prefix_kind, lines_before_marker_read, Line, lines_of}
 use Rattle.yaml_base.proofs.Common.{is_spaces, without_blank_lines, node_read, Rules, nat_tests}
 use Rattle.yaml_base.{proofs.stream_nodes.StreamAgrees.document_tree, specs.streams.StreamDocuments.after_root}
-use Rattle.yaml_base.proofs.stream_documents.{StreamDocumentReads.Headed, StreamDocumentReads.heading_parsed, StreamDocumentReads.nothing_parsed}
+use Rattle.yaml_base.proofs.stream_documents.{StreamDocumentReads.BehindPrologue, StreamDocumentReads.prologue_parsed, StreamDocumentReads.nothing_parsed}
 use Rattle.yaml_base.proofs.stream_documents.{StreamRootLines.begins_shown, StreamRootLines.stands_below, StreamRootLines.Stood, StreamRootStood.root_tree}
 use Rattle.yaml_base.proofs.stream_documents.{StreamRoots.root_reads, StreamRoots.root_with_marker_reads, StreamRootsStand.rules_of, StreamSoFar.WalkProgress}
 use Rattle.yaml_base.proofs.stream_documents.{StreamRootsStand.root_cursor, StreamRootsStand.render_root, StreamSoFar.prefix_alone, StreamSoFar.one_more}
@@ -44,22 +44,22 @@ text_with_marker on_marker s document = (if on_marker then codes "---" else code
 
 -- a root that begins on the line of `---`
 on_marker_added : (s : Effective) (depth : ℕ) (text : Text) (documents : List DocumentTree) (document : Document)
-    → Headed s.breaks12 depth text documents (heading_parsed document.start)
+    → BehindPrologue s.breaks12 depth text documents (prologue_parsed document.start)
     → (fit : Fits (rules_of s document) (size document.root) (render_root true s document) (root_tree s document) root_place (root_cursor true))
     → size document.root ≤ depth
     → Stood true (lines_of s.breaks12 (closed (render_root true s document)))
     → WalkProgress s.breaks12 depth (text ++ text_with_marker true s document) (record { documents = with_document s documents document; place = after_root })
-on_marker_added s depth text documents document headed fit deep stood =
+on_marker_added s depth text documents document behind fit deep stood =
     let line : Line = record { text = codes "---" ++ o.head; ending = o.ending } in
     let markers : marker_of (codes "---" ++ o.head) ≡ start_marker =
     ap (λ x. if x then start_marker else (if begins_with_marker 0x2E (codes "---" ++ o.head) then end_marker else no_exclamation)) o.symbol in
-    one_more _ depth text _ _ _ line o.rest headed.so_far
+    one_more _ depth text _ _ _ line o.rest behind.so_far
     (closed_behind _ (codes "--") 0x2D own (indicated_ends _ 0 0x2D own o fit.ends))
     (lines_behind s.breaks12 (codes "---") own o.head o.ending o.rest (unbroken_line s.breaks12 (codes "---") refl) o.is)
     (ap is_markerless markers) (ap (λ ls. list_all (λ line. is_markerless (marker_of line.text)) (lines_after_first ls)) (sym o.is) ∙ stood.0)
-    (ap (λ m. section_by_kind m depth s.breaks12 documents headed.place (record { marker = m; line = line; rest = o.rest })) markers
-    ∙ headed.opens (record { marker = start_marker; line = line; rest = o.rest })
-    ∙ ap (with_read_document documents (heading_parsed document.start)) (root_with_marker_reads _ _ _ _ fit margin depth deep))
+    (ap (λ m. section_by_kind m depth s.breaks12 documents behind.place (record { marker = m; line = line; rest = o.rest })) markers
+    ∙ behind.opens (record { marker = start_marker; line = line; rest = o.rest })
+    ∙ ap (with_read_document documents (prologue_parsed document.start)) (root_with_marker_reads _ _ _ _ fit margin depth deep))
   where
     own : Text
     own = closed (render_root true s document)
@@ -72,28 +72,28 @@ on_marker_added s depth text documents document headed fit deep stood =
 
 -- a root on lines of its own below `---`
 below_marker_added : (s : Effective) (depth : ℕ) (text : Text) (documents : List DocumentTree) (document : Document)
-    → Headed s.breaks12 depth text documents (heading_parsed document.start)
+    → BehindPrologue s.breaks12 depth text documents (prologue_parsed document.start)
     → (fit : Fits (rules_of s document) (size document.root) (render_root false s document) (root_tree s document) root_place (root_cursor false))
     → size document.root ≤ depth
     → Stood false (lines_of s.breaks12 (closed (render_root false s document)))
     → WalkProgress s.breaks12 depth (text ++ text_with_marker false s document) (record { documents = with_document s documents document; place = after_root })
-below_marker_added s depth text documents document headed fit deep stood =
+below_marker_added s depth text documents document behind fit deep stood =
     let own : Text = closed (render_root false s document) in
     let rules : Rules = rules_of s document in
     let lines : List Line = lines_of s.breaks12 own in
     let line : Line = record { text = codes "---"; ending = line_feed ∷ [] } in
-    one_more _ depth text _ _ _ line lines headed.so_far
+    one_more _ depth text _ _ _ line lines behind.so_far
     (closed_both s.breaks12 (codes "---" ++ (line_feed ∷ [])) own refl fit.ends)
     (lines_broken _ _ own (unbroken_line s.breaks12 (codes "---") refl)) refl
     (markerless_whole lines depth rules true None (root_tree s document) (fit.reads depth deep true 0 (λ h. (refl, refl))) stood.0)
-    (headed.opens (record { marker = start_marker; line = line; rest = lines })
-    ∙ ap (λ ls. with_read_document documents (heading_parsed document.start) (root_below depth rules ls)) (shown_whole lines stood.1)
-    ∙ ap (with_read_document documents (heading_parsed document.start))
+    (behind.opens (record { marker = start_marker; line = line; rest = lines })
+    ∙ ap (λ ls. with_read_document documents (prologue_parsed document.start) (root_below depth rules ls)) (shown_whole lines stood.1)
+    ∙ ap (with_read_document documents (prologue_parsed document.start))
     (root_reads rules (size document.root) (render_root false s document) (root_tree s document) fit (shown_margin lines stood.1) depth deep))
 
 -- either
 pub added_with_marker : (on_marker : Bool) (s : Effective) (depth : ℕ) (text : Text) (documents : List DocumentTree) (document : Document)
-    → Headed s.breaks12 depth text documents (heading_parsed document.start)
+    → BehindPrologue s.breaks12 depth text documents (prologue_parsed document.start)
     → (fit : Fits (rules_of s document) (size document.root) (render_root on_marker s document) (root_tree s document) root_place (root_cursor on_marker))
     → size document.root ≤ depth
     → Stood on_marker (lines_of s.breaks12 (closed (render_root on_marker s document)))
@@ -123,6 +123,6 @@ markerless_added s depth document none fit deep stood =
     let reads : node_read depth rules true None lines ≡ Some (root_tree s document) = fit.reads depth deep true 0 (λ h. (refl, refl)) in
     prefix_alone _ depth own _ fit.ends (markerless_whole lines depth rules true None _ reads stood.0)
     (ap (λ k. lines_before_marker_read k depth s.breaks12 lines) (prefix_document lines depth rules true None _ reads stood.1)
-    ∙ ap (λ (h : Heading). with_read_document [] h (root_below depth (record { breaks12 = s.breaks12; directives = h.directives }) lines))
+    ∙ ap (λ (h : Prologue). with_read_document [] h (root_below depth (record { breaks12 = s.breaks12; directives = h.directives }) lines))
     (nothing_parsed document.start none)
-    ∙ ap (with_read_document [] (heading_parsed document.start)) (root_reads rules _ _ _ fit (shown_margin lines stood.1) depth deep))
+    ∙ ap (with_read_document [] (prologue_parsed document.start)) (root_reads rules _ _ _ fit (shown_margin lines stood.1) depth deep))

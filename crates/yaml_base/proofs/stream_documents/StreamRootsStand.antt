@@ -4,7 +4,7 @@ use Rattle.yaml_base.proofs.Common.{ℕ, if◌then◌else◌, ◌==◌, Some, Bo
 use Rattle.yaml_base.proofs.Common.{Rendered, render_then, TagDirective, DocumentStart, Node, alias_node, scalar_node, sequence_node, mapping_node, Document}
 use Rattle.yaml_base.proofs.Common.{Documents, no_documents, documents_and, render_version, render_tag_directives, is_explicit, root_place, has_no_documents}
 use Rattle.yaml_base.proofs.Common.{is_written_in_flow, has_no_nodes, has_no_pairs, is_read_break, Effective, is_written_as_nothing, directives_in_force}
-use Rattle.yaml_base.proofs.Common.{heading_read, begins_with_percent, lines_of, spaces, Rules}
+use Rattle.yaml_base.proofs.Common.{prologue_read, begins_with_percent, lines_of, spaces, Rules}
 use Rattle.yaml_base.proofs.{stream_documents.StreamRoots.marker_cursor, stream_lines.StreamClosed.closed, stream_lines.StreamClosed.margin_cursor}
 use Rattle.yaml_base.proofs.{stream_lines.StreamLineLaws.is_closed, stream_lines.StreamSections.AllMarkerless, stream_lines.StreamTidyLaws.lines_after_first}
 use Rattle.yaml_base.proofs.{stream_nodes.StreamNodesFit.render_begun, stream_nodes.StreamNodesFit.Leaves, stream_nodes.StreamTexts.node_own}
@@ -67,14 +67,14 @@ pub record RootStands (s : Effective) (document : Document) (on_marker : Bool) :
 -- Directives
 
 -- the lines of a document's directives
-abbrev pub heading_text : Effective → DocumentStart → Text
-heading_text s start = (render_then (render_version start.version (margin_cursor 0)) (render_tag_directives s.portable start.directives)).text
+abbrev pub prologue_text : Effective → DocumentStart → Text
+prologue_text s start = (render_then (render_version start.version (margin_cursor 0)) (render_tag_directives s.portable start.directives)).text
 
 -- the directives are read
-pub record HeadingStands (s : Effective) (start : DocumentStart) : Type 0 where
-  pub ends : is_closed s.breaks12 (heading_text s start) ≡ true
-  pub percents : list_all (λ line. begins_with_percent line.text) (lines_of s.breaks12 (heading_text s start)) ≡ true
-  pub reads : heading_read (lines_of s.breaks12 (heading_text s start)) ≡ Some (record { version = start.version; directives = start.directives })
+pub record PrologueStands (s : Effective) (start : DocumentStart) : Type 0 where
+  pub ends : is_closed s.breaks12 (prologue_text s start) ≡ true
+  pub percents : list_all (λ line. begins_with_percent line.text) (lines_of s.breaks12 (prologue_text s start)) ≡ true
+  pub reads : prologue_read (lines_of s.breaks12 (prologue_text s start)) ≡ Some (record { version = start.version; directives = start.directives })
 
 -- Documents
 
@@ -85,7 +85,7 @@ is_on_marker s first start = is_explicit (s.canonical || s.portable) first start
 -- a document's root, where it is rendered, and its directives
 pub record DocumentStands (s : Effective) (first : Bool) (document : Document) : Type 0 where
   pub root : RootStands s document (is_on_marker s first document.start)
-  pub heading : HeadingStands s document.start
+  pub prologue : PrologueStands s document.start
 
 -- each of some documents
 abbrev pub DocumentsStand : Effective → Documents → Type 0

@@ -1,7 +1,7 @@
 -- A stream's text as far as it is read: its lines cut into sections, whatever markers follow them, and what they are read as.
 use Rattle.yaml_base.proofs.Common.{arith, ℕ, if◌then◌else◌, fold, option_and_then, None, Some, Bool, false, true, List, [], ◌++◌, ◌∷◌, refl, ◌≡◌, eqb-true}
 use Rattle.yaml_base.proofs.Common.{append-nil, append_assoc, ap, sym, ◌∙◌, and_parts, false≢true, list_all, Text, marker_of, Section, sections_of}
-use Rattle.yaml_base.proofs.Common.{Heading, heading_read, after_heading, with_heading, begins_with_percent, prefix_kind, lines_before_marker_read}
+use Rattle.yaml_base.proofs.Common.{Prologue, prologue_read, after_prologue, with_prologue, begins_with_percent, prefix_kind, lines_before_marker_read}
 use Rattle.yaml_base.proofs.Common.{documents_at_end, sections_read, Line, lines_of, is_spaces, without_blank_lines}
 use Rattle.std.proofs.lemmas.Grind.{fold-append}
 use Rattle.yaml_base.proofs.stream_lines.{StreamClosed.closed_both, StreamLineLaws.is_closed, StreamLineLaws.lines_after_break}
@@ -93,7 +93,7 @@ percents_shown [] h = refl
 percents_shown (line ∷ rest) h = grind (arith, and_parts, percent_shows)
 
 -- at a stream's start directives are read, or nothing
-pub prefix_heading : (breaks12 : Bool) (depth : ℕ) (lines : List Line) (parsed : Heading) → Percents lines → heading_read lines ≡ Some parsed
-    → lines_before_marker_read (prefix_kind lines) depth breaks12 lines ≡ Some (record { documents = []; place = after_heading parsed })
-prefix_heading breaks12 depth [] parsed percents reads = ap (with_heading []) reads
-prefix_heading breaks12 depth (line ∷ rest) parsed percents reads = grind (arith, and_parts)
+pub prefix_prologue : (breaks12 : Bool) (depth : ℕ) (lines : List Line) (parsed : Prologue) → Percents lines → prologue_read lines ≡ Some parsed
+    → lines_before_marker_read (prefix_kind lines) depth breaks12 lines ≡ Some (record { documents = []; place = after_prologue parsed })
+prefix_prologue breaks12 depth [] parsed percents reads = ap (with_prologue []) reads
+prefix_prologue breaks12 depth (line ∷ rest) parsed percents reads = grind (arith, and_parts)

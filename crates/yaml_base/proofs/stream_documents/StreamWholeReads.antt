@@ -3,7 +3,7 @@ use Rattle.yaml_base.proofs.Common.{suc, ℕ, ◌≤◌, if◌then◌else◌, �
 use Rattle.yaml_base.proofs.Common.{◌++◌, ◌∷◌, refl, ◌≡◌, eqb-true, length-append, append-nil, ap, subst, sym, ◌∙◌, arith, and_parts, and_from, flat_map-append}
 use Rattle.yaml_base.proofs.Common.{Text, line_feed, Document, Documents, no_documents, documents_and, Stream, is_explicit, root_place}
 use Rattle.yaml_base.proofs.Common.{render_document, render_documents, first_standing, layout, piece_text, text_of, RenderedPieces, Effective}
-use Rattle.yaml_base.proofs.Common.{is_written_as_nothing, directives_in_force, DocumentTree, documents_in_order, marker_of, Sections, sections_of, no_heading}
+use Rattle.yaml_base.proofs.Common.{is_written_as_nothing, directives_in_force, DocumentTree, documents_in_order, marker_of, Sections, sections_of, no_prologue}
 use Rattle.yaml_base.proofs.Common.{with_read_document, directive_lines, document_lines, begins_with_percent, prefix_kind, lines_before_marker_read}
 use Rattle.yaml_base.proofs.Common.{documents_at_end, sections_read, documents_of, Line, lines_of, is_spaces, ends_indicator, node_read}
 use Rattle.yaml_base.{proofs.stream_documents.StreamRootAdded.with_document, proofs.stream_documents.StreamRootStood.root_fits}
@@ -139,10 +139,11 @@ ended_read breaks12 depth text documents marker awaits = by (marker == 0) refl (
     by : (x : Bool) → (marker == 0) ≡ x → (y : Bool) → (marker == 2) ≡ y → Awaits breaks12 depth text documents x
         → sections_read depth breaks12 (sections_of (lines_of breaks12 (text ++ dots_if y))) ≡ Some documents
     by true e true f awaits = let one = eqb-true marker 0 e in let other = eqb-true marker 2 f in absurd (omega arith)
-    by true e false f awaits = documents_so_far breaks12 depth (text ++ []) _ (awaits [] no_heading refl refl refl) refl
+    by true e false f awaits = documents_so_far breaks12 depth (text ++ []) _ (awaits [] no_prologue refl refl refl) refl
     by false e true f awaits =
         ap (λ t. sections_read depth breaks12 (sections_of (lines_of breaks12 t))) (sym (append-nil (text ++ dots_if true)))
-        ∙ documents_so_far breaks12 depth ((text ++ dots_if true) ++ []) _ (awaits_ended breaks12 depth text documents awaits [] no_heading refl refl refl) refl
+        ∙ documents_so_far breaks12 depth ((text ++ dots_if true) ++ []) _
+        (awaits_ended breaks12 depth text documents awaits [] no_prologue refl refl refl) refl
     by false e false f awaits =
         ap (λ t. sections_read depth breaks12 (sections_of (lines_of breaks12 t))) (append-nil text) ∙ documents_so_far breaks12 depth text _ awaits refl
 
@@ -183,7 +184,7 @@ blank_read breaks12 depth lines documents blank reads =
         (sym (ap (λ x. option_and_then documents_at_end
         (lines_before_marker_read (if x then directive_lines else document_lines) depth breaks12 (line ∷ rest))) text.0
         ∙ ap (λ x. option_and_then documents_at_end
-        (with_read_document [] no_heading (if not x then node_read depth (record { breaks12 = breaks12; directives = [] }) true None (line ∷ rest) else None)))
+        (with_read_document [] no_prologue (if not x then node_read depth (record { breaks12 = breaks12; directives = [] }) true None (line ∷ rest) else None)))
         text.1) ∙ reads))
 
 -- Streams

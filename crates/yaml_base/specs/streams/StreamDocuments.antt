@@ -54,18 +54,18 @@ sections_of (line ∷ rest) = prepend_section (marker_of line.text) line (sectio
 
 -- Directives. Source: helpers of this project's reader for l-directive (YAML 1.1, section 7.1 Directives).
 
--- what is said before `---`
-pub record Heading : Type 0 where
+-- a document's prologue: the directives before its `---`
+pub record Prologue : Type 0 where
   pub version : Option Version
   pub directives : List TagDirective
 
 -- nothing
-abbrev pub no_heading : Heading
-no_heading = record { version = None; directives = [] }
+abbrev pub no_prologue : Prologue
+no_prologue = record { version = None; directives = [] }
 
 -- nothing is said
-abbrev pub is_no_heading : Heading → Bool
-is_no_heading heading = not (is_some heading.version) && length heading.directives == 0
+abbrev pub is_no_prologue : Prologue → Bool
+is_no_prologue prologue = not (is_some prologue.version) && length prologue.directives == 0
 
 -- 1.1 and 1.2 (YAML 1.1, section 7.1.1 "YAML" Directive, ns-yaml-version; 1.2 is libyaml's)
 abbrev pub version_parsed : Text → Option Version
@@ -74,33 +74,33 @@ version_parsed word =
     else (if bytes_eq word (codes "1.2") then Some (record { major = pos 1; minor = pos 2 }) else None)
 
 -- a version stands first (this project; YAML 1.1, section 7.1.1 "YAML" Directive, ns-yaml-directive, asks for one at most)
-abbrev pub with_version : Heading → Option Version → Option Heading
-with_version heading version =
-    if is_no_heading heading then option_map (λ parsed. record { version = Some parsed; directives = [] }) version else None
+abbrev pub with_version : Prologue → Option Version → Option Prologue
+with_version prologue version =
+    if is_no_prologue prologue then option_map (λ parsed. record { version = Some parsed; directives = [] }) version else None
 
 -- a handle is given once (YAML 1.1, section 7.1.2 "TAG" Directive, ns-tag-directive)
-abbrev pub with_directive : Heading → Text → Option Text → Option Heading
-with_directive heading handle prefix =
-    if is_handle_text handle && not (is_handle_given handle heading.directives)
+abbrev pub with_directive : Prologue → Text → Option Text → Option Prologue
+with_directive prologue handle prefix =
+    if is_handle_text handle && not (is_handle_given handle prologue.directives)
     then option_map
-    (λ parsed. record { version = heading.version; directives = heading.directives ++ record { handle = handle; prefix = parsed } ∷ [] })
+    (λ parsed. record { version = prologue.version; directives = prologue.directives ++ record { handle = handle; prefix = parsed } ∷ [] })
     prefix else None
 
 -- a directive by its words (YAML 1.1, section 7.1 Directives, l-directive)
-abbrev pub directive_by_words : Heading → List Text → Option Heading
-directive_by_words heading (name ∷ word ∷ []) = if bytes_eq name (codes "%YAML") then with_version heading (version_parsed word) else None
-directive_by_words heading (name ∷ handle ∷ prefix ∷ []) =
-    if bytes_eq name (codes "%TAG") then with_directive heading handle (prefix_parsed prefix) else None
-directive_by_words heading _ = None
+abbrev pub directive_by_words : Prologue → List Text → Option Prologue
+directive_by_words prologue (name ∷ word ∷ []) = if bytes_eq name (codes "%YAML") then with_version prologue (version_parsed word) else None
+directive_by_words prologue (name ∷ handle ∷ prefix ∷ []) =
+    if bytes_eq name (codes "%TAG") then with_directive prologue handle (prefix_parsed prefix) else None
+directive_by_words prologue _ = None
 
 -- one line more of directives, whose words stand one space apart (this project; YAML 1.1, section 7.1 Directives, l-directive, allows more white space)
-abbrev pub directive_line : Option Heading → Line → Option Heading
+abbrev pub directive_line : Option Prologue → Line → Option Prologue
 directive_line None line = None
-directive_line (Some heading) line = directive_by_words heading (slice_split is_space line.text)
+directive_line (Some prologue) line = directive_by_words prologue (slice_split is_space line.text)
 
 -- the directives of some lines (YAML 1.1, section 7.1 Directives, l-directive)
-abbrev pub heading_read : List Line → Option Heading
-heading_read lines = fold directive_line (Some no_heading) lines
+abbrev pub prologue_read : List Line → Option Prologue
+prologue_read lines = fold directive_line (Some no_prologue) lines
 
 -- Documents. Source: YAML 1.1, section 7.3 Documents, l-explicit-document.
 
@@ -134,7 +134,7 @@ root_with_marker depth rules line rest =
 -- what may come after the documents so far: a marker of either kind, or after directives and `...` only `---`
 pub data StreamPlace : Type 0 where
   after_root : StreamPlace
-  after_heading : Heading → StreamPlace
+  after_prologue : Prologue → StreamPlace
 
 -- a stream as far as it is read
 pub record StreamRead : Type 0 where
@@ -142,32 +142,32 @@ pub record StreamRead : Type 0 where
   pub place : StreamPlace
 
 -- one document more (YAML 1.1, section 7.3 Documents, l-implicit-document, l-explicit-document)
-abbrev pub with_read_document : List DocumentTree → Heading → Option Tree → Option StreamRead
-with_read_document documents heading root =
+abbrev pub with_read_document : List DocumentTree → Prologue → Option Tree → Option StreamRead
+with_read_document documents prologue root =
     option_map
     (λ tree. record {
-      documents = documents ++ record { version = heading.version; directives = heading.directives; root = tree } ∷ [];
+      documents = documents ++ record { version = prologue.version; directives = prologue.directives; root = tree } ∷ [];
       place = after_root;
     })
     root
 
 -- the document of `---`, with the directives before it (YAML 1.1, section 7.3 Documents, l-explicit-document)
-abbrev pub document_read : ℕ → Bool → List DocumentTree → Heading → Section → Option StreamRead
-document_read depth breaks12 documents heading section =
-    with_read_document documents heading
-    (root_with_marker depth (record { breaks12 = breaks12; directives = heading.directives }) section.line section.rest)
+abbrev pub document_read : ℕ → Bool → List DocumentTree → Prologue → Section → Option StreamRead
+document_read depth breaks12 documents prologue section =
+    with_read_document documents prologue
+    (root_with_marker depth (record { breaks12 = breaks12; directives = prologue.directives }) section.line section.rest)
 
 -- directives before a `---` (YAML 1.1, section 7.1 Directives, l-directive)
-abbrev pub with_heading : List DocumentTree → Option Heading → Option StreamRead
-with_heading documents heading = option_map (λ parsed. record { documents = documents; place = after_heading parsed }) heading
+abbrev pub with_prologue : List DocumentTree → Option Prologue → Option StreamRead
+with_prologue documents prologue = option_map (λ parsed. record { documents = documents; place = after_prologue parsed }) prologue
 
 -- one section more: `...` stands alone on its line, blank lines may follow it, and then directives
 -- (YAML 1.1, sections 7.2 Document Boundary Markers and 7.3 Documents, l-document-suffix, l-explicit-document; `...` alone on its line is this project's rule)
 abbrev pub section_by_kind : MarkerKind → ℕ → Bool → List DocumentTree → StreamPlace → Section → Option StreamRead
-section_by_kind start_marker depth breaks12 documents after_root section = document_read depth breaks12 documents no_heading section
-section_by_kind start_marker depth breaks12 documents (after_heading heading) section = document_read depth breaks12 documents heading section
+section_by_kind start_marker depth breaks12 documents after_root section = document_read depth breaks12 documents no_prologue section
+section_by_kind start_marker depth breaks12 documents (after_prologue prologue) section = document_read depth breaks12 documents prologue section
 section_by_kind end_marker depth breaks12 documents after_root section =
-    if length section.line.text == 3 then with_heading documents (heading_read (without_blank_lines section.rest)) else None
+    if length section.line.text == 3 then with_prologue documents (prologue_read (without_blank_lines section.rest)) else None
 section_by_kind _ depth breaks12 documents place section = None
 
 -- one section more of a stream
@@ -194,15 +194,15 @@ prefix_kind (line ∷ rest) = if begins_with_percent line.text then directive_li
 -- the lines before the first marker: none, directives, or a document that has no `---`
 -- (YAML 1.1, sections 7.1 Directives and 7.3 Documents, l-directive, l-implicit-document)
 abbrev pub lines_before_marker_read : PrefixKind → ℕ → Bool → List Line → Option StreamRead
-lines_before_marker_read no_lines depth breaks12 lines = Some (record { documents = []; place = after_heading no_heading })
-lines_before_marker_read directive_lines depth breaks12 lines = with_heading [] (heading_read lines)
+lines_before_marker_read no_lines depth breaks12 lines = Some (record { documents = []; place = after_prologue no_prologue })
+lines_before_marker_read directive_lines depth breaks12 lines = with_prologue [] (prologue_read lines)
 lines_before_marker_read document_lines depth breaks12 lines =
-    with_read_document [] no_heading (root_below depth (record { breaks12 = breaks12; directives = [] }) lines)
+    with_read_document [] no_prologue (root_below depth (record { breaks12 = breaks12; directives = [] }) lines)
 
 -- a stream ends after a document, or where no directives wait for one
 abbrev pub may_end : StreamPlace → Bool
 may_end after_root = true
-may_end (after_heading heading) = is_no_heading heading
+may_end (after_prologue prologue) = is_no_prologue prologue
 
 -- the documents of a stream that may end
 abbrev pub documents_at_end : StreamRead → Option (List DocumentTree)

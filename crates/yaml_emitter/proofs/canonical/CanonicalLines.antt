@@ -9,7 +9,7 @@ use Rattle.yaml_emitter.proofs.Common.{Version, TagDirective, render_indicator, 
 use Rattle.yaml_emitter.proofs.Common.{render_tag_directive, render_tag_directives, render_document_marker, prefix_escaped, version_fault, exclamation_mark}
 use Rattle.yaml_emitter.proofs.Common.{prefix_fault, version_line, tag_line, document_begins, document_ends, free, tokens_from}
 use Rattle.yaml_base.proofs.PercentLaws.{decoded_prefix, prefix_begins}
-use Rattle.yaml_base.proofs.stream_documents.StreamHeadings.{handle_reads, version_of, version_form}
+use Rattle.yaml_base.proofs.stream_documents.StreamPrologues.{handle_reads, version_of, version_form}
 use Rattle.yaml_base.specs.Indicators.{document_start, document_end}
 use Rattle.yaml_base.specs.reading.CanonicalTokens.{in_line, words_of_line, tag_line_of, directive_token}
 use Rattle.yaml_emitter.proofs.canonical.CanonicalNames.{is_written, all_written, all-scalars, all-rendered, prefix-written, handle_text}

@@ -4,7 +4,7 @@ use Rattle.yaml_base.proofs.Common.{[], ◌++◌, ◌∷◌, ◌⊎◌, refl, �
 use Rattle.yaml_base.proofs.Common.{and_from, not-true, false≢true, nat_tests, list_all-append, list_all, slice_split, all_scalars, Text, line_feed, space}
 use Rattle.yaml_base.proofs.Common.{is_alpha, is_space, is_blank, is_break, Version, TagDirective, DocumentStart, directive_scalars, is_tag_character}
 use Rattle.yaml_base.proofs.Common.{character_written, percent_escaped, prefix_escaped, version_fault, exclamation_mark, handle_fault, prefix_fault}
-use Rattle.yaml_base.proofs.Common.{next_directive_fault, directives_fault_after, directives_fault, is_uri_character, percent_read, Heading, heading_read}
+use Rattle.yaml_base.proofs.Common.{next_directive_fault, directives_fault_after, directives_fault, is_uri_character, percent_read, Prologue, prologue_read}
 use Rattle.yaml_base.{proofs.Common.Line, proofs.NoFaults.neither, proofs.NoFaults.not_given, proofs.TagForms.IsHandle, proofs.TagForms.handle_form}
 use Rattle.yaml_base.{proofs.TagWords.handle_ends_no_word, specs.Layout.version_word, proofs.AllPass.none_pass, proofs.AllPass.uncut_by}
 use Rattle.yaml_base.proofs.stream_nodes.StreamTags.{uri_character, uri_text}
@@ -109,10 +109,10 @@ directive_reads : (portable : Bool) (version : Option Version) (before : List Ta
     → directive_line (Some (record { version = version; directives = before })) (record { text = directive_text portable directive; ending = ending })
     ≡ Some (record { version = version; directives = before ++ directive ∷ [] })
 directive_reads portable version before directive ending sound scalars =
-    let with_prefix : Option Heading = Some (record { version = version; directives = before ++ directive ∷ [] }) in
+    let with_prefix : Option Prologue = Some (record { version = version; directives = before ++ directive ∷ [] }) in
     let both = neither _ _ sound in
     let parts = neither _ _ both.0 in
-    let made : Heading = record { version = version; directives = before } in
+    let made : Prologue = record { version = version; directives = before } in
     ap (directive_by_words made) (directive_words portable directive parts.0)
     ∙ ap (with_directive made directive.handle) (prefix_reads portable directive.prefix parts.1 scalars)
     ∙ ap (λ x. if x && not (is_handle_given directive.handle before) then with_prefix else None)
@@ -129,14 +129,14 @@ tags_read : (portable : Bool) (version : Option Version) (before directives : Li
     → fold directive_line (Some (record { version = version; directives = before })) (tag_lines portable directives)
     ≡ Some (record { version = version; directives = before ++ directives })
 tags_read portable version before [] sound scalars =
-    ap (λ (all : List TagDirective). let made : Option Heading = Some (record { version = version; directives = all }) in made) (sym (append-nil before))
+    ap (λ (all : List TagDirective). let made : Option Prologue = Some (record { version = version; directives = all }) in made) (sym (append-nil before))
 tags_read portable version before (directive ∷ rest) sound scalars =
     let both = neither (next_directive_fault before directive) (directives_fault_after (before ++ directive ∷ []) rest) sound in
     let texts = and_parts (directive_scalars directive) (list_all directive_scalars rest) scalars in
-    ap (λ (heading : Option Heading). fold directive_line heading (tag_lines portable rest))
+    ap (λ (prologue : Option Prologue). fold directive_line prologue (tag_lines portable rest))
     (directive_reads portable version before directive (line_feed ∷ []) both.0 texts.0)
     ∙ tags_read portable version (before ++ directive ∷ []) rest both.1 texts.1
-    ∙ ap (λ (all : List TagDirective). let made : Option Heading = Some (record { version = version; directives = all }) in made)
+    ∙ ap (λ (all : List TagDirective). let made : Option Prologue = Some (record { version = version; directives = all }) in made)
     (append_assoc before (directive ∷ []) rest)
 
 -- Versions
@@ -153,14 +153,14 @@ abbrev pub version_lines : Option Version → List Line
 version_lines None = []
 version_lines (Some version) = record { text = codes "%YAML" ++ (space ∷ (version_word version).text); ending = line_feed ∷ [] } ∷ []
 
--- Headings
+-- Prologues
 
 -- the lines of a document's version and directives
-abbrev pub heading_lines : (portable : Bool) → DocumentStart → List Line
-heading_lines portable start = version_lines start.version ++ tag_lines portable start.directives
+abbrev pub prologue_lines : (portable : Bool) → DocumentStart → List Line
+prologue_lines portable start = version_lines start.version ++ tag_lines portable start.directives
 
 -- they are read as the version and the directives
-pub heading_reads : (portable : Bool) (start : DocumentStart) → option_and_then version_fault start.version ≡ None
+pub prologue_reads : (portable : Bool) (start : DocumentStart) → option_and_then version_fault start.version ≡ None
     → directives_fault start.directives ≡ None → list_all directive_scalars start.directives ≡ true
-    → heading_read (heading_lines portable start) ≡ Some (record { version = start.version; directives = start.directives })
-heading_reads portable start version directives scalars = grind (arith, nat_tests, fold-append, int_eq, version_form, tags_read)
+    → prologue_read (prologue_lines portable start) ≡ Some (record { version = start.version; directives = start.directives })
+prologue_reads portable start version directives scalars = grind (arith, nat_tests, fold-append, int_eq, version_form, tags_read)

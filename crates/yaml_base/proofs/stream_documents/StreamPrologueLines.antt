@@ -4,11 +4,11 @@ use Rattle.yaml_base.proofs.Common.{◌∙◌, arith, list_all, Text, line_feed,
 use Rattle.yaml_base.proofs.Common.{render_version, render_tag_directives, directive_scalars, Effective, version_fault, next_directive_fault}
 use Rattle.yaml_base.proofs.{NoFaults.neither, PercentLaws.prefix_stands, TagForms.handle_form, TagWords.handle_ends_no_word}
 use Rattle.yaml_base.proofs.{stream_documents.StreamSoFar.Percents, stream_nodes.StreamBegun.shown_line}
-use Rattle.yaml_base.proofs.Common.{directives_fault_after, directives_fault, heading_read, begins_with_percent, Line, lines_of, text_of_lines}
-use Rattle.yaml_base.proofs.stream_documents.StreamRootsStand.{heading_text, HeadingStands}
+use Rattle.yaml_base.proofs.Common.{directives_fault_after, directives_fault, prologue_read, begins_with_percent, Line, lines_of, text_of_lines}
+use Rattle.yaml_base.proofs.stream_documents.StreamRootsStand.{prologue_text, PrologueStands}
 use Rattle.yaml_base.proofs.stream_lines.StreamClosed.{character_line, lines_broken, closed_behind}
 use Rattle.yaml_base.proofs.stream_lines.StreamLineLaws.{is_closed, OneLine, one_line_both}
-use Rattle.yaml_base.proofs.stream_documents.StreamHeadings.{prefix_no_white, tag_lines, version_lines, heading_lines, heading_reads}
+use Rattle.yaml_base.proofs.stream_documents.StreamPrologues.{prefix_no_white, tag_lines, version_lines, prologue_lines, prologue_reads}
 
 -- Lines with their breaks
 
@@ -33,7 +33,7 @@ text_of_both : (some others : List Line) → text_of_lines (some ++ others) ≡ 
 text_of_both [] others = refl
 text_of_both (line ∷ rest) others = grind (arith, append_assoc, text_of_both rest others)
 
--- A heading's lines
+-- A prologue's lines
 
 tags_whole : (breaks12 portable : Bool) (before directives : List TagDirective) → directives_fault_after before directives ≡ None
     → WholeLines breaks12 (tag_lines portable directives)
@@ -56,17 +56,17 @@ tags_whole breaks12 portable before (directive ∷ rest) sound =
 version_whole : (breaks12 : Bool) (version : Option Version) → WholeLines breaks12 (version_lines version)
 version_whole breaks12 version = grind (arith, int_eq)
 
--- the lines of a heading without a fault
-heading_whole : (breaks12 portable : Bool) (start : DocumentStart) → directives_fault start.directives ≡ None
-    → WholeLines breaks12 (heading_lines portable start)
-heading_whole breaks12 portable start sound =
+-- the lines of a prologue without a fault
+prologue_whole : (breaks12 portable : Bool) (start : DocumentStart) → directives_fault start.directives ≡ None
+    → WholeLines breaks12 (prologue_lines portable start)
+prologue_whole breaks12 portable start sound =
     whole_both breaks12 _ _ (version_whole breaks12 start.version) (tags_whole breaks12 portable [] _ sound)
 
 -- they are the first lines of what follows
-heading_first : (breaks12 portable : Bool) (start : DocumentStart) (rest : Text) → directives_fault start.directives ≡ None
-    → lines_of breaks12 (text_of_lines (heading_lines portable start) ++ rest) ≡ heading_lines portable start ++ lines_of breaks12 rest
-heading_first breaks12 portable start rest sound =
-    whole_lines breaks12 (heading_lines portable start) rest (heading_whole breaks12 portable start sound)
+prologue_first : (breaks12 portable : Bool) (start : DocumentStart) (rest : Text) → directives_fault start.directives ≡ None
+    → lines_of breaks12 (text_of_lines (prologue_lines portable start) ++ rest) ≡ prologue_lines portable start ++ lines_of breaks12 rest
+prologue_first breaks12 portable start rest sound =
+    whole_lines breaks12 (prologue_lines portable start) rest (prologue_whole breaks12 portable start sound)
 
 -- Each begins with a `%`
 
@@ -74,9 +74,9 @@ tags_percent : (portable : Bool) (directives : List TagDirective) → Percents (
 tags_percent portable [] = refl
 tags_percent portable (directive ∷ rest) = tags_percent portable rest
 
--- each line of a heading does
-heading_percent : (portable : Bool) (start : DocumentStart) → Percents (heading_lines portable start)
-heading_percent portable start = grind (arith, tags_percent)
+-- each line of a prologue does
+prologue_percent : (portable : Bool) (start : DocumentStart) → Percents (prologue_lines portable start)
+prologue_percent portable start = grind (arith, tags_percent)
 
 -- As they are rendered
 
@@ -86,12 +86,12 @@ tags_are portable [] = refl
 tags_are portable (directive ∷ rest) = grind (arith, append_assoc, tags_are portable rest)
 
 -- the version and the directives are rendered as these lines
-heading_rendered : (portable : Bool) (start : DocumentStart)
+prologue_rendered : (portable : Bool) (start : DocumentStart)
     → render_then (render_version start.version first_cursor) (render_tag_directives portable start.directives)
-    ≡ record { text = text_of_lines (heading_lines portable start); cursor = first_cursor }
-heading_rendered portable start = grind (arith, int_eq, tags_are, text_of_both)
+    ≡ record { text = text_of_lines (prologue_lines portable start); cursor = first_cursor }
+prologue_rendered portable start = grind (arith, int_eq, tags_are, text_of_both)
 
--- A heading as it is rendered
+-- A prologue as it is rendered
 
 -- the last of whole lines ends their text
 whole_closed : (breaks12 : Bool) (lines : List Line) → WholeLines breaks12 lines → is_closed breaks12 (text_of_lines lines) ≡ true
@@ -99,21 +99,21 @@ whole_closed breaks12 [] h = refl
 whole_closed breaks12 (line ∷ rest) h = grind (arith, closed_behind, whole_closed breaks12 rest h.2)
 
 -- the lines of its text
-heading_text_lines : (s : Effective) (start : DocumentStart) → directives_fault start.directives ≡ None
-    → lines_of s.breaks12 (heading_text s start) ≡ heading_lines s.portable start
-heading_text_lines s start sound =
-    ap (λ (rendered : Rendered). lines_of s.breaks12 rendered.text) (heading_rendered _ start)
-    ∙ ap (lines_of s.breaks12) (sym (append-nil (text_of_lines (heading_lines s.portable start))))
-    ∙ heading_first _ _ start [] sound ∙ append-nil (heading_lines s.portable start)
+prologue_text_lines : (s : Effective) (start : DocumentStart) → directives_fault start.directives ≡ None
+    → lines_of s.breaks12 (prologue_text s start) ≡ prologue_lines s.portable start
+prologue_text_lines s start sound =
+    ap (λ (rendered : Rendered). lines_of s.breaks12 rendered.text) (prologue_rendered _ start)
+    ∙ ap (lines_of s.breaks12) (sym (append-nil (text_of_lines (prologue_lines s.portable start))))
+    ∙ prologue_first _ _ start [] sound ∙ append-nil (prologue_lines s.portable start)
 
 -- it ends with a break, each of its lines begins with a `%`, and they are read as the version and the directives
-pub heading_stands : (s : Effective) (start : DocumentStart) → option_and_then version_fault start.version ≡ None
-    → directives_fault start.directives ≡ None → list_all directive_scalars start.directives ≡ true → HeadingStands s start
-heading_stands s start version directives scalars =
-    let lines = heading_text_lines s start directives in
+pub prologue_stands : (s : Effective) (start : DocumentStart) → option_and_then version_fault start.version ≡ None
+    → directives_fault start.directives ≡ None → list_all directive_scalars start.directives ≡ true → PrologueStands s start
+prologue_stands s start version directives scalars =
+    let lines = prologue_text_lines s start directives in
     record {
-      ends = ap (λ (rendered : Rendered). is_closed s.breaks12 rendered.text) (heading_rendered s.portable start)
-          ∙ whole_closed s.breaks12 (heading_lines s.portable start) (heading_whole s.breaks12 s.portable start directives);
-      percents = ap (list_all (λ line. begins_with_percent line.text)) lines ∙ heading_percent s.portable start;
-      reads = ap heading_read lines ∙ heading_reads s.portable start version directives scalars;
+      ends = ap (λ (rendered : Rendered). is_closed s.breaks12 rendered.text) (prologue_rendered s.portable start)
+          ∙ whole_closed s.breaks12 (prologue_lines s.portable start) (prologue_whole s.breaks12 s.portable start directives);
+      percents = ap (list_all (λ line. begins_with_percent line.text)) lines ∙ prologue_percent s.portable start;
+      reads = ap prologue_read lines ∙ prologue_reads s.portable start version directives scalars;
     }
