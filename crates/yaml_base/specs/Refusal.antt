@@ -1,12 +1,12 @@
 -- Which event is refused after which list, and with what fault (libyaml's own rules; YAML 1.1, sections 7.1, 8.1 and 8.2, for
 -- directives, anchors and tags).
 pub use Rattle.yaml_base.specs.Options.{some_if}
-use Rattle.std.specs.Prelude.{◌≡◌, ◌↔◌, ℕ, ◌-◌, ◌≤◌, Bool, true, false, Option, None, Some, List, [], ◌∷◌, ◌++◌, ◌||◌, ◌&&◌, not, nat_lt, length, count_by}
-use Rattle.std.specs.Prelude.{is_some, is_none, option_and_then, if◌then◌else◌}
+use Rattle.std.specs.Prelude.{◌≡◌, ◌↔◌, ℕ, ◌-◌, ◌≤◌, Bool, true, false, Option, None, List, [], ◌∷◌, ◌++◌, ◌&&◌, not, nat_lt, length, count_by}
+use Rattle.std.specs.Prelude.{is_some, is_none, option_and_then}
 use Rattle.std.specs.Option.{option_or}
 use Rattle.std.specs.List.{list_all}
 use Rattle.yaml_base.specs.Characters.{Text}
-use Rattle.yaml_base.specs.Event.{Scalar, Collection, Event, document_start, alias, scalar, sequence_start, sequence_end, mapping_start, mapping_end}
+use Rattle.yaml_base.specs.Event.{Event, document_start, alias, scalar, sequence_start, sequence_end, mapping_start, mapping_end}
 use Rattle.yaml_base.specs.Tags.{anchor_fault, alias_fault, tag_fault, version_fault, directives_fault}
 use Rattle.yaml_base.specs.scalars.Style.{lacks_tag_and_flags}
 use Rattle.yaml_base.specs.Grammar.{Level, Partial, before_stream, between_documents, within_document, after_root, after_stream, push, partial_of, Stream}

@@ -1,6 +1,6 @@
 -- The words of a script's lines: characters, texts between quotation marks, fields, words and numbers (the notation of docs/SCRIPTS.md).
 use Rattle.std.specs.Prelude.{ℕ, ℤ, pos, neg_ℤ, Bool, true, false, Option, None, Some, List, [], ◌∷◌, ◌++◌, ◌==◌, ◌||◌, ◌&&◌, ◌+◌, nat_le, length, codes}
-use Rattle.std.specs.Prelude.{bytes_eq, option_map, if◌then◌else◌}
+use Rattle.std.specs.Prelude.{option_map, if◌then◌else◌}
 use Rattle.std.specs.List.{list_all, onto_first}
 use Rattle.std.specs.Char.{is_digit}
 use Rattle.std.specs.Str.{all_scalars}

@@ -1,5 +1,5 @@
 -- Texts that are written plain and read as texts, whichever schema reads them, and by readers that keep to none.
-use Rattle.std.specs.Prelude.{◌≡◌, ℕ, Bool, true, false, List, [], ◌∷◌, ◌==◌, ◌||◌, ◌&&◌, not, length, codes, map}
+use Rattle.std.specs.Prelude.{◌≡◌, ℕ, Bool, true, false, List, ◌∷◌, ◌==◌, ◌||◌, ◌&&◌, not, length, codes, map}
 use Rattle.std.specs.Char.{to_ascii_lowercase}
 use Rattle.std.specs.List.{list_all, list_any, slice_split, take_while}
 use Rattle.yaml_base.specs.Characters.{Text, is_among, is_ascii, is_blank, is_space}
