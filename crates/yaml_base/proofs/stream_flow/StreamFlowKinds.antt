@@ -2,18 +2,19 @@
 use Rattle.yaml_base.proofs.Common.{arith, ℕ, if◌then◌else◌, Option, None, Some, Bool, false, not, true, ◌&&◌, List, [], ◌++◌, ◌∷◌, refl, ◌≡◌, true≢false}
 use Rattle.yaml_base.proofs.Common.{append-nil, append_assoc, ap, sym, ◌∙◌, false≢true, Text, space, Cursor, Rendered, space_if, TagDirective, Scalar}
 use Rattle.yaml_base.proofs.Common.{Collection, scalar_tag, collection_tag, Node, alias_node, scalar_node, Nodes, sequence_node, Pairs, mapping_node, no_nodes}
-use Rattle.yaml_base.proofs.Common.{nodes_and, no_pairs, pairs_and, render_properties, render_alias, render_separation, render_body, choice_of, square, curly}
-use Rattle.yaml_base.proofs.Common.{render_end, entry_place, Role, is_key, deeper, is_simple, Effective, is_plain, Tree, alias_tree, and-false, sequence_tree}
+use Rattle.yaml_base.proofs.Common.{nodes_and, no_pairs, pairs_and, render_properties, render_alias, render_separation, render_body, choice_of}
+use Rattle.yaml_base.proofs.Common.{entry_place, Role, is_key, deeper, is_simple, Effective, is_plain, Tree, alias_tree, and-false, sequence_tree}
 use Rattle.yaml_base.proofs.Common.{mapping_tree, no_trees, no_tree_pairs, is_alias, is_key_text, no_key, key_held, OpenFlow, in_sequence, in_mapping}
 use Rattle.yaml_base.proofs.stream_flow.{StreamPropertyWords.lead, StreamTakes.takes_both, StreamTakes.takes_simple_key, StreamSays.class_fixed}
-use Rattle.yaml_base.proofs.Common.{with_tree, level_opened, Rules, name_read, begins_bracket, class_of}
+use Rattle.yaml_base.proofs.Common.{with_tree, level_opened, Rules, name_read, begins_bracket, class_of, is_pair, word_after, option_map, collection_tag_parsed}
 use Rattle.yaml_base.proofs.stream_flow.StreamWhites.{spaces_end_word, alias_blank}
 use Rattle.yaml_base.proofs.stream_flow.StreamFlowScalars.{rules_of, chosen_in_flow, bare_not_plain, body_flow_word, body_ended, scalar_whole}
 use Rattle.yaml_base.proofs.stream_flow.StreamFlowTakes.{FlowNode, FlowEntries, takes_word, takes_collection, opens_more, FlowEnd, sequence_ends, mapping_ends}
-use Rattle.yaml_base.proofs.stream_flow.StreamFlowWords.{opens_inside, FlowWord, Given, lead_opens, alias_flow_word, empty_sequence_word, empty_mapping_word}
+use Rattle.yaml_base.proofs.stream_flow.StreamFlowWords.{opens_inside, FlowWord, Given, lead_opens, alias_flow_word, empty_word}
 use Rattle.yaml_base.proofs.stream_nodes.StreamAgrees.{node_tree, nodes_tree, pairs_tree}
 use Rattle.yaml_base.proofs.stream_nodes.StreamLeads.{EndedCollection, lead_rendered, tag_is_written}
-use Rattle.yaml_base.proofs.stream_nodes.StreamStands.{tag_written, tag_meant, NamesStand, BodyStands, body_from, BodiesHold}
+use Rattle.yaml_base.proofs.stream_nodes.StreamProperties.{IsNamed}
+use Rattle.yaml_base.proofs.stream_nodes.StreamStands.{tag_written, tag_meant, TagStands, NamesStand, BodyStands, body_from, BodiesHold}
 use Rattle.yaml_base.proofs.stream_nodes.StreamTexts.{node_own, items_own, pairs_own}
 
 -- the space after an alias that is a simple key
@@ -28,6 +29,12 @@ KeysFit s own directives =
     → NamesStand s.portable own s.canonical directives n → BodiesHold (BodyStands s) n s directives (entry_place true role column) cursor
     → (node_own n s directives (entry_place true role column) cursor).text ≡ space_if true cursor ++ (text ++ alias_space n)
     → is_key_text s.breaks12 (node_tree n s directives (entry_place true role 0)) text ≡ true
+
+-- a node at its place in flow is one there
+abbrev pub NodeTakes : Effective → List TagDirective → List TagDirective → Role → ℕ → Cursor → Node → Type 0
+NodeTakes s own directives role column cursor node =
+    FlowNode (rules_of s own) (is_key role && is_simple s.canonical directives node) cursor
+    (node_own node s directives (entry_place true role column) cursor) (node_tree node s directives (entry_place true role 0))
 
 -- Words
 
@@ -73,8 +80,7 @@ pub scalar_step : (s : Effective) (own directives : List TagDirective) (fits : K
     (content : Scalar)
     → NamesStand s.portable own s.canonical directives (scalar_node content)
     → BodyStands s (body_from s directives (entry_place true role column) content cursor)
-    → FlowNode (rules_of s own) (is_key role && is_simple s.canonical directives (scalar_node content)) cursor
-    (node_own (scalar_node content) s directives (entry_place true role column) cursor) (node_tree (scalar_node content) s directives (entry_place true role 0))
+    → NodeTakes s own directives role column cursor (scalar_node content)
 scalar_step s own directives fits role column cursor content names body =
     let simple = is_key role && is_simple s.canonical directives (scalar_node content) in
     let tag = scalar_tag s.canonical content in
@@ -107,23 +113,61 @@ pub collection_whole : (properties : Rendered) (cursor : Cursor) (before : Text)
     → (properties.text ++ entries) ++ ending ≡ space_if true cursor ++ (before ++ (bracket ∷ (inside ++ ending)))
 collection_whole properties cursor before bracket inside entries ending e whole = grind (arith, append_assoc)
 
--- such a collection is a node in flow
-collection_node : (rules : Rules) (simple : Bool) (cursor : Cursor) (properties entries ending : Rendered) (bracket : ℕ) (anchor tag given_tag : Option Text)
-    (last : Option Text → Option Text → OpenFlow) (tree : Tree) → Given rules anchor tag (tag_meant given_tag false)
-    → properties.text ++ space_if true properties.cursor ≡ space_if true cursor ++ lead anchor tag → class_of rules.breaks12 bracket ≡ begins_bracket
-    → opens_inside (bracket ∷ []) ≡ true → FlowEntries rules bracket properties.cursor entries (level_opened bracket) last
-    → ((levels : List OpenFlow) → FlowEnd rules ending (last anchor given_tag ∷ levels) (with_tree levels tree)) → simple ≡ false
-    → FlowNode rules simple cursor (record { text = (properties.text ++ entries.text) ++ ending.text; cursor = ending.cursor }) tree
-collection_node rules simple cursor properties entries ending bracket anchor tag given_tag last tree given e class open_bracket of end other = record {
-  content = lead anchor tag ++ (bracket ∷ (of.inside ++ ending.text));
-  whole = collection_whole properties cursor (lead anchor tag) bracket of.inside entries.text ending.text e of.whole;
-  ended = (end []).ended;
-  opens = lead_opens rules anchor tag _ _ given open_bracket;
-  takes = λ h levels open_level spaced.
-      takes_collection rules levels spaced bracket anchor tag _ _ _ given open_level class (opens_more of.inside ending.text of.opens)
-      (takes_both (of.takes anchor given_tag levels) (end levels).takes (end levels).ends);
-  key = λ h. absurd (true≢false (sym h ∙ other));
-}
+-- an empty collection
+empty_step : (s : Effective) (own directives : List TagDirective) (simple : Bool) (cursor last : Cursor) (start : Collection) (bracket closing : ℕ)
+    (tree : Option Text → Tree)
+    → (let tag = collection_tag s.canonical start in
+    let properties = render_properties s.portable directives start.anchor tag false cursor in
+    let rendered : Rendered =
+    record { text = (properties.text ++ []) ++ ((space_if true properties.cursor ++ (bracket ∷ [])) ++ (closing ∷ [])); cursor = last } in
+    IsNamed start.anchor → TagStands s.portable own directives tag → class_of s.breaks12 bracket ≡ begins_bracket → is_pair bracket closing ≡ true
+    → word_after (rules_of s own) true None (record { anchor = start.anchor; tag = tag_meant tag false }) (bracket ∷ closing ∷ [])
+    ≡ option_map tree (collection_tag_parsed (tag_meant tag false))
+    → is_alias (tree tag) ≡ false → EndedCollection last
+    → ((text : Text) → simple ≡ true → rendered.text ≡ space_if true cursor ++ (text ++ []) → is_key_text s.breaks12 (tree tag) text ≡ true)
+    → FlowNode (rules_of s own) simple cursor rendered (tree tag))
+empty_step s own directives simple cursor last start bracket closing tree named tagged class pair read other ended fits =
+    let tag = collection_tag s.canonical start in
+    let properties = render_properties s.portable directives start.anchor tag false cursor in
+    let before = lead start.anchor (tag_written s.portable directives tag false) in
+    let text = before ++ (bracket ∷ closing ∷ []) in
+    let whole = empty_whole properties cursor before bracket closing (lead_rendered s.portable directives start.anchor tag false cursor) in
+    word_node _ simple cursor _ text (tree tag) whole ended
+    (empty_word (rules_of s own) start.anchor (tag_written s.portable directives tag false) tag bracket closing tree
+    (record { named = named; tagged = tag_is_written s.portable own directives tag false tagged }) class pair read) other
+    (λ h. fits text h (whole ∙ ap (λ t. space_if true cursor ++ t) (sym (append-nil text))))
+
+-- a collection that holds something
+collection_step : (s : Effective) (own directives : List TagDirective) (simple : Bool) (cursor : Cursor) (start : Collection) (bracket : ℕ)
+    (entries ending : Rendered) (last : Option Text → Option Text → OpenFlow) (tree : Tree)
+    → (let tag = collection_tag s.canonical start in
+    let properties = render_properties s.portable directives start.anchor tag false cursor in
+    IsNamed start.anchor → TagStands s.portable own directives tag → class_of s.breaks12 bracket ≡ begins_bracket → opens_inside (bracket ∷ []) ≡ true
+    → FlowEntries (rules_of s own) bracket properties.cursor entries (level_opened bracket) last
+    → ((levels : List OpenFlow) → FlowEnd (rules_of s own) ending (last start.anchor tag ∷ levels) (with_tree levels tree)) → simple ≡ false
+    → FlowNode (rules_of s own) simple cursor (record { text = (properties.text ++ entries.text) ++ ending.text; cursor = ending.cursor }) tree)
+collection_step s own directives simple cursor start bracket entries ending last tree named tagged class open_bracket of end other =
+    let tag = collection_tag s.canonical start in
+    let properties = render_properties s.portable directives start.anchor tag false cursor in
+    let written = tag_written s.portable directives tag false in
+    let given : Given (rules_of s own) start.anchor written (tag_meant tag false) =
+    record { named = named; tagged = tag_is_written s.portable own directives tag false tagged } in
+    record {
+      content = lead start.anchor written ++ (bracket ∷ (of.inside ++ ending.text));
+      whole =
+          collection_whole properties cursor (lead start.anchor written) bracket of.inside entries.text ending.text
+          (lead_rendered s.portable directives start.anchor tag false cursor) of.whole;
+      ended = (end []).ended;
+      opens = lead_opens (rules_of s own) start.anchor written _ _ given open_bracket;
+      takes = λ h levels open_level spaced.
+          takes_collection (rules_of s own) levels spaced bracket start.anchor written _ _ _ given open_level class
+          (opens_more of.inside ending.text of.opens) (takes_both (of.takes start.anchor tag levels) (end levels).takes (end levels).ends);
+      key = λ h. absurd (true≢false (sym h ∙ other));
+    }
+
+-- that is no simple key
+no_simple_key : (key canonical : Bool) → (key && (not canonical && false)) ≡ false
+no_simple_key key canonical = ap (λ x. key && x) (and-false (not canonical)) ∙ and-false key
 
 -- the items of a sequence in flow
 abbrev pub ItemsTake : Effective → List TagDirective → List TagDirective → Nodes → ℕ → Cursor → Type 0
@@ -146,35 +190,16 @@ pub sequence_step : (s : Effective) (own directives : List TagDirective) (fits :
     → BodiesHold (BodyStands s) (sequence_node start items) s directives (entry_place true role column) cursor
     → ItemsTake s own directives items (deeper s.indent (Some column)) (render_properties s.portable directives start.anchor
     (collection_tag s.canonical start) false cursor).cursor
-    → FlowNode (rules_of s own) (is_key role && is_simple s.canonical directives (sequence_node start items)) cursor
-    (node_own (sequence_node start items) s directives (entry_place true role column) cursor)
-    (node_tree (sequence_node start items) s directives (entry_place true role 0))
+    → NodeTakes s own directives role column cursor (sequence_node start items)
 sequence_step s own directives fits role column cursor start no_nodes names bodies take =
-    let tag = collection_tag s.canonical start in
-    let properties = render_properties s.portable directives start.anchor tag false cursor in
-    let text = lead start.anchor (tag_written s.portable directives tag false) ++ (0x5B ∷ 0x5D ∷ []) in
-    let whole = empty_whole properties cursor (lead start.anchor (tag_written s.portable directives tag false)) 0x5B 0x5D
-    (lead_rendered s.portable directives start.anchor tag false cursor) in
-    word_node (rules_of s own) (is_key role && is_simple s.canonical directives (sequence_node start no_nodes)) cursor
-    (node_own (sequence_node start no_nodes) s directives (entry_place true role column) cursor) text (sequence_tree start.anchor tag no_trees)
-    whole
-    (record { white = refl; indention = and-false (properties.cursor.indention && false) })
-    (empty_sequence_word (rules_of s own) start.anchor (tag_written s.portable directives tag false) tag
-    (record { named = names.0; tagged = tag_is_written s.portable own directives tag false names.1 }))
-    refl
-    (λ h. fits (sequence_node start no_nodes) role column cursor text h names bodies (whole ∙ ap (λ t. space_if true cursor ++ t) (sym (append-nil text))))
+    empty_step s own directives _ cursor _ start 0x5B 0x5D (λ tag. sequence_tree start.anchor tag no_trees) names.0 names.1
+    (class_fixed s.breaks12 0x5B refl) refl refl refl (record { white = refl; indention = and-false _ })
+    (λ text h. fits (sequence_node start no_nodes) role column cursor text h names bodies)
 sequence_step s own directives fits role column cursor start (nodes_and items last) names bodies take =
-    let tag = collection_tag s.canonical start in
-    let properties = render_properties s.portable directives start.anchor tag false cursor in
-    let entries = items_own (nodes_and items last) s directives true (deeper s.indent (Some column)) properties.cursor in
     let trees = nodes_tree (nodes_and items last) s directives true in
-    collection_node (rules_of s own) (is_key role && is_simple s.canonical directives (sequence_node start (nodes_and items last))) cursor properties entries
-    (render_end s square true false (Some column) entries.cursor) 0x5B start.anchor (tag_written s.portable directives tag false) tag
-    (λ anchor tag. in_sequence anchor tag trees) (sequence_tree start.anchor tag trees)
-    (record { named = names.0; tagged = tag_is_written s.portable own directives tag false names.1 })
-    (lead_rendered s.portable directives start.anchor tag false cursor) (class_fixed s.breaks12 0x5B refl) refl take
-    (λ levels. sequence_ends (rules_of s own) s start.anchor tag trees levels (Some column) entries.cursor)
-    (ap (λ x. is_key role && x) (and-false (not s.canonical)) ∙ and-false (is_key role))
+    collection_step s own directives _ cursor start 0x5B _ _ (λ anchor tag. in_sequence anchor tag trees) _ names.0 names.1
+    (class_fixed s.breaks12 0x5B refl) refl take (λ levels. sequence_ends (rules_of s own) s _ _ trees levels (Some column) _)
+    (no_simple_key (is_key role) s.canonical)
 
 -- a mapping, where its pairs take
 pub mapping_step : (s : Effective) (own directives : List TagDirective) (fits : KeysFit s own directives) (role : Role) (column : ℕ) (cursor : Cursor)
@@ -183,33 +208,13 @@ pub mapping_step : (s : Effective) (own directives : List TagDirective) (fits : 
     → BodiesHold (BodyStands s) (mapping_node start pairs) s directives (entry_place true role column) cursor
     → PairsTake s own directives pairs (deeper s.indent (Some column)) (render_properties s.portable directives start.anchor
     (collection_tag s.canonical start) false cursor).cursor
-    → FlowNode (rules_of s own) (is_key role && is_simple s.canonical directives (mapping_node start pairs)) cursor
-    (node_own (mapping_node start pairs) s directives (entry_place true role column) cursor)
-    (node_tree (mapping_node start pairs) s directives (entry_place true role 0))
+    → NodeTakes s own directives role column cursor (mapping_node start pairs)
 mapping_step s own directives fits role column cursor start no_pairs names bodies take =
-    let tag = collection_tag s.canonical start in
-    let properties = render_properties s.portable directives start.anchor tag false cursor in
-    let text = lead start.anchor (tag_written s.portable directives tag false) ++ (0x7B ∷ 0x7D ∷ []) in
-    let whole = empty_whole properties cursor (lead start.anchor (tag_written s.portable directives tag false)) 0x7B 0x7D
-    (lead_rendered s.portable directives start.anchor tag false cursor) in
-    word_node (rules_of s own) (is_key role && is_simple s.canonical directives (mapping_node start no_pairs)) cursor
-    (node_own (mapping_node start no_pairs) s directives (entry_place true role column) cursor) text (mapping_tree start.anchor tag no_tree_pairs)
-    whole
-    (record { white = refl; indention = and-false (properties.cursor.indention && false) })
-    (empty_mapping_word (rules_of s own) start.anchor (tag_written s.portable directives tag false) tag
-    (record { named = names.0; tagged = tag_is_written s.portable own directives tag false names.1 }))
-    refl
-    (λ h. fits (mapping_node start no_pairs) role column cursor text h names bodies (whole ∙ ap (λ t. space_if true cursor ++ t) (sym (append-nil text))))
+    empty_step s own directives _ cursor _ start 0x7B 0x7D (λ tag. mapping_tree start.anchor tag no_tree_pairs) names.0 names.1
+    (class_fixed s.breaks12 0x7B refl) refl refl refl (record { white = refl; indention = and-false _ })
+    (λ text h. fits (mapping_node start no_pairs) role column cursor text h names bodies)
 mapping_step s own directives fits role column cursor start (pairs_and pairs key value) names bodies take =
-    let tag = collection_tag s.canonical start in
-    let properties = render_properties s.portable directives start.anchor tag false cursor in
-    let entries = pairs_own (pairs_and pairs key value) s directives true (deeper s.indent (Some column)) properties.cursor in
     let trees = pairs_tree (pairs_and pairs key value) s directives true in
-    collection_node (rules_of s own) (is_key role && is_simple s.canonical directives
-    (mapping_node start (pairs_and pairs key value))) cursor properties entries
-    (render_end s curly true false (Some column) entries.cursor) 0x7B start.anchor (tag_written s.portable directives tag false) tag
-    (λ anchor tag. in_mapping anchor tag trees no_key) (mapping_tree start.anchor tag trees)
-    (record { named = names.0; tagged = tag_is_written s.portable own directives tag false names.1 })
-    (lead_rendered s.portable directives start.anchor tag false cursor) (class_fixed s.breaks12 0x7B refl) refl take
-    (λ levels. mapping_ends (rules_of s own) s start.anchor tag trees levels (Some column) entries.cursor)
-    (ap (λ x. is_key role && x) (and-false (not s.canonical)) ∙ and-false (is_key role))
+    collection_step s own directives _ cursor start 0x7B _ _ (λ anchor tag. in_mapping anchor tag trees no_key) _ names.0 names.1
+    (class_fixed s.breaks12 0x7B refl) refl take (λ levels. mapping_ends (rules_of s own) s _ _ trees levels (Some column) _)
+    (no_simple_key (is_key role) s.canonical)

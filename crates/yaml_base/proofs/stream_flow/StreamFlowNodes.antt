@@ -5,7 +5,7 @@ use Rattle.yaml_base.proofs.Common.{sequence_node, Pairs, mapping_node, no_nodes
 use Rattle.yaml_base.proofs.Common.{as_key, as_value, is_key, deeper, has_no_nodes, has_no_pairs, is_simple, flow_break, key_indicator, render_flow_place}
 use Rattle.yaml_base.proofs.Common.{render_place, Effective, Tree, TreePairs, no_trees, tree_pairs_and, no_key, in_mapping, Rules}
 use Rattle.yaml_base.proofs.stream_flow.{StreamFlowScalars.rules_of, StreamFlowTakes.FlowNode}
-use Rattle.yaml_base.proofs.stream_flow.StreamFlowKinds.{KeysFit, alias_step, scalar_step, ItemsTake, PairsTake, sequence_step, mapping_step}
+use Rattle.yaml_base.proofs.stream_flow.StreamFlowKinds.{KeysFit, NodeTakes, alias_step, scalar_step, ItemsTake, PairsTake, sequence_step, mapping_step}
 use Rattle.yaml_base.proofs.stream_flow.StreamFlowPairs.{FlowEntry, item_entry, simple_pair_entry, long_pair_entry, first_entry, next_entry}
 use Rattle.yaml_base.proofs.stream_nodes.StreamAgrees.{node_tree, nodes_tree, pairs_tree}
 use Rattle.yaml_base.proofs.stream_nodes.StreamStands.{NamesStand, AllNamesStand, PairsNamesStand, BodyStands, BodiesHold, ItemsHold, PairsHold}
@@ -14,10 +14,8 @@ use Rattle.yaml_base.proofs.stream_nodes.StreamTexts.{node_own, items_own, pairs
 -- one more item
 items_step : (s : Effective) (own directives : List TagDirective) (items : Nodes) (last : Node) (column : ℕ) (cursor : Cursor)
     → ItemsTake s own directives items column cursor
-    → (let place = entry_place true (as_item (has_no_nodes items)) column in
-    let symbols = render_place s place false (items_own items s directives true column cursor).cursor in
-    FlowNode (rules_of s own) false symbols.cursor (node_own last s directives place symbols.cursor)
-    (node_tree last s directives (entry_place true (as_item (has_no_nodes items)) 0)))
+    → (let symbols = render_place s (entry_place true (as_item (has_no_nodes items)) column) false (items_own items s directives true column cursor).cursor in
+    NodeTakes s own directives (as_item (has_no_nodes items)) column symbols.cursor last)
     → ItemsTake s own directives (nodes_and items last) column cursor
 items_step s own directives no_nodes last column cursor take node =
     let open_cursor = (indicator (codes "[") true true false cursor).cursor in
@@ -62,14 +60,12 @@ pairs_step : (s : Effective) (own directives : List TagDirective) (pairs : Pairs
     → PairsTake s own directives pairs column cursor
     → (let key_place = entry_place true (as_key (has_no_pairs pairs)) column in
     let symbols = render_place s key_place (is_simple s.canonical directives key) (pairs_own pairs s directives true column cursor).cursor in
-    FlowNode (rules_of s own) (is_simple s.canonical directives key) symbols.cursor (node_own key s directives key_place symbols.cursor)
-    (node_tree key s directives (entry_place true (as_key (has_no_pairs pairs)) 0)))
+    NodeTakes s own directives (as_key (has_no_pairs pairs)) column symbols.cursor key)
     → (let key_place = entry_place true (as_key (has_no_pairs pairs)) column in
     let value_place = entry_place true (as_value (is_simple s.canonical directives key)) column in
     let symbols = render_place s key_place (is_simple s.canonical directives key) (pairs_own pairs s directives true column cursor).cursor in
     let value_indicators = render_place s value_place false (node_own key s directives key_place symbols.cursor).cursor in
-    FlowNode (rules_of s own) false value_indicators.cursor (node_own value s directives value_place value_indicators.cursor)
-    (node_tree value s directives (entry_place true (as_value (is_simple s.canonical directives key)) 0)))
+    NodeTakes s own directives (as_value (is_simple s.canonical directives key)) column value_indicators.cursor value)
     → PairsTake s own directives (pairs_and pairs key value) column cursor
 pairs_step s own directives no_pairs key value column cursor take key_node value_node =
     let simple = is_simple s.canonical directives key in
@@ -98,8 +94,7 @@ module _ (s : Effective) (own directives : List TagDirective) (fits : KeysFit s 
   mutual
     pub node_flow : (n : Node) (role : Role) (column : ℕ) (cursor : Cursor) → NamesStand s.portable own s.canonical directives n
         → BodiesHold (BodyStands s) n s directives (entry_place true role column) cursor
-        → FlowNode (rules_of s own) (is_key role && is_simple s.canonical directives n) cursor (node_own n s directives (entry_place true role column) cursor)
-        (node_tree n s directives (entry_place true role 0))
+        → NodeTakes s own directives role column cursor n
     node_flow (alias_node name) role column cursor names bodies =
         alias_step s own directives fits role column cursor name names (is_key role && is_simple s.canonical directives (alias_node name)) refl
     node_flow (scalar_node content) role column cursor names bodies =

@@ -2,9 +2,9 @@
 use Rattle.yaml_base.proofs.Common.{ℕ, if◌then◌else◌, ◌==◌, option_map, Option, None, Some, codes, Bool, false, not, true, ◌&&◌, [], ◌++◌, ◌∷◌, refl, ◌≡◌}
 use Rattle.yaml_base.proofs.Common.{true≢false, ap, ◌∙◌, arith, and_parts, or_parts, false≢true, nat_tests, list_all, Text, is_among, is_alpha, ScalarStyle}
 use Rattle.yaml_base.proofs.Common.{plain, is_read_white, holds_no_plain, Properties, read_plain, ParsedTag, has_clean_edges, is_tidy, is_plain, Tree}
-use Rattle.yaml_base.proofs.Common.{alias_tree, scalar_tree, sequence_tree, mapping_tree, no_trees, no_tree_pairs, Rules, name_read, collection_tag_parsed}
+use Rattle.yaml_base.proofs.Common.{alias_tree, scalar_tree, Rules, name_read, collection_tag_parsed}
 use Rattle.yaml_base.proofs.Common.{tagging_of, stood_in_style, scalar_parsed, scalar_of_style, word_by_kind, word_after, word_read, word, FlowStep}
-use Rattle.yaml_base.proofs.{Common.begins_plain, Common.class_of, Common.begun_token, Common.flow_tokens, stream_keys.StreamAliasKeys.alias_word}
+use Rattle.yaml_base.proofs.{Common.begins_plain, Common.begins_bracket, Common.is_pair, Common.class_of, Common.begun_token, Common.flow_tokens, stream_keys.StreamAliasKeys.alias_word}
 use Rattle.yaml_base.proofs.{stream_lines.StreamTidyLaws.tidy_at_root, stream_nodes.StreamAgrees.tagging_in, stream_nodes.StreamLeads.lead_then}
 use Rattle.yaml_base.proofs.{stream_nodes.StreamStands.tag_meant, stream_flow.StreamSays.Says, stream_flow.StreamSays.class_fixed}
 use Rattle.yaml_base.proofs.stream_lines.StreamCuts.{none_not_some, quote_of, quoted_in, read_quoted}
@@ -174,24 +174,14 @@ alias_flow_word rules (n ∷ name) h = record {
 pub tag_of_collection : (tag : Option Text) → collection_tag_parsed (tag_meant tag false) ≡ Some tag
 tag_of_collection tag = grind (arith, nat_tests)
 
--- `[]`
-pub empty_sequence_word : (rules : Rules) (anchor tag given_tag : Option Text) → Given rules anchor tag (tag_meant given_tag false)
-    → FlowWord rules (lead anchor tag ++ (0x5B ∷ 0x5D ∷ [])) (sequence_tree anchor given_tag no_trees)
-empty_sequence_word rules anchor tag given_tag given = record {
-  says = says_empty_after _ _ 0x5B 0x5D (given_leads rules _ tag _ given)
-      (class_fixed _ 0x5B refl) refl;
-  reads =
-      given_reads rules true _ tag _ _ given refl ∙ ap (option_map (λ tag. sequence_tree anchor tag no_trees)) (tag_of_collection _);
-  opens = lead_opens rules _ tag _ _ given refl;
-}
-
--- `{}`
-pub empty_mapping_word : (rules : Rules) (anchor tag given_tag : Option Text) → Given rules anchor tag (tag_meant given_tag false)
-    → FlowWord rules (lead anchor tag ++ (0x7B ∷ 0x7D ∷ [])) (mapping_tree anchor given_tag no_tree_pairs)
-empty_mapping_word rules anchor tag given_tag given = record {
-  says = says_empty_after _ _ 0x7B 0x7D (given_leads rules _ tag _ given)
-      (class_fixed _ 0x7B refl) refl;
-  reads =
-      given_reads rules true _ tag _ _ given refl ∙ ap (option_map (λ tag. mapping_tree anchor tag no_tree_pairs)) (tag_of_collection _);
-  opens = lead_opens rules _ tag _ _ given refl;
+-- `[]` or `{}`
+pub empty_word : (rules : Rules) (anchor tag given_tag : Option Text) (bracket closing : ℕ) (tree : Option Text → Tree)
+    → Given rules anchor tag (tag_meant given_tag false) → class_of rules.breaks12 bracket ≡ begins_bracket → is_pair bracket closing ≡ true
+    → word_after rules true None (record { anchor = anchor; tag = tag_meant given_tag false }) (bracket ∷ closing ∷ [])
+    ≡ option_map tree (collection_tag_parsed (tag_meant given_tag false))
+    → FlowWord rules (lead anchor tag ++ (bracket ∷ closing ∷ [])) (tree given_tag)
+empty_word rules anchor tag given_tag bracket closing tree given class pair read = record {
+  says = says_empty_after _ _ bracket closing (given_leads rules _ tag _ given) class pair;
+  reads = given_reads rules true _ tag _ _ given (grind (arith, nat_tests)) ∙ read ∙ ap (option_map tree) (tag_of_collection _);
+  opens = lead_opens rules _ tag _ _ given (grind (arith, nat_tests));
 }
