@@ -1,15 +1,15 @@
 -- Each kind of node that stands in flow takes the reader of flow collections to its place with its tree, where what it holds does.
 use Rattle.yaml_base.proofs.Common.{arith, ℕ, if◌then◌else◌, Option, None, Some, Bool, false, not, true, ◌&&◌, List, [], ◌++◌, ◌∷◌, refl, ◌≡◌, true≢false}
 use Rattle.yaml_base.proofs.Common.{append-nil, append_assoc, ap, sym, ◌∙◌, false≢true, Text, space, Cursor, Rendered, space_if, TagDirective, Scalar}
-use Rattle.yaml_base.proofs.Common.{Collection, scalar_tag, collection_tag, Node, alias_node, scalar_node, Nodes, sequence_node, Pairs, mapping_node, no_nodes}
-use Rattle.yaml_base.proofs.Common.{nodes_and, no_pairs, pairs_and, render_properties, render_alias, render_separation, render_body, choice_of}
-use Rattle.yaml_base.proofs.Common.{entry_place, Role, is_key, deeper, is_simple, Effective, is_plain, Tree, alias_tree, and-false, sequence_tree}
-use Rattle.yaml_base.proofs.Common.{mapping_tree, no_trees, no_tree_pairs, is_alias, is_key_text, no_key, key_held, OpenFlow, in_sequence, in_mapping}
-use Rattle.yaml_base.proofs.stream_flow.{StreamPropertyWords.lead, StreamTakes.takes_both, StreamTakes.takes_simple_key, StreamSays.class_fixed}
-use Rattle.yaml_base.proofs.Common.{with_tree, level_opened, Rules, name_read, begins_bracket, class_of, is_pair, word_after, option_map, collection_tag_parsed}
+use Rattle.yaml_base.proofs.Common.{Collection, scalar_tag, collection_tag, Node, alias_node, scalar_node, Nodes, Pairs, no_nodes, nodes_and, no_pairs}
+use Rattle.yaml_base.proofs.Common.{pairs_and, render_properties, render_alias, render_separation, render_body, choice_of, entry_place, Role, is_key, deeper}
+use Rattle.yaml_base.proofs.Common.{is_simple, Effective, is_plain, Tree, alias_tree, and-false, is_alias, is_key_text, no_key, key_held, OpenFlow, in_sequence}
+use Rattle.yaml_base.proofs.Common.{in_mapping, with_tree, level_opened, Rules, name_read, begins_bracket, class_of, is_pair, word_after, option_map}
+use Rattle.yaml_base.proofs.{Common.collection_tag_parsed, stream_flow.StreamPropertyWords.lead}
+use Rattle.yaml_base.proofs.stream_flow.StreamTakes.{takes_both, takes_simple_key}
 use Rattle.yaml_base.proofs.stream_flow.StreamWhites.{spaces_end_word, alias_blank}
 use Rattle.yaml_base.proofs.stream_flow.StreamFlowScalars.{rules_of, chosen_in_flow, bare_not_plain, body_flow_word, body_ended, scalar_whole}
-use Rattle.yaml_base.proofs.stream_flow.StreamFlowTakes.{FlowNode, FlowEntries, takes_word, takes_collection, opens_more, FlowEnd, sequence_ends, mapping_ends}
+use Rattle.yaml_base.proofs.stream_flow.StreamFlowTakes.{FlowNode, FlowEntries, takes_word, takes_collection, opens_more, FlowEnd}
 use Rattle.yaml_base.proofs.stream_flow.StreamFlowWords.{opens_inside, FlowWord, Given, lead_opens, alias_flow_word, empty_word}
 use Rattle.yaml_base.proofs.stream_nodes.StreamAgrees.{node_tree, nodes_tree, pairs_tree}
 use Rattle.yaml_base.proofs.stream_nodes.StreamLeads.{EndedCollection, lead_rendered, tag_is_written}
@@ -30,7 +30,7 @@ KeysFit s own directives =
     → (node_own n s directives (entry_place true role column) cursor).text ≡ space_if true cursor ++ (text ++ alias_space n)
     → is_key_text s.breaks12 (node_tree n s directives (entry_place true role 0)) text ≡ true
 
--- a node at its place in flow is one there
+-- what is rendered of a node in flow takes the reader to its place with its tree
 abbrev pub NodeTakes : Effective → List TagDirective → List TagDirective → Role → ℕ → Cursor → Node → Type 0
 NodeTakes s own directives role column cursor node =
     FlowNode (rules_of s own) (is_key role && is_simple s.canonical directives node) cursor
@@ -114,7 +114,7 @@ pub collection_whole : (properties : Rendered) (cursor : Cursor) (before : Text)
 collection_whole properties cursor before bracket inside entries ending e whole = grind (arith, append_assoc)
 
 -- an empty collection
-empty_step : (s : Effective) (own directives : List TagDirective) (simple : Bool) (cursor last : Cursor) (start : Collection) (bracket closing : ℕ)
+pub empty_step : (s : Effective) (own directives : List TagDirective) (simple : Bool) (cursor last : Cursor) (start : Collection) (bracket closing : ℕ)
     (tree : Option Text → Tree)
     → (let tag = collection_tag s.canonical start in
     let properties = render_properties s.portable directives start.anchor tag false cursor in
@@ -138,7 +138,7 @@ empty_step s own directives simple cursor last start bracket closing tree named 
     (λ h. fits text h (whole ∙ ap (λ t. space_if true cursor ++ t) (sym (append-nil text))))
 
 -- a collection that holds something
-collection_step : (s : Effective) (own directives : List TagDirective) (simple : Bool) (cursor : Cursor) (start : Collection) (bracket : ℕ)
+pub collection_step : (s : Effective) (own directives : List TagDirective) (simple : Bool) (cursor : Cursor) (start : Collection) (bracket : ℕ)
     (entries ending : Rendered) (last : Option Text → Option Text → OpenFlow) (tree : Tree)
     → (let tag = collection_tag s.canonical start in
     let properties = render_properties s.portable directives start.anchor tag false cursor in
@@ -166,7 +166,7 @@ collection_step s own directives simple cursor start bracket entries ending last
     }
 
 -- that is no simple key
-no_simple_key : (key canonical : Bool) → (key && (not canonical && false)) ≡ false
+pub no_simple_key : (key canonical : Bool) → (key && (not canonical && false)) ≡ false
 no_simple_key key canonical = ap (λ x. key && x) (and-false (not canonical)) ∙ and-false key
 
 -- the items of a sequence in flow
@@ -182,39 +182,3 @@ PairsTake s own directives no_pairs column cursor = Unit {0}
 PairsTake s own directives (pairs_and pairs key value) column cursor =
     FlowEntries (rules_of s own) 0x7B cursor (pairs_own (pairs_and pairs key value) s directives true column cursor) (level_opened 0x7B)
     (λ anchor tag. in_mapping anchor tag (pairs_tree (pairs_and pairs key value) s directives true) no_key)
-
--- a sequence, where its items take
-pub sequence_step : (s : Effective) (own directives : List TagDirective) (fits : KeysFit s own directives) (role : Role) (column : ℕ) (cursor : Cursor)
-    (start : Collection) (items : Nodes)
-    → NamesStand s.portable own s.canonical directives (sequence_node start items)
-    → BodiesHold (BodyStands s) (sequence_node start items) s directives (entry_place true role column) cursor
-    → ItemsTake s own directives items (deeper s.indent (Some column)) (render_properties s.portable directives start.anchor
-    (collection_tag s.canonical start) false cursor).cursor
-    → NodeTakes s own directives role column cursor (sequence_node start items)
-sequence_step s own directives fits role column cursor start no_nodes names bodies take =
-    empty_step s own directives _ cursor _ start 0x5B 0x5D (λ tag. sequence_tree start.anchor tag no_trees) names.0 names.1
-    (class_fixed s.breaks12 0x5B refl) refl refl refl (record { white = refl; indention = and-false _ })
-    (λ text h. fits (sequence_node start no_nodes) role column cursor text h names bodies)
-sequence_step s own directives fits role column cursor start (nodes_and items last) names bodies take =
-    let trees = nodes_tree (nodes_and items last) s directives true in
-    collection_step s own directives _ cursor start 0x5B _ _ (λ anchor tag. in_sequence anchor tag trees) _ names.0 names.1
-    (class_fixed s.breaks12 0x5B refl) refl take (λ levels. sequence_ends (rules_of s own) s _ _ trees levels (Some column) _)
-    (no_simple_key (is_key role) s.canonical)
-
--- a mapping, where its pairs take
-pub mapping_step : (s : Effective) (own directives : List TagDirective) (fits : KeysFit s own directives) (role : Role) (column : ℕ) (cursor : Cursor)
-    (start : Collection) (pairs : Pairs)
-    → NamesStand s.portable own s.canonical directives (mapping_node start pairs)
-    → BodiesHold (BodyStands s) (mapping_node start pairs) s directives (entry_place true role column) cursor
-    → PairsTake s own directives pairs (deeper s.indent (Some column)) (render_properties s.portable directives start.anchor
-    (collection_tag s.canonical start) false cursor).cursor
-    → NodeTakes s own directives role column cursor (mapping_node start pairs)
-mapping_step s own directives fits role column cursor start no_pairs names bodies take =
-    empty_step s own directives _ cursor _ start 0x7B 0x7D (λ tag. mapping_tree start.anchor tag no_tree_pairs) names.0 names.1
-    (class_fixed s.breaks12 0x7B refl) refl refl refl (record { white = refl; indention = and-false _ })
-    (λ text h. fits (mapping_node start no_pairs) role column cursor text h names bodies)
-mapping_step s own directives fits role column cursor start (pairs_and pairs key value) names bodies take =
-    let trees = pairs_tree (pairs_and pairs key value) s directives true in
-    collection_step s own directives _ cursor start 0x7B _ _ (λ anchor tag. in_mapping anchor tag trees no_key) _ names.0 names.1
-    (class_fixed s.breaks12 0x7B refl) refl take (λ levels. mapping_ends (rules_of s own) s _ _ trees levels (Some column) _)
-    (no_simple_key (is_key role) s.canonical)

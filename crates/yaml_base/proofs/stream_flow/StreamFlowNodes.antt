@@ -1,11 +1,14 @@
 -- Each node of the layout that stands in flow takes the reader of flow collections to its place with its tree.
 use Rattle.yaml_base.proofs.Common.{arith, ℕ, Option, Some, codes, Bool, false, true, ◌&&◌, List, [], ◌++◌, ◌∷◌, refl, ◌≡◌, append-nil, append_assoc, ap, subst}
-use Rattle.yaml_base.proofs.Common.{sym, ◌∙◌, Text, Cursor, Rendered, space_if, indicator, TagDirective, collection_tag, Node, alias_node, scalar_node, Nodes}
-use Rattle.yaml_base.proofs.Common.{sequence_node, Pairs, mapping_node, no_nodes, nodes_and, no_pairs, pairs_and, render_properties, entry_place, Role, as_item}
+use Rattle.yaml_base.proofs.Common.{sym, ◌∙◌, Text, Cursor, Rendered, space_if, indicator, TagDirective, Node, alias_node, scalar_node, Nodes}
+use Rattle.yaml_base.proofs.Common.{sequence_node, Pairs, mapping_node, no_nodes, nodes_and, no_pairs, pairs_and, entry_place, Role, as_item}
 use Rattle.yaml_base.proofs.Common.{as_key, as_value, is_key, deeper, has_no_nodes, has_no_pairs, is_simple, flow_break, key_indicator, render_flow_place}
-use Rattle.yaml_base.proofs.Common.{render_place, Effective, Tree, TreePairs, no_trees, tree_pairs_and, no_key, in_mapping, Rules}
-use Rattle.yaml_base.proofs.stream_flow.{StreamFlowScalars.rules_of, StreamFlowTakes.FlowNode}
-use Rattle.yaml_base.proofs.stream_flow.StreamFlowKinds.{KeysFit, NodeTakes, alias_step, scalar_step, ItemsTake, PairsTake, sequence_step, mapping_step}
+use Rattle.yaml_base.proofs.Common.{render_place, Effective, Tree, TreePairs, no_trees, no_tree_pairs, tree_pairs_and, sequence_tree, mapping_tree, no_key}
+use Rattle.yaml_base.proofs.Common.{in_sequence, in_mapping, Rules, and-false}
+use Rattle.yaml_base.proofs.stream_flow.{StreamFlowScalars.rules_of, StreamSays.class_fixed}
+use Rattle.yaml_base.proofs.stream_flow.StreamFlowTakes.{FlowNode, sequence_ends, mapping_ends}
+use Rattle.yaml_base.proofs.stream_flow.StreamFlowKinds.{KeysFit, NodeTakes, alias_step, scalar_step, ItemsTake, PairsTake, empty_step, collection_step}
+use Rattle.yaml_base.proofs.stream_flow.StreamFlowKinds.{no_simple_key}
 use Rattle.yaml_base.proofs.stream_flow.StreamFlowPairs.{FlowEntry, item_entry, simple_pair_entry, long_pair_entry, first_entry, next_entry}
 use Rattle.yaml_base.proofs.stream_nodes.StreamAgrees.{node_tree, nodes_tree, pairs_tree}
 use Rattle.yaml_base.proofs.stream_nodes.StreamStands.{NamesStand, AllNamesStand, PairsNamesStand, BodyStands, BodiesHold, ItemsHold, PairsHold}
@@ -99,12 +102,24 @@ module _ (s : Effective) (own directives : List TagDirective) (fits : KeysFit s 
         alias_step s own directives fits role column cursor name names (is_key role && is_simple s.canonical directives (alias_node name)) refl
     node_flow (scalar_node content) role column cursor names bodies =
         scalar_step s own directives fits role column cursor content names bodies
-    node_flow (sequence_node start items) role column cursor names bodies =
-        sequence_step s own directives fits role column cursor start items names bodies (items_flow items (deeper s.indent (Some column))
-        (render_properties s.portable directives start.anchor (collection_tag s.canonical start) false cursor).cursor names.2 bodies)
-    node_flow (mapping_node start pairs) role column cursor names bodies =
-        mapping_step s own directives fits role column cursor start pairs names bodies (pairs_flow pairs (deeper s.indent (Some column))
-        (render_properties s.portable directives start.anchor (collection_tag s.canonical start) false cursor).cursor names.2 bodies)
+    node_flow (sequence_node start no_nodes) role column cursor names bodies =
+        empty_step s own directives _ cursor _ start 0x5B 0x5D (λ tag. sequence_tree start.anchor tag no_trees) names.0 names.1
+        (class_fixed s.breaks12 0x5B refl) refl refl refl (record { white = refl; indention = and-false _ })
+        (λ text h. fits (sequence_node start no_nodes) role column cursor text h names bodies)
+    node_flow (sequence_node start (nodes_and items last)) role column cursor names bodies =
+        let trees = nodes_tree (nodes_and items last) s directives true in
+        collection_step s own directives _ cursor start 0x5B _ _ (λ anchor tag. in_sequence anchor tag trees) _ names.0 names.1
+        (class_fixed s.breaks12 0x5B refl) refl (items_flow (nodes_and items last) (deeper s.indent (Some column)) _ names.2 bodies)
+        (λ levels. sequence_ends (rules_of s own) s _ _ trees levels (Some column) _) (no_simple_key (is_key role) s.canonical)
+    node_flow (mapping_node start no_pairs) role column cursor names bodies =
+        empty_step s own directives _ cursor _ start 0x7B 0x7D (λ tag. mapping_tree start.anchor tag no_tree_pairs) names.0 names.1
+        (class_fixed s.breaks12 0x7B refl) refl refl refl (record { white = refl; indention = and-false _ })
+        (λ text h. fits (mapping_node start no_pairs) role column cursor text h names bodies)
+    node_flow (mapping_node start (pairs_and pairs key value)) role column cursor names bodies =
+        let trees = pairs_tree (pairs_and pairs key value) s directives true in
+        collection_step s own directives _ cursor start 0x7B _ _ (λ anchor tag. in_mapping anchor tag trees no_key) _ names.0 names.1
+        (class_fixed s.breaks12 0x7B refl) refl (pairs_flow (pairs_and pairs key value) (deeper s.indent (Some column)) _ names.2 bodies)
+        (λ levels. mapping_ends (rules_of s own) s _ _ trees levels (Some column) _) (no_simple_key (is_key role) s.canonical)
 
     pub items_flow : (items : Nodes) (column : ℕ) (cursor : Cursor) → AllNamesStand s.portable own s.canonical directives items
         → ItemsHold (BodyStands s) items s directives true column cursor → ItemsTake s own directives items column cursor

@@ -2,11 +2,11 @@
 use Rattle.yaml_base.proofs.Common.{ℕ, if◌then◌else◌, ◌==◌, option_map, Option, None, Some, codes, Bool, false, not, true, ◌&&◌, [], ◌++◌, ◌∷◌, refl, ◌≡◌}
 use Rattle.yaml_base.proofs.Common.{true≢false, ap, ◌∙◌, arith, and_parts, or_parts, false≢true, nat_tests, list_all, Text, is_among, is_alpha, ScalarStyle}
 use Rattle.yaml_base.proofs.Common.{plain, is_read_white, holds_no_plain, Properties, read_plain, ParsedTag, has_clean_edges, is_tidy, is_plain, Tree}
-use Rattle.yaml_base.proofs.Common.{alias_tree, scalar_tree, Rules, name_read, collection_tag_parsed}
-use Rattle.yaml_base.proofs.Common.{tagging_of, stood_in_style, scalar_parsed, scalar_of_style, word_by_kind, word_after, word_read, word, FlowStep}
-use Rattle.yaml_base.proofs.{Common.begins_plain, Common.begins_bracket, Common.is_pair, Common.class_of, Common.begun_token, Common.flow_tokens, stream_keys.StreamAliasKeys.alias_word}
-use Rattle.yaml_base.proofs.{stream_lines.StreamTidyLaws.tidy_at_root, stream_nodes.StreamAgrees.tagging_in, stream_nodes.StreamLeads.lead_then}
-use Rattle.yaml_base.proofs.{stream_nodes.StreamStands.tag_meant, stream_flow.StreamSays.Says, stream_flow.StreamSays.class_fixed}
+use Rattle.yaml_base.proofs.Common.{alias_tree, scalar_tree, Rules, name_read, collection_tag_parsed, tagging_of, stood_in_style, scalar_parsed}
+use Rattle.yaml_base.proofs.Common.{scalar_of_style, word_by_kind, word_after, word_read, word, FlowStep, begins_plain, begins_bracket, is_pair, class_of}
+use Rattle.yaml_base.proofs.{Common.begun_token, Common.flow_tokens, stream_keys.StreamAliasKeys.alias_word, stream_lines.StreamTidyLaws.tidy_at_root}
+use Rattle.yaml_base.proofs.{stream_nodes.StreamAgrees.tagging_in, stream_nodes.StreamLeads.lead_then, stream_nodes.StreamStands.tag_meant}
+use Rattle.yaml_base.proofs.{stream_flow.StreamSays.Says, stream_flow.StreamSays.class_fixed}
 use Rattle.yaml_base.proofs.stream_lines.StreamCuts.{none_not_some, quote_of, quoted_in, read_quoted}
 use Rattle.yaml_base.proofs.stream_flow.StreamPlainWords.{stays_plain, is_white_class, all_stay, ends_shown, plain_text_word}
 use Rattle.yaml_base.proofs.stream_flow.StreamPropertyWords.{lead, lead_passes, Leads, says_quoted_after, says_plain_after, says_empty_after}
