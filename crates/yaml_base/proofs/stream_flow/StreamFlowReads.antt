@@ -1,5 +1,5 @@
 -- The text of a collection in flow, after its properties, is read as the collection's tree.
-use Rattle.yaml_base.proofs.Common.{arith, ℕ, option_map, Option, None, Some, codes, Bool, false, true, ◌&&◌, List, [], ◌++◌, ◌∷◌, refl, ◌≡◌, append-nil}
+use Rattle.yaml_base.proofs.Common.{arith, ℕ, option_map, Option, None, Some, codes, Bool, false, true, List, [], ◌++◌, ◌∷◌, refl, ◌≡◌, append-nil}
 use Rattle.yaml_base.proofs.Common.{append_assoc, ap, sym, ◌∙◌, and_parts, false≢true, list_all, Text, Cursor, Rendered, new_line, space_if, indicator}
 use Rattle.yaml_base.proofs.Common.{TagDirective, Collection, collection_tag, Nodes, sequence_node, Pairs, mapping_node, no_nodes, nodes_and, no_pairs}
 use Rattle.yaml_base.proofs.Common.{pairs_and, render_properties, is_written_in_flow, Brackets, square, curly, render_end, Place, is_undented, line_column}
@@ -266,24 +266,14 @@ sequence_content : (s : Effective) (own directives : List TagDirective) (column 
     → FlowReads s own directives start cursor (collection_own s square true undented (has_no_nodes items) column begun (items_own items s directives true))
     (sequence_tree start.anchor (collection_tag s.canonical start) (nodes_tree items s directives true)))
 sequence_content s own directives column undented cursor start no_nodes take =
-    let tag = collection_tag s.canonical start in
-    let properties = render_properties s.portable directives start.anchor tag false cursor in
-    empty_content (rules_of s own) cursor properties (collection_own s square true undented true column properties (items_own no_nodes s directives true))
-    start.anchor (tag_written s.portable directives tag false) tag 0x5B 0x5D (sequence_tree start.anchor tag no_trees)
-    (lead_rendered s.portable directives start.anchor tag false cursor) refl
-    (record { white = refl; indention = and-false (properties.cursor.indention && false) })
-    (square_brackets (rules_of s own)) refl
-    (ap (option_map (λ tag. sequence_tree start.anchor tag no_trees)) (tag_of_collection tag))
+    empty_content (rules_of s own) cursor (render_properties s.portable directives start.anchor (collection_tag s.canonical start) false cursor) _ _ _ _ 0x5B 0x5D
+    _ (lead_rendered s.portable directives _ _ false cursor) refl (record { white = refl; indention = and-false _ }) (square_brackets _) refl
+    (ap (option_map (λ tag. sequence_tree start.anchor tag no_trees)) (tag_of_collection _))
 sequence_content s own directives column undented cursor start (nodes_and items last) take =
-    let tag = collection_tag s.canonical start in
-    let properties = render_properties s.portable directives start.anchor tag false cursor in
-    let entries = items_own (nodes_and items last) s directives true (deeper s.indent column) properties.cursor in
     let trees = nodes_tree (nodes_and items last) s directives true in
-    whole_content (rules_of s own) cursor properties entries (render_end s square true false column entries.cursor) 0x5B 0x5D
-    start.anchor (tag_written s.portable directives tag false) tag (λ anchor tag. in_sequence anchor tag trees) (sequence_tree start.anchor tag trees)
-    (lead_rendered s.portable directives start.anchor tag false cursor) (square_brackets (rules_of s own)) take
-    (closing_rendered (rules_of s own) s (in_sequence start.anchor tag trees) square 0x5D
-    (sequence_tree start.anchor tag trees) column entries.cursor refl refl refl)
+    whole_content (rules_of s own) cursor (render_properties s.portable directives start.anchor (collection_tag s.canonical start) false cursor) _ _ 0x5B 0x5D
+    _ _ _ (λ anchor tag. in_sequence anchor tag trees) _ (lead_rendered s.portable directives _ _ false cursor) (square_brackets _) take
+    (closing_rendered _ s _ square 0x5D _ column _ refl refl refl)
 
 -- a mapping, where its pairs do
 mapping_content : (s : Effective) (own directives : List TagDirective) (column : Option ℕ) (cursor : Cursor) (start : Collection) (pairs : Pairs)
@@ -292,24 +282,14 @@ mapping_content : (s : Effective) (own directives : List TagDirective) (column :
     → FlowReads s own directives start cursor (collection_own s curly true false (has_no_pairs pairs) column begun (pairs_own pairs s directives true))
     (mapping_tree start.anchor (collection_tag s.canonical start) (pairs_tree pairs s directives true)))
 mapping_content s own directives column cursor start no_pairs take =
-    let tag = collection_tag s.canonical start in
-    let properties = render_properties s.portable directives start.anchor tag false cursor in
-    empty_content (rules_of s own) cursor properties (collection_own s curly true false true column properties (pairs_own no_pairs s directives true))
-    start.anchor (tag_written s.portable directives tag false) tag 0x7B 0x7D (mapping_tree start.anchor tag no_tree_pairs)
-    (lead_rendered s.portable directives start.anchor tag false cursor) refl
-    (record { white = refl; indention = and-false (properties.cursor.indention && false) })
-    (curly_brackets (rules_of s own)) refl
-    (ap (option_map (λ tag. mapping_tree start.anchor tag no_tree_pairs)) (tag_of_collection tag))
+    empty_content (rules_of s own) cursor (render_properties s.portable directives start.anchor (collection_tag s.canonical start) false cursor) _ _ _ _ 0x7B 0x7D
+    _ (lead_rendered s.portable directives _ _ false cursor) refl (record { white = refl; indention = and-false _ }) (curly_brackets _) refl
+    (ap (option_map (λ tag. mapping_tree start.anchor tag no_tree_pairs)) (tag_of_collection _))
 mapping_content s own directives column cursor start (pairs_and pairs key value) take =
-    let tag = collection_tag s.canonical start in
-    let properties = render_properties s.portable directives start.anchor tag false cursor in
-    let entries = pairs_own (pairs_and pairs key value) s directives true (deeper s.indent column) properties.cursor in
     let trees = pairs_tree (pairs_and pairs key value) s directives true in
-    whole_content (rules_of s own) cursor properties entries (render_end s curly true false column entries.cursor) 0x7B 0x7D
-    start.anchor (tag_written s.portable directives tag false) tag (λ anchor tag. in_mapping anchor tag trees no_key) (mapping_tree start.anchor tag trees)
-    (lead_rendered s.portable directives start.anchor tag false cursor) (curly_brackets (rules_of s own)) take
-    (closing_rendered (rules_of s own) s (in_mapping start.anchor tag trees no_key) curly 0x7D
-    (mapping_tree start.anchor tag trees) column entries.cursor refl refl refl)
+    whole_content (rules_of s own) cursor (render_properties s.portable directives start.anchor (collection_tag s.canonical start) false cursor) _ _ 0x7B 0x7D
+    _ _ _ (λ anchor tag. in_mapping anchor tag trees no_key) _ (lead_rendered s.portable directives _ _ false cursor) (curly_brackets _) take
+    (closing_rendered _ s _ curly 0x7D _ column _ refl refl refl)
 
 -- a sequence that is written in flow is read as its tree after its properties, wherever it stands
 pub sequence_reads : (s : Effective) (own directives : List TagDirective) → KeysFit s own directives → (place : Place) (cursor : Cursor) (start : Collection)
