@@ -206,7 +206,6 @@ pub sequence_deep : (s : Effective) (own directives : List TagDirective) (count 
     → BodiesHold (BodyStands s) (sequence_node start items) s directives place cursor
     → Deep s.breaks12 count (node_own (sequence_node start items) s directives place cursor).text
 sequence_deep s own directives count place cursor start items le ends in_flow names bodies =
-    let begun = render_properties s.portable directives start.anchor (collection_tag s.canonical start) false cursor in
     rw in_flow (collection_deep s own _ count square _ _ (has_no_nodes items) _ cursor _ refl refl ends names.0 names.1
     (items_deep s own _ count items _ _ le names.2 (rw in_flow at bodies)))
 
@@ -217,6 +216,5 @@ pub mapping_deep : (s : Effective) (own directives : List TagDirective) (count :
     → BodiesHold (BodyStands s) (mapping_node start pairs) s directives place cursor
     → Deep s.breaks12 count (node_own (mapping_node start pairs) s directives place cursor).text
 mapping_deep s own directives count place cursor start pairs le ends in_flow names bodies =
-    let begun = render_properties s.portable directives start.anchor (collection_tag s.canonical start) false cursor in
     rw in_flow (collection_deep s own _ count curly _ _ (has_no_pairs pairs) _ cursor _ refl refl ends names.0 names.1
     (pairs_deep s own _ count pairs _ _ le names.2 (rw in_flow at bodies)))

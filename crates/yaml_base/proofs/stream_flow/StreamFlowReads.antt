@@ -266,13 +266,13 @@ sequence_content : (s : Effective) (own directives : List TagDirective) (column 
     → FlowReads s own directives start cursor (collection_own s square true undented (has_no_nodes items) column begun (items_own items s directives true))
     (sequence_tree start.anchor (collection_tag s.canonical start) (nodes_tree items s directives true)))
 sequence_content s own directives column undented cursor start no_nodes take =
-    empty_content (rules_of s own) cursor (render_properties s.portable directives start.anchor (collection_tag s.canonical start) false cursor) _ _ _ _ 0x5B 0x5D
-    _ (lead_rendered s.portable directives _ _ false cursor) refl (record { white = refl; indention = and-false _ }) (square_brackets _) refl
+    empty_content (rules_of s own) cursor (render_properties s.portable directives start.anchor (collection_tag s.canonical start) false cursor) _ _ _ _
+    0x5B 0x5D _ (lead_rendered s.portable directives _ _ false cursor) refl (record { white = refl; indention = and-false _ }) (square_brackets _) refl
     (ap (option_map (λ tag. sequence_tree start.anchor tag no_trees)) (tag_of_collection _))
 sequence_content s own directives column undented cursor start (nodes_and items last) take =
     let trees = nodes_tree (nodes_and items last) s directives true in
-    whole_content (rules_of s own) cursor (render_properties s.portable directives start.anchor (collection_tag s.canonical start) false cursor) _ _ 0x5B 0x5D
-    _ _ _ (λ anchor tag. in_sequence anchor tag trees) _ (lead_rendered s.portable directives _ _ false cursor) (square_brackets _) take
+    whole_content (rules_of s own) cursor (render_properties s.portable directives start.anchor (collection_tag s.canonical start) false cursor) _ _
+    0x5B 0x5D _ _ _ (λ anchor tag. in_sequence anchor tag trees) _ (lead_rendered s.portable directives _ _ false cursor) (square_brackets _) take
     (closing_rendered _ s _ square 0x5D _ column _ refl refl refl)
 
 -- a mapping, where its pairs do
@@ -282,13 +282,13 @@ mapping_content : (s : Effective) (own directives : List TagDirective) (column :
     → FlowReads s own directives start cursor (collection_own s curly true false (has_no_pairs pairs) column begun (pairs_own pairs s directives true))
     (mapping_tree start.anchor (collection_tag s.canonical start) (pairs_tree pairs s directives true)))
 mapping_content s own directives column cursor start no_pairs take =
-    empty_content (rules_of s own) cursor (render_properties s.portable directives start.anchor (collection_tag s.canonical start) false cursor) _ _ _ _ 0x7B 0x7D
-    _ (lead_rendered s.portable directives _ _ false cursor) refl (record { white = refl; indention = and-false _ }) (curly_brackets _) refl
+    empty_content (rules_of s own) cursor (render_properties s.portable directives start.anchor (collection_tag s.canonical start) false cursor) _ _ _ _
+    0x7B 0x7D _ (lead_rendered s.portable directives _ _ false cursor) refl (record { white = refl; indention = and-false _ }) (curly_brackets _) refl
     (ap (option_map (λ tag. mapping_tree start.anchor tag no_tree_pairs)) (tag_of_collection _))
 mapping_content s own directives column cursor start (pairs_and pairs key value) take =
     let trees = pairs_tree (pairs_and pairs key value) s directives true in
-    whole_content (rules_of s own) cursor (render_properties s.portable directives start.anchor (collection_tag s.canonical start) false cursor) _ _ 0x7B 0x7D
-    _ _ _ (λ anchor tag. in_mapping anchor tag trees no_key) _ (lead_rendered s.portable directives _ _ false cursor) (curly_brackets _) take
+    whole_content (rules_of s own) cursor (render_properties s.portable directives start.anchor (collection_tag s.canonical start) false cursor) _ _
+    0x7B 0x7D _ _ _ (λ anchor tag. in_mapping anchor tag trees no_key) _ (lead_rendered s.portable directives _ _ false cursor) (curly_brackets _) take
     (closing_rendered _ s _ curly 0x7D _ column _ refl refl refl)
 
 -- a sequence that is written in flow is read as its tree after its properties, wherever it stands
@@ -299,7 +299,6 @@ pub sequence_reads : (s : Effective) (own directives : List TagDirective) → Ke
     → FlowReads s own directives start cursor (node_own (sequence_node start items) s directives place cursor)
     (node_tree (sequence_node start items) s directives place)
 sequence_reads s own directives fits place cursor start items in_flow names bodies =
-    let begun = render_properties s.portable directives start.anchor (collection_tag s.canonical start) false cursor in
     rw in_flow (sequence_content s own directives place.column (is_undented s place.role) cursor start items
     (items_flow s own _ fits items _ _ names.2 (rw in_flow at bodies)))
 
