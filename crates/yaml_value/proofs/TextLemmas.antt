@@ -1,6 +1,6 @@
 -- The layout of a value's events, under the settings of canonical values, is its canonical text.
-use Rattle.yaml_base.proofs.Common.{ℕ, ◌+◌, ◌==◌, Bool, true, false, not, ◌&&◌, ◌||◌, Option, None, Some, List, [], ◌∷◌, ◌++◌, refl, ◌≡◌, ap, subst, sym, ◌∙◌}
-use Rattle.yaml_base.proofs.Common.{append_assoc, append-nil, codes, if◌then◌else◌, true≢false, Text, space, Cursor, Rendered, render_then, render_nothing, cut}
+use Rattle.yaml_base.proofs.Common.{ℕ, ◌+◌, ◌==◌, Bool, true, false, ◌&&◌, Option, None, Some, List, [], ◌∷◌, ◌++◌, refl, ◌≡◌, ap, subst, sym, ◌∙◌}
+use Rattle.yaml_base.proofs.Common.{append_assoc, append-nil, codes, if◌then◌else◌, true≢false, Text, space, Cursor, Rendered, render_then, cut}
 use Rattle.yaml_base.proofs.Common.{Standing, RenderedPieces, Piece, text_of, piece_text, one_piece, then_pieces, Place, root_place, entry_place, Role, as_item}
 use Rattle.yaml_base.proofs.Common.{as_key, as_value, is_key, render_place, line_column, deeper, is_written_in_flow, has_no_nodes, has_no_pairs, render_node}
 use Rattle.yaml_base.proofs.Common.{render_nodes, render_pairs, layout, Effective, effective, directives_in_force, TagDirective, character_text, double_inside}
@@ -10,12 +10,12 @@ use Rattle.yaml_base.specs.Event.{Collection, Scalar, any_style}
 use Rattle.yaml_base.specs.Grammar.{scalar_node}
 use Rattle.yaml_base.specs.NodeLayout.{body_text, end_piece, render_collection, scalar_piece}
 use Rattle.yaml_base.specs.graphs.Meetings.{mapping_tag, sequence_tag, string_tag}
-use Rattle.yaml_base.specs.scalars.DoubleQuoted.{double_fold, is_other, may_fold, quote}
+use Rattle.yaml_base.specs.scalars.DoubleQuoted.{double_fold, may_fold, quote}
 use Rattle.yaml_base.specs.Characters.{is_space}
 use Rattle.yaml_base.specs.values.TypedValues.{TypedValue, null_value, bool_value, int_value, text_value, list_value, map_value, TypedValues, no_values}
 use Rattle.yaml_base.specs.values.TypedValues.{values_and, TypedPairs, no_value_pairs, value_pairs_and, null_tag, bool_tag, int_tag, bool_text, value_node}
-use Rattle.yaml_base.specs.values.TypedValues.{value_nodes, value_pairs, value_stream, typed_settings, tagged_collection, value_events, typed_output}
-use Rattle.yaml_base.proofs.Common.{document_start_piece, document_end_piece, stream_end_piece, first_standing, Stream, list_layout, stream_events, tree_of}
+use Rattle.yaml_base.specs.values.TypedValues.{value_nodes, value_pairs, value_stream, typed_settings, tagged_collection, typed_output}
+use Rattle.yaml_base.proofs.Common.{document_start_piece, document_end_piece, stream_end_piece, first_standing, Stream}
 use Rattle.yaml_base.proofs.Common.{with_breaks_written, line_feed_break, encode, option_map, unwrap_or, bytes_written, eqb-true, arith, length, nat_tests}
 use Rattle.yaml_base.proofs.Trees.{tree_of-stream_events}
 use Rattle.std.specs.Fmt.{signed_decimal}

@@ -1,14 +1,14 @@
 -- What a writer was given, call by call.
 use Rattle.yaml_writer.proofs.Common.{ℕ, is_none, IfErr, OnOk, Option, Result, Err, Ok, Bool, false, List, [], ◌++◌, ◌∷◌, refl, ◌≡◌, inr, ap, ap₂}
-use Rattle.yaml_writer.proofs.Common.{subst, sym, ◌∙◌, Text, plain, Event, scalar, sequence_start, mapping_start, JsonNumber, yaml_number, State}
+use Rattle.yaml_writer.proofs.Common.{subst, sym, ◌∙◌, Text, plain, Event, scalar, JsonNumber, yaml_number, State}
 use Rattle.yaml_writer.proofs.Common.{IsNumber, WriterState, end_event, AddsEvents, GaveEvent}
 use Rattle.yaml_base.proofs.Common.{inl, ScalarStyle}
 use Rattle.yaml_writer.specs.WasGiven.{GivenLeaving, IsBare, WasGiven, WroteEvent, start_event}
 use Rattle.yaml_writer.proofs.{PartLemmas.number_found, Finishing.nothing_awaited}
 use Rattle.yaml_writer.specs.NumberParts.{number_in}
-use Rattle.yaml_writer.specs.Writing.{number_tag, number_event, text_style, text_event, mapping_event, sequence_event, with_collection, EndsInnermost}
-use Rattle.yaml_base.specs.{Event.CollectionStyle, declared.kinds.CollectionKind.CollectionKind}
-use Rattle.yaml_writer.specs.Contents.{style_of, word_content, number_content, text_content, collection_in}
+use Rattle.yaml_writer.specs.Writing.{number_tag, number_event, text_style, text_event, with_collection, EndsInnermost}
+use Rattle.yaml_base.specs.{declared.kinds.CollectionKind.CollectionKind}
+use Rattle.yaml_writer.specs.Contents.{word_content, number_content, text_content}
 use Rattle.yaml_writer.specs.Writing.{tag_or_default, word_event, awaits_node}
 use Rattle.yaml_emitter.proofs.standing.Moving.{moves_then}
 use Rattle.yaml_writer.proofs.Taken.{adds_nothing, moves_add}

@@ -1,4 +1,4 @@
-use Rattle.yaml_value.proofs.Common.{List, [], ◌∷◌, ◌+◌, length, map, ◌≡◌, refl, ap, sym, ◌∙◌, arith, seen_value}
+use Rattle.yaml_value.proofs.Common.{List, [], ◌∷◌, length, map, ◌≡◌, refl, ap, sym, ◌∙◌, arith, seen_value}
 use Rattle.yaml_base.proofs.Common.{Option, None, Some, option_map, drop}
 use Rattle.yaml_base.specs.Event.{sequence_end, mapping_end}
 use Rattle.yaml_base.specs.values.TypedValues.{TypedValue}
