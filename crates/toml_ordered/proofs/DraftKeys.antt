@@ -1,25 +1,21 @@
 -- A table while it is read beside the keys and values that it stands for.
 use Rattle.std.proofs.Common.{◌≡◌, ℕ, zero, suc, ◌+◌, ◌<◌, ◌≤◌, ◌==◌, true, false, Bool, List, [], ◌∷◌, ◌++◌, map, length, Option, Some}
-use Rattle.std.proofs.Common.{None, cond, String, Result, Ok, Err, ap₂, option_map, Vec, BTreeMap, Global, string_bytes, bytes_eq, refl, sym, ap, subst, ◌∙◌}
+use Rattle.std.proofs.Common.{None, cond, String, Vec, BTreeMap, Global, string_bytes, bytes_eq, refl, sym, ap, subst, ◌∙◌}
 use Rattle.std.proofs.Common.{inl, inr, rules, arith, set, get_or}
 use Rattle.std.proofs.lemmas.List.{length-append, append_assoc}
 use Rattle.std.proofs.lemmas.Bool.{cases_Bool, eq-eqb, eqb-true, false≢true}
 use Rattle.std.proofs.lemmas.Slice.Eq.{bytes_eq-Decides}
 use Rattle.std.specs.BTreeMap.{get_by_text}
 use Rattle.std.specs.Map.{update}
-use Rattle.toml_ordered.specs.declared.drafts.Draft.{Draft as CodeDraft, Table as DraftTable, Tables as DraftTables, Value as DraftValue}
+use Rattle.toml_ordered.specs.declared.drafts.Draft.{Draft as CodeDraft, Table as DraftTable, Tables as DraftTables}
 use Rattle.toml_ordered.specs.declared.drafts.Draft.{fold-Draft, the_lemmas}
 use Rattle.toml_ordered.specs.declared.drafts.Draft.TheOpen.{Draft-F}
 use Rattle.toml_ordered.specs.declared.tree.Node.{Node as CodeNode}
 use Rattle.toml_ordered.specs.declared.tree.Origin.{Origin}
-use Rattle.toml_ordered.specs.declared.route.Way.{Way}
-use Rattle.toml_ordered.specs.declared.route.Way.TheVariants as way
-use Rattle.toml_ordered.specs.Data.{TomlNode, string, integer, decimal, infinity, not_a_number, boolean, datetime, array, table}
-use Rattle.toml_ordered.specs.Data.{tables, TomlNodes, items_view, node_view}
-use Rattle.toml_ordered.specs.Drafts.{sealed, is_place, kept, nodes_from, draft_view, drafts_view, keys_view, HasKey, IsIndexedAt}
-use Rattle.toml_ordered.specs.Reading.{ParsesTo}
-use Rattle.toml_ordered.specs.declared.fault.Fault.{Fault}
-use Rattle.toml_ordered.specs.Tables.{Definition, key_value, std_table, array_table, Edit, passed, redefine, get_node, append, replace}
+use Rattle.toml_ordered.specs.Data.{TomlNode, table}
+use Rattle.toml_ordered.specs.Data.{tables, TomlNodes, items_view}
+use Rattle.toml_ordered.specs.Drafts.{is_place, kept, nodes_from, draft_view, drafts_view, keys_view, HasKey, IsIndexedAt}
+use Rattle.toml_ordered.specs.Tables.{get_node, append, replace}
 
 abbrev pub Draft : Type 0
 Draft = String Global × CodeDraft × ℕ
@@ -337,9 +333,6 @@ turn_room gone left rest all e steps whole =
 
 -- ---- values
 
-pub draft_view-Value : (x : CodeNode) → draft_view (DraftValue x) ≡ sealed (node_view x)
-draft_view-Value x = search (rules, the_lemmas)
-
 pub draft_view-Table : (origin : Origin) (keys : Vec Draft Global) (index : Places)
     → draft_view (DraftTable origin keys index) ≡ table origin (keys_view keys.items index)
 draft_view-Table origin keys index = search (rules, the_lemmas)
@@ -347,103 +340,3 @@ draft_view-Table origin keys index = search (rules, the_lemmas)
 pub draft_view-Tables : (done : Vec CodeNode Global) (last : Vec Draft Global) (index : Places)
     → draft_view (DraftTables done last index) ≡ tables (items_view done.items) (keys_view last.items index)
 draft_view-Tables done last index = search (rules, the_lemmas)
-
-pub sealed_passes : (by : Way) (edit : Edit) (x : TomlNode) → passed by edit (sealed x) ≡ None
-sealed_passes way.Header edit (string text) = refl
-sealed_passes way.Header edit (integer z) = refl
-sealed_passes way.Header edit (decimal word) = refl
-sealed_passes way.Header edit (infinity negative) = refl
-sealed_passes way.Header edit not_a_number = refl
-sealed_passes way.Header edit (boolean flag) = refl
-sealed_passes way.Header edit (datetime date) = refl
-sealed_passes way.Header edit (array items) = refl
-sealed_passes way.Header edit (table origin keys) = refl
-sealed_passes way.Header edit (tables done last) = refl
-sealed_passes way.Dots edit (string text) = refl
-sealed_passes way.Dots edit (integer z) = refl
-sealed_passes way.Dots edit (decimal word) = refl
-sealed_passes way.Dots edit (infinity negative) = refl
-sealed_passes way.Dots edit not_a_number = refl
-sealed_passes way.Dots edit (boolean flag) = refl
-sealed_passes way.Dots edit (datetime date) = refl
-sealed_passes way.Dots edit (array items) = refl
-sealed_passes way.Dots edit (table origin keys) = refl
-sealed_passes way.Dots edit (tables done last) = refl
-
-pub sealed_stays : (what : Definition) (x : TomlNode) → redefine what (sealed x) ≡ None
-sealed_stays (key_value y) x = refl
-sealed_stays std_table (string text) = refl
-sealed_stays std_table (integer z) = refl
-sealed_stays std_table (decimal word) = refl
-sealed_stays std_table (infinity negative) = refl
-sealed_stays std_table not_a_number = refl
-sealed_stays std_table (boolean flag) = refl
-sealed_stays std_table (datetime date) = refl
-sealed_stays std_table (array items) = refl
-sealed_stays std_table (table origin keys) = refl
-sealed_stays std_table (tables done last) = refl
-sealed_stays array_table (string text) = refl
-sealed_stays array_table (integer z) = refl
-sealed_stays array_table (decimal word) = refl
-sealed_stays array_table (infinity negative) = refl
-sealed_stays array_table not_a_number = refl
-sealed_stays array_table (boolean flag) = refl
-sealed_stays array_table (datetime date) = refl
-sealed_stays array_table (array items) = refl
-sealed_stays array_table (table origin keys) = refl
-sealed_stays array_table (tables done last) = refl
-
--- ---- a table, or the last of an array, after a key passed into it
-
-pub table_is : (was : CodeDraft) (o o' : Origin) (ks ks' : Vec Draft Global) (is is' : Places) → was ≡ DraftTable o ks is → o' ≡ o → ks' ≡ ks → is' ≡ is
-    → was ≡ DraftTable o' ks' is'
-table_is was o o' ks ks' is is' same a b c = cc
-
-pub tables_is : (was : CodeDraft) (xs xs' : Vec CodeNode Global) (ks ks' : Vec Draft Global) (is is' : Places) → was ≡ DraftTables xs ks is → xs' ≡ xs
-    → ks' ≡ ks → is' ≡ is → was ≡ DraftTables xs' ks' is'
-tables_is was xs xs' ks ks' is is' same a b c = cc
-
-pub refuses_table : (by : Way) (edit : Edit) (was : CodeDraft) (origin : Origin) (old : Vec Draft Global) (before : Places) → was ≡ DraftTable origin old before
-    → ((inner : TomlNodes) → passed by edit (table origin inner) ≡ None) → passed by edit (draft_view was) ≡ None
-refuses_table by edit was origin old before is refuses =
-    ap (λ (d : CodeDraft). passed by edit (draft_view d)) is ∙ ap (passed by edit) (draft_view-Table origin old before) ∙ refuses (keys_view old.items before)
-
-pub refuses_tables : (by : Way) (edit : Edit) (was : CodeDraft) (all : Vec CodeNode Global) (old : Vec Draft Global) (before : Places)
-    → was ≡ DraftTables all old before → by ≡ way.Dots → passed by edit (draft_view was) ≡ None
-refuses_tables by edit was all old before is dots =
-    ap₂ (λ (w : Way) (d : CodeDraft). passed w edit (draft_view d)) dots is ∙ ap (passed way.Dots edit) (draft_view-Tables all old before)
-
-pub refuses_value : (by : Way) (edit : Edit) (was : CodeDraft) (x : CodeNode) → was ≡ DraftValue x → passed by edit (draft_view was) ≡ None
-refuses_value by edit was x is =
-    ap (λ (d : CodeDraft). passed by edit (draft_view d)) is ∙ ap (passed by edit) (draft_view-Value x) ∙ sealed_passes by edit (node_view x)
-
-pub passes_table : (by : Way) (edit : Edit) (was : CodeDraft) (origin after : Origin) (old new : Vec Draft Global) (before index : Places)
-    (r : Result (Unit {0}) Fault) → was ≡ DraftTable origin old before
-    → ((inner : TomlNodes) → passed by edit (table origin inner) ≡ option_map (table after) (edit inner))
-    → ParsesTo (λ _. keys_view new.items index) r (edit (keys_view old.items before))
-    → ParsesTo (λ _. draft_view (DraftTable after new index)) r (passed by edit (draft_view was))
-passes_table by edit was origin after old new before index r is passes = done r
-  where
-    into : passed by edit (draft_view was) ≡ option_map (table after) (edit (keys_view old.items before))
-    into =
-        ap (λ (d : CodeDraft). passed by edit (draft_view d)) is ∙ ap (passed by edit) (draft_view-Table origin old before)
-        ∙ passes (keys_view old.items before)
-
-    done : (r : Result (Unit {0}) Fault) → ParsesTo (λ _. keys_view new.items index) r (edit (keys_view old.items before))
-        → ParsesTo (λ _. draft_view (DraftTable after new index)) r (passed by edit (draft_view was))
-    done (Ok u) read = into ∙ ap (option_map (table after)) read ∙ ap (λ (x : TomlNode). Some x) (sym (draft_view-Table after new index))
-    done (Err e) read = λ real. into ∙ ap (option_map (table after)) (read real)
-
-pub passes_tables : (by : Way) (edit : Edit) (was : CodeDraft) (all : Vec CodeNode Global) (old new : Vec Draft Global) (before index : Places)
-    (r : Result (Unit {0}) Fault) → by ≡ way.Header → was ≡ DraftTables all old before
-    → ParsesTo (λ _. keys_view new.items index) r (edit (keys_view old.items before))
-    → ParsesTo (λ _. draft_view (DraftTables all new index)) r (passed by edit (draft_view was))
-passes_tables by edit was all old new before index r header is = done r
-  where
-    into : passed by edit (draft_view was) ≡ option_map (tables (items_view all.items)) (edit (keys_view old.items before))
-    into = ap₂ (λ (w : Way) (d : CodeDraft). passed w edit (draft_view d)) header is ∙ ap (passed way.Header edit) (draft_view-Tables all old before)
-
-    done : (r : Result (Unit {0}) Fault) → ParsesTo (λ _. keys_view new.items index) r (edit (keys_view old.items before))
-        → ParsesTo (λ _. draft_view (DraftTables all new index)) r (passed by edit (draft_view was))
-    done (Ok u) read = into ∙ ap (option_map (tables (items_view all.items))) read ∙ ap (λ (x : TomlNode). Some x) (sym (draft_view-Tables all new index))
-    done (Err e) read = λ real. into ∙ ap (option_map (tables (items_view all.items))) (read real)

@@ -1,10 +1,10 @@
 -- Where the keys of a table were first defined, before and after a definition.
 use Rattle.std.proofs.Common.{◌≡◌, ℕ, zero, suc, List, [], ◌∷◌, ◌++◌, map, Some, None, String, Vec, Global, string_bytes, refl, sym, ap, subst, ◌∙◌, inl, inr}
-use Rattle.std.proofs.Common.{◌⊎◌, rules, set, get_or, Result, Ok, Err}
+use Rattle.std.proofs.Common.{◌⊎◌, rules, set, get_or, Result}
 use Rattle.std.proofs.lemmas.Result.{IfOk-weaker, IfErr-weaker}
-use Rattle.std.specs.Result.{IfOk, IfErr, IsErrAnd}
+use Rattle.std.specs.Result.{IfOk, IfErr}
 use Rattle.std.proofs.lemmas.Slice.Eq.{bytes_eq-Decides}
-use Rattle.toml_ordered.specs.declared.drafts.Draft.{Table as DraftTable, Tables as DraftTables, Value as DraftValue, the_lemmas}
+use Rattle.toml_ordered.specs.declared.drafts.Draft.{Table as DraftTable, Tables as DraftTables, the_lemmas}
 use Rattle.toml_ordered.specs.declared.fault.Fault.{Fault}
 use Rattle.toml_ordered.specs.declared.fault.Fault.TheVariants as fault
 use Rattle.toml_ordered.specs.declared.tree.Node.{Node as CodeNode}
@@ -15,9 +15,6 @@ use Rattle.toml_ordered.specs.Drafts.{HasKey}
 use Rattle.toml_ordered.specs.Firsts.{Firsts, no_firsts, HasFirst, draft_firsts, keys_firsts, keys_in, keys_at, PassesKey, IsNewKey, AddsFirsts, IsAgain}
 use Rattle.toml_ordered.specs.Reading.{IsPassed, IsSameKey}
 use Rattle.toml_ordered.specs.Tables.{get_node, steps_along}
-
-pub draft_firsts-Value : (x : CodeNode) → draft_firsts (DraftValue x) ≡ no_firsts
-draft_firsts-Value x = search (rules, the_lemmas)
 
 pub draft_firsts-Table : (origin : Origin) (keys : Vec Draft Global) (index : Places) → draft_firsts (DraftTable origin keys index) ≡ keys_firsts keys.items
 draft_firsts-Table origin keys index = search (rules, the_lemmas)
@@ -124,14 +121,6 @@ adds_inside k whole here ns x at es e w found has is_e same inner path key left 
           ]
     ]
 
--- the same, said of equal keys
-pub adds_same : (r : Result (Unit {0}) Fault) (whole : Path) (here : ℕ) (ns ns' : TomlNodes) (old old' new new' : Firsts) → ns ≡ ns' → old ≡ old' → new ≡ new'
-    → IfOk r (λ _. AddsFirsts whole here ns' old' new') → IfOk r (λ _. AddsFirsts whole here ns old new)
-adds_same (Err e) whole here ns ns' old old' new new' a b c adds = tt
-adds_same (Ok u) whole here ns ns' old old' new new' a b c adds =
-    subst (λ (n : TomlNodes). AddsFirsts whole here n old new) (sym a) (subst (λ (f : Firsts). AddsFirsts whole here ns' f new) (sym b)
-    (subst (λ (f : Firsts). AddsFirsts whole here ns' old' f) (sym c) adds))
-
 -- a key that is missing, and what is defined inside of it
 pub adds_missing : (k : List ℕ) (whole : Path) (here : ℕ) (ns : TomlNodes) (es after : List Draft) (w : Draft) → string_bytes w.0 ≡ k → w.2 ≡ here
     → get_node k ns ≡ None → AddsFirsts whole here no_nodes no_firsts (draft_firsts w.1) → after ≡ es ++ w ∷ []
@@ -165,11 +154,6 @@ adds_nothing whole here ns old new (inl same) path key left first = inl (subst (
 adds_nothing whole here ns old new (inr gone) path key left first = absurd (subst (λ (f : Firsts). HasFirst f path key left) gone first)
 
 -- ---- keys that are defined again
-
--- the error that a `?` passes on
-pub fails_so : {A : Type 0} (r : Result A Fault) (e : Fault) (Q P : Fault → Type 0) → IsErrAnd r Q → ((y : Fault) → Q y → y ≡ e) → P e → IfErr r P
-fails_so (Ok a) e Q P failed same holds = tt
-fails_so (Err y) e Q P failed same holds = subst P (sym (same y failed)) holds
 
 -- none was defined before in an empty table
 pub again_nothing : (whole all : Path) (here : ℕ) (old : Firsts) (found : Fault) → IsAgain whole here no_firsts found → IsAgain all here old found

@@ -1,6 +1,7 @@
 pub mod Trees
 pub mod DraftKeys
 pub mod FirstKeys
+pub mod Passing
 pub mod Endings
 pub mod Depths
 pub mod RowsNesting

@@ -191,15 +191,8 @@ module _ (k : List ℕ) (what : Definition) (ns : TomlNodes) where
   unfolding at_key
   at_key_new none = rw none
 
--- an edit in the value of a key that is there
+-- another definition of a key that is there
 module _ (k : List ℕ) (ns : TomlNodes) (x y : TomlNode) (new : TomlNodes) where
-  pub along_there : (steps : List (Way × List ℕ)) (by : Way) (rest : List (Way × List ℕ)) (edit : Edit) (r : Result (Unit {0}) Fault) → steps ≡ (by, k) ∷ rest
-      → get_node k ns ≡ Some x → new ≡ replace k y ns → ParsesTo (λ _. y) r (passed by (along rest edit) x) → ParsesTo (λ _. new) r (along steps edit ns)
-  along_there steps by rest edit (Ok u) is found written step =
-      ap (λ (s : List (Way × List ℕ)). along s edit ns) is ∙ along_found by k rest edit ns x y new found step written
-  along_there steps by rest edit (Err e) is found written step =
-      λ real. ap (λ (s : List (Way × List ℕ)). along s edit ns) is ∙ along_refused by k rest edit ns x found (step real)
-
   pub at_key_there : (what : Definition) (r : Result (Unit {0}) Fault) → get_node k ns ≡ Some x → new ≡ replace k y ns → ParsesTo (λ _. y) r (redefine what x)
       → ParsesTo (λ _. new) r (at_key k what ns)
   at_key_there what (Ok u) found written step = at_key_found k what ns x y new found step written

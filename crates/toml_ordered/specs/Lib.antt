@@ -7,3 +7,4 @@ pub mod Reading
 pub mod Places
 pub mod Nesting
 pub mod Sorted
+pub mod Passing

@@ -4,6 +4,7 @@ ghost use Rattle.std.specs.BTreeMap.{get_by_text};
 ghost use Rattle.toml_ordered.specs.Data.{entries_view, no_nodes, node_view};
 ghost use Rattle.toml_ordered.specs.Drafts as spec;
 ghost use Rattle.toml_ordered.specs.Drafts.{IsIndexedAt, draft_view, keys_view};
+ghost use Rattle.toml_ordered.specs.declared.drafts.Draft.{Draft as CodeDraft};
 ghost use Rattle.toml_ordered.specs.Reading.{ParsesTo, IsMemory};
 ghost use Rattle.toml_ordered.specs.Tables.{append, get_node};
 
@@ -88,6 +89,8 @@ pub(crate) fn append(
     ensures failed { IfErr result IsMemory }
     ensures value { ParsesTo (λ _. keys_view keys.new.items index.new) result
         (Some (append (keys_view keys.old.items index.old) (string_bytes key) (draft_view draft))) }
+    ensures other { IfOk result (λ _. (other : CodeDraft) → keys_view (keys.old.items ++ (key, other, left) ∷ []) index.new
+        ≡ append (keys_view keys.old.items index.old) (string_bytes key) (draft_view other)) }
 {
     let at = keys.len();
     index.insert(key.clone()?, at)?;

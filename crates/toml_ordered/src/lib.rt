@@ -6,6 +6,7 @@ mod document;
 mod drafts;
 mod fault;
 mod laws;
+mod passed;
 mod route;
 mod tables;
 mod tree;

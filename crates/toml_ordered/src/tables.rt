@@ -1,14 +1,17 @@
 //! The rules by which keys and headers define tables.
-ghost use Rattle.std.specs.Prelude.{◌≡◌, ◌⊎◌, [], ◌∷◌, IfErr, IfOk, Some, string_bytes};
+ghost use Rattle.std.specs.Prelude.{◌≡◌, ◌⊎◌, ℕ, List, [], ◌∷◌, IfErr, IfOk, MatchResult, reverse, string_bytes};
 ghost use Rattle.toml_ordered.specs.Data.{items_view, push_item, table};
 ghost use Rattle.toml_ordered.specs.Drafts.{draft_view, keys_view};
-ghost use Rattle.toml_ordered.specs.Firsts.{AddsFirsts, IsAgain, draft_firsts, keys_firsts, keys_in, no_firsts};
-ghost use Rattle.toml_ordered.specs.Reading.{ParsesTo, IsPassed, IsSameKey, along_route, definition_view, whole_of};
+ghost use Rattle.toml_ordered.specs.Firsts.{AddsFirsts, IsAgain, draft_firsts, keys_firsts, no_firsts};
+ghost use Rattle.toml_ordered.specs.Passing.{AreFilled, IsFilled, IsOpened, IsShut, Passes, Refuses};
+ghost use Rattle.toml_ordered.specs.Reading.{ParsesTo, IsPassed, IsSameKey, along_route, definition_view, steps_of, whole_of};
 ghost use Rattle.toml_ordered.specs.Tables as spec;
+ghost use Rattle.toml_ordered.specs.declared.route.Way.{Way};
 ghost use Rattle.toml_ordered.specs.declared.tree.Origin.TheVariants.{Closed};
 
-use crate::drafts::{Draft, Index, Keys, append, find, finish};
+use crate::drafts::{Draft, Index, Keys, OpenTable, append, find, finish};
 use crate::fault::Fault;
+use crate::passed::{Holder, Passed, placeholder};
 use crate::route::{Route, Way};
 use crate::tree::{Node, Origin};
 use std::alloc::{AllocError, Global};
@@ -42,8 +45,7 @@ fn defined_again(key: &String, first: usize, second: usize) -> Fault
     }
 }
 
-/// Defines an entry in the table at the end of a route.
-#[cycle(define_at)]
+/// Defines an entry in the table at the end of a route. Where that fails, the keys are lost.
 pub(crate) fn define_at(
     alloc: Global,
     keys: &mut Keys,
@@ -56,57 +58,113 @@ pub(crate) fn define_at(
         (keys_firsts keys.old.items) (keys_firsts keys.new.items)) }
     ensures again { IfErr result (IsAgain (whole_of route.entry entry) entry.left (keys_firsts keys.old.items)) }
 {
-    let Some((way, key, rest)) = route.split() else {
-        return at_key(alloc, keys, index, entry);
+    let outermost = OpenTable {
+        keys: mem::replace(keys, Vec::new(alloc)),
+        index: mem::replace(index, BTreeMap::new(alloc)),
     };
-    match find(keys, index, key.as_str()) {
-        Some(at) => pass(alloc, way, &mut keys[at], rest, entry),
+    let (passed, mut last) = match descend(alloc, outermost, route, entry.left) {
+        Ok(found) => found,
+        Err(fault) => return Err(fault),
+    };
+    if let Err(fault) = at_key(alloc, &mut last.keys, &mut last.index, entry) {
+        return Err(fault);
+    }
+    let whole = ascend(passed, last);
+    *keys = whole.keys;
+    *index = whole.index;
+    Ok(())
+}
+
+/// Takes out the table at the end of a route, and each table that the route passes.
+fn descend(
+    alloc: Global,
+    outermost: OpenTable,
+    route: Route<'_>,
+    left: usize,
+) -> Result<(Vec<Passed>, OpenTable), Fault>
+    ensures { MatchResult result
+        (λ found. Passes (steps_of route.entry) [] left outermost found.1 (AreFilled (reverse found.0.items)))
+        (Refuses (steps_of route.entry) left outermost) }
+{
+    let mut passed = Vec::new(alloc);
+    let mut here = outermost;
+    let mut to_pass = route;
+    'steps: while let Some((way, key, rest)) = to_pass.split() {
+        let (outer, inner) = match enter(alloc, way, key, left, here) {
+            Ok(entered) => entered,
+            Err(fault) => return Err(fault),
+        };
+        passed.push(outer)?;
+        here = inner;
+        to_pass = rest;
+    }
+    Ok((passed, here))
+}
+
+/// Puts a table back into those that were passed, the last of them first.
+fn ascend(passed: Vec<Passed>, last: OpenTable) -> OpenTable
+    ensures { AreFilled (reverse passed.items) last result }
+{
+    let mut outer = passed;
+    let mut here = last;
+    'tables: while let Some(table) = outer.pop() {
+        here = table.filled_with(here);
+    }
+    here
+}
+
+/// Takes the table of a key out of the one around it. A key that is missing is made first.
+fn enter(
+    alloc: Global,
+    way: Way,
+    key: &String,
+    left: usize,
+    outer: OpenTable,
+) -> Result<(Passed, OpenTable), Fault>
+    ensures { MatchResult result
+        (λ entered. (rest : List (Way × List ℕ)) → Passes ((way, string_bytes key.now) ∷ rest) rest left outer entered.1 (IsFilled entered.0))
+        (λ fault. (rest : List (Way × List ℕ)) → Refuses ((way, string_bytes key.now) ∷ rest) left outer fault) }
+{
+    let mut table = outer;
+    match find(&table.keys, &table.index, key.as_str()) {
+        Some(at) => match take_out(way, &mut table.keys[at], left) {
+            Ok((holder, inner)) => Ok((Passed { table, at, holder }, inner)),
+            Err(fault) => Err(fault),
+        },
         None => {
-            let left = entry.left;
-            let mut inner = Vec::new(alloc);
-            let mut places = BTreeMap::new(alloc);
-            if let Err(fault) = define_at(alloc, &mut inner, &mut places, rest, entry) {
+            let at = table.keys.len();
+            let name = key.clone()?;
+            if let Err(fault) = append(
+                &mut table.keys,
+                &mut table.index,
+                name,
+                placeholder(),
+                left,
+            ) {
                 return Err(fault);
             }
-            let table = Draft::Table(way.origin(), inner, places);
-            append(keys, index, key.clone()?, table, left)
+            let holder = Holder::Table(way.origin());
+            Ok((Passed { table, at, holder }, OpenTable::new(alloc)))
         }
     }
 }
 
-/// Defines an entry in the value of a key, at the end of a route.
-#[cycle(define_at)]
-fn pass(
-    alloc: Global,
+/// Takes the table out of the value of a key that is passed.
+fn take_out(
     way: Way,
     member: &mut (String, Draft, usize),
-    route: Route<'_>,
-    entry: Entry,
-) -> Result<(), Fault>
+    left: usize,
+) -> Result<(Holder, OpenTable), Fault>
     ensures same_key { IsSameKey member.old member.new }
-    ensures value { ParsesTo (λ _. draft_view member.new.1) result (spec.passed way (along_route route.entry entry) (draft_view member.old.1)) }
-    ensures firsts { IfOk result (λ _. AddsFirsts (whole_of route.entry entry) entry.left (keys_in (Some (draft_view member.old.1)))
-        (draft_firsts member.old.1) (draft_firsts member.new.1)) }
-    ensures again { IfErr result (λ fault. IsPassed (string_bytes member.old.0) member.old.2 entry.left fault
-        ⊎ IsAgain (whole_of route.entry entry) entry.left (draft_firsts member.old.1) fault) }
+    ensures taken { MatchResult result
+        (λ taken. IsOpened way member.old.1 taken.0 taken.1)
+        (λ fault. IsPassed (string_bytes member.old.0) member.old.2 left fault × IsShut way member.old.1) }
 {
-    let (key, draft, first) = member;
-    match draft {
-        Draft::Table(origin, inner, index) => {
-            if let Some(after) = way.origin_after(*origin) {
-                *origin = after;
-                return define_at(alloc, inner, index, route, entry);
-            }
-        }
-        Draft::Tables(_, last, index) => {
-            match way {
-                Way::Header => return define_at(alloc, last, index, route, entry),
-                Way::Dots => {}
-            }
-        }
-        Draft::Value(_) => {}
+    let (key, value, first) = member;
+    match Holder::open(way, mem::replace(value, placeholder())) {
+        Some(taken) => Ok(taken),
+        None => Err(defined_again(key, *first, left)),
     }
-    Err(defined_again(key, *first, entry.left))
 }
 
 fn at_key(alloc: Global, keys: &mut Keys, index: &mut Index, entry: Entry) -> Result<(), Fault>

@@ -1,4 +1,4 @@
-use Rattle.std.proofs.Common.{◌≡◌, ℕ, List, Some, length, string_bytes, bytes_eq, subst, sym, ap, ◌∙◌, arith}
+use Rattle.std.proofs.Common.{◌≡◌, ℕ, List, Some, length, string_bytes, bytes_eq, subst, sym, ap, ◌∙◌, arith, rules}
 use Rattle.std.proofs.lemmas.Grind.{common_steps}
 use Rattle.std.proofs.lemmas.Map.Text.{btree_map_updates_text}
 use Rattle.std.specs.BTreeMap.{get_by_text}
@@ -8,8 +8,8 @@ use Rattle.toml_ordered.specs.Data.{TomlNodes}
 use Rattle.toml_ordered.specs.Drafts.{keys_view}
 use Rattle.toml_ordered.proofs.drafts.append.Goals as goal
 
-pub returns-clause-value : goal.returns-clause-value
-returns-clause-value c =
+pub returns : goal.returns
+returns c =
     let es = c.args.keys.now.items in
     let before = c.args.index.now in
     let after = c.insert.new.self in
@@ -19,5 +19,10 @@ returns-clause-value c =
     subst (λ (l : List ℕ). get_by_text after k ≡ update bytes_eq (get_by_text before) l (Some c.len-at.result) k) same
     (btree_map_updates_text (string_bytes c.in_ok-clone.field-0) before after _ c.in_ok-insert.ensures.updates k)
     ∙ ap (λ (n : ℕ). update bytes_eq (get_by_text before) (string_bytes c.args.key) (Some n) k) count in
-    ap (λ (ns : TomlNodes). Some ns) (sym (appended before after es (c.args.key, c.args.draft, c.args.left) c.requires noted))
-    ∙ ap (λ (ds : List Draft). Some (keys_view ds after)) (sym c.in_ok-push.ensures.items)
+    record {
+      last = c.in_ok-push.ensures.items;
+      failed = search rules;
+      value = ap (λ (ns : TomlNodes). Some ns) (sym (appended before after es (c.args.key, c.args.draft, c.args.left) c.requires noted))
+          ∙ ap (λ (ds : List Draft). Some (keys_view ds after)) (sym c.in_ok-push.ensures.items);
+      other = λ x. appended before after es (c.args.key, x, c.args.left) c.requires noted;
+    }

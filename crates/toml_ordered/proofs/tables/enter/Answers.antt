@@ -1,0 +1,33 @@
+use Rattle.std.proofs.Common.{◌≡◌, ◌∷◌, ℕ, List, string_bytes, refl, sym, subst, ◌∙◌, arith}
+use Rattle.std.proofs.lemmas.Grind.{common_steps}
+use Rattle.std.specs.Vec.{with_item}
+use Rattle.toml_ordered.proofs.Passing.{passes_there, passes_new, refuses_there}
+use Rattle.toml_ordered.specs.Passing.{Fills, Passes}
+use Rattle.toml_ordered.specs.declared.drafts.OpenTable.{OpenTable}
+use Rattle.toml_ordered.specs.declared.passed.Holder.TheVariants as holder
+use Rattle.toml_ordered.proofs.tables.enter.Goals as goal
+
+pub returns-in-Ok : goal.returns-in-Ok
+returns-in-Ok c rest =
+    let t : OpenTable = record { keys = with_item c.args.outer.keys c.in-Some.at c.take_out.new.member; index = c.args.outer.index } in
+    passes_there c.args.way (string_bytes c.args.key.now) rest c.args.left c.in-Some.at c.args.outer c.index_mut.result.now
+    (rw c.as_str.ensures.value at c.in-Some.ensures.found) (sym c.index_mut.ensures.value) c.take_out.new.member c.in-Ok.holder c.in-Ok.inner t
+    c.take_out.ensures.same_key c.in-Ok.ensures.taken refl refl
+
+pub returns-in-Err : goal.returns-in-Err
+returns-in-Err c rest =
+    refuses_there c.args.way (string_bytes c.args.key.now) rest c.args.left c.in-Some.at c.args.outer c.index_mut.result.now
+    (rw c.as_str.ensures.value at c.in-Some.ensures.found) (sym c.index_mut.ensures.value) c.in-Err.fault c.in-Err.ensures.taken.0
+    c.in-Err.ensures.taken.1
+
+pub returns-in_default : goal.returns-in_default
+returns-in_default c rest =
+    let name = c.in_ok-name-in-None.name in
+    let same : string_bytes name ≡ string_bytes c.args.key.now = grind (arith, common_steps) in
+    let at = c.len-at.result in
+    let origin = c.origin.result in
+    let t : OpenTable = record { keys = c.append.new.keys; index = c.append.new.index } in
+    subst (λ (k : List ℕ). Passes ((c.args.way, k) ∷ rest) rest c.args.left c.args.outer c.new.result (Fills t at (holder.Table origin))) same
+    (passes_new c.args.way rest c.args.left at c.args.outer c.new.result t (name, c.placeholder.result, c.args.left) origin
+    (rw (c.as_str.ensures.value, ← same) at c.in-None.ensures.found) refl c.new.ensures.keys (c.len-at.ensures ∙ c.args.outer.keys.ok.0)
+    c.origin.ensures c.in_default.ensures.last c.in_default.ensures.other)

@@ -1,0 +1,87 @@
+//! The tables that a key passes, each taken out of the one around it.
+ghost use Rattle.std.specs.Prelude.{◌<◌, vec_len};
+
+use crate::drafts::{Draft, OpenTable};
+use crate::route::Way;
+use crate::tree::{Node, Origin};
+use std::mem;
+
+/// A value without the table in it that may still grow.
+#[derive(Drop)]
+pub(crate) enum Holder {
+    Table(Origin),
+    /// The tables of an array but the last.
+    Tables(Vec<Node>),
+}
+
+impl Holder {
+    ghost use Rattle.std.specs.Prelude.{◌≡◌, MatchOption};
+    ghost use Rattle.toml_ordered.specs.Passing.{IsOpened, IsShut, held};
+
+    /// Takes the table out of a value that a key passes; returns `None` where the value lets no key pass so.
+    pub(crate) fn open(way: Way, value: Draft) -> Option<(Holder, OpenTable)>
+        ensures { MatchOption result (IsShut way value) (λ opened. IsOpened way value opened.0 opened.1) }
+    {
+        match value {
+            Draft::Table(origin, keys, index) => {
+                if let Some(after) = way.origin_after(origin) {
+                    return Some((Holder::Table(after), OpenTable { keys, index }));
+                }
+                drop(keys);
+                drop(index);
+            }
+            Draft::Tables(done, keys, index) => {
+                if let Way::Header = way {
+                    return Some((Holder::Tables(done), OpenTable { keys, index }));
+                }
+                drop(done);
+                drop(keys);
+                drop(index);
+            }
+            Draft::Value(node) => drop(node),
+        }
+        None
+    }
+
+    /// Returns the value with this table in it.
+    fn with(self, inner: OpenTable) -> Draft
+        ensures { result ≡ held self inner }
+    {
+        let OpenTable { keys, index } = inner;
+        match self {
+            Holder::Table(origin) => Draft::Table(origin, keys, index),
+            Holder::Tables(done) => Draft::Tables(done, keys, index),
+        }
+    }
+}
+
+/// Returns what stands with a key while the table in its value is taken out.
+pub(crate) fn placeholder() -> Draft {
+    Draft::Value(Node::NotANumber)
+}
+
+/// A table that a key passes, without the table in the value of that key.
+#[derive(Drop)]
+pub(crate) struct Passed {
+    pub(crate) table: OpenTable,
+    pub(crate) at: usize,
+    pub(crate) holder: Holder,
+    ghost within: { at < vec_len table.keys },
+}
+
+impl Passed {
+    ghost use Rattle.toml_ordered.specs.Passing.{IsFilled};
+
+    /// Returns the table with the inner one put back.
+    pub(crate) fn filled_with(self, inner: OpenTable) -> OpenTable
+        ensures { IsFilled self inner result }
+    {
+        let Passed {
+            mut table,
+            at,
+            holder,
+        } = self;
+        drop(mem::replace(&mut table.keys[at].1, holder.with(inner)));
+        table
+    }
+}
