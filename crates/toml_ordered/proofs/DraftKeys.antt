@@ -1,15 +1,12 @@
 -- A table while it is read beside the keys and values that it stands for.
-use Rattle.std.proofs.Common.{◌≡◌, ℕ, zero, suc, ◌+◌, ◌<◌, ◌≤◌, ◌==◌, true, false, Bool, List, [], ◌∷◌, ◌++◌, map, length, Option, Some}
-use Rattle.std.proofs.Common.{None, cond, String, Vec, BTreeMap, Global, string_bytes, bytes_eq, refl, sym, ap, subst, ◌∙◌}
+use Rattle.std.proofs.Common.{◌≡◌, ℕ, zero, suc, ◌+◌, ◌<◌, ◌≤◌, ◌==◌, true, false, Bool, List, [], ◌∷◌, ◌++◌, length, Option, Some, None, cond}
+use Rattle.std.proofs.Common.{String, Vec, BTreeMap, Global, string_bytes, bytes_eq, refl, sym, ap, subst, ◌∙◌}
 use Rattle.std.proofs.Common.{inl, inr, rules, arith, set, get_or}
-use Rattle.std.proofs.lemmas.List.{length-append, append_assoc}
 use Rattle.std.proofs.lemmas.Bool.{cases_Bool, eq-eqb, eqb-true, false≢true}
 use Rattle.std.proofs.lemmas.Slice.Eq.{bytes_eq-Decides}
 use Rattle.std.specs.BTreeMap.{get_by_text}
 use Rattle.std.specs.Map.{update}
-use Rattle.toml_ordered.specs.declared.drafts.Draft.{Draft as CodeDraft, Table as DraftTable, Tables as DraftTables}
-use Rattle.toml_ordered.specs.declared.drafts.Draft.{fold-Draft, the_lemmas}
-use Rattle.toml_ordered.specs.declared.drafts.Draft.TheOpen.{Draft-F}
+use Rattle.toml_ordered.specs.declared.drafts.Draft.{Draft as CodeDraft, Table as DraftTable, Tables as DraftTables, the_lemmas}
 use Rattle.toml_ordered.specs.declared.tree.Node.{Node as CodeNode}
 use Rattle.toml_ordered.specs.declared.tree.Origin.{Origin}
 use Rattle.toml_ordered.specs.Data.{TomlNode, table}
@@ -245,91 +242,6 @@ pub appended : (index after : Places) (es : List Draft) (w : Draft) → get_node
 appended index after es w none noted =
     let start : length es ≡ 0 + length es = omega arith in
     appended_from index after w 0 es none (λ k. noted k ∙ ap (λ (m : ℕ). update bytes_eq (get_by_text index) (string_bytes w.0) (Some m) k) start)
-
--- ---- what was kept of the keys so far
-
-kept_last : (index : Places) (n : ℕ) (es : List Draft) (e : Draft) → is_place (get_by_text index (string_bytes e.0)) (n + length es) ≡ true
-    → nodes_from index n (drafts_view (es ++ e ∷ [])) ≡ append (nodes_from index n (drafts_view es)) (string_bytes e.0) (draft_view e.1)
-kept_last index n [] e live =
-    let zeroth : n + 0 ≡ n = omega arith in
-    let here : is_place (get_by_text index (string_bytes e.0)) n ≡ true =
-    subst (λ (m : ℕ). is_place (get_by_text index (string_bytes e.0)) m ≡ true) zeroth live in
-    rw here
-kept_last index n (x ∷ es) e live =
-    let next : n + suc (length es) ≡ suc n + length es = omega arith in
-    let b = is_place (get_by_text index (string_bytes x.0)) n in
-    ap (kept b (string_bytes x.0) (draft_view x.1))
-    (kept_last index (suc n) es e (subst (λ (m : ℕ). is_place (get_by_text index (string_bytes e.0)) m ≡ true) next live))
-    ∙ sym (appended_over b (string_bytes e.0) (string_bytes x.0) (draft_view x.1) (draft_view e.1) (nodes_from index (suc n) (drafts_view es)))
-
-dropped_last : (index : Places) (n : ℕ) (es : List Draft) (e : Draft) → is_place (get_by_text index (string_bytes e.0)) (n + length es) ≡ false
-    → nodes_from index n (drafts_view (es ++ e ∷ [])) ≡ nodes_from index n (drafts_view es)
-dropped_last index n [] e away =
-    let zeroth : n + 0 ≡ n = omega arith in
-    let here : is_place (get_by_text index (string_bytes e.0)) n ≡ false =
-    subst (λ (m : ℕ). is_place (get_by_text index (string_bytes e.0)) m ≡ false) zeroth away in
-    rw here
-dropped_last index n (x ∷ es) e away =
-    let next : n + suc (length es) ≡ suc n + length es = omega arith in
-    ap (kept (is_place (get_by_text index (string_bytes x.0)) n) (string_bytes x.0) (draft_view x.1))
-    (dropped_last index (suc n) es e (subst (λ (m : ℕ). is_place (get_by_text index (string_bytes e.0)) m ≡ false) next away))
-
-pub keys_view-kept : (index : Places) (es : List Draft) (e : Draft) (at : ℕ) → at ≡ length es → is_place (get_by_text index (string_bytes e.0)) at ≡ true
-    → keys_view (es ++ e ∷ []) index ≡ append (keys_view es index) (string_bytes e.0) (draft_view e.1)
-keys_view-kept index es e at is live =
-    let start : at ≡ 0 + length es = omega (arith, is) in
-    kept_last index 0 es e (subst (λ (m : ℕ). is_place (get_by_text index (string_bytes e.0)) m ≡ true) start live)
-
-pub keys_view-dropped : (index : Places) (es : List Draft) (e : Draft) (at : ℕ) → at ≡ length es → is_place (get_by_text index (string_bytes e.0)) at ≡ false
-    → keys_view (es ++ e ∷ []) index ≡ keys_view es index
-keys_view-dropped index es e at is away =
-    let start : at ≡ 0 + length es = omega (arith, is) in
-    dropped_last index 0 es e (subst (λ (m : ℕ). is_place (get_by_text index (string_bytes e.0)) m ≡ false) start away)
-
--- ---- how much a table holds
-
-abbrev entries_size : List (String Global × ℕ × ℕ) → ℕ
-entries_size [] = 0
-entries_size (m ∷ ms) = m.1 + entries_size ms
-
-abbrev size_step : Draft-F ℕ → ℕ
-size_step (Draft-F.Value x) = 1
-size_step (Draft-F.Table origin keys index) = suc (entries_size keys.items)
-size_step (Draft-F.Tables done keys index) = suc (entries_size keys.items)
-
-abbrev pub draft_size : CodeDraft → ℕ
-draft_size = fold-Draft ℕ size_step
-
-abbrev pub keys_size : List Draft → ℕ
-keys_size es = entries_size (map (λ m. (m.0, draft_size m.1, m.2)) es)
-
-pub draft_size-Table : (origin : Origin) (keys : Vec Draft Global) (index : Places) → draft_size (DraftTable origin keys index) ≡ suc (keys_size keys.items)
-draft_size-Table origin keys index = search (rules, the_lemmas)
-
-pub draft_size-Tables : (done : Vec CodeNode Global) (keys : Vec Draft Global) (index : Places)
-    → draft_size (DraftTables done keys index) ≡ suc (keys_size keys.items)
-draft_size-Tables done keys index = search (rules, the_lemmas)
-
-pub size-within : (before later : List Draft) (e : Draft) → draft_size e.1 ≤ keys_size (before ++ e ∷ later)
-size-within [] later e = omega arith
-size-within (x ∷ before) later e = let less = size-within before later e in omega (arith, less)
-
--- ---- a turn of a loop over the keys: those that were gone through, and those that are left
-
-pub turn_whole : (gone left rest all : List Draft) (e : Draft) → left ≡ e ∷ rest → gone ++ left ≡ all → gone ++ e ∷ [] ++ rest ≡ all
-turn_whole gone left rest all e steps whole = append_assoc gone (e ∷ []) rest ∙ ap (λ (es : List Draft). gone ++ es) (sym steps) ∙ whole
-
-turn_parts : (gone left rest all : List Draft) (e : Draft) → left ≡ e ∷ rest → gone ++ left ≡ all → gone ++ (e ∷ rest) ≡ all
-turn_parts gone left rest all e steps whole = ap (λ (es : List Draft). gone ++ es) (sym steps) ∙ whole
-
-pub turn_size : (gone left rest all : List Draft) (e : Draft) → left ≡ e ∷ rest → gone ++ left ≡ all → draft_size e.1 ≤ keys_size all
-turn_size gone left rest all e steps whole =
-    subst (λ (es : List Draft). draft_size e.1 ≤ keys_size es) (turn_parts gone left rest all e steps whole) (size-within gone rest e)
-
-pub turn_room : (gone left rest all : List Draft) (e : Draft) → left ≡ e ∷ rest → gone ++ left ≡ all → length gone < length all
-turn_room gone left rest all e steps whole =
-    let sum = sym (length-append gone (e ∷ rest)) ∙ ap length (turn_parts gone left rest all e steps whole) in
-    omega (arith, sum)
 
 -- ---- values
 

@@ -1,5 +1,6 @@
 pub mod Trees
 pub mod DraftKeys
+pub mod Unfinished
 pub mod FirstKeys
 pub mod Passing
 pub mod Endings

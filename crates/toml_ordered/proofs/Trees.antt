@@ -1,17 +1,11 @@
 -- A table's list of keys beside the keys and values that it stands for.
-use Rattle.std.proofs.Common.{◌≡◌, ℕ, List, [], ◌∷◌, ◌++◌, String, Vec, Global, string_bytes, refl, ap, rules}
+use Rattle.std.proofs.Common.{◌≡◌, ℕ, List, [], ◌∷◌, ◌++◌, String, Vec, Global, refl, ap, rules}
 use Rattle.toml_ordered.specs.declared.tree.Node.{Node as CodeNode, Tables as CodeTables, Table as CodeTable, Array as CodeArray, the_lemmas}
 use Rattle.toml_ordered.specs.declared.tree.Origin.{Origin}
-use Rattle.toml_ordered.specs.Data.{item, push_item, node, table, tables, array, node_view, items_view, entries_view}
-use Rattle.toml_ordered.specs.Tables.{append}
+use Rattle.toml_ordered.specs.Data.{item, push_item, table, tables, array, node_view, items_view, entries_view}
 
 abbrev pub Entry : Type 0
 Entry = String Global × CodeNode × ℕ
-
--- a key that goes last
-pub append-view : (es : List Entry) (w : Entry) → entries_view (es ++ w ∷ []) ≡ append (entries_view es) (string_bytes w.0) (node_view w.1)
-append-view [] w = refl
-append-view (e ∷ es) w = ap (node (string_bytes e.0) (node_view e.1)) (append-view es w)
 
 -- one more item at the end
 pub items_view-push : (xs : List CodeNode) (x : CodeNode) → items_view (xs ++ x ∷ []) ≡ push_item (items_view xs) (node_view x)

@@ -1,5 +1,5 @@
 //! Tables while a document is read. Each has an index of its keys, so that none is searched for one by one.
-ghost use Rattle.std.specs.Prelude.{◌≡◌, ◌<◌, [], ◌∷◌, ◌++◌, IfErr, IfOk, IfSome, MatchOption, None, Some, length, string_bytes};
+ghost use Rattle.std.specs.Prelude.{◌≡◌, ◌<◌, [], ◌∷◌, ◌++◌, IfErr, IfOk, IfSome, MatchOption, MatchResult, None, Some, length, string_bytes};
 ghost use Rattle.std.specs.BTreeMap.{get_by_text};
 ghost use Rattle.toml_ordered.specs.Data.{entries_view, no_nodes, node_view};
 ghost use Rattle.toml_ordered.specs.Drafts as spec;
@@ -7,9 +7,13 @@ ghost use Rattle.toml_ordered.specs.Drafts.{IsIndexedAt, draft_view, keys_view};
 ghost use Rattle.toml_ordered.specs.declared.drafts.Draft.{Draft as CodeDraft};
 ghost use Rattle.toml_ordered.specs.Reading.{ParsesTo, IsMemory};
 ghost use Rattle.toml_ordered.specs.Tables.{append, get_node};
+ghost use Rattle.toml_ordered.specs.Unfinished.{IsBegun, made_view};
+
+mod live;
 
 use crate::fault::Fault;
 use crate::tree::{Node, Nodes, Origin};
+use live::LiveKeys;
 use std::alloc::{AllocError, Global};
 use std::collections::BTreeMap;
 
@@ -53,7 +57,7 @@ impl OpenTable {
         ensures { IfOk result (λ nodes. entries_view nodes.items ≡ spec.table_view self) }
     {
         let OpenTable { keys, index } = self;
-        finish(alloc, keys, &index)
+        finish(alloc, keys, index)
     }
 }
 
@@ -108,46 +112,93 @@ fn is_place(index: &Index, key: &str, at: usize) -> bool
     }
 }
 
-/// Completes a table of these keys.
-#[cycle(finish)]
-pub(crate) fn finish(alloc: Global, keys: Keys, index: &Index) -> Result<Nodes, AllocError>
-    ensures { IfOk result (λ nodes. entries_view nodes.items ≡ keys_view keys.items index.now) }
-{
-    let mut nodes = Vec::with_capacity(alloc, keys.len())?;
-    let mut at = 0;
-    'keys: for (key, draft, left) in keys {
-        let place = at;
-        at += 1;
-        if is_place(index, key.as_str(), place) {
-            let node = match complete(alloc, draft) {
-                Ok(node) => node,
-                Err(refused) => return Err(refused),
-            };
-            nodes.push((key, node, left))?;
-        }
-    }
-    Ok(nodes)
+/// A table that is being completed.
+#[derive(Drop)]
+struct Half {
+    nodes: Nodes,
+    keys: LiveKeys,
 }
 
-/// Completes a value.
-#[cycle(finish)]
-fn complete(alloc: Global, draft: Draft) -> Result<Node, AllocError>
-    ensures { IfOk result (λ node. node_view node ≡ draft_view draft) }
+/// The value that the keys of a table make once they are complete.
+#[derive(Drop)]
+enum Made {
+    Table(Origin),
+    Tables(Vec<Node>),
+}
+
+/// A table that waits for one inside: the latter's key, what it makes, and how much text is left there.
+#[derive(Drop)]
+struct Around {
+    table: Half,
+    place: (String, Made, usize),
+}
+
+impl Half {
+    /// Begins a table of these keys.
+    fn new(alloc: Global, keys: Keys, index: Index) -> Result<Half, AllocError>
+        ensures { IfOk result (IsBegun (keys_view keys.items index)) }
+    {
+        let nodes = Vec::with_capacity(alloc, keys.len())?;
+        let keys = LiveKeys::new(keys, index);
+        Ok(Half { nodes, keys })
+    }
+}
+
+impl Made {
+    /// Makes the value.
+    fn of(self, nodes: Nodes) -> Node
+        ensures { node_view result ≡ made_view self (entries_view nodes.items) }
+    {
+        match self {
+            Made::Table(origin) => Node::Table(origin, nodes),
+            Made::Tables(done) => Node::Tables(done, nodes),
+        }
+    }
+}
+
+/// Completes a table of these keys. The tables around the innermost wait in a list, so that no depth takes stack.
+pub(crate) fn finish(alloc: Global, keys: Keys, index: Index) -> Result<Nodes, AllocError>
+    ensures { IfOk result (λ nodes. entries_view nodes.items ≡ keys_view keys.items index) }
+{
+    let mut around = Vec::new(alloc);
+    let mut table = match Half::new(alloc, keys, index) {
+        Ok(table) => table,
+        Err(refused) => return Err(refused),
+    };
+    'turns: loop {
+        match table.keys.next() {
+            Some((key, draft, left)) => match inner_keys(draft) {
+                Ok((made, keys, index)) => {
+                    let place = (key, made, left);
+                    around.push(Around { table, place })?;
+                    table = match Half::new(alloc, keys, index) {
+                        Ok(inner) => inner,
+                        Err(refused) => return Err(refused),
+                    };
+                }
+                Err(node) => table.nodes.push((key, seal(node)?, left))?,
+            },
+            None => match around.pop() {
+                Some(outer) => {
+                    let (key, made, left) = outer.place;
+                    let node = made.of(table.nodes);
+                    table = outer.table;
+                    table.nodes.push((key, node, left))?;
+                }
+                None => return Ok(table.nodes),
+            },
+        }
+    }
+}
+
+/// Returns the keys inside a value, or the value if it takes no more.
+fn inner_keys(draft: Draft) -> Result<(Made, Keys, Index), Node>
+    ensures { MatchResult result (λ t. draft_view draft ≡ made_view t.0 (keys_view t.1.items t.2)) (λ node. draft_view draft ≡ spec.sealed (node_view node)) }
 {
     match draft {
-        Draft::Value(node) => seal(node),
-        Draft::Table(origin, keys, index) => {
-            match finish(alloc, keys, &index) {
-                Ok(nodes) => Ok(Node::Table(origin, nodes)),
-                Err(refused) => Err(refused),
-            }
-        }
-        Draft::Tables(done, last, index) => {
-            match finish(alloc, last, &index) {
-                Ok(nodes) => Ok(Node::Tables(done, nodes)),
-                Err(refused) => Err(refused),
-            }
-        }
+        Draft::Value(node) => Err(node),
+        Draft::Table(origin, keys, index) => Ok((Made::Table(origin), keys, index)),
+        Draft::Tables(done, last, index) => Ok((Made::Tables(done), last, index)),
     }
 }
 

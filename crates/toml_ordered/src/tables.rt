@@ -216,9 +216,9 @@ fn begin_table(
     ensures done { IfOk result (λ _. items_view done.new.items ≡ push_item (items_view done.old.items) (table Closed (keys_view last.old.items index.old))) }
     ensures last { IfOk result (λ _. last.new.items ≡ []) }
 {
-    let nodes = finish(alloc, mem::replace(last, Vec::new(alloc)), index)?;
+    let places = mem::replace(index, BTreeMap::new(alloc));
+    let nodes = finish(alloc, mem::replace(last, Vec::new(alloc)), places)?;
     done.push(Node::Table(Origin::Closed, nodes))?;
-    *index = BTreeMap::new(alloc);
     Ok(())
 }
 
