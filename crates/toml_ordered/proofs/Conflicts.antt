@@ -10,7 +10,8 @@ use Rattle.toml_ordered.proofs.Endings.{ends_self, ends_then}
 use Rattle.toml_ordered.specs.Data.{TomlNode, TomlNodes}
 use Rattle.toml_ordered.specs.Firsts.{Firsts, no_firsts, HasFirst, AddsFirsts, IfAgain, IsAgain, FaultTells}
 use Rattle.toml_ordered.specs.Grammar.{keyval, line, val}
-use Rattle.toml_ordered.specs.Places.{EndsWith, after_pairs, ReadsUpTo, ExpressionAt, FirstDefines, PairAt, PairFirstDefines, PairsConflict}
+use Rattle.toml_ordered.specs.Inside.{KnowsPairs}
+use Rattle.toml_ordered.specs.Places.{EndsWith, after_pairs, ReadsUpTo, ExpressionAt, FirstDefines, PairAt, PairsConflict}
 use Rattle.toml_ordered.specs.Nesting.{HasReason, PairNestsPast}
 use Rattle.toml_ordered.specs.Places.{moved_to, moved_within, key_parts, whole_path}
 use Rattle.toml_ordered.specs.Reading.{IsMemory}
@@ -40,11 +41,6 @@ pub more_pairs : (depth count : ℕ) (text : List ℕ) (found more : TomlNodes) 
 more_pairs depth count text found more rest name x after next reads read defined element = rw (reads, read, defined, element)
 
 -- ---- tables in braces
-
--- each key was first defined by a pair, before the rest
-abbrev pub KnowsPairs : (depth : ℕ) → (text : List ℕ) → Firsts → (rest : List ℕ) → Type 0
-KnowsPairs depth text firsts rest =
-    (path : List (List ℕ)) (key : List ℕ) (left : ℕ) → HasFirst firsts path key left → PairFirstDefines depth text path key left × (length rest < left)
 
 pub knows_no_pairs : (depth : ℕ) (text rest : List ℕ) (none : Firsts) → none ≡ no_firsts → KnowsPairs depth text none rest
 knows_no_pairs depth text rest none is path key left has = absurd (subst (λ (f : Firsts). HasFirst f path key left) is has)

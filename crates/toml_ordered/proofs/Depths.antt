@@ -1,5 +1,5 @@
 -- Values that nest too deep.
-use Rattle.std.proofs.Common.{◌≡◌, ℕ, zero, suc, ◌+◌, ◌-◌, ◌<◌, ◌≤◌, List, Some, drop, length, refl, ap, subst, sym, ◌∙◌, inl, inr, arith}
+use Rattle.std.proofs.Common.{◌≡◌, ℕ, zero, suc, ◌+◌, ◌≤◌, List, Some, drop, length, refl, ap, subst, sym, ◌∙◌, inl, inr, arith}
 use Rattle.std.proofs.lemmas.List.{length-append}
 use Rattle.std.specs.Prelude.{◌⊎◌}
 use Rattle.toml_parser.specs.Lexical.{first, right_bracket, skip_blank}
@@ -9,7 +9,7 @@ use Rattle.toml_ordered.proofs.Endings.{end_left, ends_drop, key_equals_ends, sk
 use Rattle.toml_ordered.specs.Data.{TomlNode}
 use Rattle.toml_ordered.specs.Firsts.{FaultTells}
 use Rattle.toml_ordered.specs.Grammar.{val}
-use Rattle.toml_ordered.specs.Nesting.{InItem, InPair, NestsPast, PairNestsPast, after_items}
+use Rattle.toml_ordered.specs.Nesting.{NestsPast, PairNestsPast, after_items}
 use Rattle.toml_ordered.specs.Places.{EndsWith}
 use Rattle.toml_ordered.specs.declared.fault.Fault.{Fault}
 use Rattle.toml_ordered.specs.declared.fault.Fault.TheVariants as fault
@@ -33,20 +33,6 @@ pub nests_here : (depth : ℕ) (text : List ℕ) (found : Fault) (again : List �
 nests_here depth text found again none opening is =
     subst (λ (f : Fault). FaultTells f again (λ left. NestsPast depth left text)) (sym is)
     (subst (λ (n : ℕ). NestsPast n (length text) text) (sym none) (opening, refl))
-
-pub nests_array : (depth left : ℕ) (text : List ℕ) → 0 < depth → first text ≡ 91 → InItem (depth - 1) (NestsPast (depth - 1) left) (drop 1 text)
-    → NestsPast depth left text
-nests_array zero left text some opening inside = absurd (omega (arith, some))
-nests_array (suc depth) left text some opening inside =
-    let less : suc depth - 1 ≡ depth = omega arith in
-    inl (opening, subst (λ (n : ℕ). InItem n (NestsPast n left) (drop 1 text)) less inside)
-
-pub nests_table : (depth left : ℕ) (text : List ℕ) → 0 < depth → first text ≡ 123 → InPair (depth - 1) (NestsPast (depth - 1) left) (drop 1 text)
-    → NestsPast depth left text
-nests_table zero left text some opening inside = absurd (omega (arith, some))
-nests_table (suc depth) left text some opening inside =
-    let less : suc depth - 1 ≡ depth = omega arith in
-    inr (opening, subst (λ (n : ℕ). InPair n (NestsPast n left) (drop 1 text)) less inside)
 
 -- what is left there is left of the text
 nests_within : (depth left : ℕ) (text : List ℕ) → NestsPast depth left text → left ≤ length text

@@ -287,9 +287,6 @@ val_ends (suc depth) text =
 
 -- ---- turns of the loops
 
-pub skip_ends : (text rest : List ℕ) → rest ≡ drop 1 text → EndsWith text rest
-skip_ends text rest is = let ends = ends_drop 1 text in (ends.0, ends.1 ∙ ap (λ (end : List ℕ). ends.0 ++ end) (sym is))
-
 pub start_ends : (text rest start : List ℕ) → EndsWith text rest → start ≡ skip_blank rest → EndsWith text start
 start_ends text rest start ends is =
     let whole = ends_then text rest (skip_blank rest) ends (skip_blank_ends rest) in

@@ -2,6 +2,7 @@
 use Rattle.std.proofs.Common.{◌≡◌, ℕ, zero, suc, ◌-◌, ◌<◌, true, false, ◌||◌, ◌==◌, List, [], ◌∷◌, length, drop, Option, Some, None, Result, Ok, Err, refl, ap}
 use Rattle.std.proofs.Common.{◌∙◌, arith, take, take_all, length-drop, option_map, cond, Bool, sym, subst, inl, inr, ◌⊎◌, ◌≤◌, bytes_eq, codes}
 use Rattle.std.proofs.lemmas.Bool.{cases_Bool, cases_lt}
+use Rattle.std.specs.Prelude.{option_and_then}
 use Rattle.std.specs.Result.{IsErrAnd}
 use Rattle.toml_parser.specs.Numbers.{unquoted, word_len, word_value}
 use Rattle.toml_parser.specs.Strings.{starts_string, quoted, Key}
@@ -22,77 +23,30 @@ use Rattle.toml_ordered.specs.Grammar.{plain_word, without_sign, float_node, sca
 use Rattle.toml_ordered.specs.declared.tree.Origin.TheVariants.{Closed}
 
 module _ (val : List ℕ → Read TomlNode) where
-  pub items_end : (m : ℕ) (found : Items) (text : List ℕ) → 0 < m → (first (skip_blank text) == 93) ≡ true
-      → items val m found text ≡ Some (found, drop 1 (skip_blank text))
+  pub items_turn : (m : ℕ) (found : Items) (text : List ℕ) → 0 < m
+      → items val m found text
+      ≡ cond (first (skip_blank text) == 93) (Some (found, drop 1 (skip_blank text)))
+      (option_and_then (λ v. option_and_then (items val (m - 1) (push_item found v.0)) (after_element 93 v.1)) (val (skip_blank text)))
   unfolding items
-  items_end zero found text some closing = absurd (omega arith)
-  items_end (suc m) found text some closing = rw closing
-
-  pub items_more : (m : ℕ) (found : Items) (text : List ℕ) (x : TomlNode) (after next : List ℕ) → 0 < m → (first (skip_blank text) == 93) ≡ false
-      → val (skip_blank text) ≡ Some (x, after) → after_element 93 after ≡ Some next
-      → items val m found text ≡ items val (m - 1) (push_item found x) next
-  unfolding items
-  items_more zero found text x after next some other read element = absurd (omega arith)
-  items_more (suc m) found text x after next some other read element =
+  items_turn zero found text some = absurd (omega arith)
+  items_turn (suc m) found text some =
       let less : suc m - 1 ≡ m = omega arith in
-      rw (other, read, element, less)
+      rw less
 
-  pub items_bad : (m : ℕ) (found : Items) (text : List ℕ) → 0 < m → (first (skip_blank text) == 93) ≡ false
-      → val (skip_blank text) ≡ None → items val m found text ≡ None
-  unfolding items
-  items_bad zero found text some other read = absurd (omega arith)
-  items_bad (suc m) found text some other read = rw (other, read)
-
-  pub items_unended : (m : ℕ) (found : Items) (text : List ℕ) (x : TomlNode) (after : List ℕ) → 0 < m → (first (skip_blank text) == 93) ≡ false
-      → val (skip_blank text) ≡ Some (x, after) → after_element 93 after ≡ None → items val m found text ≡ None
-  unfolding items
-  items_unended zero found text x after some other read element = absurd (omega arith)
-  items_unended (suc m) found text x after some other read element = rw (other, read, element)
+  pub members_turn : (m : ℕ) (found : TomlNodes) (text : List ℕ) → 0 < m
+      → members val m found text
+      ≡ cond (first (skip_blank text) == 125) (Some (found, drop 1 (skip_blank text)))
+      (option_and_then (λ e. option_and_then (λ more. option_and_then (members val (m - 1) more) (after_element 125 e.1)) (put e.0.0 e.0.1 found))
+      (keyval val (skip_blank text)))
+  unfolding members
+  members_turn zero found text some = absurd (omega arith)
+  members_turn (suc m) found text some =
+      let less : suc m - 1 ≡ m = omega arith in
+      rw less
 
   pub keyval_is : (text : List ℕ) (key : Key) (at after : List ℕ) (x : TomlNode) → key_equals text ≡ Some (key, at) → val at ≡ Some (x, after)
       → keyval val text ≡ Some ((key, x), after)
   keyval_is text key at after x named read = rw (named, read)
-
-  pub keyval_nameless : (text : List ℕ) → key_equals text ≡ None → keyval val text ≡ None
-  keyval_nameless text named = rw named
-
-  pub keyval_bad : (text : List ℕ) (key : Key) (at : List ℕ) → key_equals text ≡ Some (key, at) → val at ≡ None → keyval val text ≡ None
-  keyval_bad text key at named read = rw (named, read)
-
-  pub members_end : (m : ℕ) (found : TomlNodes) (text : List ℕ) → 0 < m → (first (skip_blank text) == 125) ≡ true
-      → members val m found text ≡ Some (found, drop 1 (skip_blank text))
-  unfolding members
-  members_end zero found text some closing = absurd (omega arith)
-  members_end (suc m) found text some closing = rw closing
-
-  pub members_more : (m : ℕ) (found more : TomlNodes) (text : List ℕ) (key : Key) (x : TomlNode) (after next : List ℕ) → 0 < m
-      → (first (skip_blank text) == 125) ≡ false → keyval val (skip_blank text) ≡ Some ((key, x), after) → put key x found ≡ Some more
-      → after_element 125 after ≡ Some next → members val m found text ≡ members val (m - 1) more next
-  unfolding members
-  members_more zero found more text key x after next some other read defined element = absurd (omega arith)
-  members_more (suc m) found more text key x after next some other read defined element =
-      let less : suc m - 1 ≡ m = omega arith in
-      rw (other, read, defined, element, less)
-
-  pub members_bad : (m : ℕ) (found : TomlNodes) (text : List ℕ) → 0 < m → (first (skip_blank text) == 125) ≡ false
-      → keyval val (skip_blank text) ≡ None → members val m found text ≡ None
-  unfolding members
-  members_bad zero found text some other read = absurd (omega arith)
-  members_bad (suc m) found text some other read = rw (other, read)
-
-  pub members_again : (m : ℕ) (found : TomlNodes) (text : List ℕ) (key : Key) (x : TomlNode) (after : List ℕ) → 0 < m
-      → (first (skip_blank text) == 125) ≡ false → keyval val (skip_blank text) ≡ Some ((key, x), after) → put key x found ≡ None
-      → members val m found text ≡ None
-  unfolding members
-  members_again zero found text key x after some other read defined = absurd (omega arith)
-  members_again (suc m) found text key x after some other read defined = rw (other, read, defined)
-
-  pub members_unended : (m : ℕ) (found more : TomlNodes) (text : List ℕ) (key : Key) (x : TomlNode) (after : List ℕ) → 0 < m
-      → (first (skip_blank text) == 125) ≡ false → keyval val (skip_blank text) ≡ Some ((key, x), after) → put key x found ≡ Some more
-      → after_element 125 after ≡ None → members val m found text ≡ None
-  unfolding members
-  members_unended zero found more text key x after some other read defined element = absurd (omega arith)
-  members_unended (suc m) found more text key x after some other read defined element = rw (other, read, defined, element)
 
 pub val_atom : (depth : ℕ) (text : List ℕ) → (first text == 91) ≡ false → (first text == 123) ≡ false → val depth text ≡ atom text
 unfolding val
@@ -103,21 +57,15 @@ pub val_deep : (text : List ℕ) → (first text == 91 || first text == 123) ≡
 unfolding val
 val_deep text h = rw h
 
-pub val_array : (depth : ℕ) (text : List ℕ) → 0 < depth → (first text == 91) ≡ true
-    → val depth text ≡ read_map array (items (val (depth - 1)) (length text) no_items (drop 1 text))
+pub val_array : (depth : ℕ) (text : List ℕ) → (first text == 91) ≡ true
+    → val (suc depth) text ≡ read_map array (items (val depth) (length text) no_items (drop 1 text))
 unfolding val
-val_array zero text some a = absurd (omega arith)
-val_array (suc depth) text some a =
-    let less : suc depth - 1 ≡ depth = omega arith in
-    rw (a, less)
+val_array depth text a = rw a
 
-pub val_table : (depth : ℕ) (text : List ℕ) → 0 < depth → (first text == 91) ≡ false → (first text == 123) ≡ true
-    → val depth text ≡ read_map (table Closed) (members (val (depth - 1)) (length text) no_nodes (drop 1 text))
+pub val_table : (depth : ℕ) (text : List ℕ) → (first text == 91) ≡ false → (first text == 123) ≡ true
+    → val (suc depth) text ≡ read_map (table Closed) (members (val depth) (length text) no_nodes (drop 1 text))
 unfolding val
-val_table zero text some a b = absurd (omega arith)
-val_table (suc depth) text some a b =
-    let less : suc depth - 1 ≡ depth = omega arith in
-    rw (a, b, less)
+val_table depth text a b = rw (a, b)
 
 pub lines_end : (m : ℕ) (doc : TomlDocument) (text : List ℕ) → 0 < m → length (skip_blank text) ≡ 0 → lines m doc text ≡ Some doc
 unfolding lines
@@ -286,27 +234,16 @@ atom_sealed text x rest = by (starts_string text)
     by false read = read_sealed (scalar_node word) (scalar_sealed word) (unquoted text) x rest read
 
 pub val_sealed : (depth : ℕ) (text : List ℕ) (x : TomlNode) (rest : List ℕ) → val depth text ≡ Some (x, rest) → sealed x ≡ x
-val_sealed depth text x rest read = elim (cases_Bool (first text == 91)) [
-  | inl a ↦ elim (cases_lt 0 depth) [
-    | inl some ↦ read_sealed array (λ xs. refl) (items (val (depth - 1)) (length text) no_items (drop 1 text)) x rest (sym (val_array depth text some a) ∙ read)
-    | inr none ↦
-        let zero : depth ≡ 0 = omega (arith, none) in
-        let deep : (first text == 91 || first text == 123) ≡ true = rw a in
-        absurd (some_none (sym read ∙ ap (λ (d : ℕ). val d text) zero ∙ val_deep text deep))
-  ]
-  | inr a ↦ elim (cases_Bool (first text == 123)) [
-    | inl b ↦ elim (cases_lt 0 depth) [
-      | inl some ↦
-          read_sealed (table Closed) (λ ns. refl) (members (val (depth - 1)) (length text) no_nodes (drop 1 text)) x rest
-          (sym (val_table depth text some a b) ∙ read)
-      | inr none ↦
-          let zero : depth ≡ 0 = omega (arith, none) in
-          let deep : (first text == 91 || first text == 123) ≡ true = rw (a, b) in
-          absurd (some_none (sym read ∙ ap (λ (d : ℕ). val d text) zero ∙ val_deep text deep))
-    ]
-    | inr b ↦ atom_sealed text x rest (sym (val_atom depth text a b) ∙ read)
-  ]
-]
+val_sealed depth text x rest read = by depth (cases_Bool (first text == 91)) (cases_Bool (first text == 123)) read
   where
     some_none : ◌≡◌ {A = Option (TomlNode × List ℕ)} (Some (x, rest)) None → ⊥
     some_none e = cc
+
+    by : (d : ℕ) → ((first text == 91) ≡ true) ⊎ ((first text == 91) ≡ false) → ((first text == 123) ≡ true) ⊎ ((first text == 123) ≡ false)
+        → val d text ≡ Some (x, rest) → sealed x ≡ x
+    by zero (inl a) b is = absurd (some_none (sym is ∙ val_deep text (rw a)))
+    by zero (inr a) (inl b) is = absurd (some_none (sym is ∙ val_deep text (rw (a, b))))
+    by (suc d) (inl a) b is = read_sealed array (λ xs. refl) (items (val d) (length text) no_items (drop 1 text)) x rest (sym (val_array d text a) ∙ is)
+    by (suc d) (inr a) (inl b) is =
+        read_sealed (table Closed) (λ ns. refl) (members (val d) (length text) no_nodes (drop 1 text)) x rest (sym (val_table d text a b) ∙ is)
+    by d (inr a) (inr b) is = atom_sealed text x rest (sym (val_atom d text a b) ∙ is)

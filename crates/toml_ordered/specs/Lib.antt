@@ -7,5 +7,6 @@ pub mod Firsts
 pub mod Reading
 pub mod Places
 pub mod Nesting
+pub mod Inside
 pub mod Sorted
 pub mod Passing

@@ -1,12 +1,13 @@
 //! Values: strings, scalars, arrays and tables in braces.
-ghost use Rattle.std.specs.Prelude.{◌≡◌, ℕ, ◌<◌, ◌≤◌, [], ◌∷◌, ◌++◌, IfErr, IfOk, length, string_bytes};
+ghost use Rattle.std.specs.Prelude.{◌≡◌, ℕ, suc, ◌≤◌, List, IfErr, IfOk, length, string_bytes};
 ghost use Rattle.toml_parser.specs.Reading.{key_view};
 ghost use Rattle.toml.specs.Parse.{after_element, key_equals};
-ghost use Rattle.toml_ordered.specs.Data.{entries_view, items_view, no_items, no_nodes, node_view};
+ghost use Rattle.toml_ordered.specs.Data.{items_view, node_view};
 ghost use Rattle.toml_ordered.specs.Drafts.{sealed, table_view};
 ghost use Rattle.toml_ordered.specs.Firsts.{AddsFirsts, FaultTells, IfAgain, IsAgain, keys_firsts};
 ghost use Rattle.toml_ordered.specs.Grammar as spec;
-ghost use Rattle.toml_ordered.specs.Nesting.{InItem, InPair, NestsPast};
+ghost use Rattle.toml_ordered.specs.Inside.{ArrayUpTo, BracesUpTo, Finds, GoesOn, IsFound};
+ghost use Rattle.toml_ordered.specs.Nesting.{NestsPast};
 ghost use Rattle.toml_ordered.specs.Places.{PairsConflict, key_parts};
 ghost use Rattle.toml_ordered.specs.Reading.{ParsesTo, ParsesPrefixTo, Shortens};
 ghost use Rattle.toml_ordered.specs.Tables as tables;
@@ -20,94 +21,162 @@ use std::alloc::{AllocError, Global};
 use toml_parser::text::{first, skip, skip_blank, skip_ws};
 use toml_parser::{Key, Scalar, dotted_key, quoted, starts_string, unquoted};
 
+/// An array or a table in braces whose end isn't read yet.
+#[derive(Drop)]
+enum Open {
+    Array(Vec<Node>),
+    Braces(Braces),
+}
+
+/// A table in braces, and the key of the pair whose value is being read, with how many bytes of the text were left where it begins.
+#[derive(Drop)]
+struct Braces {
+    table: OpenTable,
+    key: Key,
+    left: usize,
+}
+
+/// What the next step finds in a value: all of it, or an array or a table in braces, in which another value begins.
+#[derive(Drop)]
+enum Found {
+    Value(Node),
+    Opened(Open),
+}
+
 /// Returns a value, in which arrays and tables in braces nest at most `depth` deep, and the text after it.
-#[cycle(value)]
 pub(crate) fn value(alloc: Global, s: &str, depth: usize) -> Result<(Node, &str), Fault>
     ensures value { ParsesPrefixTo node_view result (spec.val depth s.now) }
     ensures shorter { Shortens s.now result }
     ensures reason { IfErr result (λ fault. FaultTells fault (PairsConflict s.now) (λ left. NestsPast depth left s.now)) }
 {
+    let mut open: Vec<Open> = Vec::new(alloc);
+    let (mut found, mut rest) = match begin(alloc, s, depth) {
+        Ok(read) => read,
+        Err(fault) => return Err(fault),
+    };
+    'values: loop {
+        match found {
+            Found::Opened(innermost) => {
+                open.push(innermost)?;
+                match begin(alloc, rest, depth - open.len()) {
+                    Ok(next) => (found, rest) = next,
+                    Err(fault) => return Err(fault),
+                }
+            }
+            Found::Value(node) => match open.pop() {
+                Some(outer) => match go_on(alloc, outer, node, rest) {
+                    Ok(next) => (found, rest) = next,
+                    Err(fault) => return Err(fault),
+                },
+                None => return Ok((node, rest)),
+            },
+        }
+    }
+}
+
+/// Reads the beginning of a value: a string or a scalar, or up to the first value in an array or a table in braces.
+fn begin(alloc: Global, s: &str, depth: usize) -> Result<(Found, &str), Fault>
+    ensures found { Finds depth s.now result }
+    ensures shorter { Shortens s.now result }
+{
     let byte = first(s);
     if byte != b'[' && byte != b'{' {
-        return atom(alloc, s);
+        match atom(alloc, s) {
+            Ok((node, rest)) => return Ok((Found::Value(node), rest)),
+            Err(refused) => return Err(refused),
+        }
     }
     if depth == 0 {
         return Err(too_deep(s));
     }
     if byte == b'[' {
-        match array(alloc, skip(s, 1), depth - 1) {
-            Ok((items, rest)) => Ok((Node::Array(items), rest)),
-            Err(fault) => Err(fault),
-        }
+        Ok(next_item(Vec::new(alloc), skip(s, 1)))
     } else {
-        match braces(alloc, skip(s, 1), depth - 1) {
-            Ok((members, rest)) => Ok((Node::Table(Origin::Closed, members), rest)),
-            Err(fault) => Err(fault),
-        }
+        next_pair(alloc, OpenTable::new(alloc), skip(s, 1))
     }
 }
 
-/// Reads the rest of an array.
-#[cycle(value)]
-fn array(alloc: Global, s: &str, depth: usize) -> Result<(Vec<Node>, &str), Fault>
-    ensures value { (n : ℕ) → length s.now < n → ParsesPrefixTo (λ found. items_view found.items) result (spec.items (spec.val depth) n no_items s.now) }
-    ensures shorter { Shortens s.now result }
-    ensures reason { IfErr result (λ fault. FaultTells fault (PairsConflict s.now) (λ left. InItem depth (NestsPast depth left) s.now)) }
+/// Puts a value into what is open around it, and reads on to the next value in that, or to its end.
+fn go_on(alloc: Global, outer: Open, node: Node, s: &str) -> Result<(Found, &str), Fault>
+    ensures found { GoesOn outer node s.now result }
+    ensures within { IfOk result (λ p. length p.1.now ≤ length s.now) }
 {
-    let mut found = Vec::new(alloc);
-    let mut rest = s;
-    'items: loop {
-        let start = skip_blank(rest, true);
-        if first(start) == b']' {
-            return Ok((found, skip(start, 1)));
-        }
-        let (item, after) = match value(alloc, start, depth) {
-            Ok(read) => read,
-            Err(fault) => return Err(fault),
-        };
-        found.push(item)?;
-        match past_element(after, b']') {
-            Ok(next) => rest = next,
-            Err(fault) => return Err(fault),
-        }
+    match outer {
+        Open::Array(items) => put_item(items, node, s),
+        Open::Braces(braces) => put_pair(alloc, braces, node, s),
     }
 }
 
-/// Reads the rest of a table in braces.
-#[cycle(value)]
-#[inline(never)]
-fn braces(alloc: Global, s: &str, depth: usize) -> Result<(Nodes, &str), Fault>
-    ensures value { (n : ℕ) → length s.now < n → ParsesPrefixTo (λ found. entries_view found.items) result (spec.members (spec.val depth) n no_nodes s.now) }
-    ensures shorter { Shortens s.now result }
-    ensures reason { IfErr result (λ fault. FaultTells fault (PairsConflict s.now) (λ left. InPair depth (NestsPast depth left) s.now)) }
+/// Puts an item into an array, and reads on to the next one, or to the array's end.
+fn put_item(mut items: Vec<Node>, item: Node, s: &str) -> Result<(Found, &str), Fault>
+    ensures found { GoesOn (Open.Array items) item s.now result }
+    ensures within { IfOk result (λ p. length p.1.now ≤ length s.now) }
 {
-    let mut found = OpenTable::new(alloc);
-    let mut rest = s;
-    'members: loop {
-        let start = skip_blank(rest, true);
-        if first(start) == b'}' {
-            return Ok((found.finish(alloc)?, skip(start, 1)));
+    items.push(item)?;
+    match past_element(s, b']') {
+        Ok(rest) => Ok(next_item(items, rest)),
+        Err(fault) => Err(fault),
+    }
+}
+
+/// Reads on to the next item of an array, or to its end.
+fn next_item(items: Vec<Node>, s: &str) -> (Found, &str)
+    ensures found { (depth : ℕ) (text : List ℕ) → ArrayUpTo depth text (items_view items.items) s.now → IsFound (suc depth) text result.0 result.1.now }
+    ensures within { length result.1.now ≤ length s.now }
+{
+    let start = skip_blank(s, true);
+    if first(start) == b']' {
+        (Found::Value(Node::Array(items)), skip(start, 1))
+    } else {
+        (Found::Opened(Open::Array(items)), start)
+    }
+}
+
+/// Defines the pair whose value was read, and reads on to the value of the next one, or to the table's end.
+fn put_pair(alloc: Global, braces: Braces, value: Node, s: &str) -> Result<(Found, &str), Fault>
+    ensures found { GoesOn (Open.Braces braces) value s.now result }
+    ensures within { IfOk result (λ p. length p.1.now ≤ length s.now) }
+{
+    let Braces {
+        mut table,
+        key,
+        left,
+    } = braces;
+    if let Err(fault) = put(alloc, &mut table, key, value, left) {
+        return Err(fault);
+    }
+    match past_element(s, b'}') {
+        Ok(rest) => next_pair(alloc, table, rest),
+        Err(fault) => Err(fault),
+    }
+}
+
+/// Reads on to the value of the next pair of a table in braces, or to the table's end.
+fn next_pair(alloc: Global, table: OpenTable, s: &str) -> Result<(Found, &str), Fault>
+    ensures found { (depth : ℕ) (text : List ℕ) → BracesUpTo depth text table s.now → Finds (suc depth) text result }
+    ensures within { IfOk result (λ p. length p.1.now ≤ length s.now) }
+{
+    let start = skip_blank(s, true);
+    if first(start) == b'}' {
+        let members = table.finish(alloc)?;
+        return Ok((
+            Found::Value(Node::Table(Origin::Closed, members)),
+            skip(start, 1),
+        ));
+    }
+    match key_and_equals(alloc, start) {
+        Ok((key, rest)) => {
+            let left = start.len();
+            Ok((
+                Found::Opened(Open::Braces(Braces { table, key, left })),
+                rest,
+            ))
         }
-        let (key, at_value) = match key_and_equals(alloc, start) {
-            Ok(read) => read,
-            Err(fault) => return Err(fault),
-        };
-        let (member, after) = match value(alloc, at_value, depth) {
-            Ok(read) => read,
-            Err(fault) => return Err(fault),
-        };
-        if let Err(fault) = put(alloc, &mut found, key, member, start.len()) {
-            return Err(fault);
-        }
-        match past_element(after, b'}') {
-            Ok(next) => rest = next,
-            Err(fault) => return Err(fault),
-        }
+        Err(fault) => Err(fault),
     }
 }
 
 /// Defines a pair of a table in braces.
-#[inline(never)]
 fn put(
     alloc: Global,
     table: &mut OpenTable,
@@ -164,7 +233,6 @@ pub(crate) fn key_and_equals(alloc: Global, s: &str) -> Result<(Key, &str), Faul
 }
 
 /// Reads a string or a scalar.
-#[inline(never)]
 fn atom(alloc: Global, s: &str) -> Result<(Node, &str), Fault>
     ensures value { ParsesPrefixTo node_view result (spec.atom s.now) }
     ensures shorter { Shortens s.now result }

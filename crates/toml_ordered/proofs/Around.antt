@@ -1,0 +1,231 @@
+-- What is read of an array or a table in braces, from what is read of a value inside of it.
+use Rattle.std.proofs.Common.{◌≡◌, ℕ, suc, ◌+◌, ◌==◌, ◌-◌, ◌<◌, ◌≤◌, true, false, List, [], ◌∷◌, ◌++◌, drop, length, Some, None}
+use Rattle.std.proofs.Common.{refl, sym, ap, subst, ◌∙◌, inl, inr, arith}
+use Rattle.toml_parser.specs.Lexical.{first, skip_blank}
+use Rattle.toml_parser.specs.Reading.{key_view}
+use Rattle.toml_parser.specs.Strings.{Key}
+use Rattle.toml.specs.Parse.{after_element, key_equals}
+use Rattle.toml_ordered.proofs.Conflicts.{knows_more_pairs, knows_no_pairs, more_pairs, pairs_conflict, reason_in}
+use Rattle.toml_ordered.proofs.Depths.{blank_within, ends_within, more_items}
+use Rattle.toml_ordered.proofs.Endings.{after_element_ends, end_left, ends_drop, ends_self, ends_then, item_left, key_equals_ends, pair_left}
+use Rattle.toml_ordered.proofs.Endings.{start_ends, value_ends}
+use Rattle.toml_ordered.proofs.Turns.{items_turn, keyval_is, members_turn, val_array, val_table}
+use Rattle.toml_ordered.specs.Data.{Items, TomlNode, TomlNodes, array, no_items, no_nodes, push_item, table}
+use Rattle.toml_ordered.specs.Drafts.{table_view}
+use Rattle.toml_ordered.specs.Firsts.{AddsFirsts, IsAgain, keys_firsts}
+use Rattle.toml_ordered.specs.Grammar.{val}
+use Rattle.toml_ordered.specs.Inside.{ArrayUpTo, BracesUpTo, IsFound, IsInside, IsRead, IsRefused}
+use Rattle.toml_ordered.specs.Nesting.{NestsPast}
+use Rattle.toml_ordered.specs.Places.{EndsWith, PairAt, key_parts}
+use Rattle.toml_ordered.specs.Reading.{IsMemory}
+use Rattle.toml_ordered.specs.Tables.{put}
+use Rattle.toml_ordered.specs.declared.drafts.OpenTable.{OpenTable}
+use Rattle.toml_ordered.specs.declared.fault.Fault.{Fault}
+use Rattle.toml_ordered.specs.declared.tree.Node.{Node}
+use Rattle.toml_ordered.specs.declared.tree.Origin.TheVariants.{Closed}
+use Rattle.toml_ordered.specs.declared.values.Found.{Found}
+use Rattle.toml_ordered.specs.declared.values.Found.TheVariants.{Opened, Value}
+use Rattle.toml_ordered.specs.declared.values.Open.{Open}
+use Rattle.toml_ordered.specs.declared.values.Open.TheVariants.{Array, Braces}
+
+pub inside_ends : (text rest : List ℕ) → EndsWith (drop 1 text) rest → EndsWith text rest
+inside_ends text rest ends = ends_then text (drop 1 text) rest (ends_drop 1 text) ends
+
+-- ---- arrays
+
+pub array_begins : (depth : ℕ) (text : List ℕ) (found : Items) (rest : List ℕ) → (first text == 91) ≡ true → first text ≡ 91 → rest ≡ drop 1 text
+    → length rest < length text → found ≡ no_items → ArrayUpTo depth text found rest
+array_begins depth text found rest bracket opens is shorter none = record {
+  opens = opens;
+  room = length text;
+  enough = shorter;
+  value = val_array depth text bracket ∙ rw (is, none);
+  ends = rw is (ends_self (drop 1 text));
+  count = 0;
+  read = rw is;
+}
+
+module _ (depth : ℕ) (text : List ℕ) (found : Items) (rest : List ℕ) (known : ArrayUpTo depth text found rest) where
+  pub array_ends : (first (skip_blank rest) == 93) ≡ true → val (suc depth) text ≡ Some (array found, drop 1 (skip_blank rest))
+  array_ends closing = known.value ∙ rw (items_turn (val depth) known.room found rest (omega (arith, known.enough)), closing)
+
+  module _ (other : (first (skip_blank rest) == 93) ≡ false) where
+    array_bad : val depth (skip_blank rest) ≡ None → val (suc depth) text ≡ None
+    array_bad read = known.value ∙ rw (items_turn (val depth) known.room found rest (omega (arith, known.enough)), other, read)
+
+    module _ (x : TomlNode) (after : List ℕ) (read : val depth (skip_blank rest) ≡ Some (x, after)) where
+      pub array_unended : after_element 93 after ≡ None → val (suc depth) text ≡ None
+      array_unended element = known.value ∙ rw (items_turn (val depth) known.room found rest (omega (arith, known.enough)), other, read, element)
+
+      pub array_more : (more : Items) (next : List ℕ) → length after < length (skip_blank rest) → more ≡ push_item found x
+          → after_element 93 after ≡ Some next → ArrayUpTo depth text more next
+      array_more more next shorter pushed element = record {
+        opens = known.opens;
+        room = known.room - 1;
+        enough =
+            let blank = blank_within rest in
+            let behind = ends_within after next (after_element_ends 93 after next element) in
+            omega (arith, known.enough, shorter, blank, behind);
+        value = known.value ∙ rw (items_turn (val depth) known.room found rest (omega (arith, known.enough)), other, read, element, pushed);
+        ends = ends_then (drop 1 text) rest next known.ends (item_left depth rest x after next 93 read element);
+        count = suc known.count;
+        read = more_items depth known.count (drop 1 text) rest x after next known.read read element;
+      }
+
+-- ---- tables in braces
+
+pub braces_begin : (depth : ℕ) (text : List ℕ) (found : OpenTable) (rest : List ℕ) → (first text == 91) ≡ false → (first text == 123) ≡ true
+    → first text ≡ 123 → rest ≡ drop 1 text → length rest < length text → table_view found ≡ no_nodes → found.keys.items ≡ []
+    → BracesUpTo depth text found rest
+braces_begin depth text found rest other brace opens is shorter none keyless = record {
+  opens = opens;
+  room = length text;
+  enough = shorter;
+  value = val_table depth text other brace ∙ rw (is, none);
+  ends = rw is (ends_self (drop 1 text));
+  knows = knows_no_pairs depth (drop 1 text) rest _ (ap keys_firsts keyless);
+  count = 0;
+  read = rw (is, none);
+}
+
+module _ (depth : ℕ) (text : List ℕ) (found : OpenTable) (rest : List ℕ) (known : BracesUpTo depth text found rest) where
+  pub braces_end : (first (skip_blank rest) == 125) ≡ true → val (suc depth) text ≡ Some (table Closed (table_view found), drop 1 (skip_blank rest))
+  braces_end closing = known.value ∙ rw (members_turn (val depth) known.room (table_view found) rest (omega (arith, known.enough)), closing)
+
+  module _ (other : (first (skip_blank rest) == 125) ≡ false) where
+    pub braces_nameless : key_equals (skip_blank rest) ≡ None → val (suc depth) text ≡ None
+    braces_nameless named = known.value ∙ rw (members_turn (val depth) known.room (table_view found) rest (omega (arith, known.enough)), other, named)
+
+    module _ (key : Key) (at : List ℕ) (named : key_equals (skip_blank rest) ≡ Some (key, at)) where
+      braces_bad : val depth at ≡ None → val (suc depth) text ≡ None
+      braces_bad read =
+          known.value ∙ rw (members_turn (val depth) known.room (table_view found) rest (omega (arith, known.enough)), other, named, read)
+
+      module _ (x : TomlNode) (after : List ℕ) (read : val depth at ≡ Some (x, after)) where
+        pub braces_unended : (more : TomlNodes) → put key x (table_view found) ≡ Some more → after_element 125 after ≡ None → val (suc depth) text ≡ None
+        braces_unended more defined element =
+            known.value
+            ∙ rw (members_turn (val depth) known.room (table_view found) rest (omega (arith, known.enough)), other, named, read, defined, element)
+
+        module _ (here : ℕ) (is : here ≡ length (skip_blank rest)) where
+          abbrev pair_at : PairAt depth (drop 1 text) (table_view found) key here
+          pair_at = record { rest = rest; after = at; ends = known.ends; count = known.count; read = known.read; begins = named; here = is }
+
+          within : here ≤ length rest
+          within = let blank = blank_within rest in omega (arith, is, blank)
+
+          pub braces_again : (refused : Fault) → ((IsMemory refused → ⊥) → put key x (table_view found) ≡ None)
+              → IsAgain (key_parts key) here (keys_firsts found.keys.items) refused → IsRefused (suc depth) text refused
+          braces_again refused denies again = (
+            λ real.
+                known.value
+                ∙ rw (members_turn (val depth) known.room (table_view found) rest (omega (arith, known.enough)), other, named, read, denies real),
+            (reason_in text (drop 1 text) refused (λ left. NestsPast (suc depth) left text) (λ left. NestsPast (suc depth) left text) (ends_drop 1 text)
+                (λ left deep. deep)
+                (pairs_conflict depth (drop 1 text) rest (table_view found) key here (keys_firsts found.keys.items) refused known.knows pair_at within x after
+                (keyval_is (val depth) (skip_blank rest) key at after x named read) denies again (λ left. NestsPast (suc depth) left text))),
+          )
+
+          pub braces_more : (new : OpenTable) (next : List ℕ) → length after < length at → put key x (table_view found) ≡ Some (table_view new)
+              → AddsFirsts (key_parts key) here (table_view found) (keys_firsts found.keys.items) (keys_firsts new.keys.items)
+              → after_element 125 after ≡ Some next → BracesUpTo depth text new next
+          braces_more new next shorter defined adds element =
+              let start = skip_blank rest in
+              let value = ends_within start at (end_left start (key_equals start) key at (key_equals_ends start) named) in
+              let behind = ends_within after next (after_element_ends 125 after next element) in record {
+                opens = known.opens;
+                room = known.room - 1;
+                enough = let blank = blank_within rest in omega (arith, known.enough, shorter, value, behind, blank);
+                value =
+                    known.value
+                    ∙ rw (members_turn (val depth) known.room (table_view found) rest (omega (arith, known.enough)), other, named, read, defined, element);
+                ends = ends_then (drop 1 text) rest next known.ends (pair_left depth rest key at x after next 125 named read element);
+                knows = knows_more_pairs depth (drop 1 text) rest next (table_view found) key here _ _ known.knows pair_at within
+                    (omega (arith, shorter, value, behind, is)) adds;
+                count = suc known.count;
+                read = more_pairs depth known.count (drop 1 text) (table_view found) (table_view new) rest key x after next known.read
+                    (keyval_is (val depth) (skip_blank rest) key at after x named read) defined element;
+              }
+
+-- ---- from the inside outwards
+
+inside_refused : (depth : ℕ) (text : List ℕ) (outer : Open) (at : List ℕ) (fault : Fault) → IsInside depth text outer at → IsRefused depth at fault
+    → IsRefused (suc depth) text fault
+inside_refused depth text (Array found) at fault (rest, known, other, is) refused = (
+  λ real. array_bad depth text _ rest known other (rw is at refused.0 real),
+  (reason_in text at fault (λ left. NestsPast depth left at) (λ left. NestsPast (suc depth) left text)
+      (inside_ends text at (start_ends (drop 1 text) rest at known.ends is))
+      (λ left deep. inl (known.opens, (at, record { rest = rest; ends = known.ends; count = known.count; read = known.read; here = is }, deep))) refused.1),
+)
+inside_refused depth text (Braces found) at fault (rest, known, other, named, is) refused = (
+  λ real. braces_bad depth text found.table rest known other (key_view found.key) at named (refused.0 real),
+  (reason_in text at fault (λ left. NestsPast depth left at) (λ left. NestsPast (suc depth) left text)
+      (inside_ends text at (value_ends (drop 1 text) rest (key_view found.key) at known.ends named))
+      (λ left deep. inr (
+        known.opens,
+        (
+          table_view found.table,
+          key_view found.key,
+          length (skip_blank rest),
+          record { rest = rest; after = at; ends = known.ends; count = known.count; read = known.read; begins = named; here = refl },
+          deep,
+        ),
+      )) refused.1),
+)
+
+-- what is open, from the outermost on, begins the text, and here begins the value inside of all, which may nest so deep
+abbrev pub Stands : List Open → (depth : ℕ) (text : List ℕ) → (inner : ℕ) (at : List ℕ) → Type 0
+Stands [] depth text inner at = (depth ≡ inner) × (text ≡ at)
+Stands (outer ∷ others) depth text inner at =
+    (less : ℕ) × (next : List ℕ) × (depth ≡ suc less) × IsInside less text outer next × Stands others less next inner at
+
+stands_depth : (opened : List Open) (depth : ℕ) (text : List ℕ) (inner : ℕ) (at : List ℕ) → Stands opened depth text inner at
+    → depth ≡ length opened + inner
+stands_depth [] depth text inner at (is, same) = omega (arith, is)
+stands_depth (outer ∷ others) depth text inner at (less, next, is, inside, stands) =
+    let more = stands_depth others less next inner at stands in
+    omega (arith, is, more)
+
+stands_push : (opened : List Open) (depth : ℕ) (text : List ℕ) (inner : ℕ) (at : List ℕ) (innermost : Open) (next : List ℕ)
+    → Stands opened depth text (suc inner) at → IsInside inner at innermost next → Stands (opened ++ innermost ∷ []) depth text inner next
+stands_push [] depth text inner at innermost next (is, same) inside = (inner, next, is, rw same inside, (refl, refl))
+stands_push (outer ∷ others) depth text inner at innermost next (less, middle, is, around, stands) inside =
+    (less, middle, is, around, stands_push others less middle inner at innermost next stands inside)
+
+stands_pop : (opened : List Open) (depth : ℕ) (text : List ℕ) (inner : ℕ) (at : List ℕ) (innermost : Open)
+    → Stands (opened ++ innermost ∷ []) depth text inner at → (from : List ℕ) × Stands opened depth text (suc inner) from × IsInside inner from innermost at
+stands_pop [] depth text inner at innermost (less, next, is, inside, (same, there)) =
+    let there_inside = subst (λ (t : List ℕ). IsInside less text innermost t) there inside in
+    (text, (is ∙ ap suc same, refl), subst (λ (n : ℕ). IsInside n text innermost at) same there_inside)
+stands_pop (outer ∷ others) depth text inner at innermost (less, next, is, inside, stands) =
+    let (from, more, innermost_is) = stands_pop others less next inner at innermost stands in
+    (from, (less, next, is, inside, more), innermost_is)
+
+-- what is found there opens
+pub stands_opened : (opened pushed : List Open) (depth : ℕ) (text : List ℕ) (inner : ℕ) (at : List ℕ) (found : Found) (innermost : Open) (rest : List ℕ)
+    → Stands opened depth text inner at → IsFound inner at found rest → found ≡ Opened innermost → pushed ≡ opened ++ innermost ∷ []
+    → (count : ℕ) → count ≡ length pushed → (count ≤ depth) × Stands pushed depth text (depth - count) rest
+stands_opened opened pushed depth text inner at found innermost rest stands is_found is one_more count counts =
+    let (less, suc_less, inside) = subst (λ (f : Found). IsFound inner at f rest) is is_found in
+    let more = subst (λ (os : List Open). Stands os depth text less rest) (sym one_more)
+    (stands_push opened depth text less at innermost rest (subst (λ (n : ℕ). Stands opened depth text n at) suc_less stands) inside) in
+    let whole = stands_depth pushed depth text less rest more in
+    let same : less ≡ depth - count = omega (arith, whole, counts) in
+    (omega (arith, whole, counts), subst (λ (n : ℕ). Stands pushed depth text n rest) same more)
+
+-- it is a value, in what is innermost
+pub stands_closed : (opened popped : List Open) (depth : ℕ) (text : List ℕ) (inner : ℕ) (at : List ℕ) (found : Found) (node : Node) (rest : List ℕ)
+    (innermost : Open) → Stands opened depth text inner at → IsFound inner at found rest → found ≡ Value node → opened ≡ popped ++ innermost ∷ []
+    → (from : List ℕ) × Stands popped depth text (suc inner) from × IsInside inner from innermost at × IsRead inner at node rest
+stands_closed opened popped depth text inner at found node rest innermost stands is_found is one_less =
+    let (from, fewer, inside) =
+    stands_pop popped depth text inner at innermost (subst (λ (os : List Open). Stands os depth text inner at) one_less stands) in
+    (from, fewer, inside, subst (λ (f : Found). IsFound inner at f rest) is is_found)
+
+pub stands_refused : (opened : List Open) (depth : ℕ) (text : List ℕ) (inner : ℕ) (at : List ℕ) (fault : Fault) → Stands opened depth text inner at
+    → IsRefused inner at fault → IsRefused depth text fault
+stands_refused [] depth text inner at fault (is, same) refused =
+    subst (λ (n : ℕ). IsRefused n text fault) (sym is) (subst (λ (t : List ℕ). IsRefused inner t fault) (sym same) refused)
+stands_refused (outer ∷ others) depth text inner at fault (less, next, is, inside, stands) refused =
+    subst (λ (n : ℕ). IsRefused n text fault) (sym is)
+    (inside_refused less text outer next fault inside (stands_refused others less next inner at fault stands refused))

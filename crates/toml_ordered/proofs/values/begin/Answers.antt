@@ -1,0 +1,59 @@
+use Rattle.std.proofs.Common.{◌≡◌, suc, ◌==◌, ◌-◌, ◌||◌, true, false, ℕ, subst, ap, arith}
+use Rattle.std.proofs.lemmas.Grind.{common_steps}
+use Rattle.std.specs.Prelude.{◌⊎◌}
+use Rattle.toml_parser.specs.Lexical.{first}
+use Rattle.toml_ordered.proofs.Around.{array_begins, braces_begin}
+use Rattle.toml_ordered.proofs.Conflicts.{other_than}
+use Rattle.toml_ordered.proofs.Depths.{nests_here}
+use Rattle.toml_ordered.proofs.Turns.{val_atom, val_deep}
+use Rattle.toml_ordered.specs.Data.{items_view}
+use Rattle.toml_ordered.specs.Inside.{Finds, IsFound}
+use Rattle.toml_ordered.specs.Places.{PairsConflict}
+use Rattle.toml_ordered.proofs.values.begin.Goals as goal
+
+pub returns-in-Ok-clause-found : goal.returns-in-Ok-clause-found
+returns-in-Ok-clause-found c =
+    let s = c.args.s.now in
+    let a : (first s == 91) ≡ false = grind (arith, common_steps) in
+    let b : (first s == 123) ≡ false = grind (arith, common_steps) in
+    (rw (val_atom c.args.depth s a b) c.in-Ok.ensures.value, c.in-Ok.ensures.shorter)
+
+pub returns-in-Err-clause-found : goal.returns-in-Err-clause-found
+returns-in-Err-clause-found c =
+    let s = c.args.s.now in
+    let a : (first s == 91) ≡ false = grind (arith, common_steps) in
+    let b : (first s == 123) ≡ false = grind (arith, common_steps) in
+    (λ real. rw (val_atom c.args.depth s a b) (c.in-Err.ensures.value real), other_than _ _ c.in-Err.refused c.in-Err.ensures.once)
+
+pub returns-then-depth-eq0-clause-found : goal.returns-then-depth-eq0-clause-found
+returns-then-depth-eq0-clause-found c =
+    let s = c.args.s.now in
+    let bracket : ((first s == 91) || (first s == 123)) ≡ true = grind (arith, common_steps) in
+    let opening : (first s ≡ 91) ⊎ (first s ≡ 123) = grind (arith, common_steps) in
+    let zero : c.args.depth ≡ 0 = omega arith in (
+      λ real. rw zero (val_deep s bracket),
+      nests_here c.args.depth s c.too_deep.result (PairsConflict s) zero opening c.too_deep.ensures,
+    )
+
+pub returns-then-byte-eq91-clause-found : goal.returns-then-byte-eq91-clause-found
+returns-then-byte-eq91-clause-found c =
+    let s = c.args.s.now in
+    let less = c.args.depth - 1 in
+    let is : suc less ≡ c.args.depth = omega arith in
+    let a : (first s == 91) ≡ true = grind (arith, common_steps) in
+    let opening : first s ≡ 91 = grind (arith, common_steps) in
+    subst (λ (n : ℕ). IsFound n s c.next_item.result.0 c.next_item.result.1.now) is
+    (c.next_item.ensures.found less s (array_begins less s _ _ a opening c.skip.ensures.rest c.skip.ensures.shorter (ap items_view c.new.ensures.items)))
+
+pub returns-else-byte-eq91-clause-found : goal.returns-else-byte-eq91-clause-found
+returns-else-byte-eq91-clause-found c =
+    let s = c.args.s.now in
+    let less = c.args.depth - 1 in
+    let is : suc less ≡ c.args.depth = omega arith in
+    let a : (first s == 91) ≡ false = grind (arith, common_steps) in
+    let b : (first s == 123) ≡ true = grind (arith, common_steps) in
+    let opening : first s ≡ 123 = grind (arith, common_steps) in
+    subst (λ (n : ℕ). Finds n s c.next_pair.result) is
+    (c.next_pair.ensures.found less s
+    (braces_begin less s _ _ a b opening c.skip-else-byte-eq91.ensures.rest c.skip-else-byte-eq91.ensures.shorter c.new-else-byte-eq91.ensures.view
+    c.new-else-byte-eq91.ensures.keys))

@@ -1,0 +1,49 @@
+use Rattle.std.proofs.Common.{ℕ, suc, ◌-◌, ◌≤◌, List, rules, ◌∙◌}
+use Rattle.toml_ordered.proofs.Around.{Stands, stands_closed, stands_opened, stands_refused}
+use Rattle.toml_ordered.specs.Inside.{IsInside, IsRead}
+use Rattle.toml_ordered.proofs.values.value.Goals as goal
+use Rattle.toml_ordered.proofs.values.value.Goals.{After-len, After-go_on}
+
+opened : (c : After-len)
+    → (c.len.result ≤ c.args.depth) × Stands c.push.new.self.items c.args.depth c.args.s.now (c.args.depth - c.len.result) c.values.rest.now
+opened c =
+    let (utf8, inner, at, stands, found) = c.values.invariant in
+    stands_opened c.values.open.items c.push.new.self.items c.args.depth c.args.s.now inner at c.values.found c.in-Opened.innermost c.values.rest.now
+    stands found c.in-Opened.is c.in_ok-push-in-Opened.ensures.items c.len.result (c.len.ensures ∙ c.push.new.self.ok.0)
+
+pub overflow_sub-depth : goal.overflow_sub-depth
+overflow_sub-depth c = (opened c).0
+
+pub values-preserved-in-Ok-begin : goal.values-preserved-in-Ok-begin
+values-preserved-in-Ok-begin c =
+    let stands = (opened (goal.at.values-preserved-in-Ok-begin c).After-len).1 in
+    (search rules, c.args.depth - c.len.result, c.values.rest.now, stands, c.in-Ok-begin.ensures.found)
+
+pub returns-in-Err-begin : goal.returns-in-Err-begin
+returns-in-Err-begin c =
+    let stands = (opened (goal.at.returns-in-Err-begin c).After-len).1 in
+    let pushed = c.push.new.self.items in
+    let refused = stands_refused pushed c.args.depth c.args.s.now _ c.values.rest.now c.in-Err-begin.fault stands c.in-Err-begin.ensures.found in
+    record { value = refused.0; shorter = tt; reason = refused.1 }
+
+closed : (c : After-go_on)
+    → (inner : ℕ) × (at : List ℕ) × (from : List ℕ) × Stands c.pop.new.self.items c.args.depth c.args.s.now (suc inner) from
+    × IsInside inner from c.in-Some.outer at × IsRead inner at c.in-Value.node c.values.rest.now
+closed c =
+    let (utf8, inner, at, stands, found) = c.values.invariant in
+    let (from, fewer, inside, read) =
+    stands_closed c.values.open.items c.pop.new.self.items c.args.depth c.args.s.now inner at c.values.found c.in-Value.node c.values.rest.now
+    c.in-Some.outer stands found c.in-Value.is c.in-Some.ensures.items in
+    (inner, at, from, fewer, inside, read)
+
+pub values-preserved : goal.values-preserved
+values-preserved c =
+    let (inner, at, from, stands, inside, read) = closed (goal.at.values-preserved c).After-go_on in
+    (search rules, suc inner, from, stands, c.in-Ok-go_on.ensures.found inner from at inside read)
+
+pub returns-in-Err-go_on : goal.returns-in-Err-go_on
+returns-in-Err-go_on c =
+    let (inner, at, from, stands, inside, read) = closed (goal.at.returns-in-Err-go_on c).After-go_on in
+    let refused = stands_refused c.pop.new.self.items c.args.depth c.args.s.now (suc inner) from c.in-Err-go_on.fault stands
+    (c.in-Err-go_on.ensures.found inner from at inside read) in
+    record { value = refused.0; shorter = tt; reason = refused.1 }

@@ -1,0 +1,78 @@
+-- What is known of an array or a table in braces while a value inside of it is read.
+use Rattle.std.specs.Prelude.{◌≡◌, ℕ, suc, ◌==◌, false, ◌<◌, List, drop, length, Result, MatchResult, Some, None}
+use Rattle.std.specs.Borrow.{Bor}
+use Rattle.toml_parser.specs.Lexical.{first, left_brace, left_bracket, right_brace, right_bracket, skip_blank}
+use Rattle.toml_parser.specs.Reading.{key_view}
+use Rattle.toml.specs.Parse.{key_equals, read_map}
+use Rattle.toml_ordered.specs.Data.{Items, array, items_view, node_view, table}
+use Rattle.toml_ordered.specs.Drafts.{table_view}
+use Rattle.toml_ordered.specs.Firsts.{FaultTells, Firsts, HasFirst, keys_firsts}
+use Rattle.toml_ordered.specs.Grammar.{items, members, val}
+use Rattle.toml_ordered.specs.Nesting.{NestsPast, after_items}
+use Rattle.toml_ordered.specs.Places.{EndsWith, PairFirstDefines, PairsConflict, after_pairs}
+use Rattle.toml_ordered.specs.Reading.{IsMemory}
+use Rattle.toml_ordered.specs.declared.drafts.OpenTable.{OpenTable}
+use Rattle.toml_ordered.specs.declared.fault.Fault.{Fault}
+use Rattle.toml_ordered.specs.declared.tree.Node.{Node}
+use Rattle.toml_ordered.specs.declared.tree.Origin.TheVariants.{Closed}
+use Rattle.toml_ordered.specs.declared.values.Found.{Found}
+use Rattle.toml_ordered.specs.declared.values.Found.TheVariants.{Opened, Value}
+use Rattle.toml_ordered.specs.declared.values.Open.{Open}
+use Rattle.toml_ordered.specs.declared.values.Open.TheVariants.{Array, Braces}
+
+-- an array begins the text, and its first items are read, up to the rest; the text is read as the array of these and of what the rest holds
+pub record ArrayUpTo (depth : ℕ) (text : List ℕ) (found : Items) (rest : List ℕ) : Type 0 where
+  pub opens : first text ≡ left_bracket
+  pub room : ℕ
+  pub enough : length rest < room
+  pub value : val (suc depth) text ≡ read_map array (items (val depth) room found rest)
+  pub ends : EndsWith (drop 1 text) rest
+  pub count : ℕ
+  pub read : after_items depth count (drop 1 text) ≡ Some rest
+
+-- each key was first defined by a pair, before the rest
+abbrev pub KnowsPairs : (depth : ℕ) → (text : List ℕ) → Firsts → (rest : List ℕ) → Type 0
+KnowsPairs depth text firsts rest =
+    (path : List (List ℕ)) (key : List ℕ) (left : ℕ) → HasFirst firsts path key left → PairFirstDefines depth text path key left × (length rest < left)
+
+-- a table in braces begins the text, and its first pairs are read, up to the rest
+pub record BracesUpTo (depth : ℕ) (text : List ℕ) (found : OpenTable) (rest : List ℕ) : Type 0 where
+  pub opens : first text ≡ left_brace
+  pub room : ℕ
+  pub enough : length rest < room
+  pub value : val (suc depth) text ≡ read_map (table Closed) (members (val depth) room (table_view found) rest)
+  pub ends : EndsWith (drop 1 text) rest
+  pub knows : KnowsPairs depth (drop 1 text) (keys_firsts found.keys.items) rest
+  pub count : ℕ
+  pub read : after_pairs depth count (drop 1 text) ≡ Some (table_view found, rest)
+
+-- behind what is read of the array or the table in braces that begins the text, the value of the next item or pair begins here
+abbrev pub IsInside : (depth : ℕ) (text : List ℕ) → Open → (at : List ℕ) → Type 0
+IsInside depth text (Array found) at =
+    (rest : List ℕ) × ArrayUpTo depth text (items_view found.items) rest × ((first (skip_blank rest) == right_bracket) ≡ false) × (at ≡ skip_blank rest)
+IsInside depth text (Braces found) at =
+    (rest : List ℕ) × BracesUpTo depth text found.table rest × ((first (skip_blank rest) == right_brace) ≡ false)
+    × (key_equals (skip_blank rest) ≡ Some (key_view found.key, at)) × (found.left ≡ length (skip_blank rest))
+
+-- the value that begins the text is this one, and the rest follows it
+abbrev pub IsRead : (depth : ℕ) (text : List ℕ) → Node → (rest : List ℕ) → Type 0
+IsRead depth text node rest = (val depth text ≡ Some (node_view node, rest)) × (length rest < length text)
+
+-- it is read; or a value inside of it begins the rest
+abbrev pub IsFound : (depth : ℕ) (text : List ℕ) → Found → (rest : List ℕ) → Type 0
+IsFound depth text (Value node) rest = IsRead depth text node rest
+IsFound depth text (Opened inner) rest = (less : ℕ) × (depth ≡ suc less) × IsInside less text inner rest
+
+-- no value begins the text, unless an allocation failed; and why
+abbrev pub IsRefused : (depth : ℕ) (text : List ℕ) → Fault → Type 0
+IsRefused depth text fault =
+    ((IsMemory fault → ⊥) → val depth text ≡ None) × FaultTells fault (PairsConflict text) (λ left. NestsPast depth left text)
+
+-- what is read of the value that begins the text
+abbrev pub Finds : (depth : ℕ) (text : List ℕ) → Result (Found × Bor (List ℕ)) Fault → Type 0
+Finds depth text r = MatchResult r (λ p. IsFound depth text p.0 p.1.now) (IsRefused depth text)
+
+-- what is read once a value inside of what begins the text is read, as this one
+abbrev pub GoesOn : Open → Node → (rest : List ℕ) → Result (Found × Bor (List ℕ)) Fault → Type 0
+GoesOn outer node rest r =
+    (depth : ℕ) (text at : List ℕ) → IsInside depth text outer at → IsRead depth at node rest → Finds (suc depth) text r
