@@ -2,12 +2,13 @@
 use Rattle.std.proofs.Common.{◌≡◌, ℕ, suc, ◌+◌, ◌*◌, ◌<◌, List, [], ◌∷◌, ◌++◌, length, String, Vec, Global, string_bytes, refl, sym, ap, ap₂, ◌∙◌, arith}
 use Rattle.toml_ordered.proofs.Trees.{Entry}
 use Rattle.toml_ordered.specs.Data.{TomlNode, table, tables, TomlNodes, no_nodes, node, node_view, entries_view}
-use Rattle.toml_ordered.specs.Unfinished.{IsBegun, live_view, made_view}
+use Rattle.toml_ordered.specs.Unfinished.{IsBegun, live_view}
+use Rattle.toml_ordered.specs.Passing.{held_view}
 use Rattle.toml_ordered.specs.declared.drafts.Around.{Around}
 use Rattle.toml_ordered.specs.declared.drafts.Half.{Half}
-use Rattle.toml_ordered.specs.declared.drafts.Made.{Made}
+use Rattle.toml_ordered.specs.declared.passed.Holder.{Holder}
 use Rattle.toml_ordered.specs.declared.drafts.live.LiveKeys.{LiveKeys}
-use Rattle.toml_ordered.specs.declared.drafts.Made.TheVariants as made
+use Rattle.toml_ordered.specs.declared.passed.Holder.TheVariants as holder
 use Rattle.toml_ordered.specs.declared.tree.Node.{Node as CodeNode}
 
 -- some keys before others
@@ -20,7 +21,7 @@ abbrev pub half_view : Half → TomlNodes
 half_view h = joined (entries_view h.nodes.items) (live_view h.keys)
 
 abbrev pub around_view : Around → TomlNodes → TomlNodes
-around_view a ns = joined (entries_view a.table.nodes.items) (node (string_bytes a.place.0) (made_view a.place.1 ns) (live_view a.table.keys))
+around_view a ns = joined (entries_view a.table.nodes.items) (node (string_bytes a.place.0) (held_view a.place.1 ns) (live_view a.table.keys))
 
 -- what the outermost becomes
 abbrev pub unwound : List Around → TomlNodes → TomlNodes
@@ -62,9 +63,9 @@ pub around_size-push : (outer : List Around) (a : Around) → around_size (outer
 around_size-push [] a = omega arith
 around_size-push (b ∷ outer) a = let more = around_size-push outer a in omega (arith, more)
 
-pub made_size : (m : Made) (ns : TomlNodes) → node_size (made_view m ns) ≡ nodes_size ns
-made_size (made.Table origin) ns = refl
-made_size (made.Tables done) ns = refl
+pub held_size : (h : Holder) (ns : TomlNodes) → node_size (held_view h ns) ≡ nodes_size ns
+held_size (holder.Table origin) ns = refl
+held_size (holder.Tables done) ns = refl
 
 -- ---- the turns of the loop
 
@@ -88,13 +89,13 @@ completed outer was now e x next is pushed =
     )
 
 -- a table inside is begun
-pub entered : (outer all : List Around) (was now : Half) (rest : LiveKeys) (place : String Global × Made × ℕ) (x : TomlNode) (ns : TomlNodes)
+pub entered : (outer all : List Around) (was now : Half) (rest : LiveKeys) (place : String Global × Holder × ℕ) (x : TomlNode) (ns : TomlNodes)
     → all ≡ outer ++ record { table = record { nodes = was.nodes; keys = rest }; place = place } ∷ []
-    → live_view was.keys ≡ node (string_bytes place.0) x (live_view rest) → x ≡ made_view place.1 ns → IsBegun ns now → Turns all now outer was
+    → live_view was.keys ≡ node (string_bytes place.0) x (live_view rest) → x ≡ held_view place.1 ns → IsBegun ns now → Turns all now outer was
 entered outer all was now rest place x ns more next is begun =
     let a : Around = record { table = record { nodes = was.nodes; keys = rest }; place = place } in
     let size = ap nodes_size next in
-    let made = ap node_size is ∙ made_size place.1 ns in
+    let held = ap node_size is ∙ held_size place.1 ns in
     let inner = ap nodes_size begun.1 in
     let count = ap around_size more ∙ around_size-push outer a in (
       ap (λ (o : List Around). unwound o (half_view now)) more ∙ unwound-push outer a (half_view now)
@@ -102,12 +103,12 @@ entered outer all was now rest place x ns more next is begun =
           (ap (around_view a) (ap₂ (λ (es : List Entry) (ms : TomlNodes). joined (entries_view es) ms) begun.0 begun.1)
           ∙ ap (λ (y : TomlNode). joined (entries_view was.nodes.items) (node (string_bytes place.0) y (live_view rest))) (sym is)
           ∙ sym (ap (joined (entries_view was.nodes.items)) next)),
-      omega (arith, size, made, inner, count),
+      omega (arith, size, held, inner, count),
     )
 
 -- a table inside is complete
 pub ended : (outer all : List Around) (was : Half) (a : Around) (x : CodeNode) (nodes : Vec Entry Global) → all ≡ outer ++ a ∷ []
-    → live_view was.keys ≡ no_nodes → node_view x ≡ made_view a.place.1 (entries_view was.nodes.items)
+    → live_view was.keys ≡ no_nodes → node_view x ≡ held_view a.place.1 (entries_view was.nodes.items)
     → nodes.items ≡ a.table.nodes.items ++ (a.place.0, x, a.place.2) ∷ []
     → Turns outer (record { nodes = nodes; keys = a.table.keys }) all was
 ended outer all was a x nodes more none is pushed =

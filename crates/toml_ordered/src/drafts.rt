@@ -7,11 +7,13 @@ ghost use Rattle.toml_ordered.specs.Drafts.{IsIndexedAt, draft_view, keys_view};
 ghost use Rattle.toml_ordered.specs.declared.drafts.Draft.{Draft as CodeDraft};
 ghost use Rattle.toml_ordered.specs.Reading.{ParsesTo, IsMemory};
 ghost use Rattle.toml_ordered.specs.Tables.{append, get_node};
-ghost use Rattle.toml_ordered.specs.Unfinished.{IsBegun, made_view};
+ghost use Rattle.toml_ordered.specs.Passing.{held_view};
+ghost use Rattle.toml_ordered.specs.Unfinished.{IsBegun};
 
 mod live;
 
 use crate::fault::Fault;
+use crate::passed::Holder;
 use crate::tree::{Node, Nodes, Origin};
 use live::LiveKeys;
 use std::alloc::{AllocError, Global};
@@ -119,18 +121,11 @@ struct Half {
     keys: LiveKeys,
 }
 
-/// The value that the keys of a table make once they are complete.
-#[derive(Drop)]
-enum Made {
-    Table(Origin),
-    Tables(Vec<Node>),
-}
-
 /// A table that waits for one inside: the latter's key, what it makes, and how much text is left there.
 #[derive(Drop)]
 struct Around {
     table: Half,
-    place: (String, Made, usize),
+    place: (String, Holder, usize),
 }
 
 impl Half {
@@ -141,18 +136,6 @@ impl Half {
         let nodes = Vec::with_capacity(alloc, keys.len())?;
         let keys = LiveKeys::new(keys, index);
         Ok(Half { nodes, keys })
-    }
-}
-
-impl Made {
-    /// Makes the value.
-    fn of(self, nodes: Nodes) -> Node
-        ensures { node_view result ≡ made_view self (entries_view nodes.items) }
-    {
-        match self {
-            Made::Table(origin) => Node::Table(origin, nodes),
-            Made::Tables(done) => Node::Tables(done, nodes),
-        }
     }
 }
 
@@ -168,8 +151,8 @@ pub(crate) fn finish(alloc: Global, keys: Keys, index: Index) -> Result<Nodes, A
     'turns: loop {
         match table.keys.next() {
             Some((key, draft, left)) => match inner_keys(draft) {
-                Ok((made, keys, index)) => {
-                    let place = (key, made, left);
+                Ok((holder, keys, index)) => {
+                    let place = (key, holder, left);
                     around.push(Around { table, place })?;
                     table = match Half::new(alloc, keys, index) {
                         Ok(inner) => inner,
@@ -180,8 +163,8 @@ pub(crate) fn finish(alloc: Global, keys: Keys, index: Index) -> Result<Nodes, A
             },
             None => match around.pop() {
                 Some(outer) => {
-                    let (key, made, left) = outer.place;
-                    let node = made.of(table.nodes);
+                    let (key, holder, left) = outer.place;
+                    let node = holder.completed(table.nodes);
                     table = outer.table;
                     table.nodes.push((key, node, left))?;
                 }
@@ -192,13 +175,13 @@ pub(crate) fn finish(alloc: Global, keys: Keys, index: Index) -> Result<Nodes, A
 }
 
 /// Returns the keys inside a value, or the value if it takes no more.
-fn inner_keys(draft: Draft) -> Result<(Made, Keys, Index), Node>
-    ensures { MatchResult result (λ t. draft_view draft ≡ made_view t.0 (keys_view t.1.items t.2)) (λ node. draft_view draft ≡ spec.sealed (node_view node)) }
+fn inner_keys(draft: Draft) -> Result<(Holder, Keys, Index), Node>
+    ensures { MatchResult result (λ t. draft_view draft ≡ held_view t.0 (keys_view t.1.items t.2)) (λ node. draft_view draft ≡ spec.sealed (node_view node)) }
 {
     match draft {
         Draft::Value(node) => Err(node),
-        Draft::Table(origin, keys, index) => Ok((Made::Table(origin), keys, index)),
-        Draft::Tables(done, last, index) => Ok((Made::Tables(done), last, index)),
+        Draft::Table(origin, keys, index) => Ok((Holder::Table(origin), keys, index)),
+        Draft::Tables(done, last, index) => Ok((Holder::Tables(done), last, index)),
     }
 }
 

@@ -3,7 +3,7 @@ ghost use Rattle.std.specs.Prelude.{◌<◌, vec_len};
 
 use crate::drafts::{Draft, OpenTable};
 use crate::route::Way;
-use crate::tree::{Node, Origin};
+use crate::tree::{Node, Nodes, Origin};
 use std::mem;
 
 /// A value without the table in it that may still grow.
@@ -16,7 +16,8 @@ pub(crate) enum Holder {
 
 impl Holder {
     ghost use Rattle.std.specs.Prelude.{◌≡◌, MatchOption};
-    ghost use Rattle.toml_ordered.specs.Passing.{IsOpened, IsShut, held};
+    ghost use Rattle.toml_ordered.specs.Data.{entries_view, node_view};
+    ghost use Rattle.toml_ordered.specs.Passing.{IsOpened, IsShut, held, held_view};
 
     /// Takes the table out of a value that a key passes; returns `None` where the value lets no key pass so.
     pub(crate) fn open(way: Way, value: Draft) -> Option<(Holder, OpenTable)>
@@ -41,6 +42,16 @@ impl Holder {
             Draft::Value(node) => drop(node),
         }
         None
+    }
+
+    /// Returns the value with these keys in it, which are complete.
+    pub(crate) fn completed(self, nodes: Nodes) -> Node
+        ensures { node_view result ≡ held_view self (entries_view nodes.items) }
+    {
+        match self {
+            Holder::Table(origin) => Node::Table(origin, nodes),
+            Holder::Tables(done) => Node::Tables(done, nodes),
+        }
     }
 
     /// Returns the value with this table in it.

@@ -14,15 +14,15 @@ completes c =
 enters : (c : In-Ok-new) → Turns c.push.new.self.items c.in-Ok-new.inner c.turns.around.items c.turns.table
 enters c =
     let inside = c.in-Ok-inner_keys in
-    entered c.turns.around.items c.push.new.self.items c.turns.table c.in-Ok-new.inner c.next.new.self (c.in-Some.key, inside.made, c.in-Some.left)
+    entered c.turns.around.items c.push.new.self.items c.turns.table c.in-Ok-new.inner c.next.new.self (c.in-Some.key, inside.holder, c.in-Some.left)
     (draft_view c.in-Some.draft) (keys_view inside.keys.items inside.index) c.in_ok-push-in-Ok-inner_keys.ensures.items c.in-Some.ensures inside.ensures
     c.in-Ok-new.ensures
 
 ends : (c : In_ok-push-in-Some-pop)
     → Turns c.pop.new.self.items (record { nodes = c.push-in-Some-pop.new.self; keys = c.in-Some-pop.outer.table.keys }) c.turns.around.items c.turns.table
 ends c =
-    ended c.pop.new.self.items c.turns.around.items c.turns.table c.in-Some-pop.outer c.of-node.result c.push-in-Some-pop.new.self
-    c.in-Some-pop.ensures.items c.in-None.ensures c.of-node.ensures c.in_ok-push-in-Some-pop.ensures.items
+    ended c.pop.new.self.items c.turns.around.items c.turns.table c.in-Some-pop.outer c.completed-node.result c.push-in-Some-pop.new.self
+    c.in-Some-pop.ensures.items c.in-None.ensures c.completed-node.ensures c.in_ok-push-in-Some-pop.ensures.items
 
 pub turns-preserved-in-Ok-inner_keys : goal.turns-preserved-in-Ok-inner_keys
 turns-preserved-in-Ok-inner_keys c = (enters c).0 ∙ c.turns.invariant
