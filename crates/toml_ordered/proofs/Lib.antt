@@ -14,3 +14,4 @@ pub mod SortedKeys
 pub mod SortedTables
 pub mod SortedScalars
 pub mod SortedTexts
+pub mod Counts

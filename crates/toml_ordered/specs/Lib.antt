@@ -10,3 +10,4 @@ pub mod Nesting
 pub mod Inside
 pub mod Sorted
 pub mod Passing
+pub mod Counts

@@ -10,6 +10,7 @@ ghost use Rattle.toml_ordered.specs.Tables.{append, get_node};
 ghost use Rattle.toml_ordered.specs.Passing.{held_view};
 ghost use Rattle.toml_ordered.specs.Unfinished.{IsBegun};
 
+mod apart;
 mod live;
 
 use crate::fault::Fault;
@@ -20,13 +21,35 @@ use std::alloc::{AllocError, Global};
 use std::collections::BTreeMap;
 
 /// A value in a table that may still grow.
-#[derive(Drop)]
 pub(crate) enum Draft {
     /// It takes no more.
     Value(Node),
     Table(Origin, Keys, Index),
     /// The tables of an array that headers in double brackets make. The last is apart, since only that one can grow.
     Tables(Vec<Node>, Keys, Index),
+}
+
+/// Drops the value by a loop, as a `Node` is dropped.
+impl Drop for Draft {
+    fn drop(self) {
+        let mut around = Draft::Value(Node::NotANumber);
+        let mut hand = self;
+        'drafts: loop {
+            match hand.enter(around) {
+                Ok((outer, inner)) => {
+                    around = outer;
+                    hand = inner;
+                }
+                Err(outer) => match outer.leave() {
+                    Some((outer, waiting)) => {
+                        around = waiting;
+                        hand = outer;
+                    }
+                    None => return,
+                },
+            }
+        }
+    }
 }
 
 /// The keys of a table that may still grow, as `Nodes` has them.
@@ -150,7 +173,7 @@ pub(crate) fn finish(alloc: Global, keys: Keys, index: Index) -> Result<Nodes, A
     };
     'turns: loop {
         match table.keys.next() {
-            Some((key, draft, left)) => match inner_keys(draft) {
+            Some((key, draft, left)) => match draft.inner_keys() {
                 Ok((holder, keys, index)) => {
                     let place = (key, holder, left);
                     around.push(Around { table, place })?;
@@ -159,7 +182,7 @@ pub(crate) fn finish(alloc: Global, keys: Keys, index: Index) -> Result<Nodes, A
                         Err(refused) => return Err(refused),
                     };
                 }
-                Err(node) => table.nodes.push((key, seal(node)?, left))?,
+                Err(node) => table.nodes.push((key, node.sealed()?, left))?,
             },
             None => match around.pop() {
                 Some(outer) => {
@@ -174,27 +197,17 @@ pub(crate) fn finish(alloc: Global, keys: Keys, index: Index) -> Result<Nodes, A
     }
 }
 
-/// Returns the keys inside a value, or the value if it takes no more.
-fn inner_keys(draft: Draft) -> Result<(Holder, Keys, Index), Node>
-    ensures { MatchResult result (λ t. draft_view draft ≡ held_view t.0 (keys_view t.1.items t.2)) (λ node. draft_view draft ≡ spec.sealed (node_view node)) }
-{
-    match draft {
-        Draft::Value(node) => Err(node),
-        Draft::Table(origin, keys, index) => Ok((Holder::Table(origin), keys, index)),
-        Draft::Tables(done, last, index) => Ok((Holder::Tables(done), last, index)),
-    }
-}
-
-/// Returns a value as one that takes no more.
-fn seal(node: Node) -> Result<Node, AllocError>
-    ensures { IfOk result (λ sealed. node_view sealed ≡ spec.sealed (node_view node)) }
-{
-    match node {
-        Node::Table(_, keys) => Ok(Node::Table(Origin::Closed, keys)),
-        Node::Tables(mut done, last) => {
-            done.push(Node::Table(Origin::Closed, last))?;
-            Ok(Node::Array(done))
+impl Draft {
+    /// Returns the keys inside the value, or the value if it takes no more.
+    fn inner_keys(self) -> Result<(Holder, Keys, Index), Node>
+        ensures { MatchResult result
+            (λ t. draft_view self ≡ held_view t.0 (keys_view t.1.items t.2))
+            (λ node. draft_view self ≡ spec.sealed (node_view node)) }
+    {
+        match self {
+            Draft::Value(node) => Err(node),
+            Draft::Table(origin, keys, index) => Ok((Holder::Table(origin), keys, index)),
+            Draft::Tables(done, last, index) => Ok((Holder::Tables(done), last, index)),
         }
-        other => Ok(other),
     }
 }

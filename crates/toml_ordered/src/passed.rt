@@ -2,7 +2,6 @@
 ghost use Rattle.std.specs.Prelude.{◌<◌, vec_len};
 
 use crate::drafts::{Draft, OpenTable};
-use crate::route::Way;
 use crate::tree::{Node, Nodes, Origin};
 use std::mem;
 
@@ -15,34 +14,9 @@ pub(crate) enum Holder {
 }
 
 impl Holder {
-    ghost use Rattle.std.specs.Prelude.{◌≡◌, MatchOption};
+    ghost use Rattle.std.specs.Prelude.{◌≡◌};
     ghost use Rattle.toml_ordered.specs.Data.{entries_view, node_view};
-    ghost use Rattle.toml_ordered.specs.Passing.{IsOpened, IsShut, held, held_view};
-
-    /// Takes the table out of a value that a key passes; returns `None` where the value lets no key pass so.
-    pub(crate) fn open(way: Way, value: Draft) -> Option<(Holder, OpenTable)>
-        ensures { MatchOption result (IsShut way value) (λ opened. IsOpened way value opened.0 opened.1) }
-    {
-        match value {
-            Draft::Table(origin, keys, index) => {
-                if let Some(after) = way.origin_after(origin) {
-                    return Some((Holder::Table(after), OpenTable { keys, index }));
-                }
-                drop(keys);
-                drop(index);
-            }
-            Draft::Tables(done, keys, index) => {
-                if let Way::Header = way {
-                    return Some((Holder::Tables(done), OpenTable { keys, index }));
-                }
-                drop(done);
-                drop(keys);
-                drop(index);
-            }
-            Draft::Value(node) => drop(node),
-        }
-        None
-    }
+    ghost use Rattle.toml_ordered.specs.Passing.{held, held_view};
 
     /// Returns the value with these keys in it, which are complete.
     pub(crate) fn completed(self, nodes: Nodes) -> Node

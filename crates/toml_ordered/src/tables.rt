@@ -161,7 +161,7 @@ fn take_out(
         (λ fault. IsPassed (string_bytes member.old.0) member.old.2 left fault × IsShut way member.old.1) }
 {
     let (key, value, first) = member;
-    match Holder::open(way, mem::replace(value, placeholder())) {
+    match mem::replace(value, placeholder()).open(way) {
         Some(taken) => Ok(taken),
         None => Err(defined_again(key, *first, left)),
     }

@@ -8,8 +8,8 @@ completes : (c : In_ok-push-in-Err-inner_keys)
     → Turns c.turns.around.items (record { nodes = c.push-in-Err-inner_keys.new.self; keys = c.next.new.self }) c.turns.around.items c.turns.table
 completes c =
     completed c.turns.around.items c.turns.table (record { nodes = c.push-in-Err-inner_keys.new.self; keys = c.next.new.self })
-    (c.in-Some.key, c.in_ok-seal-in-Err-inner_keys.field-0, c.in-Some.left) (draft_view c.in-Some.draft) c.in-Some.ensures
-    (c.in_ok-seal-in-Err-inner_keys.ensures ∙ sym c.in-Err-inner_keys.ensures) c.in_ok-push-in-Err-inner_keys.ensures.items
+    (c.in-Some.key, c.in_ok-sealed-in-Err-inner_keys.field-0, c.in-Some.left) (draft_view c.in-Some.draft) c.in-Some.ensures
+    (c.in_ok-sealed-in-Err-inner_keys.ensures ∙ sym c.in-Err-inner_keys.ensures) c.in_ok-push-in-Err-inner_keys.ensures.items
 
 enters : (c : In-Ok-new) → Turns c.push.new.self.items c.in-Ok-new.inner c.turns.around.items c.turns.table
 enters c =

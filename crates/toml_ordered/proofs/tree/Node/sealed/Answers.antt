@@ -3,7 +3,7 @@ use Rattle.toml_ordered.proofs.Trees.{items_view-push, node_view-Table, node_vie
 use Rattle.toml_ordered.specs.Data.{TomlNode, Items, array, push_item, items_view, node_view}
 use Rattle.toml_ordered.specs.Drafts.{sealed}
 use Rattle.toml_ordered.specs.declared.tree.Origin.TheVariants.{Closed}
-use Rattle.toml_ordered.proofs.drafts.seal.Goals as goal
+use Rattle.toml_ordered.proofs.tree.Node.sealed.Goals as goal
 
 pub returns-in_ok-push-in-Tables : goal.returns-in_ok-push-in-Tables
 returns-in_ok-push-in-Tables c =
