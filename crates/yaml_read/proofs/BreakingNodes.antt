@@ -1,20 +1,19 @@
 -- Where the bytes of a node break off, and those behind a node.
 use Rattle.yaml_base.proofs.Common.{ℕ, ◌+◌, ◌<◌, ◌≤◌, suc, true, Option, None, Some, List, [], ◌∷◌, ◌++◌, refl, ◌≡◌, ap, subst, sym, ◌∙◌, ◌⊎◌, inl, inr, pos}
 use Rattle.yaml_base.proofs.Common.{arith, append_assoc, append-nil, codes, flat_map, length, encode_utf8_all, encode_utf8, character_text, Text}
-use Rattle.yaml_base.specs.values.TypedValues.{TypedValue, TypedValues, TypedPairs, null_value, bool_value, int_value, text_value, list_value, map_value}
-use Rattle.yaml_base.specs.values.TypedValues.{most_nested, no_value_pairs, no_values, value_pairs_and, values_and}
-use Rattle.yaml_base.{specs.scalars.DoubleQuoted.quote, specs.values.ValueText.in_quotes, specs.values.ValueText.line_at, specs.values.ValueText.value_text}
+use Rattle.yaml_base.specs.values.TypedValues.{TypedValue, most_nested}
+use Rattle.yaml_base.{specs.scalars.DoubleQuoted.quote, specs.values.ValueText.in_quotes}
 use Rattle.std.proofs.lemmas.Str.{IsUtf8-past_char, encode_ascii, encodes-append}
 use Rattle.std.specs.Prelude.{Result, Ok, Err, IfErr, ℤ, ◌^◌}
-use Rattle.std.{proofs.lemmas.Bool.cases_lt, specs.Borrow.Bor, specs.Fmt.signed_decimal, specs.Int.Signed.mag, specs.Str.IsUtf8}
+use Rattle.std.{proofs.lemmas.Bool.cases_lt, specs.Fmt.signed_decimal, specs.Int.Signed.mag, specs.Str.IsUtf8}
 use Rattle.yaml_read.specs.Grammar.{behind_in, behind_tag, characters, these_or_those, integer, line_then, node, nothing, quoted_text, unless_deep, word_then}
-use Rattle.yaml_read.specs.Heads.{ListRead, MapRead, ReadsCharacter, tag_word}
+use Rattle.yaml_read.specs.Heads.{ReadsCharacter, tag_word}
 use Rattle.yaml_read.specs.Places.{BreaksAt, BreaksOff, IsHere, IsHereOrMemory, IsWholeWord, LacksEnd, StopsIn, behind_all, behind_node, in_node, more_follows}
-use Rattle.yaml_read.specs.Remaining.{OpenLevel, is_nested, items_open, pairs_open, value_due}
-use Rattle.yaml_read.specs.{Opened.HasRead, Opened.IsOpen, Opened.OpenCanBeRead, Places.no_end, Sound.IsCharacter, Sound.IsValue, Words.OrMemory}
-use Rattle.yaml_read.specs.{Words.past_word, declared.errors.Stop.Stop, declared.heads.Head.Head, declared.heads.Kind.Kind}
-use Rattle.yaml_read.proofs.{Breaking.here, Breaking.missing, Breaking.passed, Breaking.passed_at, Breaking.second_of, HeadTexts.list_tail, HeadTexts.map_tail}
-use Rattle.yaml_read.proofs.{CharactersRead.ReadSoFar, Encoded.word_encoded, HeadTexts.value_bytes, Remaining.items_behind, Remaining.pairs_behind}
+use Rattle.yaml_read.specs.Remaining.{OpenLevel, items_open, pairs_open, value_due}
+use Rattle.yaml_read.specs.{Opened.HasRead, Opened.IsOpen, Opened.OpenCanBeRead, Places.no_end, Sound.IsCharacter, Words.OrMemory}
+use Rattle.yaml_read.specs.{Words.past_word, declared.errors.Stop.Stop, declared.heads.Kind.Kind}
+use Rattle.yaml_read.proofs.{Breaking.here, Breaking.missing, Breaking.passed, Breaking.passed_at, Breaking.second_of}
+use Rattle.yaml_read.proofs.{CharactersRead.ReadSoFar}
 use Rattle.yaml_read.specs.declared.errors.Stop.TheVariants as stop
 use Rattle.yaml_read.specs.declared.heads.Kind.TheVariants as kind
 use Rattle.yaml_read.proofs.Words.{absent, behind_word as behind_itself, no_word}
@@ -152,25 +151,23 @@ words_inside depth More words begins = by (cases_lt depth most_nested)
     by (inr deep) = ([], inr (deep, tt))
 
 -- no bracket stands behind a list's or a map's tag
-pub no_list : {A : Type 0} (depth : ℕ) (bytes rest : List ℕ) (result : Result (Head A × Bor (List ℕ)) Stop) → bytes ≡ codes "!!seq " ++ rest
-    → ListRead rest result → IfErr result (IsHere rest) → IfErr result (BreaksAt (node depth) bytes)
-no_list depth bytes rest (Ok found) is read place = tt
-no_list depth bytes rest (Err error) is read place =
+pub no_list : (depth : ℕ) (bytes rest : List ℕ) (error : Stop) → bytes ≡ codes "!!seq " ++ rest → past_word (codes "[") rest ≡ None
+    → IsHere rest error → BreaksAt (node depth) bytes error
+no_list depth bytes rest error is none place =
     let inside = words_inside depth (these_or_those (word_then (codes "]") nothing) (line_then (suc depth) nothing)) (codes "]" ∷ []) (inl (refl, tt)) in
     tag_passed depth kind.List kind.List bytes rest error refl is
-    (missing (codes "[") rest (unless_deep depth (these_or_those (word_then (codes "]") nothing) (line_then (suc depth) nothing))) error inside.0 read place
+    (missing (codes "[") rest (unless_deep depth (these_or_those (word_then (codes "]") nothing) (line_then (suc depth) nothing))) error inside.0 none place
     inside.1)
 
-pub no_map : {A : Type 0} (depth : ℕ) (bytes rest : List ℕ) (result : Result (Head A × Bor (List ℕ)) Stop) → bytes ≡ codes "!!map " ++ rest
-    → MapRead rest result → IfErr result (IsHere rest) → IfErr result (BreaksAt (node depth) bytes)
-no_map depth bytes rest (Ok found) is read place = tt
-no_map depth bytes rest (Err error) is read place =
+pub no_map : (depth : ℕ) (bytes rest : List ℕ) (error : Stop) → bytes ≡ codes "!!map " ++ rest → past_word (codes "{") rest ≡ None
+    → IsHere rest error → BreaksAt (node depth) bytes error
+no_map depth bytes rest error is none place =
     let inside = words_inside depth (these_or_those (word_then (codes "}") nothing) (line_then (suc depth) (word_then (codes "? ") nothing))) (codes "}" ∷ [])
     (inl (refl, tt)) in
     tag_passed depth kind.Map kind.Map bytes rest error refl is
     (missing (codes "{") rest
     (unless_deep depth (these_or_those (word_then (codes "}") nothing) (line_then (suc depth) (word_then (codes "? ") nothing)))) error
-    inside.0 read place inside.1)
+    inside.0 none place inside.1)
 
 -- ---- behind a node
 
@@ -183,18 +180,13 @@ value_stops whole levels level value bytes depth (stop.TooDeep left) same read b
 value_stops whole levels level value bytes depth stop.Memory same read breaks = tt
 
 -- and behind the outermost value
-end_lacks : (whole : List ℕ) (value : TypedValue) (bytes : List ℕ) (error : Stop) → HasRead whole [] value bytes → LacksEnd bytes error
+pub end_lacks : (whole : List ℕ) (value : TypedValue) (bytes : List ℕ) (error : Stop) → HasRead whole [] value bytes → LacksEnd bytes error
     → StopsIn whole error
 end_lacks whole value bytes error read (no_end none place) =
     subst (StopsIn whole) (sym place)
     (behind_node [] value bytes read (missing (codes "\n") bytes nothing (stop.Refused (length bytes)) [] none refl tt))
 end_lacks whole value bytes error read (more_follows rest is some place) =
     subst (StopsIn whole) (sym place) (behind_all value bytes rest read is some refl)
-
-pub end_stops : {T : Type 0} (whole : List ℕ) (value : TypedValue) (bytes : List ℕ) (result : Result T Stop) → HasRead whole [] value bytes
-    → IfErr result (LacksEnd bytes) → IfErr result (StopsIn whole)
-end_stops whole value bytes (Ok found) read lacks = tt
-end_stops whole value bytes (Err error) read lacks = end_lacks whole value bytes error read lacks
 
 -- ---- at a node
 
@@ -210,29 +202,27 @@ inside_out : (depth : ℕ) (More : List (List ℕ) → Type 0) (words : List (Li
 inside_out depth More words room (inl inside) = inside.1
 inside_out depth More words room (inr deep) = absurd (omega (arith, room, deep.0))
 
-pub list_line_breaks : (depth n : ℕ) (bytes rest : List ℕ) (error : Stop) → n ≡ depth → depth < most_nested
-    → (bytes ≡ codes "!!seq [" ++ rest) × (past_word (codes "]") rest ≡ None) → BreaksAt (line_then (suc n) nothing) rest error
+pub list_line_breaks : (depth : ℕ) (bytes rest : List ℕ) (error : Stop) → depth < most_nested
+    → (bytes ≡ codes "!!seq [" ++ rest) × (past_word (codes "]") rest ≡ None) → BreaksAt (line_then (suc depth) nothing) rest error
     → BreaksAt (node depth) bytes error
-list_line_breaks depth n bytes rest error same room found breaks =
+list_line_breaks depth bytes rest error room found breaks =
     tag_passed depth kind.List kind.List bytes (codes "[" ++ rest) error refl found.0
     (passed_at (behind_tag depth kind.List) (these_or_those (word_then (codes "]") nothing) (line_then (suc depth) nothing)) (codes "[")
     (codes "[" ++ rest) rest
     error refl (λ words more. (refl, inl (room, more)))
     (λ words these. inside_out depth (these_or_those (word_then (codes "]") nothing) (line_then (suc depth) nothing)) words room these.1)
-    (second_of (codes "]") (line_then (suc depth) nothing) rest error found.1
-    (subst (λ m. BreaksAt (line_then (suc m) nothing) rest error) same breaks)))
+    (second_of (codes "]") (line_then (suc depth) nothing) rest error found.1 breaks))
 
-pub map_line_breaks : (depth n : ℕ) (bytes rest : List ℕ) (error : Stop) → n ≡ depth → depth < most_nested
+pub map_line_breaks : (depth : ℕ) (bytes rest : List ℕ) (error : Stop) → depth < most_nested
     → (bytes ≡ codes "!!map {" ++ rest) × (past_word (codes "}") rest ≡ None)
-    → BreaksAt (line_then (suc n) (word_then (codes "? ") nothing)) rest error → BreaksAt (node depth) bytes error
-map_line_breaks depth n bytes rest error same room found breaks =
+    → BreaksAt (line_then (suc depth) (word_then (codes "? ") nothing)) rest error → BreaksAt (node depth) bytes error
+map_line_breaks depth bytes rest error room found breaks =
     tag_passed depth kind.Map kind.Map bytes (codes "{" ++ rest) error refl found.0
     (passed_at (behind_tag depth kind.Map) (these_or_those (word_then (codes "}") nothing) (line_then (suc depth) (word_then (codes "? ") nothing))) (codes "{")
     (codes "{" ++ rest) rest error refl (λ words more. (refl, inl (room, more)))
     (λ words these. inside_out depth (these_or_those (word_then (codes "}") nothing) (line_then (suc depth) (word_then (codes "? ") nothing))) words room
     these.1)
-    (second_of (codes "}") (line_then (suc depth) (word_then (codes "? ") nothing)) rest error found.1
-    (subst (λ m. BreaksAt (line_then (suc m) (word_then (codes "? ") nothing)) rest error) same breaks)))
+    (second_of (codes "}") (line_then (suc depth) (word_then (codes "? ") nothing)) rest error found.1 breaks))
 
 -- ---- too deep
 
@@ -257,38 +247,3 @@ opens_deep whole levels bytes inside error opened many begins place =
       begins = begins;
       place = refl;
     })
-
--- what a list's or a map's text begins with
-list_begins : (items : TypedValues) → (inside : Text) × (encode_utf8_all (list_tail 0 items []) ≡ codes "[" ++ encode_utf8_all inside)
-list_begins no_values = (codes "]", word_encoded (codes "[") (codes "]") refl)
-list_begins (values_and items item) =
-    let inside = line_at (0 + 2) ++ items_behind (0 + 2) items item (codes "," ++ (line_at 0 ++ (codes "]" ++ []))) in
-    (inside, word_encoded (codes "[") inside refl)
-
-map_begins : (pairs : TypedPairs) → (inside : Text) × (encode_utf8_all (map_tail 0 pairs []) ≡ codes "{" ++ encode_utf8_all inside)
-map_begins no_value_pairs = (codes "}", word_encoded (codes "{") (codes "}") refl)
-map_begins (value_pairs_and pairs key value) =
-    let inside = line_at (0 + 2) ++ (codes "? " ++ pairs_behind (0 + 2) pairs key value (codes "," ++ (line_at 0 ++ (codes "}" ++ [])))) in
-    (inside, word_encoded (codes "{") inside refl)
-
-value_alone : (value : TypedValue) (bytes rest : List ℕ) → IsValue bytes value rest → bytes ≡ encode_utf8_all (value_text 0 value ++ []) ++ rest
-value_alone value bytes rest found = found.text 0 ∙ ap (λ t. encode_utf8_all t ++ rest) (sym (append-nil (value_text 0 value)))
-
-pub nested_begins : (value : TypedValue) (bytes rest : List ℕ) → is_nested value ≡ true → IsValue bytes value rest
-    → (inside : List ℕ) × ((bytes ≡ codes "!!seq [" ++ inside) ⊎ (bytes ≡ codes "!!map {" ++ inside))
-nested_begins (list_value items) bytes rest is found =
-    let begins = list_begins items in (
-      encode_utf8_all begins.0 ++ rest,
-      inl (value_alone (list_value items) bytes rest found
-          ∙ ap (λ t. t ++ rest) (value_bytes 0 (list_value items) [] ∙ ap (λ t. codes "!!seq " ++ t) begins.1)),
-    )
-nested_begins (map_value pairs) bytes rest is found =
-    let begins = map_begins pairs in (
-      encode_utf8_all begins.0 ++ rest,
-      inr (value_alone (map_value pairs) bytes rest found
-          ∙ ap (λ t. t ++ rest) (value_bytes 0 (map_value pairs) [] ∙ ap (λ t. codes "!!map " ++ t) begins.1)),
-    )
-nested_begins null_value bytes rest is found = cc
-nested_begins (bool_value b) bytes rest is found = cc
-nested_begins (int_value n) bytes rest is found = cc
-nested_begins (text_value text) bytes rest is found = cc

@@ -4,12 +4,11 @@ use Rattle.yaml_base.proofs.Common.{encode_utf8_all, replicate, ℤ}
 use Rattle.yaml_base.specs.values.TypedValues.{TypedValue, null_value, bool_value, int_value, text_value, list_value, map_value, TypedValues, no_values}
 use Rattle.yaml_base.specs.values.TypedValues.{values_and, TypedPairs, no_value_pairs, value_pairs_and, bool_text}
 use Rattle.yaml_base.specs.values.ValueText.{line_at, value_text, items_text, pairs_text, in_quotes}
-use Rattle.std.{specs.Prelude.Result, specs.Prelude.Ok, specs.Prelude.Err, proofs.lemmas.List.append_cancel_left, specs.Fmt.signed_decimal, specs.Borrow.Bor}
+use Rattle.std.{proofs.lemmas.List.append_cancel_left, specs.Fmt.signed_decimal}
 use Rattle.yaml_read.proofs.Remaining.{items_behind, pairs_behind, items_open_text, pairs_open_text}
-use Rattle.yaml_read.specs.Heads.{HeadRead, ListRead, MapRead, tag_word}
-use Rattle.yaml_read.{proofs.Words.no_word, proofs.Words.behind_word, proofs.Encoded.word_encoded, specs.Words.past_word, specs.declared.errors.Stop.Stop}
-use Rattle.yaml_read.{specs.declared.heads.Head.Head, specs.declared.heads.Kind.Kind}
-use Rattle.yaml_read.specs.declared.heads.Head.TheVariants as head
+use Rattle.yaml_read.specs.Heads.{tag_word}
+use Rattle.yaml_read.{proofs.Words.no_word, proofs.Words.behind_word, proofs.Encoded.word_encoded, specs.Words.past_word}
+use Rattle.yaml_read.specs.declared.heads.Kind.{Kind}
 use Rattle.yaml_read.specs.declared.heads.Kind.TheVariants as kind
 
 -- a value's tag, and the space after it
@@ -172,22 +171,3 @@ map_empty column (value_pairs_and pairs key value) rest tail after is found =
     absurd (none_some after (ap (past_word (codes "{}")) (sym (is ∙ word_encoded (codes "{" ++ (line_feed ∷ []))
     (replicate (column + 2) space
     ++ (codes "? " ++ pairs_behind (column + 2) pairs key value (codes "," ++ (line_at column ++ (codes "}" ++ rest))))) refl) ∙ found)))
-
--- what a function finds behind a list's or a map's tag
-pub list_head : {A : Type 0} (column : ℕ) (value : TypedValue) (items : TypedValues) (rest : Text) (bytes tail : List ℕ)
-    (result : Result (Head A × Bor (List ℕ)) Stop) → ListRead tail result → bytes ≡ codes "!!seq " ++ tail → value ≡ list_value items
-    → tail ≡ encode_utf8_all (list_tail column items rest) → HeadRead bytes value rest result
-list_head column value items rest bytes tail (Ok (head.Whole found, after)) read tagged is tail_is =
-    let empty = list_empty column items rest tail after.now tail_is read.1 in (read.0 ∙ ap list_value (sym empty.0) ∙ sym is, empty.1)
-list_head column value items rest bytes tail (Ok (head.Items, inside)) read tagged is tail_is = (tagged ∙ ap (λ t. codes "!!seq " ++ t) read.0, read.1)
-list_head column value items rest bytes tail (Ok (head.Pairs, inside)) read tagged is tail_is = absurd read
-list_head column value items rest bytes tail (Err error) read tagged is tail_is = absurd (list_bracket column items rest tail tail_is read)
-
-pub map_head : {A : Type 0} (column : ℕ) (value : TypedValue) (pairs : TypedPairs) (rest : Text) (bytes tail : List ℕ)
-    (result : Result (Head A × Bor (List ℕ)) Stop) → MapRead tail result → bytes ≡ codes "!!map " ++ tail → value ≡ map_value pairs
-    → tail ≡ encode_utf8_all (map_tail column pairs rest) → HeadRead bytes value rest result
-map_head column value pairs rest bytes tail (Ok (head.Whole found, after)) read tagged is tail_is =
-    let empty = map_empty column pairs rest tail after.now tail_is read.1 in (read.0 ∙ ap map_value (sym empty.0) ∙ sym is, empty.1)
-map_head column value pairs rest bytes tail (Ok (head.Items, inside)) read tagged is tail_is = absurd read
-map_head column value pairs rest bytes tail (Ok (head.Pairs, inside)) read tagged is tail_is = (tagged ∙ ap (λ t. codes "!!map " ++ t) read.0, read.1)
-map_head column value pairs rest bytes tail (Err error) read tagged is tail_is = absurd (map_bracket column pairs rest tail tail_is read)

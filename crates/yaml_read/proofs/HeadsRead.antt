@@ -2,16 +2,15 @@
 use Rattle.yaml_base.proofs.Common.{ℕ, ◌<◌, Bool, true, false, None, List, [], ◌++◌, refl, ◌≡◌, ap, subst, sym, ◌∙◌, append_assoc, append-nil, arith, codes}
 use Rattle.yaml_base.proofs.Common.{Text, encode_utf8_all, chars, chars-IsAscii, pos, negsuc, ℤ}
 use Rattle.yaml_base.specs.values.TypedValues.{TypedValue, null_value, bool_value, text_value, list_value, map_value, no_values, no_value_pairs, bool_text}
-use Rattle.yaml_base.{specs.Seen.seen_text, specs.values.ValueText.in_quotes}
-use Rattle.std.proofs.Common.{FitsSigned, w64, rules, ◌^◌, Result, Ok, Err, IfOk, String, Bor, string_bytes}
+use Rattle.yaml_base.{specs.Seen.seen_text, specs.values.ValueText.in_quotes, specs.values.ValueText.value_text}
+use Rattle.std.proofs.Common.{FitsSigned, w64, rules, ◌^◌, Result, Ok, Err, String, string_bytes}
 use Rattle.std.proofs.lemmas.Str.{IsUtf8-string_bytes, scalars-chars}
 use Rattle.std.{proofs.lemmas.Fmt.IsAscii-signed, specs.Fmt.signed_decimal, specs.Int.Signed.mag, specs.Str.Parse.ParsesSigned}
 use Rattle.yaml_value.specs.SeenValues.{seen_value}
-use Rattle.yaml_read.specs.Sound.{HeadIs, IsInteger, IsTruth, IsValue}
-use Rattle.yaml_read.{proofs.Encoded.are_ascii, proofs.Encoded.word_encoded, proofs.Turns.cut_is, proofs.Words.no_word, specs.Heads.ListRead}
-use Rattle.yaml_read.{specs.Heads.MapRead, specs.Words.past_word, specs.declared.errors.Stop.Stop, specs.declared.heads.Head.Head}
+use Rattle.yaml_read.specs.Sound.{IsInteger, IsTruth, IsScalarValue}
+use Rattle.yaml_read.{proofs.Encoded.are_ascii, proofs.Encoded.word_encoded, proofs.Turns.cut_is, proofs.Words.no_word}
+use Rattle.yaml_read.specs.Words.{past_word}
 use Rattle.yaml_value.specs.declared.value.Value as declared
-use Rattle.yaml_read.specs.declared.heads.Head.TheVariants as head
 
 -- a word of ASCII is its bytes
 pub word_bytes : (word : Text) → are_ascii word ≡ true → encode_utf8_all word ≡ word
@@ -43,69 +42,51 @@ tagged_text bytes behind rest tail word written h tagged is =
 
 -- ---- values on their line
 
-pub null_read : (bytes behind rest : List ℕ) → bytes ≡ codes "!!null " ++ behind → behind ≡ codes "\"null\"" ++ rest → IsValue bytes null_value rest
+pub null_read : (bytes behind rest : List ℕ) → bytes ≡ codes "!!null " ++ behind → behind ≡ codes "\"null\"" ++ rest → IsScalarValue bytes null_value rest
 null_read bytes behind rest tagged is =
     record {
-      readable = λ depth room. tt;
+      readable = λ depth. tt;
       text = λ column. tagged_text bytes behind rest [] (codes "!!null ") (codes "\"null\"") refl tagged
           (is ∙ ap (λ w. w ++ rest) (sym (word_bytes (codes "\"null\"") refl)));
     }
 
-pub truth_read : (bytes behind rest : List ℕ) (value : TypedValue) → bytes ≡ codes "!!bool " ++ behind → IsTruth behind value rest → IsValue bytes value rest
+pub truth_read : (bytes behind rest : List ℕ) (value : TypedValue) → bytes ≡ codes "!!bool " ++ behind → IsTruth behind value rest → IsScalarValue bytes value rest
 truth_read bytes behind rest value tagged truth =
-    subst (λ value. IsValue bytes value rest) (sym truth.is)
+    subst (λ value. IsScalarValue bytes value rest) (sym truth.is)
     (record {
-      readable = λ depth room. tt;
+      readable = λ depth. tt;
       text = λ column. tagged_text bytes behind rest [] (codes "!!bool ") (in_quotes (bool_text truth.truth)) refl tagged truth.text;
     })
 
-pub integer_read : (bytes behind rest : List ℕ) (value : TypedValue) → bytes ≡ codes "!!int " ++ behind → IsInteger behind value rest → IsValue bytes value rest
+pub integer_read : (bytes behind rest : List ℕ) (value : TypedValue) → bytes ≡ codes "!!int " ++ behind → IsInteger behind value rest → IsScalarValue bytes value rest
 integer_read bytes behind rest value tagged integer =
-    subst (λ value. IsValue bytes value rest) (sym integer.is)
+    subst (λ value. IsScalarValue bytes value rest) (sym integer.is)
     (record {
-      readable = λ depth room. integer.bits;
+      readable = λ depth. integer.bits;
       text = λ column. tagged_text bytes behind rest [] (codes "!!int ") (in_quotes (signed_decimal integer.number)) refl tagged integer.text;
     })
 
 pub string_read : {A : Type 0} (bytes behind rest : List ℕ) (text : String A) → bytes ≡ codes "!!str " ++ behind
-    → behind ≡ encode_utf8_all (in_quotes (seen_text text)) ++ rest → IsValue bytes (text_value (seen_text text)) rest
+    → behind ≡ encode_utf8_all (in_quotes (seen_text text)) ++ rest → IsScalarValue bytes (text_value (seen_text text)) rest
 string_read bytes behind rest text tagged is =
     record {
-      readable = λ depth room. scalars-chars (string_bytes text) (IsUtf8-string_bytes text);
+      readable = λ depth. scalars-chars (string_bytes text) (IsUtf8-string_bytes text);
       text = λ column. tagged_text bytes behind rest [] (codes "!!str ") (in_quotes (seen_text text)) refl tagged is;
     }
 
-empty_list : (bytes behind rest : List ℕ) → bytes ≡ codes "!!seq " ++ behind → behind ≡ codes "[]" ++ rest → IsValue bytes (list_value no_values) rest
-empty_list bytes behind rest tagged is =
-    record {
-      readable = λ depth room. (room refl, tt);
-      text = λ column.
-          tagged_text bytes behind rest [] (codes "!!seq ") (codes "[]") refl tagged (is ∙ ap (λ w. w ++ rest) (sym (word_bytes (codes "[]") refl)));
-    }
+-- ---- an empty list and an empty map
 
-empty_map : (bytes behind rest : List ℕ) → bytes ≡ codes "!!map " ++ behind → behind ≡ codes "{}" ++ rest → IsValue bytes (map_value no_value_pairs) rest
-empty_map bytes behind rest tagged is =
-    record {
-      readable = λ depth room. (room refl, tt);
-      text = λ column.
-          tagged_text bytes behind rest [] (codes "!!map ") (codes "{}") refl tagged (is ∙ ap (λ w. w ++ rest) (sym (word_bytes (codes "{}") refl)));
-    }
+pub empty_list : (column : ℕ) (bytes behind inside rest : List ℕ) → bytes ≡ codes "!!seq " ++ behind → behind ≡ codes "[" ++ inside
+    → inside ≡ codes "]" ++ rest → bytes ≡ encode_utf8_all (value_text column (list_value no_values)) ++ rest
+empty_list column bytes behind inside rest tagged bracket is =
+    tagged_text bytes behind rest [] (codes "!!seq ") (codes "[]") refl tagged
+    (bracket ∙ ap (λ t. codes "[" ++ t) is ∙ ap (λ w. w ++ rest) (sym (word_bytes (codes "[]") refl)))
 
-pub list_read : {A : Type 0} (bytes tail : List ℕ) (result : Result (Head A × Bor (List ℕ)) Stop) → bytes ≡ codes "!!seq " ++ tail → ListRead tail result
-    → IfOk result (HeadIs bytes)
-list_read bytes tail (Ok (head.Whole found, after)) tagged read =
-    subst (λ value. IsValue bytes value after.now) (sym read.0) (empty_list bytes tail after.now tagged read.1)
-list_read bytes tail (Ok (head.Items, inside)) tagged read = (tagged ∙ ap (λ t. codes "!!seq " ++ t) read.0, read.1)
-list_read bytes tail (Ok (head.Pairs, inside)) tagged read = absurd read
-list_read bytes tail (Err error) tagged read = tt
-
-pub map_read : {A : Type 0} (bytes tail : List ℕ) (result : Result (Head A × Bor (List ℕ)) Stop) → bytes ≡ codes "!!map " ++ tail → MapRead tail result
-    → IfOk result (HeadIs bytes)
-map_read bytes tail (Ok (head.Whole found, after)) tagged read =
-    subst (λ value. IsValue bytes value after.now) (sym read.0) (empty_map bytes tail after.now tagged read.1)
-map_read bytes tail (Ok (head.Items, inside)) tagged read = absurd read
-map_read bytes tail (Ok (head.Pairs, inside)) tagged read = (tagged ∙ ap (λ t. codes "!!map " ++ t) read.0, read.1)
-map_read bytes tail (Err error) tagged read = tt
+pub empty_map : (column : ℕ) (bytes behind inside rest : List ℕ) → bytes ≡ codes "!!map " ++ behind → behind ≡ codes "{" ++ inside
+    → inside ≡ codes "}" ++ rest → bytes ≡ encode_utf8_all (value_text column (map_value no_value_pairs)) ++ rest
+empty_map column bytes behind inside rest tagged bracket is =
+    tagged_text bytes behind rest [] (codes "!!map ") (codes "{}") refl tagged
+    (bracket ∙ ap (λ t. codes "{" ++ t) is ∙ ap (λ w. w ++ rest) (sym (word_bytes (codes "{}") refl)))
 
 -- the bytes of one truth value aren't those of the other
 pub true_there : (A : Type 0) (bytes after : List ℕ) (b : Bool) (rest : Text) → bytes ≡ codes "\"true\"" ++ after

@@ -15,6 +15,7 @@ pub mod ReadBack
 pub mod Opening
 pub mod CharactersRead
 pub mod HeadsRead
+pub mod Stepping
 pub mod WrittenValues
 pub mod Breaking
 pub mod BreakingNodes

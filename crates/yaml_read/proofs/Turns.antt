@@ -2,16 +2,16 @@
 use Rattle.yaml_base.proofs.Common.{ℕ, ◌+◌, ◌*◌, ◌<◌, suc, true, None, List, [], ◌∷◌, ◌++◌, refl, ◌≡◌, ap, subst, sym, ◌∙◌, arith, append_assoc, length, codes}
 use Rattle.yaml_base.proofs.Common.{space, line_feed, Text, encode_utf8_all}
 use Rattle.yaml_base.specs.values.TypedValues.{TypedValue, list_value, map_value, TypedValues, no_values, values_and, TypedPairs, no_value_pairs}
-use Rattle.yaml_base.specs.values.TypedValues.{value_pairs_and, most_nested, null_value, bool_value, int_value, text_value}
+use Rattle.yaml_base.specs.values.TypedValues.{value_pairs_and, most_nested}
 use Rattle.yaml_base.specs.values.ValueText.{line_at, value_text, document_text}
 use Rattle.std.specs.Prelude.{Result, Ok, Err, Vec}
 use Rattle.std.proofs.lemmas.List.{append_cancel_left, replicate-append-replicate}
 use Rattle.yaml_value.{specs.SeenValues.seen_value, specs.SeenValues.seen_values, specs.SeenValues.seen_pairs, specs.declared.value.Value.Value}
 use Rattle.yaml_read.specs.Remaining.{OpenLevel, items_open, pairs_open, value_due, column_in, Completes, text_ends, item_follows, list_ends, value_follows}
-use Rattle.yaml_read.specs.Remaining.{pair_follows, map_ends, IsDue, IsRead, seen_level, seen_levels, is_nested, TurnReached, Reached}
+use Rattle.yaml_read.specs.Remaining.{pair_follows, map_ends, IsDue, IsRead, seen_level, seen_levels, TurnReached, Reached}
 use Rattle.yaml_read.proofs.Remaining.{Begins, items_begin, pairs_begin, items_behind, pairs_behind, readable_root}
 use Rattle.yaml_read.proofs.SeenLevels.{item_more, level_more, pair_more, seen_list, seen_map}
-use Rattle.yaml_read.specs.{Entries.EntryFound, Readable.CanBeRead, Words.past_word, Words.OpensAt, declared.errors.Stop.Stop, declared.levels.Level.Level}
+use Rattle.yaml_read.specs.{Entries.EntryFound, Readable.CanBeRead, Words.past_word, declared.errors.Stop.Stop, declared.levels.Level.Level}
 use Rattle.yaml_read.specs.{Readable.CanBeReadAt, declared.levels.Entry.Entry, declared.levels.Entry.TheVariants.Another, declared.levels.Entry.TheVariants.End}
 use Rattle.yaml_read.proofs.{Encoded.word_encoded, Encoded.line_encoded, HeadTexts.tail_of, HeadTexts.list_tail, HeadTexts.map_tail, Words.no_word}
 use Rattle.yaml_value.specs.declared.value.Value as declared
@@ -233,15 +233,6 @@ map_opens root levels bytes inside due is none =
     map_opens_by root levels tail.0 due.rest inside (subst (CanBeReadAt (length levels)) tail.1 due.readable)
     (subst (λ value. Completes root levels value due.rest) tail.1 due.completes) tail.2 none
 
--- a list or a map that lies in too many isn't readable
-pub nested_readable : (value : TypedValue) (depth : ℕ) → CanBeReadAt depth value → is_nested value ≡ true → depth < most_nested
-nested_readable (list_value items) depth readable is = readable.0
-nested_readable (map_value pairs) depth readable is = readable.0
-nested_readable null_value depth readable is = cc
-nested_readable (bool_value b) depth readable is = cc
-nested_readable (int_value n) depth readable is = cc
-nested_readable (text_value text) depth readable is = cc
-
 -- a document begins with its line, and then its value is due
 pub root_due : (value : TypedValue) (bytes : List ℕ) → CanBeRead value → bytes ≡ encode_utf8_all (document_text value)
     → (tail : List ℕ) × (bytes ≡ codes "---\n" ++ tail) × IsDue value [] tail
@@ -339,18 +330,6 @@ pair_reached root levels pairs pair new depth text entry pushed is read found =
 pub key_bytes : (root : TypedValue) (levels : List OpenLevel) (pairs : TypedPairs) (key : TypedValue) (depth : ℕ) (text : List ℕ)
     → depth ≡ length levels → (ends : KeyEnds root levels pairs key text) → text ≡ line_at (depth * 2) ++ (codes "  : " ++ ends.tail)
 key_bytes root levels pairs key depth text is ends = ends.bytes_are ∙ ap (λ n. line_at (n * 2) ++ (codes "  : " ++ ends.tail)) (sym is)
-
--- a list or a map that can't be opened
-pub into_error : (A : Type 0) (root : TypedValue) (levels inner new : List OpenLevel) (lead inside word : List ℕ) (error : Stop)
-    → Opens root levels inner lead inside → word ≡ line_at (length levels * 2 + 2) ++ lead → OpensAt word inside (Err error)
-    → Reached {A = A} root new (Err error)
-into_error A root levels inner new lead inside word stop.Memory opens is lacks = tt
-into_error A root levels inner new lead inside word (stop.Refused n) opens is lacks =
-    no_word word inside opens.tail lacks (opens.inside_is ∙ sym (append_assoc (line_at (length levels * 2 + 2)) lead opens.tail)
-    ∙ ap (λ w. w ++ opens.tail) (sym is))
-into_error A root levels inner new lead inside word (stop.TooDeep n) opens is lacks =
-    no_word word inside opens.tail lacks (opens.inside_is ∙ sym (append_assoc (line_at (length levels * 2 + 2)) lead opens.tail)
-    ∙ ap (λ w. w ++ opens.tail) (sym is))
 
 -- a value that was read whole
 pub whole_read : (root value : TypedValue) (levels : List OpenLevel) (bytes rest : List ℕ) → (due : IsDue root levels bytes)

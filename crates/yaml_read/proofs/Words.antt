@@ -3,7 +3,7 @@ use Rattle.yaml_base.proofs.Common.{ℕ, ◌==◌, ◌+◌, ◌*◌, ◌-◌, �
 use Rattle.yaml_base.proofs.Common.{if◌then◌else◌, option_and_then, eqb-true, arith, nat_tests, append_assoc, replicate, space, codes}
 use Rattle.std.proofs.lemmas.List.{replicate-append-replicate}
 use Rattle.std.specs.{Prelude.Result, Prelude.Ok, Prelude.Err, Borrow.Bor}
-use Rattle.yaml_read.{specs.Words.past_word, specs.Words.Cuts, specs.Words.OpensAt, specs.Words.OrMemory, specs.declared.errors.Stop.Stop}
+use Rattle.yaml_read.{specs.Words.past_word, specs.Words.Cuts, specs.Words.OrMemory, specs.declared.errors.Stop.Stop}
 use Rattle.yaml_read.specs.declared.errors.Stop.TheVariants as stop
 
 eqb-self : (n : ℕ) → (n == n) ≡ true
@@ -98,14 +98,3 @@ pub error_stays : {S T : Type 0} (Held : S → Type 0) (Holds : T → Type 0) (e
 error_stays Held Holds stop.Memory is = tt
 error_stays Held Holds (stop.Refused n) is = is
 error_stays Held Holds (stop.TooDeep n) is = is
-
--- a word that wasn't opened
-pub opens_error : (word text : List ℕ) (error : Stop) → past_word word text ≡ None → OpensAt word text (Err error)
-opens_error word text stop.Memory none = tt
-opens_error word text (stop.Refused n) none = none
-opens_error word text (stop.TooDeep n) none = none
-
-pub opens_cut : (word more text line : List ℕ) (result : Result (Bor (List ℕ)) Stop) → text ≡ word ++ line → Cuts more line result
-    → OpensAt (word ++ more) text result
-opens_cut word more text line (Ok rest) is cut = is ∙ ap (λ t. word ++ t) cut ∙ sym (append_assoc word more rest.now)
-opens_cut word more text line (Err error) is cut = opens_error (word ++ more) text error (longer_none word more text line is cut)

@@ -1,4 +1,4 @@
-pub mod Shorter
+pub mod Stepped
 pub mod Words
 pub mod Readable
 pub mod ReadBack

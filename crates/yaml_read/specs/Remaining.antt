@@ -1,5 +1,5 @@
 -- What is left of a value's text while it is read, by the lists and maps that are open.
-use Rattle.std.specs.Prelude.{ℕ, suc, ◌+◌, ◌≡◌, Bool, true, false, Result, Ok, Err, List, [], ◌∷◌, ◌++◌, codes, length}
+use Rattle.std.specs.Prelude.{ℕ, suc, ◌+◌, ◌≡◌, Result, Ok, Err, List, [], ◌∷◌, ◌++◌, codes, length}
 use Rattle.std.specs.Str.{encode_utf8_all}
 use Rattle.yaml_base.specs.Characters.{Text, line_feed}
 use Rattle.yaml_base.specs.values.TypedValues.{TypedValue, list_value, map_value, TypedValues, values_and, TypedPairs, value_pairs_and}
@@ -66,12 +66,6 @@ pub record IsRead (root : TypedValue) (levels : List OpenLevel) (value : TypedVa
   pub rest : Text
   pub text : bytes ≡ encode_utf8_all rest
   pub completes : Completes root levels value rest
-
--- a list or a map
-abbrev pub is_nested : TypedValue → Bool
-is_nested (list_value items) = true
-is_nested (map_value pairs) = true
-is_nested _ = false
 
 -- ---- the code's answers
 

@@ -1,19 +1,15 @@
 -- What the readers of words found.
-use Rattle.std.specs.Prelude.{ℕ, ℤ, ◌<◌, ◌≤◌, ◌^◌, ◌≡◌, Bool, true, Option, None, Some, List, [], ◌∷◌, ◌++◌, codes}
+use Rattle.std.specs.Prelude.{ℕ, ℤ, ◌<◌, ◌≤◌, ◌^◌, ◌≡◌, Bool, true, Option, None, Some, List, [], ◌∷◌, ◌++◌}
 use Rattle.std.specs.Borrow.{Bor}
 use Rattle.std.specs.Fmt.{signed_decimal}
 use Rattle.std.specs.Int.Signed.{mag}
 use Rattle.std.specs.Str.{all_scalars, encode_utf8_all}
 use Rattle.yaml_base.specs.Characters.{hex_digits}
 use Rattle.yaml_base.specs.scalars.DoubleQuoted.{character_text, escape_after_backslash, letter_among, needs_escape, short_escapes}
-use Rattle.yaml_base.specs.values.TypedValues.{TypedValue, bool_text, bool_value, int_value, most_nested}
+use Rattle.yaml_base.specs.values.TypedValues.{TypedValue, bool_text, bool_value, int_value}
 use Rattle.yaml_base.specs.values.ValueText.{in_quotes, value_text}
 use Rattle.yaml_value.specs.SeenValues.{seen_value}
 use Rattle.yaml_read.specs.Readable.{CanBeReadAt}
-use Rattle.yaml_read.specs.Remaining.{is_nested}
-use Rattle.yaml_read.specs.Words.{past_word}
-use Rattle.yaml_read.specs.declared.heads.Head.{Head}
-use Rattle.yaml_read.specs.declared.heads.Head.TheVariants as head
 
 -- a character that needs an escape and has one by number, of so many digits
 pub record IsByNumber (bytes : List ℕ) (digits c : ℕ) (rest : List ℕ) : Type 0 where
@@ -54,13 +50,7 @@ pub record IsTruth (bytes : List ℕ) (value : TypedValue) (rest : List ℕ) : T
   pub is : value ≡ bool_value truth
   pub text : bytes ≡ encode_utf8_all (in_quotes (bool_text truth)) ++ rest
 
--- a value that stands on its line, wherever it lies
-pub record IsValue (bytes : List ℕ) (value : TypedValue) (rest : List ℕ) : Type 0 where
-  pub readable : (depth : ℕ) → (is_nested value ≡ true → depth < most_nested) → CanBeReadAt depth value
+-- a scalar, wherever it lies
+pub record IsScalarValue (bytes : List ℕ) (value : TypedValue) (rest : List ℕ) : Type 0 where
+  pub readable : (depth : ℕ) → CanBeReadAt depth value
   pub text : (column : ℕ) → bytes ≡ encode_utf8_all (value_text column value) ++ rest
-
--- what a node begins with
-abbrev pub HeadIs : {A : Type 0} → List ℕ → Head A × Bor (List ℕ) → Type 0
-HeadIs bytes (head.Whole found, after) = IsValue bytes (seen_value found) after.now
-HeadIs bytes (head.Items, inside) = (bytes ≡ codes "!!seq [" ++ inside.now) × (past_word (codes "]") inside.now ≡ None)
-HeadIs bytes (head.Pairs, inside) = (bytes ≡ codes "!!map {" ++ inside.now) × (past_word (codes "}") inside.now ≡ None)

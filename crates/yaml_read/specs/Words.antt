@@ -24,9 +24,3 @@ abbrev pub OrMemory : {T : Type 0} → (T → Type 0) → Result T Stop → Type
 OrMemory Holds (Ok found) = Holds found
 OrMemory Holds (Err stop.Memory) = Unit {0}
 OrMemory Holds (Err _) = ⊥
-
--- the word stands first, and this follows it; or it doesn't stand first, or memory gave out
-abbrev pub OpensAt : (word text : List ℕ) → Result (Bor (List ℕ)) Stop → Type 0
-OpensAt word text (Ok rest) = text ≡ word ++ rest.now
-OpensAt word text (Err stop.Memory) = Unit {0}
-OpensAt word text (Err _) = past_word word text ≡ None

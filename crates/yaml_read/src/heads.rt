@@ -1,17 +1,17 @@
-//! The beginnings of nodes.
-ghost use Rattle.std.specs.Prelude.{◌≡◌, ◌++◌, ◌<◌, ◌^◌, ℕ, ℤ, Bool, true, IfErr, IfOk, length};
+//! Tags and scalars.
+ghost use Rattle.std.specs.Prelude.{◌≡◌, ◌++◌, ◌<◌, ◌^◌, ℤ, Bool, true, IfErr, IfOk, length};
 ghost use Rattle.std.specs.Fmt.{signed_decimal};
 ghost use Rattle.std.specs.Int.Signed.{mag};
 ghost use Rattle.std.specs.Str.{all_scalars, encode_utf8_all};
 ghost use Rattle.yaml_base.specs.Characters.{Text};
-ghost use Rattle.yaml_base.specs.values.TypedValues.{TypedValue, bool_text, bool_value, int_value};
+ghost use Rattle.yaml_base.specs.values.TypedValues.{bool_text, bool_value, int_value};
 ghost use Rattle.yaml_base.specs.Seen.{seen_text};
-ghost use Rattle.yaml_base.specs.values.ValueText.{in_quotes, value_text};
-ghost use Rattle.yaml_read.specs.Grammar.{integer, node, truth};
-ghost use Rattle.yaml_read.specs.Heads.{HeadRead, IsWhole, ListRead, MapRead, TagRead};
-ghost use Rattle.yaml_read.specs.Places.{BreaksAt, IsHere, IsHereOrMemory};
-ghost use Rattle.yaml_read.specs.Readable.{CanBeReadAt};
-ghost use Rattle.yaml_read.specs.Sound.{HeadIs, IsInteger, IsTruth};
+ghost use Rattle.yaml_base.specs.values.ValueText.{in_quotes};
+ghost use Rattle.yaml_read.specs.Grammar.{integer, truth};
+ghost use Rattle.yaml_read.specs.Heads.{IsScalar, IsWhole};
+ghost use Rattle.yaml_read.specs.Places.{BreaksAt, IsHereOrMemory};
+ghost use Rattle.yaml_read.specs.Sound.{IsInteger, IsTruth};
+ghost use Rattle.yaml_read.specs.Stepped.{ScalarRead, TagRead};
 ghost use Rattle.yaml_read.specs.Words.{OrMemory};
 ghost use Rattle.yaml_value.specs.SeenValues.{seen_value};
 
@@ -20,17 +20,6 @@ use crate::errors::{Stop, refused_at, refused_whole};
 use crate::quoted::read_quoted;
 use std::alloc::Allocator;
 use yaml_value::Value;
-
-/// The beginning of a node.
-#[derive(Drop)]
-pub(crate) enum Head<A: Allocator> {
-    /// A whole value: a scalar, or a list or a map that has no entry.
-    Whole(Value<A>),
-    /// The opening bracket of a list that has items.
-    Items,
-    /// The opening bracket of a map that has pairs.
-    Pairs,
-}
 
 /// Returns a text from its opening quote on, and what follows its closing quote. What can't be read is refused as a whole.
 fn read_digits<A: Allocator>(alloc: A, text: &str) -> Result<(String<A>, &str), Stop>
@@ -86,36 +75,6 @@ fn read_truth<A: Allocator>(text: &str) -> Result<(Value<A>, &str), Stop>
     }
 }
 
-/// Reads an empty list, or the opening bracket of one that has items.
-fn read_list<A: Allocator + Copy>(alloc: A, text: &str) -> Result<(Head<A>, &str), Stop>
-    ensures reads { ListRead text.now result }
-    ensures placed { IfErr result (IsHere text.now) }
-    ensures shorter { IfOk result (λ found. length found.1.now < length text.now) }
-{
-    match after(text, "[") {
-        Ok(inside) => match past(inside, "]") {
-            Some(rest) => Ok((Head::Whole(Value::List(Vec::new(alloc))), rest)),
-            None => Ok((Head::Items, inside)),
-        },
-        Err(stop) => Err(stop),
-    }
-}
-
-/// Reads an empty map, or the opening bracket of one that has pairs.
-fn read_map<A: Allocator + Copy>(alloc: A, text: &str) -> Result<(Head<A>, &str), Stop>
-    ensures reads { MapRead text.now result }
-    ensures placed { IfErr result (IsHere text.now) }
-    ensures shorter { IfOk result (λ found. length found.1.now < length text.now) }
-{
-    match after(text, "{") {
-        Ok(inside) => match past(inside, "}") {
-            Some(rest) => Ok((Head::Whole(Value::Map(Vec::new(alloc))), rest)),
-            None => Ok((Head::Pairs, inside)),
-        },
-        Err(stop) => Err(stop),
-    }
-}
-
 /// The kinds of nodes, by their tags.
 #[derive(Clone, Copy)]
 pub(crate) enum Kind {
@@ -128,10 +87,8 @@ pub(crate) enum Kind {
 }
 
 /// Reads a tag and the space after it.
-fn read_tag(text: &str) -> Result<(Kind, &str), Stop>
-    ensures reads { TagRead text.now result }
-    ensures placed { IfErr result (IsHere text.now) }
-    ensures shorter { IfOk result (λ found. length found.1.now < length text.now) }
+pub(crate) fn read_tag(text: &str) -> Result<(Kind, &str), Stop>
+    ensures { TagRead text.now result }
 {
     if let Some(rest) = past(text, "!!str ") {
         return Ok((Kind::Text, rest));
@@ -154,35 +111,25 @@ fn read_tag(text: &str) -> Result<(Kind, &str), Stop>
     }
 }
 
-/// Returns the beginning of a node, from its tag on, and what follows.
-pub(crate) fn read_head<A: Allocator + Copy>(alloc: A, text: &str) -> Result<(Head<A>, &str), Stop>
-    ensures reads { (depth column : ℕ) (value : TypedValue) (rest : Text) → CanBeReadAt depth value
-        → text.now ≡ encode_utf8_all (value_text column value ++ rest) → HeadRead text.now value rest result }
-    ensures sound { IfOk result (HeadIs text.now) }
-    ensures breaks { (depth : ℕ) → IfErr result (BreaksAt (node depth) text.now) }
-    ensures shorter { IfOk result (λ found. length found.1.now < length text.now) }
+/// Reads a scalar behind its tag.
+pub(crate) fn read_scalar<A: Allocator + Copy>(
+    alloc: A,
+    kind: Kind,
+    text: &str,
+) -> Result<(Value<A>, &str), Stop>
+    requires { IsScalar kind }
+    ensures { ScalarRead kind text.now result }
 {
-    match read_tag(text) {
-        Ok((kind, behind)) => match kind {
-            Kind::Null => match after(behind, "\"null\"") {
-                Ok(rest) => Ok((Head::Whole(Value::Null), rest)),
-                Err(stop) => Err(stop),
-            },
-            Kind::Bool => match read_truth(behind) {
-                Ok((value, rest)) => Ok((Head::Whole(value), rest)),
-                Err(stop) => Err(stop),
-            },
-            Kind::Int => match read_integer(alloc, behind) {
-                Ok((value, rest)) => Ok((Head::Whole(value), rest)),
-                Err(stop) => Err(stop),
-            },
-            Kind::Text => match read_quoted(alloc, behind) {
-                Ok((value, rest)) => Ok((Head::Whole(Value::Text(value)), rest)),
-                Err(stop) => Err(stop),
-            },
-            Kind::List => read_list(alloc, behind),
-            Kind::Map => read_map(alloc, behind),
+    match kind {
+        Kind::Null => match after(text, "\"null\"") {
+            Ok(rest) => Ok((Value::Null, rest)),
+            Err(stop) => Err(stop),
         },
-        Err(stop) => Err(stop),
+        Kind::Bool => read_truth(text),
+        Kind::Int => read_integer(alloc, text),
+        _ => match read_quoted(alloc, text) {
+            Ok((value, rest)) => Ok((Value::Text(value), rest)),
+            Err(stop) => Err(stop),
+        },
     }
 }

@@ -1,20 +1,24 @@
 //! The lists and maps that are open.
-ghost use Rattle.std.specs.Prelude.{◌≡◌, ◌++◌, ◌∷◌, ◌+◌, ◌*◌, ◌<◌, [], suc, IfErr, IfOk, List, OnOk, codes, length, ℕ};
-ghost use Rattle.yaml_base.specs.values.TypedValues.{TypedPairs, TypedValue, TypedValues, no_value_pairs, no_values};
+ghost use Rattle.std.specs.Prelude.{◌≡◌, ◌++◌, ◌∷◌, ◌*◌, [], IfErr, IfOk, List, codes, length, ℕ};
+ghost use Rattle.yaml_base.specs.values.TypedValues.{TypedValue};
 ghost use Rattle.yaml_base.specs.values.ValueText.{line_at};
 ghost use Rattle.yaml_read.specs.Entries.{EntryFound};
 ghost use Rattle.yaml_read.specs.Grammar.{behind_in, entry_end, line_then, nothing, word_then};
-ghost use Rattle.yaml_read.specs.Opened.{EntryCut, HasRead, NextRead, TurnRead};
-ghost use Rattle.yaml_read.specs.Places.{BreaksAt, LacksEnd, StopsIn};
-ghost use Rattle.yaml_read.specs.Remaining.{IsRead, OpenLevel, Pushed, Reached, TurnReached, items_open, pairs_open, seen_level, seen_levels, value_due};
-ghost use Rattle.yaml_read.specs.Shorter.{EntryShorter, NextShorter, TurnShorter};
-ghost use Rattle.yaml_read.specs.Words.{OpensAt};
+ghost use Rattle.yaml_read.specs.Heads.{tag_word};
+ghost use Rattle.yaml_read.specs.Opened.{EntryCut, HasRead, TurnRead};
+ghost use Rattle.yaml_read.specs.Places.{BreaksAt};
+ghost use Rattle.yaml_read.specs.Remaining.{IsRead, OpenLevel, Pushed, TurnReached, items_open, pairs_open, seen_level, seen_levels, value_due};
+ghost use Rattle.yaml_read.specs.Stepped.{BracketRead, Entered, EntryShorter, Settled, Stepped, TurnShorter};
+ghost use Rattle.yaml_read.specs.declared.heads.Kind.TheVariants as kind;
 ghost use Rattle.yaml_value.specs.SeenValues.{seen_pairs, seen_value, seen_values};
 
 use crate::cuts::{after, after_indent, past};
 use crate::errors::{Stop, refused_at};
 use std::alloc::Allocator;
 use yaml_value::Value;
+
+/// The maximum nesting depth of lists and maps.
+const MOST_NESTED: usize = 1_000;
 
 /// A list or a map that is open, with what it holds.
 #[derive(Drop)]
@@ -183,10 +187,7 @@ fn push<A: Allocator>(levels: &mut Vec<Level<A>, A>, level: Level<A>) -> Result<
 
 /// Ends the text: behind the outermost value comes a line's end, and nothing else.
 fn finish<'a, A: Allocator>(value: Value<A>, text: &'a str) -> Result<Next<'a, A>, Stop>
-    ensures reached { (root : TypedValue) (levels : List OpenLevel) → IsRead root [] (seen_value value) text.now → Reached root levels result }
-    ensures read { (whole : List ℕ) (levels : List OpenLevel) → HasRead whole [] (seen_value value) text.now → IfOk result (NextRead whole levels) }
-    ensures lacks { IfErr result (LacksEnd text.now) }
-    ensures shorter { IfOk result (NextShorter text.now) }
+    ensures { (levels : List OpenLevel) → Settled [] levels (seen_value value) text.now result }
 {
     match after(text, "\n") {
         Ok(end) => {
@@ -206,12 +207,7 @@ pub(crate) fn settle<'a, A: Allocator>(
     value: Value<A>,
     text: &'a str,
 ) -> Result<Next<'a, A>, Stop>
-    ensures reached { (root : TypedValue) → IsRead root (seen_levels levels.old.items) (seen_value value) text.now
-        → Reached root (seen_levels levels.new.items) result }
-    ensures read { (whole : List ℕ) → HasRead whole (seen_levels levels.old.items) (seen_value value) text.now
-        → IfOk result (NextRead whole (seen_levels levels.new.items)) }
-    ensures stops { (whole : List ℕ) → HasRead whole (seen_levels levels.old.items) (seen_value value) text.now → IfErr result (StopsIn whole) }
-    ensures shorter { IfOk result (NextShorter text.now) }
+    ensures { Settled (seen_levels levels.old.items) (seen_levels levels.new.items) (seen_value value) text.now result }
 {
     let mut value = value;
     let mut rest = text;
@@ -235,38 +231,81 @@ pub(crate) fn settle<'a, A: Allocator>(
     finish(value, rest)
 }
 
-/// Opens a list, up to its first item.
-pub(crate) fn enter_list<'a, A: Allocator>(
-    alloc: A,
-    levels: &mut Vec<Level<A>, A>,
-    text: &'a str,
+/// Returns what follows the opening bracket behind a tag, where one more list or map may lie within the open ones.
+fn open<'a, A: Allocator>(
+    levels: &Vec<Level<A>, A>,
+    text: &str,
+    behind: &'a str,
+    bracket: &str,
 ) -> Result<&'a str, Stop>
-    ensures opened { OnOk result (seen_levels levels.new.items ≡ items_open no_values ∷ seen_levels levels.old.items) }
-    ensures cut { OpensAt (line_at (length levels.old.items * 2 + 2)) text.now result }
-    ensures breaks { IfErr result (BreaksAt (line_then (suc (length levels.old.items)) nothing) text.now) }
-    ensures shorter { IfOk result (λ rest. length rest.now < length text.now) }
+    ensures { BracketRead (length levels.now.items) bracket.now text.now behind.now result }
 {
-    match push(levels, Level::Items(Vec::new(alloc))) {
-        Ok(()) => after_indent(text, levels.len()),
+    match after(behind, bracket) {
+        Ok(inside) => {
+            if levels.len() >= MOST_NESTED {
+                Err(Stop::TooDeep(text.len()))
+            } else {
+                Ok(inside)
+            }
+        }
         Err(stop) => Err(stop),
     }
 }
 
-/// Opens a map, up to its first key.
-pub(crate) fn enter_map<'a, A: Allocator>(
+/// Opens a list or a map, up to its first node.
+fn enter<'a, A: Allocator>(
+    levels: &mut Vec<Level<A>, A>,
+    level: Level<A>,
+    text: &'a str,
+    lead: &str,
+) -> Result<Next<'a, A>, Stop>
+    ensures { Entered (seen_level level) lead.now (seen_levels levels.old.items) (seen_levels levels.new.items) text.now result }
+{
+    match push(levels, level) {
+        Ok(()) => match after_indent(text, levels.len()) {
+            Ok(line) => match after(line, lead) {
+                Ok(rest) => Ok(Next::Node(rest)),
+                Err(stop) => Err(stop),
+            },
+            Err(stop) => Err(stop),
+        },
+        Err(stop) => Err(stop),
+    }
+}
+
+/// Reads a list behind its tag, up to its first item or to what follows an empty one.
+pub(crate) fn begin_list<'a, A: Allocator + Copy>(
     alloc: A,
     levels: &mut Vec<Level<A>, A>,
     text: &'a str,
-) -> Result<&'a str, Stop>
-    ensures opened { OnOk result (seen_levels levels.new.items ≡ pairs_open no_value_pairs ∷ seen_levels levels.old.items) }
-    ensures cut { OpensAt (line_at (length levels.old.items * 2 + 2) ++ codes "? ") text.now result }
-    ensures breaks { IfErr result (BreaksAt (line_then (suc (length levels.old.items)) (word_then (codes "? ") nothing)) text.now) }
-    ensures shorter { IfOk result (λ rest. length rest.now < length text.now) }
+    behind: &'a str,
+) -> Result<Next<'a, A>, Stop>
+    requires { text.now ≡ tag_word kind.List ++ behind.now }
+    ensures { Stepped (seen_levels levels.old.items) (seen_levels levels.new.items) text.now result }
 {
-    match push(levels, Level::Pairs(Vec::new(alloc))) {
-        Ok(()) => match after_indent(text, levels.len()) {
-            Ok(line) => after(line, "? "),
-            Err(stop) => Err(stop),
+    match open(levels, text, behind, "[") {
+        Ok(inside) => match past(inside, "]") {
+            Some(rest) => settle(levels, Value::List(Vec::new(alloc)), rest),
+            None => enter(levels, Level::Items(Vec::new(alloc)), inside, ""),
+        },
+        Err(stop) => Err(stop),
+    }
+}
+
+/// Reads a map behind its tag, up to its first key or to what follows an empty one.
+pub(crate) fn begin_map<'a, A: Allocator + Copy>(
+    alloc: A,
+    levels: &mut Vec<Level<A>, A>,
+    text: &'a str,
+    behind: &'a str,
+) -> Result<Next<'a, A>, Stop>
+    requires { text.now ≡ tag_word kind.Map ++ behind.now }
+    ensures { Stepped (seen_levels levels.old.items) (seen_levels levels.new.items) text.now result }
+{
+    match open(levels, text, behind, "{") {
+        Ok(inside) => match past(inside, "}") {
+            Some(rest) => settle(levels, Value::Map(Vec::new(alloc)), rest),
+            None => enter(levels, Level::Pairs(Vec::new(alloc)), inside, "? "),
         },
         Err(stop) => Err(stop),
     }

@@ -1,48 +1,25 @@
 //! Canonical YAML read as a value.
-ghost use Rattle.std.specs.Prelude.{◌≡◌, ◌≢◌, ◌<◌, ◌≤◌, ◌⊎◌, List, ℕ, IfErr, IfOk, OnErr, OnOk, Some, length};
+ghost use Rattle.std.specs.Prelude.{◌≡◌, ◌≢◌, ◌⊎◌, IfErr, IfOk, Some};
 ghost use Rattle.std.specs.Str.{encode_utf8_all};
 ghost use Rattle.yaml_base.specs.Encoding.{encode};
 ghost use Rattle.yaml_base.specs.Settings.{utf8};
-ghost use Rattle.yaml_base.specs.values.TypedValues.{TypedValue, WritesValue, most_nested};
+ghost use Rattle.yaml_base.specs.values.TypedValues.{TypedValue, WritesValue};
 ghost use Rattle.yaml_base.specs.values.ValueText.{document_text};
 ghost use Rattle.yaml_read.specs.Errors.{Tells};
-ghost use Rattle.yaml_read.specs.Opened.{IsOpen, NextRead};
-ghost use Rattle.yaml_read.specs.Places.{HasPlaceOf, IsDeepHere, IsNotCanonicalAt, IsPlaced, StopsAt, StopsIn};
+ghost use Rattle.yaml_read.specs.Places.{HasPlaceOf, IsNotCanonicalAt, IsPlaced, StopsAt};
 ghost use Rattle.yaml_read.specs.Readable.{CanBeRead, CanBeReadAt};
-ghost use Rattle.yaml_read.specs.Remaining.{IsDue, Reached, is_nested, seen_levels};
-ghost use Rattle.yaml_read.specs.Shorter.{NextShorter};
+ghost use Rattle.yaml_read.specs.Remaining.{seen_levels};
+ghost use Rattle.yaml_read.specs.Stepped.{Stepped};
 ghost use Rattle.yaml_read.specs.Words.{OrMemory};
 ghost use Rattle.yaml_value.specs.SeenValues.{seen_value};
 
 use crate::cuts::after;
 use crate::errors::{ReadError, Stop};
-use crate::heads::{Head, read_head};
-use crate::levels::{Level, Next, enter_list, enter_map, settle};
+use crate::heads::{Kind, read_scalar, read_tag};
+use crate::levels::{Level, Next, begin_list, begin_map, settle};
 use std::alloc::Allocator;
 use yaml_base::place_of;
 use yaml_value::Value;
-
-/// The maximum nesting depth of lists and maps.
-const MOST_NESTED: usize = 1_000;
-
-fn is_collection<A: Allocator>(value: &Value<A>) -> bool
-    ensures { result ≡ is_nested (seen_value value.now) }
-{
-    matches!(value, Value::List(_) | Value::Map(_))
-}
-
-/// Checks whether one more list or map may lie within the open ones; it begins here.
-fn check_room<A: Allocator>(levels: &Vec<Level<A>, A>, text: &str) -> Result<(), Stop>
-    ensures full { OnErr result (most_nested ≤ length levels.now.items) }
-    ensures placed { IfErr result (IsDeepHere text.now) }
-    ensures room { OnOk result (length levels.now.items < most_nested) }
-{
-    if levels.len() >= MOST_NESTED {
-        Err(Stop::TooDeep(text.len()))
-    } else {
-        Ok(())
-    }
-}
 
 /// Reads the next node, from its tag on.
 fn step<'a, A: Allocator + Copy>(
@@ -50,34 +27,14 @@ fn step<'a, A: Allocator + Copy>(
     levels: &mut Vec<Level<A>, A>,
     text: &'a str,
 ) -> Result<Next<'a, A>, Stop>
-    ensures reached { (root : TypedValue) → IsDue root (seen_levels levels.old.items) text.now → Reached root (seen_levels levels.new.items) result }
-    ensures read { (whole : List ℕ) → IsOpen whole (seen_levels levels.old.items) text.now → IfOk result (NextRead whole (seen_levels levels.new.items)) }
-    ensures stops { (whole : List ℕ) → IsOpen whole (seen_levels levels.old.items) text.now → IfErr result (StopsIn whole) }
-    ensures shorter { IfOk result (NextShorter text.now) }
+    ensures { Stepped (seen_levels levels.old.items) (seen_levels levels.new.items) text.now result }
 {
-    match read_head(alloc, text) {
-        Ok((head, rest)) => match head {
-            Head::Whole(value) => {
-                if is_collection(&value) {
-                    match check_room(levels, text) {
-                        Ok(()) => {}
-                        Err(stop) => return Err(stop),
-                    }
-                }
-                settle(levels, value, rest)
-            }
-            Head::Items => match check_room(levels, text) {
-                Ok(()) => match enter_list(alloc, levels, rest) {
-                    Ok(next) => Ok(Next::Node(next)),
-                    Err(stop) => Err(stop),
-                },
-                Err(stop) => Err(stop),
-            },
-            Head::Pairs => match check_room(levels, text) {
-                Ok(()) => match enter_map(alloc, levels, rest) {
-                    Ok(next) => Ok(Next::Node(next)),
-                    Err(stop) => Err(stop),
-                },
+    match read_tag(text) {
+        Ok((kind, behind)) => match kind {
+            Kind::List => begin_list(alloc, levels, text, behind),
+            Kind::Map => begin_map(alloc, levels, text, behind),
+            _ => match read_scalar(alloc, kind, behind) {
+                Ok((value, rest)) => settle(levels, value, rest),
                 Err(stop) => Err(stop),
             },
         },

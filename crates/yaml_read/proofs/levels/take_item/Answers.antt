@@ -3,7 +3,7 @@ use Rattle.yaml_value.specs.SeenValues.{seen_value, seen_values}
 use Rattle.yaml_read.specs.Opened.{EntryCut, HasRead, IsOpen}
 use Rattle.yaml_read.{specs.Remaining.IsDue, specs.Remaining.IsRead, specs.Remaining.items_open, specs.declared.levels.Entry.Entry, proofs.Turns.EntryReached}
 use Rattle.yaml_read.{proofs.Turns.item_reached, proofs.Opening.item_on, proofs.Opening.item_out, proofs.SeenLevels.item_more, proofs.SeenLevels.seen_list}
-use Rattle.yaml_read.{specs.Shorter.EntryShorter}
+use Rattle.yaml_read.{specs.Stepped.EntryShorter}
 use Rattle.yaml_base.{specs.values.TypedValues.list_value, specs.values.ValueText.line_at}
 use Rattle.yaml_value.specs.declared.value.Value as declared
 use Rattle.yaml_read.proofs.levels.take_item.Goals as goal

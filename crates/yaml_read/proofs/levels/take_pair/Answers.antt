@@ -3,7 +3,7 @@ use Rattle.yaml_value.specs.SeenValues.{seen_value, seen_pairs}
 use Rattle.yaml_read.specs.Opened.{EntryCut, HasRead, IsOpen}
 use Rattle.yaml_read.{specs.Remaining.IsDue, specs.Remaining.IsRead, specs.Remaining.pairs_open, specs.declared.levels.Entry.Entry, proofs.Turns.EntryReached}
 use Rattle.yaml_read.{proofs.Turns.pair_reached, proofs.Opening.pair_on, proofs.Opening.pair_out, proofs.SeenLevels.pair_more, proofs.SeenLevels.seen_map}
-use Rattle.yaml_read.{specs.Shorter.EntryShorter}
+use Rattle.yaml_read.{specs.Stepped.EntryShorter}
 use Rattle.yaml_base.{specs.values.TypedValues.map_value, specs.values.ValueText.line_at}
 use Rattle.yaml_value.specs.declared.value.Value as declared
 use Rattle.yaml_read.proofs.levels.take_pair.Goals as goal

@@ -1,0 +1,382 @@
+-- From a node's tag on, and behind a value, up to the next node.
+use Rattle.yaml_base.proofs.Common.{ℕ, ◌+◌, ◌*◌, ◌<◌, ◌≤◌, suc, None, List, [], ◌∷◌, ◌++◌, refl, ◌≡◌, ap, subst, sym, ◌∙◌, inl, inr, arith, append-nil, append_assoc}
+use Rattle.yaml_base.proofs.Common.{length, length-append, codes, encode_utf8_all, Text, Bool, true}
+use Rattle.yaml_base.specs.values.TypedValues.{TypedValue, list_value, map_value, no_values, no_value_pairs, most_nested, null_value, bool_value, bool_text}
+use Rattle.yaml_base.specs.values.TypedValues.{int_value, text_value}
+use Rattle.yaml_base.specs.values.ValueText.{in_quotes, line_at, value_text}
+use Rattle.yaml_base.specs.Seen.{seen_text}
+use Rattle.std.specs.Prelude.{Result, Ok, Err, IfErr, IfOk, ℤ, ◌^◌}
+use Rattle.std.proofs.Common.{String, Bor}
+use Rattle.std.{specs.Fmt.signed_decimal, specs.Int.Signed.mag, specs.Str.all_scalars}
+use Rattle.std.proofs.lemmas.Result.{IfOk-weaker}
+use Rattle.yaml_read.specs.Grammar.{integer, line_then, nothing, quoted_text, truth, word_then}
+use Rattle.yaml_read.specs.Heads.{IsScalar, IsWhole, tag_word}
+use Rattle.yaml_read.specs.Opened.{HasRead, IsOpen, NextRead}
+use Rattle.yaml_read.specs.Places.{BreaksAt, IsHere, LacksEnd, LacksLine, StopsIn}
+use Rattle.yaml_read.specs.Remaining.{IsDue, IsRead, OpenLevel, Reached, column_in, items_open, pairs_open}
+use Rattle.yaml_read.specs.Stepped.{BracketLacks, Entered, EntryLacks, NextShorter, ScalarRead, Settled, Stepped, TagRead, no_bracket, no_lead, no_line}
+use Rattle.yaml_read.specs.Stepped.{no_memory, no_room}
+use Rattle.yaml_read.specs.{Readable.CanBeReadAt, Sound.IsInteger, Sound.IsScalarValue, Sound.IsTruth, Words.OrMemory, Words.past_word}
+use Rattle.yaml_read.proofs.Breaking.{line_lacks, line_passed, missing}
+use Rattle.yaml_read.proofs.BreakingNodes.{list_line_breaks, map_line_breaks, no_list, no_map, no_tag_there, node_stops, opens_deep, tag_passed}
+use Rattle.yaml_read.proofs.HeadTexts.{list_bracket, list_empty, map_bracket, map_empty, no_tag, tail_of}
+use Rattle.yaml_read.proofs.HeadsRead.{empty_list, empty_map, integer_read, null_read, string_read, truth_read}
+use Rattle.yaml_read.proofs.Opening.{ReadsOn, list_in, map_in, value_in}
+use Rattle.yaml_read.proofs.Turns.{GoesOn, Opens, cut_is, into, list_opens, map_opens, whole_read}
+use Rattle.yaml_read.proofs.{Encoded.word_encoded, SeenLevels.seen_null, SeenLevels.seen_string, Words.error_stays, Words.no_word}
+use Rattle.yaml_value.{specs.SeenValues.seen_value, specs.declared.value.Value.Value}
+use Rattle.yaml_value.specs.declared.value.Value as declared
+use Rattle.yaml_read.specs.declared.errors.Stop.{Stop}
+use Rattle.yaml_read.specs.declared.heads.Kind.{Kind}
+use Rattle.yaml_read.specs.declared.levels.Next.{Next}
+use Rattle.yaml_read.specs.declared.levels.Next.TheVariants.{Done, Node}
+use Rattle.yaml_read.specs.declared.errors.Stop.TheVariants as stop
+use Rattle.yaml_read.specs.declared.heads.Kind.TheVariants as kind
+
+-- less is left behind what begins no sooner
+pub next_less : {A : Type 0} (text rest : List ℕ) (next : Next A) → length rest ≤ length text → NextShorter rest next → NextShorter text next
+next_less text rest (Done value) less is = tt
+next_less text rest (Node after) less is = omega (arith, less, is)
+
+-- less is left behind a word that isn't empty
+behind_tag_less : (k : Kind) (text behind : List ℕ) → text ≡ tag_word k ++ behind → length behind < length text
+behind_tag_less kind.Null text behind is = omega (arith, ap length is)
+behind_tag_less kind.Bool text behind is = omega (arith, ap length is)
+behind_tag_less kind.Int text behind is = omega (arith, ap length is)
+behind_tag_less kind.Text text behind is = omega (arith, ap length is)
+behind_tag_less kind.List text behind is = omega (arith, ap length is)
+behind_tag_less kind.Map text behind is = omega (arith, ap length is)
+
+-- ---- values on their line
+
+-- a value was read whole
+value_steps : {A : Type 0} (before after : List OpenLevel) (text rest : List ℕ) (value : TypedValue) (result : Result (Next A) Stop)
+    → text ≡ encode_utf8_all (value_text (column_in before) value) ++ rest → CanBeReadAt (length before) value
+    → ((root : TypedValue) (due : IsDue root before text) → (value ≡ due.value) × (rest ≡ encode_utf8_all due.rest)) → length rest < length text
+    → Settled before after value rest result → Stepped before after text result
+value_steps before after text rest value result is readable reads less settled =
+    record {
+      reached = λ root due. settled.reached root (whole_read root value before text rest due (reads root due));
+      read = λ whole opened. settled.read whole (value_in whole before value text rest opened is readable);
+      stops = λ whole opened. settled.stops whole (value_in whole before value text rest opened is readable);
+      shorter = IfOk-weaker result _ _ (λ next is. next_less text rest next (omega (arith, less)) is) settled.shorter;
+    }
+
+pub scalar_steps : {A : Type 0} (before after : List OpenLevel) (k : Kind) (text behind rest : List ℕ) (value : TypedValue) (result : Result (Next A) Stop)
+    → text ≡ tag_word k ++ behind → IsScalarValue (tag_word k ++ behind) value rest
+    → ((depth column : ℕ) (v : TypedValue) (t : Text) → CanBeReadAt depth v → tag_word k ++ behind ≡ encode_utf8_all (value_text column v ++ t)
+    → (value ≡ v) × (rest ≡ encode_utf8_all t)) → length rest < length behind
+    → Settled before after value rest result → Stepped before after text result
+scalar_steps before after k text behind rest value result tagged found reads less settled =
+    value_steps before after text rest value result (tagged ∙ found.text (column_in before)) (found.readable (length before))
+    (λ root due. reads (length before) (column_in before) due.value due.rest due.readable (sym tagged ∙ due.text))
+    (omega (arith, less, behind_tag_less k text behind tagged)) settled
+
+no_scalar_reached : {T : Type 0} (A : Type 0) (Holds : T → Type 0) (root : TypedValue) (after : List OpenLevel) (error : Stop) → OrMemory Holds (Err error)
+    → Reached {A = A} root after (Err error)
+no_scalar_reached A Holds root after stop.Memory is = tt
+no_scalar_reached A Holds root after (stop.Refused n) is = is
+no_scalar_reached A Holds root after (stop.TooDeep n) is = is
+
+pub no_scalar_steps : (A : Type 0) (before after : List OpenLevel) (k : Kind) (text behind : List ℕ) (error : Stop) → text ≡ tag_word k ++ behind
+    → ScalarRead {A = A} k behind (Err error) → Stepped {A = A} before after text (Err error)
+no_scalar_steps A before after k text behind error tagged lacks =
+    record {
+      reached = λ root due.
+          no_scalar_reached A (IsWhole {A = A} due.value due.rest) root after error
+          (lacks.reads (length before) (column_in before) due.value due.rest due.readable (sym tagged ∙ due.text));
+      read = λ whole opened. tt;
+      stops = λ whole opened. node_stops whole before text error opened
+          (tag_passed (length before) k k text behind error refl tagged (lacks.breaks (length before)));
+      shorter = tt;
+    }
+
+pub no_tag_steps : (A : Type 0) (before after : List OpenLevel) (text : List ℕ) (error : Stop)
+    → ((k : Kind) → past_word (tag_word k) text ≡ None) × IsHere text error → Stepped {A = A} before after text (Err error)
+no_tag_steps A before after text error lacks =
+    record {
+      reached = λ root due. absurd (no_tag (column_in before) due.value due.rest text due.text lacks.0);
+      read = λ whole opened. tt;
+      stops = λ whole opened. node_stops whole before text error opened (no_tag_there (length before) text error lacks.0 lacks.1);
+      shorter = tt;
+    }
+
+-- ---- scalars
+
+null_tail : (bytes : List ℕ) (column : ℕ) (value : TypedValue) (text : Text) → tag_word kind.Null ++ bytes ≡ encode_utf8_all (value_text column value ++ text)
+    → (value ≡ null_value) × (bytes ≡ codes "\"null\"" ++ encode_utf8_all text)
+null_tail bytes column value text there =
+    let tail = tail_of kind.Null column value text (tag_word kind.Null ++ bytes) bytes there refl in
+    (tail.0, tail.1 ∙ word_encoded (codes "\"null\"") text refl)
+
+pub null_found : (A : Type 0) (bytes : List ℕ) (rest : Bor (List ℕ)) → bytes ≡ codes "\"null\"" ++ rest.now
+    → ScalarRead {A = A} kind.Null bytes (Ok (declared.Null, rest))
+null_found A bytes rest is =
+    record {
+      reads = λ depth column value text readable there.
+          let tail = null_tail bytes column value text there in
+          (seen_null A ∙ sym tail.0, cut_is (codes "\"null\"") bytes rest.now (encode_utf8_all text) is tail.1);
+      sound =
+          subst (λ value. IsScalarValue (tag_word kind.Null ++ bytes) value rest.now) (sym (seen_null A))
+          (null_read (tag_word kind.Null ++ bytes) bytes rest.now refl is);
+      breaks = λ depth. tt;
+      shorter = omega (arith, ap length is);
+    }
+
+pub no_null : (A : Type 0) (bytes : List ℕ) (error : Stop) → past_word (codes "\"null\"") bytes ≡ None → IsHere bytes error
+    → ScalarRead {A = A} kind.Null bytes (Err error)
+no_null A bytes error none place =
+    record {
+      reads = λ depth column value text readable there.
+          absurd (no_word (codes "\"null\"") bytes (encode_utf8_all text) none (null_tail bytes column value text there).1);
+      sound = tt;
+      breaks = λ depth. missing (codes "\"null\"") bytes nothing error [] none place tt;
+      shorter = tt;
+    }
+
+pub truth_scalar : {A : Type 0} (bytes : List ℕ) (result : Result (Value A × Bor (List ℕ)) Stop)
+    → ((b : Bool) (rest : Text) → bytes ≡ encode_utf8_all (in_quotes (bool_text b) ++ rest) → OrMemory (IsWhole (bool_value b) rest) result)
+    → IfOk result (λ found. IsTruth bytes (seen_value found.0) found.1.now) → IfErr result (BreaksAt truth bytes)
+    → IfOk result (λ found. length found.1.now < length bytes) → ScalarRead kind.Bool bytes result
+truth_scalar bytes result reads sound breaks shorter =
+    record {
+      reads = λ depth column value rest readable there.
+          let tail = tail_of kind.Bool column value rest (tag_word kind.Bool ++ bytes) bytes there refl in
+          subst (λ value. OrMemory (IsWhole value rest) result) (sym tail.1) (reads tail.0 rest tail.2);
+      sound =
+          IfOk-weaker result _ _
+          (λ found is. truth_read (tag_word kind.Bool ++ bytes) bytes found.1.now (seen_value found.0) refl is) sound;
+      breaks = λ depth. breaks;
+      shorter = shorter;
+    }
+
+pub integer_scalar : {A : Type 0} (bytes : List ℕ) (result : Result (Value A × Bor (List ℕ)) Stop)
+    → ((n : ℤ) (rest : Text) → mag n < 2 ^ 63 → bytes ≡ encode_utf8_all (in_quotes (signed_decimal n) ++ rest)
+    → OrMemory (IsWhole (int_value n) rest) result)
+    → IfOk result (λ found. IsInteger bytes (seen_value found.0) found.1.now) → IfErr result (BreaksAt integer bytes)
+    → IfOk result (λ found. length found.1.now < length bytes) → ScalarRead kind.Int bytes result
+integer_scalar bytes result reads sound breaks shorter =
+    record {
+      reads = λ depth column value rest readable there.
+          let tail = tail_of kind.Int column value rest (tag_word kind.Int ++ bytes) bytes there refl in
+          subst (λ value. OrMemory (IsWhole value rest) result) (sym tail.1)
+          (reads tail.0 rest (subst (CanBeReadAt depth) tail.1 readable) tail.2);
+      sound =
+          IfOk-weaker result _ _
+          (λ found is. integer_read (tag_word kind.Int ++ bytes) bytes found.1.now (seen_value found.0) refl is) sound;
+      breaks = λ depth. breaks;
+      shorter = shorter;
+    }
+
+pub text_found : {A : Type 0} (bytes : List ℕ) (text : String A) (rest : Bor (List ℕ))
+    → ((value behind : Text) → all_scalars value ≡ true → bytes ≡ encode_utf8_all (in_quotes value ++ behind)
+    → (seen_text text ≡ value) × (rest.now ≡ encode_utf8_all behind))
+    → bytes ≡ encode_utf8_all (in_quotes (seen_text text)) ++ rest.now → length rest.now < length bytes
+    → ScalarRead kind.Text bytes (Ok (declared.Text text, rest))
+text_found bytes text rest reads sound shorter =
+    record {
+      reads = λ depth column value behind readable there.
+          let tail = tail_of kind.Text column value behind (tag_word kind.Text ++ bytes) bytes there refl in
+          let read = reads tail.0 behind (subst (CanBeReadAt depth) tail.1 readable) tail.2 in
+          (seen_string text ∙ ap text_value read.0 ∙ sym tail.1, read.1);
+      sound =
+          subst (λ value. IsScalarValue (tag_word kind.Text ++ bytes) value rest.now) (sym (seen_string text))
+          (string_read (tag_word kind.Text ++ bytes) bytes rest.now text refl sound);
+      breaks = λ depth. tt;
+      shorter = shorter;
+    }
+
+pub no_text : {T : Type 0} (A : Type 0) (Holds : Text → Text → T → Type 0) (bytes : List ℕ) (error : Stop)
+    → ((value rest : Text) → all_scalars value ≡ true → bytes ≡ encode_utf8_all (in_quotes value ++ rest) → OrMemory (Holds value rest) (Err error))
+    → BreaksAt quoted_text bytes error → ScalarRead {A = A} kind.Text bytes (Err error)
+no_text A Holds bytes error reads breaks =
+    record {
+      reads = λ depth column value rest readable there.
+          let tail = tail_of kind.Text column value rest (tag_word kind.Text ++ bytes) bytes there refl in
+          error_stays (Holds tail.0 rest) (IsWhole {A = A} value rest) error
+          (reads tail.0 rest (subst (CanBeReadAt depth) tail.1 readable) tail.2);
+      sound = tt;
+      breaks = λ depth. breaks;
+      shorter = tt;
+    }
+
+pub of_kind : {A : Type 0} {bytes : List ℕ} {result : Result (Value A × Bor (List ℕ)) Stop} (k j : Kind) → j ≡ k → ScalarRead k bytes result
+    → ScalarRead j bytes result
+of_kind {A} {bytes} {result} k j is read = subst (λ (k : Kind). ScalarRead k bytes result) (sym is) read
+
+-- the kinds that are left
+pub scalar_kind : (k : Kind) → (k ≡ kind.List → ⊥) → (k ≡ kind.Map → ⊥) → IsScalar k
+scalar_kind kind.Null list map = tt
+scalar_kind kind.Bool list map = tt
+scalar_kind kind.Int list map = tt
+scalar_kind kind.Text list map = tt
+scalar_kind kind.List list map = list refl
+scalar_kind kind.Map list map = map refl
+
+pub text_kind : (k : Kind) → IsScalar k → (k ≡ kind.Null → ⊥) → (k ≡ kind.Bool → ⊥) → (k ≡ kind.Int → ⊥) → k ≡ kind.Text
+text_kind kind.Null scalar null bool int = absurd (null refl)
+text_kind kind.Bool scalar null bool int = absurd (bool refl)
+text_kind kind.Int scalar null bool int = absurd (int refl)
+text_kind kind.Text scalar null bool int = refl
+text_kind kind.List scalar null bool int = absurd scalar
+text_kind kind.Map scalar null bool int = absurd scalar
+
+-- ---- lists
+
+-- an empty list
+pub empty_list_steps : {A : Type 0} (before after : List OpenLevel) (text behind inside rest : List ℕ) (value : TypedValue) (result : Result (Next A) Stop)
+    → text ≡ tag_word kind.List ++ behind → (behind ≡ codes "[" ++ inside) × (length before < most_nested) → inside ≡ codes "]" ++ rest
+    → value ≡ list_value no_values → Settled before after value rest result → Stepped before after text result
+empty_list_steps before after text behind inside rest value result tagged bracket is same settled =
+    value_steps before after text rest (list_value no_values) result (empty_list (column_in before) text behind inside rest tagged bracket.0 is) (bracket.1, tt)
+    (λ root due.
+    let tail = tail_of kind.List (column_in before) due.value due.rest text behind due.text tagged in
+    let empty = list_empty (column_in before) tail.0 due.rest behind rest tail.2 (bracket.0 ∙ ap (λ t. codes "[" ++ t) is) in
+    (ap list_value (sym empty.0) ∙ sym tail.1, empty.1))
+    (omega (arith, ap length tagged, ap length bracket.0, ap length is)) (subst (λ value. Settled before after value rest result) same settled)
+
+-- a list that can't begin
+pub no_list_steps : (A : Type 0) (before after : List OpenLevel) (text behind : List ℕ) (error : Stop) → text ≡ tag_word kind.List ++ behind
+    → BracketLacks (length before) (codes "[") text behind error → Stepped {A = A} before after text (Err error)
+no_list_steps A before after text behind error tagged (no_bracket none place) =
+    record {
+      reached = λ root due.
+          let tail = tail_of kind.List (column_in before) due.value due.rest text behind due.text tagged in
+          absurd (list_bracket (column_in before) tail.0 due.rest behind tail.2 none);
+      read = λ whole opened. tt;
+      stops = λ whole opened. node_stops whole before text error opened (no_list (length before) text behind error tagged none place);
+      shorter = tt;
+    }
+no_list_steps A before after text behind error tagged (no_room inside is many place) =
+    record {
+      reached = λ root due.
+          let tail = tail_of kind.List (column_in before) due.value due.rest text behind due.text tagged in
+          let room : CanBeReadAt (length before) (list_value tail.0) = subst (CanBeReadAt (length before)) tail.1 due.readable in
+          absurd (omega (arith, many, room.0));
+      read = λ whole opened. tt;
+      stops = λ whole opened. opens_deep whole before text inside error opened many (inl (tagged ∙ ap (λ t. codes "!!seq " ++ t) is)) place;
+      shorter = tt;
+    }
+
+-- ---- into lists and maps
+
+twice : (n : ℕ) → n * 2 + 2 ≡ suc n * 2
+twice n = omega arith
+
+-- nothing is due where no entry stands
+no_entry_reached : (A : Type 0) (root : TypedValue) (before inner after : List OpenLevel) (lead inside : List ℕ) (error : Stop)
+    → Opens root before inner lead inside → EntryLacks (suc (length before)) lead inside error → Reached {A = A} root after (Err error)
+no_entry_reached A root before inner after lead inside error opens (no_memory is) = subst (λ (e : Stop). Reached {A = A} root after (Err e)) (sym is) tt
+no_entry_reached A root before inner after lead inside error opens (no_line none lacks) =
+    absurd (no_word (line_at (suc (length before) * 2)) inside (lead ++ opens.tail) none
+    (opens.inside_is ∙ ap (λ n. line_at n ++ (lead ++ opens.tail)) (twice (length before))))
+no_entry_reached A root before inner after lead inside error opens (no_lead line is none place) =
+    absurd (no_word lead line opens.tail none (cut_is (line_at (suc (length before) * 2)) inside line (lead ++ opens.tail) is
+    (opens.inside_is ∙ ap (λ n. line_at n ++ (lead ++ opens.tail)) (twice (length before)))))
+
+list_breaks : (depth : ℕ) (inside : List ℕ) (error : Stop) → EntryLacks (suc depth) [] inside error → BreaksAt (line_then (suc depth) nothing) inside error
+list_breaks depth inside error (no_memory is) = subst (BreaksAt (line_then (suc depth) nothing) inside) (sym is) tt
+list_breaks depth inside error (no_line none lacks) = line_lacks (suc depth) inside nothing error [] lacks tt
+list_breaks depth inside error (no_lead line is none place) = absurd (no_word [] line line none refl)
+
+map_breaks : (depth : ℕ) (inside : List ℕ) (error : Stop) → EntryLacks (suc depth) (codes "? ") inside error
+    → BreaksAt (line_then (suc depth) (word_then (codes "? ") nothing)) inside error
+map_breaks depth inside error (no_memory is) = subst (BreaksAt (line_then (suc depth) (word_then (codes "? ") nothing)) inside) (sym is) tt
+map_breaks depth inside error (no_line none lacks) = line_lacks (suc depth) inside (word_then (codes "? ") nothing) error (codes "? " ∷ []) lacks (refl, tt)
+map_breaks depth inside error (no_lead line is none place) =
+    line_passed (suc depth) inside line (word_then (codes "? ") nothing) error is (missing (codes "? ") line nothing error [] none place tt)
+
+-- a list that has items
+pub list_steps : {A : Type 0} (before after : List OpenLevel) (text behind inside : List ℕ) (result : Result (Next A) Stop)
+    → text ≡ tag_word kind.List ++ behind → (behind ≡ codes "[" ++ inside) × (length before < most_nested) → past_word (codes "]") inside ≡ None
+    → Entered (items_open no_values) [] before after inside result → Stepped before after text result
+list_steps before after text behind inside (Ok (Done value)) tagged bracket none entered = absurd entered
+list_steps before after text behind inside (Ok (Node rest)) tagged bracket none entered =
+    let there = tagged ∙ ap (λ t. codes "!!seq " ++ t) bracket.0 in
+    let line = ap line_at (sym (twice (length before))) in
+    let word = entered.1 ∙ ap (λ w. w ++ rest.now) line in
+    record {
+      reached = λ root due.
+          into root before (items_open no_values ∷ before) after [] inside (line_at (length before * 2 + 2)) rest.now
+          (list_opens root before text inside due there none) (sym (append-nil (line_at (length before * 2 + 2)))) word entered.0;
+      read = λ whole opened.
+          subst (λ (inner : List OpenLevel). IsOpen whole inner rest.now) (sym entered.0)
+          (list_in whole before text rest.now opened bracket.1 (there ∙ ap (λ t. codes "!!seq [" ++ t) word));
+      stops = λ whole opened. tt;
+      shorter = omega (arith, ap length there, ap length entered.1, length-append (line_at (suc (length before) * 2)) rest.now);
+    }
+list_steps {A} before after text behind inside (Err error) tagged bracket none entered =
+    let there = tagged ∙ ap (λ t. codes "!!seq " ++ t) bracket.0 in
+    record {
+      reached = λ root due.
+          no_entry_reached A root before (items_open no_values ∷ before) after [] inside error (list_opens root before text inside due there none) entered;
+      read = λ whole opened. tt;
+      stops = λ whole opened. node_stops whole before text error opened
+          (list_line_breaks (length before) text inside error bracket.1 (there, none) (list_breaks (length before) inside error entered));
+      shorter = tt;
+    }
+
+-- ---- maps
+
+pub empty_map_steps : {A : Type 0} (before after : List OpenLevel) (text behind inside rest : List ℕ) (value : TypedValue) (result : Result (Next A) Stop)
+    → text ≡ tag_word kind.Map ++ behind → (behind ≡ codes "{" ++ inside) × (length before < most_nested) → inside ≡ codes "}" ++ rest
+    → value ≡ map_value no_value_pairs → Settled before after value rest result → Stepped before after text result
+empty_map_steps before after text behind inside rest value result tagged bracket is same settled =
+    value_steps before after text rest (map_value no_value_pairs) result (empty_map (column_in before) text behind inside rest tagged bracket.0 is) (bracket.1, tt)
+    (λ root due.
+    let tail = tail_of kind.Map (column_in before) due.value due.rest text behind due.text tagged in
+    let empty = map_empty (column_in before) tail.0 due.rest behind rest tail.2 (bracket.0 ∙ ap (λ t. codes "{" ++ t) is) in
+    (ap map_value (sym empty.0) ∙ sym tail.1, empty.1))
+    (omega (arith, ap length tagged, ap length bracket.0, ap length is)) (subst (λ value. Settled before after value rest result) same settled)
+
+pub no_map_steps : (A : Type 0) (before after : List OpenLevel) (text behind : List ℕ) (error : Stop) → text ≡ tag_word kind.Map ++ behind
+    → BracketLacks (length before) (codes "{") text behind error → Stepped {A = A} before after text (Err error)
+no_map_steps A before after text behind error tagged (no_bracket none place) =
+    record {
+      reached = λ root due.
+          let tail = tail_of kind.Map (column_in before) due.value due.rest text behind due.text tagged in
+          absurd (map_bracket (column_in before) tail.0 due.rest behind tail.2 none);
+      read = λ whole opened. tt;
+      stops = λ whole opened. node_stops whole before text error opened (no_map (length before) text behind error tagged none place);
+      shorter = tt;
+    }
+no_map_steps A before after text behind error tagged (no_room inside is many place) =
+    record {
+      reached = λ root due.
+          let tail = tail_of kind.Map (column_in before) due.value due.rest text behind due.text tagged in
+          let room : CanBeReadAt (length before) (map_value tail.0) = subst (CanBeReadAt (length before)) tail.1 due.readable in
+          absurd (omega (arith, many, room.0));
+      read = λ whole opened. tt;
+      stops = λ whole opened. opens_deep whole before text inside error opened many (inr (tagged ∙ ap (λ t. codes "!!map " ++ t) is)) place;
+      shorter = tt;
+    }
+
+pub map_steps : {A : Type 0} (before after : List OpenLevel) (text behind inside : List ℕ) (result : Result (Next A) Stop)
+    → text ≡ tag_word kind.Map ++ behind → (behind ≡ codes "{" ++ inside) × (length before < most_nested) → past_word (codes "}") inside ≡ None
+    → Entered (pairs_open no_value_pairs) (codes "? ") before after inside result → Stepped before after text result
+map_steps before after text behind inside (Ok (Done value)) tagged bracket none entered = absurd entered
+map_steps before after text behind inside (Ok (Node rest)) tagged bracket none entered =
+    let there = tagged ∙ ap (λ t. codes "!!map " ++ t) bracket.0 in
+    let line = ap (λ n. line_at n ++ codes "? ") (sym (twice (length before))) in
+    let word = entered.1 ∙ sym (append_assoc (line_at (suc (length before) * 2)) (codes "? ") rest.now) ∙ ap (λ w. w ++ rest.now) line in
+    record {
+      reached = λ root due.
+          into root before (pairs_open no_value_pairs ∷ before) after (codes "? ") inside (line_at (length before * 2 + 2) ++ codes "? ") rest.now
+          (map_opens root before text inside due there none) refl word entered.0;
+      read = λ whole opened.
+          subst (λ (inner : List OpenLevel). IsOpen whole inner rest.now) (sym entered.0)
+          (map_in whole before text rest.now opened bracket.1 (there ∙ ap (λ t. codes "!!map {" ++ t) word));
+      stops = λ whole opened. tt;
+      shorter = omega (arith, ap length there, ap length entered.1, length-append (line_at (suc (length before) * 2)) (codes "? " ++ rest.now));
+    }
+map_steps {A} before after text behind inside (Err error) tagged bracket none entered =
+    let there = tagged ∙ ap (λ t. codes "!!map " ++ t) bracket.0 in
+    record {
+      reached = λ root due.
+          no_entry_reached A root before (pairs_open no_value_pairs ∷ before) after (codes "? ") inside error
+          (map_opens root before text inside due there none) entered;
+      read = λ whole opened. tt;
+      stops = λ whole opened. node_stops whole before text error opened
+          (map_line_breaks (length before) text inside error bracket.1 (there, none) (map_breaks (length before) inside error entered));
+      shorter = tt;
+    }

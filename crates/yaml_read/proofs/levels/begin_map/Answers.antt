@@ -1,0 +1,32 @@
+use Rattle.std.proofs.Common.{◌<◌, arith, ap, subst, sym, ◌∙◌, codes, length}
+use Rattle.yaml_base.specs.values.TypedValues.{map_value, most_nested}
+use Rattle.yaml_value.specs.SeenValues.{seen_pairs, seen_value}
+use Rattle.yaml_value.specs.declared.value.Value as declared
+use Rattle.yaml_read.specs.{Remaining.pairs_open, Remaining.seen_levels, Stepped.BracketLacks, Stepped.Entered}
+use Rattle.yaml_read.proofs.{SeenLevels.levels_length, SeenLevels.seen_map, Stepping.empty_map_steps, Stepping.map_steps, Stepping.no_map_steps}
+use Rattle.yaml_read.proofs.levels.begin_map.Goals as goal
+
+pub returns-in-Some : goal.returns-in-Some
+returns-in-Some g c =
+    let before = seen_levels c.args.levels.now.items in
+    let room : length before < most_nested = omega (arith, c.in-Ok.ensures.1, levels_length c.args.levels.now.items) in
+    empty_map_steps before (seen_levels c.settle.new.levels.items) c.args.text.now c.args.behind.now c.in-Ok.inside.now c.in-Some.rest.now
+    (seen_value (declared.Map c.new.result)) c.settle.result c.requires (c.in-Ok.ensures.0, room) c.in-Some.ensures.cut
+    (seen_map c.new.result ∙ ap (λ items. map_value (seen_pairs items)) c.new.ensures.items) c.settle.ensures
+
+pub returns-in-None : goal.returns-in-None
+returns-in-None g c =
+    let before = seen_levels c.args.levels.now.items in
+    let after = seen_levels c.enter.new.levels.items in
+    let room : length before < most_nested = omega (arith, c.in-Ok.ensures.1, levels_length c.args.levels.now.items) in
+    map_steps before after c.args.text.now c.args.behind.now c.in-Ok.inside.now c.enter.result c.requires (c.in-Ok.ensures.0, room)
+    c.in-None.ensures.cut
+    (subst (λ items. Entered (pairs_open (seen_pairs items)) (codes "? ") before after c.in-Ok.inside.now c.enter.result) c.new-in-None.ensures.items
+    c.enter.ensures)
+
+pub returns-in-Err : goal.returns-in-Err
+returns-in-Err g c =
+    let before = seen_levels c.args.levels.now.items in
+    no_map_steps g.row.A.Denot before before c.args.text.now c.args.behind.now c.in-Err.stop c.requires
+    (subst (λ n. BracketLacks n (codes "{") c.args.text.now c.args.behind.now c.in-Err.stop) (sym (levels_length c.args.levels.now.items))
+    c.in-Err.ensures)

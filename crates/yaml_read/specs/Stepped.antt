@@ -1,0 +1,98 @@
+-- What the reader of a node and of what follows a node answers.
+use Rattle.std.specs.Prelude.{ℕ, suc, ◌*◌, ◌<◌, ◌≤◌, ◌≡◌, None, Result, Ok, Err, IfErr, IfOk, List, [], ◌∷◌, ◌++◌, length}
+use Rattle.std.specs.Borrow.{Bor}
+use Rattle.std.specs.Str.{encode_utf8_all}
+use Rattle.yaml_base.specs.Characters.{Text}
+use Rattle.yaml_base.specs.values.TypedValues.{TypedValue, most_nested}
+use Rattle.yaml_base.specs.values.ValueText.{line_at, value_text}
+use Rattle.yaml_value.specs.SeenValues.{seen_value}
+use Rattle.yaml_value.specs.declared.value.Value.{Value}
+use Rattle.yaml_read.specs.Grammar.{behind_tag}
+use Rattle.yaml_read.specs.Heads.{IsWhole, tag_word}
+use Rattle.yaml_read.specs.Opened.{HasRead, IsOpen, NextRead}
+use Rattle.yaml_read.specs.Places.{BreaksAt, IsDeepHere, IsHere, LacksLine, StopsIn}
+use Rattle.yaml_read.specs.Remaining.{IsDue, IsRead, OpenLevel, Reached}
+use Rattle.yaml_read.specs.Readable.{CanBeReadAt}
+use Rattle.yaml_read.specs.Sound.{IsScalarValue}
+use Rattle.yaml_read.specs.Words.{OrMemory, past_word}
+use Rattle.yaml_read.specs.declared.errors.Stop.{Stop}
+use Rattle.yaml_read.specs.declared.errors.Stop.TheVariants as stop
+use Rattle.yaml_read.specs.declared.heads.Kind.{Kind}
+use Rattle.yaml_read.specs.declared.levels.Entry.{Entry}
+use Rattle.yaml_read.specs.declared.levels.Entry.TheVariants.{Another, End}
+use Rattle.yaml_read.specs.declared.levels.Next.{Next}
+use Rattle.yaml_read.specs.declared.levels.Next.TheVariants.{Done, Node}
+use Rattle.yaml_read.specs.declared.levels.Turn.{Turn}
+use Rattle.yaml_read.specs.declared.levels.Turn.TheVariants.{Continues, Ends}
+
+-- ---- less is left of the text
+
+-- behind an entry
+abbrev pub EntryShorter : List ℕ → Entry → Type 0
+EntryShorter text (Another rest) = length rest.now < length text
+EntryShorter text (End rest) = length rest.now < length text
+
+-- behind a value in a list or a map
+abbrev pub TurnShorter : {A : Type 0} → List ℕ → Turn A → Type 0
+TurnShorter text (Continues level rest) = length rest.now < length text
+TurnShorter text (Ends value rest) = length rest.now < length text
+
+-- behind a value, where another node follows
+abbrev pub NextShorter : {A : Type 0} → List ℕ → Next A → Type 0
+NextShorter text (Done value) = Unit {0}
+NextShorter text (Node rest) = length rest.now < length text
+
+-- ---- nodes, between the lists and maps that were open before and those that are open after
+
+-- at a node: where a value is due it is read, what is read has these bytes, and else they break off
+pub record Stepped {A : Type 0} (before after : List OpenLevel) (text : List ℕ) (result : Result (Next A) Stop) : Type 0 where
+  pub reached : (root : TypedValue) → IsDue root before text → Reached root after result
+  pub read : (whole : List ℕ) → IsOpen whole before text → IfOk result (NextRead whole after)
+  pub stops : (whole : List ℕ) → IsOpen whole before text → IfErr result (StopsIn whole)
+  pub shorter : IfOk result (NextShorter text)
+
+-- behind a value, in the same way
+pub record Settled {A : Type 0} (before after : List OpenLevel) (value : TypedValue) (text : List ℕ) (result : Result (Next A) Stop) : Type 0 where
+  pub reached : (root : TypedValue) → IsRead root before value text → Reached root after result
+  pub read : (whole : List ℕ) → HasRead whole before value text → IfOk result (NextRead whole after)
+  pub stops : (whole : List ℕ) → HasRead whole before value text → IfErr result (StopsIn whole)
+  pub shorter : IfOk result (NextShorter text)
+
+-- ---- tags and scalars
+
+-- the tag that stands first, or none does
+abbrev pub TagRead : List ℕ → Result (Kind × Bor (List ℕ)) Stop → Type 0
+TagRead bytes (Ok found) = bytes ≡ tag_word found.0 ++ found.1.now
+TagRead bytes (Err error) = ((kind : Kind) → past_word (tag_word kind) bytes ≡ None) × IsHere bytes error
+
+-- behind a scalar's tag
+pub record ScalarRead {A : Type 0} (kind : Kind) (bytes : List ℕ) (result : Result (Value A × Bor (List ℕ)) Stop) : Type 0 where
+  pub reads : (depth column : ℕ) (value : TypedValue) (rest : Text) → CanBeReadAt depth value
+      → tag_word kind ++ bytes ≡ encode_utf8_all (value_text column value ++ rest) → OrMemory (IsWhole value rest) result
+  pub sound : IfOk result (λ found. IsScalarValue (tag_word kind ++ bytes) (seen_value found.0) found.1.now)
+  pub breaks : (depth : ℕ) → IfErr result (BreaksAt (behind_tag depth kind) bytes)
+  pub shorter : IfOk result (λ found. length found.1.now < length bytes)
+
+-- ---- brackets
+
+-- behind a tag no bracket stands, or it stands within as many lists and maps as may be open
+pub data BracketLacks (depth : ℕ) (bracket text behind : List ℕ) (error : Stop) : Type 0 where
+  no_bracket : past_word bracket behind ≡ None → IsHere behind error → BracketLacks depth bracket text behind error
+  no_room : (inside : List ℕ) → behind ≡ bracket ++ inside → most_nested ≤ depth → IsDeepHere text error → BracketLacks depth bracket text behind error
+
+abbrev pub BracketRead : (depth : ℕ) → (bracket text behind : List ℕ) → Result (Bor (List ℕ)) Stop → Type 0
+BracketRead depth bracket text behind (Ok inside) = (behind ≡ bracket ++ inside.now) × (depth < most_nested)
+BracketRead depth bracket text behind (Err error) = BracketLacks depth bracket text behind error
+
+-- behind an opening bracket no line of this depth stands, or no lead in it; or memory gave out
+pub data EntryLacks (depth : ℕ) (lead text : List ℕ) (error : Stop) : Type 0 where
+  no_memory : error ≡ stop.Memory → EntryLacks depth lead text error
+  no_line : past_word (line_at (depth * 2)) text ≡ None → LacksLine depth text error → EntryLacks depth lead text error
+  no_lead : (line : List ℕ) → text ≡ line_at (depth * 2) ++ line → past_word lead line ≡ None → IsHere line error → EntryLacks depth lead text error
+
+-- a list or a map was opened, up to its first node
+abbrev pub Entered : {A : Type 0} → OpenLevel → (lead : List ℕ) → (before after : List OpenLevel) → (text : List ℕ) → Result (Next A) Stop → Type 0
+Entered level lead before after text (Ok (Done value)) = ⊥
+Entered level lead before after text (Ok (Node rest)) =
+    (after ≡ level ∷ before) × (text ≡ line_at (suc (length before) * 2) ++ (lead ++ rest.now))
+Entered level lead before after text (Err error) = EntryLacks (suc (length before)) lead text error
