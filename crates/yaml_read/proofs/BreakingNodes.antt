@@ -4,7 +4,7 @@ use Rattle.yaml_base.proofs.Common.{arith, append_assoc, append-nil, codes, flat
 use Rattle.yaml_base.specs.values.TypedValues.{TypedValue, most_nested}
 use Rattle.yaml_base.{specs.scalars.DoubleQuoted.quote, specs.values.ValueText.in_quotes}
 use Rattle.std.proofs.lemmas.Str.{IsUtf8-past_char, encode_ascii, encodes-append}
-use Rattle.std.specs.Prelude.{Result, Ok, Err, IfErr, ℤ, ◌^◌}
+use Rattle.std.specs.Prelude.{Err, ℤ, ◌^◌}
 use Rattle.std.{proofs.lemmas.Bool.cases_lt, specs.Fmt.signed_decimal, specs.Int.Signed.mag, specs.Str.IsUtf8}
 use Rattle.yaml_read.specs.Grammar.{behind_in, behind_tag, characters, these_or_those, integer, line_then, node, nothing, quoted_text, unless_deep, word_then}
 use Rattle.yaml_read.specs.Heads.{ReadsCharacter, tag_word}

@@ -7,22 +7,22 @@ use Rattle.yaml_base.specs.values.ValueText.{in_quotes, line_at, value_text}
 use Rattle.yaml_base.specs.Seen.{seen_text}
 use Rattle.std.specs.Prelude.{Result, Ok, Err, IfErr, IfOk, ℤ, ◌^◌}
 use Rattle.std.proofs.Common.{String, Bor}
-use Rattle.std.{specs.Fmt.signed_decimal, specs.Int.Signed.mag, specs.Str.all_scalars}
+use Rattle.std.{specs.Fmt.signed_decimal, specs.Int.Signed.mag, specs.Str.IsUtf8, specs.Str.all_scalars}
 use Rattle.std.proofs.lemmas.Result.{IfOk-weaker}
 use Rattle.yaml_read.specs.Grammar.{integer, line_then, nothing, quoted_text, truth, word_then}
 use Rattle.yaml_read.specs.Heads.{IsScalar, IsWhole, tag_word}
-use Rattle.yaml_read.specs.Opened.{HasRead, IsOpen, NextRead}
-use Rattle.yaml_read.specs.Places.{BreaksAt, IsHere, LacksEnd, LacksLine, StopsIn}
-use Rattle.yaml_read.specs.Remaining.{IsDue, IsRead, OpenLevel, Reached, column_in, items_open, pairs_open}
-use Rattle.yaml_read.specs.Stepped.{BracketLacks, Entered, EntryLacks, NextShorter, ScalarRead, Settled, Stepped, TagRead, no_bracket, no_lead, no_line}
+use Rattle.yaml_read.specs.Opened.{IsOpen}
+use Rattle.yaml_read.specs.Places.{BreaksAt, IsHere, IsHereOrMemory}
+use Rattle.yaml_read.specs.Remaining.{IsDue, OpenLevel, Reached, column_in, items_open, pairs_open}
+use Rattle.yaml_read.specs.Stepped.{BracketLacks, Entered, EntryLacks, NextShorter, ScalarRead, Settled, Stepped, no_bracket, no_lead, no_line}
 use Rattle.yaml_read.specs.Stepped.{no_memory, no_room}
 use Rattle.yaml_read.specs.{Readable.CanBeReadAt, Sound.IsInteger, Sound.IsScalarValue, Sound.IsTruth, Words.OrMemory, Words.past_word}
 use Rattle.yaml_read.proofs.Breaking.{line_lacks, line_passed, missing}
-use Rattle.yaml_read.proofs.BreakingNodes.{list_line_breaks, map_line_breaks, no_list, no_map, no_tag_there, node_stops, opens_deep, tag_passed}
+use Rattle.yaml_read.proofs.BreakingNodes.{list_line_breaks, map_line_breaks, no_integer, no_list, no_map, no_tag_there, node_stops, opens_deep, tag_passed}
 use Rattle.yaml_read.proofs.HeadTexts.{list_bracket, list_empty, map_bracket, map_empty, no_tag, tail_of}
 use Rattle.yaml_read.proofs.HeadsRead.{empty_list, empty_map, integer_read, null_read, string_read, truth_read}
-use Rattle.yaml_read.proofs.Opening.{ReadsOn, list_in, map_in, value_in}
-use Rattle.yaml_read.proofs.Turns.{GoesOn, Opens, cut_is, into, list_opens, map_opens, whole_read}
+use Rattle.yaml_read.proofs.Opening.{list_in, map_in, value_in}
+use Rattle.yaml_read.proofs.Turns.{Opens, cut_is, into, list_opens, map_opens, whole_read}
 use Rattle.yaml_read.proofs.{Encoded.word_encoded, SeenLevels.seen_null, SeenLevels.seen_string, Words.error_stays, Words.no_word}
 use Rattle.yaml_value.{specs.SeenValues.seen_value, specs.declared.value.Value.Value}
 use Rattle.yaml_value.specs.declared.value.Value as declared
@@ -167,6 +167,15 @@ integer_scalar bytes result reads sound breaks shorter =
       breaks = λ depth. breaks;
       shorter = shorter;
     }
+
+pub no_integer_scalar : {T : Type 0} (A : Type 0) (Holds : ℤ → Text → T → Type 0) (bytes : List ℕ) (error : Stop) → IsUtf8 bytes
+    → IsHereOrMemory bytes error
+    → ((n : ℤ) (rest : Text) → mag n < 2 ^ 63 → bytes ≡ encode_utf8_all (in_quotes (signed_decimal n) ++ rest) → OrMemory (Holds n rest) (Err error))
+    → ScalarRead {A = A} kind.Int bytes (Err error)
+no_integer_scalar A Holds bytes error utf8 place reads =
+    integer_scalar {A = A} bytes (Err error)
+    (λ n rest few is. error_stays (Holds n rest) (IsWhole {A = A} (int_value n) rest) error (reads n rest few is)) tt
+    (no_integer Holds bytes error utf8 place reads) tt
 
 pub text_found : {A : Type 0} (bytes : List ℕ) (text : String A) (rest : Bor (List ℕ))
     → ((value behind : Text) → all_scalars value ≡ true → bytes ≡ encode_utf8_all (in_quotes value ++ behind)

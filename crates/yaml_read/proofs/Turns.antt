@@ -1,5 +1,5 @@
 -- From a value to what follows it, and into lists and maps.
-use Rattle.yaml_base.proofs.Common.{ℕ, ◌+◌, ◌*◌, ◌<◌, suc, true, None, List, [], ◌∷◌, ◌++◌, refl, ◌≡◌, ap, subst, sym, ◌∙◌, arith, append_assoc, length, codes}
+use Rattle.yaml_base.proofs.Common.{ℕ, ◌+◌, ◌*◌, ◌<◌, suc, None, List, [], ◌∷◌, ◌++◌, refl, ◌≡◌, ap, subst, sym, ◌∙◌, arith, append_assoc, length, codes}
 use Rattle.yaml_base.proofs.Common.{space, line_feed, Text, encode_utf8_all}
 use Rattle.yaml_base.specs.values.TypedValues.{TypedValue, list_value, map_value, TypedValues, no_values, values_and, TypedPairs, no_value_pairs}
 use Rattle.yaml_base.specs.values.TypedValues.{value_pairs_and, most_nested}

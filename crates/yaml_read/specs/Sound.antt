@@ -8,7 +8,6 @@ use Rattle.yaml_base.specs.Characters.{hex_digits}
 use Rattle.yaml_base.specs.scalars.DoubleQuoted.{character_text, escape_after_backslash, letter_among, needs_escape, short_escapes}
 use Rattle.yaml_base.specs.values.TypedValues.{TypedValue, bool_text, bool_value, int_value}
 use Rattle.yaml_base.specs.values.ValueText.{in_quotes, value_text}
-use Rattle.yaml_value.specs.SeenValues.{seen_value}
 use Rattle.yaml_read.specs.Readable.{CanBeReadAt}
 
 -- a character that needs an escape and has one by number, of so many digits

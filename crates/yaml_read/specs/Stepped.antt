@@ -1,18 +1,19 @@
 -- What the reader of a node and of what follows a node answers.
-use Rattle.std.specs.Prelude.{ℕ, suc, ◌*◌, ◌<◌, ◌≤◌, ◌≡◌, None, Result, Ok, Err, IfErr, IfOk, List, [], ◌∷◌, ◌++◌, length}
+use Rattle.std.specs.Prelude.{ℕ, suc, ◌*◌, ◌<◌, ◌≤◌, ◌≡◌, None, Result, Ok, Err, IfErr, IfOk, List, ◌∷◌, ◌++◌, codes, length}
 use Rattle.std.specs.Borrow.{Bor}
 use Rattle.std.specs.Str.{encode_utf8_all}
 use Rattle.yaml_base.specs.Characters.{Text}
 use Rattle.yaml_base.specs.values.TypedValues.{TypedValue, most_nested}
-use Rattle.yaml_base.specs.values.ValueText.{line_at, value_text}
+use Rattle.yaml_base.specs.values.ValueText.{document_text, line_at, value_text}
 use Rattle.yaml_value.specs.SeenValues.{seen_value}
 use Rattle.yaml_value.specs.declared.value.Value.{Value}
-use Rattle.yaml_read.specs.Grammar.{behind_tag}
+use Rattle.yaml_read.specs.Entries.{EntryFound}
+use Rattle.yaml_read.specs.Grammar.{behind_in, behind_tag, entry_end}
 use Rattle.yaml_read.specs.Heads.{IsWhole, tag_word}
-use Rattle.yaml_read.specs.Opened.{HasRead, IsOpen, NextRead}
-use Rattle.yaml_read.specs.Places.{BreaksAt, IsDeepHere, IsHere, LacksLine, StopsIn}
-use Rattle.yaml_read.specs.Remaining.{IsDue, IsRead, OpenLevel, Reached}
-use Rattle.yaml_read.specs.Readable.{CanBeReadAt}
+use Rattle.yaml_read.specs.Opened.{EntryCut, HasRead, IsOpen, NextRead, TurnRead}
+use Rattle.yaml_read.specs.Places.{BreaksAt, IsDeepHere, IsHere, LacksLine, StopsAt, StopsIn}
+use Rattle.yaml_read.specs.Remaining.{IsDue, IsRead, OpenLevel, Reached, TurnReached}
+use Rattle.yaml_read.specs.Readable.{CanBeRead, CanBeReadAt}
 use Rattle.yaml_read.specs.Sound.{IsScalarValue}
 use Rattle.yaml_read.specs.Words.{OrMemory, past_word}
 use Rattle.yaml_read.specs.declared.errors.Stop.{Stop}
@@ -96,3 +97,28 @@ Entered level lead before after text (Ok (Done value)) = ⊥
 Entered level lead before after text (Ok (Node rest)) =
     (after ≡ level ∷ before) × (text ≡ line_at (suc (length before) * 2) ++ (lead ++ rest.now))
 Entered level lead before after text (Err error) = EntryLacks (suc (length before)) lead text error
+
+-- ---- entries
+
+-- what follows an entry of a list or a map that lies so deep
+pub record EntryRead (depth : ℕ) (lead end text : List ℕ) (result : Result Entry Stop) : Type 0 where
+  pub found : (tail : List ℕ) → text ≡ codes "," ++ (line_at (depth * 2) ++ tail) → EntryFound lead end tail result
+  pub cut : IfOk result (EntryCut depth lead end text)
+  pub breaks : IfErr result (BreaksAt (entry_end depth lead end) text)
+  pub shorter : IfOk result (EntryShorter text)
+
+-- behind a value in a list or a map that lies so deep
+pub record Taken {A : Type 0} (depth : ℕ) (level : OpenLevel) (value : TypedValue) (text : List ℕ) (result : Result (Turn A) Stop) : Type 0 where
+  pub reached : (root : TypedValue) (levels : List OpenLevel) → depth ≡ length levels → IsRead root (level ∷ levels) value text
+      → TurnReached root levels result
+  pub read : (whole : List ℕ) (levels : List OpenLevel) → depth ≡ length levels → HasRead whole (level ∷ levels) value text
+      → IfOk result (TurnRead whole levels)
+  pub breaks : IfErr result (BreaksAt (behind_in depth level) text)
+  pub shorter : IfOk result (TurnShorter text)
+
+-- ---- documents
+
+pub record TextRead {A : Type 0} (text : List ℕ) (result : Result (Value A) Stop) : Type 0 where
+  pub reads : (value : TypedValue) → CanBeRead value → text ≡ encode_utf8_all (document_text value) → OrMemory (λ found. seen_value found ≡ value) result
+  pub sound : IfOk result (λ value. (text ≡ encode_utf8_all (document_text (seen_value value))) × CanBeReadAt 0 (seen_value value))
+  pub stops : IfErr result (StopsAt text)

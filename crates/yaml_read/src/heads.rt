@@ -1,19 +1,14 @@
 //! Tags and scalars.
-ghost use Rattle.std.specs.Prelude.{◌≡◌, ◌++◌, ◌<◌, ◌^◌, ℤ, Bool, true, IfErr, IfOk, length};
-ghost use Rattle.std.specs.Fmt.{signed_decimal};
-ghost use Rattle.std.specs.Int.Signed.{mag};
+ghost use Rattle.std.specs.Prelude.{◌≡◌, ◌++◌, ◌<◌, true, IfErr, IfOk, length};
 ghost use Rattle.std.specs.Str.{all_scalars, encode_utf8_all};
 ghost use Rattle.yaml_base.specs.Characters.{Text};
-ghost use Rattle.yaml_base.specs.values.TypedValues.{bool_text, bool_value, int_value};
 ghost use Rattle.yaml_base.specs.Seen.{seen_text};
 ghost use Rattle.yaml_base.specs.values.ValueText.{in_quotes};
-ghost use Rattle.yaml_read.specs.Grammar.{integer, truth};
-ghost use Rattle.yaml_read.specs.Heads.{IsScalar, IsWhole};
-ghost use Rattle.yaml_read.specs.Places.{BreaksAt, IsHereOrMemory};
-ghost use Rattle.yaml_read.specs.Sound.{IsInteger, IsTruth};
+ghost use Rattle.yaml_read.specs.Heads.{IsScalar};
+ghost use Rattle.yaml_read.specs.Places.{IsHereOrMemory};
 ghost use Rattle.yaml_read.specs.Stepped.{ScalarRead, TagRead};
 ghost use Rattle.yaml_read.specs.Words.{OrMemory};
-ghost use Rattle.yaml_value.specs.SeenValues.{seen_value};
+ghost use Rattle.yaml_read.specs.declared.heads.Kind.TheVariants as kind;
 
 use crate::cuts::{after, past};
 use crate::errors::{Stop, refused_at, refused_whole};
@@ -37,11 +32,7 @@ fn read_digits<A: Allocator>(alloc: A, text: &str) -> Result<(String<A>, &str), 
 
 /// Reads an integer in its one spelling, between quotes.
 fn read_integer<A: Allocator + Copy>(alloc: A, text: &str) -> Result<(Value<A>, &str), Stop>
-    ensures reads { (n : ℤ) (rest : Text) → mag n < 2 ^ 63 → text.now ≡ encode_utf8_all (in_quotes (signed_decimal n) ++ rest)
-        → OrMemory (IsWhole (int_value n) rest) result }
-    ensures sound { IfOk result (λ found. IsInteger text.now (seen_value found.0) found.1.now) }
-    ensures breaks { IfErr result (BreaksAt integer text.now) }
-    ensures shorter { IfOk result (λ found. length found.1.now < length text.now) }
+    ensures { ScalarRead kind.Int text.now result }
 {
     match read_digits(alloc, text) {
         Ok((digits, rest)) => match digits.as_str().parse::<i64>() {
@@ -60,11 +51,7 @@ fn read_integer<A: Allocator + Copy>(alloc: A, text: &str) -> Result<(Value<A>, 
 
 /// Reads a truth value between quotes.
 fn read_truth<A: Allocator>(text: &str) -> Result<(Value<A>, &str), Stop>
-    ensures reads { (b : Bool) (rest : Text) → text.now ≡ encode_utf8_all (in_quotes (bool_text b) ++ rest)
-        → OrMemory (IsWhole (bool_value b) rest) result }
-    ensures sound { IfOk result (λ found. IsTruth text.now (seen_value found.0) found.1.now) }
-    ensures breaks { IfErr result (BreaksAt truth text.now) }
-    ensures shorter { IfOk result (λ found. length found.1.now < length text.now) }
+    ensures { ScalarRead kind.Bool text.now result }
 {
     match past(text, "\"true\"") {
         Some(rest) => Ok((Value::Bool(true), rest)),

@@ -1,14 +1,8 @@
 //! The lists and maps that are open.
-ghost use Rattle.std.specs.Prelude.{◌≡◌, ◌++◌, ◌∷◌, ◌*◌, [], IfErr, IfOk, List, codes, length, ℕ};
-ghost use Rattle.yaml_base.specs.values.TypedValues.{TypedValue};
-ghost use Rattle.yaml_base.specs.values.ValueText.{line_at};
-ghost use Rattle.yaml_read.specs.Entries.{EntryFound};
-ghost use Rattle.yaml_read.specs.Grammar.{behind_in, entry_end, line_then, nothing, word_then};
+ghost use Rattle.std.specs.Prelude.{◌≡◌, ◌++◌, [], List, length};
 ghost use Rattle.yaml_read.specs.Heads.{tag_word};
-ghost use Rattle.yaml_read.specs.Opened.{EntryCut, HasRead, TurnRead};
-ghost use Rattle.yaml_read.specs.Places.{BreaksAt};
-ghost use Rattle.yaml_read.specs.Remaining.{IsRead, OpenLevel, Pushed, TurnReached, items_open, pairs_open, seen_level, seen_levels, value_due};
-ghost use Rattle.yaml_read.specs.Stepped.{BracketRead, Entered, EntryShorter, Settled, Stepped, TurnShorter};
+ghost use Rattle.yaml_read.specs.Remaining.{OpenLevel, Pushed, items_open, pairs_open, seen_level, seen_levels, value_due};
+ghost use Rattle.yaml_read.specs.Stepped.{BracketRead, Entered, EntryRead, Settled, Stepped, Taken};
 ghost use Rattle.yaml_read.specs.declared.heads.Kind.TheVariants as kind;
 ghost use Rattle.yaml_value.specs.SeenValues.{seen_pairs, seen_value, seen_values};
 
@@ -52,11 +46,7 @@ pub(crate) enum Entry<'a> {
 
 /// Returns what follows an entry of a list or a map that lies so deep: what leads to another one, or the end.
 fn next_entry<'a>(text: &'a str, depth: usize, lead: &str, end: &str) -> Result<Entry<'a>, Stop>
-    ensures found { (tail : List ℕ) → text.now ≡ codes "," ++ (line_at (depth * 2) ++ tail)
-        → EntryFound lead.now end.now tail result }
-    ensures cut { IfOk result (EntryCut depth lead.now end.now text.now) }
-    ensures breaks { IfErr result (BreaksAt (entry_end depth lead.now end.now) text.now) }
-    ensures shorter { IfOk result (EntryShorter text.now) }
+    ensures { EntryRead depth lead.now end.now text.now result }
 {
     match after(text, ",") {
         Ok(behind) => match after_indent(behind, depth) {
@@ -80,12 +70,7 @@ fn take_item<'a, A: Allocator>(
     text: &'a str,
     depth: usize,
 ) -> Result<Turn<'a, A>, Stop>
-    ensures reached { (root : TypedValue) (levels : List OpenLevel) → depth ≡ length levels
-        → IsRead root (items_open (seen_values items.items) ∷ levels) (seen_value item) text.now → TurnReached root levels result }
-    ensures read { (whole : List ℕ) (levels : List OpenLevel) → depth ≡ length levels
-        → HasRead whole (items_open (seen_values items.items) ∷ levels) (seen_value item) text.now → IfOk result (TurnRead whole levels) }
-    ensures breaks { IfErr result (BreaksAt (entry_end depth (codes "  ") (codes "]")) text.now) }
-    ensures shorter { IfOk result (TurnShorter text.now) }
+    ensures { Taken depth (items_open (seen_values items.items)) (seen_value item) text.now result }
 {
     let mut items = items;
     match items.push(item) {
@@ -108,14 +93,7 @@ fn take_pair<'a, A: Allocator>(
     text: &'a str,
     depth: usize,
 ) -> Result<Turn<'a, A>, Stop>
-    ensures reached { (root : TypedValue) (levels : List OpenLevel) → depth ≡ length levels
-        → IsRead root (value_due (seen_pairs pairs.items) (seen_value pair.0) ∷ levels) (seen_value pair.1) text.now
-        → TurnReached root levels result }
-    ensures read { (whole : List ℕ) (levels : List OpenLevel) → depth ≡ length levels
-        → HasRead whole (value_due (seen_pairs pairs.items) (seen_value pair.0) ∷ levels) (seen_value pair.1) text.now
-        → IfOk result (TurnRead whole levels) }
-    ensures breaks { IfErr result (BreaksAt (entry_end depth (codes "  ? ") (codes "}")) text.now) }
-    ensures shorter { IfOk result (TurnShorter text.now) }
+    ensures { Taken depth (value_due (seen_pairs pairs.items) (seen_value pair.0)) (seen_value pair.1) text.now result }
 {
     let mut pairs = pairs;
     match pairs.push(pair) {
@@ -138,12 +116,7 @@ fn take_key<'a, A: Allocator>(
     text: &'a str,
     depth: usize,
 ) -> Result<Turn<'a, A>, Stop>
-    ensures reached { (root : TypedValue) (levels : List OpenLevel) → depth ≡ length levels
-        → IsRead root (pairs_open (seen_pairs pairs.items) ∷ levels) (seen_value key) text.now → TurnReached root levels result }
-    ensures read { (whole : List ℕ) (levels : List OpenLevel) → depth ≡ length levels
-        → HasRead whole (pairs_open (seen_pairs pairs.items) ∷ levels) (seen_value key) text.now → IfOk result (TurnRead whole levels) }
-    ensures breaks { IfErr result (BreaksAt (line_then depth (word_then (codes "  : ") nothing)) text.now) }
-    ensures shorter { IfOk result (TurnShorter text.now) }
+    ensures { Taken depth (pairs_open (seen_pairs pairs.items)) (seen_value key) text.now result }
 {
     match after_indent(text, depth) {
         Ok(line) => match after(line, "  : ") {
@@ -161,12 +134,7 @@ fn take_value<'a, A: Allocator>(
     text: &'a str,
     depth: usize,
 ) -> Result<Turn<'a, A>, Stop>
-    ensures reached { (root : TypedValue) (levels : List OpenLevel) → depth ≡ length levels
-        → IsRead root (seen_level level ∷ levels) (seen_value value) text.now → TurnReached root levels result }
-    ensures read { (whole : List ℕ) (levels : List OpenLevel) → depth ≡ length levels
-        → HasRead whole (seen_level level ∷ levels) (seen_value value) text.now → IfOk result (TurnRead whole levels) }
-    ensures breaks { IfErr result (BreaksAt (behind_in depth (seen_level level)) text.now) }
-    ensures shorter { IfOk result (TurnShorter text.now) }
+    ensures { Taken depth (seen_level level) (seen_value value) text.now result }
 {
     match level {
         Level::Items(items) => take_item(items, value, text, depth),

@@ -1,16 +1,14 @@
 //! Canonical YAML read as a value.
 ghost use Rattle.std.specs.Prelude.{◌≡◌, ◌≢◌, ◌⊎◌, IfErr, IfOk, Some};
-ghost use Rattle.std.specs.Str.{encode_utf8_all};
 ghost use Rattle.yaml_base.specs.Encoding.{encode};
 ghost use Rattle.yaml_base.specs.Settings.{utf8};
 ghost use Rattle.yaml_base.specs.values.TypedValues.{TypedValue, WritesValue};
 ghost use Rattle.yaml_base.specs.values.ValueText.{document_text};
 ghost use Rattle.yaml_read.specs.Errors.{Tells};
-ghost use Rattle.yaml_read.specs.Places.{HasPlaceOf, IsNotCanonicalAt, IsPlaced, StopsAt};
-ghost use Rattle.yaml_read.specs.Readable.{CanBeRead, CanBeReadAt};
+ghost use Rattle.yaml_read.specs.Places.{HasPlaceOf, IsNotCanonicalAt, IsPlaced};
+ghost use Rattle.yaml_read.specs.Readable.{CanBeRead};
 ghost use Rattle.yaml_read.specs.Remaining.{seen_levels};
-ghost use Rattle.yaml_read.specs.Stepped.{Stepped};
-ghost use Rattle.yaml_read.specs.Words.{OrMemory};
+ghost use Rattle.yaml_read.specs.Stepped.{Stepped, TextRead};
 ghost use Rattle.yaml_value.specs.SeenValues.{seen_value};
 
 use crate::cuts::after;
@@ -44,10 +42,7 @@ fn step<'a, A: Allocator + Copy>(
 
 /// Reads a document's text as its value.
 fn read_text<A: Allocator + Copy>(alloc: A, text: &str) -> Result<Value<A>, Stop>
-    ensures reads { (value : TypedValue) → CanBeRead value → text.now ≡ encode_utf8_all (document_text value)
-        → OrMemory (λ found. seen_value found ≡ value) result }
-    ensures sound { IfOk result (λ value. (text.now ≡ encode_utf8_all (document_text (seen_value value))) × CanBeReadAt 0 (seen_value value)) }
-    ensures stops { IfErr result (StopsAt text.now) }
+    ensures { TextRead text.now result }
 {
     let mut rest = match after(text, "---\n") {
         Ok(rest) => rest,

@@ -1,6 +1,6 @@
 use Rattle.std.proofs.Common.{◌≡◌, List, ℕ, Bor, String, encode_utf8_all}
 use Rattle.yaml_base.specs.Seen.{seen_text}
-use Rattle.yaml_read.proofs.Stepping.{integer_scalar, no_null, no_text, null_found, of_kind, text_found, text_kind, truth_scalar}
+use Rattle.yaml_read.proofs.Stepping.{no_null, no_text, null_found, of_kind, text_found, text_kind}
 use Rattle.yaml_read.specs.declared.heads.Kind.TheVariants as kind
 use Rattle.yaml_read.proofs.heads.read_scalar.Goals as goal
 
@@ -15,16 +15,10 @@ returns-in-Err g c =
     (no_null g.row.A.Denot c.args.text.now c.in-Err.stop c.in-Err.ensures.cut c.in-Err.ensures.placed)
 
 pub returns-in-Bool : goal.returns-in-Bool
-returns-in-Bool g c =
-    of_kind kind.Bool c.args.kind c.in-Bool.is
-    (truth_scalar c.args.text.now c.read_truth.result c.read_truth.ensures.reads c.read_truth.ensures.sound c.read_truth.ensures.breaks
-    c.read_truth.ensures.shorter)
+returns-in-Bool g c = of_kind kind.Bool c.args.kind c.in-Bool.is c.read_truth.ensures
 
 pub returns-in-Int : goal.returns-in-Int
-returns-in-Int g c =
-    of_kind kind.Int c.args.kind c.in-Int.is
-    (integer_scalar c.args.text.now c.read_integer.result c.read_integer.ensures.reads c.read_integer.ensures.sound c.read_integer.ensures.breaks
-    c.read_integer.ensures.shorter)
+returns-in-Int g c = of_kind kind.Int c.args.kind c.in-Int.is c.read_integer.ensures
 
 pub returns-in-Ok-read_quoted : goal.returns-in-Ok-read_quoted
 returns-in-Ok-read_quoted g c =

@@ -8,58 +8,60 @@ use Rattle.yaml_base.{specs.values.TypedValues.list_value, specs.values.ValueTex
 use Rattle.yaml_value.specs.declared.value.Value as declared
 use Rattle.yaml_read.proofs.levels.take_item.Goals as goal
 
-pub returns-clause-reached : goal.returns-clause-reached
-returns-clause-reached g c =
-    λ root levels depth read.
-    absurd (item_reached root levels c.args.items.items c.args.item c.push.new.self c.args.depth c.args.text.now (Err c.in-Err-next_entry.stop)
-    c.in-Ok.ensures.items depth read c.in-Err-next_entry.ensures.found)
+pub returns : goal.returns
+returns g c =
+    record {
+      reached =
+          λ root levels depth read.
+          absurd (item_reached root levels c.args.items.items c.args.item c.push.new.self c.args.depth c.args.text.now (Err c.in-Err-next_entry.stop)
+          c.in-Ok.ensures.items depth read c.in-Err-next_entry.ensures.found);
+      read = λ whole levels depth read. tt;
+      breaks = c.in-Err-next_entry.ensures.breaks;
+      shorter = tt;
+    }
 
-pub returns-in-Another-clause-reached : goal.returns-in-Another-clause-reached
-returns-in-Another-clause-reached g c =
-    λ root levels depth read.
-    subst
-    (λ (entry : Entry).
-    EntryReached (IsDue root (items_open (seen_values c.push.new.self.items) ∷ levels)) (IsRead root levels (seen_value (declared.List c.push.new.self)))
-    (Ok entry))
-    c.in-Another.is
-    (item_reached root levels c.args.items.items c.args.item c.push.new.self c.args.depth c.args.text.now (Ok c.in-Ok-next_entry.entry)
-    c.in-Ok.ensures.items depth read c.in-Ok-next_entry.ensures.found)
+pub returns-in-Another : goal.returns-in-Another
+returns-in-Another g c =
+    record {
+      reached =
+          λ root levels depth read.
+          subst
+          (λ (entry : Entry).
+          EntryReached (IsDue root (items_open (seen_values c.push.new.self.items) ∷ levels)) (IsRead root levels (seen_value (declared.List c.push.new.self)))
+          (Ok entry))
+          c.in-Another.is
+          (item_reached root levels c.args.items.items c.args.item c.push.new.self c.args.depth c.args.text.now (Ok c.in-Ok-next_entry.entry)
+          c.in-Ok.ensures.items depth read c.in-Ok-next_entry.ensures.found);
+      read =
+          λ whole levels depth read.
+          let cut = subst (λ (entry : Entry). EntryCut c.args.depth (codes "  ") (codes "]") c.args.text.now entry) c.in-Another.is c.in-Ok-next_entry.ensures.cut in
+          subst (λ items. IsOpen whole (items_open items ∷ levels) c.in-Another.rest.now) (sym (ap seen_values c.in-Ok.ensures.items
+          ∙ item_more c.args.items.items c.args.item))
+          (item_on whole levels (seen_values c.args.items.items) (seen_value c.args.item) c.args.text.now c.in-Another.rest.now read
+          (cut ∙ ap (λ n. codes "," ++ (line_at (n * 2) ++ (codes "  " ++ c.in-Another.rest.now))) depth));
+      breaks = tt;
+      shorter = subst (EntryShorter c.args.text.now) c.in-Another.is c.in-Ok-next_entry.ensures.shorter;
+    }
 
-pub returns-in-Ok-next_entry-clause-reached : goal.returns-in-Ok-next_entry-clause-reached
-returns-in-Ok-next_entry-clause-reached g c =
-    λ root levels depth read.
-    subst
-    (λ (entry : Entry).
-    EntryReached (IsDue root (items_open (seen_values c.push.new.self.items) ∷ levels)) (IsRead root levels (seen_value (declared.List c.push.new.self)))
-    (Ok entry))
-    c.in-End.is
-    (item_reached root levels c.args.items.items c.args.item c.push.new.self c.args.depth c.args.text.now (Ok c.in-Ok-next_entry.entry)
-    c.in-Ok.ensures.items depth read c.in-Ok-next_entry.ensures.found)
-
-pub returns-in-Another-clause-read : goal.returns-in-Another-clause-read
-returns-in-Another-clause-read g c =
-    λ whole levels depth read.
-    let cut = subst (λ (entry : Entry). EntryCut c.args.depth (codes "  ") (codes "]") c.args.text.now entry) c.in-Another.is c.in-Ok-next_entry.ensures.cut in
-    subst (λ items. IsOpen whole (items_open items ∷ levels) c.in-Another.rest.now) (sym (ap seen_values c.in-Ok.ensures.items
-    ∙ item_more c.args.items.items c.args.item))
-    (item_on whole levels (seen_values c.args.items.items) (seen_value c.args.item) c.args.text.now c.in-Another.rest.now read
-    (cut ∙ ap (λ n. codes "," ++ (line_at (n * 2) ++ (codes "  " ++ c.in-Another.rest.now))) depth))
-
-pub returns-in-Ok-next_entry-clause-read : goal.returns-in-Ok-next_entry-clause-read
-returns-in-Ok-next_entry-clause-read g c =
-    λ whole levels depth read.
-    let cut = subst (λ (entry : Entry). EntryCut c.args.depth (codes "  ") (codes "]") c.args.text.now entry) c.in-End.is c.in-Ok-next_entry.ensures.cut in
-    subst (λ value. HasRead whole levels value c.in-End.rest.now) (sym (seen_list c.push.new.self
-    ∙ ap list_value (ap seen_values c.in-Ok.ensures.items ∙ item_more c.args.items.items c.args.item)))
-    (item_out whole levels (seen_values c.args.items.items) (seen_value c.args.item) c.args.text.now c.in-End.rest.now read
-    (cut ∙ ap (λ n. codes "," ++ (line_at (n * 2) ++ (codes "]" ++ c.in-End.rest.now))) depth))
-
-pub returns-clause-breaks : goal.returns-clause-breaks
-returns-clause-breaks g c =
-    c.in-Err-next_entry.ensures.breaks
-
-pub returns-in-Another-clause-shorter : goal.returns-in-Another-clause-shorter
-returns-in-Another-clause-shorter g c = subst (EntryShorter c.args.text.now) c.in-Another.is c.in-Ok-next_entry.ensures.shorter
-
-pub returns-in-Ok-next_entry-clause-shorter : goal.returns-in-Ok-next_entry-clause-shorter
-returns-in-Ok-next_entry-clause-shorter g c = subst (EntryShorter c.args.text.now) c.in-End.is c.in-Ok-next_entry.ensures.shorter
+pub returns-in-Ok-next_entry : goal.returns-in-Ok-next_entry
+returns-in-Ok-next_entry g c =
+    record {
+      reached =
+          λ root levels depth read.
+          subst
+          (λ (entry : Entry).
+          EntryReached (IsDue root (items_open (seen_values c.push.new.self.items) ∷ levels)) (IsRead root levels (seen_value (declared.List c.push.new.self)))
+          (Ok entry))
+          c.in-End.is
+          (item_reached root levels c.args.items.items c.args.item c.push.new.self c.args.depth c.args.text.now (Ok c.in-Ok-next_entry.entry)
+          c.in-Ok.ensures.items depth read c.in-Ok-next_entry.ensures.found);
+      read =
+          λ whole levels depth read.
+          let cut = subst (λ (entry : Entry). EntryCut c.args.depth (codes "  ") (codes "]") c.args.text.now entry) c.in-End.is c.in-Ok-next_entry.ensures.cut in
+          subst (λ value. HasRead whole levels value c.in-End.rest.now) (sym (seen_list c.push.new.self
+          ∙ ap list_value (ap seen_values c.in-Ok.ensures.items ∙ item_more c.args.items.items c.args.item)))
+          (item_out whole levels (seen_values c.args.items.items) (seen_value c.args.item) c.args.text.now c.in-End.rest.now read
+          (cut ∙ ap (λ n. codes "," ++ (line_at (n * 2) ++ (codes "]" ++ c.in-End.rest.now))) depth));
+      breaks = tt;
+      shorter = subst (EntryShorter c.args.text.now) c.in-End.is c.in-Ok-next_entry.ensures.shorter;
+    }

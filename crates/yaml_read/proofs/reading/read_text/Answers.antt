@@ -15,22 +15,43 @@ nodes-init g c = (
       (text_open c.args.text.now c.in-Ok.rest.now c.in-Ok.ensures.cut),
 )
 
-pub returns-in-Err-clause-reads : goal.returns-in-Err-clause-reads
-returns-in-Err-clause-reads g c =
-    λ value readable is.
-    let root = root_due value c.args.text.now readable is in
-    absurd (no_word (codes "---\n") c.args.text.now root.0 c.in-Err.ensures.cut root.1)
+pub returns-in-Err : goal.returns-in-Err
+returns-in-Err g c =
+    record {
+      reads =
+          λ value readable is.
+          let root = root_due value c.args.text.now readable is in
+          absurd (no_word (codes "---\n") c.args.text.now root.0 c.in-Err.ensures.cut root.1);
+      sound = tt;
+      stops = marker_stops c.args.text.now c.in-Err.stop c.in-Err.ensures.cut c.in-Err.ensures.placed;
+    }
 
-pub returns-in-Err-step-clause-reads : goal.returns-in-Err-step-clause-reads
-returns-in-Err-step-clause-reads g c =
-    λ value readable is.
-    c.in-Err-step.ensures.reached value (c.nodes.invariant.1.due value readable is)
+pub returns-in-Err-step : goal.returns-in-Err-step
+returns-in-Err-step g c =
+    record {
+      reads =
+          λ value readable is.
+          c.in-Err-step.ensures.reached value (c.nodes.invariant.1.due value readable is);
+      sound = tt;
+      stops =
+          let opened = c.nodes.invariant.2 in
+          text_stops c.args.text.now opened.whole c.in-Err-step.stop opened.text_is (c.in-Err-step.ensures.stops opened.whole opened.opened);
+    }
 
-pub returns-in-Done-clause-reads : goal.returns-in-Done-clause-reads
-returns-in-Done-clause-reads g c =
-    λ value readable is.
-    subst (λ (next : Next _). Reached value (seen_levels c.step.new.levels.items) (Ok next)) c.in-Done.is
-    (c.in-Ok-step.ensures.reached value (c.nodes.invariant.1.due value readable is))
+pub returns-in-Done : goal.returns-in-Done
+returns-in-Done g c =
+    record {
+      reads =
+          λ value readable is.
+          subst (λ (next : Next _). Reached value (seen_levels c.step.new.levels.items) (Ok next)) c.in-Done.is
+          (c.in-Ok-step.ensures.reached value (c.nodes.invariant.1.due value readable is));
+      sound =
+          let opened = c.nodes.invariant.2 in
+          let read = subst (λ (next : Next g.row.A.Denot). NextRead opened.whole (seen_levels c.step.new.levels.items) next) c.in-Done.is
+          (c.in-Ok-step.ensures.read opened.whole opened.opened) in
+          (text_read (seen_value c.in-Done.value) c.args.text.now opened.whole opened.text_is read.0, read.1);
+      stops = tt;
+    }
 
 pub nodes-preserved : goal.nodes-preserved
 nodes-preserved g c = (
@@ -48,19 +69,3 @@ nodes-preserved g c = (
         (c.in-Ok-step.ensures.read c.nodes.invariant.2.whole c.nodes.invariant.2.opened);
   },
 )
-
-pub returns-in-Done-clause-sound : goal.returns-in-Done-clause-sound
-returns-in-Done-clause-sound g c =
-    let opened = c.nodes.invariant.2 in
-    let read = subst (λ (next : Next g.row.A.Denot). NextRead opened.whole (seen_levels c.step.new.levels.items) next) c.in-Done.is
-    (c.in-Ok-step.ensures.read opened.whole opened.opened) in
-    (text_read (seen_value c.in-Done.value) c.args.text.now opened.whole opened.text_is read.0, read.1)
-
-pub returns-in-Err-clause-stops : goal.returns-in-Err-clause-stops
-returns-in-Err-clause-stops g c =
-    marker_stops c.args.text.now c.in-Err.stop c.in-Err.ensures.cut c.in-Err.ensures.placed
-
-pub returns-in-Err-step-clause-stops : goal.returns-in-Err-step-clause-stops
-returns-in-Err-step-clause-stops g c =
-    let opened = c.nodes.invariant.2 in
-    text_stops c.args.text.now opened.whole c.in-Err-step.stop opened.text_is (c.in-Err-step.ensures.stops opened.whole opened.opened)
