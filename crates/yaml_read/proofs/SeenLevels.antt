@@ -3,13 +3,12 @@ use Rattle.yaml_base.proofs.Common.{ℕ, ◌+◌, suc, List, [], ◌∷◌, ◌+
 use Rattle.yaml_base.specs.Seen.{seen_text}
 use Rattle.yaml_base.specs.values.TypedValues.{TypedValue, list_value, map_value, TypedValues, no_values, values_and, TypedPairs, no_value_pairs}
 use Rattle.yaml_base.specs.values.TypedValues.{value_pairs_and, null_value, int_value, text_value}
-use Rattle.std.proofs.Common.{Result, Ok, Err, Vec, String, rules}
+use Rattle.std.proofs.Common.{Result, Ok, Vec, String, rules}
 use Rattle.yaml_value.specs.SeenValues.{seen_value, seen_values, seen_pairs, values_of, pairs_of}
 use Rattle.yaml_value.specs.declared.value.Value.{Value}
 use Rattle.yaml_read.specs.Remaining.{OpenLevel, seen_level, seen_levels, onto, Pushed}
 use Rattle.yaml_read.{specs.declared.errors.Stop.Stop, specs.declared.levels.Level.Level}
 use Rattle.yaml_value.specs.declared.value.Value as declared
-use Rattle.yaml_read.specs.declared.errors.Stop.TheVariants as stop
 
 onto_more : {A : Type 0} (outer : List OpenLevel) (levels : List (Level A)) (level : Level A)
     → onto outer (levels ++ level ∷ []) ≡ seen_level level ∷ onto outer levels
@@ -68,10 +67,6 @@ pushed_on level old new result is items =
   where
     one : (n : ℕ) → n + 1 ≡ suc n
     one n = omega arith
-
-pub not_pushed : {A : Type 0} (level : OpenLevel) (old new : List (Level A)) (result : Result (Unit {0}) Stop) → result ≡ Err stop.Memory
-    → Pushed level old new result
-not_pushed level old new result is = subst (λ (r : Result (Unit {0}) Stop). Pushed level old new r) (sym is) tt
 
 -- no level is open
 pub no_levels : {A : Type 0} (levels : List (Level A)) → length levels ≡ 0 → seen_levels levels ≡ []

@@ -75,7 +75,10 @@ fn take_item<'a, A: Allocator>(
     let mut items = items;
     match items.push(item) {
         Ok(()) => {}
-        Err(_) => return Err(Stop::Memory),
+        Err(error) => {
+            drop(error);
+            return Err(Stop::Memory);
+        }
     }
     match next_entry(text, depth, "  ", "]") {
         Ok(entry) => match entry {
@@ -98,7 +101,10 @@ fn take_pair<'a, A: Allocator>(
     let mut pairs = pairs;
     match pairs.push(pair) {
         Ok(()) => {}
-        Err(_) => return Err(Stop::Memory),
+        Err(error) => {
+            drop(error);
+            return Err(Stop::Memory);
+        }
     }
     match next_entry(text, depth, "  ? ", "}") {
         Ok(entry) => match entry {
@@ -121,9 +127,15 @@ fn take_key<'a, A: Allocator>(
     match after_indent(text, depth) {
         Ok(line) => match after(line, "  : ") {
             Ok(rest) => Ok(Turn::Continues(Level::PairsAndKey(pairs, key), rest)),
-            Err(stop) => Err(stop),
+            Err(stop) => {
+                drop(key);
+                Err(stop)
+            }
         },
-        Err(stop) => Err(stop),
+        Err(stop) => {
+            drop(key);
+            Err(stop)
+        }
     }
 }
 
@@ -149,7 +161,10 @@ fn push<A: Allocator>(levels: &mut Vec<Level<A>, A>, level: Level<A>) -> Result<
 {
     match levels.push(level) {
         Ok(()) => Ok(()),
-        Err(_) => Err(Stop::Memory),
+        Err(error) => {
+            drop(error);
+            Err(Stop::Memory)
+        }
     }
 }
 
@@ -162,10 +177,14 @@ fn finish<'a, A: Allocator>(value: Value<A>, text: &'a str) -> Result<Next<'a, A
             if end.is_empty() {
                 Ok(Next::Done(value))
             } else {
+                drop(value);
                 Err(refused_at(end))
             }
         }
-        Err(stop) => Err(stop),
+        Err(stop) => {
+            drop(value);
+            Err(stop)
+        }
     }
 }
 
