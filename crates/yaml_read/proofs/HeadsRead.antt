@@ -50,7 +50,8 @@ null_read bytes behind rest tagged is =
           (is ∙ ap (λ w. w ++ rest) (sym (word_bytes (codes "\"null\"") refl)));
     }
 
-pub truth_read : (bytes behind rest : List ℕ) (value : TypedValue) → bytes ≡ codes "!!bool " ++ behind → IsTruth behind value rest → IsScalarValue bytes value rest
+pub truth_read : (bytes behind rest : List ℕ) (value : TypedValue) → bytes ≡ codes "!!bool " ++ behind → IsTruth behind value rest
+    → IsScalarValue bytes value rest
 truth_read bytes behind rest value tagged truth =
     subst (λ value. IsScalarValue bytes value rest) (sym truth.is)
     (record {
@@ -58,7 +59,8 @@ truth_read bytes behind rest value tagged truth =
       text = λ column. tagged_text bytes behind rest [] (codes "!!bool ") (in_quotes (bool_text truth.truth)) refl tagged truth.text;
     })
 
-pub integer_read : (bytes behind rest : List ℕ) (value : TypedValue) → bytes ≡ codes "!!int " ++ behind → IsInteger behind value rest → IsScalarValue bytes value rest
+pub integer_read : (bytes behind rest : List ℕ) (value : TypedValue) → bytes ≡ codes "!!int " ++ behind → IsInteger behind value rest
+    → IsScalarValue bytes value rest
 integer_read bytes behind rest value tagged integer =
     subst (λ value. IsScalarValue bytes value rest) (sym integer.is)
     (record {

@@ -1,6 +1,6 @@
 -- From a node's tag on, and behind a value, up to the next node.
-use Rattle.yaml_base.proofs.Common.{ℕ, ◌+◌, ◌*◌, ◌<◌, ◌≤◌, suc, None, List, [], ◌∷◌, ◌++◌, refl, ◌≡◌, ap, subst, sym, ◌∙◌, inl, inr, arith, append-nil, append_assoc}
-use Rattle.yaml_base.proofs.Common.{length, length-append, codes, encode_utf8_all, Text, Bool, true}
+use Rattle.yaml_base.proofs.Common.{ℕ, ◌+◌, ◌*◌, ◌<◌, ◌≤◌, suc, None, List, [], ◌∷◌, ◌++◌, refl, ◌≡◌, ap, subst, sym, ◌∙◌, inl, inr, arith}
+use Rattle.yaml_base.proofs.Common.{append-nil, append_assoc, length, length-append, codes, encode_utf8_all, Text, Bool, true}
 use Rattle.yaml_base.specs.values.TypedValues.{TypedValue, list_value, map_value, no_values, no_value_pairs, most_nested, null_value, bool_value, bool_text}
 use Rattle.yaml_base.specs.values.TypedValues.{int_value, text_value}
 use Rattle.yaml_base.specs.values.ValueText.{in_quotes, line_at, value_text}
@@ -237,7 +237,8 @@ pub empty_list_steps : {A : Type 0} (before after : List OpenLevel) (text behind
     → text ≡ tag_word kind.List ++ behind → (behind ≡ codes "[" ++ inside) × (length before < most_nested) → inside ≡ codes "]" ++ rest
     → value ≡ list_value no_values → Settled before after value rest result → Stepped before after text result
 empty_list_steps before after text behind inside rest value result tagged bracket is same settled =
-    value_steps before after text rest (list_value no_values) result (empty_list (column_in before) text behind inside rest tagged bracket.0 is) (bracket.1, tt)
+    value_steps before after text rest (list_value no_values) result (empty_list (column_in before) text behind inside rest tagged bracket.0 is)
+    (bracket.1, tt)
     (λ root due.
     let tail = tail_of kind.List (column_in before) due.value due.rest text behind due.text tagged in
     let empty = list_empty (column_in before) tail.0 due.rest behind rest tail.2 (bracket.0 ∙ ap (λ t. codes "[" ++ t) is) in
@@ -331,7 +332,8 @@ pub empty_map_steps : {A : Type 0} (before after : List OpenLevel) (text behind 
     → text ≡ tag_word kind.Map ++ behind → (behind ≡ codes "{" ++ inside) × (length before < most_nested) → inside ≡ codes "}" ++ rest
     → value ≡ map_value no_value_pairs → Settled before after value rest result → Stepped before after text result
 empty_map_steps before after text behind inside rest value result tagged bracket is same settled =
-    value_steps before after text rest (map_value no_value_pairs) result (empty_map (column_in before) text behind inside rest tagged bracket.0 is) (bracket.1, tt)
+    value_steps before after text rest (map_value no_value_pairs) result (empty_map (column_in before) text behind inside rest tagged bracket.0 is)
+    (bracket.1, tt)
     (λ root due.
     let tail = tail_of kind.Map (column_in before) due.value due.rest text behind due.text tagged in
     let empty = map_empty (column_in before) tail.0 due.rest behind rest tail.2 (bracket.0 ∙ ap (λ t. codes "{" ++ t) is) in

@@ -35,7 +35,8 @@ returns-in-Some c =
     record {
       found =
           λ tail is.
-          sym (line_is c.args.depth c.args.text.now c.in-Ok.behind.now c.in-Ok-after_indent.line.now tail c.in-Ok.ensures.cut c.in-Ok-after_indent.ensures.cut is)
+          sym (line_is c.args.depth c.args.text.now c.in-Ok.behind.now c.in-Ok-after_indent.line.now tail c.in-Ok.ensures.cut
+          c.in-Ok-after_indent.ensures.cut is)
           ∙ c.in-Some.ensures.cut;
       cut =
           c.in-Ok.ensures.cut

@@ -34,7 +34,8 @@ returns-in-Another g c =
           c.in-Ok.ensures.items depth read c.in-Ok-next_entry.ensures.found);
       read =
           λ whole levels depth read.
-          let cut = subst (λ (entry : Entry). EntryCut c.args.depth (codes "  ") (codes "]") c.args.text.now entry) c.in-Another.is c.in-Ok-next_entry.ensures.cut in
+          let cut = subst (λ (entry : Entry). EntryCut c.args.depth (codes "  ") (codes "]") c.args.text.now entry)
+          c.in-Another.is c.in-Ok-next_entry.ensures.cut in
           subst (λ items. IsOpen whole (items_open items ∷ levels) c.in-Another.rest.now) (sym (ap seen_values c.in-Ok.ensures.items
           ∙ item_more c.args.items.items c.args.item))
           (item_on whole levels (seen_values c.args.items.items) (seen_value c.args.item) c.args.text.now c.in-Another.rest.now read
@@ -57,7 +58,8 @@ returns-in-Ok-next_entry g c =
           c.in-Ok.ensures.items depth read c.in-Ok-next_entry.ensures.found);
       read =
           λ whole levels depth read.
-          let cut = subst (λ (entry : Entry). EntryCut c.args.depth (codes "  ") (codes "]") c.args.text.now entry) c.in-End.is c.in-Ok-next_entry.ensures.cut in
+          let cut = subst (λ (entry : Entry). EntryCut c.args.depth (codes "  ") (codes "]") c.args.text.now entry)
+          c.in-End.is c.in-Ok-next_entry.ensures.cut in
           subst (λ value. HasRead whole levels value c.in-End.rest.now) (sym (seen_list c.push.new.self
           ∙ ap list_value (ap seen_values c.in-Ok.ensures.items ∙ item_more c.args.items.items c.args.item)))
           (item_out whole levels (seen_values c.args.items.items) (seen_value c.args.item) c.args.text.now c.in-End.rest.now read

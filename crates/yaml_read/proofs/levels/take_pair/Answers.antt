@@ -34,7 +34,8 @@ returns-in-Another g c =
           c.in-Ok.ensures.items depth read c.in-Ok-next_entry.ensures.found);
       read =
           λ whole levels depth read.
-          let cut = subst (λ (entry : Entry). EntryCut c.args.depth (codes "  ? ") (codes "}") c.args.text.now entry) c.in-Another.is c.in-Ok-next_entry.ensures.cut in
+          let cut = subst (λ (entry : Entry). EntryCut c.args.depth (codes "  ? ") (codes "}") c.args.text.now entry)
+          c.in-Another.is c.in-Ok-next_entry.ensures.cut in
           subst (λ pairs. IsOpen whole (pairs_open pairs ∷ levels) c.in-Another.rest.now) (sym (ap seen_pairs c.in-Ok.ensures.items
           ∙ pair_more c.args.pairs.items c.args.pair))
           (pair_on whole levels (seen_pairs c.args.pairs.items) (seen_value c.args.pair.0) (seen_value c.args.pair.1) c.args.text.now c.in-Another.rest.now read
@@ -57,7 +58,8 @@ returns-in-Ok-next_entry g c =
           c.in-Ok.ensures.items depth read c.in-Ok-next_entry.ensures.found);
       read =
           λ whole levels depth read.
-          let cut = subst (λ (entry : Entry). EntryCut c.args.depth (codes "  ? ") (codes "}") c.args.text.now entry) c.in-End.is c.in-Ok-next_entry.ensures.cut in
+          let cut = subst (λ (entry : Entry). EntryCut c.args.depth (codes "  ? ") (codes "}") c.args.text.now entry)
+          c.in-End.is c.in-Ok-next_entry.ensures.cut in
           subst (λ value. HasRead whole levels value c.in-End.rest.now) (sym (seen_map c.push.new.self
           ∙ ap map_value (ap seen_pairs c.in-Ok.ensures.items ∙ pair_more c.args.pairs.items c.args.pair)))
           (pair_out whole levels (seen_pairs c.args.pairs.items) (seen_value c.args.pair.0) (seen_value c.args.pair.1) c.args.text.now c.in-End.rest.now read
