@@ -7,9 +7,12 @@ use Rattle.std.{specs.Prelude.Result, specs.Prelude.Ok, specs.Prelude.Err, specs
 use Rattle.std.{proofs.lemmas.Str.encodes-append, proofs.lemmas.Str.IsUtf8-string_bytes, proofs.lemmas.Str.scalars-chars, specs.String.string_bytes}
 use Rattle.yaml_read.proofs.TagTexts.{IsSpelled, is_spelled, of_document, of_type, whole}
 use Rattle.yaml_read.specs.Words.{OrMemory, past_word}
-use Rattle.yaml_read.specs.EventTexts.{BeginsNode, IsAnchor, is_alias, is_mapping, is_scalar, is_sequence, opening_text}
-use Rattle.yaml_read.specs.WrittenTags.{HasHeldText, mapping_opened, sequence_opened, value_quoted, IsTagged}
-use Rattle.yaml_read.{proofs.Encoded.word_encoded, proofs.TagBytes.same_first, proofs.Words.no_word, specs.declared.errors.Stop.Stop}
+use Rattle.yaml_read.specs.EventTexts.{BeginsNode, IsAnchor, ends_name, is_alias, is_mapping, is_scalar, is_sequence, opening_text}
+use Rattle.yaml_read.specs.WrittenTags.{HasHeldText, mapping_opened, sequence_opened, value_quoted}
+use Rattle.yaml_read.specs.Beginnings.{IsHeldRead, IsOpeningRead, IsScalarRead, IsTaggedRead, ReadOr}
+use Rattle.yaml_read.proofs.NameTexts.{anchor_absent, anchor_there, space_there}
+use Rattle.yaml_read.proofs.{Encoded.word_encoded, TagBytes.same_first, Turns.cut_is, Words.no_word}
+use Rattle.yaml_read.specs.declared.errors.Stop.{Stop}
 use Rattle.yaml_read.specs.declared.errors.Stop.TheVariants as stop
 
 -- an anchor, a tag and what stands behind them
@@ -195,23 +198,182 @@ both_read first second text behind rest is also =
     is ∙ ap (λ t. encode_utf8_all first ++ t) also ∙ sym (append_assoc (encode_utf8_all first) (encode_utf8_all second) rest)
     ∙ ap (λ t. t ++ rest) (sym (encodes-append first second))
 
--- parts that were read, from the tag on, and behind the anchor
-pub tagged_read : {A : Type 0} (tag : String A) (anchor : Option Text) (held : Held) (written : Text) (text behind rest : List ℕ) (event : Event)
-    → (tag_fault (seen_text tag) ≡ None) × (text ≡ encode_utf8_all (tag_text (Some (seen_text tag)) false) ++ behind) → HasHeldText held written
-    → event ≡ opening_event_of anchor (seen_text tag) held → behind ≡ encode_utf8_all written ++ rest → IsTagged anchor text event rest
-tagged_read tag anchor held written text behind rest event read has is more =
+-- ---- what was read
+
+-- a scalar is what stands behind a tag, where no collection opens
+pub held_read : (anchor : Option Text) (tag : Text) (text : List ℕ) (event : Event) (rest : List ℕ) → past_word (codes "[") text ≡ None
+    → past_word (codes "{") text ≡ None → IsScalarRead anchor tag text event rest → IsHeldRead anchor tag text event rest
+held_read anchor tag text event rest none also read =
+    record {
+      held = scalar_held read.value any_style;
+      written = in_quotes read.value;
+      has = value_quoted read.value read.scalars;
+      is = read.is;
+      parts = read.parts;
+      only = λ other written after has is.
+          let at = at_quote other written after text has is none also in
+          let same = read.only at.value after at.scalars at.stands in
+          (ap (λ (v : Text). scalar_held v any_style) same.0 ∙ at.is, same.1);
+    }
+
+-- a tag, and what stands behind it
+pub tagged_read : {A : Type 0} (tag : String A) (anchor : Option Text) (text behind rest : List ℕ) (event : Event)
+    → (tag_fault (seen_text tag) ≡ None) × (text ≡ encode_utf8_all (tag_text (Some (seen_text tag)) false) ++ behind)
+    → ((other after : Text) → tag_fault other ≡ None → all_scalars other ≡ true → text ≡ encode_utf8_all (tag_text (Some other) false ++ after)
+    → (seen_text tag ≡ other) × (behind ≡ encode_utf8_all after))
+    → IsHeldRead anchor (seen_text tag) behind event rest → IsTaggedRead anchor text event rest
+tagged_read tag anchor text behind rest event sound one read =
     record {
       tag = seen_text tag;
-      held = held;
-      written = written;
-      sound = read.0;
+      held = read.held;
+      written = read.written;
+      sound = sound.0;
       scalars = scalars-chars (string_bytes tag) (IsUtf8-string_bytes tag);
-      has = has;
-      is = is;
-      parts = both_read (tag_text (Some (seen_text tag)) false) written text behind rest read.1 more;
+      has = read.has;
+      is = read.is;
+      parts = both_read (tag_text (Some (seen_text tag)) false) read.written text behind rest sound.1 read.parts;
+      only = λ other held written after free scalars has is.
+          let same = one other (written ++ after) free scalars is in
+          let inside = read.only held written after has same.1 in (
+            read.is ∙ ap (λ (h : Held). opening_event_of anchor (seen_text tag) h) inside.0
+                ∙ ap (λ (t : Text). opening_event_of anchor t held) same.0,
+            inside.1,
+          );
+    }
+
+-- an alias behind its `*`
+pub alias_read : (name : Text) (inside rest : List ℕ) → inside ≡ encode_utf8_all name ++ rest
+    → codes "*" ++ inside ≡ encode_utf8_all (opening_text (alias name)) ++ rest
+alias_read name inside rest read = ap (λ t. 0x2A ∷ t) read ∙ ap (λ t. t ++ rest) (sym (word_encoded (codes "*") name refl))
+
+-- an event with this anchor stands there; its tag, and what stands behind it
+pub record IsTaggedAt (anchor : Option Text) (event : Event) (rest : Text) (behind : List ℕ) : Type 0 where
+  pub tag : Text
+  pub held : Held
+  pub written : Text
+  pub is : opening_event_of anchor tag held ≡ event
+  pub sound : tag_fault tag ≡ None
+  pub scalars : all_scalars tag ≡ true
+  pub has : HasHeldText held written
+  pub stands : behind ≡ encode_utf8_all (tag_text (Some tag) false ++ (written ++ rest))
+
+-- none has an anchor where no `&` stands first
+pub behind_none : (text : List ℕ) → past_word (codes "*") text ≡ None → past_word (codes "&") text ≡ None
+    → (event : Event) (rest : Text) → BeginsNode event → ends_name rest ≡ true → text ≡ encode_utf8_all (opening_text event ++ rest)
+    → IsTaggedAt None event rest text
+behind_none text none also event rest begins ends is =
+    let at = at_parts event (opening_text event) rest text (opening_of event begins) is none in
+    let absent = anchor_absent at.anchor (tag_text (Some at.tag) false ++ (at.written ++ rest)) text also at.stands in
+    record {
+      tag = at.tag;
+      held = at.held;
+      written = at.written;
+      is = ap (λ (a : Option Text). opening_event_of a at.tag at.held) absent.0 ∙ at.is;
+      sound = at.sound;
+      scalars = at.scalars;
+      has = at.has;
+      stands = absent.1;
+    }
+
+-- behind `&` an anchor stands, and its tag behind a space
+pub record IsAnchoredAt (event : Event) (rest : Text) (inside : List ℕ) : Type 0 where
+  pub name : Text
+  pub named : alias_fault name ≡ None
+  pub more : Text
+  pub stands : inside ≡ encode_utf8_all (name ++ space ∷ more)
+  pub tagged : (behind : List ℕ) → behind ≡ encode_utf8_all more → IsTaggedAt (Some name) event rest behind
+
+pub behind_mark : (inside : List ℕ) (event : Event) (rest : Text) → BeginsNode event
+    → codes "&" ++ inside ≡ encode_utf8_all (opening_text event ++ rest) → IsAnchoredAt event rest inside
+behind_mark inside event rest begins is =
+    let at = at_parts event (opening_text event) rest (codes "&" ++ inside) (opening_of event begins) is refl in
+    let more = tag_text (Some at.tag) false ++ (at.written ++ rest) in
+    let there = anchor_there at.anchor more (codes "&" ++ inside) inside at.named (no_anchor_mark at.tag (at.written ++ rest) at.sound) refl at.stands in
+    record {
+      name = there.name;
+      named = there.named;
+      more = more;
+      stands = there.text;
+      tagged = λ behind stands. record {
+        tag = at.tag;
+        held = at.held;
+        written = at.written;
+        is = ap (λ (a : Option Text). opening_event_of a at.tag at.held) there.is ∙ at.is;
+        sound = at.sound;
+        scalars = at.scalars;
+        has = at.has;
+        stands = stands;
+      };
+    }
+
+-- an anchor was read, and the space behind it
+pub behind_space : (name : Text) (inside behind after : List ℕ)
+    → ((other rest : Text) → alias_fault other ≡ None → ends_name rest ≡ true → inside ≡ encode_utf8_all (other ++ rest)
+    → (name ≡ other) × (behind ≡ encode_utf8_all rest))
+    → behind ≡ codes " " ++ after
+    → (event : Event) (rest : Text) → BeginsNode event → ends_name rest ≡ true → codes "&" ++ inside ≡ encode_utf8_all (opening_text event ++ rest)
+    → IsTaggedAt (Some name) event rest after
+behind_space name inside behind after one cut event rest begins ends is =
+    let at = behind_mark inside event rest begins is in
+    let same = one at.name (space ∷ at.more) at.named refl at.stands in
+    subst (λ (n : Text). IsTaggedAt (Some n) event rest after) (sym same.0)
+    (at.tagged after
+    (cut_is (codes " ") behind after (encode_utf8_all at.more) cut (same.1 ∙ word_encoded (codes " ") at.more refl)))
+
+-- or there is none
+pub no_space : (name : Text) (inside behind : List ℕ)
+    → ((other rest : Text) → alias_fault other ≡ None → ends_name rest ≡ true → inside ≡ encode_utf8_all (other ++ rest)
+    → (name ≡ other) × (behind ≡ encode_utf8_all rest))
+    → past_word (codes " ") behind ≡ None
+    → (event : Event) (rest : Text) → BeginsNode event → ends_name rest ≡ true → codes "&" ++ inside ≡ encode_utf8_all (opening_text event ++ rest) → ⊥
+no_space name inside behind one none event rest begins ends is =
+    let at = behind_mark inside event rest begins is in
+    space_there at.more behind (one at.name (space ∷ at.more) at.named refl at.stands).1 none
+
+-- an anchor, if there is one, and what stands behind it
+pub opening_read : (anchor : Option Text) (text behind rest : List ℕ) (event : Event) → IsAnchor anchor → text ≡ encode_utf8_all (anchor_text anchor) ++ behind
+    → ((other : Event) (after : Text) → BeginsNode other → ends_name after ≡ true → text ≡ encode_utf8_all (opening_text other ++ after)
+    → IsTaggedAt anchor other after behind)
+    → IsTaggedRead anchor behind event rest → IsOpeningRead text event rest
+opening_read anchor text behind rest event named is one read =
+    let begins = begins_by anchor read.tag read.held read.written named read.sound read.scalars read.has in
+    record {
+      begins = subst BeginsNode (sym read.is) begins.0;
+      parts = both_read (anchor_text anchor) (tag_text (Some read.tag) false ++ read.written) text behind rest is read.parts
+          ∙ ap (λ t. encode_utf8_all t ++ rest) (sym begins.1 ∙ ap opening_text (sym read.is));
+      only = λ other after begins ends is.
+          let at = one other after begins ends is in
+          let same = read.only at.tag at.held at.written after at.sound at.scalars at.has at.stands in
+          (same.0 ∙ at.is, same.1);
     }
 
 -- ---- answers
+
+-- what was read is more, and what is absent too
+pub read_or_then : {T P Q : Type 0} (Read More : T → Type 0) (result : Result T Stop) → ((found : T) → Read found → More found) → (P → Q)
+    → ReadOr Read P result → ReadOr More Q result
+read_or_then Read More (Ok found) more none is = more found is
+read_or_then Read More (Err stop.Memory) more none is = tt
+read_or_then Read More (Err (stop.Refused left)) more none is = none is
+read_or_then Read More (Err (stop.TooDeep left)) more none is = none is
+
+-- it is absent unless memory gave out
+pub none_read : (Absent : Type 0) (error : Stop) → ((error ≡ stop.Memory → ⊥) → Absent) → ReadOr (λ (_ : List ℕ). Unit {0}) Absent (Err error)
+none_read Absent stop.Memory by = tt
+none_read Absent (stop.Refused left) by = by (λ e. cc)
+none_read Absent (stop.TooDeep left) by = by (λ e. cc)
+
+pub memory_only : {T : Type 0} (Held : T → Type 0) (error : Stop) → OrMemory Held (Err error) → error ≡ stop.Memory
+memory_only Held stop.Memory is = refl
+memory_only Held (stop.Refused left) is = absurd is
+memory_only Held (stop.TooDeep left) is = absurd is
+
+-- what is there isn't absent
+pub memory_lacks : {S T Absent : Type 0} (Read : S → Type 0) (Holds : T → Type 0) (error : Stop) → (Absent → ⊥) → ReadOr Read Absent (Err error)
+    → OrMemory Holds (Err error)
+memory_lacks Read Holds stop.Memory there is = tt
+memory_lacks Read Holds (stop.Refused left) there is = there is
+memory_lacks Read Holds (stop.TooDeep left) there is = there is
 
 -- what holds of what was found holds of it by another word
 pub or_memory_then : {T : Type 0} (P Q : T → Type 0) (result : Result T Stop) → ((found : T) → P found → Q found) → OrMemory P result → OrMemory Q result
@@ -219,18 +381,3 @@ or_memory_then P Q (Ok found) more is = more found is
 or_memory_then P Q (Err (stop.Refused left)) more is = is
 or_memory_then P Q (Err (stop.TooDeep left)) more is = is
 or_memory_then P Q (Err stop.Memory) more is = tt
-
--- a node's beginning that was read
-pub alias_read : (name : Text) (text inside rest : List ℕ) → text ≡ codes "*" ++ inside → inside ≡ encode_utf8_all name ++ rest
-    → text ≡ encode_utf8_all (opening_text (alias name)) ++ rest
-alias_read name text inside rest cut read =
-    cut ∙ ap (λ t. 0x2A ∷ t) read ∙ ap (λ t. t ++ rest) (sym (word_encoded (codes "*") name refl))
-
-pub node_read : (anchor : Option Text) (text behind rest : List ℕ) (event : Event) → IsAnchor anchor → text ≡ encode_utf8_all (anchor_text anchor) ++ behind
-    → IsTagged anchor behind event rest → BeginsNode event × (text ≡ encode_utf8_all (opening_text event) ++ rest)
-node_read anchor text behind rest event named is tagged =
-    let begins = begins_by anchor tagged.tag tagged.held tagged.written named tagged.sound tagged.scalars tagged.has in (
-      subst BeginsNode (sym tagged.is) begins.0,
-      both_read (anchor_text anchor) (tag_text (Some tagged.tag) false ++ tagged.written) text behind rest is tagged.parts
-          ∙ ap (λ t. encode_utf8_all t ++ rest) (sym begins.1 ∙ ap opening_text (sym tagged.is)),
-    )

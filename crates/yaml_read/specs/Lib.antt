@@ -18,3 +18,4 @@ pub mod DocumentPlaces
 pub mod Awaits
 pub mod EventSteps
 pub mod WrittenTags
+pub mod Beginnings

@@ -4,11 +4,10 @@ use Rattle.std.specs.Prelude.{is_some}
 use Rattle.std.specs.Borrow.{Bor}
 use Rattle.std.specs.Str.{all_scalars, encode_utf8_all}
 use Rattle.yaml_base.specs.Characters.{Text}
-use Rattle.yaml_base.specs.Event.{Event, any_style, any_layout}
+use Rattle.yaml_base.specs.Event.{any_style, any_layout}
 use Rattle.yaml_base.specs.Percent.{byte_escaped, is_tag_character, percent_sign}
-use Rattle.yaml_base.specs.Tags.{behind, tag_fault}
-use Rattle.yaml_base.specs.graphs.DumpedText.{tag_text}
-use Rattle.yaml_base.specs.graphs.Meetings.{Held, mapping_held, opening_event_of, scalar_held, sequence_held}
+use Rattle.yaml_base.specs.Tags.{behind}
+use Rattle.yaml_base.specs.graphs.Meetings.{Held, mapping_held, scalar_held, sequence_held}
 use Rattle.yaml_base.specs.values.ValueText.{in_quotes}
 use Rattle.yaml_read.specs.Words.{past_word}
 
@@ -61,14 +60,3 @@ pub data HasHeldText : Held → Text → Type 0 where
   value_quoted : (value : Text) → all_scalars value ≡ true → HasHeldText (scalar_held value any_style) (in_quotes value)
   sequence_opened : HasHeldText (sequence_held [] any_layout) (codes "[")
   mapping_opened : HasHeldText (mapping_held [] any_layout) (codes "{")
-
--- an event that begins a node with this anchor was read from its tag on
-pub record IsTagged (anchor : Option Text) (text : List ℕ) (event : Event) (rest : List ℕ) : Type 0 where
-  pub tag : Text
-  pub held : Held
-  pub written : Text
-  pub sound : tag_fault tag ≡ None
-  pub scalars : all_scalars tag ≡ true
-  pub has : HasHeldText held written
-  pub is : event ≡ opening_event_of anchor tag held
-  pub parts : text ≡ encode_utf8_all (tag_text (Some tag) false ++ written) ++ rest

@@ -1,16 +1,10 @@
 //! The beginnings of a document's nodes.
-ghost use Rattle.std.specs.Prelude.{◌≡◌, ◌++◌, [], true, false, None, Some, IfOk, IsTrue, bytes_eq, chars, nat_lt, option_map};
+ghost use Rattle.std.specs.Prelude.{◌≡◌, ◌++◌, [], IsTrue, bytes_eq, chars, codes, nat_lt, option_map};
 ghost use Rattle.std.specs.List.{list_all};
-ghost use Rattle.std.specs.Str.{all_scalars, encode_utf8_all};
-ghost use Rattle.yaml_base.specs.Characters.{Text};
-ghost use Rattle.yaml_base.specs.Event.{Event, any_style, any_layout};
+ghost use Rattle.yaml_base.specs.Event.{any_style, any_layout};
 ghost use Rattle.yaml_base.specs.Seen.{seen_event, seen_text};
-ghost use Rattle.yaml_base.specs.Tags.{tag_fault};
-ghost use Rattle.yaml_base.specs.graphs.DumpedText.{tag_text};
-ghost use Rattle.yaml_base.specs.graphs.Meetings.{Held, mapping_held, opening_event_of, scalar_held, sequence_held};
-ghost use Rattle.yaml_read.specs.EventTexts.{BeginsNode, ends_name, opening_text};
-ghost use Rattle.yaml_read.specs.WrittenTags.{HasHeldText, IsTagged};
-ghost use Rattle.yaml_read.specs.Words.{OrMemory};
+ghost use Rattle.yaml_base.specs.graphs.Meetings.{mapping_held, opening_event_of, scalar_held, sequence_held};
+ghost use Rattle.yaml_read.specs.Beginnings.{IsHeldRead, IsOpeningRead, IsScalarRead, IsTaggedRead, NoHeld, NoOpening, NoScalar, NoTagged, ReadOr};
 
 use crate::cuts::{after, past};
 use crate::errors::Stop;
@@ -74,32 +68,78 @@ fn mapping_start<A: Allocator>(anchor: Option<String<A>>, tag: String<A>) -> yam
     }
 }
 
-/// Returns the event with which a node begins whose anchor was read, from its tag on, and what follows.
-fn read_tagged<'a, A: Allocator + Copy>(
+/// Returns the scalar whose value a text begins with, and what follows.
+fn read_scalar<A: Allocator>(
     alloc: A,
     anchor: Option<String<A>>,
-    text: &'a str,
-) -> Result<(yaml_event_t<A>, &'a str), Stop>
-    ensures reads { (tag : Text) (held : Held) (written rest : Text) → tag_fault tag ≡ None → all_scalars tag ≡ true → HasHeldText held written
-        → text.now ≡ encode_utf8_all (tag_text (Some tag) false ++ (written ++ rest))
-        → OrMemory (λ found. (seen_event found.0 ≡ opening_event_of (option_map seen_text anchor) tag held)
-        × (found.1.now ≡ encode_utf8_all rest)) result }
-    ensures sound { IfOk result (λ found. IsTagged (option_map seen_text anchor) text.now (seen_event found.0) found.1.now) }
+    tag: String<A>,
+    text: &str,
+) -> Result<(yaml_event_t<A>, &str), Stop>
+    ensures { ReadOr (λ found. IsScalarRead (option_map seen_text anchor) (seen_text tag) text.now (seen_event found.0) found.1.now)
+        (NoScalar text.now) result }
 {
-    let (tag, behind) = match read_written_tag(alloc, text) {
-        Ok(found) => found,
-        Err(stop) => return Err(stop),
-    };
-    match past(behind, "[") {
+    match read_quoted(alloc, text) {
+        Ok((value, rest)) => Ok((scalar(anchor, tag, value), rest)),
+        Err(stop) => Err(stop),
+    }
+}
+
+/// Returns the event with which a node begins whose anchor and tag were read, and what follows.
+fn read_held<A: Allocator + Copy>(
+    alloc: A,
+    anchor: Option<String<A>>,
+    tag: String<A>,
+    text: &str,
+) -> Result<(yaml_event_t<A>, &str), Stop>
+    ensures { ReadOr (λ found. IsHeldRead (option_map seen_text anchor) (seen_text tag) text.now (seen_event found.0) found.1.now)
+        (NoHeld text.now) result }
+{
+    match past(text, "[") {
         Some(rest) => return Ok((sequence_start(anchor, tag), rest)),
         None => {}
     }
-    match past(behind, "{") {
-        Some(rest) => return Ok((mapping_start(anchor, tag), rest)),
-        None => {}
+    match past(text, "{") {
+        Some(rest) => Ok((mapping_start(anchor, tag), rest)),
+        None => read_scalar(alloc, anchor, tag, text),
     }
-    match read_quoted(alloc, behind) {
-        Ok((value, rest)) => Ok((scalar(anchor, tag, value), rest)),
+}
+
+/// Returns the event with which a node begins whose anchor was read, from its tag on, and what follows.
+fn read_tagged<A: Allocator + Copy>(
+    alloc: A,
+    anchor: Option<String<A>>,
+    text: &str,
+) -> Result<(yaml_event_t<A>, &str), Stop>
+    ensures { ReadOr (λ found. IsTaggedRead (option_map seen_text anchor) text.now (seen_event found.0) found.1.now) (NoTagged text.now) result }
+{
+    match read_written_tag(alloc, text) {
+        Ok((tag, behind)) => read_held(alloc, anchor, tag, behind),
+        Err(stop) => Err(stop),
+    }
+}
+
+/// Returns the alias whose name a text begins with, behind its `*`, and what follows.
+fn read_alias<A: Allocator>(alloc: A, text: &str) -> Result<(yaml_event_t<A>, &str), Stop>
+    ensures { ReadOr (λ found. IsOpeningRead (codes "*" ++ text.now) (seen_event found.0) found.1.now) (NoOpening (codes "*" ++ text.now)) result }
+{
+    match read_name(alloc, text) {
+        Ok((name, rest)) => Ok((yaml_event_t::YAML_ALIAS_EVENT { anchor: name }, rest)),
+        Err(stop) => Err(stop),
+    }
+}
+
+/// Returns the event with which a node begins, from its anchor's name on, behind its `&`, and what follows.
+fn read_anchored<A: Allocator + Copy>(
+    alloc: A,
+    text: &str,
+) -> Result<(yaml_event_t<A>, &str), Stop>
+    ensures { ReadOr (λ found. IsOpeningRead (codes "&" ++ text.now) (seen_event found.0) found.1.now) (NoOpening (codes "&" ++ text.now)) result }
+{
+    match read_name(alloc, text) {
+        Ok((name, behind)) => match after(behind, " ") {
+            Ok(rest) => read_tagged(alloc, Some(name), rest),
+            Err(stop) => Err(stop),
+        },
         Err(stop) => Err(stop),
     }
 }
@@ -110,28 +150,14 @@ pub(crate) fn read_opening<A: Allocator + Copy>(
     alloc: A,
     text: &str,
 ) -> Result<(yaml_event_t<A>, &str), Stop>
-    ensures reads { (event : Event) (rest : Text) → BeginsNode event → ends_name rest ≡ true → text.now ≡ encode_utf8_all (opening_text event ++ rest)
-        → OrMemory (λ found. (seen_event found.0 ≡ event) × (found.1.now ≡ encode_utf8_all rest)) result }
-    ensures sound { IfOk result (λ found. BeginsNode (seen_event found.0)
-        × (text.now ≡ encode_utf8_all (opening_text (seen_event found.0)) ++ found.1.now)) }
+    ensures { ReadOr (λ found. IsOpeningRead text.now (seen_event found.0) found.1.now) (NoOpening text.now) result }
 {
     match past(text, "*") {
-        Some(inside) => {
-            return match read_name(alloc, inside) {
-                Ok((name, rest)) => Ok((yaml_event_t::YAML_ALIAS_EVENT { anchor: name }, rest)),
-                Err(stop) => Err(stop),
-            };
-        }
+        Some(inside) => return read_alias(alloc, inside),
         None => {}
     }
     match past(text, "&") {
-        Some(inside) => match read_name(alloc, inside) {
-            Ok((name, behind)) => match after(behind, " ") {
-                Ok(rest) => read_tagged(alloc, Some(name), rest),
-                Err(stop) => Err(stop),
-            },
-            Err(stop) => Err(stop),
-        },
+        Some(inside) => read_anchored(alloc, inside),
         None => read_tagged(alloc, None, text),
     }
 }

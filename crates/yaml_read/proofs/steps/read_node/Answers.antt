@@ -3,8 +3,8 @@ use Rattle.std.proofs.lemmas.Result.{IfOk-weaker}
 use Rattle.yaml_base.{specs.Seen.seen_event, specs.declared.events.yaml_event_t.yaml_event_t}
 use Rattle.yaml_read.specs.EventSteps.{GoesTo, ReadsNode, await_opened, bytes_behind, open_behind_opening, open_now, trail_behind_opening}
 use Rattle.yaml_read.proofs.EventSteps.{behind_encoded, goes_beside, memory_beside, node_read, trail_ends}
-use Rattle.yaml_read.{specs.Awaits.seen_awaits, proofs.NodeTexts.or_memory_then, specs.EventTexts.opening_text, specs.declared.leads.Await.Await}
-use Rattle.yaml_read.{specs.declared.steps.Progress.Progress, proofs.Words.error_stays}
+use Rattle.yaml_read.{specs.Awaits.seen_awaits, proofs.NodeTexts.memory_lacks, proofs.NodeTexts.or_memory_then, specs.Beginnings.IsOpeningRead, specs.EventTexts.opening_text, specs.declared.leads.Await.Await}
+use Rattle.yaml_read.specs.declared.steps.Progress.{Progress}
 use Rattle.yaml_read.proofs.steps.read_node.Goals as goal
 
 pub returns-in-Ok-clause-sound : goal.returns-in-Ok-clause-sound
@@ -17,7 +17,7 @@ returns-in-Ok-clause-sound g c =
     (λ found goes.
     subst (λ e. ReadsNode levels c.args.text.now (open_now now found.1) (seen_event e) (bytes_behind found.1)) (sym goes.0)
     (node_read levels c.args.text.now c.in-Ok.rest.now (bytes_behind found.1) (open_now now found.1) (seen_event event)
-    c.in-Ok.ensures.sound.0 c.in-Ok.ensures.sound.1
+    c.in-Ok.ensures.begins c.in-Ok.ensures.parts
     (ap (open_behind_opening levels) (sym c.opened_by.ensures) ∙ goes.1.0)
     (goes.1.1 ∙ ap (λ (o : Option Await). trail_behind_opening levels o ++ bytes_behind found.1) c.opened_by.ensures)))
     (goes_beside (GoesTo (open_behind_opening levels opened) (trail_behind_opening levels opened) c.in-Ok.rest.now now) event
@@ -27,17 +27,18 @@ pub returns-in-Err-clause-reads : goal.returns-in-Err-clause-reads
 returns-in-Err-clause-reads g c =
     λ event tail begins ends is.
     let trail = trail_behind_opening (seen_awaits c.args.awaits.now.items) (await_opened event) in
-    error_stays (λ (found : yaml_event_t g.row.A.Denot × Bor (List ℕ)). (seen_event found.0 ≡ event) × (found.1.now ≡ encode_utf8_all (trail ++ tail)))
+    memory_lacks (λ (found : yaml_event_t g.row.A.Denot × Bor (List ℕ)). IsOpeningRead c.args.text.now (seen_event found.0) found.1.now)
     (λ (found : yaml_event_t g.row.A.Denot × Progress). seen_event found.0 ≡ event) c.in-Err.stop
-    (c.in-Err.ensures.reads event (trail ++ tail) begins (trail_ends (seen_awaits c.args.awaits.now.items) (await_opened event) tail ends)
+    (λ none. none event (trail ++ tail) begins (trail_ends (seen_awaits c.args.awaits.now.items) (await_opened event) tail ends)
     (is ∙ ap encode_utf8_all (append_assoc (opening_text event) trail tail)))
+    c.in-Err.ensures
 
 pub returns-in-Ok-clause-reads : goal.returns-in-Ok-clause-reads
 returns-in-Ok-clause-reads g c =
     λ event tail begins ends is.
     let levels = seen_awaits c.args.awaits.now.items in
     let trail = trail_behind_opening levels (await_opened event) in
-    let found = c.in-Ok.ensures.reads event (trail ++ tail) begins (trail_ends levels (await_opened event) tail ends)
+    let found = c.in-Ok.ensures.only event (trail ++ tail) begins (trail_ends levels (await_opened event) tail ends)
     (is ∙ ap encode_utf8_all (append_assoc (opening_text event) trail tail)) in
     or_memory_then _ _ c.beside.result (λ read same. ap seen_event same ∙ found.0)
     (memory_beside c.in-Ok.event c.go_behind-behind.result c.beside.result c.beside.ensures.goes c.beside.ensures.stops

@@ -1,0 +1,73 @@
+-- What was read of the beginning of a node, piece by piece; each piece can be read in one way only.
+use Rattle.std.specs.Prelude.{◌≡◌, true, false, Option, None, Some, Result, Ok, Err, List, ℕ, ◌++◌}
+use Rattle.std.specs.Str.{all_scalars, encode_utf8_all}
+use Rattle.yaml_base.specs.Characters.{Text}
+use Rattle.yaml_base.specs.Event.{Event, any_style}
+use Rattle.yaml_base.specs.Tags.{tag_fault}
+use Rattle.yaml_base.specs.graphs.DumpedText.{tag_text}
+use Rattle.yaml_base.specs.graphs.Meetings.{Held, opening_event_of, scalar_held}
+use Rattle.yaml_base.specs.values.ValueText.{in_quotes}
+use Rattle.yaml_read.specs.EventTexts.{BeginsNode, ends_name, opening_text}
+use Rattle.yaml_read.specs.WrittenTags.{HasHeldText}
+use Rattle.yaml_read.specs.declared.errors.Stop.{Stop}
+use Rattle.yaml_read.specs.declared.errors.Stop.TheVariants as stop
+
+-- something was read, or it isn't there, or memory gave out
+abbrev pub ReadOr : {T : Type 0} → (Read : T → Type 0) (Absent : Type 0) → Result T Stop → Type 0
+ReadOr Read Absent (Ok found) = Read found
+ReadOr Read Absent (Err stop.Memory) = Unit {0}
+ReadOr Read Absent (Err _) = Absent
+
+-- a scalar's value, of a node with this anchor and this tag
+pub record IsScalarRead (anchor : Option Text) (tag : Text) (text : List ℕ) (event : Event) (rest : List ℕ) : Type 0 where
+  pub value : Text
+  pub scalars : all_scalars value ≡ true
+  pub is : event ≡ opening_event_of anchor tag (scalar_held value any_style)
+  pub parts : text ≡ encode_utf8_all (in_quotes value) ++ rest
+  pub only : (other after : Text) → all_scalars other ≡ true → text ≡ encode_utf8_all (in_quotes other ++ after)
+      → (value ≡ other) × (rest ≡ encode_utf8_all after)
+
+abbrev pub NoScalar : (text : List ℕ) → Type 0
+NoScalar text = (value rest : Text) → all_scalars value ≡ true → text ≡ encode_utf8_all (in_quotes value ++ rest) → ⊥
+
+-- what stands behind such a node's tag
+pub record IsHeldRead (anchor : Option Text) (tag : Text) (text : List ℕ) (event : Event) (rest : List ℕ) : Type 0 where
+  pub held : Held
+  pub written : Text
+  pub has : HasHeldText held written
+  pub is : event ≡ opening_event_of anchor tag held
+  pub parts : text ≡ encode_utf8_all written ++ rest
+  pub only : (other : Held) (written after : Text) → HasHeldText other written → text ≡ encode_utf8_all (written ++ after)
+      → (held ≡ other) × (rest ≡ encode_utf8_all after)
+
+abbrev pub NoHeld : (text : List ℕ) → Type 0
+NoHeld text = (held : Held) (written rest : Text) → HasHeldText held written → text ≡ encode_utf8_all (written ++ rest) → ⊥
+
+-- a node with this anchor, from its tag on
+pub record IsTaggedRead (anchor : Option Text) (text : List ℕ) (event : Event) (rest : List ℕ) : Type 0 where
+  pub tag : Text
+  pub held : Held
+  pub written : Text
+  pub sound : tag_fault tag ≡ None
+  pub scalars : all_scalars tag ≡ true
+  pub has : HasHeldText held written
+  pub is : event ≡ opening_event_of anchor tag held
+  pub parts : text ≡ encode_utf8_all (tag_text (Some tag) false ++ written) ++ rest
+  pub only : (other : Text) (held : Held) (written after : Text) → tag_fault other ≡ None → all_scalars other ≡ true → HasHeldText held written
+      → text ≡ encode_utf8_all (tag_text (Some other) false ++ (written ++ after))
+      → (event ≡ opening_event_of anchor other held) × (rest ≡ encode_utf8_all after)
+
+abbrev pub NoTagged : (text : List ℕ) → Type 0
+NoTagged text =
+    (tag : Text) (held : Held) (written rest : Text) → tag_fault tag ≡ None → all_scalars tag ≡ true → HasHeldText held written
+    → text ≡ encode_utf8_all (tag_text (Some tag) false ++ (written ++ rest)) → ⊥
+
+-- the beginning of a node
+pub record IsOpeningRead (text : List ℕ) (event : Event) (rest : List ℕ) : Type 0 where
+  pub begins : BeginsNode event
+  pub parts : text ≡ encode_utf8_all (opening_text event) ++ rest
+  pub only : (other : Event) (after : Text) → BeginsNode other → ends_name after ≡ true → text ≡ encode_utf8_all (opening_text other ++ after)
+      → (event ≡ other) × (rest ≡ encode_utf8_all after)
+
+abbrev pub NoOpening : (text : List ℕ) → Type 0
+NoOpening text = (event : Event) (rest : Text) → BeginsNode event → ends_name rest ≡ true → text ≡ encode_utf8_all (opening_text event ++ rest) → ⊥
