@@ -2,14 +2,13 @@
 use Rattle.yaml_base.proofs.Common.{ℕ, ◌-◌, ◌+◌, ◌*◌, suc, true, false, Option, None, Some, List, [], ◌∷◌, ◌++◌, refl, ◌≡◌, ap, subst, sym, ◌∙◌, append_assoc}
 use Rattle.yaml_base.proofs.Common.{append-nil, arith, codes, false≢true, length, Text, encode_utf8_all}
 use Rattle.yaml_base.specs.values.ValueText.{line_at}
-use Rattle.std.{specs.Prelude.Result, specs.Prelude.Ok, specs.Prelude.Err, specs.Prelude.IfOk, specs.Prelude.Vec}
+use Rattle.std.{specs.Prelude.Result, specs.Prelude.Ok, specs.Prelude.Err, specs.Prelude.Vec}
 use Rattle.std.{proofs.lemmas.List.append_cancel_left, specs.Borrow.Bor, specs.Option.MatchOption, specs.Option.option_to_list, proofs.Common.vec_len}
 use Rattle.yaml_read.specs.Awaits.{EntryStands, IsInnermostAwait, IsLastAwait, LeadStands, awaits_onto, can_end, seen_await, seen_awaits}
 use Rattle.yaml_read.specs.EventTexts.{Pending, closing_text, item_awaited, key_awaited, lead_text, next_awaited, left_open, outside, trail_text, value_awaited}
 use Rattle.yaml_read.specs.declared.levels.Entry.TheVariants.{Another, End}
 use Rattle.yaml_read.proofs.{Words.no_word, Encoded.are_ascii, Encoded.line_encoded, Encoded.word_encoded, Turns.line_deeper}
-use Rattle.yaml_read.specs.{Words.OrMemory, Words.past_word, declared.errors.Stop.Stop, declared.leads.Await.Await, declared.levels.Entry.Entry}
-use Rattle.yaml_read.specs.declared.errors.Stop.TheVariants as stop
+use Rattle.yaml_read.specs.{Words.past_word, declared.errors.Stop.Stop, declared.leads.Await.Await, declared.levels.Entry.Entry}
 
 -- ---- the code's list
 
@@ -49,15 +48,6 @@ pub taken_off : {A : Type 0} (old new : Vec Await A) (found : Option Await) → 
 taken_off old new None is cases =
     no_awaits new.items (omega (arith, cases.1, new.ok.0)) ∙ sym (ap outside (no_awaits old.items (omega (arith, cases.0, old.ok.0))))
 taken_off old new (Some awaited) is cases = sym (ap (λ awaits. outside (seen_awaits awaits)) is ∙ ap outside (await_more new.items awaited))
-
--- ---- results
-
-pub or_memory_by : {T : Type 0} (result : Result T Stop) (P Q : T → Type 0) → OrMemory (λ _. Unit {0}) result → IfOk result P
-    → ((found : T) → P found → Q found) → OrMemory Q result
-or_memory_by (Ok found) P Q read holds leads = leads found holds
-or_memory_by (Err stop.Memory) P Q read holds leads = tt
-or_memory_by (Err (stop.Refused left)) P Q read holds leads = read
-or_memory_by (Err (stop.TooDeep left)) P Q read holds leads = read
 
 -- ---- what stands before an event
 
@@ -179,10 +169,9 @@ node_left levels outer now awaited next word text rest is now_is next_is word_is
   parts ∙ ap (λ w. w ++ rest) (word_is ∙ ap trail_text (sym is)),
 )
 
-pub node_stays : (levels outer : List Pending) (awaited : Pending) (word text tail : List ℕ) → levels ≡ awaited ∷ outer → word ≡ trail_text (awaited ∷ outer)
-    → past_word word text ≡ None → text ≡ trail_text levels ++ tail → ⊥
-node_stays levels outer awaited word text tail is word_is none parts =
-    no_word word text tail none (parts ∙ ap (λ w. w ++ tail) (ap trail_text is ∙ sym word_is))
+pub node_stays : (levels outer : List Pending) (awaited : Pending) (word text : List ℕ) → levels ≡ awaited ∷ outer → word ≡ trail_text (awaited ∷ outer)
+    → past_word word text ≡ None → past_word (trail_text levels) text ≡ None
+node_stays levels outer awaited word text is word_is none = ap (λ w. past_word w text) (ap trail_text is ∙ sym word_is) ∙ none
 
 -- ---- in UTF-8
 

@@ -3,15 +3,17 @@ use Rattle.yaml_base.proofs.Common.{ℕ, [], ◌∷◌, ◌++◌, ◌≡◌, ◌
 use Rattle.yaml_base.proofs.Common.{All, All-head, All-tail, codes, inl, inr, line_feed, Text, encode_utf8_all, Event, alias, scalar, sequence_start}
 use Rattle.yaml_base.proofs.Common.{sequence_end, mapping_start, mapping_end, stream_start, stream_end, document_start, document_end, length, arith}
 use Rattle.yaml_base.{proofs.Common.length-append, proofs.Common.length-le-encodes, specs.values.ValueText.in_quotes}
-use Rattle.std.specs.Prelude.{Result, Ok, Err, IfErr}
-use Rattle.std.{proofs.lemmas.List.Elements.All-nil, proofs.lemmas.List.Elements.All-push, proofs.lemmas.Str.encodes-append}
+use Rattle.std.specs.{Prelude.Result, Prelude.Ok, Prelude.Err, Prelude.map, Prelude.◌==◌, Borrow.Bor}
+use Rattle.std.proofs.lemmas.{List.append_cancel_left, List.map-append, List.Elements.All-nil, List.Elements.All-push, Str.encodes-append}
 use Rattle.yaml_read.specs.EventTexts.{Pending, HasBegunText, HasRunText, IsInNode, closing_text, ends_name, event_text, item_awaited, key_awaited, lead_text}
 use Rattle.yaml_read.specs.EventTexts.{may_come, more_come, none_begun, one_more, next_open, left_open, outside, root_ends, value_awaited, BeginsNode}
 use Rattle.yaml_read.specs.EventTexts.{begins_node, ends_mapping, ends_sequence, is_alias, is_mapping, is_scalar, is_sequence, opening_text, trail_text}
 use Rattle.yaml_read.specs.RunPlaces.{RunStops, StopsAmong, bare_start, behind_root, in_document, in_event, IsWithin, NoEventBegins}
+use Rattle.yaml_read.specs.Beginnings.{ReadOr}
+use Rattle.yaml_read.specs.EventReads.{EndDue, EndRead, IsEventRead, RootRead, RunAnswer, RunEnded, RunFails}
 use Rattle.yaml_read.proofs.EventSteps.{behind_text, end_shorter, mapping_ends, node_event, sequence_ends}
 use Rattle.yaml_read.specs.EventSteps.{ReadsEvent, await_opened, text_behind_lead, trail_behind_opening}
-use Rattle.yaml_read.{specs.Words.OrMemory, specs.declared.errors.Stop.Stop, proofs.Encoded.word_encoded}
+use Rattle.yaml_read.{specs.Words.OrMemory, specs.Words.past_word, specs.declared.errors.Stop.Stop, proofs.Encoded.word_encoded, proofs.Words.no_word}
 use Rattle.yaml_read.specs.declared.errors.Stop.TheVariants as stop
 
 -- ---- a name ends before an event in a collection
@@ -94,16 +96,7 @@ pub record RunBegun (whole : List ℕ) (found : List Event) (levels : List Pendi
   pub in_node : All IsInNode events
   pub parts : whole ≡ encode_utf8_all text ++ bytes
 
--- they are those of the whole root
-pub record RunEnded (whole : List ℕ) (found : List Event) (bytes : List ℕ) : Type 0 where
-  pub events : List Event
-  pub text : Text
-  pub found_are : found ≡ document_start bare_start ∷ events
-  pub run : HasRunText [] events text
-  pub in_node : All IsInNode events
-  pub parts : whole ≡ encode_utf8_all text ++ bytes
-
--- one of both, by what is open
+-- or those of the whole root, by what is open
 abbrev pub RunRead : (whole : List ℕ) (found : List Event) → Option (List Pending) → (bytes : List ℕ) → Type 0
 RunRead whole found None bytes = RunEnded whole found bytes
 RunRead whole found (Some levels) bytes = RunBegun whole found levels bytes
@@ -153,12 +146,7 @@ pub record EventsDue (events found : List Event) (levels : List Pending) (bytes 
   pub in_node : All IsInNode later
   pub bytes_are : bytes ≡ encode_utf8_all (text ++ line_feed ∷ [])
 
--- nothing but the document's end is due, behind the root
-pub record EndDue (events found : List Event) (bytes : List ℕ) : Type 0 where
-  pub all : in_document events ≡ found ++ document_end true ∷ []
-  pub bytes_are : bytes ≡ codes "\n"
-
--- one of both, by what is open
+-- or nothing but the document's end is, by what is open
 abbrev pub IsRunDue : (events found : List Event) → Option (List Pending) → (bytes : List ℕ) → Type 0
 IsRunDue events found None bytes = EndDue events found bytes
 IsRunDue events found (Some levels) bytes = EventsDue events found levels bytes
@@ -267,19 +255,18 @@ run_begins whole found levels is none =
     (subst (λ (l : List Pending). RunBegun whole (document_start bare_start ∷ []) l whole × RunDue whole (document_start bare_start ∷ []) (Some l) whole)
     (sym none) (nothing_read whole, all_due whole))
 
-pub run_goes : (whole : List ℕ) (found new : List Event) (levels : List Pending) (bytes rest : List ℕ) (after : Option (List Pending)) (event : Event)
-    → new ≡ found ++ event ∷ [] → RunBegun whole found levels bytes → RunDue whole found (Some levels) bytes → ReadsEvent levels bytes after event rest
-    → ((other : Event) (tail : Text) → IsInNode other → may_come levels other ≡ true → ends_name tail ≡ true
-    → bytes ≡ encode_utf8_all (event_text levels other ++ tail) → event ≡ other)
+pub run_goes : (whole : List ℕ) (found new : List Event) (levels : List Pending) (bytes rest : List ℕ) (after : Option (List Pending))
+    → RunBegun whole found levels bytes → RunDue whole found (Some levels) bytes → IsEventRead found levels bytes new after rest
     → RunRead whole new after rest × RunDue whole new after rest
-run_goes whole found new levels bytes rest after event is begun due read same =
-    subst (λ (f : List Event). RunRead whole f after rest × RunDue whole f after rest) (sym is) (
-      event_more whole found levels bytes rest after event begun read,
+run_goes whole found new levels bytes rest after begun due one =
+    subst (λ (f : List Event). RunRead whole f after rest × RunDue whole f after rest) (sym one.pushed) (
+      event_more whole found levels bytes rest after one.event begun one.read,
       record {
         due = λ events node run in_node whole_is.
             let here = due.due events node run in_node whole_is in
             let next = next_of events found levels bytes here in
-            due_more events found levels bytes rest after event here (same next.event next.tail next.in_node next.comes next.ends next.bytes_are) read;
+            due_more events found levels bytes rest after one.event here
+            (one.only next.event next.tail next.in_node next.comes next.ends next.bytes_are) one.read;
       },
     )
 
@@ -308,29 +295,81 @@ stops_among whole found levels bytes (stop.Refused left) begun none within =
 stops_among whole found levels bytes (stop.TooDeep left) begun none within = within
 stops_among whole found levels bytes stop.Memory begun none within = tt
 
-pub stops_at_event : {T : Type 0} (whole : List ℕ) (found : List Event) (levels : List Pending) (bytes : List ℕ) (reason error : Stop)
-    (Holds : Event → T → Type 0) → RunBegun whole found levels bytes
-    → ((event : Event) (tail : Text) → IsInNode event → may_come levels event ≡ true → ends_name tail ≡ true
-    → bytes ≡ encode_utf8_all (event_text levels event ++ tail) → OrMemory (Holds event) (Err reason))
-    → IsWithin bytes reason error → RunStops whole error
-stops_at_event whole found levels bytes (stop.Refused left) error Holds begun reads within = stops_among whole found levels bytes error begun reads within
-stops_at_event whole found levels bytes (stop.TooDeep left) error Holds begun reads within = stops_among whole found levels bytes error begun reads within
-stops_at_event whole found levels bytes stop.Memory error Holds begun reads within = memory_stops whole error within
+-- no event goes on
+no_run : (whole : List ℕ) (found : List Event) (levels : List Pending) (bytes : List ℕ) → RunDue whole found (Some levels) bytes
+    → NoEventBegins levels bytes → (error : Stop) (events : List Event) (node : Text) → HasRunText [] events node → All IsInNode events
+    → whole ≡ encode_utf8_all (node ++ line_feed ∷ []) → error ≡ stop.Memory
+no_run whole found levels bytes due none error events node run in_node is =
+    let next = next_of events found levels bytes (due.due events node run in_node is) in
+    absurd (none next.event next.tail next.in_node next.comes next.ends next.bytes_are)
 
--- what an error within holds of what was found
-pub within_reads : {S T : Type 0} (Holds : T → Type 0) (Held : S → Type 0) (bytes : List ℕ) (reason error : Stop) → IsWithin bytes reason error
-    → OrMemory Held (Err reason) → OrMemory Holds (Err error)
-within_reads Holds Held bytes (stop.Refused left) error within reads = absurd reads
-within_reads Holds Held bytes (stop.TooDeep left) error within reads = absurd reads
-within_reads Holds Held bytes stop.Memory error within reads = subst (λ (e : Stop). OrMemory Holds (Err e)) (sym within) tt
+pub fails_at_event : (whole : List ℕ) (found : List Event) (levels : List Pending) (bytes : List ℕ) (reason error : Stop)
+    → RunBegun whole found levels bytes → RunDue whole found (Some levels) bytes
+    → ReadOr (λ (_ : List ℕ). Unit {0}) (NoEventBegins levels bytes) (Err reason) → IsWithin bytes reason error → RunFails whole error
+fails_at_event whole found levels bytes stop.Memory error begun due none within =
+    record { stops = memory_stops whole error within; reads = λ events node run in_node is. within }
+fails_at_event whole found levels bytes (stop.Refused left) error begun due none within =
+    record { stops = stops_among whole found levels bytes error begun none within; reads = no_run whole found levels bytes due none error }
+fails_at_event whole found levels bytes (stop.TooDeep left) error begun due none within =
+    record { stops = stops_among whole found levels bytes error begun none within; reads = no_run whole found levels bytes due none error }
 
-pub stops_at_end : {T : Type 0} (whole : List ℕ) (found : List Event) (bytes : List ℕ) (result : Result T Stop) (Holds : T → Type 0)
-    → RunEnded whole found bytes → (bytes ≡ codes "\n" → OrMemory Holds result) → IfErr result (StopsAmong bytes) → IfErr result (RunStops whole)
-stops_at_end whole found bytes (Ok given) Holds ended reads within = tt
-stops_at_end whole found bytes (Err (stop.Refused left)) Holds ended reads within =
-    behind_root ended.events ended.text bytes ended.run ended.parts (λ is. reads is) within
-stops_at_end whole found bytes (Err (stop.TooDeep left)) Holds ended reads within = within
-stops_at_end whole found bytes (Err stop.Memory) Holds ended reads within = tt
+pub memory_fails : (whole : List ℕ) (error : Stop) → error ≡ stop.Memory → RunFails whole error
+memory_fails whole error is = record { stops = memory_stops whole error is; reads = λ events node run in_node whole_is. is }
+
+-- the root has ended
+pub root_ended : (whole : List ℕ) (found : List Event) (bytes : List ℕ) → RunEnded whole found bytes × RunDue whole found None bytes
+    → RunEnded whole found bytes
+    × ((events : List Event) (node : Text) → HasRunText [] events node → All IsInNode events → whole ≡ encode_utf8_all (node ++ line_feed ∷ [])
+    → EndDue events found bytes)
+root_ended whole found bytes ended = (ended.0, ended.1.due)
+
+refused_other : (left : ℕ) → stop.Refused left ≡ stop.Memory → ⊥
+refused_other left is = cc
+
+-- and the document's end follows it, or it doesn't
+pub run_ends : {T : Type 0} (whole : List ℕ) (found new : List Event) (end : Bor (List ℕ)) (result : Result T Stop) → RootRead whole found (Ok end)
+    → EndRead found end.now new result → RunAnswer whole new result
+run_ends whole found new end (Ok given) root read =
+    record {
+      sound = run_sound whole found new end.now root.0 read.0 read.1;
+      only = λ events node run in_node is. read.0 ∙ sym (root.1 events node run in_node is).all;
+    }
+run_ends whole found new end (Err error) root read =
+    record {
+      stops = end_stops whole found end.now error root.0 read.0 read.1;
+      reads = λ events node run in_node is. read.1 (root.1 events node run in_node is).bytes_are;
+    }
+  where
+    end_stops : (whole : List ℕ) (found : List Event) (bytes : List ℕ) (error : Stop) → RunEnded whole found bytes → StopsAmong bytes error
+        → (bytes ≡ codes "\n" → error ≡ stop.Memory) → RunStops whole error
+    end_stops whole found bytes (stop.Refused left) ended within memory =
+        behind_root ended.events ended.text bytes ended.run ended.parts (λ is. refused_other left (memory is)) within
+    end_stops whole found bytes (stop.TooDeep left) ended within memory = within
+    end_stops whole found bytes stop.Memory ended within memory = tt
+
+-- the document's end, where memory for it was found
+pub end_answer : {T E : Type 0} (seen : E → Event) (bytes : List ℕ) (old new : List E) (last : E) (result : Result T Stop) → seen last ≡ document_end true
+    → bytes ≡ codes "\n" → OrMemory (λ _. new ≡ old ++ last ∷ []) result → EndRead (map seen old) bytes (map seen new) result
+end_answer seen bytes old new last (Ok given) ends is pushed =
+    (ap (map seen) pushed ∙ map-append seen old (last ∷ []) ∙ ap (λ (e : Event). map seen old ++ e ∷ []) ends, is)
+end_answer seen bytes old new last (Err stop.Memory) ends is pushed = (tt, λ _. refl)
+end_answer seen bytes old new last (Err (stop.Refused left)) ends is pushed = absurd pushed
+end_answer seen bytes old new last (Err (stop.TooDeep left)) ends is pushed = absurd pushed
+
+-- why the document's end isn't read
+pub end_absent : (bytes : List ℕ) (error : Stop) → past_word (codes "\n") bytes ≡ None → error ≡ stop.Refused (length bytes)
+    → StopsAmong bytes error × (bytes ≡ codes "\n" → error ≡ stop.Memory)
+end_absent bytes error none here = (
+  subst (StopsAmong bytes) (sym here) (omega arith),
+  λ is. absurd (no_word (codes "\n") bytes [] none is),
+)
+
+pub end_unread : (bytes end : List ℕ) (error : Stop) → bytes ≡ codes "\n" ++ end → (length end == 0) ≡ false → error ≡ stop.Refused (length end)
+    → StopsAmong bytes error × (bytes ≡ codes "\n" → error ≡ stop.Memory)
+end_unread bytes end error is some here = (
+  subst (StopsAmong bytes) (sym here) (omega (arith, ap length is)),
+  λ also. absurd (false≢true (sym some ∙ ap (λ t. length t == 0) (append_cancel_left (codes "\n") end [] (sym is ∙ also)))),
+)
 
 -- ---- less is left
 

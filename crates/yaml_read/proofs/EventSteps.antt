@@ -2,15 +2,15 @@
 use Rattle.yaml_base.proofs.Common.{ℕ, ◌<◌, true, false, Option, None, Some, List, [], ◌∷◌, ◌++◌, refl, ◌≡◌, ap, subst, sym, ◌∙◌, append_assoc, append-nil}
 use Rattle.yaml_base.proofs.Common.{arith, false≢true, length, length-append, Text, encode_utf8_all, Event, alias, scalar, sequence_start, sequence_end}
 use Rattle.yaml_base.proofs.Common.{mapping_start, mapping_end, Scalar, Collection}
-use Rattle.std.specs.Prelude.{Result, Ok, Err, IfErr, IfOk}
+use Rattle.std.specs.Prelude.{Err}
 use Rattle.std.{proofs.lemmas.List.append_cancel_left, proofs.lemmas.Str.encodes-append, specs.Borrow.Bor}
 use Rattle.yaml_read.specs.EventSteps.{GoesTo, ReadsEvent, ReadsNode, await_opened, open_behind_opening, text_behind_lead, trail_behind_opening}
 use Rattle.yaml_read.specs.EventTexts.{Pending, BeginsNode, IsInNode, begins_node, closing_text, ends_mapping, ends_name, ends_sequence, event_text, is_alias}
 use Rattle.yaml_read.specs.EventTexts.{is_mapping, is_scalar, is_sequence, item_awaited, key_awaited, lead_text, may_come, next_open, left_open, opening_text}
 use Rattle.yaml_read.specs.EventTexts.{outside, trail_text, value_awaited}
 use Rattle.yaml_read.specs.{Awaits.IsInnermostAwait, Awaits.LeadStands, Awaits.can_end, Awaits.closing_event, Awaits.seen_await, declared.leads.Await.Await}
-use Rattle.yaml_read.specs.{declared.errors.Stop.Stop, Words.OrMemory, declared.steps.Progress.Progress, declared.steps.Progress.TheVariants.Continues}
-use Rattle.yaml_read.proofs.{Awaits.closing_encoded, Awaits.lead_encoded, Awaits.lead_or_end, Awaits.trail_encoded, Words.error_stays, Words.no_word}
+use Rattle.yaml_read.specs.{declared.errors.Stop.Stop, declared.steps.Progress.TheVariants.Continues}
+use Rattle.yaml_read.proofs.{Awaits.closing_encoded, Awaits.lead_encoded, Awaits.lead_or_end, Awaits.trail_encoded, Words.no_word}
 
 -- ---- an event that begins a node
 
@@ -236,18 +236,3 @@ pub end_due : (levels : List Pending) (event : Event) (tail : Text) (bytes rest 
     → bytes ≡ closing_text levels ++ rest → (closing_event levels ≡ event) × (rest ≡ trail_text (outside levels) ++ encode_utf8_all tail)
 end_due levels event tail bytes rest (node_comes begins is) can found = absurd (lead_or_end levels _ rest can (sym is ∙ found))
 end_due levels event tail bytes rest (end_comes also same is) can found = (same, append_cancel_left (closing_text levels) rest _ (sym found ∙ is))
-
--- ---- an event beside what follows it
-
-pub goes_beside : {E : Type 0} (Goes : Progress → Type 0) (event : E) (behind : Result Progress Stop) (result : Result (E × Progress) Stop)
-    → IfOk result (λ found. (found.0 ≡ event) × (behind ≡ Ok found.1)) → IfOk behind Goes → IfOk result (λ found. (found.0 ≡ event) × Goes found.1)
-goes_beside Goes event behind (Ok found) is goes = (is.0, subst (λ (answer : Result Progress Stop). IfOk answer Goes) is.1 goes)
-goes_beside Goes event behind (Err error) is goes = tt
-
-pub memory_beside : {E : Type 0} (event : E) (behind : Result Progress Stop) (result : Result (E × Progress) Stop)
-    → IfOk result (λ found. (found.0 ≡ event) × (behind ≡ Ok found.1)) → IfErr result (λ error. behind ≡ Err error)
-    → OrMemory (λ _. Unit {0}) behind → OrMemory (λ found. found.0 ≡ event) result
-memory_beside {E} event behind (Ok found) is stops reads = is.0
-memory_beside {E} event behind (Err error) is stops reads =
-    error_stays (λ (_ : Progress). Unit {0}) (λ (found : E × Progress). found.0 ≡ event) error
-    (subst (λ (answer : Result Progress Stop). OrMemory (λ _. Unit {0}) answer) stops reads)

@@ -6,7 +6,7 @@ use Rattle.yaml_base.specs.{scalars.DoubleQuoted.quote, values.ValueText.in_quot
 use Rattle.std.{specs.Prelude.Result, specs.Prelude.Ok, specs.Prelude.Err, specs.Prelude.String, proofs.lemmas.List.append_cancel_left}
 use Rattle.std.{proofs.lemmas.Str.encodes-append, proofs.lemmas.Str.IsUtf8-string_bytes, proofs.lemmas.Str.scalars-chars, specs.String.string_bytes}
 use Rattle.yaml_read.proofs.TagTexts.{IsSpelled, is_spelled, of_document, of_type, whole}
-use Rattle.yaml_read.specs.Words.{OrMemory, past_word}
+use Rattle.yaml_read.specs.{Places.IsWholeWord, Words.OrMemory, Words.past_word}
 use Rattle.yaml_read.specs.EventTexts.{BeginsNode, IsAnchor, ends_name, is_alias, is_mapping, is_scalar, is_sequence, opening_text}
 use Rattle.yaml_read.specs.WrittenTags.{HasHeldText, mapping_opened, sequence_opened, value_quoted}
 use Rattle.yaml_read.specs.Beginnings.{IsHeldRead, IsOpeningRead, IsScalarRead, IsTaggedRead, ReadOr}
@@ -368,16 +368,17 @@ memory_only Held stop.Memory is = refl
 memory_only Held (stop.Refused left) is = absurd is
 memory_only Held (stop.TooDeep left) is = absurd is
 
--- what is there isn't absent
-pub memory_lacks : {S T Absent : Type 0} (Read : S → Type 0) (Holds : T → Type 0) (error : Stop) → (Absent → ⊥) → ReadOr Read Absent (Err error)
-    → OrMemory Holds (Err error)
-memory_lacks Read Holds stop.Memory there is = tt
-memory_lacks Read Holds (stop.Refused left) there is = there is
-memory_lacks Read Holds (stop.TooDeep left) there is = there is
+pub memory_reads : (Absent : Type 0) (error : Stop) → OrMemory (λ (_ : List ℕ). Unit {0}) (Err error) → ReadOr (λ (_ : List ℕ). Unit {0}) Absent (Err error)
+memory_reads Absent error is = none_read Absent error (λ other. absurd (other (memory_only (λ (_ : List ℕ). Unit {0}) error is)))
 
--- what holds of what was found holds of it by another word
-pub or_memory_then : {T : Type 0} (P Q : T → Type 0) (result : Result T Stop) → ((found : T) → P found → Q found) → OrMemory P result → OrMemory Q result
-or_memory_then P Q (Ok found) more is = more found is
-or_memory_then P Q (Err (stop.Refused left)) more is = is
-or_memory_then P Q (Err (stop.TooDeep left)) more is = is
-or_memory_then P Q (Err stop.Memory) more is = tt
+-- with it something else is absent
+pub absent_then : (P Q : Type 0) (error : Stop) → (P → Q) → ReadOr (λ (_ : List ℕ). Unit {0}) P (Err error) → ReadOr (λ (_ : List ℕ). Unit {0}) Q (Err error)
+absent_then P Q error then_is is = read_or_then (λ (_ : List ℕ). Unit {0}) (λ (_ : List ℕ). Unit {0}) (Err error) (λ _ found. found) then_is is
+
+-- what is refused as a whole is absent
+pub whole_absent : (Absent : Type 0) (bytes : List ℕ) (reason error : Stop) → IsWholeWord bytes reason error
+    → ReadOr (λ (_ : List ℕ). Unit {0}) Absent (Err reason) → ReadOr (λ (_ : List ℕ). Unit {0}) Absent (Err error)
+whole_absent Absent bytes stop.Memory error is none =
+    subst (λ (e : Stop). ReadOr (λ (_ : List ℕ). Unit {0}) Absent (Err e)) (sym is) tt
+whole_absent Absent bytes (stop.Refused left) error is none = none_read Absent error (λ _. none)
+whole_absent Absent bytes (stop.TooDeep left) error is none = none_read Absent error (λ _. none)

@@ -3,12 +3,13 @@ use Rattle.std.specs.Prelude.{◌≡◌, true, false, Option, None, Some, Result
 use Rattle.std.specs.Str.{all_scalars, encode_utf8_all}
 use Rattle.yaml_base.specs.Characters.{Text}
 use Rattle.yaml_base.specs.Event.{Event, any_style}
-use Rattle.yaml_base.specs.Tags.{tag_fault}
+use Rattle.yaml_base.specs.Percent.{percent_escaped}
+use Rattle.yaml_base.specs.Tags.{alias_fault, tag_fault}
 use Rattle.yaml_base.specs.graphs.DumpedText.{tag_text}
 use Rattle.yaml_base.specs.graphs.Meetings.{Held, opening_event_of, scalar_held}
 use Rattle.yaml_base.specs.values.ValueText.{in_quotes}
 use Rattle.yaml_read.specs.EventTexts.{BeginsNode, ends_name, opening_text}
-use Rattle.yaml_read.specs.WrittenTags.{HasHeldText}
+use Rattle.yaml_read.specs.WrittenTags.{HasHeldText, ends_tag}
 use Rattle.yaml_read.specs.declared.errors.Stop.{Stop}
 use Rattle.yaml_read.specs.declared.errors.Stop.TheVariants as stop
 
@@ -17,6 +18,38 @@ abbrev pub ReadOr : {T : Type 0} → (Read : T → Type 0) (Absent : Type 0) →
 ReadOr Read Absent (Ok found) = Read found
 ReadOr Read Absent (Err stop.Memory) = Unit {0}
 ReadOr Read Absent (Err _) = Absent
+
+-- a name, up to where it ends
+pub record IsNameRead (text : List ℕ) (name : Text) (rest : List ℕ) : Type 0 where
+  pub named : alias_fault name ≡ None
+  pub parts : text ≡ encode_utf8_all name ++ rest
+  pub only : (other after : Text) → alias_fault other ≡ None → ends_name after ≡ true → text ≡ encode_utf8_all (other ++ after)
+      → (name ≡ other) × (rest ≡ encode_utf8_all after)
+
+abbrev pub NoName : (text : List ℕ) → Type 0
+NoName text = (name rest : Text) → alias_fault name ≡ None → ends_name rest ≡ true → text ≡ encode_utf8_all (name ++ rest) → ⊥
+
+-- percent forms up to where none follows, behind the prefix that their tag's handle stands for
+pub record IsEscapedRead (prefix : Text) (text : List ℕ) (value : Text) (rest : List ℕ) : Type 0 where
+  pub word : Text
+  pub is : value ≡ prefix ++ word
+  pub parts : text ≡ percent_escaped word ++ rest
+  pub only : (other after : Text) → all_scalars other ≡ true → ends_tag after ≡ true → text ≡ encode_utf8_all (percent_escaped other ++ after)
+      → (value ≡ prefix ++ other) × (rest ≡ encode_utf8_all after)
+
+abbrev pub NoEscaped : (text : List ℕ) → Type 0
+NoEscaped text =
+    (word rest : Text) → all_scalars word ≡ true → ends_tag rest ≡ true → text ≡ encode_utf8_all (percent_escaped word ++ rest) → ⊥
+
+-- a tag and the space behind it
+pub record IsTagRead (text : List ℕ) (tag : Text) (rest : List ℕ) : Type 0 where
+  pub sound : tag_fault tag ≡ None
+  pub parts : text ≡ encode_utf8_all (tag_text (Some tag) false) ++ rest
+  pub only : (other after : Text) → tag_fault other ≡ None → all_scalars other ≡ true → text ≡ encode_utf8_all (tag_text (Some other) false ++ after)
+      → (tag ≡ other) × (rest ≡ encode_utf8_all after)
+
+abbrev pub NoTag : (text : List ℕ) → Type 0
+NoTag text = (tag rest : Text) → tag_fault tag ≡ None → all_scalars tag ≡ true → text ≡ encode_utf8_all (tag_text (Some tag) false ++ rest) → ⊥
 
 -- a scalar's value, of a node with this anchor and this tag
 pub record IsScalarRead (anchor : Option Text) (tag : Text) (text : List ℕ) (event : Event) (rest : List ℕ) : Type 0 where

@@ -19,3 +19,6 @@ pub mod Awaits
 pub mod EventSteps
 pub mod WrittenTags
 pub mod Beginnings
+pub mod EventReads
+pub mod Digits
+pub mod Quoted

@@ -129,10 +129,7 @@ fn read_alias<A: Allocator>(alloc: A, text: &str) -> Result<(yaml_event_t<A>, &s
 }
 
 /// Returns the event with which a node begins, from its anchor's name on, behind its `&`, and what follows.
-fn read_anchored<A: Allocator + Copy>(
-    alloc: A,
-    text: &str,
-) -> Result<(yaml_event_t<A>, &str), Stop>
+fn read_anchored<A: Allocator + Copy>(alloc: A, text: &str) -> Result<(yaml_event_t<A>, &str), Stop>
     ensures { ReadOr (λ found. IsOpeningRead (codes "&" ++ text.now) (seen_event found.0) found.1.now) (NoOpening (codes "&" ++ text.now)) result }
 {
     match read_name(alloc, text) {

@@ -1,14 +1,16 @@
 //! Texts between double quotes, in their one spelling.
-ghost use Rattle.std.specs.Prelude.{ℕ, ◌≡◌, ◌∷◌, ◌++◌, ◌+◌, ◌*◌, ◌<◌, ◌≤◌, [], true, Some, None, IfOk, IfSome, IfErr, MatchOption, is_some, length};
+ghost use Rattle.std.specs.Prelude.{ℕ, ◌≡◌, ◌∷◌, ◌++◌, ◌<◌, ◌≤◌, [], true, Some, None, IfOk, IfSome, IfErr, MatchOption, is_some, length};
 ghost use Rattle.std.specs.Str.{all_scalars, encode_utf8_all};
 ghost use Rattle.yaml_base.specs.Characters.{Text, hex_digit, hex_digits};
 ghost use Rattle.yaml_base.specs.Seen.{seen_text};
 ghost use Rattle.yaml_base.specs.reading.ReadDouble.{digit_meaning, letter_meaning};
 ghost use Rattle.yaml_base.specs.scalars.DoubleQuoted as double;
 ghost use Rattle.yaml_base.specs.values.ValueText.{in_quotes};
+ghost use Rattle.yaml_read.specs.Digits.{DigitsRead};
 ghost use Rattle.yaml_read.specs.Grammar.{quoted_text};
 ghost use Rattle.yaml_read.specs.Heads.{ReadsCharacter};
 ghost use Rattle.yaml_read.specs.Places.{BreaksAt};
+ghost use Rattle.yaml_read.specs.Quoted.{QuotedRead};
 ghost use Rattle.yaml_read.specs.Sound.{IsCharacter, IsEscape, NumberRead};
 ghost use Rattle.yaml_read.specs.Words.{OrMemory};
 
@@ -80,10 +82,7 @@ fn digit_of(c: char) -> Option<u32>
 
 /// Returns a hexadecimal digit, and what follows.
 fn read_digit(text: &str) -> Option<(u32, &str)>
-    ensures reads { (d : ℕ) (rest : Text) → d < 16 → text.now ≡ encode_utf8_all (hex_digit d ∷ rest)
-        → MatchOption result ⊥ (λ found. (found.0 ≡ d) × (found.1.now ≡ encode_utf8_all rest)) }
-    ensures sound { IfSome result (λ found. text.now ≡ encode_utf8_all (hex_digit found.0 ∷ []) ++ found.1.now) }
-    ensures small { IfSome result (λ found. found.0 < 16) }
+    ensures { DigitsRead 16 (λ d. hex_digit d ∷ []) text.now result }
 {
     match first(text) {
         Some((c, rest)) => match digit_of(c) {
@@ -96,10 +95,7 @@ fn read_digit(text: &str) -> Option<(u32, &str)>
 
 /// Returns a number of two hexadecimal digits, and what follows.
 pub(crate) fn read_two_digits(text: &str) -> Option<(u32, &str)>
-    ensures reads { (n : ℕ) (rest : Text) → n < 256 → text.now ≡ encode_utf8_all (hex_digits 2 n ++ rest)
-        → MatchOption result ⊥ (λ found. (found.0 ≡ n) × (found.1.now ≡ encode_utf8_all rest)) }
-    ensures sound { IfSome result (λ found. text.now ≡ encode_utf8_all (hex_digits 2 found.0) ++ found.1.now) }
-    ensures small { IfSome result (λ found. found.0 < 256) }
+    ensures { DigitsRead 256 (hex_digits 2) text.now result }
 {
     match read_digit(text) {
         Some((upper, behind)) => match read_digit(behind) {
@@ -112,10 +108,7 @@ pub(crate) fn read_two_digits(text: &str) -> Option<(u32, &str)>
 
 /// Returns a number of four hexadecimal digits, and what follows.
 fn read_four_digits(text: &str) -> Option<(u32, &str)>
-    ensures reads { (n : ℕ) (rest : Text) → n < 65536 → text.now ≡ encode_utf8_all (hex_digits 4 n ++ rest)
-        → MatchOption result ⊥ (λ found. (found.0 ≡ n) × (found.1.now ≡ encode_utf8_all rest)) }
-    ensures sound { IfSome result (λ found. text.now ≡ encode_utf8_all (hex_digits 4 found.0) ++ found.1.now) }
-    ensures small { IfSome result (λ found. found.0 < 65536) }
+    ensures { DigitsRead 65536 (hex_digits 4) text.now result }
 {
     match read_two_digits(text) {
         Some((upper, behind)) => match read_two_digits(behind) {
@@ -215,12 +208,8 @@ fn read_character(text: &str) -> Option<(char, &str)>
 }
 
 /// Returns a text from its opening quote on, and what follows its closing quote.
-pub(crate) fn read_quoted<A: Allocator>(alloc: A, text: &str) -> Result<(String<A>, &str), Stop>
-    ensures reads { (value rest : Text) → all_scalars value ≡ true → text.now ≡ encode_utf8_all (in_quotes value ++ rest)
-        → OrMemory (λ found. (seen_text found.0 ≡ value) × (found.1.now ≡ encode_utf8_all rest)) result }
-    ensures sound { IfOk result (λ found. text.now ≡ encode_utf8_all (in_quotes (seen_text found.0)) ++ found.1.now) }
-    ensures breaks { IfErr result (BreaksAt quoted_text text.now) }
-    ensures shorter { IfOk result (λ found. length found.1.now < length text.now) }
+fn read_between<A: Allocator>(alloc: A, text: &str) -> Result<(String<A>, &str), Stop>
+    ensures { QuotedRead text.now result }
 {
     let mut value = String::new(alloc);
     let mut rest = match after(text, "\"") {
@@ -242,4 +231,15 @@ pub(crate) fn read_quoted<A: Allocator>(alloc: A, text: &str) -> Result<(String<
         }
         rest = next;
     }
+}
+
+/// Returns a text from its opening quote on, and what follows its closing quote.
+pub(crate) fn read_quoted<A: Allocator>(alloc: A, text: &str) -> Result<(String<A>, &str), Stop>
+    ensures reads { (value rest : Text) → all_scalars value ≡ true → text.now ≡ encode_utf8_all (in_quotes value ++ rest)
+        → OrMemory (λ found. (seen_text found.0 ≡ value) × (found.1.now ≡ encode_utf8_all rest)) result }
+    ensures sound { IfOk result (λ found. text.now ≡ encode_utf8_all (in_quotes (seen_text found.0)) ++ found.1.now) }
+    ensures breaks { IfErr result (BreaksAt quoted_text text.now) }
+    ensures shorter { IfOk result (λ found. length found.1.now < length text.now) }
+{
+    read_between(alloc, text)
 }

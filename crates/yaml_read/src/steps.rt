@@ -1,14 +1,13 @@
 //! The events of a document, one at a time.
-ghost use Rattle.std.specs.Prelude.{◌≡◌, ◌++◌, ◌∷◌, true, Err, IfErr, IfOk, List, Ok, ℕ};
-ghost use Rattle.std.specs.Str.{encode_utf8_all};
-ghost use Rattle.yaml_base.specs.Characters.{Text};
-ghost use Rattle.yaml_base.specs.Event.{Event};
+ghost use Rattle.std.specs.Prelude.{◌≡◌, ◌++◌, ◌∷◌, [], List, None, map};
 ghost use Rattle.yaml_base.specs.Seen.{seen_event};
 ghost use Rattle.yaml_read.specs.Awaits.{IsInnermostAwait, closing_event, seen_await, seen_awaits};
-ghost use Rattle.yaml_read.specs.EventSteps.{GoesTo, ReadsEvent, ReadsNode, await_opened, bytes_behind, open_behind_opening, open_now, text_behind_lead};
-ghost use Rattle.yaml_read.specs.EventSteps.{trail_behind_opening};
-ghost use Rattle.yaml_read.specs.EventTexts.{Pending, BeginsNode, IsInNode, ends_name, event_text, may_come, next_awaited, left_open, outside, trail_text};
-ghost use Rattle.yaml_read.specs.Words.{OrMemory};
+ghost use Rattle.yaml_read.specs.Beginnings.{ReadOr};
+ghost use Rattle.yaml_read.specs.EventReads.{IsEventRead, IsNodeRead, NoNode};
+ghost use Rattle.yaml_read.specs.EventSteps.{GoesTo, await_opened, bytes_behind, open_behind_opening, open_now, trail_behind_opening};
+ghost use Rattle.yaml_read.specs.EventTexts.{Pending, next_awaited, left_open, outside, trail_text};
+ghost use Rattle.yaml_read.specs.RunPlaces.{NoEventBegins};
+ghost use Rattle.yaml_read.specs.Words.{OrMemory, past_word};
 
 use crate::cuts::after;
 use crate::errors::Stop;
@@ -56,9 +55,8 @@ fn leave_node<'a, A: Allocator>(
     awaits: &mut Vec<Await, A>,
     text: &'a str,
 ) -> Result<Progress<'a>, Stop>
-    ensures moved { IfOk result (GoesTo (left_open (seen_awaits awaits.old.items)) (trail_text (seen_awaits awaits.old.items)) text.now
-        (seen_awaits awaits.new.items)) }
-    ensures reads { (tail : List ℕ) → text.now ≡ trail_text (seen_awaits awaits.old.items) ++ tail → OrMemory (λ _. Unit {0}) result }
+    ensures { ReadOr (GoesTo (left_open (seen_awaits awaits.old.items)) (trail_text (seen_awaits awaits.old.items)) text.now
+        (seen_awaits awaits.new.items)) (past_word (trail_text (seen_awaits awaits.old.items)) text.now ≡ None) result }
 {
     match awaits.pop() {
         None => Ok(Progress::RootEnds(text)),
@@ -78,9 +76,9 @@ fn go_behind<'a, A: Allocator>(
     opened: Option<Await>,
     text: &'a str,
 ) -> Result<Progress<'a>, Stop>
-    ensures moved { IfOk result (GoesTo (open_behind_opening (seen_awaits awaits.old.items) opened)
-        (trail_behind_opening (seen_awaits awaits.old.items) opened) text.now (seen_awaits awaits.new.items)) }
-    ensures reads { (tail : List ℕ) → text.now ≡ trail_behind_opening (seen_awaits awaits.old.items) opened ++ tail → OrMemory (λ _. Unit {0}) result }
+    ensures { ReadOr (GoesTo (open_behind_opening (seen_awaits awaits.old.items) opened)
+        (trail_behind_opening (seen_awaits awaits.old.items) opened) text.now (seen_awaits awaits.new.items))
+        (past_word (trail_behind_opening (seen_awaits awaits.old.items) opened) text.now ≡ None) result }
 {
     match opened {
         None => leave_node(awaits, text),
@@ -125,77 +123,73 @@ fn end_event<A: Allocator>(innermost: Option<Await>) -> yaml_event_t<A>
     }
 }
 
-/// Returns an event with what follows it, where that was read.
-fn beside<'a, E: Drop>(
-    event: E,
-    behind: Result<Progress<'a>, Stop>,
-) -> Result<(E, Progress<'a>), Stop>
-    ensures goes { IfOk result (λ found. (found.0 ≡ event) × (behind.entry ≡ Ok found.1)) }
-    ensures stops { IfErr result (λ error. behind.entry ≡ Err error) }
+/// Adds a value to a list.
+pub(crate) fn push<T: Drop, A: Allocator>(list: &mut Vec<T, A>, value: T) -> Result<(), Stop>
+    ensures { OrMemory (λ _. list.new.items ≡ list.old.items ++ value ∷ []) result }
 {
-    match behind {
-        Ok(progress) => Ok((event, progress)),
-        Err(stop) => Err(stop),
+    match list.push(value) {
+        Ok(()) => {}
+        Err(_) => return Err(Stop::Memory),
     }
+    Ok(())
 }
 
-/// Returns the event with which a node begins, and what follows it, behind what leads to it.
+/// Reads the event with which a node begins, behind what leads to it, and says what follows it.
 fn read_node<'a, A: Allocator + Copy>(
     alloc: A,
+    events: &mut Vec<yaml_event_t<A>, A>,
     awaits: &mut Vec<Await, A>,
     text: &'a str,
-) -> Result<(yaml_event_t<A>, Progress<'a>), Stop>
-    ensures sound { IfOk result (λ found. ReadsNode (seen_awaits awaits.old.items) text.now (open_now (seen_awaits awaits.new.items) found.1)
-        (seen_event found.0) (bytes_behind found.1)) }
-    ensures reads { (event : Event) (tail : Text) → BeginsNode event → ends_name tail ≡ true
-        → text.now ≡ encode_utf8_all (text_behind_lead (seen_awaits awaits.old.items) event ++ tail)
-        → OrMemory (λ found. seen_event found.0 ≡ event) result }
+) -> Result<Progress<'a>, Stop>
+    ensures { ReadOr (λ found. IsNodeRead (map seen_event events.old.items) (seen_awaits awaits.old.items) text.now (map seen_event events.new.items)
+        (open_now (seen_awaits awaits.new.items) found) (bytes_behind found)) (NoNode (seen_awaits awaits.old.items) text.now) result }
 {
     match read_opening(alloc, text) {
         Ok((event, rest)) => {
-            let behind = go_behind(awaits, opened_by(&event), rest);
-            beside(event, behind)
+            let opened = opened_by(&event);
+            match push(events, event) {
+                Ok(()) => go_behind(awaits, opened, rest),
+                Err(stop) => Err(stop),
+            }
         }
         Err(stop) => Err(stop),
     }
 }
 
-/// Returns the event with which the innermost collection ends, and what follows it, behind its closing bracket.
+/// Reads the event with which the innermost collection ends, behind its closing bracket, and says what follows it.
 fn read_end<'a, A: Allocator>(
+    events: &mut Vec<yaml_event_t<A>, A>,
     awaits: &mut Vec<Await, A>,
     innermost: Option<Await>,
     text: &'a str,
-) -> Result<(yaml_event_t<A>, Progress<'a>), Stop>
-    ensures sound { IsInnermostAwait (seen_awaits awaits.old.items) innermost → IfOk result (λ found.
-        (seen_event found.0 ≡ closing_event (seen_awaits awaits.old.items))
+) -> Result<Progress<'a>, Stop>
+    ensures { IsInnermostAwait (seen_awaits awaits.old.items) innermost → ReadOr (λ found.
+        (map seen_event events.new.items ≡ map seen_event events.old.items ++ closing_event (seen_awaits awaits.old.items) ∷ [])
         × GoesTo (left_open (outside (seen_awaits awaits.old.items))) (trail_text (outside (seen_awaits awaits.old.items))) text.now
-        (seen_awaits awaits.new.items) found.1) }
-    ensures reads { (tail : List ℕ) → text.now ≡ trail_text (outside (seen_awaits awaits.old.items)) ++ tail → OrMemory (λ _. Unit {0}) result }
+        (seen_awaits awaits.new.items) found) (past_word (trail_text (outside (seen_awaits awaits.old.items))) text.now ≡ None) result }
 {
     let _last = awaits.pop();
-    match leave_node(awaits, text) {
-        Ok(progress) => Ok((end_event(innermost), progress)),
+    match push(events, end_event(innermost)) {
+        Ok(()) => leave_node(awaits, text),
         Err(stop) => Err(stop),
     }
 }
 
-/// Returns the next event, and what follows it.
+/// Reads the next event, and says what follows it.
 pub(crate) fn read_event<'a, A: Allocator + Copy>(
     alloc: A,
+    events: &mut Vec<yaml_event_t<A>, A>,
     awaits: &mut Vec<Await, A>,
     text: &'a str,
-) -> Result<(yaml_event_t<A>, Progress<'a>), Stop>
-    ensures sound { IfOk result (λ found. ReadsEvent (seen_awaits awaits.old.items) text.now (open_now (seen_awaits awaits.new.items) found.1)
-        (seen_event found.0) (bytes_behind found.1)) }
-    ensures reads { (event : Event) (tail : Text) → IsInNode event → may_come (seen_awaits awaits.old.items) event ≡ true → ends_name tail ≡ true
-        → text.now ≡ encode_utf8_all (event_text (seen_awaits awaits.old.items) event ++ tail)
-        → OrMemory (λ found. seen_event found.0 ≡ event) result }
+) -> Result<Progress<'a>, Stop>
+    ensures { ReadOr (λ found. IsEventRead (map seen_event events.old.items) (seen_awaits awaits.old.items) text.now (map seen_event events.new.items)
+        (open_now (seen_awaits awaits.new.items) found) (bytes_behind found)) (NoEventBegins (seen_awaits awaits.old.items) text.now) result }
 {
     let last = innermost(awaits);
     match read_lead(last, awaits.len(), text) {
         Ok(lead) => match lead {
-            Entry::Another(rest) => read_node(alloc, awaits, rest),
-            Entry::End(rest) => read_end(awaits, last, rest),
+            Entry::Another(rest) => read_node(alloc, events, awaits, rest),
+            Entry::End(rest) => read_end(events, awaits, last, rest),
         },
         Err(stop) => Err(stop),
     }

@@ -1,16 +1,13 @@
 //! Tags, verbatim or behind a handle, each in its one spelling.
-ghost use Rattle.std.specs.Prelude.{◌≡◌, ◌++◌, Some, None, true, false, IfOk, IsTrue, chars, is_some, nat_lt};
+ghost use Rattle.std.specs.Prelude.{◌≡◌, List, IsTrue, chars, is_some, nat_lt, ℕ};
 ghost use Rattle.std.specs.List.{list_all};
-ghost use Rattle.std.specs.Str.{all_scalars, encode_utf8_all};
-ghost use Rattle.yaml_base.specs.Characters.{Text};
-ghost use Rattle.yaml_base.specs.Percent.{is_tag_character, percent_escaped};
+ghost use Rattle.yaml_base.specs.Percent.{is_tag_character};
 ghost use Rattle.yaml_base.specs.Seen.{seen_text};
-ghost use Rattle.yaml_base.specs.Tags.{behind, tag_fault};
-ghost use Rattle.yaml_base.specs.graphs.DumpedText.{tag_text};
-ghost use Rattle.yaml_read.specs.WrittenTags.{ByteRead, HandleRead, ends_tag, is_spelled_by};
-ghost use Rattle.yaml_read.specs.Words.{OrMemory};
+ghost use Rattle.yaml_base.specs.Tags.{behind};
+ghost use Rattle.yaml_read.specs.Beginnings.{IsEscapedRead, IsTagRead, NoEscaped, NoTag, ReadOr};
+ghost use Rattle.yaml_read.specs.WrittenTags.{ByteRead, HandleRead, OpensTag, is_spelled_by};
 
-use crate::cuts::{first, past};
+use crate::cuts::{after, first, past};
 use crate::errors::{Stop, refused_at, refused_whole};
 use crate::quoted::read_two_digits;
 use std::alloc::Allocator;
@@ -60,9 +57,7 @@ fn read_escaped<'a, A: Allocator>(
     text: &'a str,
 ) -> Result<(String<A>, &'a str), Stop>
     requires { IsTrue (list_all (λ byte. nat_lt byte 128) prefix.now) }
-    ensures reads { (word rest : Text) → all_scalars word ≡ true → ends_tag rest ≡ true → text.now ≡ encode_utf8_all (percent_escaped word ++ rest)
-        → OrMemory (λ found. (seen_text found.0 ≡ prefix.now ++ word) × (found.1.now ≡ encode_utf8_all rest)) result }
-    ensures sound { IfOk result (λ found. (word : Text) × (seen_text found.0 ≡ prefix.now ++ word) × (text.now ≡ percent_escaped word ++ found.1.now)) }
+    ensures { ReadOr (λ found. IsEscapedRead prefix.now text.now (seen_text found.0) found.1.now) (NoEscaped text.now) result }
 {
     let mut bytes = match Vec::from_slice(alloc, prefix.as_bytes()) {
         Ok(bytes) => bytes,
@@ -132,32 +127,44 @@ fn read_handle(text: &str) -> Option<(&'static str, &'static str, &str)>
     }
 }
 
+/// Returns a tag behind the handle that stands for a prefix, which is ASCII, and what follows the tag's end.
+fn read_spelled<'a, A: Allocator>(
+    alloc: A,
+    prefix: &'static str,
+    end: &'static str,
+    text: &'a str,
+) -> Result<(String<A>, &'a str), Stop>
+    requires { IsTrue (list_all (λ byte. nat_lt byte 128) prefix.now) }
+    ensures { (whole : List ℕ) → OpensTag whole prefix.now end.now text.now
+        → ReadOr (λ found. IsTagRead whole (seen_text found.0) found.1.now) (NoTag whole) result }
+{
+    match read_escaped(alloc, prefix, text) {
+        Ok((tag, behind)) => match after(behind, end) {
+            Ok(rest) => {
+                if is_spelled_by(tag.as_str(), prefix) {
+                    Ok((tag, rest))
+                } else {
+                    Err(refused_at(behind))
+                }
+            }
+            Err(stop) => Err(stop),
+        },
+        Err(stop) => Err(stop),
+    }
+}
+
 /// Returns a tag and what follows the space behind it. What can't be read is refused as a whole.
 pub(crate) fn read_written_tag<A: Allocator>(
     alloc: A,
     text: &str,
 ) -> Result<(String<A>, &str), Stop>
-    ensures reads { (tag rest : Text) → tag_fault tag ≡ None → all_scalars tag ≡ true → text.now ≡ encode_utf8_all (tag_text (Some tag) false ++ rest)
-        → OrMemory (λ found. (seen_text found.0 ≡ tag) × (found.1.now ≡ encode_utf8_all rest)) result }
-    ensures sound { IfOk result (λ found. (tag_fault (seen_text found.0) ≡ None)
-        × (text.now ≡ encode_utf8_all (tag_text (Some (seen_text found.0)) false) ++ found.1.now)) }
+    ensures { ReadOr (λ found. IsTagRead text.now (seen_text found.0) found.1.now) (NoTag text.now) result }
 {
-    let (prefix, end, inside) = match read_handle(text) {
-        Some(found) => found,
-        None => return Err(refused_at(text)),
-    };
-    let (tag, behind) = match read_escaped(alloc, prefix, inside) {
-        Ok(found) => found,
-        Err(reason) => return Err(refused_whole(reason, text)),
-    };
-    match past(behind, end) {
-        Some(rest) => {
-            if is_spelled_by(tag.as_str(), prefix) {
-                Ok((tag, rest))
-            } else {
-                Err(refused_at(text))
-            }
-        }
+    match read_handle(text) {
+        Some((prefix, end, inside)) => match read_spelled(alloc, prefix, end, inside) {
+            Ok(found) => Ok(found),
+            Err(reason) => Err(refused_whole(reason, text)),
+        },
         None => Err(refused_at(text)),
     }
 }

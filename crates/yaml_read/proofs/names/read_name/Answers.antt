@@ -1,30 +1,31 @@
 use Rattle.std.proofs.Common.{sym, ◌∙◌}
 use Rattle.yaml_read.proofs.NameTexts.{copied_name, name_boundary, name_cut, name_found, name_sound, name_there}
+use Rattle.yaml_read.{proofs.NodeTexts.none_read, specs.Beginnings.NoName}
 use Rattle.yaml_read.proofs.names.read_name.Goals as goal
 
 pub split_at-requires : goal.split_at-requires
 split_at-requires g c = name_boundary c.args.text.now c.name_length.result c.utf8.text c.name_length.ensures
 
-pub returns-then-is_empty-clause-reads : goal.returns-then-is_empty-clause-reads
-returns-then-is_empty-clause-reads g c =
-    λ name rest named ends is.
+pub returns-then-is_empty : goal.returns-then-is_empty
+returns-then-is_empty g c =
     let text = c.args.text.now in
     let cut = name_cut text c.split_at.result.0.now c.split_at.result.1.now c.name_length.result c.name_length.ensures
     c.split_at.ensures.front c.split_at.ensures.back c.split_at.ensures.front_len in
-    absurd (name_there text c.split_at.result.0.now c.split_at.result.1.now name rest cut named ends is (sym c.is_empty.ensures ∙ c.if-is_empty.true))
+    none_read (NoName text) c.refused_at.result
+    (λ _ name rest named ends is.
+    name_there text c.split_at.result.0.now c.split_at.result.1.now name rest cut named ends is (sym c.is_empty.ensures ∙ c.if-is_empty.true))
 
-pub returns-in-Ok-clause-reads : goal.returns-in-Ok-clause-reads
-returns-in-Ok-clause-reads g c =
-    λ name rest named ends is.
+pub returns-in-Ok : goal.returns-in-Ok
+returns-in-Ok g c =
     let text = c.args.text.now in
     let cut = name_cut text c.split_at.result.0.now c.split_at.result.1.now c.name_length.result c.name_length.ensures
     c.split_at.ensures.front c.split_at.ensures.back c.split_at.ensures.front_len in
-    let found = name_found text c.split_at.result.0.now c.split_at.result.1.now name rest cut named ends is in
-    (copied_name c.in-Ok.name text c.split_at.result.0.now c.split_at.result.1.now cut c.in-Ok.ensures.ok ∙ found.0, found.1)
-
-pub returns-in-Ok-clause-sound : goal.returns-in-Ok-clause-sound
-returns-in-Ok-clause-sound g c =
-    let text = c.args.text.now in
-    let cut = name_cut text c.split_at.result.0.now c.split_at.result.1.now c.name_length.result c.name_length.ensures
-    c.split_at.ensures.front c.split_at.ensures.back c.split_at.ensures.front_len in
-    name_sound c.in-Ok.name text c.split_at.result.0.now c.split_at.result.1.now cut c.in-Ok.ensures.ok (sym c.is_empty.ensures ∙ c.if-is_empty.false)
+    let sound = name_sound c.in-Ok.name text c.split_at.result.0.now c.split_at.result.1.now cut c.in-Ok.ensures.ok
+    (sym c.is_empty.ensures ∙ c.if-is_empty.false) in
+    record {
+      named = sound.0;
+      parts = sound.1;
+      only = λ name rest named ends is.
+          let found = name_found text c.split_at.result.0.now c.split_at.result.1.now name rest cut named ends is in
+          (copied_name c.in-Ok.name text c.split_at.result.0.now c.split_at.result.1.now cut c.in-Ok.ensures.ok ∙ found.0, found.1);
+    }

@@ -1,21 +1,27 @@
 use Rattle.std.proofs.Common.{ap, sym, ◌∙◌, ◌++◌}
-use Rattle.std.{proofs.lemmas.Option.none-some, proofs.lemmas.List.append-nil, specs.Prelude.encode_utf8}
+use Rattle.std.{proofs.lemmas.Option.none-some, proofs.lemmas.Option.same_Some, proofs.lemmas.List.append-nil, specs.Prelude.encode_utf8}
 use Rattle.yaml_base.{specs.Characters.hex_digit, specs.reading.ReadDouble.digit_meaning}
-use Rattle.yaml_read.{proofs.Escapes.digit_reads, proofs.Firsts.first_is, proofs.Firsts.not_empty, proofs.CharactersRead.digit_is}
+use Rattle.yaml_read.proofs.{Escapes.digit_reads, Firsts.first_is, Firsts.not_empty, CharactersRead.digit_is, QuotedReads.digit_small}
 use Rattle.yaml_read.proofs.quoted.read_digit.Goals as goal
 
-pub returns-in-None-clause-reads : goal.returns-in-None-clause-reads
-returns-in-None-clause-reads c = λ d rest few is. absurd (not_empty c.args.text.now (hex_digit d) rest is c.in-None.ensures.cut)
+pub returns-in-None : goal.returns-in-None
+returns-in-None c = λ d rest few is. not_empty c.args.text.now (hex_digit d) rest is c.in-None.ensures.cut
 
-pub returns-in-None-digit_of-clause-reads : goal.returns-in-None-digit_of-clause-reads
-returns-in-None-digit_of-clause-reads c =
+pub returns-in-None-digit_of : goal.returns-in-None-digit_of
+returns-in-None-digit_of c =
     λ d rest few is.
-    let first = first_is c.args.text.now c.in-Some.rest.now c.in-Some.c (hex_digit d) rest
-    c.in-Some.ensures.cut is in
-    absurd (none-some d (c.in-None-digit_of.ensures ∙ ap digit_meaning first.0 ∙ digit_reads d few))
+    let first = first_is c.args.text.now c.in-Some.rest.now c.in-Some.c (hex_digit d) rest c.in-Some.ensures.cut is in
+    none-some d (c.in-None-digit_of.ensures ∙ ap digit_meaning first.0 ∙ digit_reads d few)
 
-pub returns-in-Some-digit_of-clause-sound : goal.returns-in-Some-digit_of-clause-sound
-returns-in-Some-digit_of-clause-sound c =
-    c.in-Some.ensures.cut
-    ∙ ap (λ d. encode_utf8 d ++ c.in-Some.rest.now) (digit_is c.in-Some.c c.in-Some-digit_of.digit (sym c.in-Some-digit_of.ensures))
-    ∙ ap (λ t. t ++ c.in-Some.rest.now) (sym (append-nil (encode_utf8 (hex_digit c.in-Some-digit_of.digit))))
+pub returns-in-Some-digit_of : goal.returns-in-Some-digit_of
+returns-in-Some-digit_of c =
+    record {
+      below = digit_small c.in-Some.c c.in-Some-digit_of.digit (sym c.in-Some-digit_of.ensures);
+      parts =
+          c.in-Some.ensures.cut
+          ∙ ap (λ d. encode_utf8 d ++ c.in-Some.rest.now) (digit_is c.in-Some.c c.in-Some-digit_of.digit (sym c.in-Some-digit_of.ensures))
+          ∙ ap (λ t. t ++ c.in-Some.rest.now) (sym (append-nil (encode_utf8 (hex_digit c.in-Some-digit_of.digit))));
+      only = λ d rest few is.
+          let first = first_is c.args.text.now c.in-Some.rest.now c.in-Some.c (hex_digit d) rest c.in-Some.ensures.cut is in
+          (same_Some c.in-Some-digit_of.digit d (c.in-Some-digit_of.ensures ∙ ap digit_meaning first.0 ∙ digit_reads d few), first.1);
+    }

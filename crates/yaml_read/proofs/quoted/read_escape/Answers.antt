@@ -1,6 +1,8 @@
 use Rattle.std.proofs.Common.{◌++◌, ◌<◌, ap, sym, ◌∙◌, arith}
 use Rattle.std.{specs.Prelude.encode_utf8, proofs.lemmas.Option.IfSome_then}
 use Rattle.yaml_read.proofs.FirstCharacters.{escape_there, four_digits_follow, letter_follows, read_on, two_digits_follow}
+use Rattle.yaml_base.specs.Characters.{hex_digits}
+use Rattle.yaml_read.proofs.QuotedReads.{digits_reads, digits_sound}
 use Rattle.yaml_read.proofs.CharactersRead.{letter_read, letter_scalar, long_read, number_reads, number_sound, short_read}
 use Rattle.yaml_read.proofs.quoted.read_escape.Goals as goal
 
@@ -13,15 +15,17 @@ returns-then-letter-eq120-clause-reads c =
     λ d rest scalar needs is.
     let two = two_digits_follow d rest c.in-Some.letter c.args.text.now c.in-Some.rest.now scalar needs is c.in-Some.ensures.cut
     c.if-letter-eq120.true in
-    number_reads 0 d rest c.read_two_digits.result c.read_number.result (c.read_two_digits.ensures.reads d rest two.0 two.2) c.read_number.ensures scalar
-    needs two.1 (omega arith)
+    number_reads 0 d rest c.read_two_digits.result c.read_number.result
+    (digits_reads 256 (hex_digits 2) c.in-Some.rest.now c.read_two_digits.result c.read_two_digits.ensures d rest two.0 two.2)
+    c.read_number.ensures scalar needs two.1 (omega arith)
 
 pub returns-then-letter-eq117-clause-reads : goal.returns-then-letter-eq117-clause-reads
 returns-then-letter-eq117-clause-reads c =
     λ d rest scalar needs is.
     let four = four_digits_follow d rest c.in-Some.letter c.args.text.now c.in-Some.rest.now scalar needs is c.in-Some.ensures.cut
     c.if-letter-eq117.true in
-    number_reads 256 d rest c.read_four_digits.result c.read_number-then-letter-eq117.result (c.read_four_digits.ensures.reads d rest four.1 four.3)
+    number_reads 256 d rest c.read_four_digits.result c.read_number-then-letter-eq117.result
+    (digits_reads 65536 (hex_digits 4) c.in-Some.rest.now c.read_four_digits.result c.read_four_digits.ensures d rest four.1 four.3)
     c.read_number-then-letter-eq117.ensures scalar needs four.2 four.0
 
 pub returns-else-letter-eq117-clause-reads : goal.returns-else-letter-eq117-clause-reads
@@ -33,17 +37,18 @@ returns-else-letter-eq117-clause-reads c =
 
 pub returns-then-letter-eq120-clause-sound : goal.returns-then-letter-eq120-clause-sound
 returns-then-letter-eq120-clause-sound c =
+    let sound = digits_sound 256 (hex_digits 2) c.in-Some.rest.now c.read_two_digits.result c.read_two_digits.ensures in
     IfSome_then c.read_number.result
-    (number_sound 2 0 c.in-Some.rest.now (λ n. n < 256) c.read_two_digits.result c.read_number.result c.read_two_digits.ensures.sound
-    c.read_two_digits.ensures.small c.read_number.ensures)
+    (number_sound 2 0 c.in-Some.rest.now (λ n. n < 256) c.read_two_digits.result c.read_number.result sound.0 sound.1 c.read_number.ensures)
     (λ found is. short_read c.args.text.now c.in-Some.rest.now found.1.now c.in-Some.letter found.0 is.0 is.2 c.in-Some.ensures.cut
     c.if-letter-eq120.true)
 
 pub returns-then-letter-eq117-clause-sound : goal.returns-then-letter-eq117-clause-sound
 returns-then-letter-eq117-clause-sound c =
+    let sound = digits_sound 65536 (hex_digits 4) c.in-Some.rest.now c.read_four_digits.result c.read_four_digits.ensures in
     IfSome_then c.read_number-then-letter-eq117.result
-    (number_sound 4 256 c.in-Some.rest.now (λ n. n < 65536) c.read_four_digits.result c.read_number-then-letter-eq117.result
-    c.read_four_digits.ensures.sound c.read_four_digits.ensures.small c.read_number-then-letter-eq117.ensures)
+    (number_sound 4 256 c.in-Some.rest.now (λ n. n < 65536) c.read_four_digits.result c.read_number-then-letter-eq117.result sound.0 sound.1
+    c.read_number-then-letter-eq117.ensures)
     (λ found is. long_read c.args.text.now c.in-Some.rest.now found.1.now c.in-Some.letter found.0 is.0 is.1 is.2 c.in-Some.ensures.cut
     c.if-letter-eq117.true)
 

@@ -3,24 +3,24 @@ use Rattle.yaml_base.specs.Characters.{hex_digit}
 use Rattle.yaml_read.proofs.CharactersRead.{two_read}
 use Rattle.yaml_read.proofs.quoted.read_two_digits.Goals as goal
 
-pub returns-in-None-clause-reads : goal.returns-in-None-clause-reads
-returns-in-None-clause-reads c =
-    λ n rest few is. absurd (c.in-None.ensures.reads (n / 16 % 16) (hex_digit (n % 16) ∷ rest) (omega arith) is)
+pub returns-in-None : goal.returns-in-None
+returns-in-None c = λ n rest few is. c.in-None.ensures (n / 16 % 16) (hex_digit (n % 16) ∷ rest) (omega arith) is
 
-pub returns-in-None-read_digit-clause-reads : goal.returns-in-None-read_digit-clause-reads
-returns-in-None-read_digit-clause-reads c =
+pub returns-in-None-read_digit : goal.returns-in-None-read_digit
+returns-in-None-read_digit c =
     λ n rest few is.
-    let upper = c.in-Some.ensures.reads (n / 16 % 16) (hex_digit (n % 16) ∷ rest) (omega arith) is in
-    absurd (c.in-None-read_digit.ensures.reads (n % 16) rest (omega arith) upper.1)
+    let upper = c.in-Some.ensures.only (n / 16 % 16) (hex_digit (n % 16) ∷ rest) (omega arith) is in
+    c.in-None-read_digit.ensures (n % 16) rest (omega arith) upper.1
 
-pub returns-in-Some-read_digit-clause-reads : goal.returns-in-Some-read_digit-clause-reads
-returns-in-Some-read_digit-clause-reads c =
-    λ n rest few is.
-    let upper = c.in-Some.ensures.reads (n / 16 % 16) (hex_digit (n % 16) ∷ rest) (omega arith) is in
-    let lower = c.in-Some-read_digit.ensures.reads (n % 16) rest (omega arith) upper.1 in
-    (omega (arith, upper.0, lower.0, few), lower.1)
-
-pub returns-in-Some-read_digit-clause-sound : goal.returns-in-Some-read_digit-clause-sound
-returns-in-Some-read_digit-clause-sound c =
-    two_read c.args.text.now c.in-Some.behind.now c.in-Some-read_digit.rest.now c.in-Some.upper c.in-Some-read_digit.lower c.in-Some.ensures.small
-    c.in-Some-read_digit.ensures.small c.in-Some.ensures.sound c.in-Some-read_digit.ensures.sound
+pub returns-in-Some-read_digit : goal.returns-in-Some-read_digit
+returns-in-Some-read_digit c =
+    record {
+      below = omega (arith, c.in-Some.ensures.below, c.in-Some-read_digit.ensures.below);
+      parts =
+          two_read c.args.text.now c.in-Some.behind.now c.in-Some-read_digit.rest.now c.in-Some.upper c.in-Some-read_digit.lower c.in-Some.ensures.below
+          c.in-Some-read_digit.ensures.below c.in-Some.ensures.parts c.in-Some-read_digit.ensures.parts;
+      only = λ n rest few is.
+          let upper = c.in-Some.ensures.only (n / 16 % 16) (hex_digit (n % 16) ∷ rest) (omega arith) is in
+          let lower = c.in-Some-read_digit.ensures.only (n % 16) rest (omega arith) upper.1 in
+          (omega (arith, upper.0, lower.0, few), lower.1);
+    }

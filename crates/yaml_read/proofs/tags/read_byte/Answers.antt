@@ -12,7 +12,7 @@ returns-in-None-read_two_digits c =
     let tail = c.in-Some.found.1.now in
     let form = form_follows byte rest c.in-Some.found.0 tail (first_of_byte byte rest c.in-Some.found.0 c.args.text.now tail c.in-Some.ensures.cut is)
     c.if-c-eq37.true in
-    c.in-None-read_two_digits.ensures.reads byte rest few form.1
+    c.in-None-read_two_digits.ensures byte rest few form.1
 
 pub returns-then-is_tag_character : goal.returns-then-is_tag_character
 returns-then-is_tag_character c =
@@ -21,13 +21,13 @@ returns-then-is_tag_character c =
     let form = form_follows byte rest c.in-Some.found.0 tail (first_of_byte byte rest c.in-Some.found.0 c.args.text.now tail c.in-Some.ensures.cut is)
     c.if-c-eq37.true in
     true≢false (sym c.if-is_tag_character.true ∙ c.is_tag_character.ensures
-    ∙ ap is_tag_character (c.in-Some-read_two_digits.ensures.reads byte rest few form.1).0 ∙ form.0)
+    ∙ ap is_tag_character (c.in-Some-read_two_digits.ensures.only byte rest few form.1).0 ∙ form.0)
 
 pub returns-else-is_tag_character : goal.returns-else-is_tag_character
 returns-else-is_tag_character c = (
   form_read c.args.text.now c.in-Some.found.1.now c.in-Some-read_two_digits.behind.now c.in-Some.found.0 c.in-Some-read_two_digits.number c.in-Some.ensures.cut
-      c.if-c-eq37.true c.in-Some-read_two_digits.ensures.sound (sym c.is_tag_character.ensures ∙ c.if-is_tag_character.false),
-  c.in-Some-read_two_digits.ensures.small,
+      c.if-c-eq37.true c.in-Some-read_two_digits.ensures.parts (sym c.is_tag_character.ensures ∙ c.if-is_tag_character.false),
+  c.in-Some-read_two_digits.ensures.below,
 )
 
 pub returns-then-is_tag_character-2 : goal.returns-then-is_tag_character-2

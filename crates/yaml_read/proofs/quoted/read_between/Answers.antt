@@ -1,0 +1,76 @@
+use Rattle.std.proofs.Common.{◌∷◌, List, [], ℕ, None, Some, inl, refl, subst, sym, rules, arith, codes, string_bytes}
+use Rattle.yaml_read.proofs.{QuotedTexts.ReadsOn, QuotedTexts.reads_more, QuotedTexts.text_read, Breaking.missing, CharactersRead.one_more}
+use Rattle.yaml_read.proofs.{QuotedTexts.opening_there, BreakingNodes.no_character, BreakingNodes.passes_character, BreakingNodes.passes_quote}
+use Rattle.yaml_read.proofs.{QuotedTexts.reads_first, BreakingNodes.utf8_left, CharactersRead.ReadSoFar, CharactersRead.all_read, CharactersRead.none_yet}
+use Rattle.yaml_read.specs.{Grammar.characters}
+use Rattle.yaml_read.proofs.CharactersRead.{character_shorter}
+use Rattle.yaml_read.proofs.quoted.read_between.Goals as goal
+
+pub characters-init : goal.characters-init
+characters-init g c = (
+  search rules,
+  omega (arith, c.in-Ok.ensures.shorter),
+  subst (λ (value : List ℕ). ReadsOn c.args.text.now value c.in-Ok.rest.now) (sym c.new-value.ensures.bytes)
+      (reads_first c.args.text.now c.in-Ok.rest.now c.in-Ok.ensures.cut),
+  subst (λ (value : List ℕ). ReadSoFar c.args.text.now value c.in-Ok.rest.now) (sym c.new-value.ensures.bytes)
+      (none_yet c.args.text.now c.in-Ok.rest.now c.in-Ok.ensures.cut),
+  passes_quote c.args.text.now c.in-Ok.rest.now c.in-Ok.ensures.cut,
+)
+
+pub characters-smaller : goal.characters-smaller
+characters-smaller g c =
+    character_shorter c.characters.rest.now c.in-Some-read_character.found.0 c.in-Some-read_character.found.1.now c.in-Some-read_character.ensures.sound
+
+pub characters-preserved : goal.characters-preserved
+characters-preserved g c = (
+  search rules,
+  omega (
+    arith,
+    c.characters.invariant.1,
+    character_shorter c.characters.rest.now c.in-Some-read_character.found.0
+        c.in-Some-read_character.found.1.now c.in-Some-read_character.ensures.sound,
+  ),
+  subst (λ (value : List ℕ). ReadsOn c.args.text.now value c.in-Some-read_character.found.1.now) (sym c.in-Ok-push.ensures.bytes)
+      (record {
+        left = λ value rest scalars is.
+            reads_more c.args.text.now (string_bytes c.characters.value) c.characters.rest.now (Some c.in-Some-read_character.found)
+            c.characters.invariant.2 c.in-None.ensures.cut c.in-Some-read_character.ensures.reads value rest scalars is;
+      }),
+  subst (λ (value : List ℕ). ReadSoFar c.args.text.now value c.in-Some-read_character.found.1.now) (sym c.in-Ok-push.ensures.bytes)
+      (one_more c.args.text.now (string_bytes c.characters.value) c.characters.rest.now c.in-Some-read_character.found.1.now
+      c.in-Some-read_character.found.0 c.characters.invariant.3 c.in-Some-read_character.ensures.sound),
+  passes_character c.args.text.now c.characters.rest.now c.in-Some-read_character.found.1.now c.in-Some-read_character.found.0
+      c.characters.invariant.4 c.in-None.ensures.cut c.in-Some-read_character.ensures.sound,
+)
+
+pub returns-in-Err : goal.returns-in-Err
+returns-in-Err g c =
+    record {
+      breaks = missing (codes "\"") c.args.text.now characters c.in-Err.stop (codes "\"" ∷ []) c.in-Err.ensures.cut c.in-Err.ensures.placed (inl (refl, tt));
+      reads = λ value rest scalars is. absurd (opening_there c.args.text.now value rest is c.in-Err.ensures.cut);
+    }
+
+pub returns-in-Some : goal.returns-in-Some
+returns-in-Some g c =
+    record {
+      parts = all_read c.args.text.now c.characters.rest.now c.in-Some.end.now c.characters.value c.characters.invariant.3 c.in-Some.ensures.cut;
+      less = omega (arith, c.characters.invariant.1, c.in-Some.ensures.shorter);
+      only = λ value rest scalars is.
+          text_read c.characters.value value rest c.args.text.now c.characters.rest.now c.in-Some.end.now c.characters.invariant.2
+          c.in-Some.ensures.cut scalars is;
+    }
+
+pub returns-in-None-read_character : goal.returns-in-None-read_character
+returns-in-None-read_character g c =
+    record {
+      breaks =
+          no_character c.args.text.now c.characters.rest.now c.refused_at.result c.characters.invariant.4
+          (utf8_left c.args.text.now (string_bytes c.characters.value) c.characters.rest.now c.utf8.text c.characters.invariant.3)
+          c.in-None.ensures.cut c.in-None-read_character.ensures.reads c.refused_at.ensures;
+      reads = λ value rest scalars is.
+          absurd (reads_more c.args.text.now (string_bytes c.characters.value) c.characters.rest.now None c.characters.invariant.2 c.in-None.ensures.cut
+          c.in-None-read_character.ensures.reads value rest scalars is);
+    }
+
+pub returns-in-Err-push : goal.returns-in-Err-push
+returns-in-Err-push g c = record { breaks = tt; reads = λ value rest scalars is. refl }
