@@ -14,7 +14,7 @@ pub mod Texts
 pub mod ReadBack
 pub mod Opening
 pub mod CharactersRead
-pub mod QuotedReads
+pub mod DigitsRead
 pub mod HeadsRead
 pub mod Stepping
 pub mod WrittenValues

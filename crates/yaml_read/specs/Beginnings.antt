@@ -60,9 +60,6 @@ pub record IsScalarRead (anchor : Option Text) (tag : Text) (text : List ℕ) (e
   pub only : (other after : Text) → all_scalars other ≡ true → text ≡ encode_utf8_all (in_quotes other ++ after)
       → (value ≡ other) × (rest ≡ encode_utf8_all after)
 
-abbrev pub NoScalar : (text : List ℕ) → Type 0
-NoScalar text = (value rest : Text) → all_scalars value ≡ true → text ≡ encode_utf8_all (in_quotes value ++ rest) → ⊥
-
 -- what stands behind such a node's tag
 pub record IsHeldRead (anchor : Option Text) (tag : Text) (text : List ℕ) (event : Event) (rest : List ℕ) : Type 0 where
   pub held : Held
@@ -72,9 +69,6 @@ pub record IsHeldRead (anchor : Option Text) (tag : Text) (text : List ℕ) (eve
   pub parts : text ≡ encode_utf8_all written ++ rest
   pub only : (other : Held) (written after : Text) → HasHeldText other written → text ≡ encode_utf8_all (written ++ after)
       → (held ≡ other) × (rest ≡ encode_utf8_all after)
-
-abbrev pub NoHeld : (text : List ℕ) → Type 0
-NoHeld text = (held : Held) (written rest : Text) → HasHeldText held written → text ≡ encode_utf8_all (written ++ rest) → ⊥
 
 -- a node with this anchor, from its tag on
 pub record IsTaggedRead (anchor : Option Text) (text : List ℕ) (event : Event) (rest : List ℕ) : Type 0 where

@@ -21,4 +21,3 @@ pub mod WrittenTags
 pub mod Beginnings
 pub mod EventReads
 pub mod Digits
-pub mod Quoted

@@ -1,10 +1,10 @@
 //! The beginnings of a document's nodes.
-ghost use Rattle.std.specs.Prelude.{◌≡◌, ◌++◌, [], IsTrue, bytes_eq, chars, codes, nat_lt, option_map};
+ghost use Rattle.std.specs.Prelude.{◌≡◌, [], IsTrue, bytes_eq, chars, nat_lt, option_map};
 ghost use Rattle.std.specs.List.{list_all};
 ghost use Rattle.yaml_base.specs.Event.{any_style, any_layout};
 ghost use Rattle.yaml_base.specs.Seen.{seen_event, seen_text};
 ghost use Rattle.yaml_base.specs.graphs.Meetings.{mapping_held, opening_event_of, scalar_held, sequence_held};
-ghost use Rattle.yaml_read.specs.Beginnings.{IsHeldRead, IsOpeningRead, IsScalarRead, IsTaggedRead, NoHeld, NoOpening, NoScalar, NoTagged, ReadOr};
+ghost use Rattle.yaml_read.specs.Beginnings.{IsOpeningRead, IsTaggedRead, NoOpening, NoTagged, ReadOr};
 
 use crate::cuts::{after, past};
 use crate::errors::Stop;
@@ -68,75 +68,28 @@ fn mapping_start<A: Allocator>(anchor: Option<String<A>>, tag: String<A>) -> yam
     }
 }
 
-/// Returns the scalar whose value a text begins with, and what follows.
-fn read_scalar<A: Allocator>(
+/// Returns the event with which a node begins whose anchor was read, from its tag on, and what follows.
+fn read_tagged<'a, A: Allocator + Copy>(
     alloc: A,
     anchor: Option<String<A>>,
-    tag: String<A>,
-    text: &str,
-) -> Result<(yaml_event_t<A>, &str), Stop>
-    ensures { ReadOr (λ found. IsScalarRead (option_map seen_text anchor) (seen_text tag) text.now (seen_event found.0) found.1.now)
-        (NoScalar text.now) result }
+    text: &'a str,
+) -> Result<(yaml_event_t<A>, &'a str), Stop>
+    ensures { ReadOr (λ found. IsTaggedRead (option_map seen_text anchor) text.now (seen_event found.0) found.1.now) (NoTagged text.now) result }
 {
-    match read_quoted(alloc, text) {
-        Ok((value, rest)) => Ok((scalar(anchor, tag, value), rest)),
-        Err(stop) => Err(stop),
-    }
-}
-
-/// Returns the event with which a node begins whose anchor and tag were read, and what follows.
-fn read_held<A: Allocator + Copy>(
-    alloc: A,
-    anchor: Option<String<A>>,
-    tag: String<A>,
-    text: &str,
-) -> Result<(yaml_event_t<A>, &str), Stop>
-    ensures { ReadOr (λ found. IsHeldRead (option_map seen_text anchor) (seen_text tag) text.now (seen_event found.0) found.1.now)
-        (NoHeld text.now) result }
-{
-    match past(text, "[") {
+    let (tag, behind) = match read_written_tag(alloc, text) {
+        Ok(found) => found,
+        Err(stop) => return Err(stop),
+    };
+    match past(behind, "[") {
         Some(rest) => return Ok((sequence_start(anchor, tag), rest)),
         None => {}
     }
-    match past(text, "{") {
-        Some(rest) => Ok((mapping_start(anchor, tag), rest)),
-        None => read_scalar(alloc, anchor, tag, text),
+    match past(behind, "{") {
+        Some(rest) => return Ok((mapping_start(anchor, tag), rest)),
+        None => {}
     }
-}
-
-/// Returns the event with which a node begins whose anchor was read, from its tag on, and what follows.
-fn read_tagged<A: Allocator + Copy>(
-    alloc: A,
-    anchor: Option<String<A>>,
-    text: &str,
-) -> Result<(yaml_event_t<A>, &str), Stop>
-    ensures { ReadOr (λ found. IsTaggedRead (option_map seen_text anchor) text.now (seen_event found.0) found.1.now) (NoTagged text.now) result }
-{
-    match read_written_tag(alloc, text) {
-        Ok((tag, behind)) => read_held(alloc, anchor, tag, behind),
-        Err(stop) => Err(stop),
-    }
-}
-
-/// Returns the alias whose name a text begins with, behind its `*`, and what follows.
-fn read_alias<A: Allocator>(alloc: A, text: &str) -> Result<(yaml_event_t<A>, &str), Stop>
-    ensures { ReadOr (λ found. IsOpeningRead (codes "*" ++ text.now) (seen_event found.0) found.1.now) (NoOpening (codes "*" ++ text.now)) result }
-{
-    match read_name(alloc, text) {
-        Ok((name, rest)) => Ok((yaml_event_t::YAML_ALIAS_EVENT { anchor: name }, rest)),
-        Err(stop) => Err(stop),
-    }
-}
-
-/// Returns the event with which a node begins, from its anchor's name on, behind its `&`, and what follows.
-fn read_anchored<A: Allocator + Copy>(alloc: A, text: &str) -> Result<(yaml_event_t<A>, &str), Stop>
-    ensures { ReadOr (λ found. IsOpeningRead (codes "&" ++ text.now) (seen_event found.0) found.1.now) (NoOpening (codes "&" ++ text.now)) result }
-{
-    match read_name(alloc, text) {
-        Ok((name, behind)) => match after(behind, " ") {
-            Ok(rest) => read_tagged(alloc, Some(name), rest),
-            Err(stop) => Err(stop),
-        },
+    match read_quoted(alloc, behind) {
+        Ok((value, rest)) => Ok((scalar(anchor, tag, value), rest)),
         Err(stop) => Err(stop),
     }
 }
@@ -150,11 +103,22 @@ pub(crate) fn read_opening<A: Allocator + Copy>(
     ensures { ReadOr (λ found. IsOpeningRead text.now (seen_event found.0) found.1.now) (NoOpening text.now) result }
 {
     match past(text, "*") {
-        Some(inside) => return read_alias(alloc, inside),
+        Some(inside) => {
+            return match read_name(alloc, inside) {
+                Ok((name, rest)) => Ok((yaml_event_t::YAML_ALIAS_EVENT { anchor: name }, rest)),
+                Err(stop) => Err(stop),
+            };
+        }
         None => {}
     }
     match past(text, "&") {
-        Some(inside) => read_anchored(alloc, inside),
+        Some(inside) => match read_name(alloc, inside) {
+            Ok((name, behind)) => match after(behind, " ") {
+                Ok(rest) => read_tagged(alloc, Some(name), rest),
+                Err(stop) => Err(stop),
+            },
+            Err(stop) => Err(stop),
+        },
         None => read_tagged(alloc, None, text),
     }
 }

@@ -10,7 +10,6 @@ ghost use Rattle.yaml_read.specs.Digits.{DigitsRead};
 ghost use Rattle.yaml_read.specs.Grammar.{quoted_text};
 ghost use Rattle.yaml_read.specs.Heads.{ReadsCharacter};
 ghost use Rattle.yaml_read.specs.Places.{BreaksAt};
-ghost use Rattle.yaml_read.specs.Quoted.{QuotedRead};
 ghost use Rattle.yaml_read.specs.Sound.{IsCharacter, IsEscape, NumberRead};
 ghost use Rattle.yaml_read.specs.Words.{OrMemory};
 
@@ -208,8 +207,12 @@ fn read_character(text: &str) -> Option<(char, &str)>
 }
 
 /// Returns a text from its opening quote on, and what follows its closing quote.
-fn read_between<A: Allocator>(alloc: A, text: &str) -> Result<(String<A>, &str), Stop>
-    ensures { QuotedRead text.now result }
+pub(crate) fn read_quoted<A: Allocator>(alloc: A, text: &str) -> Result<(String<A>, &str), Stop>
+    ensures reads { (value rest : Text) → all_scalars value ≡ true → text.now ≡ encode_utf8_all (in_quotes value ++ rest)
+        → OrMemory (λ found. (seen_text found.0 ≡ value) × (found.1.now ≡ encode_utf8_all rest)) result }
+    ensures sound { IfOk result (λ found. text.now ≡ encode_utf8_all (in_quotes (seen_text found.0)) ++ found.1.now) }
+    ensures breaks { IfErr result (BreaksAt quoted_text text.now) }
+    ensures shorter { IfOk result (λ found. length found.1.now < length text.now) }
 {
     let mut value = String::new(alloc);
     let mut rest = match after(text, "\"") {
@@ -231,15 +234,4 @@ fn read_between<A: Allocator>(alloc: A, text: &str) -> Result<(String<A>, &str),
         }
         rest = next;
     }
-}
-
-/// Returns a text from its opening quote on, and what follows its closing quote.
-pub(crate) fn read_quoted<A: Allocator>(alloc: A, text: &str) -> Result<(String<A>, &str), Stop>
-    ensures reads { (value rest : Text) → all_scalars value ≡ true → text.now ≡ encode_utf8_all (in_quotes value ++ rest)
-        → OrMemory (λ found. (seen_text found.0 ≡ value) × (found.1.now ≡ encode_utf8_all rest)) result }
-    ensures sound { IfOk result (λ found. text.now ≡ encode_utf8_all (in_quotes (seen_text found.0)) ++ found.1.now) }
-    ensures breaks { IfErr result (BreaksAt quoted_text text.now) }
-    ensures shorter { IfOk result (λ found. length found.1.now < length text.now) }
-{
-    read_between(alloc, text)
 }

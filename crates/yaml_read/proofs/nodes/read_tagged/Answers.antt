@@ -1,19 +1,65 @@
-use Rattle.std.proofs.Common.{◌++◌, option_map}
-use Rattle.yaml_base.specs.Seen.{seen_event, seen_text}
+use Rattle.std.proofs.Common.{◌≡◌, ◌++◌, [], ℕ, List, Bor, String, ap, codes, encode_utf8_all, option_map, refl, string_bytes, sym, ◌∙◌}
+use Rattle.std.proofs.lemmas.Str.{IsUtf8-string_bytes, scalars-chars}
+use Rattle.yaml_base.specs.Event.{any_layout}
+use Rattle.yaml_base.specs.Seen.{seen_text}
+use Rattle.yaml_base.specs.graphs.Meetings.{mapping_held, sequence_held}
 use Rattle.yaml_read.specs.Beginnings.{NoTag, NoTagged}
-use Rattle.yaml_read.proofs.NodeTexts.{absent_then, read_or_then, tagged_read}
+use Rattle.yaml_read.specs.WrittenTags.{mapping_opened, sequence_opened}
+use Rattle.yaml_read.proofs.NodeTexts.{absent_then, at_brace, at_bracket, at_quote, held_read, memory_only, none_read, tagged_read}
+use Rattle.yaml_read.proofs.HeadsRead.{word_bytes}
 use Rattle.yaml_read.proofs.nodes.read_tagged.Goals as goal
-
-pub returns-in-Ok : goal.returns-in-Ok
-returns-in-Ok g c =
-    read_or_then _ _ c.read_held.result
-    (λ found read. tagged_read c.in-Ok.tag (option_map seen_text c.args.anchor) c.args.text.now c.in-Ok.behind.now found.1.now (seen_event found.0)
-    (c.in-Ok.ensures.sound, c.in-Ok.ensures.parts) c.in-Ok.ensures.only read)
-    (λ none tag held written rest sound scalars has is.
-    none held written rest has (c.in-Ok.ensures.only tag (written ++ rest) sound scalars is).1)
-    c.read_held.ensures
 
 pub returns-in-Err : goal.returns-in-Err
 returns-in-Err g c =
     absent_then (NoTag c.args.text.now) (NoTagged c.args.text.now) c.in-Err.stop
     (λ none tag held written rest sound scalars has is. none tag (written ++ rest) sound scalars is) c.in-Err.ensures
+
+pub returns-in-Some : goal.returns-in-Some
+returns-in-Some g c =
+    tagged_read c.in-Ok.found.0 (option_map seen_text c.args.anchor) c.args.text.now c.in-Ok.found.1.now c.in-Some.rest.now _
+    (c.in-Ok.ensures.sound, c.in-Ok.ensures.parts) c.in-Ok.ensures.only
+    (record {
+      held = sequence_held [] any_layout;
+      written = codes "[";
+      has = sequence_opened;
+      is = c.sequence_start.ensures;
+      parts = c.in-Some.ensures.cut ∙ ap (λ w. w ++ c.in-Some.rest.now) (sym (word_bytes (codes "[") refl));
+      only = λ other written after has is. at_bracket other written after c.in-Ok.found.1.now c.in-Some.rest.now has is c.in-Some.ensures.cut;
+    })
+
+pub returns-in-Some-past : goal.returns-in-Some-past
+returns-in-Some-past g c =
+    tagged_read c.in-Ok.found.0 (option_map seen_text c.args.anchor) c.args.text.now c.in-Ok.found.1.now c.in-Some-past.rest.now _
+    (c.in-Ok.ensures.sound, c.in-Ok.ensures.parts) c.in-Ok.ensures.only
+    (record {
+      held = mapping_held [] any_layout;
+      written = codes "{";
+      has = mapping_opened;
+      is = c.mapping_start.ensures;
+      parts = c.in-Some-past.ensures.cut ∙ ap (λ w. w ++ c.in-Some-past.rest.now) (sym (word_bytes (codes "{") refl));
+      only = λ other written after has is. at_brace other written after c.in-Ok.found.1.now c.in-Some-past.rest.now has is c.in-Some-past.ensures.cut;
+    })
+
+pub returns-in-Ok-read_quoted : goal.returns-in-Ok-read_quoted
+returns-in-Ok-read_quoted g c =
+    tagged_read c.in-Ok.found.0 (option_map seen_text c.args.anchor) c.args.text.now c.in-Ok.found.1.now c.in-Ok-read_quoted.rest.now _
+    (c.in-Ok.ensures.sound, c.in-Ok.ensures.parts) c.in-Ok.ensures.only
+    (held_read (option_map seen_text c.args.anchor) (seen_text c.in-Ok.found.0) c.in-Ok.found.1.now _ c.in-Ok-read_quoted.rest.now
+    c.in-None.ensures.cut c.in-None-past.ensures.cut
+    (record {
+      value = seen_text c.in-Ok-read_quoted.value;
+      scalars = scalars-chars (string_bytes c.in-Ok-read_quoted.value) (IsUtf8-string_bytes c.in-Ok-read_quoted.value);
+      is = c.scalar.ensures;
+      parts = c.in-Ok-read_quoted.ensures.sound;
+      only = c.in-Ok-read_quoted.ensures.reads;
+    }))
+
+pub returns-in-Err-read_quoted : goal.returns-in-Err-read_quoted
+returns-in-Err-read_quoted g c =
+    none_read (NoTagged c.args.text.now) c.in-Err-read_quoted.stop
+    (λ other tag held written rest sound scalars has is.
+    let read = c.in-Ok.ensures.only tag (written ++ rest) sound scalars is in
+    let at = at_quote held written rest c.in-Ok.found.1.now has read.1 c.in-None.ensures.cut c.in-None-past.ensures.cut in
+    other
+    (memory_only (λ (found : String g.row.A.Denot × Bor (List ℕ)). (seen_text found.0 ≡ at.value) × (found.1.now ≡ encode_utf8_all rest))
+    c.in-Err-read_quoted.stop (c.in-Err-read_quoted.ensures.reads at.value rest at.scalars at.stands)))

@@ -1,7 +1,7 @@
 use Rattle.std.proofs.Common.{ap, sym, ◌∙◌, ◌++◌}
 use Rattle.std.{proofs.lemmas.Option.none-some, proofs.lemmas.Option.same_Some, proofs.lemmas.List.append-nil, specs.Prelude.encode_utf8}
 use Rattle.yaml_base.{specs.Characters.hex_digit, specs.reading.ReadDouble.digit_meaning}
-use Rattle.yaml_read.proofs.{Escapes.digit_reads, Firsts.first_is, Firsts.not_empty, CharactersRead.digit_is, QuotedReads.digit_small}
+use Rattle.yaml_read.proofs.{Escapes.digit_reads, Firsts.first_is, Firsts.not_empty, CharactersRead.digit_is, DigitsRead.digit_small}
 use Rattle.yaml_read.proofs.quoted.read_digit.Goals as goal
 
 pub returns-in-None : goal.returns-in-None

@@ -2,7 +2,7 @@ use Rattle.std.proofs.Common.{◌++◌, ◌<◌, ap, sym, ◌∙◌, arith}
 use Rattle.std.{specs.Prelude.encode_utf8, proofs.lemmas.Option.IfSome_then}
 use Rattle.yaml_read.proofs.FirstCharacters.{escape_there, four_digits_follow, letter_follows, read_on, two_digits_follow}
 use Rattle.yaml_base.specs.Characters.{hex_digits}
-use Rattle.yaml_read.proofs.QuotedReads.{digits_reads, digits_sound}
+use Rattle.yaml_read.proofs.DigitsRead.{digits_reads, digits_sound}
 use Rattle.yaml_read.proofs.CharactersRead.{letter_read, letter_scalar, long_read, number_reads, number_sound, short_read}
 use Rattle.yaml_read.proofs.quoted.read_escape.Goals as goal
 

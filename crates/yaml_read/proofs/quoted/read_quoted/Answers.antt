@@ -1,14 +1,82 @@
-use Rattle.yaml_read.proofs.QuotedReads.{quoted_breaks, quoted_reads, quoted_sound}
+use Rattle.std.proofs.Common.{◌∷◌, List, [], ℕ, None, Some, inl, refl, subst, sym, rules, arith, codes, string_bytes}
+use Rattle.yaml_read.proofs.{QuotedTexts.ReadsOn, QuotedTexts.reads_more, QuotedTexts.text_read, Breaking.missing, CharactersRead.one_more}
+use Rattle.yaml_read.proofs.{QuotedTexts.opening_there, BreakingNodes.no_character, BreakingNodes.passes_character, BreakingNodes.passes_quote}
+use Rattle.yaml_read.proofs.{QuotedTexts.reads_first, BreakingNodes.utf8_left, CharactersRead.ReadSoFar, CharactersRead.all_read, CharactersRead.none_yet}
+use Rattle.yaml_read.specs.{Grammar.characters}
+use Rattle.yaml_read.proofs.CharactersRead.{character_shorter}
 use Rattle.yaml_read.proofs.quoted.read_quoted.Goals as goal
 
-pub returns-clause-reads : goal.returns-clause-reads
-returns-clause-reads g c = quoted_reads c.args.text.now c.read_between.result c.read_between.ensures
+pub returns-in-Err-clause-reads : goal.returns-in-Err-clause-reads
+returns-in-Err-clause-reads g c = λ value rest scalars is. absurd (opening_there c.args.text.now value rest is c.in-Err.ensures.cut)
 
-pub returns-clause-sound : goal.returns-clause-sound
-returns-clause-sound g c = (quoted_sound c.args.text.now c.read_between.result c.read_between.ensures).0
+pub returns-in-Some-clause-reads : goal.returns-in-Some-clause-reads
+returns-in-Some-clause-reads g c =
+    λ value rest scalars is.
+    text_read c.characters.value value rest c.args.text.now c.characters.rest.now c.in-Some.end.now c.characters.invariant.2 c.in-Some.ensures.cut scalars is
 
-pub returns-clause-breaks : goal.returns-clause-breaks
-returns-clause-breaks g c = quoted_breaks c.args.text.now c.read_between.result c.read_between.ensures
+pub returns-in-None-read_character-clause-reads : goal.returns-in-None-read_character-clause-reads
+returns-in-None-read_character-clause-reads g c =
+    λ value rest scalars is.
+    absurd (reads_more c.args.text.now (string_bytes c.characters.value) c.characters.rest.now None c.characters.invariant.2 c.in-None.ensures.cut
+    c.in-None-read_character.ensures.reads value rest scalars is)
 
-pub returns-clause-shorter : goal.returns-clause-shorter
-returns-clause-shorter g c = (quoted_sound c.args.text.now c.read_between.result c.read_between.ensures).1
+pub returns-in-Err-push-clause-reads : goal.returns-in-Err-push-clause-reads
+returns-in-Err-push-clause-reads g c =
+    λ value rest scalars is.
+    tt
+
+pub characters-init : goal.characters-init
+characters-init g c = (
+  search rules,
+  omega (arith, c.in-Ok.ensures.shorter),
+  subst (λ (value : List ℕ). ReadsOn c.args.text.now value c.in-Ok.rest.now) (sym c.new-value.ensures.bytes)
+      (reads_first c.args.text.now c.in-Ok.rest.now c.in-Ok.ensures.cut),
+  subst (λ (value : List ℕ). ReadSoFar c.args.text.now value c.in-Ok.rest.now) (sym c.new-value.ensures.bytes)
+      (none_yet c.args.text.now c.in-Ok.rest.now c.in-Ok.ensures.cut),
+  passes_quote c.args.text.now c.in-Ok.rest.now c.in-Ok.ensures.cut,
+)
+
+pub characters-smaller : goal.characters-smaller
+characters-smaller g c =
+    character_shorter c.characters.rest.now c.in-Some-read_character.found.0 c.in-Some-read_character.found.1.now c.in-Some-read_character.ensures.sound
+
+pub characters-preserved : goal.characters-preserved
+characters-preserved g c = (
+  search rules,
+  omega (
+    arith,
+    c.characters.invariant.1,
+    character_shorter c.characters.rest.now c.in-Some-read_character.found.0
+        c.in-Some-read_character.found.1.now c.in-Some-read_character.ensures.sound,
+  ),
+  subst (λ (value : List ℕ). ReadsOn c.args.text.now value c.in-Some-read_character.found.1.now) (sym c.in-Ok-push.ensures.bytes)
+      (record {
+        left = λ value rest scalars is.
+            reads_more c.args.text.now (string_bytes c.characters.value) c.characters.rest.now (Some c.in-Some-read_character.found)
+            c.characters.invariant.2 c.in-None.ensures.cut c.in-Some-read_character.ensures.reads value rest scalars is;
+      }),
+  subst (λ (value : List ℕ). ReadSoFar c.args.text.now value c.in-Some-read_character.found.1.now) (sym c.in-Ok-push.ensures.bytes)
+      (one_more c.args.text.now (string_bytes c.characters.value) c.characters.rest.now c.in-Some-read_character.found.1.now
+      c.in-Some-read_character.found.0 c.characters.invariant.3 c.in-Some-read_character.ensures.sound),
+  passes_character c.args.text.now c.characters.rest.now c.in-Some-read_character.found.1.now c.in-Some-read_character.found.0
+      c.characters.invariant.4 c.in-None.ensures.cut c.in-Some-read_character.ensures.sound,
+)
+
+pub returns-in-Some-clause-sound : goal.returns-in-Some-clause-sound
+returns-in-Some-clause-sound g c =
+    all_read c.args.text.now c.characters.rest.now c.in-Some.end.now c.characters.value c.characters.invariant.3 c.in-Some.ensures.cut
+
+pub returns-in-Err-clause-breaks : goal.returns-in-Err-clause-breaks
+returns-in-Err-clause-breaks g c =
+    missing (codes "\"") c.args.text.now characters c.in-Err.stop (codes "\"" ∷ []) c.in-Err.ensures.cut c.in-Err.ensures.placed
+    (inl (refl, tt))
+
+pub returns-in-None-read_character-clause-breaks : goal.returns-in-None-read_character-clause-breaks
+returns-in-None-read_character-clause-breaks g c =
+    no_character c.args.text.now c.characters.rest.now c.refused_at.result c.characters.invariant.4
+    (utf8_left c.args.text.now (string_bytes c.characters.value) c.characters.rest.now c.utf8.text c.characters.invariant.3) c.in-None.ensures.cut
+    c.in-None-read_character.ensures.reads c.refused_at.ensures
+
+pub returns-in-Err-push-clause-breaks : goal.returns-in-Err-push-clause-breaks
+returns-in-Err-push-clause-breaks g c =
+    tt

@@ -1,7 +1,7 @@
 use Rattle.std.proofs.Common.{◌<◌, length, string_bytes}
 use denote.{Text.Utf8, Shadow.shadow}
 use Rattle.yaml_read.{proofs.BreakingNodes.PassesCharacters, proofs.CharactersRead.ReadSoFar, proofs.QuotedTexts.ReadsOn}
-use Rattle.yaml_read.proofs.quoted.read_between.Given as goal
+use Rattle.yaml_read.proofs.quoted.read_quoted.Given as goal
 
 abbrev pub invariant-characters : goal.invariant-characters
 invariant-characters g l = shadow (Utf8 l.rest) × (length l.rest < length l.fn.text) × ReadsOn l.fn.text (string_bytes l.value) l.rest
