@@ -366,14 +366,35 @@ static int is_deep_json(size_t levels, uint8_t *text, uint8_t *brackets) {
         && result.length == 2 * levels + 5 && brackets[2 * levels + 4] == '\n';
 }
 
-/* Sequences in sequences, 100,000 deep, which take no stack. */
+/* Tables in tables, 6,400 deep, by yaml_from_toml: 80 in braces, each behind a key of 80 parts. */
+static int is_deep_toml(uint8_t *text, uint8_t *written) {
+    const size_t tables = 80, parts = 80, levels = 6400, length = 5 * levels + 7;
+    struct yaml_c_toml_settings given;
+    uint8_t *end = text;
+    size_t i;
+    memset(&given, 0, sizeof given);
+    given.flow = 1;
+    given.width = -1;
+    given.depth = levels + 1;
+    for (i = 0; i < tables * parts; i++) {
+        *end++ = 'a';
+        *end++ = i % parts == parts - 1 ? '=' : '.';
+        if (i % parts == parts - 1) *end++ = '{';
+    }
+    memset(end, '}', tables);
+    end += tables;
+    return yaml_from_toml(text, (size_t)(end - text), &given, written, length, &result) == YAML_DONE && result.length == length
+        && memcmp(written, "--- {a: {a: ", 12) == 0 && memcmp(written + length - levels - 4, " {}}", 4) == 0 && written[length - 1] == '\n';
+}
+
+/* Collections that nest deep, which take no stack. */
 static void deep(void) {
     const size_t levels = 100000, count = 2 * levels + 4;
     struct yaml_c_event *nested = (struct yaml_c_event *)calloc(count, sizeof *nested);
     uint8_t *brackets = (uint8_t *)calloc(count + 1, 1), *text = (uint8_t *)calloc(count, 1);
     size_t i;
     int good = nested != NULL && brackets != NULL && text != NULL;
-    calls += 2;
+    calls += 3;
     begin();
     settings.width = -1;
     if (good) {
@@ -392,7 +413,7 @@ static void deep(void) {
         good = yaml_emit(nested, count, directives, 0, texts, 0, &settings, brackets, count, &result) == YAML_DONE
             && result.length == 2 * levels + 1 && brackets[levels - 1] == '[' && brackets[levels] == ']' && brackets[2 * levels] == '\n';
     }
-    good = good && is_deep_json(levels, text, brackets);
+    good = good && is_deep_json(levels, text, brackets) && is_deep_toml(text, brackets);
     free(nested);
     free(brackets);
     free(text);
