@@ -2,10 +2,10 @@
 use Rattle.yaml_base.proofs.Common.{ℕ, ◌+◌, ◌*◌, ◌<◌, [], ◌∷◌, ◌++◌, ◌≡◌, ◌∙◌, zero, suc, None, List, refl, ap, subst, sym, inl, inr, arith, append_assoc}
 use Rattle.yaml_base.{proofs.Common.codes, proofs.Common.flat_map, proofs.Common.replicate, proofs.Common.space, specs.values.ValueText.line_at}
 use Rattle.std.specs.Prelude.{Result, Ok, Err, IfErr}
-use Rattle.std.{proofs.lemmas.List.replicate-append-replicate, specs.Borrow.Bor}
+use Rattle.std.proofs.lemmas.List.{replicate-append-replicate}
 use Rattle.yaml_read.specs.Grammar.{these_or_those, entry_end, levels_then, line_then, nothing, word_then}
 use Rattle.yaml_read.specs.Places.{BreaksAt, BreaksOff, IsHere, LacksLevel, LacksLine, no_level, no_line}
-use Rattle.yaml_read.{specs.Words.Cuts, specs.Words.past_word, specs.declared.errors.Stop.Stop, proofs.Words.no_word}
+use Rattle.yaml_read.{specs.Words.past_word, specs.declared.errors.Stop.Stop, proofs.Words.no_word}
 use Rattle.yaml_read.specs.declared.errors.Stop.TheVariants as stop
 
 -- ---- at a word
@@ -181,20 +181,6 @@ pub level_behind : {T : Type 0} (depth : ℕ) (text line : List ℕ) (result : R
 level_behind depth text line (Ok found) is lacks = tt
 level_behind depth text line (Err error) is lacks = no_level line is lacks
 
-pub line_breaks : {T : Type 0} (n m : ℕ) (text : List ℕ) (More : List (List ℕ) → Type 0) (more : List (List ℕ)) (result : Result T Stop) → n ≡ m
-    → More more → IfErr result (LacksLine n text) → IfErr result (BreaksAt (line_then m More) text)
-line_breaks n m text More more (Ok found) same begins lacks = tt
-line_breaks n m text More more (Err error) same begins lacks =
-    line_lacks m text More error more (subst (λ k. LacksLine k text error) same lacks) begins
-
--- a word that is missing behind a line
-pub line_and_word : (n m : ℕ) (text line word : List ℕ) (result : Result (Bor (List ℕ)) Stop) → n ≡ m → text ≡ line_at (n * 2) ++ line
-    → Cuts word line result → IfErr result (IsHere line) → IfErr result (BreaksAt (line_then m (word_then word nothing)) text)
-line_and_word n m text line word (Ok found) same is lacks place = tt
-line_and_word n m text line word (Err error) same is lacks place =
-    line_passed m text line (word_then word nothing) error (subst (λ k. text ≡ line_at (k * 2) ++ line) same is)
-    (missing word line nothing error [] lacks place tt)
-
 -- ---- entries
 
 -- the words of the end of an entry
@@ -209,16 +195,3 @@ pub no_comma : (depth : ℕ) (lead end text : List ℕ) (error : Stop) → past_
 no_comma depth lead end text error none place =
     missing (codes ",") text (line_then depth (these_or_those (word_then lead nothing) (word_then end nothing))) error
     (codes "\n" ∷ (replicate depth (codes "  ") ++ lead ∷ [])) none place (entry_goes depth lead end)
-
-pub no_line_behind : (depth : ℕ) (lead end text tail : List ℕ) (error : Stop) → text ≡ codes "," ++ tail → LacksLine depth tail error
-    → BreaksAt (entry_end depth lead end) text error
-no_line_behind depth lead end text tail error is lacks =
-    behind_word (line_then depth (these_or_those (word_then lead nothing) (word_then end nothing))) (codes ",") text tail error is
-    (line_lacks depth tail (these_or_those (word_then lead nothing) (word_then end nothing)) error (lead ∷ []) lacks (inl (refl, tt)))
-
-pub no_entry : (depth : ℕ) (lead end text tail line : List ℕ) (error : Stop) → text ≡ codes "," ++ tail → tail ≡ line_at (depth * 2) ++ line
-    → past_word lead line ≡ None → past_word end line ≡ None → IsHere line error → BreaksAt (entry_end depth lead end) text error
-no_entry depth lead end text tail line error is also none neither_is place =
-    behind_word (line_then depth (these_or_those (word_then lead nothing) (word_then end nothing))) (codes ",") text tail error is
-    (line_passed depth tail line (these_or_those (word_then lead nothing) (word_then end nothing)) error also
-    (neither lead end line error none neither_is place))

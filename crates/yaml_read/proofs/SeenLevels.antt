@@ -6,8 +6,8 @@ use Rattle.yaml_base.specs.values.TypedValues.{value_pairs_and, null_value, int_
 use Rattle.std.proofs.Common.{Result, Ok, Vec, String, rules}
 use Rattle.yaml_value.specs.SeenValues.{seen_value, seen_values, seen_pairs, values_of, pairs_of}
 use Rattle.yaml_value.specs.declared.value.Value.{Value}
-use Rattle.yaml_read.specs.Remaining.{OpenLevel, seen_level, seen_levels, onto, Pushed}
-use Rattle.yaml_read.{specs.declared.errors.Stop.Stop, specs.declared.levels.Level.Level}
+use Rattle.yaml_read.specs.Remaining.{OpenLevel, seen_level, seen_levels, onto}
+use Rattle.yaml_read.specs.declared.levels.Level.{Level}
 use Rattle.yaml_value.specs.declared.value.Value as declared
 
 onto_more : {A : Type 0} (outer : List OpenLevel) (levels : List (Level A)) (level : Level A)
@@ -59,11 +59,9 @@ pub seen_map : {A : Type 0} (pairs : Vec (Value A × Value A) A) → seen_value 
 seen_map pairs = search (rules, declared.the_lemmas)
 
 -- a level was pushed
-pub pushed_on : {A : Type 0} (level : Level A) (old new : List (Level A)) (result : Result (Unit {0}) Stop) → result ≡ Ok tt → new ≡ old ++ level ∷ []
-    → Pushed (seen_level level) old new result
-pushed_on level old new result is items =
-    subst (λ (r : Result (Unit {0}) Stop). Pushed (seen_level level) old new r) (sym is)
-    (ap seen_levels items ∙ level_more old level, ap length items ∙ length-append old (level ∷ []) ∙ one (length old))
+pub pushed_on : {A : Type 0} (level : Level A) (old new : List (Level A)) → new ≡ old ++ level ∷ []
+    → (seen_levels new ≡ seen_level level ∷ seen_levels old) × (length new ≡ suc (length old))
+pushed_on level old new items = (ap seen_levels items ∙ level_more old level, ap length items ∙ length-append old (level ∷ []) ∙ one (length old))
   where
     one : (n : ℕ) → n + 1 ≡ suc n
     one n = omega arith

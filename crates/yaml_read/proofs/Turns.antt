@@ -273,12 +273,6 @@ reached_at lead end Due Read depth n bytes entry ends same found =
     entry_reached lead end Due Read ends.tail entry ends.leads
     (found ends.tail (ends.bytes_are ∙ ap (λ m. codes "," ++ (line_at (m * 2) ++ ends.tail)) (sym same)))
 
--- what follows a comma and a line
-pub line_is : (depth : ℕ) (text behind line tail : List ℕ) → text ≡ codes "," ++ behind → behind ≡ line_at (depth * 2) ++ line
-    → text ≡ codes "," ++ (line_at (depth * 2) ++ tail) → line ≡ tail
-line_is depth text behind line tail first second is =
-    cut_is (line_at (depth * 2)) behind line tail second (cut_is (codes ",") text behind (line_at (depth * 2) ++ tail) first is)
-
 -- the last level is taken off
 pub popped : {A : Type 0} (before : List OpenLevel) (first value : TypedValue) (text bytes : List ℕ) (old new : List (Level A)) (level : Level A)
     (root : TypedValue) → GoesOn before first text (seen_levels old) value bytes → old ≡ new ++ level ∷ [] → IsRead root before first text

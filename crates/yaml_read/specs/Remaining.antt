@@ -96,9 +96,3 @@ Reached root levels (Ok (Done value)) = seen_value value ≡ root
 Reached root levels (Ok (Node rest)) = IsDue root levels rest.now
 Reached root levels (Err stop.Memory) = Unit {0}
 Reached root levels (Err _) = ⊥
-
--- a level was opened within the others, or memory gave out
-abbrev pub Pushed : {A : Type 0} → OpenLevel → (before after : List (Level A)) → Result (Unit {0}) Stop → Type 0
-Pushed level before after (Ok _) = (seen_levels after ≡ level ∷ seen_levels before) × (length after ≡ suc (length before))
-Pushed level before after (Err stop.Memory) = Unit {0}
-Pushed level before after (Err _) = ⊥

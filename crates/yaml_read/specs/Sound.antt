@@ -1,13 +1,15 @@
 -- What the readers of words found.
-use Rattle.std.specs.Prelude.{ℕ, ℤ, ◌<◌, ◌≤◌, ◌^◌, ◌≡◌, Bool, true, Option, None, Some, List, [], ◌∷◌, ◌++◌}
+use Rattle.std.specs.Prelude.{ℕ, ℤ, ◌<◌, ◌≤◌, ◌^◌, ◌≡◌, ◌≢◌, Bool, true, Option, None, Some, IfSome, List, MatchOption, [], ◌∷◌, ◌++◌}
 use Rattle.std.specs.Borrow.{Bor}
 use Rattle.std.specs.Fmt.{signed_decimal}
 use Rattle.std.specs.Int.Signed.{mag}
 use Rattle.std.specs.Str.{all_scalars, encode_utf8_all}
-use Rattle.yaml_base.specs.Characters.{hex_digits}
+use Rattle.yaml_base.specs.Characters.{Text, hex_digits}
+use Rattle.yaml_base.specs.reading.ReadDouble.{letter_meaning}
 use Rattle.yaml_base.specs.scalars.DoubleQuoted.{character_text, escape_after_backslash, letter_among, needs_escape, short_escapes}
 use Rattle.yaml_base.specs.values.TypedValues.{TypedValue, bool_text, bool_value, int_value}
 use Rattle.yaml_base.specs.values.ValueText.{in_quotes, value_text}
+use Rattle.yaml_read.specs.Heads.{ReadsCharacter}
 use Rattle.yaml_read.specs.Readable.{CanBeReadAt}
 
 -- a character that needs an escape and has one by number, of so many digits
@@ -36,6 +38,29 @@ pub record IsEscape (bytes : List ℕ) (c : ℕ) (rest : List ℕ) : Type 0 wher
 pub record IsCharacter (bytes : List ℕ) (c : ℕ) (rest : List ℕ) : Type 0 where
   pub scalar : all_scalars (c ∷ []) ≡ true
   pub text : bytes ≡ encode_utf8_all (character_text true c) ++ rest
+
+-- ---- the code's answers
+
+-- a letter behind a backslash is one of an escape, and it is the only one; or it is none
+pub record LetterRead (letter : ℕ) (bytes : List ℕ) (result : Option (ℕ × Bor (List ℕ))) : Type 0 where
+  pub reads : (c : ℕ) → needs_escape true c ≡ true → letter_meaning letter ≡ Some c
+      → MatchOption result ⊥ (λ found. (found.0 ≡ c) × (found.1.now ≡ bytes))
+  pub sound : IfSome result (λ found. (letter_meaning letter ≡ Some found.0) × (needs_escape true found.0 ≡ true) × (found.1.now ≡ bytes))
+
+pub record EscapeRead (bytes : List ℕ) (result : Option (ℕ × Bor (List ℕ))) : Type 0 where
+  pub reads : (c : ℕ) (rest : Text) → all_scalars (c ∷ []) ≡ true → needs_escape true c ≡ true
+      → bytes ≡ encode_utf8_all (escape_after_backslash (letter_among short_escapes c) c ++ rest)
+      → MatchOption result ⊥ (λ found. (found.0 ≡ c) × (found.1.now ≡ encode_utf8_all rest))
+  pub sound : IfSome result (λ found. IsEscape bytes found.0 found.1.now)
+
+pub record CharacterRead (bytes : List ℕ) (result : Option (ℕ × Bor (List ℕ))) : Type 0 where
+  pub reads : ReadsCharacter bytes result
+  pub sound : IfSome result (λ found. IsCharacter bytes found.0 found.1.now)
+
+-- the integer of 64 bits that digits spell in its one way, or they spell none
+abbrev pub IntegerOf : (digits : List ℕ) → Option ℤ → Type 0
+IntegerOf digits (Some n) = (mag n < 2 ^ 63) × (digits ≡ signed_decimal n)
+IntegerOf digits None = (n : ℤ) → mag n < 2 ^ 63 → digits ≢ signed_decimal n
 
 -- an integer and a truth value between quotes
 pub record IsInteger (bytes : List ℕ) (value : TypedValue) (rest : List ℕ) : Type 0 where

@@ -1,21 +1,23 @@
 -- What the reader of a node and of what follows a node answers.
-use Rattle.std.specs.Prelude.{ℕ, suc, ◌*◌, ◌<◌, ◌≤◌, ◌≡◌, None, Result, Ok, Err, IfErr, IfOk, List, ◌∷◌, ◌++◌, codes, length}
+use Rattle.std.specs.Prelude.{ℕ, suc, ◌*◌, ◌<◌, ◌≤◌, ◌≡◌, None, Result, Ok, Err, IfErr, IfOk, List, ◌∷◌, ◌++◌, String, codes, length, true}
 use Rattle.std.specs.Borrow.{Bor}
-use Rattle.std.specs.Str.{encode_utf8_all}
+use Rattle.std.specs.Str.{all_scalars, encode_utf8_all}
 use Rattle.yaml_base.specs.Characters.{Text}
+use Rattle.yaml_base.specs.Seen.{seen_text}
 use Rattle.yaml_base.specs.values.TypedValues.{TypedValue, most_nested}
-use Rattle.yaml_base.specs.values.ValueText.{document_text, line_at, value_text}
+use Rattle.yaml_base.specs.values.ValueText.{document_text, in_quotes, line_at, value_text}
 use Rattle.yaml_value.specs.SeenValues.{seen_value}
 use Rattle.yaml_value.specs.declared.value.Value.{Value}
+use Rattle.yaml_read.specs.Awaits.{EntryStands}
 use Rattle.yaml_read.specs.Entries.{EntryFound}
-use Rattle.yaml_read.specs.Grammar.{behind_in, behind_tag, entry_end}
+use Rattle.yaml_read.specs.Grammar.{behind_in, behind_tag, entry_end, line_then, nothing, quoted_text, these_or_those, word_then}
 use Rattle.yaml_read.specs.Heads.{IsWhole, tag_word}
 use Rattle.yaml_read.specs.Opened.{EntryCut, HasRead, IsOpen, NextRead, TurnRead}
 use Rattle.yaml_read.specs.Places.{BreaksAt, IsDeepHere, IsHere, LacksLine, StopsAt, StopsIn}
 use Rattle.yaml_read.specs.Remaining.{IsDue, IsRead, OpenLevel, Reached, TurnReached}
 use Rattle.yaml_read.specs.Readable.{CanBeRead, CanBeReadAt}
 use Rattle.yaml_read.specs.Sound.{IsScalarValue}
-use Rattle.yaml_read.specs.Words.{OrMemory, past_word}
+use Rattle.yaml_read.specs.Words.{Cuts, OrMemory, past_word}
 use Rattle.yaml_read.specs.declared.errors.Stop.{Stop}
 use Rattle.yaml_read.specs.declared.errors.Stop.TheVariants as stop
 use Rattle.yaml_read.specs.declared.heads.Kind.{Kind}
@@ -66,6 +68,14 @@ abbrev pub TagRead : List ℕ → Result (Kind × Bor (List ℕ)) Stop → Type 
 TagRead bytes (Ok found) = bytes ≡ tag_word found.0 ++ found.1.now
 TagRead bytes (Err error) = ((kind : Kind) → past_word (tag_word kind) bytes ≡ None) × IsHere bytes error
 
+-- a text between quotes
+pub record QuotedRead {A : Type 0} (bytes : List ℕ) (result : Result (String A × Bor (List ℕ)) Stop) : Type 0 where
+  pub reads : (value rest : Text) → all_scalars value ≡ true → bytes ≡ encode_utf8_all (in_quotes value ++ rest)
+      → OrMemory (λ found. (seen_text found.0 ≡ value) × (found.1.now ≡ encode_utf8_all rest)) result
+  pub sound : IfOk result (λ found. bytes ≡ encode_utf8_all (in_quotes (seen_text found.0)) ++ found.1.now)
+  pub breaks : IfErr result (BreaksAt quoted_text bytes)
+  pub shorter : IfOk result (λ found. length found.1.now < length bytes)
+
 -- behind a scalar's tag
 pub record ScalarRead {A : Type 0} (kind : Kind) (bytes : List ℕ) (result : Result (Value A × Bor (List ℕ)) Stop) : Type 0 where
   pub reads : (depth column : ℕ) (value : TypedValue) (rest : Text) → CanBeReadAt depth value
@@ -91,6 +101,12 @@ pub data EntryLacks (depth : ℕ) (lead text : List ℕ) (error : Stop) : Type 0
   no_line : past_word (line_at (depth * 2)) text ≡ None → LacksLine depth text error → EntryLacks depth lead text error
   no_lead : (line : List ℕ) → text ≡ line_at (depth * 2) ++ line → past_word lead line ≡ None → IsHere line error → EntryLacks depth lead text error
 
+-- a line of this depth with a lead in it stands first, and this follows it; or one of them is missing
+pub record LeadCut (depth : ℕ) (lead text : List ℕ) (result : Result (Bor (List ℕ)) Stop) : Type 0 where
+  pub cut : Cuts (line_at (depth * 2) ++ lead) text result
+  pub lacks : IfErr result (EntryLacks depth lead text)
+  pub shorter : IfOk result (λ rest. length rest.now < length text)
+
 -- a list or a map was opened, up to its first node
 abbrev pub Entered : {A : Type 0} → OpenLevel → (lead : List ℕ) → (before after : List OpenLevel) → (text : List ℕ) → Result (Next A) Stop → Type 0
 Entered level lead before after text (Ok (Done value)) = ⊥
@@ -99,6 +115,13 @@ Entered level lead before after text (Ok (Node rest)) =
 Entered level lead before after text (Err error) = EntryLacks (suc (length before)) lead text error
 
 -- ---- entries
+
+-- a lead or an end in a line of this depth
+pub record LineEntryRead (depth : ℕ) (lead end text : List ℕ) (result : Result Entry Stop) : Type 0 where
+  pub found : (tail : List ℕ) → text ≡ line_at (depth * 2) ++ tail → EntryFound lead end tail result
+  pub stands : EntryStands (line_at (depth * 2) ++ lead) (line_at (depth * 2) ++ end) text result
+  pub breaks : IfErr result (BreaksAt (line_then depth (these_or_those (word_then lead nothing) (word_then end nothing))) text)
+  pub shorter : IfOk result (EntryShorter text)
 
 -- what follows an entry of a list or a map that lies so deep
 pub record EntryRead (depth : ℕ) (lead end text : List ℕ) (result : Result Entry Stop) : Type 0 where

@@ -3,6 +3,7 @@ ghost use Rattle.std.specs.Prelude.{◌≡◌, ◌++◌, ◌+◌, ◌*◌, ◌<�
 ghost use Rattle.yaml_base.specs.Characters.{space};
 ghost use Rattle.yaml_base.specs.values.ValueText.{line_at};
 ghost use Rattle.yaml_read.specs.Places.{IsHere, LacksLevel, LacksLine};
+ghost use Rattle.yaml_read.specs.Stepped.{LeadCut};
 ghost use Rattle.yaml_read.specs.Words.{Cuts, CutsIf};
 
 use crate::errors::{Stop, refused_at};
@@ -65,6 +66,16 @@ pub(crate) fn after_indent(text: &str, depth: usize) -> Result<&str, Stop>
 {
     match after(text, "\n") {
         Ok(line) => after_spaces(line, depth),
+        Err(stop) => Err(stop),
+    }
+}
+
+/// Returns what follows a line's end, the indentation of a depth, and a word.
+pub(crate) fn after_lead<'a>(text: &'a str, depth: usize, lead: &str) -> Result<&'a str, Stop>
+    ensures { LeadCut depth lead.now text.now result }
+{
+    match after_indent(text, depth) {
+        Ok(line) => after(line, lead),
         Err(stop) => Err(stop),
     }
 }

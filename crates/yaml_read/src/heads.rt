@@ -1,13 +1,7 @@
 //! Tags and scalars.
-ghost use Rattle.std.specs.Prelude.{◌≡◌, ◌++◌, ◌<◌, true, IfErr, IfOk, length};
-ghost use Rattle.std.specs.Str.{all_scalars, encode_utf8_all};
-ghost use Rattle.yaml_base.specs.Characters.{Text};
-ghost use Rattle.yaml_base.specs.Seen.{seen_text};
-ghost use Rattle.yaml_base.specs.values.ValueText.{in_quotes};
 ghost use Rattle.yaml_read.specs.Heads.{IsScalar};
-ghost use Rattle.yaml_read.specs.Places.{IsHereOrMemory};
+ghost use Rattle.yaml_read.specs.Sound.{IntegerOf};
 ghost use Rattle.yaml_read.specs.Stepped.{ScalarRead, TagRead};
-ghost use Rattle.yaml_read.specs.Words.{OrMemory};
 ghost use Rattle.yaml_read.specs.declared.heads.Kind.TheVariants as kind;
 
 use crate::cuts::{after, past};
@@ -16,36 +10,32 @@ use crate::quoted::read_quoted;
 use std::alloc::Allocator;
 use yaml_value::Value;
 
-/// Returns a text from its opening quote on, and what follows its closing quote. What can't be read is refused as a whole.
-fn read_digits<A: Allocator>(alloc: A, text: &str) -> Result<(String<A>, &str), Stop>
-    ensures reads { (value rest : Text) → all_scalars value ≡ true → text.now ≡ encode_utf8_all (in_quotes value ++ rest)
-        → OrMemory (λ found. (seen_text found.0 ≡ value) × (found.1.now ≡ encode_utf8_all rest)) result }
-    ensures sound { IfOk result (λ found. text.now ≡ encode_utf8_all (in_quotes (seen_text found.0)) ++ found.1.now) }
-    ensures placed { IfErr result (IsHereOrMemory text.now) }
-    ensures shorter { IfOk result (λ found. length found.1.now < length text.now) }
+/// Returns the integer of 64 bits that digits spell in its one way.
+fn integer_of(digits: &str) -> Option<i64>
+    ensures { IntegerOf digits.now result }
 {
-    match read_quoted(alloc, text) {
-        Ok(found) => Ok(found),
-        Err(reason) => Err(refused_whole(reason, text)),
+    match digits.parse::<i64>() {
+        Ok(value) => {
+            if digits == itoa::Buffer::new().format(value) {
+                Some(value)
+            } else {
+                None
+            }
+        }
+        Err(_) => None,
     }
 }
 
-/// Reads an integer in its one spelling, between quotes.
+/// Reads an integer in its one spelling, between quotes. What can't be read is refused as a whole.
 fn read_integer<A: Allocator + Copy>(alloc: A, text: &str) -> Result<(Value<A>, &str), Stop>
     ensures { ScalarRead kind.Int text.now result }
 {
-    match read_digits(alloc, text) {
-        Ok((digits, rest)) => match digits.as_str().parse::<i64>() {
-            Ok(value) => {
-                if digits.as_str() == itoa::Buffer::new().format(value) {
-                    Ok((Value::Int(value), rest))
-                } else {
-                    Err(refused_at(text))
-                }
-            }
-            Err(_) => Err(refused_at(text)),
+    match read_quoted(alloc, text) {
+        Ok((digits, rest)) => match integer_of(digits.as_str()) {
+            Some(value) => Ok((Value::Int(value), rest)),
+            None => Err(refused_at(text)),
         },
-        Err(stop) => Err(stop),
+        Err(reason) => Err(refused_whole(reason, text)),
     }
 }
 

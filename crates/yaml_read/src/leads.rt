@@ -3,8 +3,9 @@ ghost use Rattle.std.specs.Prelude.{◌≡◌, ◌∷◌, ◌++◌, ◌*◌, [],
 ghost use Rattle.yaml_base.specs.values.ValueText.{line_at};
 ghost use Rattle.yaml_read.specs.Awaits.{EntryStands, IsInnermostAwait, IsLastAwait, LeadStands, seen_await};
 ghost use Rattle.yaml_read.specs.EventTexts.{Pending};
+ghost use Rattle.yaml_read.specs.Stepped.{LineEntryRead};
 
-use crate::cuts::{after, after_indent, past};
+use crate::cuts::{after, after_indent, after_lead, past};
 use crate::errors::Stop;
 use crate::levels::Entry;
 use std::alloc::Allocator;
@@ -37,19 +38,21 @@ fn first_entry<'a>(text: &'a str, depth: usize, lead: &str, end: &str) -> Result
 {
     match past(text, end) {
         Some(rest) => Ok(Entry::End(rest)),
-        None => match after_indent(text, depth) {
-            Ok(line) => match after(line, lead) {
-                Ok(rest) => Ok(Entry::Another(rest)),
-                Err(stop) => Err(stop),
-            },
+        None => match after_lead(text, depth, lead) {
+            Ok(rest) => Ok(Entry::Another(rest)),
             Err(stop) => Err(stop),
         },
     }
 }
 
 /// Returns what follows the lead of another entry, or the end of a collection, which lies so deep.
-fn another_entry<'a>(text: &'a str, depth: usize, lead: &str, end: &str) -> Result<Entry<'a>, Stop>
-    ensures { EntryStands (line_at (depth * 2) ++ lead.now) (line_at (depth * 2) ++ end.now) text.now result }
+pub(crate) fn another_entry<'a>(
+    text: &'a str,
+    depth: usize,
+    lead: &str,
+    end: &str,
+) -> Result<Entry<'a>, Stop>
+    ensures { LineEntryRead depth lead.now end.now text.now result }
 {
     match after_indent(text, depth) {
         Ok(line) => match past(line, lead) {
@@ -72,11 +75,8 @@ fn lead_in<'a>(awaited: Await, depth: usize, text: &'a str) -> Result<Entry<'a>,
         Await::Item => another_entry(text, depth, "  ", "]"),
         Await::FirstKey => first_entry(text, depth, "  ? ", "}"),
         Await::Key => another_entry(text, depth, "  ? ", "}"),
-        Await::Value => match after_indent(text, depth) {
-            Ok(line) => match after(line, "  : ") {
-                Ok(rest) => Ok(Entry::Another(rest)),
-                Err(stop) => Err(stop),
-            },
+        Await::Value => match after_lead(text, depth, "  : ") {
+            Ok(rest) => Ok(Entry::Another(rest)),
             Err(stop) => Err(stop),
         },
     }

@@ -1,13 +1,15 @@
 //! The lists and maps that are open.
 ghost use Rattle.std.specs.Prelude.{◌≡◌, ◌++◌, [], List, length};
 ghost use Rattle.yaml_read.specs.Heads.{tag_word};
-ghost use Rattle.yaml_read.specs.Remaining.{OpenLevel, Pushed, items_open, pairs_open, seen_level, seen_levels, value_due};
+ghost use Rattle.yaml_read.specs.Remaining.{OpenLevel, items_open, pairs_open, seen_level, seen_levels, value_due};
 ghost use Rattle.yaml_read.specs.Stepped.{BracketRead, Entered, EntryRead, Settled, Stepped, Taken};
 ghost use Rattle.yaml_read.specs.declared.heads.Kind.TheVariants as kind;
 ghost use Rattle.yaml_value.specs.SeenValues.{seen_pairs, seen_value, seen_values};
 
-use crate::cuts::{after, after_indent, past};
+use crate::cuts::{after, after_lead, past};
 use crate::errors::{Stop, refused_at};
+use crate::leads::another_entry;
+use crate::steps::push;
 use std::alloc::Allocator;
 use yaml_value::Value;
 
@@ -49,16 +51,7 @@ fn next_entry<'a>(text: &'a str, depth: usize, lead: &str, end: &str) -> Result<
     ensures { EntryRead depth lead.now end.now text.now result }
 {
     match after(text, ",") {
-        Ok(behind) => match after_indent(behind, depth) {
-            Ok(line) => match past(line, lead) {
-                Some(rest) => Ok(Entry::Another(rest)),
-                None => match after(line, end) {
-                    Ok(rest) => Ok(Entry::End(rest)),
-                    Err(stop) => Err(stop),
-                },
-            },
-            Err(stop) => Err(stop),
-        },
+        Ok(behind) => another_entry(behind, depth, lead, end),
         Err(stop) => Err(stop),
     }
 }
@@ -73,18 +66,13 @@ fn take_item<'a, A: Allocator>(
     ensures { Taken depth (items_open (seen_values items.items)) (seen_value item) text.now result }
 {
     let mut items = items;
-    match items.push(item) {
+    match push(&mut items, item) {
         Ok(()) => {}
-        Err(error) => {
-            drop(error);
-            return Err(Stop::Memory);
-        }
+        Err(stop) => return Err(stop),
     }
     match next_entry(text, depth, "  ", "]") {
-        Ok(entry) => match entry {
-            Entry::Another(rest) => Ok(Turn::Continues(Level::Items(items), rest)),
-            Entry::End(rest) => Ok(Turn::Ends(Value::List(items), rest)),
-        },
+        Ok(Entry::Another(rest)) => Ok(Turn::Continues(Level::Items(items), rest)),
+        Ok(Entry::End(rest)) => Ok(Turn::Ends(Value::List(items), rest)),
         Err(stop) => Err(stop),
     }
 }
@@ -99,18 +87,13 @@ fn take_pair<'a, A: Allocator>(
     ensures { Taken depth (value_due (seen_pairs pairs.items) (seen_value pair.0)) (seen_value pair.1) text.now result }
 {
     let mut pairs = pairs;
-    match pairs.push(pair) {
+    match push(&mut pairs, pair) {
         Ok(()) => {}
-        Err(error) => {
-            drop(error);
-            return Err(Stop::Memory);
-        }
+        Err(stop) => return Err(stop),
     }
     match next_entry(text, depth, "  ? ", "}") {
-        Ok(entry) => match entry {
-            Entry::Another(rest) => Ok(Turn::Continues(Level::Pairs(pairs), rest)),
-            Entry::End(rest) => Ok(Turn::Ends(Value::Map(pairs), rest)),
-        },
+        Ok(Entry::Another(rest)) => Ok(Turn::Continues(Level::Pairs(pairs), rest)),
+        Ok(Entry::End(rest)) => Ok(Turn::Ends(Value::Map(pairs), rest)),
         Err(stop) => Err(stop),
     }
 }
@@ -124,14 +107,8 @@ fn take_key<'a, A: Allocator>(
 ) -> Result<Turn<'a, A>, Stop>
     ensures { Taken depth (pairs_open (seen_pairs pairs.items)) (seen_value key) text.now result }
 {
-    match after_indent(text, depth) {
-        Ok(line) => match after(line, "  : ") {
-            Ok(rest) => Ok(Turn::Continues(Level::PairsAndKey(pairs, key), rest)),
-            Err(stop) => {
-                drop(key);
-                Err(stop)
-            }
-        },
+    match after_lead(text, depth, "  : ") {
+        Ok(rest) => Ok(Turn::Continues(Level::PairsAndKey(pairs, key), rest)),
         Err(stop) => {
             drop(key);
             Err(stop)
@@ -152,19 +129,6 @@ fn take_value<'a, A: Allocator>(
         Level::Items(items) => take_item(items, value, text, depth),
         Level::Pairs(pairs) => take_key(pairs, value, text, depth),
         Level::PairsAndKey(pairs, key) => take_pair(pairs, (key, value), text, depth),
-    }
-}
-
-/// Opens a level within the others.
-fn push<A: Allocator>(levels: &mut Vec<Level<A>, A>, level: Level<A>) -> Result<(), Stop>
-    ensures { Pushed (seen_level level) levels.old.items levels.new.items result }
-{
-    match levels.push(level) {
-        Ok(()) => Ok(()),
-        Err(error) => {
-            drop(error);
-            Err(Stop::Memory)
-        }
     }
 }
 
@@ -200,18 +164,16 @@ pub(crate) fn settle<'a, A: Allocator>(
     let mut rest = text;
     while let Some(level) = levels.pop() {
         match take_value(level, value, rest, levels.len()) {
-            Ok(turn) => match turn {
-                Turn::Continues(level, next) => {
-                    return match push(levels, level) {
-                        Ok(()) => Ok(Next::Node(next)),
-                        Err(stop) => Err(stop),
-                    };
-                }
-                Turn::Ends(whole, next) => {
-                    value = whole;
-                    rest = next;
-                }
-            },
+            Ok(Turn::Continues(level, next)) => {
+                return match push(levels, level) {
+                    Ok(()) => Ok(Next::Node(next)),
+                    Err(stop) => Err(stop),
+                };
+            }
+            Ok(Turn::Ends(whole, next)) => {
+                value = whole;
+                rest = next;
+            }
             Err(stop) => return Err(stop),
         }
     }
@@ -249,11 +211,8 @@ fn enter<'a, A: Allocator>(
     ensures { Entered (seen_level level) lead.now (seen_levels levels.old.items) (seen_levels levels.new.items) text.now result }
 {
     match push(levels, level) {
-        Ok(()) => match after_indent(text, levels.len()) {
-            Ok(line) => match after(line, lead) {
-                Ok(rest) => Ok(Next::Node(rest)),
-                Err(stop) => Err(stop),
-            },
+        Ok(()) => match after_lead(text, levels.len(), lead) {
+            Ok(rest) => Ok(Next::Node(rest)),
             Err(stop) => Err(stop),
         },
         Err(stop) => Err(stop),

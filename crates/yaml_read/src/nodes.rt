@@ -7,7 +7,7 @@ ghost use Rattle.yaml_base.specs.graphs.Meetings.{mapping_held, opening_event_of
 ghost use Rattle.yaml_read.specs.Beginnings.{IsOpeningRead, IsTaggedRead, NoOpening, NoTagged, ReadOr};
 
 use crate::cuts::{after, past};
-use crate::errors::Stop;
+use crate::errors::{Stop, refused_whole};
 use crate::names::read_name;
 use crate::quoted::read_quoted;
 use crate::tags::read_written_tag;
@@ -68,7 +68,8 @@ fn mapping_start<A: Allocator>(anchor: Option<String<A>>, tag: String<A>) -> yam
     }
 }
 
-/// Returns the event with which a node begins whose anchor was read, from its tag on, and what follows.
+/// Returns the event with which a node begins whose anchor was read, from its tag on, and what follows. A tag that can't be read is
+/// refused as a whole.
 fn read_tagged<'a, A: Allocator + Copy>(
     alloc: A,
     anchor: Option<String<A>>,
@@ -78,7 +79,7 @@ fn read_tagged<'a, A: Allocator + Copy>(
 {
     let (tag, behind) = match read_written_tag(alloc, text) {
         Ok(found) => found,
-        Err(stop) => return Err(stop),
+        Err(reason) => return Err(refused_whole(reason, text)),
     };
     match past(behind, "[") {
         Some(rest) => return Ok((sequence_start(anchor, tag), rest)),

@@ -1,17 +1,12 @@
 //! Texts between double quotes, in their one spelling.
-ghost use Rattle.std.specs.Prelude.{ℕ, ◌≡◌, ◌∷◌, ◌++◌, ◌<◌, ◌≤◌, [], true, Some, None, IfOk, IfSome, IfErr, MatchOption, is_some, length};
-ghost use Rattle.std.specs.Str.{all_scalars, encode_utf8_all};
-ghost use Rattle.yaml_base.specs.Characters.{Text, hex_digit, hex_digits};
-ghost use Rattle.yaml_base.specs.Seen.{seen_text};
+ghost use Rattle.std.specs.Prelude.{◌≡◌, ◌∷◌, ◌≤◌, [], true, Some, None, IfSome, is_some};
+ghost use Rattle.std.specs.Str.{all_scalars};
+ghost use Rattle.yaml_base.specs.Characters.{hex_digit, hex_digits};
 ghost use Rattle.yaml_base.specs.reading.ReadDouble.{digit_meaning, letter_meaning};
 ghost use Rattle.yaml_base.specs.scalars.DoubleQuoted as double;
-ghost use Rattle.yaml_base.specs.values.ValueText.{in_quotes};
 ghost use Rattle.yaml_read.specs.Digits.{DigitsRead};
-ghost use Rattle.yaml_read.specs.Grammar.{quoted_text};
-ghost use Rattle.yaml_read.specs.Heads.{ReadsCharacter};
-ghost use Rattle.yaml_read.specs.Places.{BreaksAt};
-ghost use Rattle.yaml_read.specs.Sound.{IsCharacter, IsEscape, NumberRead};
-ghost use Rattle.yaml_read.specs.Words.{OrMemory};
+ghost use Rattle.yaml_read.specs.Sound.{CharacterRead, EscapeRead, LetterRead, NumberRead};
+ghost use Rattle.yaml_read.specs.Stepped.{QuotedRead};
 
 use crate::cuts::{after, first, past};
 use crate::errors::{Stop, refused_at};
@@ -149,10 +144,7 @@ fn read_number<'a>(found: Option<(u32, &'a str)>, least: u32) -> Option<(char, &
 
 /// Returns the character of a letter after a backslash, and the text that follows it.
 fn read_letter(letter: char, text: &str) -> Option<(char, &str)>
-    ensures reads { (c : ℕ) → double.needs_escape true c ≡ true → letter_meaning letter ≡ Some c
-        → MatchOption result ⊥ (λ found. (found.0 ≡ c) × (found.1.now ≡ text.now)) }
-    ensures sound { IfSome result (λ found. (letter_meaning letter ≡ Some found.0) × (double.needs_escape true found.0 ≡ true)
-        × (found.1.now ≡ text.now)) }
+    ensures { LetterRead letter text.now result }
 {
     match meaning_of(letter) {
         Some(c) => {
@@ -168,10 +160,7 @@ fn read_letter(letter: char, text: &str) -> Option<(char, &str)>
 
 /// Returns the character of what follows a backslash.
 fn read_escape(text: &str) -> Option<(char, &str)>
-    ensures reads { (c : ℕ) (rest : Text) → all_scalars (c ∷ []) ≡ true → double.needs_escape true c ≡ true
-        → text.now ≡ encode_utf8_all (double.escape_after_backslash (double.letter_among double.short_escapes c) c ++ rest)
-        → MatchOption result ⊥ (λ found. (found.0 ≡ c) × (found.1.now ≡ encode_utf8_all rest)) }
-    ensures sound { IfSome result (λ found. IsEscape text.now found.0 found.1.now) }
+    ensures { EscapeRead text.now result }
 {
     match first(text) {
         Some((letter, rest)) => {
@@ -189,8 +178,7 @@ fn read_escape(text: &str) -> Option<(char, &str)>
 
 /// Returns a character between quotes, as itself or as its escape, and what follows.
 fn read_character(text: &str) -> Option<(char, &str)>
-    ensures reads { ReadsCharacter text.now result }
-    ensures sound { IfSome result (λ found. IsCharacter text.now found.0 found.1.now) }
+    ensures { CharacterRead text.now result }
 {
     match first(text) {
         Some((c, rest)) => {
@@ -208,11 +196,7 @@ fn read_character(text: &str) -> Option<(char, &str)>
 
 /// Returns a text from its opening quote on, and what follows its closing quote.
 pub(crate) fn read_quoted<A: Allocator>(alloc: A, text: &str) -> Result<(String<A>, &str), Stop>
-    ensures reads { (value rest : Text) → all_scalars value ≡ true → text.now ≡ encode_utf8_all (in_quotes value ++ rest)
-        → OrMemory (λ found. (seen_text found.0 ≡ value) × (found.1.now ≡ encode_utf8_all rest)) result }
-    ensures sound { IfOk result (λ found. text.now ≡ encode_utf8_all (in_quotes (seen_text found.0)) ++ found.1.now) }
-    ensures breaks { IfErr result (BreaksAt quoted_text text.now) }
-    ensures shorter { IfOk result (λ found. length found.1.now < length text.now) }
+    ensures { QuotedRead text.now result }
 {
     let mut value = String::new(alloc);
     let mut rest = match after(text, "\"") {

@@ -8,7 +8,7 @@ ghost use Rattle.yaml_read.specs.Beginnings.{IsEscapedRead, IsTagRead, NoEscaped
 ghost use Rattle.yaml_read.specs.WrittenTags.{ByteRead, HandleRead, OpensTag, is_spelled_by};
 
 use crate::cuts::{after, first, past};
-use crate::errors::{Stop, refused_at, refused_whole};
+use crate::errors::{Stop, refused_at};
 use crate::quoted::read_two_digits;
 use std::alloc::Allocator;
 
@@ -153,7 +153,7 @@ fn read_spelled<'a, A: Allocator>(
     }
 }
 
-/// Returns a tag and what follows the space behind it. What can't be read is refused as a whole.
+/// Returns a tag and what follows the space behind it.
 pub(crate) fn read_written_tag<A: Allocator>(
     alloc: A,
     text: &str,
@@ -161,10 +161,7 @@ pub(crate) fn read_written_tag<A: Allocator>(
     ensures { ReadOr (λ found. IsTagRead text.now (seen_text found.0) found.1.now) (NoTag text.now) result }
 {
     match read_handle(text) {
-        Some((prefix, end, inside)) => match read_spelled(alloc, prefix, end, inside) {
-            Ok(found) => Ok(found),
-            Err(reason) => Err(refused_whole(reason, text)),
-        },
+        Some((prefix, end, inside)) => read_spelled(alloc, prefix, end, inside),
         None => Err(refused_at(text)),
     }
 }

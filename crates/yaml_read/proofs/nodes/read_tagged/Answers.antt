@@ -5,14 +5,15 @@ use Rattle.yaml_base.specs.Seen.{seen_text}
 use Rattle.yaml_base.specs.graphs.Meetings.{mapping_held, sequence_held}
 use Rattle.yaml_read.specs.Beginnings.{NoTag, NoTagged}
 use Rattle.yaml_read.specs.WrittenTags.{mapping_opened, sequence_opened}
-use Rattle.yaml_read.proofs.NodeTexts.{absent_then, at_brace, at_bracket, at_quote, held_read, memory_only, none_read, tagged_read}
+use Rattle.yaml_read.proofs.NodeTexts.{absent_then, at_brace, at_bracket, at_quote, held_read, memory_only, none_read, tagged_read, whole_absent}
 use Rattle.yaml_read.proofs.HeadsRead.{word_bytes}
 use Rattle.yaml_read.proofs.nodes.read_tagged.Goals as goal
 
 pub returns-in-Err : goal.returns-in-Err
 returns-in-Err g c =
-    absent_then (NoTag c.args.text.now) (NoTagged c.args.text.now) c.in-Err.stop
-    (λ none tag held written rest sound scalars has is. none tag (written ++ rest) sound scalars is) c.in-Err.ensures
+    absent_then (NoTag c.args.text.now) (NoTagged c.args.text.now) c.refused_whole.result
+    (λ none tag held written rest sound scalars has is. none tag (written ++ rest) sound scalars is)
+    (whole_absent (NoTag c.args.text.now) c.args.text.now c.in-Err.reason c.refused_whole.result c.refused_whole.ensures c.in-Err.ensures)
 
 pub returns-in-Some : goal.returns-in-Some
 returns-in-Some g c =

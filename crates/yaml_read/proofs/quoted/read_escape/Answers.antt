@@ -6,54 +6,60 @@ use Rattle.yaml_read.proofs.DigitsRead.{digits_reads, digits_sound}
 use Rattle.yaml_read.proofs.CharactersRead.{letter_read, letter_scalar, long_read, number_reads, number_sound, short_read}
 use Rattle.yaml_read.proofs.quoted.read_escape.Goals as goal
 
-pub returns-in-None-clause-reads : goal.returns-in-None-clause-reads
-returns-in-None-clause-reads c =
-    λ d rest scalar needs is. absurd (escape_there d rest c.args.text.now scalar needs is c.in-None.ensures.cut)
+pub returns-in-None : goal.returns-in-None
+returns-in-None c =
+    record {
+      reads = λ d rest scalar needs is. absurd (escape_there d rest c.args.text.now scalar needs is c.in-None.ensures.cut);
+      sound = tt;
+    }
 
-pub returns-then-letter-eq120-clause-reads : goal.returns-then-letter-eq120-clause-reads
-returns-then-letter-eq120-clause-reads c =
-    λ d rest scalar needs is.
-    let two = two_digits_follow d rest c.in-Some.letter c.args.text.now c.in-Some.rest.now scalar needs is c.in-Some.ensures.cut
-    c.if-letter-eq120.true in
-    number_reads 0 d rest c.read_two_digits.result c.read_number.result
-    (digits_reads 256 (hex_digits 2) c.in-Some.rest.now c.read_two_digits.result c.read_two_digits.ensures d rest two.0 two.2)
-    c.read_number.ensures scalar needs two.1 (omega arith)
+pub returns-then-letter-eq120 : goal.returns-then-letter-eq120
+returns-then-letter-eq120 c =
+    record {
+      reads =
+          λ d rest scalar needs is.
+          let two = two_digits_follow d rest c.in-Some.letter c.args.text.now c.in-Some.rest.now scalar needs is c.in-Some.ensures.cut
+          c.if-letter-eq120.true in
+          number_reads 0 d rest c.read_two_digits.result c.read_number.result
+          (digits_reads 256 (hex_digits 2) c.in-Some.rest.now c.read_two_digits.result c.read_two_digits.ensures d rest two.0 two.2)
+          c.read_number.ensures scalar needs two.1 (omega arith);
+      sound =
+          let sound = digits_sound 256 (hex_digits 2) c.in-Some.rest.now c.read_two_digits.result c.read_two_digits.ensures in
+          IfSome_then c.read_number.result
+          (number_sound 2 0 c.in-Some.rest.now (λ n. n < 256) c.read_two_digits.result c.read_number.result sound.0 sound.1 c.read_number.ensures)
+          (λ found is. short_read c.args.text.now c.in-Some.rest.now found.1.now c.in-Some.letter found.0 is.0 is.2 c.in-Some.ensures.cut
+          c.if-letter-eq120.true);
+    }
 
-pub returns-then-letter-eq117-clause-reads : goal.returns-then-letter-eq117-clause-reads
-returns-then-letter-eq117-clause-reads c =
-    λ d rest scalar needs is.
-    let four = four_digits_follow d rest c.in-Some.letter c.args.text.now c.in-Some.rest.now scalar needs is c.in-Some.ensures.cut
-    c.if-letter-eq117.true in
-    number_reads 256 d rest c.read_four_digits.result c.read_number-then-letter-eq117.result
-    (digits_reads 65536 (hex_digits 4) c.in-Some.rest.now c.read_four_digits.result c.read_four_digits.ensures d rest four.1 four.3)
-    c.read_number-then-letter-eq117.ensures scalar needs four.2 four.0
+pub returns-then-letter-eq117 : goal.returns-then-letter-eq117
+returns-then-letter-eq117 c =
+    record {
+      reads =
+          λ d rest scalar needs is.
+          let four = four_digits_follow d rest c.in-Some.letter c.args.text.now c.in-Some.rest.now scalar needs is c.in-Some.ensures.cut
+          c.if-letter-eq117.true in
+          number_reads 256 d rest c.read_four_digits.result c.read_number-then-letter-eq117.result
+          (digits_reads 65536 (hex_digits 4) c.in-Some.rest.now c.read_four_digits.result c.read_four_digits.ensures d rest four.1 four.3)
+          c.read_number-then-letter-eq117.ensures scalar needs four.2 four.0;
+      sound =
+          let sound = digits_sound 65536 (hex_digits 4) c.in-Some.rest.now c.read_four_digits.result c.read_four_digits.ensures in
+          IfSome_then c.read_number-then-letter-eq117.result
+          (number_sound 4 256 c.in-Some.rest.now (λ n. n < 65536) c.read_four_digits.result c.read_number-then-letter-eq117.result sound.0 sound.1
+          c.read_number-then-letter-eq117.ensures)
+          (λ found is. long_read c.args.text.now c.in-Some.rest.now found.1.now c.in-Some.letter found.0 is.0 is.1 is.2 c.in-Some.ensures.cut
+          c.if-letter-eq117.true);
+    }
 
-pub returns-else-letter-eq117-clause-reads : goal.returns-else-letter-eq117-clause-reads
-returns-else-letter-eq117-clause-reads c =
-    λ d rest scalar needs is.
-    let letter = letter_follows d rest c.in-Some.letter c.args.text.now c.in-Some.rest.now scalar needs is c.in-Some.ensures.cut
-    c.if-letter-eq120.false c.if-letter-eq117.false in
-    read_on c.read_letter.result d rest c.in-Some.rest.now letter.1 (c.read_letter.ensures.reads d needs letter.0)
-
-pub returns-then-letter-eq120-clause-sound : goal.returns-then-letter-eq120-clause-sound
-returns-then-letter-eq120-clause-sound c =
-    let sound = digits_sound 256 (hex_digits 2) c.in-Some.rest.now c.read_two_digits.result c.read_two_digits.ensures in
-    IfSome_then c.read_number.result
-    (number_sound 2 0 c.in-Some.rest.now (λ n. n < 256) c.read_two_digits.result c.read_number.result sound.0 sound.1 c.read_number.ensures)
-    (λ found is. short_read c.args.text.now c.in-Some.rest.now found.1.now c.in-Some.letter found.0 is.0 is.2 c.in-Some.ensures.cut
-    c.if-letter-eq120.true)
-
-pub returns-then-letter-eq117-clause-sound : goal.returns-then-letter-eq117-clause-sound
-returns-then-letter-eq117-clause-sound c =
-    let sound = digits_sound 65536 (hex_digits 4) c.in-Some.rest.now c.read_four_digits.result c.read_four_digits.ensures in
-    IfSome_then c.read_number-then-letter-eq117.result
-    (number_sound 4 256 c.in-Some.rest.now (λ n. n < 65536) c.read_four_digits.result c.read_number-then-letter-eq117.result sound.0 sound.1
-    c.read_number-then-letter-eq117.ensures)
-    (λ found is. long_read c.args.text.now c.in-Some.rest.now found.1.now c.in-Some.letter found.0 is.0 is.1 is.2 c.in-Some.ensures.cut
-    c.if-letter-eq117.true)
-
-pub returns-else-letter-eq117-clause-sound : goal.returns-else-letter-eq117-clause-sound
-returns-else-letter-eq117-clause-sound c =
-    IfSome_then c.read_letter.result c.read_letter.ensures.sound
-    (λ found is. letter_read c.args.text.now found.1.now c.in-Some.letter found.0 (letter_scalar c.in-Some.letter found.0 is.0) is.0 is.1
-    (c.in-Some.ensures.cut ∙ ap (λ t. encode_utf8 c.in-Some.letter ++ t) (sym is.2)))
+pub returns-else-letter-eq117 : goal.returns-else-letter-eq117
+returns-else-letter-eq117 c =
+    record {
+      reads =
+          λ d rest scalar needs is.
+          let letter = letter_follows d rest c.in-Some.letter c.args.text.now c.in-Some.rest.now scalar needs is c.in-Some.ensures.cut
+          c.if-letter-eq120.false c.if-letter-eq117.false in
+          read_on c.read_letter.result d rest c.in-Some.rest.now letter.1 (c.read_letter.ensures.reads d needs letter.0);
+      sound =
+          IfSome_then c.read_letter.result c.read_letter.ensures.sound
+          (λ found is. letter_read c.args.text.now found.1.now c.in-Some.letter found.0 (letter_scalar c.in-Some.letter found.0 is.0) is.0 is.1
+          (c.in-Some.ensures.cut ∙ ap (λ t. encode_utf8 c.in-Some.letter ++ t) (sym is.2)));
+    }

@@ -6,24 +6,51 @@ use Rattle.yaml_read.specs.{Grammar.characters}
 use Rattle.yaml_read.proofs.CharactersRead.{character_shorter}
 use Rattle.yaml_read.proofs.quoted.read_quoted.Goals as goal
 
-pub returns-in-Err-clause-reads : goal.returns-in-Err-clause-reads
-returns-in-Err-clause-reads g c = λ value rest scalars is. absurd (opening_there c.args.text.now value rest is c.in-Err.ensures.cut)
+pub returns-in-Err : goal.returns-in-Err
+returns-in-Err g c =
+    record {
+      reads = λ value rest scalars is. absurd (opening_there c.args.text.now value rest is c.in-Err.ensures.cut);
+      sound = tt;
+      breaks =
+          missing (codes "\"") c.args.text.now characters c.in-Err.stop (codes "\"" ∷ []) c.in-Err.ensures.cut c.in-Err.ensures.placed
+          (inl (refl, tt));
+      shorter = tt;
+    }
 
-pub returns-in-Some-clause-reads : goal.returns-in-Some-clause-reads
-returns-in-Some-clause-reads g c =
-    λ value rest scalars is.
-    text_read c.characters.value value rest c.args.text.now c.characters.rest.now c.in-Some.end.now c.characters.invariant.2 c.in-Some.ensures.cut scalars is
+pub returns-in-Some : goal.returns-in-Some
+returns-in-Some g c =
+    record {
+      reads =
+          λ value rest scalars is.
+          text_read c.characters.value value rest c.args.text.now c.characters.rest.now c.in-Some.end.now c.characters.invariant.2 c.in-Some.ensures.cut scalars is;
+      sound = all_read c.args.text.now c.characters.rest.now c.in-Some.end.now c.characters.value c.characters.invariant.3 c.in-Some.ensures.cut;
+      breaks = tt;
+      shorter = omega (arith, c.characters.invariant.1, c.in-Some.ensures.shorter);
+    }
 
-pub returns-in-None-read_character-clause-reads : goal.returns-in-None-read_character-clause-reads
-returns-in-None-read_character-clause-reads g c =
-    λ value rest scalars is.
-    absurd (reads_more c.args.text.now (string_bytes c.characters.value) c.characters.rest.now None c.characters.invariant.2 c.in-None.ensures.cut
-    c.in-None-read_character.ensures.reads value rest scalars is)
+pub returns-in-None-read_character : goal.returns-in-None-read_character
+returns-in-None-read_character g c =
+    record {
+      reads =
+          λ value rest scalars is.
+          absurd (reads_more c.args.text.now (string_bytes c.characters.value) c.characters.rest.now None c.characters.invariant.2 c.in-None.ensures.cut
+          c.in-None-read_character.ensures.reads value rest scalars is);
+      sound = tt;
+      breaks =
+          no_character c.args.text.now c.characters.rest.now c.refused_at.result c.characters.invariant.4
+          (utf8_left c.args.text.now (string_bytes c.characters.value) c.characters.rest.now c.utf8.text c.characters.invariant.3) c.in-None.ensures.cut
+          c.in-None-read_character.ensures.reads c.refused_at.ensures;
+      shorter = tt;
+    }
 
-pub returns-in-Err-push-clause-reads : goal.returns-in-Err-push-clause-reads
-returns-in-Err-push-clause-reads g c =
-    λ value rest scalars is.
-    tt
+pub returns-in-Err-push : goal.returns-in-Err-push
+returns-in-Err-push g c =
+    record {
+      reads = λ value rest scalars is. tt;
+      sound = tt;
+      breaks = tt;
+      shorter = tt;
+    }
 
 pub characters-init : goal.characters-init
 characters-init g c = (
@@ -37,8 +64,7 @@ characters-init g c = (
 )
 
 pub characters-smaller : goal.characters-smaller
-characters-smaller g c =
-    character_shorter c.characters.rest.now c.in-Some-read_character.found.0 c.in-Some-read_character.found.1.now c.in-Some-read_character.ensures.sound
+characters-smaller g c = character_shorter c.characters.rest.now c.in-Some-read_character.found.0 c.in-Some-read_character.found.1.now c.in-Some-read_character.ensures.sound
 
 pub characters-preserved : goal.characters-preserved
 characters-preserved g c = (
@@ -61,22 +87,3 @@ characters-preserved g c = (
   passes_character c.args.text.now c.characters.rest.now c.in-Some-read_character.found.1.now c.in-Some-read_character.found.0
       c.characters.invariant.4 c.in-None.ensures.cut c.in-Some-read_character.ensures.sound,
 )
-
-pub returns-in-Some-clause-sound : goal.returns-in-Some-clause-sound
-returns-in-Some-clause-sound g c =
-    all_read c.args.text.now c.characters.rest.now c.in-Some.end.now c.characters.value c.characters.invariant.3 c.in-Some.ensures.cut
-
-pub returns-in-Err-clause-breaks : goal.returns-in-Err-clause-breaks
-returns-in-Err-clause-breaks g c =
-    missing (codes "\"") c.args.text.now characters c.in-Err.stop (codes "\"" ∷ []) c.in-Err.ensures.cut c.in-Err.ensures.placed
-    (inl (refl, tt))
-
-pub returns-in-None-read_character-clause-breaks : goal.returns-in-None-read_character-clause-breaks
-returns-in-None-read_character-clause-breaks g c =
-    no_character c.args.text.now c.characters.rest.now c.refused_at.result c.characters.invariant.4
-    (utf8_left c.args.text.now (string_bytes c.characters.value) c.characters.rest.now c.utf8.text c.characters.invariant.3) c.in-None.ensures.cut
-    c.in-None-read_character.ensures.reads c.refused_at.ensures
-
-pub returns-in-Err-push-clause-breaks : goal.returns-in-Err-push-clause-breaks
-returns-in-Err-push-clause-breaks g c =
-    tt

@@ -1,0 +1,25 @@
+use Rattle.std.proofs.Common.{◌*◌, arith}
+use Rattle.std.proofs.lemmas.Result.{IfOk-weaker}
+use Rattle.yaml_base.specs.values.ValueText.{line_at}
+use Rattle.yaml_read.specs.Stepped.{no_line}
+use Rattle.yaml_read.proofs.{Stepping.lead_behind, Words.cuts_behind, Words.first_none}
+use Rattle.yaml_read.proofs.cuts.after_lead.Goals as goal
+
+pub returns-in-Ok : goal.returns-in-Ok
+returns-in-Ok c =
+    let line = line_at (c.args.depth * 2) in
+    record {
+      cut = cuts_behind line c.args.lead.now c.args.text.now c.in-Ok.line.now c.after.result c.in-Ok.ensures.cut c.after.ensures.cut;
+      lacks =
+          lead_behind c.args.depth c.args.lead.now c.args.text.now c.in-Ok.line.now c.after.result c.in-Ok.ensures.cut c.after.ensures.cut
+          c.after.ensures.placed;
+      shorter = IfOk-weaker c.after.result _ _ (λ rest is. omega (arith, is, c.in-Ok.ensures.shorter)) c.after.ensures.shorter;
+    }
+
+pub returns-in-Err : goal.returns-in-Err
+returns-in-Err c =
+    record {
+      cut = first_none (line_at (c.args.depth * 2)) c.args.lead.now c.args.text.now c.in-Err.ensures.cut;
+      lacks = no_line c.in-Err.ensures.cut c.in-Err.ensures.lacks;
+      shorter = tt;
+    }

@@ -1,0 +1,27 @@
+use Rattle.std.proofs.Common.{◌≡◌, ap, subst, sym, ◌∙◌, FitsSigned, true≢false, w64}
+use Rattle.std.{proofs.lemmas.Int.to_z-of_z, proofs.lemmas.Slice.Eq.bytes_eq-Decides, proofs.lemmas.Fmt.parse-signed_decimal, specs.Fmt.signed_decimal}
+use Rattle.std.specs.Int.Signed.{mag}
+use Rattle.std.specs.Prelude.{◌<◌, ◌^◌}
+use Rattle.yaml_read.proofs.{Scalars.fits_signed, Scalars.not_parsed, HeadsRead.bits_of_fits, HeadsRead.parsed_fits}
+use Rattle.yaml_read.proofs.heads.integer_of.Goals as goal
+
+pub returns-then-eq : goal.returns-then-eq
+returns-then-eq c =
+    let fits = parsed_fits c.args.digits.now c.in-Ok.value c.parse.result c.parse.ensures.value.0 c.in-Ok.is in
+    let same = (bytes_eq-Decides c.args.digits.now c.format.result.now).0 (sym c.eq.ensures ∙ c.if-eq.true) in
+    (subst (λ z. mag z < 2 ^ 63) (sym (to_z-of_z w64 c.in-Ok.value fits)) (bits_of_fits c.in-Ok.value fits), same ∙ c.format.ensures.text)
+
+pub returns-else-eq : goal.returns-else-eq
+returns-else-eq c =
+    λ n few is.
+    let value = parse-signed_decimal w64 n c.args.digits.now c.parse.result (fits_signed n few) few is c.parse.ensures.value.0 in
+    let same : c.in-Ok.value ≡ n = cc in
+    let fits = subst (FitsSigned w64) (sym same) (fits_signed n few) in
+    let spelled = c.format.ensures.text ∙ ap signed_decimal (to_z-of_z w64 c.in-Ok.value fits ∙ same) in
+    true≢false (sym ((bytes_eq-Decides c.args.digits.now c.format.result.now).1 (is ∙ sym spelled)) ∙ sym c.eq.ensures ∙ c.if-eq.false)
+
+pub returns-in-Err : goal.returns-in-Err
+returns-in-Err c =
+    λ n few is.
+    let value = parse-signed_decimal w64 n c.args.digits.now c.parse.result (fits_signed n few) few is c.parse.ensures.value.0 in
+    not_parsed n c.in-Err.field-0 c.parse.result value c.in-Err.is
