@@ -3,13 +3,14 @@ use Rattle.yaml_base.proofs.Common.{ℕ, [], ◌∷◌, ◌++◌, ◌≡◌, ◌
 use Rattle.yaml_base.proofs.Common.{All, All-head, All-tail, codes, inl, inr, line_feed, Text, encode_utf8_all, Event, alias, scalar, sequence_start}
 use Rattle.yaml_base.proofs.Common.{sequence_end, mapping_start, mapping_end, stream_start, stream_end, document_start, document_end, length, arith}
 use Rattle.yaml_base.{proofs.Common.length-append, proofs.Common.length-le-encodes, specs.values.ValueText.in_quotes}
-use Rattle.std.specs.{Prelude.Result, Prelude.Ok, Prelude.Err, Prelude.map, Prelude.◌==◌, Borrow.Bor}
+use Rattle.std.specs.{Prelude.Result, Prelude.Ok, Prelude.Err, Prelude.map, Borrow.Bor}
 use Rattle.std.proofs.lemmas.{List.append_cancel_left, List.map-append, List.Elements.All-nil, List.Elements.All-push, Str.encodes-append}
 use Rattle.yaml_read.specs.EventTexts.{Pending, HasBegunText, HasRunText, IsInNode, closing_text, ends_name, event_text, item_awaited, key_awaited, lead_text}
 use Rattle.yaml_read.specs.EventTexts.{may_come, more_come, none_begun, one_more, next_open, left_open, outside, root_ends, value_awaited, BeginsNode}
 use Rattle.yaml_read.specs.EventTexts.{begins_node, ends_mapping, ends_sequence, is_alias, is_mapping, is_scalar, is_sequence, opening_text, trail_text}
 use Rattle.yaml_read.specs.RunPlaces.{RunStops, StopsAmong, bare_start, behind_root, in_document, in_event, IsWithin, NoEventBegins}
 use Rattle.yaml_read.specs.Beginnings.{ReadOr}
+use Rattle.yaml_read.specs.Places.{LacksEnd, more_follows, no_end}
 use Rattle.yaml_read.specs.EventReads.{EndDue, EndRead, IsEventRead, RootRead, RunAnswer, RunEnded, RunFails}
 use Rattle.yaml_read.proofs.EventSteps.{behind_text, end_shorter, mapping_ends, node_event, sequence_ends}
 use Rattle.yaml_read.specs.EventSteps.{ReadsEvent, await_opened, text_behind_lead, trail_behind_opening}
@@ -357,18 +358,14 @@ end_answer seen bytes old new last (Err (stop.Refused left)) ends is pushed = ab
 end_answer seen bytes old new last (Err (stop.TooDeep left)) ends is pushed = absurd pushed
 
 -- why the document's end isn't read
-pub end_absent : (bytes : List ℕ) (error : Stop) → past_word (codes "\n") bytes ≡ None → error ≡ stop.Refused (length bytes)
-    → StopsAmong bytes error × (bytes ≡ codes "\n" → error ≡ stop.Memory)
-end_absent bytes error none here = (
-  subst (StopsAmong bytes) (sym here) (omega arith),
+pub end_lacking : (bytes : List ℕ) (error : Stop) → LacksEnd bytes error → StopsAmong bytes error × (bytes ≡ codes "\n" → error ≡ stop.Memory)
+end_lacking bytes error (no_end none place) = (
+  subst (StopsAmong bytes) (sym place) (omega arith),
   λ is. absurd (no_word (codes "\n") bytes [] none is),
 )
-
-pub end_unread : (bytes end : List ℕ) (error : Stop) → bytes ≡ codes "\n" ++ end → (length end == 0) ≡ false → error ≡ stop.Refused (length end)
-    → StopsAmong bytes error × (bytes ≡ codes "\n" → error ≡ stop.Memory)
-end_unread bytes end error is some here = (
-  subst (StopsAmong bytes) (sym here) (omega (arith, ap length is)),
-  λ also. absurd (false≢true (sym some ∙ ap (λ t. length t == 0) (append_cancel_left (codes "\n") end [] (sym is ∙ also)))),
+end_lacking bytes error (more_follows end is some place) = (
+  subst (StopsAmong bytes) (sym place) (omega (arith, ap length is)),
+  λ also. absurd (omega (arith, some, ap length (append_cancel_left (codes "\n") end [] (sym is ∙ also)))),
 )
 
 -- ---- less is left

@@ -19,6 +19,7 @@ pub mod HeadsRead
 pub mod Stepping
 pub mod WrittenValues
 pub mod Breaking
+pub mod Entries
 pub mod BreakingNodes
 pub mod Placing
 pub mod TextWords

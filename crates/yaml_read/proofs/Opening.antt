@@ -7,7 +7,9 @@ use Rattle.yaml_base.specs.values.ValueText.{line_at, value_text, items_text, pa
 use Rattle.std.proofs.lemmas.Str.{encodes-append}
 use Rattle.yaml_read.specs.Remaining.{Completes, IsRead, text_ends, OpenLevel, items_open, pairs_open, value_due, column_in, seen_level, seen_levels}
 use Rattle.yaml_read.specs.{Opened.opened_text, Opened.IsOpen, Opened.HasRead, Readable.CanBeReadAt, declared.levels.Level.Level}
+use Rattle.yaml_read.specs.{Places.LacksEnd, Places.more_follows, Places.no_end, declared.errors.Stop.Stop}
 use Rattle.yaml_read.proofs.{SeenLevels.level_more, Encoded.are_ascii, Encoded.word_encoded, Encoded.line_encoded, Turns.column_is, Turns.line_deeper}
+use Rattle.yaml_read.proofs.{Turns.cut_is, Words.no_word}
 
 -- a word that is its own bytes is read
 word_read : (whole bytes rest word written : List ℕ) (text : Text) → whole ≡ encode_utf8_all text ++ bytes → bytes ≡ word ++ rest
@@ -240,6 +242,11 @@ nothing_left (c ∷ bytes) empty is on = absurd (omega (arith, eqb-true (length 
 pub some_left : (bytes : List ℕ) (empty : Bool) → empty ≡ (length bytes == 0) → empty ≡ false → 0 < length bytes
 some_left [] empty is off = absurd (true≢false (sym is ∙ off))
 some_left (c ∷ bytes) empty is off = omega arith
+
+-- where a line's end is all that is left, it doesn't lack
+pub end_there : (bytes : List ℕ) (error : Stop) → LacksEnd bytes error → bytes ≡ codes "\n" → ⊥
+end_there bytes error (no_end none place) is = no_word (codes "\n") bytes [] none is
+end_there bytes error (more_follows rest cut some place) is = absurd (omega (arith, some, ap length (cut_is (codes "\n") bytes rest [] cut is)))
 
 -- a document's text behind its first line
 pub record TextOpen (text : List ℕ) (levels : List OpenLevel) (bytes : List ℕ) : Type 0 where

@@ -9,15 +9,15 @@ use Rattle.std.specs.Prelude.{Result, Ok, Err, IfErr, IfOk, ℤ, ◌^◌}
 use Rattle.std.proofs.Common.{String, Bor}
 use Rattle.std.{specs.Fmt.signed_decimal, specs.Int.Signed.mag, specs.Str.IsUtf8, specs.Str.all_scalars}
 use Rattle.std.proofs.lemmas.Result.{IfOk-weaker}
-use Rattle.yaml_read.specs.Grammar.{entry_end, integer, line_then, nothing, quoted_text, these_or_those, truth, word_then}
+use Rattle.yaml_read.specs.Grammar.{integer, line_then, nothing, quoted_text, truth}
 use Rattle.yaml_read.specs.Heads.{IsScalar, IsWhole, tag_word}
-use Rattle.yaml_read.specs.{Awaits.EntryStands, Opened.EntryCut, Opened.IsOpen, Words.Cuts}
+use Rattle.yaml_read.specs.Opened.{IsOpen}
 use Rattle.yaml_read.specs.Places.{BreaksAt, IsHere, IsHereOrMemory}
 use Rattle.yaml_read.specs.Remaining.{IsDue, OpenLevel, Reached, column_in, items_open, pairs_open}
 use Rattle.yaml_read.specs.Stepped.{BracketLacks, Entered, EntryLacks, NextShorter, ScalarRead, Settled, Stepped, no_bracket, no_lead, no_line}
-use Rattle.yaml_read.specs.Stepped.{EntryRead, EntryShorter, LineEntryRead, no_memory, no_room}
+use Rattle.yaml_read.specs.Stepped.{no_memory, no_room}
 use Rattle.yaml_read.specs.{Readable.CanBeReadAt, Sound.IsInteger, Sound.IsScalarValue, Sound.IsTruth, Words.OrMemory, Words.past_word}
-use Rattle.yaml_read.proofs.Breaking.{behind_word, line_lacks, line_passed, missing}
+use Rattle.yaml_read.proofs.{Breaking.line_lacks, Breaking.missing, Entries.lead_breaks}
 use Rattle.yaml_read.proofs.BreakingNodes.{list_line_breaks, map_line_breaks, no_integer, no_list, no_map, no_tag_there, node_stops, opens_deep, tag_passed}
 use Rattle.yaml_read.proofs.HeadTexts.{list_bracket, list_empty, map_bracket, map_empty, no_tag, tail_of}
 use Rattle.yaml_read.proofs.HeadsRead.{empty_list, empty_map, integer_read, null_read, string_read, truth_read}
@@ -28,8 +28,6 @@ use Rattle.yaml_value.{specs.SeenValues.seen_value, specs.declared.value.Value.V
 use Rattle.yaml_value.specs.declared.value.Value as declared
 use Rattle.yaml_read.specs.declared.errors.Stop.{Stop}
 use Rattle.yaml_read.specs.declared.heads.Kind.{Kind}
-use Rattle.yaml_read.specs.declared.levels.Entry.{Entry}
-use Rattle.yaml_read.specs.declared.levels.Entry.TheVariants.{Another, End}
 use Rattle.yaml_read.specs.declared.levels.Next.{Next}
 use Rattle.yaml_read.specs.declared.levels.Next.TheVariants.{Done, Node}
 use Rattle.yaml_read.specs.declared.errors.Stop.TheVariants as stop
@@ -290,49 +288,6 @@ list_breaks : (depth : ℕ) (inside : List ℕ) (error : Stop) → EntryLacks (s
 list_breaks depth inside error (no_memory is) = subst (BreaksAt (line_then (suc depth) nothing) inside) (sym is) tt
 list_breaks depth inside error (no_line none lacks) = line_lacks (suc depth) inside nothing error [] lacks tt
 list_breaks depth inside error (no_lead line is none place) = absurd (no_word [] line line none refl)
-
-pub lead_breaks : (depth : ℕ) (lead text : List ℕ) (error : Stop) → EntryLacks depth lead text error
-    → BreaksAt (line_then depth (word_then lead nothing)) text error
-lead_breaks depth lead text error (no_memory is) = subst (BreaksAt (line_then depth (word_then lead nothing)) text) (sym is) tt
-lead_breaks depth lead text error (no_line none lacks) = line_lacks depth text (word_then lead nothing) error (lead ∷ []) lacks (refl, tt)
-lead_breaks depth lead text error (no_lead line is none place) =
-    line_passed depth text line (word_then lead nothing) error is (missing lead line nothing error [] none place tt)
-
-pub lead_behind : (depth : ℕ) (lead text line : List ℕ) (result : Result (Bor (List ℕ)) Stop) → text ≡ line_at (depth * 2) ++ line → Cuts lead line result
-    → IfErr result (IsHere line) → IfErr result (EntryLacks depth lead text)
-lead_behind depth lead text line (Ok rest) is cut place = tt
-lead_behind depth lead text line (Err error) is cut place = no_lead line is cut place
-
--- an entry behind its comma
-pub entry_behind : (depth : ℕ) (lead end text behind : List ℕ) (result : Result Entry Stop) → text ≡ codes "," ++ behind
-    → LineEntryRead depth lead end behind result → EntryRead depth lead end text result
-entry_behind depth lead end text behind result is entry =
-    record {
-      found = λ tail at. entry.found tail (cut_is (codes ",") text behind (line_at (depth * 2) ++ tail) is at);
-      cut = cut result entry.stands;
-      breaks = breaks result entry.breaks;
-      shorter = shorter result entry.shorter;
-    }
-  where
-    cut : (result : Result Entry Stop) → EntryStands (line_at (depth * 2) ++ lead) (line_at (depth * 2) ++ end) behind result
-        → IfOk result (EntryCut depth lead end text)
-    cut (Ok (Another rest)) stands = is ∙ ap (λ t. codes "," ++ t) (stands ∙ append_assoc (line_at (depth * 2)) lead rest.now)
-    cut (Ok (End rest)) stands = is ∙ ap (λ t. codes "," ++ t) (stands ∙ append_assoc (line_at (depth * 2)) end rest.now)
-    cut (Err error) stands = tt
-
-    breaks : (result : Result Entry Stop) → IfErr result (BreaksAt (line_then depth (these_or_those (word_then lead nothing) (word_then end nothing))) behind)
-        → IfErr result (BreaksAt (entry_end depth lead end) text)
-    breaks (Ok entry) off = tt
-    breaks (Err error) off =
-        behind_word (line_then depth (these_or_those (word_then lead nothing) (word_then end nothing))) (codes ",") text behind error is off
-
-    less : length behind < length text
-    less = omega (arith, ap length is)
-
-    shorter : (result : Result Entry Stop) → IfOk result (EntryShorter behind) → IfOk result (EntryShorter text)
-    shorter (Ok (Another rest)) short = omega (arith, less, short)
-    shorter (Ok (End rest)) short = omega (arith, less, short)
-    shorter (Err error) short = tt
 
 -- a list that has items
 pub list_steps : {A : Type 0} (before after : List OpenLevel) (text behind inside : List ℕ) (result : Result (Next A) Stop)

@@ -1,5 +1,5 @@
 -- Where bytes break off, and the place of an error.
-use Rattle.std.specs.Prelude.{ℕ, ◌-◌, ◌*◌, ◌<◌, ◌≡◌, ◌⊎◌, None, List, [], ◌∷◌, ◌++◌, codes, flat_map, length, replicate}
+use Rattle.std.specs.Prelude.{ℕ, ◌-◌, ◌*◌, ◌<◌, ◌≡◌, ◌⊎◌, None, Result, Ok, Err, List, [], ◌∷◌, ◌++◌, codes, flat_map, length, replicate}
 use Rattle.std.specs.Str.{IsUtf8, IsValidUpTo}
 use Rattle.yaml_base.specs.Characters.{space}
 use Rattle.yaml_base.specs.values.LinesAndColumns.{column_of, line_of}
@@ -104,6 +104,11 @@ pub data LacksLine (depth : ℕ) (bytes : List ℕ) (error : Stop) : Type 0 wher
 pub data LacksEnd (bytes : List ℕ) (error : Stop) : Type 0 where
   no_end : past_word (codes "\n") bytes ≡ None → IsHere bytes error → LacksEnd bytes error
   more_follows : (rest : List ℕ) → bytes ≡ codes "\n" ++ rest → 0 < length rest → IsHere rest error → LacksEnd bytes error
+
+-- that line's end is all that is left, or it isn't so
+abbrev pub EndsText : (bytes : List ℕ) → Result (Unit {0}) Stop → Type 0
+EndsText bytes (Ok _) = bytes ≡ codes "\n"
+EndsText bytes (Err error) = LacksEnd bytes error
 
 -- the bytes break off, or memory gave out
 abbrev pub BreaksAt : (These : List (List ℕ) → Type 0) → (bytes : List ℕ) → Stop → Type 0

@@ -2,7 +2,7 @@
 ghost use Rattle.std.specs.Prelude.{◌≡◌, ◌++◌, ◌+◌, ◌*◌, ◌<◌, ◌≤◌, IfErr, IfOk, IfSome, MatchOption, encode_utf8, length, replicate};
 ghost use Rattle.yaml_base.specs.Characters.{space};
 ghost use Rattle.yaml_base.specs.values.ValueText.{line_at};
-ghost use Rattle.yaml_read.specs.Places.{IsHere, LacksLevel, LacksLine};
+ghost use Rattle.yaml_read.specs.Places.{EndsText, IsHere, LacksLevel, LacksLine};
 ghost use Rattle.yaml_read.specs.Stepped.{LeadCut};
 ghost use Rattle.yaml_read.specs.Words.{Cuts, CutsIf};
 
@@ -39,6 +39,22 @@ pub(crate) fn after<'a>(text: &'a str, word: &str) -> Result<&'a str, Stop>
     match past(text, word) {
         Some(rest) => Ok(rest),
         None => Err(refused_at(text)),
+    }
+}
+
+/// Ends the text: a line's end is left, and nothing else.
+pub(crate) fn end_text(text: &str) -> Result<(), Stop>
+    ensures { EndsText text.now result }
+{
+    match after(text, "\n") {
+        Ok(end) => {
+            if end.is_empty() {
+                Ok(())
+            } else {
+                Err(refused_at(end))
+            }
+        }
+        Err(stop) => Err(stop),
     }
 }
 

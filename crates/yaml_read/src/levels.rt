@@ -6,8 +6,8 @@ ghost use Rattle.yaml_read.specs.Stepped.{BracketRead, Entered, EntryRead, Settl
 ghost use Rattle.yaml_read.specs.declared.heads.Kind.TheVariants as kind;
 ghost use Rattle.yaml_value.specs.SeenValues.{seen_pairs, seen_value, seen_values};
 
-use crate::cuts::{after, after_lead, past};
-use crate::errors::{Stop, refused_at};
+use crate::cuts::{after, after_lead, end_text, past};
+use crate::errors::Stop;
 use crate::leads::another_entry;
 use crate::steps::push;
 use std::alloc::Allocator;
@@ -136,15 +136,8 @@ fn take_value<'a, A: Allocator>(
 fn finish<'a, A: Allocator>(value: Value<A>, text: &'a str) -> Result<Next<'a, A>, Stop>
     ensures { (levels : List OpenLevel) → Settled [] levels (seen_value value) text.now result }
 {
-    match after(text, "\n") {
-        Ok(end) => {
-            if end.is_empty() {
-                Ok(Next::Done(value))
-            } else {
-                drop(value);
-                Err(refused_at(end))
-            }
-        }
+    match end_text(text) {
+        Ok(()) => Ok(Next::Done(value)),
         Err(stop) => {
             drop(value);
             Err(stop)

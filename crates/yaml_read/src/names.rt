@@ -13,10 +13,12 @@ use yaml_base::is_alpha;
 fn name_length(text: &str) -> usize
     ensures { result ≡ prefix_len class.is_alpha text.now }
 {
-    text.as_bytes()
-        .iter()
-        .take_while(|byte| is_alpha(**byte as char))
-        .count()
+    let bytes = text.as_bytes();
+    let mut count = 0;
+    'letters: while count < bytes.len() && is_alpha(bytes[count] as char) {
+        count += 1;
+    }
+    count
 }
 
 /// Returns a copy of the name that a text begins with, and what follows it. It ends before the first character that can't stand

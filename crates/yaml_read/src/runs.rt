@@ -10,8 +10,8 @@ ghost use Rattle.yaml_read.specs.EventTexts.{HasRunText, IsInNode};
 ghost use Rattle.yaml_read.specs.RunPlaces.{RunStops, bare_start, in_document};
 ghost use Rattle.yaml_read.specs.Words.{OrMemory};
 
-use crate::cuts::after;
-use crate::errors::{Stop, refused_at, stopped_within};
+use crate::cuts::end_text;
+use crate::errors::{Stop, stopped_within};
 use crate::leads::Await;
 use crate::steps::{Progress, push, read_event};
 use std::alloc::Allocator;
@@ -32,17 +32,11 @@ fn start_event<A: Allocator>(alloc: A) -> yaml_event_t<A>
 fn end_events<A: Allocator>(events: &mut Vec<yaml_event_t<A>, A>, text: &str) -> Result<(), Stop>
     ensures { EndRead (map seen_event events.old.items) text.now (map seen_event events.new.items) result }
 {
-    match after(text, "\n") {
-        Ok(end) => {
-            if end.is_empty() {
-                push(
-                    events,
-                    yaml_event_t::YAML_DOCUMENT_END_EVENT { implicit: true },
-                )
-            } else {
-                Err(refused_at(end))
-            }
-        }
+    match end_text(text) {
+        Ok(()) => push(
+            events,
+            yaml_event_t::YAML_DOCUMENT_END_EVENT { implicit: true },
+        ),
         Err(stop) => Err(stop),
     }
 }

@@ -2,7 +2,7 @@ use Rattle.std.proofs.Common.{◌*◌, arith}
 use Rattle.std.proofs.lemmas.Result.{IfOk-weaker}
 use Rattle.yaml_base.specs.values.ValueText.{line_at}
 use Rattle.yaml_read.specs.Stepped.{no_line}
-use Rattle.yaml_read.proofs.{Stepping.lead_behind, Words.cuts_behind, Words.first_none}
+use Rattle.yaml_read.proofs.{Entries.lead_behind, Words.cuts_behind, Words.first_none}
 use Rattle.yaml_read.proofs.cuts.after_lead.Goals as goal
 
 pub returns-in-Ok : goal.returns-in-Ok

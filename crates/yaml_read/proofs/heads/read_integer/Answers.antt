@@ -3,7 +3,8 @@ use Rattle.std.{proofs.lemmas.Fmt.signed_decimal_injective, proofs.lemmas.Int.to
 use Rattle.yaml_value.{specs.SeenValues.seen_value, specs.declared.value.Value.Value}
 use Rattle.yaml_base.{specs.values.TypedValues.int_value, specs.values.ValueText.in_quotes, specs.Seen.seen_text}
 use Rattle.yaml_read.proofs.{Scalars.digits_are, Scalars.fits_signed, Scalars.int_scalars, SeenLevels.seen_integer}
-use Rattle.yaml_read.proofs.{BreakingNodes.whole_placed, BreakingNodes.whole_refused, HeadsRead.digits_seen, Stepping.integer_scalar, Stepping.no_integer_scalar}
+use Rattle.yaml_read.proofs.BreakingNodes.{whole_placed, whole_refused}
+use Rattle.yaml_read.proofs.{HeadsRead.digits_seen, Stepping.integer_scalar, Stepping.no_integer_scalar}
 use Rattle.yaml_read.specs.{Heads.IsWhole}
 use Rattle.yaml_value.specs.declared.value.Value as declared
 use Rattle.yaml_read.proofs.heads.read_integer.Goals as goal

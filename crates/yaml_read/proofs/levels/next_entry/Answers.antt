@@ -1,6 +1,6 @@
 use Rattle.std.proofs.Common.{◌*◌, ◌++◌, codes}
 use Rattle.yaml_base.specs.values.ValueText.{line_at}
-use Rattle.yaml_read.proofs.{Breaking.no_comma, Stepping.entry_behind, Words.no_word}
+use Rattle.yaml_read.proofs.{Breaking.no_comma, Entries.entry_behind, Words.no_word}
 use Rattle.yaml_read.proofs.levels.next_entry.Goals as goal
 
 pub returns-in-Err : goal.returns-in-Err

@@ -2,7 +2,7 @@ use Rattle.std.proofs.Common.{◌*◌, ◌++◌, subst, sym, ap, ◌∙◌, appe
 use Rattle.yaml_base.specs.values.ValueText.{line_at}
 use Rattle.yaml_value.specs.SeenValues.{seen_pairs, seen_value}
 use Rattle.yaml_read.{specs.Remaining.IsDue, proofs.Turns.cut_is, proofs.Turns.key_bytes, proofs.Turns.key_ends, proofs.Words.no_word, proofs.Opening.key_on}
-use Rattle.yaml_read.proofs.Stepping.{lead_breaks}
+use Rattle.yaml_read.proofs.Entries.{lead_breaks}
 use Rattle.yaml_read.proofs.levels.take_key.Goals as goal
 
 pub returns-in-Err : goal.returns-in-Err

@@ -33,7 +33,8 @@ returns-in-Ok-Another g c =
           λ whole levels depth read.
           subst (λ pairs. IsOpen whole (pairs_open pairs ∷ levels) c.in-Ok-Another.rest.now) (sym (ap seen_pairs c.in-Ok.ensures
           ∙ pair_more c.args.pairs.items c.args.pair))
-          (pair_on whole levels (seen_pairs c.args.pairs.items) (seen_value c.args.pair.0) (seen_value c.args.pair.1) c.args.text.now c.in-Ok-Another.rest.now read
+          (pair_on whole levels (seen_pairs c.args.pairs.items) (seen_value c.args.pair.0) (seen_value c.args.pair.1) c.args.text.now
+          c.in-Ok-Another.rest.now read
           (entry.cut ∙ ap (λ n. codes "," ++ (line_at (n * 2) ++ (codes "  ? " ++ c.in-Ok-Another.rest.now))) depth));
       breaks = tt;
       shorter = entry.shorter;

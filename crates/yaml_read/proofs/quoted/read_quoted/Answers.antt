@@ -22,7 +22,8 @@ returns-in-Some g c =
     record {
       reads =
           λ value rest scalars is.
-          text_read c.characters.value value rest c.args.text.now c.characters.rest.now c.in-Some.end.now c.characters.invariant.2 c.in-Some.ensures.cut scalars is;
+          text_read c.characters.value value rest c.args.text.now c.characters.rest.now c.in-Some.end.now c.characters.invariant.2
+          c.in-Some.ensures.cut scalars is;
       sound = all_read c.args.text.now c.characters.rest.now c.in-Some.end.now c.characters.value c.characters.invariant.3 c.in-Some.ensures.cut;
       breaks = tt;
       shorter = omega (arith, c.characters.invariant.1, c.in-Some.ensures.shorter);
@@ -64,7 +65,8 @@ characters-init g c = (
 )
 
 pub characters-smaller : goal.characters-smaller
-characters-smaller g c = character_shorter c.characters.rest.now c.in-Some-read_character.found.0 c.in-Some-read_character.found.1.now c.in-Some-read_character.ensures.sound
+characters-smaller g c =
+    character_shorter c.characters.rest.now c.in-Some-read_character.found.0 c.in-Some-read_character.found.1.now c.in-Some-read_character.ensures.sound
 
 pub characters-preserved : goal.characters-preserved
 characters-preserved g c = (

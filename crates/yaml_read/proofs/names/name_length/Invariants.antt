@@ -1,0 +1,10 @@
+use Rattle.std.proofs.Common.{◌≡◌, ◌+◌, ◌-◌, ◌≤◌, drop, length}
+use Rattle.std.specs.List.{prefix_len}
+use Rattle.yaml_base.specs.Characters.{is_alpha}
+use Rattle.yaml_read.proofs.names.name_length.Given as goal
+
+abbrev pub invariant-letters : goal.invariant-letters
+invariant-letters l = (l.count ≤ length l.bytes) × (prefix_len is_alpha l.bytes ≡ l.count + prefix_len is_alpha (drop l.count l.bytes))
+
+abbrev pub decreases-letters : goal.decreases-letters
+decreases-letters l = length l.bytes - l.count
