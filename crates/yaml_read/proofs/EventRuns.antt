@@ -14,7 +14,7 @@ use Rattle.yaml_read.specs.Places.{LacksEnd, more_follows, no_end}
 use Rattle.yaml_read.specs.EventReads.{EndDue, EndRead, IsEventRead, RootRead, RunAnswer, RunEnded, RunFails}
 use Rattle.yaml_read.proofs.EventSteps.{behind_text, end_shorter, mapping_ends, node_event, sequence_ends}
 use Rattle.yaml_read.specs.EventSteps.{ReadsEvent, await_opened, text_behind_lead, trail_behind_opening}
-use Rattle.yaml_read.{specs.Words.OrMemory, specs.Words.past_word, specs.declared.errors.Stop.Stop, proofs.Encoded.word_encoded, proofs.Words.no_word}
+use Rattle.yaml_read.{specs.Words.OrMemory, specs.declared.errors.Stop.Stop, proofs.Encoded.word_encoded, proofs.Words.no_word}
 use Rattle.yaml_read.specs.declared.errors.Stop.TheVariants as stop
 
 -- ---- a name ends before an event in a collection

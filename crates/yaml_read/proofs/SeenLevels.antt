@@ -1,9 +1,9 @@
 -- Levels, entries and values of a program as they are seen.
-use Rattle.yaml_base.proofs.Common.{ℕ, ◌+◌, suc, List, [], ◌∷◌, ◌++◌, refl, ◌≡◌, ap, subst, sym, ◌∙◌, arith, length, length-append, map, map-append, ℤ}
+use Rattle.yaml_base.proofs.Common.{ℕ, ◌+◌, suc, List, [], ◌∷◌, ◌++◌, refl, ◌≡◌, ap, ◌∙◌, arith, length, length-append, map, map-append, ℤ}
 use Rattle.yaml_base.specs.Seen.{seen_text}
 use Rattle.yaml_base.specs.values.TypedValues.{TypedValue, list_value, map_value, TypedValues, no_values, values_and, TypedPairs, no_value_pairs}
 use Rattle.yaml_base.specs.values.TypedValues.{value_pairs_and, null_value, int_value, text_value}
-use Rattle.std.proofs.Common.{Result, Ok, Vec, String, rules}
+use Rattle.std.proofs.Common.{Vec, String, rules}
 use Rattle.yaml_value.specs.SeenValues.{seen_value, seen_values, seen_pairs, values_of, pairs_of}
 use Rattle.yaml_value.specs.declared.value.Value.{Value}
 use Rattle.yaml_read.specs.Remaining.{OpenLevel, seen_level, seen_levels, onto}

@@ -1,13 +1,15 @@
 -- Where bytes break off, and the place of an error.
-use Rattle.std.specs.Prelude.{ℕ, ◌-◌, ◌*◌, ◌<◌, ◌≡◌, ◌⊎◌, None, Result, Ok, Err, List, [], ◌∷◌, ◌++◌, codes, flat_map, length, replicate}
+use Rattle.std.specs.Prelude.{ℕ, ◌+◌, ◌-◌, ◌*◌, ◌<◌, ◌≡◌, ◌⊎◌, None, Option, Result, Ok, Err, IfErr, IfOk, IfSome, List, [], ◌∷◌, ◌++◌, codes, flat_map, length, replicate}
+use Rattle.std.specs.Borrow.{Bor}
 use Rattle.std.specs.Str.{IsUtf8, IsValidUpTo}
 use Rattle.yaml_base.specs.Characters.{space}
 use Rattle.yaml_base.specs.values.LinesAndColumns.{column_of, line_of}
 use Rattle.yaml_base.specs.values.TypedValues.{TypedValue, most_nested}
+use Rattle.yaml_base.specs.values.ValueText.{line_at}
 use Rattle.yaml_read.specs.Grammar.{behind_value, node, nothing, word_then}
 use Rattle.yaml_read.specs.Opened.{HasRead, IsOpen}
 use Rattle.yaml_read.specs.Remaining.{OpenLevel}
-use Rattle.yaml_read.specs.Words.{past_word}
+use Rattle.yaml_read.specs.Words.{Cuts, CutsIf, past_word}
 use Rattle.yaml_read.specs.declared.errors.ReadError.{ReadError}
 use Rattle.yaml_read.specs.declared.errors.ReadError.TheVariants as told
 use Rattle.yaml_read.specs.declared.errors.Stop.{Stop}
@@ -104,6 +106,22 @@ pub data LacksLine (depth : ℕ) (bytes : List ℕ) (error : Stop) : Type 0 wher
 pub data LacksEnd (bytes : List ℕ) (error : Stop) : Type 0 where
   no_end : past_word (codes "\n") bytes ≡ None → IsHere bytes error → LacksEnd bytes error
   more_follows : (rest : List ℕ) → bytes ≡ codes "\n" ++ rest → 0 < length rest → IsHere rest error → LacksEnd bytes error
+
+-- a word stands first, and this follows it; or it doesn't stand first
+pub record PastWord (word bytes : List ℕ) (result : Option (Bor (List ℕ))) : Type 0 where
+  pub cut : CutsIf word bytes result
+  pub shorter : IfSome result (λ rest. length rest.now + length word ≡ length bytes)
+
+pub record WordCut (word bytes : List ℕ) (result : Result (Bor (List ℕ)) Stop) : Type 0 where
+  pub cut : Cuts word bytes result
+  pub placed : IfErr result (IsHere bytes)
+  pub shorter : IfOk result (λ rest. length rest.now + length word ≡ length bytes)
+
+-- a line's end and the indentation of a depth stand first, and this follows them; or they don't stand first
+pub record IndentCut (depth : ℕ) (bytes : List ℕ) (result : Result (Bor (List ℕ)) Stop) : Type 0 where
+  pub cut : Cuts (line_at (depth * 2)) bytes result
+  pub lacks : IfErr result (LacksLine depth bytes)
+  pub shorter : IfOk result (λ rest. length rest.now < length bytes)
 
 -- that line's end is all that is left, or it isn't so
 abbrev pub EndsText : (bytes : List ℕ) → Result (Unit {0}) Stop → Type 0

@@ -1,17 +1,15 @@
 //! The rest of a text behind a word or a character at its beginning.
-ghost use Rattle.std.specs.Prelude.{◌≡◌, ◌++◌, ◌+◌, ◌*◌, ◌<◌, ◌≤◌, IfErr, IfOk, IfSome, MatchOption, encode_utf8, length, replicate};
+ghost use Rattle.std.specs.Prelude.{◌≡◌, ◌++◌, ◌*◌, ◌≤◌, IfErr, IfOk, MatchOption, encode_utf8, length, replicate};
 ghost use Rattle.yaml_base.specs.Characters.{space};
-ghost use Rattle.yaml_base.specs.values.ValueText.{line_at};
-ghost use Rattle.yaml_read.specs.Places.{EndsText, IsHere, LacksLevel, LacksLine};
+ghost use Rattle.yaml_read.specs.Places.{EndsText, IndentCut, LacksLevel, PastWord, WordCut};
 ghost use Rattle.yaml_read.specs.Stepped.{LeadCut};
-ghost use Rattle.yaml_read.specs.Words.{Cuts, CutsIf};
+ghost use Rattle.yaml_read.specs.Words.{Cuts};
 
 use crate::errors::{Stop, refused_at};
 
 /// Returns what follows a word, where the text begins with it.
 pub(crate) fn past<'a>(text: &'a str, word: &str) -> Option<&'a str>
-    ensures cut { CutsIf word.now text.now result }
-    ensures shorter { IfSome result (λ rest. length rest.now + length word.now ≡ length text.now) }
+    ensures { PastWord word.now text.now result }
 {
     match text.strip_prefix(word) {
         Some(rest) => Some(rest),
@@ -32,9 +30,7 @@ pub(crate) fn first(text: &str) -> Option<(char, &str)>
 
 /// Returns what follows a word.
 pub(crate) fn after<'a>(text: &'a str, word: &str) -> Result<&'a str, Stop>
-    ensures cut { Cuts word.now text.now result }
-    ensures placed { IfErr result (IsHere text.now) }
-    ensures shorter { IfOk result (λ rest. length rest.now + length word.now ≡ length text.now) }
+    ensures { WordCut word.now text.now result }
 {
     match past(text, word) {
         Some(rest) => Ok(rest),
@@ -76,9 +72,7 @@ fn after_spaces(text: &str, depth: usize) -> Result<&str, Stop>
 
 /// Returns what follows a line's end and the indentation of a depth.
 pub(crate) fn after_indent(text: &str, depth: usize) -> Result<&str, Stop>
-    ensures cut { Cuts (line_at (depth * 2)) text.now result }
-    ensures lacks { IfErr result (LacksLine depth text.now) }
-    ensures shorter { IfOk result (λ rest. length rest.now < length text.now) }
+    ensures { IndentCut depth text.now result }
 {
     match after(text, "\n") {
         Ok(line) => after_spaces(line, depth),
