@@ -157,16 +157,18 @@ pub(crate) fn settle<'a, A: Allocator>(
     let mut rest = text;
     while let Some(level) = levels.pop() {
         match take_value(level, value, rest, levels.len()) {
-            Ok(Turn::Continues(level, next)) => {
-                return match push(levels, level) {
-                    Ok(()) => Ok(Next::Node(next)),
-                    Err(stop) => Err(stop),
-                };
-            }
-            Ok(Turn::Ends(whole, next)) => {
-                value = whole;
-                rest = next;
-            }
+            Ok(turn) => match turn {
+                Turn::Continues(level, next) => {
+                    return match push(levels, level) {
+                        Ok(()) => Ok(Next::Node(next)),
+                        Err(stop) => Err(stop),
+                    };
+                }
+                Turn::Ends(whole, next) => {
+                    value = whole;
+                    rest = next;
+                }
+            },
             Err(stop) => return Err(stop),
         }
     }

@@ -51,8 +51,10 @@ fn read_text<A: Allocator + Copy>(alloc: A, text: &str) -> Result<Value<A>, Stop
     let mut levels = Vec::new(alloc);
     'nodes: loop {
         match step(alloc, &mut levels, rest) {
-            Ok(Next::Done(value)) => return Ok(value),
-            Ok(Next::Node(next)) => rest = next,
+            Ok(next) => match next {
+                Next::Done(value) => return Ok(value),
+                Next::Node(next) => rest = next,
+            },
             Err(stop) => return Err(stop),
         }
     }

@@ -1,12 +1,12 @@
-use Rattle.std.proofs.Common.{◌≡◌, ℕ, List, subst, sym, ◌∙◌, rules, arith, Ok, length}
+use Rattle.std.proofs.Common.{◌≡◌, ◌<◌, ℕ, List, subst, sym, ◌∙◌, rules, arith, Ok, length}
 use Rattle.yaml_value.specs.SeenValues.{seen_value}
-use Rattle.yaml_read.specs.Remaining.{IsDue, IsRead, OpenLevel, seen_level, seen_levels}
-use Rattle.yaml_read.specs.Opened.{HasRead, IsOpen}
+use Rattle.yaml_read.specs.Remaining.{IsDue, IsRead, OpenLevel, TurnReached, seen_level, seen_levels}
+use Rattle.yaml_read.specs.Opened.{HasRead, IsOpen, TurnRead}
 use Rattle.yaml_read.proofs.BreakingNodes.{value_stops}
 use Rattle.yaml_read.proofs.Stepping.{next_less}
 use Rattle.std.proofs.lemmas.Result.{IfOk-weaker}
+use Rattle.yaml_read.specs.{declared.levels.Turn.Turn, Stepped.TurnShorter}
 use Rattle.yaml_read.proofs.{SeenLevels.levels_length, SeenLevels.no_levels, SeenLevels.pushed_on, Turns.popped, Turns.turn_error, Opening.taken}
-use Rattle.yaml_read.specs.{Stepped.Taken, declared.levels.Turn.Turn}
 use Rattle.yaml_read.proofs.levels.settle.Goals as goal
 
 pub returns-in-Err : goal.returns-in-Err
@@ -30,11 +30,8 @@ returns-in-Err g c =
       shorter = tt;
     }
 
-pub returns-in-Ok : goal.returns-in-Ok
-returns-in-Ok g c =
-    let turn = subst
-    (λ (t : Turn g.row.A.Denot). Taken c.len.result (seen_level c.in-Some.level) (seen_value c.loop-level.value) c.loop-level.rest.now (Ok t))
-    c.in-Ok-Continues.field-0-is c.in-Ok-Continues.ensures in
+pub returns-in-Ok-push : goal.returns-in-Ok-push
+returns-in-Ok-push g c =
     record {
       reached = λ root read.
           let inner = seen_levels c.pop.new.self.items in
@@ -42,19 +39,23 @@ returns-in-Ok g c =
           let taken = popped (seen_levels c.args.levels.now.items) (seen_value c.args.value) (seen_value c.loop-level.value) c.args.text.now
           c.loop-level.rest.now
           c.loop-level.levels.items c.pop.new.self.items c.in-Some.level root c.loop-level.invariant.2 c.in-Some.ensures.items read in
-          let due = turn.reached root inner depth taken in
-          subst (λ (levels : List OpenLevel). IsDue root levels c.in-Ok-Continues.next.now)
-          (sym (pushed_on c.in-Ok-Continues.level c.pop.new.self.items c.push.new.list.items c.in-Ok.ensures).0) due;
+          let reached : TurnReached root inner (Ok c.in-Ok.turn) = c.in-Ok.ensures.reached root inner depth taken in
+          let due = subst (λ (t : Turn g.row.A.Denot). TurnReached root inner (Ok t)) c.in-Continues.is reached in
+          subst (λ (levels : List OpenLevel). IsDue root levels c.in-Continues.next.now)
+          (sym (pushed_on c.in-Continues.level c.pop.new.self.items c.push.new.list.items c.in-Ok-push.ensures).0) due;
       read = λ whole read.
           let inner = seen_levels c.pop.new.self.items in
           let depth : c.len.result ≡ length inner = c.len.ensures ∙ c.pop.new.self.ok.0 ∙ sym (levels_length c.pop.new.self.items) in
           let before = taken (seen_levels c.args.levels.now.items) (seen_value c.args.value) (seen_value c.loop-level.value) c.args.text.now
           c.loop-level.rest.now c.loop-level.levels.items c.pop.new.self.items c.in-Some.level whole c.loop-level.invariant.3 c.in-Some.ensures.items read in
-          let opened = turn.read whole inner depth before in
-          subst (λ (levels : List OpenLevel). IsOpen whole levels c.in-Ok-Continues.next.now)
-          (sym (pushed_on c.in-Ok-Continues.level c.pop.new.self.items c.push.new.list.items c.in-Ok.ensures).0) opened;
+          let turn : TurnRead whole inner c.in-Ok.turn = c.in-Ok.ensures.read whole inner depth before in
+          let opened = subst (λ (t : Turn g.row.A.Denot). TurnRead whole inner t) c.in-Continues.is turn in
+          subst (λ (levels : List OpenLevel). IsOpen whole levels c.in-Continues.next.now)
+          (sym (pushed_on c.in-Continues.level c.pop.new.self.items c.push.new.list.items c.in-Ok-push.ensures).0) opened;
       stops = λ whole read. tt;
-      shorter = omega (arith, turn.shorter, c.loop-level.invariant.1);
+      shorter = let less : length c.in-Continues.next.now < length c.loop-level.rest.now =
+          subst (λ (t : Turn g.row.A.Denot). TurnShorter c.loop-level.rest.now t) c.in-Continues.is c.in-Ok.ensures.shorter in
+          omega (arith, less, c.loop-level.invariant.1);
     }
 
 pub returns : goal.returns
@@ -78,9 +79,6 @@ returns g c =
 
 pub loop-level-preserved : goal.loop-level-preserved
 loop-level-preserved g c =
-    let turn = subst
-    (λ (t : Turn g.row.A.Denot). Taken c.len.result (seen_level c.in-Some.level) (seen_value c.loop-level.value) c.loop-level.rest.now (Ok t))
-    c.in-Ok-Ends.field-0-is c.in-Ok-Ends.ensures in
     let inner = seen_levels c.pop.new.self.items in
     let depth : c.len.result ≡ length inner = c.len.ensures ∙ c.pop.new.self.ok.0 ∙ sym (levels_length c.pop.new.self.items) in (
       search rules,
@@ -90,12 +88,14 @@ loop-level-preserved g c =
             let taken = popped (seen_levels c.args.levels.now.items) (seen_value c.args.value) (seen_value c.loop-level.value) c.args.text.now
             c.loop-level.rest.now
             c.loop-level.levels.items c.pop.new.self.items c.in-Some.level root c.loop-level.invariant.2 c.in-Some.ensures.items read in
-            turn.reached root inner depth taken;
+            let reached : TurnReached root inner (Ok c.in-Ok.turn) = c.in-Ok.ensures.reached root inner depth taken in
+            subst (λ (t : Turn g.row.A.Denot). TurnReached root inner (Ok t)) c.in-Ends.is reached;
       },
       record {
         read = λ whole read.
             let before = taken (seen_levels c.args.levels.now.items) (seen_value c.args.value) (seen_value c.loop-level.value) c.args.text.now
             c.loop-level.rest.now c.loop-level.levels.items c.pop.new.self.items c.in-Some.level whole c.loop-level.invariant.3 c.in-Some.ensures.items read in
-            turn.read whole inner depth before;
+            let turn : TurnRead whole inner c.in-Ok.turn = c.in-Ok.ensures.read whole inner depth before in
+            subst (λ (t : Turn g.row.A.Denot). TurnRead whole inner t) c.in-Ends.is turn;
       },
     )

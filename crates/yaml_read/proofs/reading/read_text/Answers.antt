@@ -1,10 +1,9 @@
 use Rattle.std.proofs.Common.{List, subst, sym, rules, Ok, codes}
 use Rattle.yaml_value.{specs.SeenValues.seen_value}
 use Rattle.yaml_read.proofs.Opening.{TextOpen, text_open, text_read}
-use Rattle.yaml_read.{proofs.Turns.root_due, proofs.Turns.text_due, proofs.Placing.text_stops}
+use Rattle.yaml_read.{specs.Remaining.Reached, proofs.Turns.root_due, proofs.Turns.text_due, proofs.Placing.text_stops}
 use Rattle.yaml_read.{specs.Remaining.seen_levels, proofs.Placing.marker_stops, specs.declared.levels.Level.Level, specs.declared.levels.Next.Next}
-use Rattle.yaml_read.{proofs.Turns.TextDue, proofs.Words.no_word}
-use Rattle.yaml_read.specs.Stepped.{Stepped}
+use Rattle.yaml_read.{proofs.Turns.TextDue, proofs.Words.no_word, specs.Opened.NextRead}
 use Rattle.yaml_read.proofs.reading.read_text.Goals as goal
 
 pub nodes-init : goal.nodes-init
@@ -39,32 +38,34 @@ returns-in-Err-step g c =
           text_stops c.args.text.now opened.whole c.in-Err-step.stop opened.text_is (c.in-Err-step.ensures.stops opened.whole opened.opened);
     }
 
-pub returns-in-Ok-Done : goal.returns-in-Ok-Done
-returns-in-Ok-Done g c =
-    let next = subst
-    (λ (n : Next g.row.A.Denot).
-    Stepped (seen_levels c.nodes.levels.items) (seen_levels c.step.new.levels.items) c.nodes.rest.now (Ok n))
-    c.in-Ok-Done.field-0-is c.in-Ok-Done.ensures in
+pub returns-in-Done : goal.returns-in-Done
+returns-in-Done g c =
     record {
-      reads = λ value readable is. next.reached value (c.nodes.invariant.1.due value readable is);
+      reads =
+          λ value readable is.
+          subst (λ (next : Next _). Reached value (seen_levels c.step.new.levels.items) (Ok next)) c.in-Done.is
+          (c.in-Ok-step.ensures.reached value (c.nodes.invariant.1.due value readable is));
       sound =
           let opened = c.nodes.invariant.2 in
-          let read = next.read opened.whole opened.opened in
-          (text_read (seen_value c.in-Ok-Done.value) c.args.text.now opened.whole opened.text_is read.0, read.1);
+          let read = subst (λ (next : Next g.row.A.Denot). NextRead opened.whole (seen_levels c.step.new.levels.items) next) c.in-Done.is
+          (c.in-Ok-step.ensures.read opened.whole opened.opened) in
+          (text_read (seen_value c.in-Done.value) c.args.text.now opened.whole opened.text_is read.0, read.1);
       stops = tt;
     }
 
 pub nodes-preserved : goal.nodes-preserved
-nodes-preserved g c =
-    let next = subst
-    (λ (n : Next g.row.A.Denot).
-    Stepped (seen_levels c.nodes.levels.items) (seen_levels c.step.new.levels.items) c.nodes.rest.now (Ok n))
-    c.in-Ok-Node.field-0-is c.in-Ok-Node.ensures in (
-      search rules,
-      record { due = λ value readable is. next.reached value (c.nodes.invariant.1.due value readable is) },
-      record {
-        whole = c.nodes.invariant.2.whole;
-        text_is = c.nodes.invariant.2.text_is;
-        opened = next.read c.nodes.invariant.2.whole c.nodes.invariant.2.opened;
-      },
-    )
+nodes-preserved g c = (
+  search rules,
+  record {
+    due = λ value readable is.
+        subst (λ (next : Next _). Reached value (seen_levels c.step.new.levels.items) (Ok next)) c.in-Node.is
+        (c.in-Ok-step.ensures.reached value (c.nodes.invariant.1.due value readable is));
+  },
+  record {
+    whole = c.nodes.invariant.2.whole;
+    text_is = c.nodes.invariant.2.text_is;
+    opened =
+        subst (λ (next : Next g.row.A.Denot). NextRead c.nodes.invariant.2.whole (seen_levels c.step.new.levels.items) next) c.in-Node.is
+        (c.in-Ok-step.ensures.read c.nodes.invariant.2.whole c.nodes.invariant.2.opened);
+  },
+)
