@@ -1,18 +1,20 @@
 -- Why bytes are not read as a document, and where.
-use Rattle.std.specs.Prelude.{ℕ, ◌-◌, ◌≡◌, ◌≢◌, ◌⊎◌, None, Result, Ok, Err, List, [], ◌∷◌, ◌++◌, All, codes, length}
+use Rattle.std.specs.Prelude.{ℕ, ◌-◌, ◌≡◌, ◌≢◌, ◌⊎◌, None, Result, Ok, Err, IfErr, IfOk, List, Vec, [], ◌∷◌, ◌++◌, All, codes, length, map}
 use Rattle.std.specs.Str.{IsUtf8, IsValidUpTo, encode_utf8_all}
 use Rattle.yaml_base.specs.Characters.{Text, line_feed}
 use Rattle.yaml_base.specs.Event.{Event}
+use Rattle.yaml_base.specs.Seen.{seen_event}
 use Rattle.yaml_base.specs.graphs.Documents.{graph_of}
 use Rattle.yaml_base.specs.graphs.Meetings.{Graph, document_event_list}
 use Rattle.yaml_base.specs.graphs.Unfolding.{IsWholeGraph}
 use Rattle.yaml_base.specs.values.LinesAndColumns.{column_of, line_of}
 use Rattle.yaml_base.specs.declared.documents.yaml_document_t.{yaml_document_t}
+use Rattle.yaml_base.specs.declared.events.yaml_event_t.{yaml_event_t}
 use Rattle.yaml_dump.specs.InOrder.{in_order}
 use Rattle.yaml_read.specs.EventTexts.{HasRunText, IsInNode}
 use Rattle.yaml_read.specs.Places.{IsBehindMarker}
 use Rattle.yaml_read.specs.RunPlaces.{StopsInRun, in_document}
-use Rattle.yaml_read.specs.Words.{past_word}
+use Rattle.yaml_read.specs.Words.{OrMemory, past_word}
 use Rattle.yaml_read.specs.declared.errors.ReadError.{ReadError}
 use Rattle.yaml_read.specs.declared.errors.ReadError.TheVariants as told
 use Rattle.yaml_read.specs.declared.errors.Stop.{Stop}
@@ -59,6 +61,12 @@ abbrev pub DocumentStops : (bytes : List ℕ) → Stop → Type 0
 DocumentStops bytes (stop.Refused left) = StopsInDumpedBytes bytes left
 DocumentStops bytes (stop.TooDeep left) = ⊥
 DocumentStops bytes stop.Memory = Unit {0}
+
+-- the events of a document of these bytes
+pub record DocumentEventsRead {A : Type 0} (bytes : List ℕ) (result : Result (Vec (yaml_event_t A) A) Stop) : Type 0 where
+  pub reads : (events : List Event) → AreRunBytes bytes events → OrMemory (λ found. map seen_event found.items ≡ in_document events) result
+  pub sound : IfOk result (λ found. AreEventsOf bytes (map seen_event found.items))
+  pub stops : IfErr result (DocumentStops bytes)
 
 -- a document has the events of this node, and is each graph that has them, with its nodes in order; or none has, or memory gave out
 abbrev pub ComposesNode : {A : Type 0} → List Event → Result (yaml_document_t A) ReadError → Type 0

@@ -6,10 +6,9 @@ ghost use Rattle.yaml_base.specs.graphs.Documents.{graph_of};
 ghost use Rattle.yaml_base.specs.graphs.Isomorphic.{Isomorphic};
 ghost use Rattle.yaml_base.specs.graphs.Meetings.{Graph};
 ghost use Rattle.yaml_dump.specs.InOrder.{in_order};
-ghost use Rattle.yaml_read.specs.DocumentPlaces.{AreEventsOf, AreRunBytes, ComposesNode, DocumentStops, IsDocumentPlaced};
+ghost use Rattle.yaml_read.specs.DocumentPlaces.{ComposesNode, DocumentEventsRead, IsDocumentPlaced};
 ghost use Rattle.yaml_read.specs.DocumentTexts.{AreDumpedBytes, unstyled_graph};
 ghost use Rattle.yaml_read.specs.RunPlaces.{in_document};
-ghost use Rattle.yaml_read.specs.Words.{OrMemory};
 
 use crate::cuts::after;
 use crate::errors::{ReadError, Stop};
@@ -24,10 +23,7 @@ fn events_of_text<A: Allocator + Copy>(
     alloc: A,
     text: &str,
 ) -> Result<Vec<yaml_event_t<A>, A>, Stop>
-    ensures reads { (events : List Event) → AreRunBytes text.now events
-        → OrMemory (λ found. map seen_event found.items ≡ in_document events) result }
-    ensures sound { IfOk result (λ found. AreEventsOf text.now (map seen_event found.items)) }
-    ensures stops { IfErr result (DocumentStops text.now) }
+    ensures { DocumentEventsRead text.now result }
 {
     match after(text, "---\n") {
         Ok(node) => read_events(alloc, node),

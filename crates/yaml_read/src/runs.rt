@@ -1,14 +1,10 @@
 //! The events of a document, read from its canonical text.
-ghost use Rattle.std.specs.Prelude.{◌≡◌, ◌++◌, ◌∷◌, [], true, All, IfErr, IfOk, List, map};
-ghost use Rattle.std.specs.Str.{encode_utf8_all};
-ghost use Rattle.yaml_base.specs.Characters.{Text, line_feed};
-ghost use Rattle.yaml_base.specs.Event.{Event, document_start};
+ghost use Rattle.std.specs.Prelude.{◌≡◌, ◌∷◌, [], map};
+ghost use Rattle.yaml_base.specs.Event.{document_start};
 ghost use Rattle.yaml_base.specs.Seen.{seen_event};
 ghost use Rattle.yaml_read.specs.Awaits.{seen_awaits};
-ghost use Rattle.yaml_read.specs.EventReads.{EndRead, RootRead, RunAnswer};
-ghost use Rattle.yaml_read.specs.EventTexts.{HasRunText, IsInNode};
-ghost use Rattle.yaml_read.specs.RunPlaces.{RunStops, bare_start, in_document};
-ghost use Rattle.yaml_read.specs.Words.{OrMemory};
+ghost use Rattle.yaml_read.specs.EventReads.{EndRead, EventsRead, RootRead, RunAnswer};
+ghost use Rattle.yaml_read.specs.RunPlaces.{bare_start};
 
 use crate::cuts::end_text;
 use crate::errors::{Stop, stopped_within};
@@ -89,11 +85,7 @@ pub(crate) fn read_events<A: Allocator + Copy>(
     alloc: A,
     text: &str,
 ) -> Result<Vec<yaml_event_t<A>, A>, Stop>
-    ensures reads { (events : List Event) (node : Text) → HasRunText [] events node → All IsInNode events
-        → text.now ≡ encode_utf8_all (node ++ line_feed ∷ []) → OrMemory (λ found. map seen_event found.items ≡ in_document events) result }
-    ensures sound { IfOk result (λ found. (events : List Event) × (node : Text) × (map seen_event found.items ≡ in_document events)
-        × HasRunText [] events node × All IsInNode events × (text.now ≡ encode_utf8_all (node ++ line_feed ∷ []))) }
-    ensures stops { IfErr result (RunStops text.now) }
+    ensures { EventsRead text.now result }
 {
     let mut events = Vec::new(alloc);
     let mut awaits = Vec::new(alloc);
