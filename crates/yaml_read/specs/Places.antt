@@ -1,5 +1,6 @@
 -- Where bytes break off, and the place of an error.
-use Rattle.std.specs.Prelude.{ℕ, ◌+◌, ◌-◌, ◌*◌, ◌<◌, ◌≡◌, ◌⊎◌, None, Option, Result, Ok, Err, IfErr, IfOk, IfSome, List, [], ◌∷◌, ◌++◌, codes, flat_map, length, replicate}
+use Rattle.std.specs.Prelude.{ℕ, ◌+◌, ◌-◌, ◌*◌, ◌<◌, ◌≡◌, ◌⊎◌, None, Option, Result, Ok, Err, List, [], ◌∷◌, ◌++◌, codes, flat_map, length, replicate}
+use Rattle.std.specs.Prelude.{IfErr, IfOk, IfSome}
 use Rattle.std.specs.Borrow.{Bor}
 use Rattle.std.specs.Str.{IsUtf8, IsValidUpTo}
 use Rattle.yaml_base.specs.Characters.{space}
