@@ -1,7 +1,15 @@
 -- How many values there are in what a drop has in hand, and that each turn of its loop goes on.
-use Rattle.std.proofs.Common.{◌≡◌, ℕ, suc, ◌+◌, ◌*◌, ◌<◌, ◌≤◌, subst, sym, arith}
+use Rattle.std.proofs.Common.{◌≡◌, ℕ, suc, ◌+◌, ◌*◌, ◌<◌, ◌≤◌, List, [], ◌∷◌, map, Result, Ok, Err, Option, Some, None, Vec, Global, String, refl, ap, subst, sym, ◌∙◌, arith, rules}
+use Rattle.std.proofs.Common.{sum_by, length, vec_len}
 use Rattle.std.proofs.Math.Nat.{mul-suc, suc-mul}
+use Rattle.std.proofs.lemmas.List.Sums.{sum-map, sum_by-cons}
 use Rattle.std.proofs.lemmas.Nat.{mul-le}
+use Rattle.toml_ordered.specs.Counts.{IsEntered, IsExchanged, IsLeft, IsPopped, draft_count, key_count, member_count, node_count}
+use Rattle.toml_ordered.specs.declared.tree.Node.{Node, Array, Table, Tables, the_lemmas as node_lemmas}
+use Rattle.toml_ordered.specs.declared.tree.Origin.{Origin}
+use Rattle.toml_ordered.specs.declared.drafts.Draft.{Draft, Open, the_lemmas as draft_lemmas}
+use Rattle.toml_ordered.specs.declared.drafts.Holder.{Holder}
+use Rattle.std.specs.BTreeMap.{BTreeMap}
 
 -- of so many values in all, and so many of them in what is entered next: a turn enters one inside, or fewer are left
 abbrev pub turns : (all hand : ℕ) → ℕ
@@ -13,3 +21,60 @@ goes_in all all2 hand hand2 same less = subst (λ n. turns n hand2 < turns all h
 pub goes_out : (all all2 hand hand2 : ℕ) → all2 < all → hand2 ≤ all2 → turns all2 hand2 < turns all hand
 goes_out all all2 hand hand2 less within =
     omega (arith, less, within, mul-le (suc all2) (suc all2) all all less less, suc-mul all2 (suc all2), mul-suc all2 all2)
+
+-- ---- of a value, when those inside are counted
+
+sum_by-map : {A B : Type 0} (f : A → B) (g : B → ℕ) (xs : List A) → sum_by g (map f xs) ≡ sum_by (λ x. g (f x)) xs
+sum_by-map f g [] = refl
+sum_by-map f g (x ∷ xs) =
+    sum_by-cons g (f x) (map f xs) ∙ ap (λ n. g (f x) + n) (sum_by-map f g xs) ∙ sym (sum_by-cons (λ y. g (f y)) x xs)
+
+pub node_count-Array : (items : Vec Node Global) → node_count (Array items) ≡ suc (sum_by node_count items.items)
+node_count-Array items = search (rules, node_lemmas, sum-map, sum_by-map)
+
+pub node_count-Table : (origin : Origin) (keys : Vec (String Global × Node × ℕ) Global)
+    → node_count (Table origin keys) ≡ suc (sum_by member_count keys.items)
+node_count-Table origin keys = search (rules, node_lemmas, sum-map, sum_by-map)
+
+pub node_count-Tables : (done : Vec Node Global) (last : Vec (String Global × Node × ℕ) Global)
+    → node_count (Tables done last) ≡ suc (sum_by node_count done.items + sum_by member_count last.items)
+node_count-Tables done last = search (rules, node_lemmas, sum-map, sum_by-map)
+
+pub draft_count-Open : (holder : Holder) (keys : Vec (String Global × Draft × ℕ) Global) (index : BTreeMap (String Global) ℕ)
+    → draft_count (Open holder keys index) ≡ suc (sum_by key_count keys.items)
+draft_count-Open holder keys index = search (rules, draft_lemmas, sum_by-map)
+
+-- the last of those inside is taken out
+pub entered : {E X : Type 0} (counts : E → ℕ) (count : X → ℕ) (xs ys : List E) (old new : ℕ) (other : X) (result : Result X X)
+    → old ≡ suc (sum_by counts xs) → new ≡ suc (sum_by counts ys) → IsExchanged counts count xs ys other result → IsEntered count old new other result
+entered counts count xs ys old new other (Ok inner) was is exchanged = (omega (arith, was, is, exchanged), omega (arith, was, exchanged.1))
+entered counts count xs ys old new other (Err back) was is exchanged =
+    (exchanged.2, was ∙ ap (λ es. suc (sum_by counts es)) exchanged.0, is ∙ ap (λ es. suc (sum_by counts es)) exchanged.1)
+
+pub left : {E X : Type 0} (counts : E → ℕ) (count : X → ℕ) (xs ys : List E) (old new : ℕ) (result : Option X)
+    → old ≡ suc (sum_by counts xs) → new ≡ suc (sum_by counts ys) → IsPopped counts count xs ys result → IsLeft count old new result
+left counts count xs ys old new (Some inner) was is popped = omega (arith, was, is, popped)
+left counts count xs ys old new None was is popped =
+    (was ∙ ap (λ es. suc (sum_by counts es)) popped.0, is ∙ ap (λ es. suc (sum_by counts es)) popped.1)
+
+-- ---- no value inside
+
+pub node_counts : (x : Node) → 0 < node_count x
+node_counts x = search (rules, node_lemmas)
+
+pub draft_counts : (x : Draft) → 0 < draft_count x
+draft_counts x = search (rules, draft_lemmas)
+
+nothing : {E : Type 0} (counts : E → ℕ) → ((e : E) → 0 < counts e) → (es : List E) → sum_by counts es ≡ 0 → es ≡ []
+nothing counts some [] none = refl
+nothing counts some (e ∷ es) none = absurd (omega (arith, some e, none, sum_by-cons counts e es))
+
+pub none_in : {E : Type 0} (counts : E → ℕ) → ((e : E) → 0 < counts e) → (es : Vec E Global) → sum_by counts es.items ≡ 0 → vec_len es ≡ 0
+none_in counts some es none = es.ok.0 ∙ ap length (nothing counts some es.items none)
+
+none_summed : {E : Type 0} (counts : E → ℕ) (es : List E) → length es ≡ 0 → sum_by counts es ≡ 0
+none_summed counts [] none = refl
+none_summed counts (e ∷ es) none = absurd (omega (arith, none))
+
+pub none_counted : {E : Type 0} (counts : E → ℕ) (es : Vec E Global) → vec_len es ≡ 0 → sum_by counts es.items ≡ 0
+none_counted counts es none = none_summed counts es.items (sym es.ok.0 ∙ none)

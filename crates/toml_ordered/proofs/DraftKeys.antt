@@ -6,12 +6,10 @@ use Rattle.std.proofs.lemmas.Bool.{cases_Bool, eq-eqb, eqb-true, false≢true}
 use Rattle.std.proofs.lemmas.Slice.Eq.{bytes_eq-Decides}
 use Rattle.std.specs.BTreeMap.{get_by_text}
 use Rattle.std.specs.Map.{update}
-use Rattle.toml_ordered.specs.declared.drafts.Draft.{Draft as CodeDraft, Table as DraftTable, Tables as DraftTables, the_lemmas}
-use Rattle.toml_ordered.specs.declared.tree.Node.{Node as CodeNode}
-use Rattle.toml_ordered.specs.declared.tree.Origin.{Origin}
-use Rattle.toml_ordered.specs.Data.{TomlNode, table}
-use Rattle.toml_ordered.specs.Data.{tables, TomlNodes, items_view}
-use Rattle.toml_ordered.specs.Drafts.{is_place, kept, nodes_from, draft_view, drafts_view, keys_view, HasKey, IsIndexedAt}
+use Rattle.toml_ordered.specs.declared.drafts.Draft.{Draft as CodeDraft, Open, the_lemmas}
+use Rattle.toml_ordered.specs.declared.drafts.Holder.{Holder}
+use Rattle.toml_ordered.specs.Data.{TomlNode, TomlNodes}
+use Rattle.toml_ordered.specs.Drafts.{is_place, kept, nodes_from, draft_view, drafts_view, held_view, keys_view, HasKey, IsIndexedAt}
 use Rattle.toml_ordered.specs.Tables.{get_node, append, replace}
 
 abbrev pub Draft : Type 0
@@ -245,10 +243,5 @@ appended index after es w none noted =
 
 -- ---- values
 
-pub draft_view-Table : (origin : Origin) (keys : Vec Draft Global) (index : Places)
-    → draft_view (DraftTable origin keys index) ≡ table origin (keys_view keys.items index)
-draft_view-Table origin keys index = search (rules, the_lemmas)
-
-pub draft_view-Tables : (done : Vec CodeNode Global) (last : Vec Draft Global) (index : Places)
-    → draft_view (DraftTables done last index) ≡ tables (items_view done.items) (keys_view last.items index)
-draft_view-Tables done last index = search (rules, the_lemmas)
+pub draft_view-Open : (h : Holder) (keys : Vec Draft Global) (index : Places) → draft_view (Open h keys index) ≡ held_view h (keys_view keys.items index)
+draft_view-Open h keys index = search (rules, the_lemmas)

@@ -4,11 +4,10 @@ use Rattle.std.proofs.Common.{◌⊎◌, rules, set, get_or, Result}
 use Rattle.std.proofs.lemmas.Result.{IfOk-weaker, IfErr-weaker}
 use Rattle.std.specs.Result.{IfOk, IfErr}
 use Rattle.std.proofs.lemmas.Slice.Eq.{bytes_eq-Decides}
-use Rattle.toml_ordered.specs.declared.drafts.Draft.{Table as DraftTable, Tables as DraftTables, the_lemmas}
+use Rattle.toml_ordered.specs.declared.drafts.Draft.{Open, the_lemmas}
 use Rattle.toml_ordered.specs.declared.fault.Fault.{Fault}
 use Rattle.toml_ordered.specs.declared.fault.Fault.TheVariants as fault
-use Rattle.toml_ordered.specs.declared.tree.Node.{Node as CodeNode}
-use Rattle.toml_ordered.specs.declared.tree.Origin.{Origin}
+use Rattle.toml_ordered.specs.declared.drafts.Holder.{Holder}
 use Rattle.toml_ordered.proofs.DraftKeys.{Draft, Places}
 use Rattle.toml_ordered.specs.Data.{TomlNode, TomlNodes, no_nodes}
 use Rattle.toml_ordered.specs.Drafts.{HasKey}
@@ -16,12 +15,8 @@ use Rattle.toml_ordered.specs.Firsts.{Firsts, no_firsts, HasFirst, draft_firsts,
 use Rattle.toml_ordered.specs.Reading.{IsPassed, IsSameKey}
 use Rattle.toml_ordered.specs.Tables.{get_node, steps_along}
 
-pub draft_firsts-Table : (origin : Origin) (keys : Vec Draft Global) (index : Places) → draft_firsts (DraftTable origin keys index) ≡ keys_firsts keys.items
-draft_firsts-Table origin keys index = search (rules, the_lemmas)
-
-pub draft_firsts-Tables : (done : Vec CodeNode Global) (keys : Vec Draft Global) (index : Places)
-    → draft_firsts (DraftTables done keys index) ≡ keys_firsts keys.items
-draft_firsts-Tables done keys index = search (rules, the_lemmas)
+pub draft_firsts-Open : (h : Holder) (keys : Vec Draft Global) (index : Places) → draft_firsts (Open h keys index) ≡ keys_firsts keys.items
+draft_firsts-Open h keys index = search (rules, the_lemmas)
 
 -- ---- lists of keys
 

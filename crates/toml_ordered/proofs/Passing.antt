@@ -2,21 +2,21 @@
 use Rattle.std.proofs.Common.{◌≡◌, ℕ, zero, suc, ◌<◌, length, List, [], ◌∷◌, ◌++◌, Some, None, string_bytes, option_map}
 use Rattle.std.proofs.Common.{refl, sym, ap, subst, ◌∙◌, arith, set, get_or, reverse}
 use Rattle.std.proofs.lemmas.List.{reverse-append}
-use Rattle.toml_ordered.proofs.DraftKeys.{Draft, Places, found_here, written_here, draft_view-Table, draft_view-Tables}
-use Rattle.toml_ordered.proofs.FirstKeys.{adds_inside, adds_missing, again_here, again_inside, again_nothing, draft_firsts-Table, draft_firsts-Tables}
+use Rattle.toml_ordered.proofs.DraftKeys.{Draft, Places, found_here, written_here, draft_view-Open}
+use Rattle.toml_ordered.proofs.FirstKeys.{adds_inside, adds_missing, again_here, again_inside, again_nothing, draft_firsts-Open}
 use Rattle.toml_ordered.proofs.Turns.{along_found, along_refused, along_new, along_new_refused}
 use Rattle.toml_ordered.specs.Data.{TomlNode, TomlNodes, no_nodes, table}
-use Rattle.toml_ordered.specs.Drafts.{IsIndexedAt, draft_view, keys_view, table_view}
+use Rattle.toml_ordered.specs.Drafts.{IsIndexedAt, draft_view, held_view, keys_view, table_view}
 use Rattle.toml_ordered.specs.Firsts.{Firsts, AddsFirsts, IsAgain, draft_firsts, keys_firsts, keys_in, no_firsts}
-use Rattle.toml_ordered.specs.Passing.{held, held_view, with_value, Fills, IsFilled, AreFilled, IsOpened, IsShut, Passes, Refuses, keys_of}
+use Rattle.toml_ordered.specs.Passing.{held, with_value, Fills, IsFilled, AreFilled, IsOpened, IsShut, Passes, Refuses, keys_of}
 use Rattle.toml_ordered.specs.Reading.{IsPassed, IsSameKey}
 use Rattle.toml_ordered.specs.Tables.{along, append, get_node, made_by, replace}
 use Rattle.toml_ordered.specs.declared.drafts.Draft.{Draft as CodeDraft}
 use Rattle.toml_ordered.specs.declared.drafts.OpenTable.{OpenTable}
 use Rattle.toml_ordered.specs.declared.fault.Fault.{Fault}
 use Rattle.toml_ordered.specs.declared.route.Way.{Way}
-use Rattle.toml_ordered.specs.declared.passed.Holder.{Holder}
-use Rattle.toml_ordered.specs.declared.passed.Holder.TheVariants as holder
+use Rattle.toml_ordered.specs.declared.drafts.Holder.{Holder}
+use Rattle.toml_ordered.specs.declared.drafts.Holder.TheVariants as holder
 use Rattle.toml_ordered.specs.declared.passed.Passed.{Passed}
 use Rattle.toml_ordered.specs.declared.tree.Origin.{Origin}
 
@@ -40,12 +40,10 @@ with_value-last x (e ∷ es) w = ap (λ (ds : List Draft). e ∷ ds) (with_value
 -- ---- what holds a table
 
 held_is : (h : Holder) (t : OpenTable) → draft_view (held h t) ≡ held_view h (table_view t)
-held_is (holder.Table origin) t = draft_view-Table origin t.keys t.index
-held_is (holder.Tables done) t = draft_view-Tables done t.keys t.index
+held_is h t = draft_view-Open h t.keys t.index
 
 held_firsts : (h : Holder) (t : OpenTable) → draft_firsts (held h t) ≡ keys_firsts t.keys.items
-held_firsts (holder.Table origin) t = draft_firsts-Table origin t.keys t.index
-held_firsts (holder.Tables done) t = draft_firsts-Tables done t.keys t.index
+held_firsts h t = draft_firsts-Open h t.keys t.index
 
 -- ---- one table that is passed
 

@@ -3,12 +3,12 @@ use Rattle.std.proofs.Common.{◌≡◌, ℕ, suc, ◌+◌, ◌*◌, ◌<◌, Li
 use Rattle.toml_ordered.proofs.Trees.{Entry}
 use Rattle.toml_ordered.specs.Data.{TomlNode, table, tables, TomlNodes, no_nodes, node, node_view, entries_view}
 use Rattle.toml_ordered.specs.Unfinished.{IsBegun, live_view}
-use Rattle.toml_ordered.specs.Passing.{held_view}
 use Rattle.toml_ordered.specs.declared.drafts.Around.{Around}
 use Rattle.toml_ordered.specs.declared.drafts.Half.{Half}
-use Rattle.toml_ordered.specs.declared.passed.Holder.{Holder}
+use Rattle.toml_ordered.specs.Drafts.{held_view}
+use Rattle.toml_ordered.specs.declared.drafts.Holder.{Holder}
 use Rattle.toml_ordered.specs.declared.drafts.live.LiveKeys.{LiveKeys}
-use Rattle.toml_ordered.specs.declared.passed.Holder.TheVariants as holder
+use Rattle.toml_ordered.specs.declared.drafts.Holder.TheVariants as holder
 use Rattle.toml_ordered.specs.declared.tree.Node.{Node as CodeNode}
 
 -- some keys before others

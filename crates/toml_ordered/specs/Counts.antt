@@ -28,8 +28,7 @@ member_count m = node_count m.1
 -- A value in a table that may still grow, likewise, but for what it holds that takes no more.
 abbrev pub draft_level : Draft-F ℕ → ℕ
 draft_level (Draft-F.Value x) = 1
-draft_level (Draft-F.Table origin keys index) = suc (sum_by (λ e. e.1) keys.items)
-draft_level (Draft-F.Tables done keys index) = suc (sum_by (λ e. e.1) keys.items)
+draft_level (Draft-F.Open holder keys index) = suc (sum_by (λ e. e.1) keys.items)
 
 abbrev pub draft_count : Draft → ℕ
 draft_count = fold-Draft ℕ draft_level
@@ -43,12 +42,16 @@ IsExchanged counts count old new other result = MatchResult result
     (λ inner. (sum_by counts new + count inner ≡ sum_by counts old + count other) × (count inner ≤ sum_by counts old))
     (λ back. (old ≡ []) × (new ≡ []) × (back ≡ other))
 
--- Of so many values, one inside is taken out, and another put into its place; where there is none inside, all end.
-abbrev pub IsEntered : {X : Type 0} (count : X → ℕ) → ℕ → X → Result (X × X) X → Type 0
-IsEntered count n other result = MatchResult result
-    (λ t. (count t.0 + count t.1 ≡ n + count other) × (count t.1 < n))
-    (λ back. (back ≡ other) × (0 < n))
+-- The last of them is taken out.
+abbrev pub IsPopped : {E X : Type 0} (counts : E → ℕ) (count : X → ℕ) (old new : List E) → Option X → Type 0
+IsPopped counts count old new result = MatchOption result ((old ≡ []) × (new ≡ [])) (λ inner. sum_by counts new + count inner ≡ sum_by counts old)
+
+-- Of so many values, one inside is taken out, and another put into its place; where there is none inside, there is one in all.
+abbrev pub IsEntered : {X : Type 0} (count : X → ℕ) (old new : ℕ) → X → Result X X → Type 0
+IsEntered count old new other result = MatchResult result
+    (λ inner. (new + count inner ≡ old + count other) × (count inner < old))
+    (λ back. (back ≡ other) × (old ≡ 1) × (new ≡ 1))
 
 -- Of so many values, one inside is taken out.
-abbrev pub IsLeft : {X : Type 0} (count : X → ℕ) → ℕ → Option (X × X) → Type 0
-IsLeft count n result = MatchOption result ⊤ (λ t. count t.0 + count t.1 ≡ n)
+abbrev pub IsLeft : {X : Type 0} (count : X → ℕ) (old new : ℕ) → Option X → Type 0
+IsLeft count old new result = MatchOption result ((old ≡ 1) × (new ≡ 1)) (λ inner. new + count inner ≡ old)

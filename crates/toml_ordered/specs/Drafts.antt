@@ -6,6 +6,8 @@ use Rattle.std.specs.declared.alloc.Global.{Global}
 use Rattle.toml_ordered.specs.Data.{TomlNode, array, table, tables, push_item, TomlNodes, no_nodes, node, items_view, node_view}
 use Rattle.toml_ordered.specs.declared.drafts.Draft.{Draft as CodeDraft, fold-Draft}
 use Rattle.toml_ordered.specs.declared.drafts.Draft.TheOpen.{Draft-F}
+use Rattle.toml_ordered.specs.declared.drafts.Holder.{Holder}
+use Rattle.toml_ordered.specs.declared.drafts.Holder.TheVariants as holder
 use Rattle.toml_ordered.specs.declared.drafts.OpenTable.{OpenTable}
 use Rattle.toml_ordered.specs.declared.tree.Origin.TheVariants.{Closed}
 
@@ -30,11 +32,15 @@ abbrev pub nodes_from : BTreeMap (String Global) ℕ → ℕ → List (String Gl
 nodes_from index at [] = no_nodes
 nodes_from index at (m ∷ ms) = kept (is_place (get_by_text index (string_bytes m.0)) at) (string_bytes m.0) m.1 (nodes_from index (suc at) ms)
 
+-- the value that holds a table of these keys
+abbrev pub held_view : Holder → TomlNodes → TomlNode
+held_view (holder.Table origin) inner = table origin inner
+held_view (holder.Tables done) inner = tables (items_view done.items) inner
+
 -- one level of a value, with each value inside seen already
 abbrev pub draft_step : Draft-F TomlNode → TomlNode
 draft_step (Draft-F.Value x) = sealed (node_view x)
-draft_step (Draft-F.Table origin keys index) = table origin (nodes_from index 0 keys.items)
-draft_step (Draft-F.Tables done keys index) = tables (items_view done.items) (nodes_from index 0 keys.items)
+draft_step (Draft-F.Open holder keys index) = held_view holder (nodes_from index 0 keys.items)
 
 -- what contracts see of a value
 abbrev pub draft_view : CodeDraft → TomlNode

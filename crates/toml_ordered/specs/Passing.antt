@@ -1,27 +1,21 @@
 -- How keys pass through tables: the table inside of a value is taken out, and put back once more is defined in it.
 use Rattle.std.specs.Prelude.{◌≡◌, ℕ, zero, suc, List, [], ◌∷◌, ◌++◌, map, String, Some, None, option_map}
 use Rattle.std.specs.declared.alloc.Global.{Global}
-use Rattle.toml_ordered.specs.Data.{TomlNode, TomlNodes, table, tables, items_view}
-use Rattle.toml_ordered.specs.Drafts.{draft_view, table_view}
+use Rattle.toml_ordered.specs.Data.{TomlNodes}
+use Rattle.toml_ordered.specs.Drafts.{draft_view, held_view, table_view}
 use Rattle.toml_ordered.specs.Firsts.{AddsFirsts, IsAgain, draft_firsts, keys_firsts, keys_in}
 use Rattle.toml_ordered.specs.Reading.{IsMemory}
 use Rattle.toml_ordered.specs.Tables.{Edit, along, passed}
-use Rattle.toml_ordered.specs.declared.drafts.Draft.{Draft as CodeDraft, Table as DraftTable, Tables as DraftTables}
+use Rattle.toml_ordered.specs.declared.drafts.Draft.{Draft as CodeDraft, Open}
 use Rattle.toml_ordered.specs.declared.drafts.OpenTable.{OpenTable}
 use Rattle.toml_ordered.specs.declared.fault.Fault.{Fault}
 use Rattle.toml_ordered.specs.declared.route.Way.{Way}
-use Rattle.toml_ordered.specs.declared.passed.Holder.{Holder}
-use Rattle.toml_ordered.specs.declared.passed.Holder.TheVariants as holder
+use Rattle.toml_ordered.specs.declared.drafts.Holder.{Holder}
 use Rattle.toml_ordered.specs.declared.passed.Passed.{Passed}
 
--- the value that holds a table, and what contracts see of it
+-- the value that holds a table
 abbrev pub held : Holder → OpenTable → CodeDraft
-held (holder.Table origin) inner = DraftTable origin inner.keys inner.index
-held (holder.Tables done) inner = DraftTables done inner.keys inner.index
-
-abbrev pub held_view : Holder → TomlNodes → TomlNode
-held_view (holder.Table origin) inner = table origin inner
-held_view (holder.Tables done) inner = tables (items_view done.items) inner
+held h inner = Open h inner.keys inner.index
 
 -- the keys, with another value at a place
 abbrev pub with_value : ℕ → CodeDraft → List (String Global × CodeDraft × ℕ) → List (String Global × CodeDraft × ℕ)

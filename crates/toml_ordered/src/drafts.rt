@@ -7,14 +7,12 @@ ghost use Rattle.toml_ordered.specs.Drafts.{IsIndexedAt, draft_view, keys_view};
 ghost use Rattle.toml_ordered.specs.declared.drafts.Draft.{Draft as CodeDraft};
 ghost use Rattle.toml_ordered.specs.Reading.{ParsesTo, IsMemory};
 ghost use Rattle.toml_ordered.specs.Tables.{append, get_node};
-ghost use Rattle.toml_ordered.specs.Passing.{held_view};
 ghost use Rattle.toml_ordered.specs.Unfinished.{IsBegun};
 
 mod apart;
 mod live;
 
 use crate::fault::Fault;
-use crate::passed::Holder;
 use crate::tree::{Node, Nodes, Origin};
 use live::LiveKeys;
 use std::alloc::{AllocError, Global};
@@ -24,32 +22,47 @@ use std::collections::BTreeMap;
 pub(crate) enum Draft {
     /// It takes no more.
     Value(Node),
-    Table(Origin, Keys, Index),
-    /// The tables of an array that headers in double brackets make. The last is apart, since only that one can grow.
-    Tables(Vec<Node>, Keys, Index),
+    /// It holds a table that may grow.
+    Open(Holder, Keys, Index),
+}
+
+/// A value without the table in it that may still grow.
+#[derive(Drop)]
+pub(crate) enum Holder {
+    Table(Origin),
+    /// The tables of an array that headers in double brackets make, but the last.
+    Tables(Vec<Node>),
 }
 
 /// Drops the value by a loop, as a `Node` is dropped.
 impl Drop for Draft {
     fn drop(self) {
-        let mut around = Draft::Value(Node::NotANumber);
+        let mut around = vacant();
         let mut hand = self;
         'drafts: loop {
-            match hand.enter(around) {
-                Ok((outer, inner)) => {
-                    around = outer;
+            match hand.exchange(around) {
+                Ok(inner) => {
+                    around = hand;
                     hand = inner;
                 }
-                Err(outer) => match outer.leave() {
-                    Some((outer, waiting)) => {
-                        around = waiting;
-                        hand = outer;
+                Err(mut outer) => {
+                    hand.end();
+                    match outer.pop() {
+                        Some(waiting) => {
+                            around = waiting;
+                            hand = outer;
+                        }
+                        None => return outer.end(),
                     }
-                    None => return,
-                },
+                }
             }
         }
     }
+}
+
+/// Returns what stands where a value is taken out.
+pub(crate) fn vacant() -> Draft {
+    Draft::Value(Node::NotANumber)
 }
 
 /// The keys of a table that may still grow, as `Nodes` has them.
@@ -173,7 +186,7 @@ pub(crate) fn finish(alloc: Global, keys: Keys, index: Index) -> Result<Nodes, A
     };
     'turns: loop {
         match table.keys.next() {
-            Some((key, draft, left)) => match draft.inner_keys() {
+            Some((key, draft, left)) => match draft.parts() {
                 Ok((holder, keys, index)) => {
                     let place = (key, holder, left);
                     around.push(Around { table, place })?;
@@ -193,21 +206,6 @@ pub(crate) fn finish(alloc: Global, keys: Keys, index: Index) -> Result<Nodes, A
                 }
                 None => return Ok(table.nodes),
             },
-        }
-    }
-}
-
-impl Draft {
-    /// Returns the keys inside the value, or the value if it takes no more.
-    fn inner_keys(self) -> Result<(Holder, Keys, Index), Node>
-        ensures { MatchResult result
-            (λ t. draft_view self ≡ held_view t.0 (keys_view t.1.items t.2))
-            (λ node. draft_view self ≡ spec.sealed (node_view node)) }
-    {
-        match self {
-            Draft::Value(node) => Err(node),
-            Draft::Table(origin, keys, index) => Ok((Holder::Table(origin), keys, index)),
-            Draft::Tables(done, last, index) => Ok((Holder::Tables(done), last, index)),
         }
     }
 }

@@ -9,9 +9,9 @@ ghost use Rattle.toml_ordered.specs.Tables as spec;
 ghost use Rattle.toml_ordered.specs.declared.route.Way.{Way};
 ghost use Rattle.toml_ordered.specs.declared.tree.Origin.TheVariants.{Closed};
 
-use crate::drafts::{Draft, Index, Keys, OpenTable, append, find, finish};
+use crate::drafts::{Draft, Holder, Index, Keys, OpenTable, append, find, finish, vacant};
 use crate::fault::Fault;
-use crate::passed::{Holder, Passed, placeholder};
+use crate::passed::Passed;
 use crate::route::{Route, Way};
 use crate::tree::{Node, Origin};
 use std::alloc::{AllocError, Global};
@@ -134,13 +134,7 @@ fn enter(
         None => {
             let at = table.keys.len();
             let name = key.clone()?;
-            if let Err(fault) = append(
-                &mut table.keys,
-                &mut table.index,
-                name,
-                placeholder(),
-                left,
-            ) {
+            if let Err(fault) = append(&mut table.keys, &mut table.index, name, vacant(), left) {
                 return Err(fault);
             }
             let holder = Holder::Table(way.origin());
@@ -161,7 +155,7 @@ fn take_out(
         (λ fault. IsPassed (string_bytes member.old.0) member.old.2 left fault × IsShut way member.old.1) }
 {
     let (key, value, first) = member;
-    match mem::replace(value, placeholder()).open(way) {
+    match mem::replace(value, vacant()).open(way) {
         Some(taken) => Ok(taken),
         None => Err(defined_again(key, *first, left)),
     }
@@ -195,13 +189,14 @@ fn redefine(
 {
     let (key, draft, first) = member;
     match (what, draft) {
-        (Definition::Table, Draft::Table(origin @ Origin::Implicit, _, _)) => {
+        (Definition::Table, Draft::Open(Holder::Table(origin @ Origin::Implicit), _, _)) => {
             *origin = Origin::Header;
             Ok(())
         }
-        (Definition::Tables, Draft::Tables(done, last, index)) => {
-            Ok(begin_table(alloc, done, last, index)?)
-        }
+        (Definition::Tables, Draft::Open(holder, last, index)) => match holder {
+            Holder::Tables(done) => Ok(begin_table(alloc, done, last, index)?),
+            Holder::Table(_) => Err(defined_again(key, *first, left)),
+        },
         _ => Err(defined_again(key, *first, left)),
     }
 }
@@ -227,11 +222,10 @@ fn new_draft(alloc: Global, what: Definition) -> Draft
     ensures value { draft_view result ≡ spec.new_node (definition_view what) }
     ensures firsts { draft_firsts result ≡ no_firsts }
 {
-    match what {
-        Definition::Value(node) => Draft::Value(node),
-        Definition::Table => { Draft::Table(Origin::Header, Vec::new(alloc), BTreeMap::new(alloc)) }
-        Definition::Tables => {
-            Draft::Tables(Vec::new(alloc), Vec::new(alloc), BTreeMap::new(alloc))
-        }
-    }
+    let holder = match what {
+        Definition::Value(node) => return Draft::Value(node),
+        Definition::Table => Holder::Table(Origin::Header),
+        Definition::Tables => Holder::Tables(Vec::new(alloc)),
+    };
+    Draft::Open(holder, Vec::new(alloc), BTreeMap::new(alloc))
 }

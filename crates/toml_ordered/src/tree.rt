@@ -1,6 +1,6 @@
 //! The contents of a document.
-ghost use Rattle.std.specs.Prelude.{◌≡◌, suc, IfOk, sum_by};
-ghost use Rattle.toml_ordered.specs.Counts.{IsEntered, IsExchanged, IsLeft, member_count, node_count};
+ghost use Rattle.std.specs.Prelude.{◌≡◌, IfOk};
+ghost use Rattle.toml_ordered.specs.Counts.{IsEntered, IsExchanged, IsLeft, IsPopped, member_count, node_count};
 ghost use Rattle.toml_ordered.specs.Data.{node_view};
 ghost use Rattle.toml_ordered.specs.Drafts as drafts;
 
@@ -48,75 +48,75 @@ impl Drop for Node {
         let mut around = Node::NotANumber;
         let mut hand = self;
         'nodes: loop {
-            match hand.enter(around) {
-                Ok((outer, inner)) => {
-                    around = outer;
+            match hand.exchange(around) {
+                Ok(inner) => {
+                    around = hand;
                     hand = inner;
                 }
-                Err(outer) => match outer.leave() {
-                    Some((outer, waiting)) => {
-                        around = waiting;
-                        hand = outer;
+                Err(mut outer) => {
+                    hand.end();
+                    match outer.pop() {
+                        Some(waiting) => {
+                            around = waiting;
+                            hand = outer;
+                        }
+                        None => return outer.end(),
                     }
-                    None => return,
-                },
+                }
             }
         }
     }
 }
 
 impl Node {
-    /// Takes out the last value inside, and puts another into its place. Where there is none, this one ends, and the other is returned.
-    fn enter(self, other: Node) -> Result<(Node, Node), Node>
-        ensures { IsEntered node_count (node_count self) other result }
+    /// Takes out the last value inside, and puts another into its place. Where there is none, returns the other.
+    fn exchange(&mut self, other: Node) -> Result<Node, Node>
+        ensures { IsEntered node_count (node_count self.old) (node_count self.new) other result }
     {
         match self {
-            Node::Array(items) => enter_array(items, other),
-            Node::Table(origin, keys) => enter_table(origin, keys, other),
-            Node::Tables(mut done, last) => match exchange(&mut done, other) {
-                Ok(inner) => Ok((Node::Tables(done, last), inner)),
-                Err(other) => {
-                    done.destroy_empty();
-                    enter_table(Origin::Closed, last, other)
-                }
+            Node::Array(items) => exchange(items, other),
+            Node::Table(_origin, keys) => exchange_member(keys, other),
+            Node::Tables(done, last) => match exchange(done, other) {
+                Ok(inner) => Ok(inner),
+                Err(other) => exchange_member(last, other),
             },
-            Node::Text(_)
-            | Node::Integer(_)
-            | Node::Decimal(_)
-            | Node::Infinity { negative: _ }
-            | Node::NotANumber
-            | Node::Boolean(_)
-            | Node::Datetime(_) => Err(other),
+            _ => Err(other),
         }
     }
 
-    /// Takes out the last value inside, and returns it after what is left. Where there is none, this one ends.
-    fn leave(self) -> Option<(Node, Node)>
-        ensures { IsLeft node_count (node_count self) result }
+    /// Takes out the last value inside.
+    fn pop(&mut self) -> Option<Node>
+        ensures { IsLeft node_count (node_count self.old) (node_count self.new) result }
     {
         match self {
-            Node::Array(mut items) => match items.pop() {
-                Some(inner) => Some((Node::Array(items), inner)),
-                None => {
-                    items.destroy_empty();
-                    None
-                }
+            Node::Array(items) => items.pop(),
+            Node::Table(_origin, keys) => pop_member(keys),
+            Node::Tables(done, last) => match done.pop() {
+                Some(inner) => Some(inner),
+                None => pop_member(last),
             },
-            Node::Table(origin, keys) => leave_table(origin, keys),
-            Node::Tables(mut done, last) => match done.pop() {
-                Some(inner) => Some((Node::Tables(done, last), inner)),
-                None => {
-                    done.destroy_empty();
-                    leave_table(Origin::Closed, last)
-                }
-            },
+            _ => None,
+        }
+    }
+
+    /// Ends a value that holds no other.
+    fn end(self)
+        requires { node_count self ≡ 1 }
+    {
+        match self {
+            Node::Array(items) => items.destroy_empty(),
+            Node::Table(_origin, keys) => keys.destroy_empty(),
+            Node::Tables(done, last) => {
+                done.destroy_empty();
+                last.destroy_empty();
+            }
             Node::Text(_)
             | Node::Integer(_)
             | Node::Decimal(_)
             | Node::Infinity { negative: _ }
             | Node::NotANumber
             | Node::Boolean(_)
-            | Node::Datetime(_) => None,
+            | Node::Datetime(_) => {}
         }
     }
 
@@ -131,45 +131,6 @@ impl Node {
                 Ok(Node::Array(done))
             }
             other => Ok(other),
-        }
-    }
-}
-
-/// Takes out the last item of an array, as `enter` does.
-fn enter_array(mut items: Vec<Node>, other: Node) -> Result<(Node, Node), Node>
-    ensures { IsEntered node_count (suc (sum_by node_count items.items)) other result }
-{
-    match exchange(&mut items, other) {
-        Ok(inner) => Ok((Node::Array(items), inner)),
-        Err(other) => {
-            items.destroy_empty();
-            Err(other)
-        }
-    }
-}
-
-/// Takes out the value of the last key of a table, as `enter` does.
-fn enter_table(origin: Origin, mut keys: Nodes, other: Node) -> Result<(Node, Node), Node>
-    ensures { IsEntered node_count (suc (sum_by member_count keys.items)) other result }
-{
-    match exchange_member(&mut keys, other) {
-        Ok(inner) => Ok((Node::Table(origin, keys), inner)),
-        Err(other) => {
-            keys.destroy_empty();
-            Err(other)
-        }
-    }
-}
-
-/// Takes the value of the last key out of a table, as `leave` does.
-fn leave_table(origin: Origin, mut keys: Nodes) -> Option<(Node, Node)>
-    ensures { IsLeft node_count (suc (sum_by member_count keys.items)) result }
-{
-    match keys.pop() {
-        Some((_, inner, _)) => Some((Node::Table(origin, keys), inner)),
-        None => {
-            keys.destroy_empty();
-            None
         }
     }
 }
@@ -191,5 +152,15 @@ fn exchange_member(keys: &mut Nodes, other: Node) -> Result<Node, Node>
     match keys.last_mut() {
         Some(member) => Ok(mem::replace(&mut member.1, other)),
         None => Err(other),
+    }
+}
+
+/// Takes out the value of the last of some keys.
+fn pop_member(keys: &mut Nodes) -> Option<Node>
+    ensures { IsPopped member_count node_count keys.old.items keys.new.items result }
+{
+    match keys.pop() {
+        Some((_, value, _)) => Some(value),
+        None => None,
     }
 }

@@ -1,35 +1,59 @@
 //! Values in tables that may still grow are taken apart.
-ghost use Rattle.std.specs.Prelude.{MatchOption, suc, sum_by};
+ghost use Rattle.std.specs.Prelude.{◌≡◌, MatchOption, MatchResult, option_and_then, option_map};
 ghost use Rattle.toml_ordered.specs.Counts.{IsEntered, IsExchanged, IsLeft, draft_count, key_count};
+ghost use Rattle.toml_ordered.specs.Data.{TomlNodes, entries_view, node_view};
+ghost use Rattle.toml_ordered.specs.Drafts.{draft_view, held_view, keys_view, sealed};
 ghost use Rattle.toml_ordered.specs.Passing.{IsOpened, IsShut};
+ghost use Rattle.toml_ordered.specs.Tables.{Edit, passed};
 
-use crate::drafts::{Draft, Index, Keys, OpenTable};
-use crate::passed::Holder;
+use crate::drafts::{Draft, Holder, Index, Keys, OpenTable};
 use crate::route::Way;
-use crate::tree::Origin;
+use crate::tree::{Node, Nodes};
 use std::mem;
 
 impl Draft {
-    /// Takes out the last value inside that may still grow, and puts another into its place. Where there is none, this one ends, and the
-    /// other is returned.
-    pub(super) fn enter(self, other: Draft) -> Result<(Draft, Draft), Draft>
-        ensures { IsEntered draft_count (draft_count self) other result }
+    /// Takes out the last value inside that may still grow, and puts another into its place. Where there is none, returns the other.
+    pub(super) fn exchange(&mut self, other: Draft) -> Result<Draft, Draft>
+        ensures { IsEntered draft_count (draft_count self.old) (draft_count self.new) other result }
     {
         match self {
-            Draft::Table(origin, keys, index) => enter_table(origin, keys, index, other),
-            Draft::Tables(_, last, index) => enter_table(Origin::Closed, last, index, other),
             Draft::Value(_) => Err(other),
+            Draft::Open(_holder, keys, _index) => exchange(keys, other),
         }
     }
 
-    /// Takes out the last value inside, and returns it after what is left. Where there is none, this one ends.
-    pub(super) fn leave(self) -> Option<(Draft, Draft)>
-        ensures { IsLeft draft_count (draft_count self) result }
+    /// Takes out the last value inside that may still grow.
+    pub(super) fn pop(&mut self) -> Option<Draft>
+        ensures { IsLeft draft_count (draft_count self.old) (draft_count self.new) result }
     {
         match self {
-            Draft::Table(origin, keys, index) => leave_table(origin, keys, index),
-            Draft::Tables(_, last, index) => leave_table(Origin::Closed, last, index),
             Draft::Value(_) => None,
+            Draft::Open(_holder, keys, _index) => match keys.pop() {
+                Some((_, inner, _)) => Some(inner),
+                None => None,
+            },
+        }
+    }
+
+    /// Ends a value in which none may still grow.
+    pub(super) fn end(self)
+        requires { draft_count self ≡ 1 }
+    {
+        match self {
+            Draft::Value(_) => {}
+            Draft::Open(_holder, keys, _index) => keys.destroy_empty(),
+        }
+    }
+
+    /// Returns the table inside the value and what holds it, or the value if it takes no more.
+    pub(super) fn parts(self) -> Result<(Holder, Keys, Index), Node>
+        ensures { MatchResult result
+            (λ t. draft_view self ≡ held_view t.0 (keys_view t.1.items t.2))
+            (λ node. draft_view self ≡ sealed (node_view node)) }
+    {
+        match self {
+            Draft::Value(node) => Err(node),
+            Draft::Open(holder, keys, index) => Ok((holder, keys, index)),
         }
     }
 
@@ -38,54 +62,40 @@ impl Draft {
         ensures { MatchOption result (IsShut way self) (λ opened. IsOpened way self opened.0 opened.1) }
     {
         match self {
-            Draft::Table(origin, keys, index) => {
-                if let Some(after) = way.origin_after(origin) {
-                    return Some((Holder::Table(after), OpenTable { keys, index }));
-                }
-                drop(keys);
-                drop(index);
-            }
-            Draft::Tables(done, keys, index) => {
-                if let Way::Header = way {
-                    return Some((Holder::Tables(done), OpenTable { keys, index }));
-                }
-                drop(done);
-                drop(keys);
-                drop(index);
-            }
-            Draft::Value(node) => drop(node),
-        }
-        None
-    }
-}
-
-/// Takes out the value of the last key of a table, as `enter` does.
-fn enter_table(
-    origin: Origin,
-    mut keys: Keys,
-    index: Index,
-    other: Draft,
-) -> Result<(Draft, Draft), Draft>
-    ensures { IsEntered draft_count (suc (sum_by key_count keys.items)) other result }
-{
-    match exchange(&mut keys, other) {
-        Ok(inner) => Ok((Draft::Table(origin, keys, index), inner)),
-        Err(other) => {
-            keys.destroy_empty();
-            Err(other)
+            Draft::Open(holder, keys, index) => match holder.passed_by(way) {
+                Some(after) => Some((after, OpenTable { keys, index })),
+                None => None,
+            },
+            Draft::Value(_) => None,
         }
     }
 }
 
-/// Takes the value of the last key out of a table, as `leave` does.
-fn leave_table(origin: Origin, mut keys: Keys, index: Index) -> Option<(Draft, Draft)>
-    ensures { IsLeft draft_count (suc (sum_by key_count keys.items)) result }
-{
-    match keys.pop() {
-        Some((_, inner, _)) => Some((Draft::Table(origin, keys, index), inner)),
-        None => {
-            keys.destroy_empty();
-            None
+impl Holder {
+    /// Returns the value after a key passes it; `None` where it lets no key pass so.
+    fn passed_by(self, way: Way) -> Option<Holder>
+        ensures { (edit : Edit) (inner : TomlNodes) → passed way edit (held_view self inner)
+            ≡ option_and_then (λ after. option_map (held_view after) (edit inner)) result }
+    {
+        match self {
+            Holder::Table(origin) => match way.origin_after(origin) {
+                Some(after) => Some(Holder::Table(after)),
+                None => None,
+            },
+            Holder::Tables(done) => match way {
+                Way::Header => Some(Holder::Tables(done)),
+                Way::Dots => None,
+            },
+        }
+    }
+
+    /// Returns the value with these keys in it, which are complete.
+    pub(super) fn completed(self, nodes: Nodes) -> Node
+        ensures { node_view result ≡ held_view self (entries_view nodes.items) }
+    {
+        match self {
+            Holder::Table(origin) => Node::Table(origin, nodes),
+            Holder::Tables(done) => Node::Tables(done, nodes),
         }
     }
 }

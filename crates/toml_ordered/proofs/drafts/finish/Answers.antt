@@ -2,20 +2,20 @@ use Rattle.std.proofs.Common.{sym, ◌∙◌}
 use Rattle.toml_ordered.proofs.Unfinished.{Turns, completed, entered, ended, whole}
 use Rattle.toml_ordered.specs.Drafts.{draft_view, keys_view}
 use Rattle.toml_ordered.proofs.drafts.finish.Goals as goal
-use Rattle.toml_ordered.proofs.drafts.finish.Goals.{In-Ok-new, In_ok-push-in-Err-inner_keys, In_ok-push-in-Some-pop}
+use Rattle.toml_ordered.proofs.drafts.finish.Goals.{In-Ok-new, In_ok-push-in-Err-parts, In_ok-push-in-Some-pop}
 
-completes : (c : In_ok-push-in-Err-inner_keys)
-    → Turns c.turns.around.items (record { nodes = c.push-in-Err-inner_keys.new.self; keys = c.next.new.self }) c.turns.around.items c.turns.table
+completes : (c : In_ok-push-in-Err-parts)
+    → Turns c.turns.around.items (record { nodes = c.push-in-Err-parts.new.self; keys = c.next.new.self }) c.turns.around.items c.turns.table
 completes c =
-    completed c.turns.around.items c.turns.table (record { nodes = c.push-in-Err-inner_keys.new.self; keys = c.next.new.self })
-    (c.in-Some.key, c.in_ok-sealed-in-Err-inner_keys.field-0, c.in-Some.left) (draft_view c.in-Some.draft) c.in-Some.ensures
-    (c.in_ok-sealed-in-Err-inner_keys.ensures ∙ sym c.in-Err-inner_keys.ensures) c.in_ok-push-in-Err-inner_keys.ensures.items
+    completed c.turns.around.items c.turns.table (record { nodes = c.push-in-Err-parts.new.self; keys = c.next.new.self })
+    (c.in-Some.key, c.in_ok-sealed-in-Err-parts.field-0, c.in-Some.left) (draft_view c.in-Some.draft) c.in-Some.ensures
+    (c.in_ok-sealed-in-Err-parts.ensures ∙ sym c.in-Err-parts.ensures) c.in_ok-push-in-Err-parts.ensures.items
 
 enters : (c : In-Ok-new) → Turns c.push.new.self.items c.in-Ok-new.inner c.turns.around.items c.turns.table
 enters c =
-    let inside = c.in-Ok-inner_keys in
+    let inside = c.in-Ok-parts in
     entered c.turns.around.items c.push.new.self.items c.turns.table c.in-Ok-new.inner c.next.new.self (c.in-Some.key, inside.holder, c.in-Some.left)
-    (draft_view c.in-Some.draft) (keys_view inside.keys.items inside.index) c.in_ok-push-in-Ok-inner_keys.ensures.items c.in-Some.ensures inside.ensures
+    (draft_view c.in-Some.draft) (keys_view inside.keys.items inside.index) c.in_ok-push-in-Ok-parts.ensures.items c.in-Some.ensures inside.ensures
     c.in-Ok-new.ensures
 
 ends : (c : In_ok-push-in-Some-pop)
@@ -24,17 +24,17 @@ ends c =
     ended c.pop.new.self.items c.turns.around.items c.turns.table c.in-Some-pop.outer c.completed-node.result c.push-in-Some-pop.new.self
     c.in-Some-pop.ensures.items c.in-None.ensures c.completed-node.ensures c.in_ok-push-in-Some-pop.ensures.items
 
-pub turns-preserved-in-Ok-inner_keys : goal.turns-preserved-in-Ok-inner_keys
-turns-preserved-in-Ok-inner_keys c = (enters c).0 ∙ c.turns.invariant
+pub turns-preserved-in-Ok-parts : goal.turns-preserved-in-Ok-parts
+turns-preserved-in-Ok-parts c = (enters c).0 ∙ c.turns.invariant
 
-pub turns-smaller-in-Ok-inner_keys : goal.turns-smaller-in-Ok-inner_keys
-turns-smaller-in-Ok-inner_keys c = (enters c).1
+pub turns-smaller-in-Ok-parts : goal.turns-smaller-in-Ok-parts
+turns-smaller-in-Ok-parts c = (enters c).1
 
-pub turns-preserved-in_ok-push-in-Err-inner_keys : goal.turns-preserved-in_ok-push-in-Err-inner_keys
-turns-preserved-in_ok-push-in-Err-inner_keys c = (completes c).0 ∙ c.turns.invariant
+pub turns-preserved-in_ok-push-in-Err-parts : goal.turns-preserved-in_ok-push-in-Err-parts
+turns-preserved-in_ok-push-in-Err-parts c = (completes c).0 ∙ c.turns.invariant
 
-pub turns-smaller-in_ok-push-in-Err-inner_keys : goal.turns-smaller-in_ok-push-in-Err-inner_keys
-turns-smaller-in_ok-push-in-Err-inner_keys c = (completes c).1
+pub turns-smaller-in_ok-push-in-Err-parts : goal.turns-smaller-in_ok-push-in-Err-parts
+turns-smaller-in_ok-push-in-Err-parts c = (completes c).1
 
 pub turns-preserved : goal.turns-preserved
 turns-preserved c = (ends c).0 ∙ c.turns.invariant

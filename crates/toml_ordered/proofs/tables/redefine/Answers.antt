@@ -1,11 +1,12 @@
 use Rattle.std.proofs.Common.{Some, Vec, Global, inr, sym, ap, ap₂, ◌∙◌}
-use Rattle.toml_ordered.proofs.DraftKeys.{Draft, Places, draft_view-Tables}
-use Rattle.toml_ordered.proofs.FirstKeys.{draft_firsts-Tables}
+use Rattle.toml_ordered.proofs.DraftKeys.{Draft, Places, draft_view-Open}
+use Rattle.toml_ordered.proofs.FirstKeys.{draft_firsts-Open}
 use Rattle.toml_ordered.specs.Data.{TomlNode, Items, TomlNodes, table, tables, push_item, items_view}
-use Rattle.toml_ordered.specs.Drafts.{draft_view, keys_view}
+use Rattle.toml_ordered.specs.Drafts.{draft_view, held_view, keys_view}
 use Rattle.toml_ordered.specs.Firsts.{keys_firsts}
 use Rattle.toml_ordered.specs.Reading.{definition_view}
 use Rattle.toml_ordered.specs.Tables.{array_table, redefine}
+use Rattle.toml_ordered.specs.declared.drafts.Holder.TheVariants.{Tables}
 use Rattle.toml_ordered.specs.declared.tree.Origin.TheVariants.{Closed}
 use Rattle.toml_ordered.specs.declared.tree.Node.{Node as CodeNode}
 use Rattle.toml_ordered.proofs.tables.redefine.Goals as goal
@@ -16,23 +17,24 @@ Keys = Vec Draft Global
 abbrev Nodes : Type 0
 Nodes = Vec CodeNode Global
 
-pub returns-in_ok-begin_table-in-Tables-Tables-clause-value : goal.returns-in_ok-begin_table-in-Tables-Tables-clause-value
-returns-in_ok-begin_table-in-Tables-Tables-clause-value c =
-    let both = c.in-Tables-Tables in
-    let begun = c.in_ok-begin_table-in-Tables-Tables.ensures in
+pub returns-in_ok-begin_table-in-Tables-clause-value : goal.returns-in_ok-begin_table-in-Tables-clause-value
+returns-in_ok-begin_table-in-Tables-clause-value c =
+    let it = c.in-Tables-Open in
+    let begun = c.in_ok-begin_table-in-Tables.ensures in
     let new = c.begin_table.new in
-    ap (λ what. redefine (definition_view what) (draft_view c.args.member.now.1)) both.is-0
-    ∙ ap (λ x. redefine array_table (draft_view x)) both.is-1
-    ∙ ap (redefine array_table) (draft_view-Tables both.done both.last both.index)
+    let keys = keys_view it.last.items it.index in
+    ap (λ what. redefine (definition_view what) (draft_view c.args.member.now.1)) it.is-0
+    ∙ ap (λ x. redefine array_table (draft_view x)) it.is-1
+    ∙ ap (redefine array_table) (draft_view-Open it.holder it.last it.index ∙ ap (λ h. held_view h keys) (sym it.holder-is ∙ c.in-Tables.is))
     ∙ ap (λ (x : TomlNode). Some x)
-    (sym (draft_view-Tables new.done new.last new.index
+    (sym (draft_view-Open (Tables new.done) new.last new.index
     ∙ ap₂ (λ (xs : Items) (ns : TomlNodes). tables xs ns)
     (begun.done
-    ∙ ap₂ (λ (done : Nodes) (x : TomlNode). push_item (items_view done.items) x) both.done-is
-    (ap (table Closed) (ap₂ (λ (ks : Keys) (index : Places). keys_view ks.items index) both.last-is both.index-is)))
+    ∙ ap₂ (λ (done : Nodes) (x : TomlNode). push_item (items_view done.items) x) c.in-Tables.done-is
+    (ap (table Closed) (ap₂ (λ (ks : Keys) (index : Places). keys_view ks.items index) it.last-is it.index-is)))
     (ap (λ es. keys_view es new.index) begun.last)))
 
-pub returns-in_ok-begin_table-in-Tables-Tables-clause-firsts : goal.returns-in_ok-begin_table-in-Tables-Tables-clause-firsts
-returns-in_ok-begin_table-in-Tables-Tables-clause-firsts c =
+pub returns-in_ok-begin_table-in-Tables-clause-firsts : goal.returns-in_ok-begin_table-in-Tables-clause-firsts
+returns-in_ok-begin_table-in-Tables-clause-firsts c =
     let new = c.begin_table.new in
-    inr (draft_firsts-Tables new.done new.last new.index ∙ ap keys_firsts c.in_ok-begin_table-in-Tables-Tables.ensures.last)
+    inr (draft_firsts-Open _ new.last new.index ∙ ap keys_firsts c.in_ok-begin_table-in-Tables.ensures.last)

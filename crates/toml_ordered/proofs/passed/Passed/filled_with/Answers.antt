@@ -11,7 +11,7 @@ returns c =
     let at = c.args.self.at in
     let e = c.index_mut.result.now in
     let within : at < length es = grind (arith, common_steps) in (
-      ap (λ (x : CodeDraft). set es at (e.0, x, e.2)) (c.replace.ensures.after ∙ c.with.ensures)
+      ap (λ (x : CodeDraft). set es at (e.0, x, e.2)) c.replace.ensures.after
           ∙ with_value-here at (held c.args.self.holder c.args.inner) es e within (sym c.index_mut.ensures.value),
       refl,
     )
