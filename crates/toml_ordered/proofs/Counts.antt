@@ -1,8 +1,8 @@
 -- How many values there are in what a drop has in hand, and that each turn of its loop goes on.
-use Rattle.std.proofs.Common.{◌≡◌, ℕ, suc, ◌+◌, ◌*◌, ◌<◌, ◌≤◌, List, [], ◌∷◌, map, Result, Ok, Err, Option, Some, None, Vec, Global, String, refl, ap, subst, sym, ◌∙◌, arith, rules}
-use Rattle.std.proofs.Common.{sum_by, length, vec_len}
+use Rattle.std.proofs.Common.{◌≡◌, ℕ, zero, suc, ◌+◌, ◌-◌, ◌*◌, ◌<◌, ◌≤◌, List, [], ◌∷◌, map, sum_by, length, set, get_or, Result, Ok, Err}
+use Rattle.std.proofs.Common.{Option, Some, None, Vec, vec_len, Global, String, refl, ap, subst, sym, ◌∙◌, arith, rules}
 use Rattle.std.proofs.Math.Nat.{mul-suc, suc-mul}
-use Rattle.std.proofs.lemmas.List.Sums.{sum-map, sum_by-cons}
+use Rattle.std.proofs.lemmas.List.Sums.{sum-map, sum_by-cons, sum_by-set}
 use Rattle.std.proofs.lemmas.Nat.{mul-le}
 use Rattle.toml_ordered.specs.Counts.{IsEntered, IsExchanged, IsLeft, IsPopped, draft_count, key_count, member_count, node_count}
 use Rattle.toml_ordered.specs.declared.tree.Node.{Node, Array, Table, Tables, the_lemmas as node_lemmas}
@@ -43,6 +43,21 @@ node_count-Tables done last = search (rules, node_lemmas, sum-map, sum_by-map)
 pub draft_count-Open : (holder : Holder) (keys : Vec (String Global × Draft × ℕ) Global) (index : BTreeMap (String Global) ℕ)
     → draft_count (Open holder keys index) ≡ suc (sum_by key_count keys.items)
 draft_count-Open holder keys index = search (rules, draft_lemmas, sum_by-map)
+
+-- a value is taken out, and another put into its place
+within : {E : Type 0} (counts : E → ℕ) (xs : List E) (i : ℕ) (d : E) → i < length xs → counts (get_or xs i d) ≤ sum_by counts xs
+within counts [] i d less = absurd (omega (arith, less))
+within counts (x ∷ xs) zero d less = omega (arith, sum_by-cons counts x xs)
+within counts (x ∷ xs) (suc i) d less = let inside = within counts xs i d (omega (arith, less)) in omega (arith, sum_by-cons counts x xs, inside)
+
+pub exchanged : {E X : Type 0} (counts : E → ℕ) (count : X → ℕ) (xs : Vec E Global) (d y : E) (inner other : X) → 0 < vec_len xs
+    → counts (get_or xs.items (vec_len xs - 1) d) ≡ count inner → counts y ≡ count other
+    → (sum_by counts (set xs.items (vec_len xs - 1) y) + count inner ≡ sum_by counts xs.items + count other) × (count inner ≤ sum_by counts xs.items)
+exchanged counts count xs d y inner other some was is =
+    let less : vec_len xs - 1 < length xs.items = omega (arith, some, xs.ok.0) in (
+      omega (arith, was, is, sum_by-set counts xs.items (vec_len xs - 1) y d less),
+      subst (λ n. n ≤ sum_by counts xs.items) was (within counts xs.items (vec_len xs - 1) d less),
+    )
 
 -- the last of those inside is taken out
 pub entered : {E X : Type 0} (counts : E → ℕ) (count : X → ℕ) (xs ys : List E) (old new : ℕ) (other : X) (result : Result X X)
