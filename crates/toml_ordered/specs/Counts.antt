@@ -1,5 +1,5 @@
 -- How many values a value holds, itself among them.
-use Rattle.std.specs.Prelude.{◌≡◌, ℕ, suc, ◌+◌, ◌≤◌, ◌<◌, ⊤, List, [], MatchOption, MatchResult, Option, Result, String, sum_by, sum}
+use Rattle.std.specs.Prelude.{◌≡◌, ℕ, suc, ◌+◌, ◌≤◌, ◌<◌, List, [], MatchOption, MatchResult, Option, Result, String, sum_by, sum}
 use Rattle.std.specs.declared.alloc.Global.{Global}
 use Rattle.toml_ordered.specs.declared.drafts.Draft.{Draft, fold-Draft}
 use Rattle.toml_ordered.specs.declared.drafts.Draft.TheOpen.{Draft-F}

@@ -1,7 +1,6 @@
 -- How keys pass through tables: the table inside of a value is taken out, and put back once more is defined in it.
 use Rattle.std.specs.Prelude.{◌≡◌, ℕ, zero, suc, List, [], ◌∷◌, ◌++◌, map, String, Some, None, option_map}
 use Rattle.std.specs.declared.alloc.Global.{Global}
-use Rattle.toml_ordered.specs.Data.{TomlNodes}
 use Rattle.toml_ordered.specs.Drafts.{draft_view, held_view, table_view}
 use Rattle.toml_ordered.specs.Firsts.{AddsFirsts, IsAgain, draft_firsts, keys_firsts, keys_in}
 use Rattle.toml_ordered.specs.Reading.{IsMemory}

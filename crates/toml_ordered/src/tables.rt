@@ -188,17 +188,22 @@ fn redefine(
     ensures again { IfErr result (IsPassed (string_bytes member.old.0) member.old.2 left) }
 {
     let (key, draft, first) = member;
-    match (what, draft) {
-        (Definition::Table, Draft::Open(Holder::Table(origin @ Origin::Implicit), _, _)) => {
-            *origin = Origin::Header;
-            Ok(())
+    if let Draft::Open(holder, last, index) = draft {
+        match holder {
+            Holder::Table(origin) => {
+                if *origin == Origin::Implicit && matches!(what, Definition::Table) {
+                    *origin = Origin::Header;
+                    return Ok(());
+                }
+            }
+            Holder::Tables(done) => {
+                if let Definition::Tables = what {
+                    return Ok(begin_table(alloc, done, last, index)?);
+                }
+            }
         }
-        (Definition::Tables, Draft::Open(holder, last, index)) => match holder {
-            Holder::Tables(done) => Ok(begin_table(alloc, done, last, index)?),
-            Holder::Table(_) => Err(defined_again(key, *first, left)),
-        },
-        _ => Err(defined_again(key, *first, left)),
     }
+    Err(defined_again(key, *first, left))
 }
 
 /// Closes the last table of an array, and begins another behind it.

@@ -1,6 +1,6 @@
 //! Values in tables that may still grow are taken apart.
 ghost use Rattle.std.specs.Prelude.{◌≡◌, MatchOption, MatchResult, option_and_then, option_map};
-ghost use Rattle.toml_ordered.specs.Counts.{IsEntered, IsExchanged, IsLeft, draft_count, key_count};
+ghost use Rattle.toml_ordered.specs.Counts.{IsEntered, IsExchanged, IsLeft, IsPopped, draft_count, key_count};
 ghost use Rattle.toml_ordered.specs.Data.{TomlNodes, entries_view, node_view};
 ghost use Rattle.toml_ordered.specs.Drafts.{draft_view, held_view, keys_view, sealed};
 ghost use Rattle.toml_ordered.specs.Passing.{IsOpened, IsShut};
@@ -28,10 +28,7 @@ impl Draft {
     {
         match self {
             Draft::Value(_) => None,
-            Draft::Open(_holder, keys, _index) => match keys.pop() {
-                Some((_, inner, _)) => Some(inner),
-                None => None,
-            },
+            Draft::Open(_holder, keys, _index) => pop(keys),
         }
     }
 
@@ -107,5 +104,15 @@ fn exchange(keys: &mut Keys, other: Draft) -> Result<Draft, Draft>
     match keys.last_mut() {
         Some(member) => Ok(mem::replace(&mut member.1, other)),
         None => Err(other),
+    }
+}
+
+/// Takes out the value of the last of some keys.
+fn pop(keys: &mut Keys) -> Option<Draft>
+    ensures { IsPopped key_count draft_count keys.old.items keys.new.items result }
+{
+    match keys.pop() {
+        Some((_, inner, _)) => Some(inner),
+        None => None,
     }
 }

@@ -1,4 +1,4 @@
-use Rattle.std.proofs.Common.{◌≡◌, ap, ◌∙◌, arith, rules, sum_by}
+use Rattle.std.proofs.Common.{ap, ◌∙◌, arith, rules, sum_by}
 use Rattle.toml_ordered.proofs.Counts.{entered, node_count-Table, node_count-Tables}
 use Rattle.toml_ordered.specs.Counts.{member_count, node_count}
 use Rattle.toml_ordered.proofs.tree.Node.exchange.Goals as goal

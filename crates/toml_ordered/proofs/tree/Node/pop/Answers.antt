@@ -1,4 +1,4 @@
-use Rattle.std.proofs.Common.{◌≡◌, ap, ◌∙◌, arith, rules, sum_by}
+use Rattle.std.proofs.Common.{ap, ◌∙◌, arith, rules, sum_by}
 use Rattle.std.proofs.lemmas.List.Sums.{sum_by_push}
 use Rattle.toml_ordered.proofs.Counts.{left, none_counted, node_count-Table, node_count-Tables}
 use Rattle.toml_ordered.specs.Counts.{member_count, node_count}
