@@ -8,7 +8,7 @@ use Rattle.toml_ordered.specs.declared.fault.Fault.TheVariants as fault
 use Rattle.toml_ordered.proofs.Depths.{blank_within, ends_within, pair_nests_within}
 use Rattle.toml_ordered.proofs.Endings.{ends_self, ends_then}
 use Rattle.toml_ordered.specs.Data.{TomlNode, TomlNodes}
-use Rattle.toml_ordered.specs.Firsts.{Firsts, no_firsts, HasFirst, AddsFirsts, IfAgain, IsAgain, FaultTells}
+use Rattle.toml_ordered.specs.Firsts.{Firsts, no_firsts, HasFirst, AddsFirsts, IsAgain, IsOther, FaultTells}
 use Rattle.toml_ordered.specs.Grammar.{keyval, line, val}
 use Rattle.toml_ordered.specs.Inside.{KnowsPairs}
 use Rattle.toml_ordered.specs.Places.{EndsWith, after_pairs, ReadsUpTo, ExpressionAt, FirstDefines, PairAt, PairsConflict}
@@ -18,10 +18,6 @@ use Rattle.toml_ordered.specs.Reading.{IsMemory}
 use Rattle.toml_ordered.specs.Tables.{TomlDocument, Expression, define, put}
 
 -- ---- faults of another kind
-
--- no fault that a key is defined again
-abbrev pub IsOther : Fault → Type 0
-IsOther found = IfAgain found (λ _ _ _. ⊥)
 
 pub other_than : (again : List ℕ → ℕ → ℕ → Type 0) (deep : ℕ → Type 0) (found : Fault) → IsOther found → FaultTells found again deep
 other_than again deep fault.Memory none = tt

@@ -8,6 +8,7 @@ pub mod Depths
 pub mod RowsNesting
 pub mod Conflicts
 pub mod Turns
+pub mod Heads
 pub mod Around
 pub mod Stopping
 pub mod SortedKeys

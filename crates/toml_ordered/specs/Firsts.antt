@@ -72,6 +72,10 @@ FaultTells (fault.DefinedAgain key first second) again deep = again (string_byte
 abbrev pub IfAgain : Fault → (List ℕ → (first second : ℕ) → Type 0) → Type 0
 IfAgain found holds = FaultTells found holds (λ _. ⊥)
 
+-- no fault that a key is defined again
+abbrev pub IsOther : Fault → Type 0
+IsOther found = IfAgain found (λ _ _ _. ⊥)
+
 -- a definition along the whole path, here, passes a key that was first defined before
 abbrev pub IsAgain : (whole : List (List ℕ)) → (here : ℕ) → (old : Firsts) → Fault → Type 0
 IsAgain whole here old found =

@@ -1,16 +1,16 @@
 -- What is known of an array or a table in braces while a value inside of it is read.
-use Rattle.std.specs.Prelude.{◌≡◌, ℕ, suc, ◌==◌, false, ◌<◌, List, drop, length, Result, MatchResult, Some, None}
+use Rattle.std.specs.Prelude.{◌≡◌, ℕ, suc, ◌==◌, false, ◌<◌, List, drop, length, Result, MatchResult, Some}
 use Rattle.std.specs.Borrow.{Bor}
 use Rattle.toml_parser.specs.Lexical.{first, left_brace, left_bracket, right_brace, right_bracket, skip_blank}
 use Rattle.toml_parser.specs.Reading.{key_view}
 use Rattle.toml.specs.Parse.{key_equals, read_map}
 use Rattle.toml_ordered.specs.Data.{Items, array, items_view, node_view, table}
 use Rattle.toml_ordered.specs.Drafts.{table_view}
-use Rattle.toml_ordered.specs.Firsts.{FaultTells, Firsts, HasFirst, keys_firsts}
+use Rattle.toml_ordered.specs.Firsts.{Firsts, HasFirst, keys_firsts}
 use Rattle.toml_ordered.specs.Grammar.{items, members, val}
-use Rattle.toml_ordered.specs.Nesting.{NestsPast, after_items}
-use Rattle.toml_ordered.specs.Places.{EndsWith, PairFirstDefines, PairsConflict, after_pairs}
-use Rattle.toml_ordered.specs.Reading.{IsMemory}
+use Rattle.toml_ordered.specs.Nesting.{ValueTells, after_items}
+use Rattle.toml_ordered.specs.Places.{EndsWith, PairFirstDefines, after_pairs}
+use Rattle.toml_ordered.specs.Reading.{IsRefusal}
 use Rattle.toml_ordered.specs.declared.drafts.OpenTable.{OpenTable}
 use Rattle.toml_ordered.specs.declared.fault.Fault.{Fault}
 use Rattle.toml_ordered.specs.declared.tree.Node.{Node}
@@ -65,8 +65,7 @@ IsFound depth text (Opened inner) rest = (less : ℕ) × (depth ≡ suc less) ×
 
 -- no value begins the text, unless an allocation failed; and why
 abbrev pub IsRefused : (depth : ℕ) (text : List ℕ) → Fault → Type 0
-IsRefused depth text fault =
-    ((IsMemory fault → ⊥) → val depth text ≡ None) × FaultTells fault (PairsConflict text) (λ left. NestsPast depth left text)
+IsRefused depth text fault = IsRefusal (val depth text) (ValueTells depth text) fault
 
 -- what is read of the value that begins the text
 abbrev pub Finds : (depth : ℕ) (text : List ℕ) → Result (Found × Bor (List ℕ)) Fault → Type 0

@@ -6,7 +6,7 @@ use Rattle.toml.specs.Parse.{after_element, key_equals}
 use Rattle.toml_ordered.specs.Data.{TomlNodes}
 use Rattle.toml_ordered.specs.Firsts.{FaultTells}
 use Rattle.toml_ordered.specs.Grammar.{val}
-use Rattle.toml_ordered.specs.Places.{Conflict, EndsWith, PairAt, ReadsUpTo}
+use Rattle.toml_ordered.specs.Places.{Conflict, EndsWith, PairAt, PairsConflict, ReadsUpTo}
 use Rattle.toml_ordered.specs.Tables.{TomlDocument}
 use Rattle.toml_ordered.specs.declared.fault.Fault.{Fault}
 
@@ -41,9 +41,17 @@ NestsPast (suc depth) left text =
     ((first text ≡ left_bracket) × InItem depth (NestsPast depth left) (drop 1 text))
     ⊎ ((first text ≡ left_brace) × InPair depth (NestsPast depth left) (drop 1 text))
 
+-- why no value is read: by two definitions of a key in it, or since it nests so deep
+abbrev pub ValueTells : (depth : ℕ) → (text : List ℕ) → Fault → Type 0
+ValueTells depth text found = FaultTells found (PairsConflict text) (λ left. NestsPast depth left text)
+
 -- it does so past the limit in the value of the pair that begins here
 abbrev pub PairNestsPast : (text : List ℕ) → (left : ℕ) → Type 0
 PairNestsPast text left = (name : Key) × (value : List ℕ) × (key_equals text ≡ Some (name, value)) × NestsPast recursion_limit left value
+
+-- why no expression is read, likewise
+abbrev pub ExpressionTells : (text : List ℕ) → Fault → Type 0
+ExpressionTells text found = FaultTells found (PairsConflict text) (PairNestsPast text)
 
 -- the text is read up to an expression that is such a pair
 pub record NestsTooDeep (text : List ℕ) (left : ℕ) : Type 0 where

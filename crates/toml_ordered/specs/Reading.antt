@@ -1,5 +1,5 @@
 -- How a result stands to what the grammar gives.
-use Rattle.std.specs.Prelude.{◌≡◌, ℕ, ◌<◌, String, string_bytes, List, [], ◌∷◌, ◌++◌, map, length, Result, MatchResult, IfOk, Option, Some, None}
+use Rattle.std.specs.Prelude.{◌≡◌, ℕ, ◌<◌, ◌≤◌, String, string_bytes, List, [], ◌∷◌, ◌++◌, map, length, Result, MatchResult, IfOk, Option, Some, None}
 use Rattle.std.specs.Borrow.{Bor}
 use Rattle.std.specs.declared.alloc.Global.{Global}
 use Rattle.toml_parser.specs.Lexical.{Read}
@@ -9,7 +9,7 @@ use Rattle.toml_parser.specs.declared.error.ParseError.TheVariants as parse
 use Rattle.toml_parser.specs.declared.key.Key as code_key
 use Rattle.toml_ordered.specs.Data.{node_view}
 use Rattle.toml_ordered.specs.Drafts.{sealed, table_view}
-use Rattle.toml_ordered.specs.Firsts.{IfAgain}
+use Rattle.toml_ordered.specs.Firsts.{IfAgain, IsOther}
 use Rattle.toml_ordered.specs.Tables.{Definition, TomlDocument, Edit, Expression, key_value, std_table, array_table, steps_along, along, at_key}
 use Rattle.toml_ordered.specs.declared.route.Way.{Way}
 use Rattle.toml_ordered.specs.declared.document.Document.{Document as CodeDocument}
@@ -37,6 +37,19 @@ ParsesTo f r expected = MatchResult r (λ a. expected ≡ Some (f a)) (λ e. (Is
 -- the same of a value and the text after it
 abbrev pub ParsesPrefixTo : {A B : Type 0} → (A → B) → Result (A × Bor (List ℕ)) Fault → Read B → Type 0
 ParsesPrefixTo f r expected = ParsesTo (λ p. (f p.0, p.1.now)) r expected
+
+-- the grammar gives nothing, unless an allocation failed; and what the fault tells
+abbrev pub IsRefusal : {B : Type 0} → Option B → (tells : Fault → Type 0) → Fault → Type 0
+IsRefusal expected tells found = ((IsMemory found → ⊥) → expected ≡ None) × tells found
+
+-- what the grammar gives is read, seen through f, and less text is left; or the text is refused
+abbrev pub Reads : {A B : Type 0} → (A → B) → (text : List ℕ) → Read B → (tells : Fault → Type 0) → Result (A × Bor (List ℕ)) Fault → Type 0
+Reads f text expected tells r =
+    MatchResult r (λ p. (expected ≡ Some (f p.0, p.1.now)) × (length p.1.now < length text)) (IsRefusal expected tells)
+
+-- the same of what only passes a part of the text
+abbrev pub ReadsPast : (text : List ℕ) → Option (List ℕ) → Result (Bor (List ℕ)) Fault → Type 0
+ReadsPast text expected r = MatchResult r (λ rest. (expected ≡ Some rest.now) × (length rest.now ≤ length text)) (IsRefusal expected IsOther)
 
 -- less text is left
 abbrev pub Shortens : {A : Type 0} → List ℕ → Result (A × Bor (List ℕ)) Fault → Type 0

@@ -5,11 +5,11 @@ ghost use Rattle.toml_parser.specs.Reading.{key_view, path_view};
 ghost use Rattle.toml.specs.Parse.{header_key, skip_bom};
 ghost use Rattle.toml_ordered.specs.Data.{entries_view, node_view};
 ghost use Rattle.toml_ordered.specs.Drafts.{sealed, table_view};
-ghost use Rattle.toml_ordered.specs.Firsts.{AddsFirsts, FaultTells, IfAgain, IsAgain, keys_firsts};
+ghost use Rattle.toml_ordered.specs.Firsts.{AddsFirsts, IsAgain, IsOther, keys_firsts};
 ghost use Rattle.toml_ordered.specs.Grammar as spec;
-ghost use Rattle.toml_ordered.specs.Nesting.{HasReason, PairNestsPast};
-ghost use Rattle.toml_ordered.specs.Places.{FaultIsPlaced, PairsConflict, key_parts, whole_path};
-ghost use Rattle.toml_ordered.specs.Reading.{ParsesTo, ParsesPrefixTo, Shortens, definition_view, document_view, expression_view};
+ghost use Rattle.toml_ordered.specs.Nesting.{ExpressionTells, HasReason};
+ghost use Rattle.toml_ordered.specs.Places.{FaultIsPlaced, key_parts, whole_path};
+ghost use Rattle.toml_ordered.specs.Reading.{ParsesTo, Reads, definition_view, document_view, expression_view};
 ghost use Rattle.toml_ordered.specs.Tables.{define, defined_header, defined_pair};
 
 use crate::drafts::OpenTable;
@@ -160,9 +160,7 @@ fn past_mark(s: &str) -> &str
 
 /// Reads an expression that has its line to itself.
 fn line(alloc: Global, s: &str) -> Result<((Key, Definition), &str), Fault>
-    ensures value { ParsesPrefixTo expression_view result (spec.line s.now) }
-    ensures shorter { Shortens s.now result }
-    ensures reason { IfErr result (λ fault. FaultTells fault (PairsConflict s.now) (PairNestsPast s.now)) }
+    ensures { Reads expression_view s.now (spec.line s.now) (ExpressionTells s.now) result }
 {
     let (expression, rest) = match expression(alloc, s) {
         Ok(read) => read,
@@ -178,9 +176,7 @@ fn line(alloc: Global, s: &str) -> Result<((Key, Definition), &str), Fault>
 
 /// Reads a header, or a pair.
 fn expression(alloc: Global, s: &str) -> Result<((Key, Definition), &str), Fault>
-    ensures value { ParsesPrefixTo expression_view result (spec.expression s.now) }
-    ensures shorter { Shortens s.now result }
-    ensures reason { IfErr result (λ fault. FaultTells fault (PairsConflict s.now) (PairNestsPast s.now)) }
+    ensures { Reads expression_view s.now (spec.expression s.now) (ExpressionTells s.now) result }
 {
     if first(s) == b'[' {
         return header(alloc, s);
@@ -198,9 +194,7 @@ fn expression(alloc: Global, s: &str) -> Result<((Key, Definition), &str), Fault
 /// Reads a header.
 fn header(alloc: Global, s: &str) -> Result<((Key, Definition), &str), Fault>
     requires { first s.now ≡ 91 }
-    ensures value { ParsesPrefixTo expression_view result (spec.expression s.now) }
-    ensures shorter { Shortens s.now result }
-    ensures once { IfErr result (λ fault. IfAgain fault (λ _ _ _. ⊥)) }
+    ensures { Reads expression_view s.now (spec.expression s.now) IsOther result }
 {
     if byte_at(s, 1) != b'[' {
         return match header_key(alloc, skip(s, 1)) {
@@ -222,13 +216,16 @@ fn header(alloc: Global, s: &str) -> Result<((Key, Definition), &str), Fault>
 
 /// Returns the key of a header, and what follows its first closing bracket.
 fn header_key(alloc: Global, s: &str) -> Result<(Key, &str), Fault>
-    ensures value { ParsesPrefixTo key_view result (header_key s.now) }
-    ensures shorter { Shortens s.now result }
-    ensures once { IfErr result (λ fault. IfAgain fault (λ _ _ _. ⊥)) }
+    ensures { Reads key_view s.now (header_key s.now) IsOther result }
 {
-    let (key, rest) = dotted_key(alloc, skip_ws(s))?;
-    if first(rest) != b']' {
-        return Err(not_toml(rest));
+    match dotted_key(alloc, skip_ws(s)) {
+        Ok((key, rest)) => {
+            if first(rest) == b']' {
+                Ok((key, skip(rest, 1)))
+            } else {
+                Err(not_toml(rest))
+            }
+        }
+        Err(error) => Err(Fault::from(error)),
     }
-    Ok((key, skip(rest, 1)))
 }

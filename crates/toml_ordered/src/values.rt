@@ -4,12 +4,12 @@ ghost use Rattle.toml_parser.specs.Reading.{key_view};
 ghost use Rattle.toml.specs.Parse.{after_element, key_equals};
 ghost use Rattle.toml_ordered.specs.Data.{items_view, node_view};
 ghost use Rattle.toml_ordered.specs.Drafts.{sealed, table_view};
-ghost use Rattle.toml_ordered.specs.Firsts.{AddsFirsts, FaultTells, IfAgain, IsAgain, keys_firsts};
+ghost use Rattle.toml_ordered.specs.Firsts.{AddsFirsts, IsAgain, IsOther, keys_firsts};
 ghost use Rattle.toml_ordered.specs.Grammar as spec;
 ghost use Rattle.toml_ordered.specs.Inside.{ArrayUpTo, BracesUpTo, Finds, GoesOn, IsFound};
-ghost use Rattle.toml_ordered.specs.Nesting.{NestsPast};
-ghost use Rattle.toml_ordered.specs.Places.{PairsConflict, key_parts};
-ghost use Rattle.toml_ordered.specs.Reading.{ParsesTo, ParsesPrefixTo, Shortens};
+ghost use Rattle.toml_ordered.specs.Nesting.{ValueTells};
+ghost use Rattle.toml_ordered.specs.Places.{key_parts};
+ghost use Rattle.toml_ordered.specs.Reading.{ParsesTo, Reads, ReadsPast, Shortens};
 ghost use Rattle.toml_ordered.specs.Tables as tables;
 
 use crate::drafts::OpenTable;
@@ -45,9 +45,7 @@ enum Found {
 
 /// Returns a value, in which arrays and tables in braces nest at most `depth` deep, and the text after it.
 pub(crate) fn value(alloc: Global, s: &str, depth: usize) -> Result<(Node, &str), Fault>
-    ensures value { ParsesPrefixTo node_view result (spec.val depth s.now) }
-    ensures shorter { Shortens s.now result }
-    ensures reason { IfErr result (λ fault. FaultTells fault (PairsConflict s.now) (λ left. NestsPast depth left s.now)) }
+    ensures { Reads node_view s.now (spec.val depth s.now) (ValueTells depth s.now) result }
 {
     let mut open: Vec<Open> = Vec::new(alloc);
     let (mut found, mut rest) = match begin(alloc, s, depth) {
@@ -205,14 +203,13 @@ fn put(
 
 /// Returns what follows a comma, or the closing bracket.
 fn past_element(s: &str, closing: u8) -> Result<&str, Fault>
-    ensures value { ParsesTo (λ rest. rest.now) result (after_element closing s.now) }
-    ensures within { IfOk result (λ rest. length rest.now ≤ length s.now) }
-    ensures once { IfErr result (λ fault. IfAgain fault (λ _ _ _. ⊥)) }
+    ensures { ReadsPast s.now (after_element closing s.now) result }
 {
     let rest = skip_blank(s, true);
-    if first(rest) == b',' {
+    let next = first(rest);
+    if next == b',' {
         Ok(skip(rest, 1))
-    } else if first(rest) == closing {
+    } else if next == closing {
         Ok(rest)
     } else {
         Err(not_toml(rest))
@@ -221,30 +218,40 @@ fn past_element(s: &str, closing: u8) -> Result<&str, Fault>
 
 /// Reads a key, `=` and the blanks after it.
 pub(crate) fn key_and_equals(alloc: Global, s: &str) -> Result<(Key, &str), Fault>
-    ensures value { ParsesPrefixTo key_view result (key_equals s.now) }
-    ensures shorter { Shortens s.now result }
-    ensures once { IfErr result (λ fault. IfAgain fault (λ _ _ _. ⊥)) }
+    ensures { Reads key_view s.now (key_equals s.now) IsOther result }
 {
-    let (key, rest) = dotted_key(alloc, s)?;
-    if first(rest) != b'=' {
-        return Err(not_toml(rest));
+    match dotted_key(alloc, s) {
+        Ok((key, rest)) => {
+            if first(rest) == b'=' {
+                Ok((key, skip_ws(skip(rest, 1))))
+            } else {
+                Err(not_toml(rest))
+            }
+        }
+        Err(error) => Err(Fault::from(error)),
     }
-    Ok((key, skip_ws(skip(rest, 1))))
 }
 
 /// Reads a string or a scalar.
 fn atom(alloc: Global, s: &str) -> Result<(Node, &str), Fault>
-    ensures value { ParsesPrefixTo node_view result (spec.atom s.now) }
-    ensures shorter { Shortens s.now result }
-    ensures once { IfErr result (λ fault. IfAgain fault (λ _ _ _. ⊥)) }
+    ensures { Reads node_view s.now (spec.atom s.now) IsOther result }
 {
     if starts_string(s) {
-        let (text, rest) = quoted(alloc, s)?;
-        return Ok((Node::Text(text), rest));
+        return match quoted(alloc, s) {
+            Ok((text, rest)) => Ok((Node::Text(text), rest)),
+            Err(error) => Err(Fault::from(error)),
+        };
     }
-    let (scalar, rest) = unquoted(alloc, s)?;
-    let word = &s.as_bytes()[..s.len() - rest.len()];
-    Ok((scalar_node(alloc, word, scalar)?, rest))
+    match unquoted(alloc, s) {
+        Ok((scalar, rest)) => {
+            let word = &s.as_bytes()[..s.len() - rest.len()];
+            match scalar_node(alloc, word, scalar) {
+                Ok(node) => Ok((node, rest)),
+                Err(_) => Err(Fault::Memory),
+            }
+        }
+        Err(error) => Err(Fault::from(error)),
+    }
 }
 
 /// Returns a scalar, with the word that writes it.

@@ -1,23 +1,38 @@
-use Rattle.std.proofs.Common.{◌≡◌, rules}
+use Rattle.std.proofs.Common.{arith}
+use Rattle.toml_parser.specs.Reading.{key_view}
 use Rattle.toml_parser.specs.Strings.{recursion_limit}
 use Rattle.toml.specs.Parse.{key_equals}
-use Rattle.toml_ordered.proofs.Conflicts.{reason_in}
+use Rattle.toml_ordered.proofs.Conflicts.{other_than, reason_in}
 use Rattle.toml_ordered.proofs.Endings.{end_left, key_equals_ends}
-use Rattle.toml_ordered.proofs.Turns.{val_sealed}
+use Rattle.toml_ordered.proofs.Heads.{pair_bad, pair_is, pair_nameless, reads_tells}
 use Rattle.toml_ordered.specs.Data.{node_view}
-use Rattle.toml_ordered.specs.Drafts.{sealed}
 use Rattle.toml_ordered.specs.Nesting.{NestsPast, PairNestsPast}
 use Rattle.toml_ordered.proofs.document.expression.Goals as goal
 
-pub returns-in-Ok-value-clause-value : goal.returns-in-Ok-value-clause-value
-returns-in-Ok-value-clause-value c =
-    let sealed_node : sealed (node_view c.in-Ok-value.node) ≡ node_view c.in-Ok-value.node =
-    val_sealed recursion_limit c.in-Ok.read.1.now _ _ c.in-Ok-value.ensures.value in
-    rw sealed_node (search rules)
+pub returns-then-first-eq91 : goal.returns-then-first-eq91
+returns-then-first-eq91 c = reads_tells _ c.args.s.now _ _ _ c.header.result c.header.ensures
 
-pub returns-in-Err-value-clause-reason : goal.returns-in-Err-value-clause-reason
-returns-in-Err-value-clause-reason c =
-    let s = c.args.s.now in
+pub returns-in-Err : goal.returns-in-Err
+returns-in-Err c = (
+  λ real. pair_nameless c.args.s.now c.first.result c.first.ensures c.if-first-eq91.false (c.in-Err.ensures.0 real),
+  other_than _ _ c.in-Err.fault c.in-Err.ensures.1,
+)
+
+pub returns-in-Ok-value : goal.returns-in-Ok-value
+returns-in-Ok-value c =
     let at = c.in-Ok.read.1.now in
-    reason_in s at _ (λ left. NestsPast recursion_limit left at) (PairNestsPast s) (end_left s (key_equals s) _ at (key_equals_ends s) c.in-Ok.ensures.value)
-    (λ left deep. (_, at, c.in-Ok.ensures.value, deep)) c.in-Err-value.ensures.reason
+    let key = c.in-Ok.ensures.1 in
+    let read = c.in-Ok-value.ensures.1 in (
+      pair_is c.args.s.now c.first.result c.first.ensures c.if-first-eq91.false (key_view c.in-Ok.read.0) at c.in-Ok.ensures.0
+          (node_view c.in-Ok-value.node) c.in-Ok-value.rest.now c.in-Ok-value.ensures.0,
+      omega (arith, key, read),
+    )
+
+pub returns-in-Err-value : goal.returns-in-Err-value
+returns-in-Err-value c =
+    let s = c.args.s.now in
+    let at = c.in-Ok.read.1.now in (
+      λ real. pair_bad s c.first.result c.first.ensures c.if-first-eq91.false (key_view c.in-Ok.read.0) at c.in-Ok.ensures.0 (c.in-Err-value.ensures.0 real),
+      reason_in s at _ (λ left. NestsPast recursion_limit left at) (PairNestsPast s) (end_left s (key_equals s) _ at (key_equals_ends s) c.in-Ok.ensures.0)
+          (λ left deep. (_, at, c.in-Ok.ensures.0, deep)) c.in-Err-value.ensures.1,
+    )

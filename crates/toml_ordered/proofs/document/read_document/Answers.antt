@@ -41,7 +41,7 @@ returns-in-Err-clause-value c refused =
     let start_is = c.skip_blank-start.ensures.rest in
     let other : (length (skip_blank l.rest.now) == 0) ≡ false = grind (arith, common_steps) in
     let real : IsMemory c.in-Err.fault → ⊥ = λ memory. refused (c.here_or_behind.ensures.memory memory) in
-    document_none c.args.text.now (loop ∙ lines_bad m doc l.rest.now (omega arith) other (rw start_is at (c.in-Err.ensures.value real)))
+    document_none c.args.text.now (loop ∙ lines_bad m doc l.rest.now (omega arith) other (rw start_is at (c.in-Err.ensures.0 real)))
 
 pub returns-in-Err-clause-placed : goal.returns-in-Err-clause-placed
 returns-in-Err-clause-placed c =
@@ -52,7 +52,7 @@ returns-in-Err-clause-placed c =
       doc = document_view l.read;
       rest = l.rest.now;
       read = l.invariant.6;
-      refused = inl (rw start_is at (c.in-Err.ensures.value real), rw start_is at within);
+      refused = inl (rw start_is at (c.in-Err.ensures.0 real), rw start_is at within);
     }
 
 pub returns-in-Err-define-clause-value : goal.returns-in-Err-define-clause-value
@@ -64,7 +64,7 @@ returns-in-Err-define-clause-value c refused =
     let loop = l.invariant.4 in
     let start_is = c.skip_blank-start.ensures.rest in
     let other : (length (skip_blank l.rest.now) == 0) ≡ false = grind (arith, common_steps) in
-    let read = rw start_is at c.in-Ok.ensures.value in
+    let read = rw start_is at c.in-Ok.ensures.0 in
     let real : IsMemory c.in-Err-define.fault → ⊥ = λ memory. refused (c.here.ensures.memory memory) in
     document_none c.args.text.now (loop ∙ lines_again m doc l.rest.now _ _ (omega arith) other read (c.in-Err-define.ensures.value real))
 
@@ -72,7 +72,7 @@ pub returns-in-Err-define-clause-placed : goal.returns-in-Err-define-clause-plac
 returns-in-Err-define-clause-placed c =
     let l = c.lines in
     let start_is = c.skip_blank-start.ensures.rest in
-    let read = rw start_is at c.in-Ok.ensures.value in
+    let read = rw start_is at c.in-Ok.ensures.0 in
     placed c.args.text.now (λ left. left ≡ length c.skip_blank-start.result.now) c.in-Err-define.fault c.here.result c.here.ensures.memory
     c.here.ensures.place λ real left here. record {
       doc = document_view l.read;
@@ -90,8 +90,8 @@ lines-preserved c =
     let loop = l.invariant.4 in
     let start_is = c.skip_blank-start.ensures.rest in
     let other : (length (skip_blank l.rest.now) == 0) ≡ false = grind (arith, common_steps) in
-    let read = rw start_is at c.in-Ok.ensures.value in
-    let shorter = c.in-Ok.ensures.shorter in
+    let read = rw start_is at c.in-Ok.ensures.0 in
+    let shorter = c.in-Ok.ensures.1 in
     let before = c.skip_blank-start.ensures.within in (
       search rules,
       omega (arith, l.invariant.1),
@@ -115,13 +115,13 @@ returns-in-Err-clause-reason c =
     let start_is = c.skip_blank-start.ensures.rest in
     value_reason c.args.text.now l.rest.now (document_view l.read) c.in-Err.fault c.here_or_behind.result
     l.invariant.6
-    (rw start_is at c.in-Err.ensures.reason) (rw start_is at c.here_or_behind.ensures.moved)
+    (rw start_is at c.in-Err.ensures.1) (rw start_is at c.here_or_behind.ensures.moved)
 
 pub returns-in-Err-define-clause-reason : goal.returns-in-Err-define-clause-reason
 returns-in-Err-define-clause-reason c =
     let l = c.lines in
     let start_is = c.skip_blank-start.ensures.rest in
-    let read = rw start_is at c.in-Ok.ensures.value in
+    let read = rw start_is at c.in-Ok.ensures.0 in
     expressions_conflict c.args.text.now l.rest.now (document_view l.read) _ (length c.skip_blank-start.result.now) _
     c.in-Err-define.fault c.here.result l.invariant.5
     (record {

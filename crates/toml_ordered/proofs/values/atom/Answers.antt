@@ -6,10 +6,10 @@ use Rattle.toml_ordered.specs.Data.{node_view}
 use Rattle.toml_ordered.specs.Grammar.{scalar_node}
 use Rattle.toml_ordered.proofs.values.atom.Goals as goal
 
-pub returns-clause-value : goal.returns-clause-value
-returns-clause-value c =
+pub returns-in-Ok-scalar_node : goal.returns-in-Ok-scalar_node
+returns-in-Ok-scalar_node c =
     let s = c.args.s.now in
-    let rest = c.in_ok-scalar.rest.now in
+    let rest = c.in-Ok-unquoted.rest.now in
     let other : starts_string s ≡ false = grind (arith, common_steps) in
-    let is : node_view c.in_ok-scalar_node.field-0 ≡ scalar_node (take (length s - length rest) s) c.in_ok-scalar.scalar = grind (arith, common_steps) in
-    atom_scalar s c.in_ok-scalar.scalar rest (node_view c.in_ok-scalar_node.field-0) other c.in_ok-scalar.ensures.value is
+    let is : node_view c.in-Ok-scalar_node.node ≡ scalar_node (take (length s - length rest) s) c.in-Ok-unquoted.scalar = grind (arith, common_steps) in
+    (atom_scalar s c.in-Ok-unquoted.scalar rest (node_view c.in-Ok-scalar_node.node) other c.in-Ok-unquoted.ensures.value is, c.in-Ok-unquoted.ensures.shorter)

@@ -16,14 +16,14 @@ returns-in-Ok-clause-found c =
     let s = c.args.s.now in
     let a : (first s == 91) ≡ false = grind (arith, common_steps) in
     let b : (first s == 123) ≡ false = grind (arith, common_steps) in
-    (rw (val_atom c.args.depth s a b) c.in-Ok.ensures.value, c.in-Ok.ensures.shorter)
+    (rw (val_atom c.args.depth s a b) c.in-Ok.ensures.0, c.in-Ok.ensures.1)
 
 pub returns-in-Err-clause-found : goal.returns-in-Err-clause-found
 returns-in-Err-clause-found c =
     let s = c.args.s.now in
     let a : (first s == 91) ≡ false = grind (arith, common_steps) in
     let b : (first s == 123) ≡ false = grind (arith, common_steps) in
-    (λ real. rw (val_atom c.args.depth s a b) (c.in-Err.ensures.value real), other_than _ _ c.in-Err.refused c.in-Err.ensures.once)
+    (λ real. rw (val_atom c.args.depth s a b) (c.in-Err.ensures.0 real), other_than _ _ c.in-Err.refused c.in-Err.ensures.1)
 
 pub returns-then-depth-eq0-clause-found : goal.returns-then-depth-eq0-clause-found
 returns-then-depth-eq0-clause-found c =

@@ -25,6 +25,6 @@ returns-in-Err-clause-found c depth text known =
     let s = c.args.s.now in
     let start_is = c.skip_blank-start.ensures.rest in
     let other : (first (skip_blank s) == 125) ≡ false = grind (arith, common_steps) in (
-      λ real. braces_nameless depth text c.args.table s known other (rw start_is at (c.in-Err.ensures.value real)),
-      other_than _ _ c.in-Err.fault c.in-Err.ensures.once,
+      λ real. braces_nameless depth text c.args.table s known other (rw start_is at (c.in-Err.ensures.0 real)),
+      other_than _ _ c.in-Err.fault c.in-Err.ensures.1,
     )

@@ -1,15 +1,25 @@
-use Rattle.std.proofs.Common.{rules}
-use Rattle.toml.specs.Parse.{after_element}
+use Rattle.std.proofs.Common.{arith, length}
+use Rattle.toml_ordered.proofs.Heads.{element_comma, element_ends, element_unended, no_text}
 use Rattle.toml_ordered.proofs.values.past_element.Goals as goal
 
-pub returns-then-first-eq44-clause-value : goal.returns-then-first-eq44-clause-value
-unfolding after_element
-returns-then-first-eq44-clause-value c = search rules
+pub returns-then-next-eq44 : goal.returns-then-next-eq44
+returns-then-next-eq44 c =
+    let blank = c.skip_blank-rest.ensures.within in
+    let comma = c.skip.ensures.shorter in (
+      element_comma c.args.closing c.args.s.now c.skip_blank-rest.result.now c.skip_blank-rest.ensures.rest c.first-next.result c.first-next.ensures
+          c.if-next-eq44.true c.skip.result.now c.skip.ensures.rest,
+      omega (arith, blank, comma),
+    )
 
-pub returns-then-first-closing-clause-value : goal.returns-then-first-closing-clause-value
-unfolding after_element
-returns-then-first-closing-clause-value c = search rules
+pub returns-then-next-closing : goal.returns-then-next-closing
+returns-then-next-closing c = (
+  element_ends c.args.closing c.args.s.now c.skip_blank-rest.result.now c.skip_blank-rest.ensures.rest c.first-next.result c.first-next.ensures
+      c.if-next-eq44.false c.if-next-closing.true,
+  c.skip_blank-rest.ensures.within,
+)
 
-pub returns-else-first-closing-clause-value : goal.returns-else-first-closing-clause-value
-unfolding after_element
-returns-else-first-closing-clause-value c = search rules
+pub returns-else-next-closing : goal.returns-else-next-closing
+returns-else-next-closing c =
+    no_text (length c.skip_blank-rest.result.now) c.not_toml.result _ c.not_toml.ensures
+    (element_unended c.args.closing c.args.s.now c.skip_blank-rest.result.now c.skip_blank-rest.ensures.rest c.first-next.result c.first-next.ensures
+    c.if-next-eq44.false c.if-next-closing.false)

@@ -23,8 +23,7 @@ pub returns-in-Err-begin : goal.returns-in-Err-begin
 returns-in-Err-begin c =
     let stands = (opened (goal.at.returns-in-Err-begin c).After-len).1 in
     let pushed = c.push.new.self.items in
-    let refused = stands_refused pushed c.args.depth c.args.s.now _ c.values.rest.now c.in-Err-begin.fault stands c.in-Err-begin.ensures.found in
-    record { value = refused.0; shorter = tt; reason = refused.1 }
+    stands_refused pushed c.args.depth c.args.s.now _ c.values.rest.now c.in-Err-begin.fault stands c.in-Err-begin.ensures.found
 
 closed : (c : After-go_on)
     → (inner : ℕ) × (at : List ℕ) × (from : List ℕ) × Stands c.pop.new.self.items c.args.depth c.args.s.now (suc inner) from
@@ -44,6 +43,5 @@ values-preserved c =
 pub returns-in-Err-go_on : goal.returns-in-Err-go_on
 returns-in-Err-go_on c =
     let (inner, at, from, stands, inside, read) = closed (goal.at.returns-in-Err-go_on c).After-go_on in
-    let refused = stands_refused c.pop.new.self.items c.args.depth c.args.s.now (suc inner) from c.in-Err-go_on.fault stands
-    (c.in-Err-go_on.ensures.found inner from at inside read) in
-    record { value = refused.0; shorter = tt; reason = refused.1 }
+    stands_refused c.pop.new.self.items c.args.depth c.args.s.now (suc inner) from c.in-Err-go_on.fault stands
+    (c.in-Err-go_on.ensures.found inner from at inside read)

@@ -1,0 +1,101 @@
+-- What a key and what follows it read: that of a pair, and that of a header.
+use Rattle.std.proofs.Common.{◌≡◌, ℕ, ◌<◌, ◌≤◌, ◌==◌, true, false, List, drop, length, Option, Some, None, Result, Ok, Err, refl, sym, subst, ◌∙◌, arith}
+use Rattle.std.proofs.lemmas.Bool.{eq-eqb, ne_eqb}
+use Rattle.toml_parser.specs.Lexical.{Read, first, skip_blank, skip_ws}
+use Rattle.toml_parser.specs.Strings.{Key, key}
+use Rattle.toml_parser.specs.declared.error.ParseError.{ParseError}
+use Rattle.toml_parser.specs.declared.error.ParseError.TheVariants as parse
+use Rattle.toml.specs.Parse.{after_element, header_key, key_equals}
+use Rattle.std.specs.Borrow.{Bor}
+use Rattle.toml_ordered.proofs.Conflicts.{other_than}
+use Rattle.toml_ordered.proofs.Turns.{val_sealed}
+use Rattle.toml_ordered.specs.Data.{TomlNode}
+use Rattle.toml_ordered.specs.Drafts.{sealed}
+use Rattle.toml_ordered.specs.Grammar.{expression, val}
+use Rattle.toml_ordered.specs.Tables.{key_value}
+use Rattle.toml_ordered.specs.Firsts.{FaultTells, IsOther}
+use Rattle.toml_ordered.specs.Reading.{IsRefusal, Reads, fault_of}
+use Rattle.toml_ordered.specs.declared.fault.Fault.{Fault}
+use Rattle.toml_ordered.specs.declared.fault.Fault.TheVariants as fault
+
+-- an error of `toml_parser`
+pub no_token : {B : Type 0} (error : ParseError) (found : Fault) (expected : Option B) → found ≡ fault_of error
+    → ((error ≡ parse.OutOfMemory → ⊥) → expected ≡ None) → IsRefusal expected IsOther found
+no_token error found expected is none = subst (IsRefusal expected IsOther) (sym is) (by error none)
+  where
+    by : (e : ParseError) → ((e ≡ parse.OutOfMemory → ⊥) → expected ≡ None) → IsRefusal expected IsOther (fault_of e)
+    by parse.OutOfMemory refused = (λ real. absurd (real refl), tt)
+    by (parse.At kind from to) refused = (λ real. refused (λ m. cc), tt)
+
+-- and what is read besides, of which more is told
+pub reads_tells : {A B : Type 0} (f : A → B) (text : List ℕ) (expected : Read B) (again : List ℕ → ℕ → ℕ → Type 0) (deep : ℕ → Type 0)
+    → (r : Result (A × Bor (List ℕ)) Fault) → Reads f text expected IsOther r → Reads f text expected (λ found. FaultTells found again deep) r
+reads_tells f text expected again deep (Ok p) read = read
+reads_tells f text expected again deep (Err found) refused = (refused.0, other_than again deep found refused.1)
+
+-- no text of the grammar goes on here
+pub no_text : {B : Type 0} (left : ℕ) (found : Fault) (expected : Option B) → found ≡ fault.NotToml left → expected ≡ None → IsRefusal expected IsOther found
+no_text left found expected is none = subst (IsRefusal expected IsOther) (sym is) (λ real. none, tt)
+
+module _ (text : List ℕ) where
+  pub key_equals_none : key text ≡ None → key_equals text ≡ None
+  unfolding key_equals
+  key_equals_none none = rw none
+
+  module _ (name : Key) (rest : List ℕ) (read : key text ≡ Some (name, rest)) (byte : ℕ) (here : byte ≡ first rest) where
+    pub key_equals_some : byte ≡ 61 → (next : List ℕ) → next ≡ skip_ws (drop 1 rest) → key_equals text ≡ Some (name, next)
+    unfolding key_equals
+    key_equals_some is next follows = let equals : (first rest == 61) ≡ true = rw (← here, is) in rw (read, equals, follows)
+
+    pub key_equals_other : (byte ≡ 61 → ⊥) → key_equals text ≡ None
+    unfolding key_equals
+    key_equals_other other = let equals : (first rest == 61) ≡ false = rw (← here, ne_eqb byte 61 other) in rw (read, equals)
+
+module _ (text : List ℕ) where
+  pub header_key_none : key (skip_ws text) ≡ None → header_key text ≡ None
+  unfolding header_key
+  header_key_none none = rw none
+
+  module _ (name : Key) (rest : List ℕ) (read : key (skip_ws text) ≡ Some (name, rest)) (byte : ℕ) (here : byte ≡ first rest) where
+    pub header_key_some : byte ≡ 93 → (next : List ℕ) → next ≡ drop 1 rest → header_key text ≡ Some (name, next)
+    unfolding header_key
+    header_key_some is next follows = let closing : (first rest == 93) ≡ true = rw (← here, is) in rw (read, closing, follows)
+
+    pub header_key_other : (byte ≡ 93 → ⊥) → header_key text ≡ None
+    unfolding header_key
+    header_key_other other = let closing : (first rest == 93) ≡ false = rw (← here, ne_eqb byte 93 other) in rw (read, closing)
+
+module _ (closing : ℕ) (text rest : List ℕ) (blank : rest ≡ skip_blank text) (byte : ℕ) (here : byte ≡ first rest) where
+  pub element_comma : byte ≡ 44 → (next : List ℕ) → next ≡ drop 1 rest → after_element closing text ≡ Some next
+  unfolding after_element
+  element_comma is next follows = let comma : (first (skip_blank text) == 44) ≡ true = rw (← blank, ← here, is) in rw (comma, follows, blank)
+
+  module _ (other : byte ≡ 44 → ⊥) where
+    no_comma : (first (skip_blank text) == 44) ≡ false
+    no_comma = rw (← blank, ← here, ne_eqb byte 44 other)
+
+    pub element_ends : byte ≡ closing → after_element closing text ≡ Some rest
+    unfolding after_element
+    element_ends is =
+        let ends : (first (skip_blank text) == closing) ≡ true = rw (← blank, ← here) (eq-eqb byte closing is) in
+        rw (no_comma, ends, blank)
+
+    pub element_unended : (byte ≡ closing → ⊥) → after_element closing text ≡ None
+    unfolding after_element
+    element_unended more =
+        let ends : (first (skip_blank text) == closing) ≡ false = rw (← blank, ← here) (ne_eqb byte closing more) in
+        rw (no_comma, ends)
+
+module _ (text : List ℕ) (byte : ℕ) (here : byte ≡ first text) (other : byte ≡ 91 → ⊥) where
+  no_header : (first text == 91) ≡ false
+  no_header = rw (← here, ne_eqb byte 91 other)
+
+  pub pair_nameless : key_equals text ≡ None → expression text ≡ None
+  pair_nameless named = rw (no_header, named)
+
+  module _ (name : Key) (at : List ℕ) (named : key_equals text ≡ Some (name, at)) where
+    pub pair_bad : val 80 at ≡ None → expression text ≡ None
+    pair_bad read = rw (no_header, named, read)
+
+    pub pair_is : (x : TomlNode) (rest : List ℕ) → val 80 at ≡ Some (x, rest) → expression text ≡ Some ((name, key_value (sealed x)), rest)
+    pair_is x rest read = rw (no_header, named, read, val_sealed 80 at x rest read)
