@@ -5,14 +5,14 @@ use Rattle.toml_parser.specs.Lexical.{Read, first, skip_blank, skip_ws}
 use Rattle.toml_parser.specs.Strings.{Key, key}
 use Rattle.toml_parser.specs.declared.error.ParseError.{ParseError}
 use Rattle.toml_parser.specs.declared.error.ParseError.TheVariants as parse
-use Rattle.toml.specs.Parse.{after_element, header_key, key_equals}
+use Rattle.toml.specs.Parse.{after_element, ends_line, header_key, key_equals}
 use Rattle.std.specs.Borrow.{Bor}
 use Rattle.toml_ordered.proofs.Conflicts.{other_than}
 use Rattle.toml_ordered.proofs.Turns.{val_sealed}
 use Rattle.toml_ordered.specs.Data.{TomlNode}
 use Rattle.toml_ordered.specs.Drafts.{sealed}
-use Rattle.toml_ordered.specs.Grammar.{expression, val}
-use Rattle.toml_ordered.specs.Tables.{key_value}
+use Rattle.toml_ordered.specs.Grammar.{expression, line, val}
+use Rattle.toml_ordered.specs.Tables.{Expression, key_value}
 use Rattle.toml_ordered.specs.Firsts.{FaultTells, IsOther}
 use Rattle.toml_ordered.specs.Reading.{IsRefusal, Reads, fault_of}
 use Rattle.toml_ordered.specs.declared.fault.Fault.{Fault}
@@ -32,6 +32,11 @@ pub reads_tells : {A B : Type 0} (f : A → B) (text : List ℕ) (expected : Rea
     → (r : Result (A × Bor (List ℕ)) Fault) → Reads f text expected IsOther r → Reads f text expected (λ found. FaultTells found again deep) r
 reads_tells f text expected again deep (Ok p) read = read
 reads_tells f text expected again deep (Err found) refused = (refused.0, other_than again deep found refused.1)
+
+-- no text of the grammar goes on here, and more is told
+pub ends_text : {B : Type 0} (left : ℕ) (found : Fault) (expected : Option B) (again : List ℕ → ℕ → ℕ → Type 0) (deep : ℕ → Type 0)
+    → found ≡ fault.NotToml left → expected ≡ None → IsRefusal expected (λ f. FaultTells f again deep) found
+ends_text left found expected again deep is none = subst (IsRefusal expected (λ f. FaultTells f again deep)) (sym is) (λ real. none, tt)
 
 -- no text of the grammar goes on here
 pub no_text : {B : Type 0} (left : ℕ) (found : Fault) (expected : Option B) → found ≡ fault.NotToml left → expected ≡ None → IsRefusal expected IsOther found
@@ -99,3 +104,14 @@ module _ (text : List ℕ) (byte : ℕ) (here : byte ≡ first text) (other : by
 
     pub pair_is : (x : TomlNode) (rest : List ℕ) → val 80 at ≡ Some (x, rest) → expression text ≡ Some ((name, key_value (sealed x)), rest)
     pair_is x rest read = rw (no_header, named, read, val_sealed 80 at x rest read)
+
+module _ (text : List ℕ) where
+  pub line_bad : expression text ≡ None → line text ≡ None
+  line_bad read = rw read
+
+  module _ (e : Expression) (rest end : List ℕ) (read : expression text ≡ Some (e, rest)) (behind : end ≡ skip_ws rest) where
+    pub line_is : ends_line end ≡ true → line text ≡ Some (e, rest)
+    line_is ends = let alone : ends_line (skip_ws rest) ≡ true = rw (← behind) ends in rw (read, alone)
+
+    pub line_goes_on : ends_line end ≡ false → line text ≡ None
+    line_goes_on more = let alone : ends_line (skip_ws rest) ≡ false = rw (← behind) more in rw (read, alone)

@@ -1,7 +1,7 @@
 //! The reasons why a text isn't read.
-ghost use Rattle.std.specs.Prelude.{◌≡◌, ◌≤◌, IfSome, length};
-ghost use Rattle.toml_ordered.specs.Places.{moved_to, moved_within, place_left};
-ghost use Rattle.toml_ordered.specs.Reading.{IsMemory, fault_of};
+ghost use Rattle.std.specs.Prelude.{◌≡◌, length};
+ghost use Rattle.toml_ordered.specs.Places.{moved_to, moved_within};
+ghost use Rattle.toml_ordered.specs.Reading.{fault_of};
 ghost use Rattle.toml_ordered.specs.declared.fault.Fault.TheVariants as fault;
 
 use std::alloc::{AllocError, AllocFailed};
@@ -31,9 +31,7 @@ pub enum Fault {
 impl Fault {
     /// Returns the fault, with its place here or behind. (No contract of `toml_parser` tells where its errors are.)
     pub(crate) fn here_or_behind(self, start: &str) -> Fault
-        ensures memory { IsMemory self → IsMemory result }
-        ensures place { IfSome (place_left result) (λ left. left ≤ length start.now) }
-        ensures moved { result ≡ moved_within (length start.now) self }
+        ensures { result ≡ moved_within (length start.now) self }
     {
         let most = start.len();
         match self {
@@ -54,9 +52,7 @@ impl Fault {
 
     /// Returns the fault, with its place here.
     pub(crate) fn here(self, start: &str) -> Fault
-        ensures memory { IsMemory self → IsMemory result }
-        ensures place { IfSome (place_left result) (λ left. left ≡ length start.now) }
-        ensures moved { result ≡ moved_to (length start.now) self }
+        ensures { result ≡ moved_to (length start.now) self }
     {
         let left = start.len();
         match self {

@@ -2,9 +2,10 @@ use Rattle.std.proofs.Common.{◌≡◌, ◌==◌, ◌≤◌, ◌-◌, suc, leng
 use Rattle.std.proofs.lemmas.Grind.{common_steps}
 use Rattle.toml_parser.specs.Lexical.{skip_blank}
 use Rattle.toml_ordered.proofs.Conflicts.{expressions_conflict, knows_more, knows_none, reads_more, value_reason}
-use Rattle.toml_ordered.proofs.Stopping.{placed}
+use Rattle.toml_ordered.proofs.Stopping.{placed, placed_within}
 use Rattle.toml_ordered.specs.Firsts.{keys_firsts}
 use Rattle.toml_ordered.proofs.Turns.{document_none, document_some, lines_end, lines_more, lines_bad, lines_again}
+use Rattle.toml_ordered.specs.Places.{moved_to, moved_within}
 use Rattle.toml_ordered.specs.Reading.{IsMemory, document_view}
 use Rattle.toml_ordered.specs.Tables.{TomlDocument}
 use Rattle.toml_ordered.proofs.document.read_document.Goals as goal
@@ -40,15 +41,15 @@ returns-in-Err-clause-value c refused =
     let loop = l.invariant.4 in
     let start_is = c.skip_blank-start.ensures.rest in
     let other : (length (skip_blank l.rest.now) == 0) ≡ false = grind (arith, common_steps) in
-    let real : IsMemory c.in-Err.fault → ⊥ = λ memory. refused (c.here_or_behind.ensures.memory memory) in
+    let real : IsMemory c.in-Err.fault → ⊥ = λ memory. refused (c.here_or_behind.ensures ∙ ap (moved_within (length c.skip_blank-start.result.now)) memory) in
     document_none c.args.text.now (loop ∙ lines_bad m doc l.rest.now (omega arith) other (rw start_is at (c.in-Err.ensures.0 real)))
 
 pub returns-in-Err-clause-placed : goal.returns-in-Err-clause-placed
 returns-in-Err-clause-placed c =
     let l = c.lines in
     let start_is = c.skip_blank-start.ensures.rest in
-    placed c.args.text.now (λ left. left ≤ length c.skip_blank-start.result.now) c.in-Err.fault c.here_or_behind.result c.here_or_behind.ensures.memory
-    c.here_or_behind.ensures.place λ real left within. record {
+    placed_within c.args.text.now (length c.skip_blank-start.result.now) c.in-Err.fault c.here_or_behind.result c.here_or_behind.ensures
+    λ real left within. record {
       doc = document_view l.read;
       rest = l.rest.now;
       read = l.invariant.6;
@@ -65,7 +66,7 @@ returns-in-Err-define-clause-value c refused =
     let start_is = c.skip_blank-start.ensures.rest in
     let other : (length (skip_blank l.rest.now) == 0) ≡ false = grind (arith, common_steps) in
     let read = rw start_is at c.in-Ok.ensures.0 in
-    let real : IsMemory c.in-Err-define.fault → ⊥ = λ memory. refused (c.here.ensures.memory memory) in
+    let real : IsMemory c.in-Err-define.fault → ⊥ = λ memory. refused (c.here.ensures ∙ ap (moved_to (length c.skip_blank-start.result.now)) memory) in
     document_none c.args.text.now (loop ∙ lines_again m doc l.rest.now _ _ (omega arith) other read (c.in-Err-define.ensures.value real))
 
 pub returns-in-Err-define-clause-placed : goal.returns-in-Err-define-clause-placed
@@ -73,12 +74,11 @@ returns-in-Err-define-clause-placed c =
     let l = c.lines in
     let start_is = c.skip_blank-start.ensures.rest in
     let read = rw start_is at c.in-Ok.ensures.0 in
-    placed c.args.text.now (λ left. left ≡ length c.skip_blank-start.result.now) c.in-Err-define.fault c.here.result c.here.ensures.memory
-    c.here.ensures.place λ real left here. record {
+    placed c.args.text.now (length c.skip_blank-start.result.now) c.in-Err-define.fault c.here.result c.here.ensures λ real. record {
       doc = document_view l.read;
       rest = l.rest.now;
       read = l.invariant.6;
-      refused = inr (_, _, read, c.in-Err-define.ensures.value real, rw start_is at here);
+      refused = inr (_, _, read, c.in-Err-define.ensures.value real, ap length start_is);
     }
 
 pub lines-preserved : goal.lines-preserved
@@ -115,7 +115,7 @@ returns-in-Err-clause-reason c =
     let start_is = c.skip_blank-start.ensures.rest in
     value_reason c.args.text.now l.rest.now (document_view l.read) c.in-Err.fault c.here_or_behind.result
     l.invariant.6
-    (rw start_is at c.in-Err.ensures.1) (rw start_is at c.here_or_behind.ensures.moved)
+    (rw start_is at c.in-Err.ensures.1) (rw start_is at c.here_or_behind.ensures)
 
 pub returns-in-Err-define-clause-reason : goal.returns-in-Err-define-clause-reason
 returns-in-Err-define-clause-reason c =
@@ -130,4 +130,4 @@ returns-in-Err-define-clause-reason c =
       read = l.invariant.6;
       begins = read;
       here = ap length start_is;
-    }) c.skip_blank-start.ensures.within c.in-Err-define.ensures.value c.in-Err-define.ensures.again c.here.ensures.moved
+    }) c.skip_blank-start.ensures.within c.in-Err-define.ensures.value c.in-Err-define.ensures.again c.here.ensures
