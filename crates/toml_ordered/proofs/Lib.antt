@@ -3,6 +3,7 @@ pub mod DraftKeys
 pub mod Unfinished
 pub mod FirstKeys
 pub mod Passing
+pub mod Defining
 pub mod Endings
 pub mod Depths
 pub mod RowsNesting

@@ -9,7 +9,7 @@ use Rattle.toml_parser.specs.declared.error.ParseError.TheVariants as parse
 use Rattle.toml_parser.specs.declared.key.Key as code_key
 use Rattle.toml_ordered.specs.Data.{node_view}
 use Rattle.toml_ordered.specs.Drafts.{sealed, table_view}
-use Rattle.toml_ordered.specs.Firsts.{IfAgain, IsOther}
+use Rattle.toml_ordered.specs.Firsts.{AddsFirsts, IfAgain, IsAgain, IsOther, keys_firsts}
 use Rattle.toml_ordered.specs.Tables.{Definition, TomlDocument, Edit, Expression, key_value, std_table, array_table, steps_along, along, at_key}
 use Rattle.toml_ordered.specs.declared.route.Way.{Way}
 use Rattle.toml_ordered.specs.declared.document.Document.{Document as CodeDocument}
@@ -19,6 +19,7 @@ use Rattle.toml_ordered.specs.declared.route.Route.{Route}
 use Rattle.toml_ordered.specs.declared.tables.Definition as code_definition
 use Rattle.toml_ordered.specs.declared.tables.Entry.{Entry}
 use Rattle.toml_ordered.specs.declared.drafts.Draft.{Draft as CodeDraft}
+use Rattle.toml_ordered.specs.declared.drafts.OpenTable.{OpenTable}
 use Rattle.toml_ordered.specs.declared.tables.Definition.TheVariants.{Value, Table, Tables}
 
 -- an allocation failed
@@ -50,6 +51,13 @@ Reads f text expected tells r =
 -- the same of what only passes a part of the text
 abbrev pub ReadsPast : (text : List ℕ) → Option (List ℕ) → Result (Bor (List ℕ)) Fault → Type 0
 ReadsPast text expected r = MatchResult r (λ rest. (expected ≡ Some rest.now) × (length rest.now ≤ length text)) (IsRefusal expected IsOther)
+
+-- what the rules give is defined in a table, along the whole path, here; or the definition is refused
+abbrev pub Defines : {A : Type 0} → Option A → (new : A) → (whole : List (List ℕ)) → (here : ℕ) → (from to : OpenTable) → Result (Unit {0}) Fault → Type 0
+Defines expected new whole here from to r =
+    MatchResult r
+    (λ _. (expected ≡ Some new) × AddsFirsts whole here (table_view from) (keys_firsts from.keys.items) (keys_firsts to.keys.items))
+    (IsRefusal expected (IsAgain whole here (keys_firsts from.keys.items)))
 
 -- less text is left
 abbrev pub Shortens : {A : Type 0} → List ℕ → Result (A × Bor (List ℕ)) Fault → Type 0

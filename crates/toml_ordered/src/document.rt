@@ -1,15 +1,15 @@
 //! Documents, expression by expression.
-ghost use Rattle.std.specs.Prelude.{◌≡◌, ◌≤◌, ◌++◌, IfErr, IfOk, length};
+ghost use Rattle.std.specs.Prelude.{◌≡◌, ◌≤◌, ◌++◌, IfErr, length};
 ghost use Rattle.toml_parser.specs.Lexical.{first};
 ghost use Rattle.toml_parser.specs.Reading.{key_view, path_view};
 ghost use Rattle.toml.specs.Parse.{header_key, skip_bom};
 ghost use Rattle.toml_ordered.specs.Data.{entries_view, node_view};
-ghost use Rattle.toml_ordered.specs.Drafts.{sealed, table_view};
-ghost use Rattle.toml_ordered.specs.Firsts.{AddsFirsts, IsAgain, IsOther, keys_firsts};
+ghost use Rattle.toml_ordered.specs.Drafts.{sealed};
+ghost use Rattle.toml_ordered.specs.Firsts.{IsOther};
 ghost use Rattle.toml_ordered.specs.Grammar as spec;
 ghost use Rattle.toml_ordered.specs.Nesting.{ExpressionTells, HasReason};
 ghost use Rattle.toml_ordered.specs.Places.{FaultIsPlaced, key_parts, whole_path};
-ghost use Rattle.toml_ordered.specs.Reading.{ParsesTo, Reads, definition_view, document_view, expression_view};
+ghost use Rattle.toml_ordered.specs.Reading.{Defines, ParsesTo, Reads, definition_view, document_view, expression_view};
 ghost use Rattle.toml_ordered.specs.Tables.{define, defined_header, defined_pair};
 
 use crate::drafts::OpenTable;
@@ -37,11 +37,8 @@ impl Document {
         expression: (Key, Definition),
         left: usize,
     ) -> Result<(), Fault>
-        ensures value { ParsesTo (λ _. document_view self.new) result (define (document_view self.old) (expression_view expression)) }
-        ensures firsts { IfOk result (λ _. AddsFirsts (whole_path (document_view self.old) (key_view expression.0) (definition_view expression.1)) left
-            (table_view self.old.root) (keys_firsts self.old.root.keys.items) (keys_firsts self.new.root.keys.items)) }
-        ensures again { IfErr result (IsAgain (whole_path (document_view self.old) (key_view expression.0) (definition_view expression.1)) left
-            (keys_firsts self.old.root.keys.items)) }
+        ensures { Defines (define (document_view self.old) (expression_view expression)) (document_view self.new)
+            (whole_path (document_view self.old) (key_view expression.0) (definition_view expression.1)) left self.old.root self.new.root result }
     {
         let (key, what) = expression;
         match what {
@@ -52,10 +49,8 @@ impl Document {
 
     /// Defines a pair, in the table of the last header.
     fn define_pair(&mut self, alloc: Global, key: Key, node: Node, left: usize) -> Result<(), Fault>
-        ensures value { ParsesTo (λ _. document_view self.new) result (defined_pair (document_view self.old) (key_view key) (sealed (node_view node))) }
-        ensures firsts { IfOk result (λ _. AddsFirsts (path_view self.old.section.items ++ key_parts (key_view key)) left (table_view self.old.root)
-            (keys_firsts self.old.root.keys.items) (keys_firsts self.new.root.keys.items)) }
-        ensures again { IfErr result (IsAgain (path_view self.old.section.items ++ key_parts (key_view key)) left (keys_firsts self.old.root.keys.items)) }
+        ensures { Defines (defined_pair (document_view self.old) (key_view key) (sealed (node_view node))) (document_view self.new)
+            (path_view self.old.section.items ++ key_parts (key_view key)) left self.old.root self.new.root result }
     {
         let Key { path, last } = key;
         let route = Route {
@@ -84,10 +79,8 @@ impl Document {
         what: Definition,
         left: usize,
     ) -> Result<(), Fault>
-        ensures value { ParsesTo (λ _. document_view self.new) result (defined_header (document_view self.old) (key_view key) (definition_view what)) }
-        ensures firsts { IfOk result (λ _. AddsFirsts (key_parts (key_view key)) left (table_view self.old.root)
-            (keys_firsts self.old.root.keys.items) (keys_firsts self.new.root.keys.items)) }
-        ensures again { IfErr result (IsAgain (key_parts (key_view key)) left (keys_firsts self.old.root.keys.items)) }
+        ensures { Defines (defined_header (document_view self.old) (key_view key) (definition_view what)) (document_view self.new)
+            (key_parts (key_view key)) left self.old.root self.new.root result }
     {
         let Key { mut path, last } = key;
         let route = Route {

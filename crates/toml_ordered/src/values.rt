@@ -4,12 +4,12 @@ ghost use Rattle.toml_parser.specs.Reading.{key_view};
 ghost use Rattle.toml.specs.Parse.{after_element, key_equals};
 ghost use Rattle.toml_ordered.specs.Data.{items_view, node_view};
 ghost use Rattle.toml_ordered.specs.Drafts.{sealed, table_view};
-ghost use Rattle.toml_ordered.specs.Firsts.{AddsFirsts, IsAgain, IsOther, keys_firsts};
+ghost use Rattle.toml_ordered.specs.Firsts.{IsOther};
 ghost use Rattle.toml_ordered.specs.Grammar as spec;
 ghost use Rattle.toml_ordered.specs.Inside.{ArrayUpTo, BracesUpTo, Finds, GoesOn, IsFound};
 ghost use Rattle.toml_ordered.specs.Nesting.{ValueTells};
 ghost use Rattle.toml_ordered.specs.Places.{key_parts};
-ghost use Rattle.toml_ordered.specs.Reading.{ParsesTo, Reads, ReadsPast, Shortens};
+ghost use Rattle.toml_ordered.specs.Reading.{Defines, Reads, ReadsPast, Shortens};
 ghost use Rattle.toml_ordered.specs.Tables as tables;
 
 use crate::drafts::OpenTable;
@@ -182,10 +182,8 @@ fn put(
     value: Node,
     left: usize,
 ) -> Result<(), Fault>
-    ensures value { ParsesTo (λ _. table_view table.new) result (tables.put (key_view key) (sealed (node_view value)) (table_view table.old)) }
-    ensures firsts { IfOk result (λ _. AddsFirsts (key_parts (key_view key)) left (table_view table.old)
-        (keys_firsts table.old.keys.items) (keys_firsts table.new.keys.items)) }
-    ensures again { IfErr result (IsAgain (key_parts (key_view key)) left (keys_firsts table.old.keys.items)) }
+    ensures { Defines (tables.put (key_view key) (sealed (node_view value)) (table_view table.old)) (table_view table.new) (key_parts (key_view key)) left
+        table.old table.new result }
 {
     let Key { path, last } = key;
     let route = Route {

@@ -67,7 +67,7 @@ returns-in-Err-define-clause-value c refused =
     let other : (length (skip_blank l.rest.now) == 0) ≡ false = grind (arith, common_steps) in
     let read = rw start_is at c.in-Ok.ensures.0 in
     let real : IsMemory c.in-Err-define.fault → ⊥ = λ memory. refused (c.here.ensures ∙ ap (moved_to (length c.skip_blank-start.result.now)) memory) in
-    document_none c.args.text.now (loop ∙ lines_again m doc l.rest.now _ _ (omega arith) other read (c.in-Err-define.ensures.value real))
+    document_none c.args.text.now (loop ∙ lines_again m doc l.rest.now _ _ (omega arith) other read (c.in-Err-define.ensures.0 real))
 
 pub returns-in-Err-define-clause-placed : goal.returns-in-Err-define-clause-placed
 returns-in-Err-define-clause-placed c =
@@ -78,7 +78,7 @@ returns-in-Err-define-clause-placed c =
       doc = document_view l.read;
       rest = l.rest.now;
       read = l.invariant.6;
-      refused = inr (_, _, read, c.in-Err-define.ensures.value real, ap length start_is);
+      refused = inr (_, _, read, c.in-Err-define.ensures.0 real, ap length start_is);
     }
 
 pub lines-preserved : goal.lines-preserved
@@ -97,7 +97,7 @@ lines-preserved c =
       omega (arith, l.invariant.1),
       m - 1,
       omega arith,
-      loop ∙ lines_more m doc _ l.rest.now _ _ (omega arith) other read c.in_default.ensures.value,
+      loop ∙ lines_more m doc _ l.rest.now _ _ (omega arith) other read c.in_default.ensures.0,
       knows_more c.args.text.now l.rest.now c.in-Ok.found.1.now doc _ (length c.skip_blank-start.result.now) _ _ l.invariant.5
           (record {
             rest = l.rest.now;
@@ -105,8 +105,8 @@ lines-preserved c =
             read = l.invariant.6;
             begins = read;
             here = ap length start_is;
-          }) before shorter c.in_default.ensures.firsts,
-      reads_more c.args.text.now doc _ l.rest.now _ _ l.invariant.6 read c.in_default.ensures.value,
+          }) before shorter c.in_default.ensures.1,
+      reads_more c.args.text.now doc _ l.rest.now _ _ l.invariant.6 read c.in_default.ensures.0,
     )
 
 pub returns-in-Err-clause-reason : goal.returns-in-Err-clause-reason
@@ -130,4 +130,4 @@ returns-in-Err-define-clause-reason c =
       read = l.invariant.6;
       begins = read;
       here = ap length start_is;
-    }) c.skip_blank-start.ensures.within c.in-Err-define.ensures.value c.in-Err-define.ensures.again c.here.ensures
+    }) c.skip_blank-start.ensures.within c.in-Err-define.ensures.0 c.in-Err-define.ensures.1 c.here.ensures

@@ -1,21 +1,18 @@
-use Rattle.std.proofs.Common.{◌≡◌, ℕ, [], ◌∷◌, ◌++◌, List, IfErr, IfOk, map, string_bytes, ap, subst, ◌∙◌}
-use Rattle.toml_parser.specs.Reading.{path_view}
-use Rattle.toml_ordered.proofs.FirstKeys.{path_steps}
-use Rattle.toml_ordered.specs.Drafts.{table_view}
-use Rattle.toml_ordered.specs.Firsts.{AddsFirsts, IsAgain, keys_firsts}
-use Rattle.toml_ordered.specs.Tables.{steps_along}
+use Rattle.std.proofs.Common.{[], ap, string_bytes}
+use Rattle.toml_parser.specs.Reading.{key_view, path_view}
+use Rattle.toml_ordered.proofs.Defining.{along_route, put_defines}
+use Rattle.toml_ordered.specs.Data.{node_view}
+use Rattle.toml_ordered.specs.Drafts.{sealed}
+use Rattle.toml_ordered.specs.Tables.{key_value}
+use Rattle.toml_ordered.specs.declared.drafts.OpenTable.{OpenTable}
 use Rattle.toml_ordered.proofs.values.put.Goals as goal
 
-pub returns-clause-firsts : goal.returns-clause-firsts
-returns-clause-firsts c =
+pub returns : goal.returns
+returns c =
+    let from = c.args.table.now in
+    let to : OpenTable = record { keys = c.define_at.new.keys; index = c.define_at.new.index } in
+    let x = sealed (node_view c.args.value) in
     let dots = path_view c.deref.result.now in
-    let whole : map (λ step. step.1) (steps_along [] dots) ≡ path_view c.args.key.path.items = path_steps [] dots ∙ ap path_view c.deref.ensures.value in
-    subst (λ (path : List (List ℕ)). IfOk c.define_at.result (λ _. AddsFirsts (path ++ string_bytes c.args.key.last ∷ []) c.args.left
-    (table_view c.args.table.now) (keys_firsts c.args.table.now.keys.items) (keys_firsts c.define_at.new.keys.items))) whole c.define_at.ensures.firsts
-
-pub returns-clause-again : goal.returns-clause-again
-returns-clause-again c =
-    let dots = path_view c.deref.result.now in
-    let whole : map (λ step. step.1) (steps_along [] dots) ≡ path_view c.args.key.path.items = path_steps [] dots ∙ ap path_view c.deref.ensures.value in
-    subst (λ (path : List (List ℕ)). IfErr c.define_at.result (IsAgain (path ++ string_bytes c.args.key.last ∷ []) c.args.left
-    (keys_firsts c.args.table.now.keys.items))) whole c.define_at.ensures.again
+    put_defines from to c.args.left (key_view c.args.key) x dots (ap path_view c.deref.ensures.value) c.define_at.result
+    (along_route from to c.args.left (string_bytes c.args.key.last) (key_value x) [] dots c.define_at.result
+    c.define_at.ensures.value c.define_at.ensures.firsts c.define_at.ensures.again)

@@ -1,32 +1,33 @@
-use Rattle.std.proofs.Common.{◌≡◌, ℕ, [], ◌∷◌, ◌++◌, List, map, string_bytes, ap, subst, ◌∙◌, arith}
-use Rattle.std.proofs.lemmas.Grind.{common_steps}
-use Rattle.std.proofs.lemmas.List.{append-nil}
-use Rattle.toml_parser.specs.Reading.{path_view}
-use Rattle.toml_ordered.proofs.FirstKeys.{path_steps}
+use Rattle.std.proofs.Common.{◌≡◌, ◌∷◌, [], ◌++◌, ℕ, List, Ok, Err, Some, ap, sym, ◌∙◌, string_bytes}
+use Rattle.std.proofs.lemmas.List.{map-append}
+use Rattle.toml_parser.specs.Reading.{key_view, path_view}
+use Rattle.toml_ordered.proofs.Defining.{along_route, header_defines}
 use Rattle.toml_ordered.specs.Drafts.{table_view}
-use Rattle.toml_ordered.specs.Firsts.{AddsFirsts, IsAgain, keys_firsts}
-use Rattle.toml_ordered.specs.Tables.{steps_along}
+use Rattle.toml_ordered.specs.Reading.{definition_view}
+use Rattle.toml_ordered.specs.declared.drafts.OpenTable.{OpenTable}
 use Rattle.toml_ordered.proofs.document.Document.define_header.Goals as goal
 
-pub returns-in-Err-clause-again : goal.returns-in-Err-clause-again
-returns-in-Err-clause-again c =
+pub returns-in-Err : goal.returns-in-Err
+returns-in-Err c =
+    let from = c.args.self.now.root in
+    let to : OpenTable = record { keys = c.define_at.new.keys; index = c.define_at.new.index } in
+    let what = definition_view c.args.what in
     let header = path_view c.deref.result.now in
-    let same : string_bytes c.in_ok-clone.field-0 ≡ string_bytes c.args.key.last = grind (arith, common_steps) in
-    let whole : map (λ step. step.1) (steps_along header []) ++ string_bytes c.in_ok-clone.field-0 ∷ []
-    ≡ path_view c.args.key.path.items ++ string_bytes c.args.key.last ∷ [] =
-    ap (λ (path : List (List ℕ)). path ++ string_bytes c.in_ok-clone.field-0 ∷ [])
-    (path_steps header [] ∙ append-nil header ∙ ap path_view c.deref.ensures.value)
-    ∙ ap (λ (last : List ℕ). path_view c.args.key.path.items ++ last ∷ []) same in
-    subst (λ (path : List (List ℕ)). IsAgain path c.args.left (keys_firsts c.args.self.now.root.keys.items) c.in-Err.fault) whole c.in-Err.ensures.again
+    let name = string_bytes c.in_ok-clone.field-0 in
+    header_defines from to c.args.left (key_view c.args.key) what header name (ap path_view c.deref.ensures.value) c.in_ok-clone.ensures.cases
+    (Err c.in-Err.fault)
+    (along_route from to c.args.left name what header [] (Err c.in-Err.fault) c.in-Err.ensures.value tt c.in-Err.ensures.again)
 
-pub returns-clause-firsts : goal.returns-clause-firsts
-returns-clause-firsts c =
+pub returns : goal.returns
+returns c =
+    let from = c.args.self.now.root in
+    let to : OpenTable = record { keys = c.define_at.new.keys; index = c.define_at.new.index } in
+    let what = definition_view c.args.what in
     let header = path_view c.deref.result.now in
-    let same : string_bytes c.in_ok-clone.field-0 ≡ string_bytes c.args.key.last = grind (arith, common_steps) in
-    let whole : map (λ step. step.1) (steps_along header []) ++ string_bytes c.in_ok-clone.field-0 ∷ []
-    ≡ path_view c.args.key.path.items ++ string_bytes c.args.key.last ∷ [] =
-    ap (λ (path : List (List ℕ)). path ++ string_bytes c.in_ok-clone.field-0 ∷ [])
-    (path_steps header [] ∙ append-nil header ∙ ap path_view c.deref.ensures.value)
-    ∙ ap (λ (last : List ℕ). path_view c.args.key.path.items ++ last ∷ []) same in
-    subst (λ (path : List (List ℕ)). AddsFirsts path c.args.left (table_view c.args.self.now.root) (keys_firsts c.args.self.now.root.keys.items)
-    (keys_firsts c.define_at.new.keys.items)) whole c.in_default.ensures.firsts
+    let name = string_bytes c.in_ok-clone.field-0 in
+    let defines =
+    header_defines from to c.args.left (key_view c.args.key) what header name (ap path_view c.deref.ensures.value) c.in_ok-clone.ensures.cases (Ok tt)
+    (along_route from to c.args.left name what header [] (Ok tt) c.in_default.ensures.value c.in_default.ensures.firsts tt) in
+    let section : path_view c.push.new.self.items ≡ path_view c.args.key.path.items ++ string_bytes c.args.key.last ∷ [] =
+    ap path_view c.in_ok-push.ensures.items ∙ map-append string_bytes c.args.key.path.items (c.args.key.last ∷ []) in
+    (defines.0 ∙ ap (λ (path : List (List ℕ)). Some (table_view to, path)) (sym section), defines.1)

@@ -1,0 +1,94 @@
+-- What an expression, or a pair of a table in braces, defines, by what is defined along a route.
+use Rattle.std.proofs.Common.{◌≡◌, ℕ, List, [], ◌∷◌, ◌++◌, map, Option, Some, None, Result, Ok, Err, option_map, refl, sym, ap, subst, ◌∙◌}
+use Rattle.std.proofs.lemmas.List.{append_assoc}
+use Rattle.std.specs.Result.{IfErr, IfOk}
+use Rattle.toml_parser.specs.Strings.{Key}
+use Rattle.toml_ordered.proofs.FirstKeys.{path_steps}
+use Rattle.toml_ordered.specs.Data.{TomlNode, node_view}
+use Rattle.toml_ordered.specs.Drafts.{sealed, table_view}
+use Rattle.toml_ordered.specs.Firsts.{AddsFirsts, IsAgain, keys_firsts}
+use Rattle.toml_ordered.specs.Places.{key_parts, whole_path}
+use Rattle.toml_ordered.specs.Reading.{Defines, ParsesTo, definition_view}
+use Rattle.toml_ordered.specs.Tables.{Definition, TomlDocument, along, at_key, define, defined_header, defined_pair, key_value, put, steps_along}
+use Rattle.toml_ordered.specs.declared.drafts.OpenTable.{OpenTable}
+use Rattle.toml_ordered.specs.declared.fault.Fault.{Fault}
+use Rattle.toml_ordered.specs.declared.tables.Definition as code
+use Rattle.toml_ordered.specs.declared.tables.Definition.TheVariants.{Table, Tables, Value}
+use Rattle.toml_ordered.specs.declared.tree.Node.{Node}
+
+module _ (from to : OpenTable) (here : ℕ) (last : List ℕ) (what : Definition) where
+  module _ (header dots : List (List ℕ)) where
+    -- what `define_at` defines, by its clauses
+    pub along_route : (r : Result (Unit {0}) Fault)
+        → ParsesTo (λ _. table_view to) r (along (steps_along header dots) (at_key last what) (table_view from))
+        → IfOk r (λ _. AddsFirsts (map (λ step. step.1) (steps_along header dots) ++ last ∷ []) here (table_view from)
+        (keys_firsts from.keys.items) (keys_firsts to.keys.items))
+        → IfErr r (IsAgain (map (λ step. step.1) (steps_along header dots) ++ last ∷ []) here (keys_firsts from.keys.items))
+        → Defines (along (steps_along header dots) (at_key last what) (table_view from)) (table_view to) (header ++ (dots ++ last ∷ [])) here from to r
+    along_route (Ok u) value firsts again = (
+      value,
+      subst (λ (path : List (List ℕ)). AddsFirsts path here (table_view from) (keys_firsts from.keys.items) (keys_firsts to.keys.items)) whole firsts,
+    )
+      where
+        whole : map (λ step. step.1) (steps_along header dots) ++ last ∷ [] ≡ header ++ (dots ++ last ∷ [])
+        whole = ap (λ (path : List (List ℕ)). path ++ last ∷ []) (path_steps header dots) ∙ append_assoc header dots (last ∷ [])
+    along_route (Err fault) value firsts again =
+        (value, subst (λ (path : List (List ℕ)). IsAgain path here (keys_firsts from.keys.items) fault) whole again)
+      where
+        whole : map (λ step. step.1) (steps_along header dots) ++ last ∷ [] ≡ header ++ (dots ++ last ∷ [])
+        whole = ap (λ (path : List (List ℕ)). path ++ last ∷ []) (path_steps header dots) ∙ append_assoc header dots (last ∷ [])
+
+-- what is defined in the root table
+pub in_document : {A B : Type 0} (f : A → B) (expected : Option A) (new : A) (whole : List (List ℕ)) (here : ℕ) (from to : OpenTable)
+    (r : Result (Unit {0}) Fault) → Defines expected new whole here from to r → Defines (option_map f expected) (f new) whole here from to r
+in_document f expected new whole here from to (Ok u) defines = (ap (option_map f) defines.0, defines.1)
+in_document f expected new whole here from to (Err fault) refused = (λ real. ap (option_map f) (refused.0 real), refused.1)
+
+-- a pair of a table in braces, and one of a document
+pub put_defines : (from to : OpenTable) (here : ℕ) (key : Key) (x : TomlNode) (dots : List (List ℕ)) → dots ≡ key.0 → (r : Result (Unit {0}) Fault)
+    → Defines (along (steps_along [] dots) (at_key key.1 (key_value x)) (table_view from)) (table_view to) (dots ++ key.1 ∷ []) here from to r
+    → Defines (put key x (table_view from)) (table_view to) (key_parts key) here from to r
+put_defines from to here key x dots same r defines =
+    subst (λ (d : List (List ℕ)). Defines (along (steps_along [] d) (at_key key.1 (key_value x)) (table_view from)) (table_view to) (d ++ key.1 ∷ [])
+    here from to r) same defines
+
+pub pair_defines : (from to : OpenTable) (here : ℕ) (section : List (List ℕ)) (key : Key) (x : TomlNode) (header dots : List (List ℕ)) → header ≡ section
+    → dots ≡ key.0 → (r : Result (Unit {0}) Fault)
+    → Defines (along (steps_along header dots) (at_key key.1 (key_value x)) (table_view from)) (table_view to) (header ++ (dots ++ key.1 ∷ [])) here from to r
+    → Defines (defined_pair (table_view from, section) key x) (table_view to, section) (section ++ key_parts key) here from to r
+pair_defines from to here section key x header dots first second r defines =
+    in_document {B = TomlDocument} (λ root. (root, section)) _ _ _ here from to r
+    (subst (λ (h : List (List ℕ)). Defines (along (steps_along h key.0) (at_key key.1 (key_value x)) (table_view from)) (table_view to) (h ++ key_parts key)
+    here from to r) first
+    (subst (λ (d : List (List ℕ)). Defines (along (steps_along header d) (at_key key.1 (key_value x)) (table_view from)) (table_view to)
+    (header ++ (d ++ key.1 ∷ [])) here from to r) second defines))
+
+pub header_defines : (from to : OpenTable) (here : ℕ) (key : Key) (what : Definition) (header : List (List ℕ)) (name : List ℕ) → header ≡ key.0 → name ≡ key.1
+    → (r : Result (Unit {0}) Fault)
+    → Defines (along (steps_along header []) (at_key name what) (table_view from)) (table_view to) (header ++ name ∷ []) here from to r
+    → Defines {A = TomlDocument} (option_map (λ root. (root, key_parts key)) (along (steps_along key.0 []) (at_key key.1 what) (table_view from))) (table_view to, key_parts key)
+    (key_parts key) here from to r
+header_defines from to here key what header name first second r defines =
+    in_document {B = TomlDocument} (λ root. (root, key_parts key)) _ _ _ here from to r
+    (subst (λ (h : List (List ℕ)). Defines (along (steps_along h []) (at_key key.1 what) (table_view from)) (table_view to) (h ++ key.1 ∷ [])
+    here from to r) first
+    (subst (λ (n : List ℕ). Defines (along (steps_along header []) (at_key n what) (table_view from)) (table_view to)
+    (header ++ n ∷ []) here from to r) second defines))
+
+-- an expression
+module _ (doc next : TomlDocument) (key : Key) (here : ℕ) (from to : OpenTable) (r : Result (Unit {0}) Fault) where
+  pub value_defines : (d : code.Definition) (node : Node) → d ≡ Value node
+      → Defines (defined_pair doc key (sealed (node_view node))) next (doc.1 ++ key_parts key) here from to r
+      → Defines (define doc (key, definition_view d)) next (whole_path doc key (definition_view d)) here from to r
+  unfolding define
+  value_defines d node is defines =
+      subst (λ (what : code.Definition). Defines (define doc (key, definition_view what)) next (whole_path doc key (definition_view what)) here from to r)
+      (sym is) defines
+
+  pub other_defines : (d : code.Definition) → ((node : Node) → d ≡ Value node → ⊥)
+      → Defines (defined_header doc key (definition_view d)) next (key_parts key) here from to r
+      → Defines (define doc (key, definition_view d)) next (whole_path doc key (definition_view d)) here from to r
+  unfolding define
+  other_defines (Value node) other defines = absurd (other node refl)
+  other_defines Table other defines = defines
+  other_defines Tables other defines = defines
