@@ -1,5 +1,6 @@
 -- What is read of an array or a table in braces, from what is read of a value inside of it.
-use Rattle.std.proofs.Common.{◌≡◌, ℕ, suc, ◌+◌, ◌==◌, ◌-◌, ◌<◌, ◌≤◌, true, false, List, [], ◌∷◌, ◌++◌, drop, length, Some, None}
+use Rattle.std.proofs.Common.{◌≡◌, ℕ, suc, ◌+◌, ◌==◌, ◌-◌, ◌<◌, ◌≤◌, true, false, List, [], ◌∷◌, ◌++◌, drop, length, Some, None, Result, Ok, Err}
+use Rattle.std.specs.Borrow.{Bor}
 use Rattle.std.proofs.Common.{refl, sym, ap, subst, ◌∙◌, inl, inr, arith}
 use Rattle.toml_parser.specs.Lexical.{first, skip_blank}
 use Rattle.toml_parser.specs.Reading.{key_view}
@@ -14,7 +15,7 @@ use Rattle.toml_ordered.specs.Data.{Items, TomlNode, TomlNodes, array, no_items,
 use Rattle.toml_ordered.specs.Drafts.{table_view}
 use Rattle.toml_ordered.specs.Firsts.{AddsFirsts, IsAgain, keys_firsts}
 use Rattle.toml_ordered.specs.Grammar.{val}
-use Rattle.toml_ordered.specs.Inside.{ArrayUpTo, BracesUpTo, IsFound, IsInside, IsRead, IsRefused}
+use Rattle.toml_ordered.specs.Inside.{ArrayUpTo, BracesUpTo, Finds, GoesOn, IsFound, IsInside, IsRead, IsRefused, NextPair}
 use Rattle.toml_ordered.specs.Nesting.{NestsPast}
 use Rattle.toml_ordered.specs.Places.{EndsWith, PairAt, key_parts}
 use Rattle.toml_ordered.specs.Reading.{IsMemory}
@@ -146,6 +147,22 @@ module _ (depth : ℕ) (text : List ℕ) (found : OpenTable) (rest : List ℕ) (
                 read = more_pairs depth known.count (drop 1 text) (table_view found) (table_view new) rest key x after next known.read
                     (keyval_is (val depth) (skip_blank rest) key at after x named read) defined element;
               }
+
+-- what `next_pair` reads, at the beginning of a table in braces, and behind a pair
+pub pair_begins : (depth less : ℕ) (text from : List ℕ) (found : OpenTable) (r : Result (Found × Bor (List ℕ)) Fault) → suc less ≡ depth
+    → BracesUpTo less text found from → length from < length text → NextPair found from r → Finds depth text r
+pair_begins depth less text from found (Ok p) is known shorter next =
+    let within = next.1 in
+    (subst (λ (n : ℕ). IsFound n text p.0 p.1.now) is (next.0 less text known), omega (arith, within, shorter))
+pair_begins depth less text from found (Err fault) is known shorter next = subst (λ (n : ℕ). IsRefused n text fault) is (next less text known)
+
+pub pair_goes_on : (outer : Open) (node : Node) (text' from : List ℕ) (found : OpenTable) (r : Result (Found × Bor (List ℕ)) Fault)
+    → ((depth : ℕ) (text at : List ℕ) → IsInside depth text outer at → IsRead depth at node text' → BracesUpTo depth text found from)
+    → length from ≤ length text' → NextPair found from r → GoesOn outer node text' r
+pair_goes_on outer node text' from found (Ok p) known fewer next =
+    let within = next.1 in
+    ((λ depth text at inside read. next.0 depth text (known depth text at inside read)), omega (arith, within, fewer))
+pair_goes_on outer node text' from found (Err fault) known fewer next = λ depth text at inside read. next depth text (known depth text at inside read)
 
 -- ---- from the inside outwards
 

@@ -1,21 +1,23 @@
 -- What a key and what follows it read: that of a pair, and that of a header.
-use Rattle.std.proofs.Common.{◌≡◌, ℕ, ◌<◌, ◌≤◌, ◌==◌, true, false, List, drop, length, Option, Some, None, Result, Ok, Err, refl, sym, subst, ◌∙◌, arith}
+use Rattle.std.proofs.Common.{◌≡◌, ℕ, ◌<◌, ◌≤◌, ◌==◌, Bool, true, false, List, drop, length, slice_index, Option, Some, None, Result, Ok, Err, String, Global, string_bytes, rules, refl, sym, subst, ◌∙◌, arith}
 use Rattle.std.proofs.lemmas.Bool.{eq-eqb, ne_eqb}
 use Rattle.toml_parser.specs.Lexical.{Read, first, skip_blank, skip_ws}
-use Rattle.toml_parser.specs.Strings.{Key, key}
+use Rattle.toml_parser.specs.Strings.{Key, key, quoted, starts_string}
+use Rattle.toml_parser.specs.Numbers.{unquoted}
 use Rattle.toml_parser.specs.declared.error.ParseError.{ParseError}
 use Rattle.toml_parser.specs.declared.error.ParseError.TheVariants as parse
 use Rattle.toml.specs.Parse.{after_element, ends_line, header_key, key_equals}
 use Rattle.std.specs.Borrow.{Bor}
 use Rattle.toml_ordered.proofs.Conflicts.{other_than}
 use Rattle.toml_ordered.proofs.Turns.{val_sealed}
-use Rattle.toml_ordered.specs.Data.{TomlNode}
+use Rattle.toml_ordered.specs.Data.{TomlNode, node_view, string}
 use Rattle.toml_ordered.specs.Drafts.{sealed}
-use Rattle.toml_ordered.specs.Grammar.{expression, line, val}
-use Rattle.toml_ordered.specs.Tables.{Expression, key_value}
+use Rattle.toml_ordered.specs.Grammar.{atom, expression, line, val}
+use Rattle.toml_ordered.specs.Tables.{Expression, array_table, key_value, std_table}
 use Rattle.toml_ordered.specs.Firsts.{FaultTells, IsOther}
 use Rattle.toml_ordered.specs.Reading.{IsRefusal, Reads, fault_of}
 use Rattle.toml_ordered.specs.declared.fault.Fault.{Fault}
+use Rattle.toml_ordered.specs.declared.tree.Node.{Text, the_lemmas}
 use Rattle.toml_ordered.specs.declared.fault.Fault.TheVariants as fault
 
 -- an error of `toml_parser`
@@ -42,6 +44,30 @@ ends_text left found expected again deep is none = subst (IsRefusal expected (λ
 pub no_text : {B : Type 0} (left : ℕ) (found : Fault) (expected : Option B) → found ≡ fault.NotToml left → expected ≡ None → IsRefusal expected IsOther found
 no_text left found expected is none = subst (IsRefusal expected IsOther) (sym is) (λ real. none, tt)
 
+-- the byte behind the blanks, which closes an array or a table in braces, or not
+module _ (closing : ℕ) (text start : List ℕ) (blank : start ≡ skip_blank text) (byte : ℕ) (here : byte ≡ first start) where
+  pub closes : byte ≡ closing → (first (skip_blank text) == closing) ≡ true
+  closes is = rw (← blank, ← here) (eq-eqb byte closing is)
+
+  pub closes_not : (byte ≡ closing → ⊥) → (first (skip_blank text) == closing) ≡ false
+  closes_not more = rw (← blank, ← here) (ne_eqb byte closing more)
+
+-- strings and scalars
+module _ (text : List ℕ) (flag : Bool) (starts : flag ≡ starts_string text) where
+  pub text_is : flag ≡ true → (value : String Global) (rest : List ℕ) → quoted text ≡ Some (string_bytes value, rest)
+      → atom text ≡ Some (node_view (Text value), rest)
+  text_is is value rest read =
+      let begins : starts_string text ≡ true = rw (← starts) is in
+      let view : node_view (Text value) ≡ string (string_bytes value) = search (rules, the_lemmas) in
+      rw (begins, read, view)
+
+  pub text_bad : flag ≡ true → quoted text ≡ None → atom text ≡ None
+  text_bad is read = let begins : starts_string text ≡ true = rw (← starts) is in rw (begins, read)
+
+  pub scalar_bad : flag ≡ false → unquoted text ≡ None → atom text ≡ None
+  scalar_bad other read = let begins : starts_string text ≡ false = rw (← starts) other in rw (begins, read)
+
+-- keys
 module _ (text : List ℕ) where
   pub key_equals_none : key text ≡ None → key_equals text ≡ None
   unfolding key_equals
@@ -115,3 +141,35 @@ module _ (text : List ℕ) where
 
     pub line_goes_on : ends_line end ≡ false → line text ≡ None
     line_goes_on more = let alone : ends_line (skip_ws rest) ≡ false = rw (← behind) more in rw (read, alone)
+
+-- headers in one bracket, and in two
+module _ (text : List ℕ) (opens : first text ≡ 91) (byte : ℕ) (second : byte ≡ slice_index text 1) (after : List ℕ) where
+  opening : (first text == 91) ≡ true
+  opening = rw opens
+
+  module _ (other : byte ≡ 91 → ⊥) (behind : after ≡ drop 1 text) where
+    one_bracket : (slice_index text 1 == 91) ≡ false
+    one_bracket = rw (← second, ne_eqb byte 91 other)
+
+    pub table_is : (name : Key) (rest : List ℕ) → header_key after ≡ Some (name, rest) → expression text ≡ Some ((name, std_table), rest)
+    table_is name rest read = let key : header_key (drop 1 text) ≡ Some (name, rest) = rw (← behind) read in rw (opening, one_bracket, key)
+
+    pub table_bad : header_key after ≡ None → expression text ≡ None
+    table_bad read = let key : header_key (drop 1 text) ≡ None = rw (← behind) read in rw (opening, one_bracket, key)
+
+  module _ (same : byte ≡ 91) (behind : after ≡ drop 2 text) where
+    two_brackets : (slice_index text 1 == 91) ≡ true
+    two_brackets = rw (← second, same)
+
+    pub tables_bad : header_key after ≡ None → expression text ≡ None
+    tables_bad read = let key : header_key (drop 2 text) ≡ None = rw (← behind) read in rw (opening, two_brackets, key)
+
+    module _ (name : Key) (rest : List ℕ) (read : header_key after ≡ Some (name, rest)) (next : ℕ) (here : next ≡ first rest) where
+      key_is : header_key (drop 2 text) ≡ Some (name, rest)
+      key_is = rw (← behind) read
+
+      pub tables_is : next ≡ 93 → (end : List ℕ) → end ≡ drop 1 rest → expression text ≡ Some ((name, array_table), end)
+      tables_is is end ends = let closing : (first rest == 93) ≡ true = rw (← here, is) in rw (opening, two_brackets, key_is, closing, ends)
+
+      pub tables_open : (next ≡ 93 → ⊥) → expression text ≡ None
+      tables_open more = let closing : (first rest == 93) ≡ false = rw (← here, ne_eqb next 93 more) in rw (opening, two_brackets, key_is, closing)

@@ -1,5 +1,5 @@
 -- What is known of an array or a table in braces while a value inside of it is read.
-use Rattle.std.specs.Prelude.{◌≡◌, ℕ, suc, ◌==◌, false, ◌<◌, List, drop, length, Result, MatchResult, Some}
+use Rattle.std.specs.Prelude.{◌≡◌, ℕ, suc, ◌==◌, false, ◌<◌, ◌≤◌, List, drop, length, Result, MatchResult, Some}
 use Rattle.std.specs.Borrow.{Bor}
 use Rattle.toml_parser.specs.Lexical.{first, left_brace, left_bracket, right_brace, right_bracket, skip_blank}
 use Rattle.toml_parser.specs.Reading.{key_view}
@@ -69,9 +69,25 @@ IsRefused depth text fault = IsRefusal (val depth text) (ValueTells depth text) 
 
 -- what is read of the value that begins the text
 abbrev pub Finds : (depth : ℕ) (text : List ℕ) → Result (Found × Bor (List ℕ)) Fault → Type 0
-Finds depth text r = MatchResult r (λ p. IsFound depth text p.0 p.1.now) (IsRefused depth text)
+Finds depth text r = MatchResult r (λ p. IsFound depth text p.0 p.1.now × (length p.1.now < length text)) (IsRefused depth text)
 
 -- what is read once a value inside of what begins the text is read, as this one
+abbrev pub Went : Open → Node → (rest : List ℕ) → ((depth : ℕ) (text : List ℕ) → Type 0) → Type 0
+Went outer node rest then = (depth : ℕ) (text at : List ℕ) → IsInside depth text outer at → IsRead depth at node rest → then (suc depth) text
+
 abbrev pub GoesOn : Open → Node → (rest : List ℕ) → Result (Found × Bor (List ℕ)) Fault → Type 0
 GoesOn outer node rest r =
-    (depth : ℕ) (text at : List ℕ) → IsInside depth text outer at → IsRead depth at node rest → Finds (suc depth) text r
+    MatchResult r
+    (λ p. Went outer node rest (λ depth text. IsFound depth text p.0 p.1.now) × (length p.1.now ≤ length rest))
+    (λ fault. Went outer node rest (λ depth text. IsRefused depth text fault))
+
+-- what is read next of an array, or of a table in braces
+abbrev pub NextItem : Items → (from : List ℕ) → Found → (rest : List ℕ) → Type 0
+NextItem items from found rest =
+    ((depth : ℕ) (text : List ℕ) → ArrayUpTo depth text items from → IsFound (suc depth) text found rest) × (length rest ≤ length from)
+
+abbrev pub NextPair : OpenTable → (from : List ℕ) → Result (Found × Bor (List ℕ)) Fault → Type 0
+NextPair found from r =
+    MatchResult r
+    (λ p. ((depth : ℕ) (text : List ℕ) → BracesUpTo depth text found from → IsFound (suc depth) text p.0 p.1.now) × (length p.1.now ≤ length from))
+    (λ fault. (depth : ℕ) (text : List ℕ) → BracesUpTo depth text found from → IsRefused (suc depth) text fault)

@@ -1,15 +1,15 @@
 //! Values: strings, scalars, arrays and tables in braces.
-ghost use Rattle.std.specs.Prelude.{◌≡◌, ℕ, suc, ◌≤◌, List, IfErr, IfOk, length, string_bytes};
+ghost use Rattle.std.specs.Prelude.{◌≡◌, IfOk, string_bytes};
 ghost use Rattle.toml_parser.specs.Reading.{key_view};
 ghost use Rattle.toml.specs.Parse.{after_element, key_equals};
 ghost use Rattle.toml_ordered.specs.Data.{items_view, node_view};
 ghost use Rattle.toml_ordered.specs.Drafts.{sealed, table_view};
 ghost use Rattle.toml_ordered.specs.Firsts.{IsOther};
 ghost use Rattle.toml_ordered.specs.Grammar as spec;
-ghost use Rattle.toml_ordered.specs.Inside.{ArrayUpTo, BracesUpTo, Finds, GoesOn, IsFound};
+ghost use Rattle.toml_ordered.specs.Inside.{Finds, GoesOn, NextItem, NextPair};
 ghost use Rattle.toml_ordered.specs.Nesting.{ValueTells};
 ghost use Rattle.toml_ordered.specs.Places.{key_parts};
-ghost use Rattle.toml_ordered.specs.Reading.{Defines, Reads, ReadsPast, Shortens};
+ghost use Rattle.toml_ordered.specs.Reading.{Defines, Reads, ReadsPast};
 ghost use Rattle.toml_ordered.specs.Tables as tables;
 
 use crate::drafts::OpenTable;
@@ -74,8 +74,7 @@ pub(crate) fn value(alloc: Global, s: &str, depth: usize) -> Result<(Node, &str)
 
 /// Reads the beginning of a value: a string or a scalar, or up to the first value in an array or a table in braces.
 fn begin(alloc: Global, s: &str, depth: usize) -> Result<(Found, &str), Fault>
-    ensures found { Finds depth s.now result }
-    ensures shorter { Shortens s.now result }
+    ensures { Finds depth s.now result }
 {
     let byte = first(s);
     if byte != b'[' && byte != b'{' {
@@ -96,8 +95,7 @@ fn begin(alloc: Global, s: &str, depth: usize) -> Result<(Found, &str), Fault>
 
 /// Puts a value into what is open around it, and reads on to the next value in that, or to its end.
 fn go_on(alloc: Global, outer: Open, node: Node, s: &str) -> Result<(Found, &str), Fault>
-    ensures found { GoesOn outer node s.now result }
-    ensures within { IfOk result (λ p. length p.1.now ≤ length s.now) }
+    ensures { GoesOn outer node s.now result }
 {
     match outer {
         Open::Array(items) => put_item(items, node, s),
@@ -107,10 +105,11 @@ fn go_on(alloc: Global, outer: Open, node: Node, s: &str) -> Result<(Found, &str
 
 /// Puts an item into an array, and reads on to the next one, or to the array's end.
 fn put_item(mut items: Vec<Node>, item: Node, s: &str) -> Result<(Found, &str), Fault>
-    ensures found { GoesOn (Open.Array items) item s.now result }
-    ensures within { IfOk result (λ p. length p.1.now ≤ length s.now) }
+    ensures { GoesOn (Open.Array items) item s.now result }
 {
-    items.push(item)?;
+    if let Err(_) = items.push(item) {
+        return Err(Fault::Memory);
+    }
     match past_element(s, b']') {
         Ok(rest) => Ok(next_item(items, rest)),
         Err(fault) => Err(fault),
@@ -119,8 +118,7 @@ fn put_item(mut items: Vec<Node>, item: Node, s: &str) -> Result<(Found, &str), 
 
 /// Reads on to the next item of an array, or to its end.
 fn next_item(items: Vec<Node>, s: &str) -> (Found, &str)
-    ensures found { (depth : ℕ) (text : List ℕ) → ArrayUpTo depth text (items_view items.items) s.now → IsFound (suc depth) text result.0 result.1.now }
-    ensures within { length result.1.now ≤ length s.now }
+    ensures { NextItem (items_view items.items) s.now result.0 result.1.now }
 {
     let start = skip_blank(s, true);
     if first(start) == b']' {
@@ -132,8 +130,7 @@ fn next_item(items: Vec<Node>, s: &str) -> (Found, &str)
 
 /// Defines the pair whose value was read, and reads on to the value of the next one, or to the table's end.
 fn put_pair(alloc: Global, braces: Braces, value: Node, s: &str) -> Result<(Found, &str), Fault>
-    ensures found { GoesOn (Open.Braces braces) value s.now result }
-    ensures within { IfOk result (λ p. length p.1.now ≤ length s.now) }
+    ensures { GoesOn (Open.Braces braces) value s.now result }
 {
     let Braces {
         mut table,
@@ -151,16 +148,17 @@ fn put_pair(alloc: Global, braces: Braces, value: Node, s: &str) -> Result<(Foun
 
 /// Reads on to the value of the next pair of a table in braces, or to the table's end.
 fn next_pair(alloc: Global, table: OpenTable, s: &str) -> Result<(Found, &str), Fault>
-    ensures found { (depth : ℕ) (text : List ℕ) → BracesUpTo depth text table s.now → Finds (suc depth) text result }
-    ensures within { IfOk result (λ p. length p.1.now ≤ length s.now) }
+    ensures { NextPair table s.now result }
 {
     let start = skip_blank(s, true);
     if first(start) == b'}' {
-        let members = table.finish(alloc)?;
-        return Ok((
-            Found::Value(Node::Table(Origin::Closed, members)),
-            skip(start, 1),
-        ));
+        return match table.finish(alloc) {
+            Ok(members) => Ok((
+                Found::Value(Node::Table(Origin::Closed, members)),
+                skip(start, 1),
+            )),
+            Err(_) => Err(Fault::Memory),
+        };
     }
     match key_and_equals(alloc, start) {
         Ok((key, rest)) => {

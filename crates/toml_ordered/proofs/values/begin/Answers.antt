@@ -2,31 +2,31 @@ use Rattle.std.proofs.Common.{◌≡◌, suc, ◌==◌, ◌-◌, ◌||◌, true,
 use Rattle.std.proofs.lemmas.Grind.{common_steps}
 use Rattle.std.specs.Prelude.{◌⊎◌}
 use Rattle.toml_parser.specs.Lexical.{first}
-use Rattle.toml_ordered.proofs.Around.{array_begins, braces_begin}
+use Rattle.toml_ordered.proofs.Around.{array_begins, braces_begin, pair_begins}
 use Rattle.toml_ordered.proofs.Conflicts.{other_than}
 use Rattle.toml_ordered.proofs.Depths.{nests_here}
 use Rattle.toml_ordered.proofs.Turns.{val_atom, val_deep}
 use Rattle.toml_ordered.specs.Data.{items_view}
-use Rattle.toml_ordered.specs.Inside.{Finds, IsFound}
+use Rattle.toml_ordered.specs.Inside.{IsFound}
 use Rattle.toml_ordered.specs.Places.{PairsConflict}
 use Rattle.toml_ordered.proofs.values.begin.Goals as goal
 
-pub returns-in-Ok-clause-found : goal.returns-in-Ok-clause-found
-returns-in-Ok-clause-found c =
+pub returns-in-Ok : goal.returns-in-Ok
+returns-in-Ok c =
     let s = c.args.s.now in
     let a : (first s == 91) ≡ false = grind (arith, common_steps) in
     let b : (first s == 123) ≡ false = grind (arith, common_steps) in
-    (rw (val_atom c.args.depth s a b) c.in-Ok.ensures.0, c.in-Ok.ensures.1)
+    ((rw (val_atom c.args.depth s a b) c.in-Ok.ensures.0, c.in-Ok.ensures.1), c.in-Ok.ensures.1)
 
-pub returns-in-Err-clause-found : goal.returns-in-Err-clause-found
-returns-in-Err-clause-found c =
+pub returns-in-Err : goal.returns-in-Err
+returns-in-Err c =
     let s = c.args.s.now in
     let a : (first s == 91) ≡ false = grind (arith, common_steps) in
     let b : (first s == 123) ≡ false = grind (arith, common_steps) in
     (λ real. rw (val_atom c.args.depth s a b) (c.in-Err.ensures.0 real), other_than _ _ c.in-Err.refused c.in-Err.ensures.1)
 
-pub returns-then-depth-eq0-clause-found : goal.returns-then-depth-eq0-clause-found
-returns-then-depth-eq0-clause-found c =
+pub returns-then-depth-eq0 : goal.returns-then-depth-eq0
+returns-then-depth-eq0 c =
     let s = c.args.s.now in
     let bracket : ((first s == 91) || (first s == 123)) ≡ true = grind (arith, common_steps) in
     let opening : (first s ≡ 91) ⊎ (first s ≡ 123) = grind (arith, common_steps) in
@@ -35,25 +35,28 @@ returns-then-depth-eq0-clause-found c =
       nests_here c.args.depth s c.too_deep.result (PairsConflict s) zero opening c.too_deep.ensures,
     )
 
-pub returns-then-byte-eq91-clause-found : goal.returns-then-byte-eq91-clause-found
-returns-then-byte-eq91-clause-found c =
+pub returns-then-byte-eq91 : goal.returns-then-byte-eq91
+returns-then-byte-eq91 c =
     let s = c.args.s.now in
     let less = c.args.depth - 1 in
     let is : suc less ≡ c.args.depth = omega arith in
     let a : (first s == 91) ≡ true = grind (arith, common_steps) in
     let opening : first s ≡ 91 = grind (arith, common_steps) in
-    subst (λ (n : ℕ). IsFound n s c.next_item.result.0 c.next_item.result.1.now) is
-    (c.next_item.ensures.found less s (array_begins less s _ _ a opening c.skip.ensures.rest c.skip.ensures.shorter (ap items_view c.new.ensures.items)))
+    let shorter = c.skip.ensures.shorter in
+    let within = c.next_item.ensures.1 in (
+      subst (λ (n : ℕ). IsFound n s c.next_item.result.0 c.next_item.result.1.now) is
+          (c.next_item.ensures.0 less s (array_begins less s _ _ a opening c.skip.ensures.rest shorter (ap items_view c.new.ensures.items))),
+      omega (arith, shorter, within),
+    )
 
-pub returns-else-byte-eq91-clause-found : goal.returns-else-byte-eq91-clause-found
-returns-else-byte-eq91-clause-found c =
+pub returns-else-byte-eq91 : goal.returns-else-byte-eq91
+returns-else-byte-eq91 c =
     let s = c.args.s.now in
     let less = c.args.depth - 1 in
     let is : suc less ≡ c.args.depth = omega arith in
     let a : (first s == 91) ≡ false = grind (arith, common_steps) in
     let b : (first s == 123) ≡ true = grind (arith, common_steps) in
     let opening : first s ≡ 123 = grind (arith, common_steps) in
-    subst (λ (n : ℕ). Finds n s c.next_pair.result) is
-    (c.next_pair.ensures.found less s
+    pair_begins c.args.depth less s c.skip-else-byte-eq91.result.now c.new-else-byte-eq91.result c.next_pair.result is
     (braces_begin less s _ _ a b opening c.skip-else-byte-eq91.ensures.rest c.skip-else-byte-eq91.ensures.shorter c.new-else-byte-eq91.ensures.view
-    c.new-else-byte-eq91.ensures.keys))
+    c.new-else-byte-eq91.ensures.keys) c.skip-else-byte-eq91.ensures.shorter c.next_pair.ensures

@@ -17,13 +17,13 @@ overflow_sub-depth c = (opened c).0
 pub values-preserved-in-Ok-begin : goal.values-preserved-in-Ok-begin
 values-preserved-in-Ok-begin c =
     let stands = (opened (goal.at.values-preserved-in-Ok-begin c).After-len).1 in
-    (search rules, c.args.depth - c.len.result, c.values.rest.now, stands, c.in-Ok-begin.ensures.found)
+    (search rules, c.args.depth - c.len.result, c.values.rest.now, stands, c.in-Ok-begin.ensures.0)
 
 pub returns-in-Err-begin : goal.returns-in-Err-begin
 returns-in-Err-begin c =
     let stands = (opened (goal.at.returns-in-Err-begin c).After-len).1 in
     let pushed = c.push.new.self.items in
-    stands_refused pushed c.args.depth c.args.s.now _ c.values.rest.now c.in-Err-begin.fault stands c.in-Err-begin.ensures.found
+    stands_refused pushed c.args.depth c.args.s.now _ c.values.rest.now c.in-Err-begin.fault stands c.in-Err-begin.ensures
 
 closed : (c : After-go_on)
     → (inner : ℕ) × (at : List ℕ) × (from : List ℕ) × Stands c.pop.new.self.items c.args.depth c.args.s.now (suc inner) from
@@ -38,10 +38,10 @@ closed c =
 pub values-preserved : goal.values-preserved
 values-preserved c =
     let (inner, at, from, stands, inside, read) = closed (goal.at.values-preserved c).After-go_on in
-    (search rules, suc inner, from, stands, c.in-Ok-go_on.ensures.found inner from at inside read)
+    (search rules, suc inner, from, stands, c.in-Ok-go_on.ensures.0 inner from at inside read)
 
 pub returns-in-Err-go_on : goal.returns-in-Err-go_on
 returns-in-Err-go_on c =
     let (inner, at, from, stands, inside, read) = closed (goal.at.returns-in-Err-go_on c).After-go_on in
     stands_refused c.pop.new.self.items c.args.depth c.args.s.now (suc inner) from c.in-Err-go_on.fault stands
-    (c.in-Err-go_on.ensures.found inner from at inside read)
+    (c.in-Err-go_on.ensures inner from at inside read)
