@@ -1,5 +1,5 @@
 -- What a key and what follows it read: that of a pair, and that of a header.
-use Rattle.std.proofs.Common.{◌≡◌, ℕ, ◌<◌, ◌≤◌, ◌==◌, Bool, true, false, List, drop, length, slice_index, Option, Some, None, Result, Ok, Err, String, Global, string_bytes, rules, refl, sym, subst, ◌∙◌, arith}
+use Rattle.std.proofs.Common.{◌≡◌, ◌⊎◌, inl, inr, ℕ, ◌<◌, ◌≤◌, ◌==◌, Bool, true, false, List, drop, length, slice_index, Option, Some, None, Result, Ok, Err, String, Global, string_bytes, rules, refl, sym, subst, ◌∙◌, arith}
 use Rattle.std.proofs.lemmas.Bool.{eq-eqb, ne_eqb}
 use Rattle.toml_parser.specs.Lexical.{Read, first, skip_blank, skip_ws}
 use Rattle.toml_parser.specs.Strings.{Key, key, quoted, starts_string}
@@ -9,7 +9,7 @@ use Rattle.toml_parser.specs.declared.error.ParseError.TheVariants as parse
 use Rattle.toml.specs.Parse.{after_element, ends_line, header_key, key_equals}
 use Rattle.std.specs.Borrow.{Bor}
 use Rattle.toml_ordered.proofs.Conflicts.{other_than}
-use Rattle.toml_ordered.proofs.Turns.{val_sealed}
+use Rattle.toml_ordered.proofs.Turns.{val_deep, val_sealed}
 use Rattle.toml_ordered.specs.Data.{TomlNode, node_view, string}
 use Rattle.toml_ordered.specs.Drafts.{sealed}
 use Rattle.toml_ordered.specs.Grammar.{atom, expression, line, val}
@@ -51,6 +51,11 @@ module _ (closing : ℕ) (text start : List ℕ) (blank : start ≡ skip_blank t
 
   pub closes_not : (byte ≡ closing → ⊥) → (first (skip_blank text) == closing) ≡ false
   closes_not more = rw (← blank, ← here) (ne_eqb byte closing more)
+
+-- a value that nests too deep
+pub val_opens : (text : List ℕ) → (first text ≡ 91) ⊎ (first text ≡ 123) → val 0 text ≡ None
+val_opens text (inl is) = val_deep text (rw is)
+val_opens text (inr is) = val_deep text (rw is)
 
 -- strings and scalars
 module _ (text : List ℕ) (flag : Bool) (starts : flag ≡ starts_string text) where

@@ -3,20 +3,17 @@ use Rattle.std.proofs.Common.{◌≡◌, ℕ, zero, suc, ◌-◌, ◌<◌, true,
 use Rattle.std.proofs.Common.{◌∙◌, arith, take, take_all, length-drop, option_map, cond, Bool, sym, subst, inl, inr, ◌⊎◌, ◌≤◌, bytes_eq, codes}
 use Rattle.std.proofs.lemmas.Bool.{cases_Bool, cases_lt}
 use Rattle.std.specs.Prelude.{option_and_then}
-use Rattle.std.specs.Result.{IsErrAnd}
 use Rattle.toml_parser.specs.Numbers.{unquoted, word_len, word_value}
 use Rattle.toml_parser.specs.Strings.{starts_string, quoted, Key}
 use Rattle.toml_parser.specs.declared.scalar.Scalar.{Scalar}
 use Rattle.toml_parser.specs.declared.scalar.Scalar.TheVariants as scalar
-use Rattle.toml_parser.specs.declared.error.ParseError.{ParseError}
-use Rattle.toml_parser.specs.declared.error.ParseError.TheVariants as parse
 use Rattle.toml_parser.specs.Lexical.{Read, first, skip_blank}
 use Rattle.toml.specs.Parse.{read_map, after_element, key_equals, skip_bom}
 use Rattle.toml_ordered.specs.Data.{TomlNode, string, decimal, infinity, not_a_number, Items, no_items, array, table, push_item, TomlNodes, no_nodes}
 use Rattle.toml_ordered.specs.Drafts.{sealed}
 use Rattle.toml_ordered.specs.Tables.{put, TomlDocument, Expression, define, Edit, along, passed, get_node, replace, append, made_by, Definition, redefine}
 use Rattle.toml_ordered.specs.Tables.{new_node, at_key}
-use Rattle.toml_ordered.specs.Reading.{ParsesTo, IsMemory, fault_of}
+use Rattle.toml_ordered.specs.Reading.{ParsesTo}
 use Rattle.toml_ordered.specs.declared.fault.Fault.{Fault}
 use Rattle.toml_ordered.specs.declared.route.Way.{Way}
 use Rattle.toml_ordered.specs.Grammar.{plain_word, without_sign, float_node, scalar_node, atom, val, keyval, items, members, line, lines, ordered_document}
@@ -145,24 +142,6 @@ module _ (k : List ℕ) (ns : TomlNodes) (x y : TomlNode) (new : TomlNodes) wher
       → ParsesTo (λ _. new) r (at_key k what ns)
   at_key_there what (Ok u) found written step = at_key_found k what ns x y new found step written
   at_key_there what (Err e) found written step = λ real. at_key_refused k what ns x found (step real)
-
--- ---- faults
-
--- the fault that a `?` passes on
-pub gives_err : {A B : Type 0} (f : A → B) (r : Result A Fault) (expected : Option B) (e : Fault) (Q : Fault → Type 0)
-    → IsErrAnd r Q → ((y : Fault) → Q y → y ≡ e) → ((IsMemory e → ⊥) → expected ≡ None) → ParsesTo f r expected
-gives_err f (Ok a) expected e Q h same refused = absurd h
-gives_err f (Err y) expected e Q h same refused = λ other. refused (λ m. other (same y h ∙ m))
-
--- what it makes of an error of `toml_parser`
-pub made_of : {B : Type 0} (e : ParseError) (expected : Option B) → ((e ≡ parse.OutOfMemory → ⊥) → expected ≡ None) → (IsMemory (fault_of e) → ⊥)
-    → expected ≡ None
-made_of e expected refused other = refused (λ m. other (ap fault_of m))
-
--- and of a refused allocation
-pub gives_memory : {A B : Type 0} (f : A → B) (r : Result A Fault) (expected : Option B) → IsErrAnd r IsMemory → ParsesTo f r expected
-gives_memory f (Ok a) expected h = absurd h
-gives_memory f (Err y) expected h = λ other. absurd (other h)
 
 -- ---- scalars
 

@@ -1,5 +1,5 @@
 -- How a result stands to what the grammar gives.
-use Rattle.std.specs.Prelude.{◌≡◌, ℕ, ◌<◌, ◌≤◌, String, string_bytes, List, [], ◌∷◌, ◌++◌, map, length, Result, MatchResult, IfOk, Option, Some, None}
+use Rattle.std.specs.Prelude.{◌≡◌, ℕ, ◌<◌, ◌≤◌, String, string_bytes, List, [], ◌∷◌, ◌++◌, map, length, Result, MatchResult, Option, Some, None}
 use Rattle.std.specs.Borrow.{Bor}
 use Rattle.std.specs.declared.alloc.Global.{Global}
 use Rattle.toml_parser.specs.Lexical.{Read}
@@ -35,10 +35,6 @@ fault_of (parse.At kind from to) = fault.NotToml from
 abbrev pub ParsesTo : {A B : Type 0} → (A → B) → Result A Fault → Option B → Type 0
 ParsesTo f r expected = MatchResult r (λ a. expected ≡ Some (f a)) (λ e. (IsMemory e → ⊥) → expected ≡ None)
 
--- the same of a value and the text after it
-abbrev pub ParsesPrefixTo : {A B : Type 0} → (A → B) → Result (A × Bor (List ℕ)) Fault → Read B → Type 0
-ParsesPrefixTo f r expected = ParsesTo (λ p. (f p.0, p.1.now)) r expected
-
 -- the grammar gives nothing, unless an allocation failed; and what the fault tells
 abbrev pub IsRefusal : {B : Type 0} → Option B → (tells : Fault → Type 0) → Fault → Type 0
 IsRefusal expected tells found = ((IsMemory found → ⊥) → expected ≡ None) × tells found
@@ -58,10 +54,6 @@ Defines expected new whole here from to r =
     MatchResult r
     (λ _. (expected ≡ Some new) × AddsFirsts whole here (table_view from) (keys_firsts from.keys.items) (keys_firsts to.keys.items))
     (IsRefusal expected (IsAgain whole here (keys_firsts from.keys.items)))
-
--- less text is left
-abbrev pub Shortens : {A : Type 0} → List ℕ → Result (A × Bor (List ℕ)) Fault → Type 0
-Shortens text r = IfOk r (λ p. length p.1.now < length text)
 
 abbrev pub definition_view : code_definition.Definition → Definition
 definition_view (Value x) = key_value (sealed (node_view x))

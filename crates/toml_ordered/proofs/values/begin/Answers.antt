@@ -1,11 +1,13 @@
-use Rattle.std.proofs.Common.{◌≡◌, suc, ◌==◌, ◌-◌, ◌||◌, true, false, ℕ, subst, ap, arith}
+use Rattle.std.proofs.Common.{◌≡◌, suc, ◌==◌, ◌-◌, true, false, ℕ, sym, subst, ap, ◌∙◌, arith}
+use Rattle.std.proofs.lemmas.Bool.{ne_eqb}
 use Rattle.std.proofs.lemmas.Grind.{common_steps}
 use Rattle.std.specs.Prelude.{◌⊎◌}
 use Rattle.toml_parser.specs.Lexical.{first}
 use Rattle.toml_ordered.proofs.Around.{array_begins, braces_begin, pair_begins}
 use Rattle.toml_ordered.proofs.Conflicts.{other_than}
 use Rattle.toml_ordered.proofs.Depths.{nests_here}
-use Rattle.toml_ordered.proofs.Turns.{val_atom, val_deep}
+use Rattle.toml_ordered.proofs.Heads.{val_opens}
+use Rattle.toml_ordered.proofs.Turns.{val_atom}
 use Rattle.toml_ordered.specs.Data.{items_view}
 use Rattle.toml_ordered.specs.Inside.{IsFound}
 use Rattle.toml_ordered.specs.Places.{PairsConflict}
@@ -14,24 +16,23 @@ use Rattle.toml_ordered.proofs.values.begin.Goals as goal
 pub returns-in-Ok : goal.returns-in-Ok
 returns-in-Ok c =
     let s = c.args.s.now in
-    let a : (first s == 91) ≡ false = grind (arith, common_steps) in
-    let b : (first s == 123) ≡ false = grind (arith, common_steps) in
+    let a : (first s == 91) ≡ false = rw (← c.first-byte.ensures) (ne_eqb c.first-byte.result 91 c.if-byte-ne91.true) in
+    let b : (first s == 123) ≡ false = rw (← c.first-byte.ensures) (ne_eqb c.first-byte.result 123 c.if-byte-ne123.true) in
     ((rw (val_atom c.args.depth s a b) c.in-Ok.ensures.0, c.in-Ok.ensures.1), c.in-Ok.ensures.1)
 
 pub returns-in-Err : goal.returns-in-Err
 returns-in-Err c =
     let s = c.args.s.now in
-    let a : (first s == 91) ≡ false = grind (arith, common_steps) in
-    let b : (first s == 123) ≡ false = grind (arith, common_steps) in
+    let a : (first s == 91) ≡ false = rw (← c.first-byte.ensures) (ne_eqb c.first-byte.result 91 c.if-byte-ne91.true) in
+    let b : (first s == 123) ≡ false = rw (← c.first-byte.ensures) (ne_eqb c.first-byte.result 123 c.if-byte-ne123.true) in
     (λ real. rw (val_atom c.args.depth s a b) (c.in-Err.ensures.0 real), other_than _ _ c.in-Err.refused c.in-Err.ensures.1)
 
 pub returns-then-depth-eq0 : goal.returns-then-depth-eq0
 returns-then-depth-eq0 c =
     let s = c.args.s.now in
-    let bracket : ((first s == 91) || (first s == 123)) ≡ true = grind (arith, common_steps) in
     let opening : (first s ≡ 91) ⊎ (first s ≡ 123) = grind (arith, common_steps) in
-    let zero : c.args.depth ≡ 0 = omega arith in (
-      λ real. rw zero (val_deep s bracket),
+    let zero : c.args.depth ≡ 0 = c.if-depth-eq0.true in (
+      λ real. rw zero (val_opens s opening),
       nests_here c.args.depth s c.too_deep.result (PairsConflict s) zero opening c.too_deep.ensures,
     )
 
@@ -40,8 +41,8 @@ returns-then-byte-eq91 c =
     let s = c.args.s.now in
     let less = c.args.depth - 1 in
     let is : suc less ≡ c.args.depth = omega arith in
-    let a : (first s == 91) ≡ true = grind (arith, common_steps) in
-    let opening : first s ≡ 91 = grind (arith, common_steps) in
+    let opening : first s ≡ 91 = sym c.first-byte.ensures ∙ c.if-byte-eq91.true in
+    let a : (first s == 91) ≡ true = rw opening in
     let shorter = c.skip.ensures.shorter in
     let within = c.next_item.ensures.1 in (
       subst (λ (n : ℕ). IsFound n s c.next_item.result.0 c.next_item.result.1.now) is
@@ -54,9 +55,9 @@ returns-else-byte-eq91 c =
     let s = c.args.s.now in
     let less = c.args.depth - 1 in
     let is : suc less ≡ c.args.depth = omega arith in
-    let a : (first s == 91) ≡ false = grind (arith, common_steps) in
-    let b : (first s == 123) ≡ true = grind (arith, common_steps) in
+    let a : (first s == 91) ≡ false = rw (← c.first-byte.ensures) (ne_eqb c.first-byte.result 91 c.if-byte-eq91.false) in
     let opening : first s ≡ 123 = grind (arith, common_steps) in
+    let b : (first s == 123) ≡ true = rw opening in
     pair_begins c.args.depth less s c.skip-else-byte-eq91.result.now c.new-else-byte-eq91.result c.next_pair.result is
     (braces_begin less s _ _ a b opening c.skip-else-byte-eq91.ensures.rest c.skip-else-byte-eq91.ensures.shorter c.new-else-byte-eq91.ensures.view
     c.new-else-byte-eq91.ensures.keys) c.skip-else-byte-eq91.ensures.shorter c.next_pair.ensures
