@@ -1,5 +1,5 @@
 -- What an expression, or a pair of a table in braces, defines, by what is defined along a route.
-use Rattle.std.proofs.Common.{◌≡◌, ℕ, List, [], ◌∷◌, ◌++◌, map, Option, Some, None, Result, Ok, Err, option_map, refl, sym, ap, subst, ◌∙◌}
+use Rattle.std.proofs.Common.{◌≡◌, ℕ, List, [], ◌∷◌, ◌++◌, map, Option, Result, Ok, Err, option_map, refl, sym, ap, subst, ◌∙◌}
 use Rattle.std.proofs.lemmas.List.{append_assoc}
 use Rattle.std.specs.Result.{IfErr, IfOk}
 use Rattle.toml_parser.specs.Strings.{Key}
@@ -66,8 +66,8 @@ pair_defines from to here section key x header dots first second r defines =
 pub header_defines : (from to : OpenTable) (here : ℕ) (key : Key) (what : Definition) (header : List (List ℕ)) (name : List ℕ) → header ≡ key.0 → name ≡ key.1
     → (r : Result (Unit {0}) Fault)
     → Defines (along (steps_along header []) (at_key name what) (table_view from)) (table_view to) (header ++ name ∷ []) here from to r
-    → Defines {A = TomlDocument} (option_map (λ root. (root, key_parts key)) (along (steps_along key.0 []) (at_key key.1 what) (table_view from))) (table_view to, key_parts key)
-    (key_parts key) here from to r
+    → Defines {A = TomlDocument} (option_map (λ root. (root, key_parts key)) (along (steps_along key.0 []) (at_key key.1 what) (table_view from)))
+    (table_view to, key_parts key) (key_parts key) here from to r
 header_defines from to here key what header name first second r defines =
     in_document {B = TomlDocument} (λ root. (root, key_parts key)) _ _ _ here from to r
     (subst (λ (h : List (List ℕ)). Defines (along (steps_along h []) (at_key key.1 what) (table_view from)) (table_view to) (h ++ key.1 ∷ [])

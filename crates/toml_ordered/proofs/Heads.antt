@@ -1,5 +1,6 @@
--- What a key and what follows it read: that of a pair, and that of a header.
-use Rattle.std.proofs.Common.{◌≡◌, ◌⊎◌, inl, inr, ℕ, ◌<◌, ◌≤◌, ◌==◌, Bool, true, false, List, drop, length, slice_index, Option, Some, None, Result, Ok, Err, String, Global, string_bytes, rules, refl, sym, subst, ◌∙◌, arith}
+-- What begins a value, an expression or a line: strings, scalars, keys and headers.
+use Rattle.std.proofs.Common.{◌≡◌, ◌⊎◌, inl, inr, ℕ, ◌==◌, Bool, true, false, List, drop, slice_index, Option, Some, None, Result, Ok, Err, refl, sym, subst}
+use Rattle.std.proofs.Common.{String, Global, string_bytes, rules}
 use Rattle.std.proofs.lemmas.Bool.{eq-eqb, ne_eqb}
 use Rattle.toml_parser.specs.Lexical.{Read, first, skip_blank, skip_ws}
 use Rattle.toml_parser.specs.Strings.{Key, key, quoted, starts_string}

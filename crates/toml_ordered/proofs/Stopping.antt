@@ -1,5 +1,5 @@
 -- Where a text is refused.
-use Rattle.std.proofs.Common.{◌≡◌, ℕ, ◌≤◌, List, length, min, refl, sym, subst, arith}
+use Rattle.std.proofs.Common.{◌≡◌, ℕ, ◌≤◌, List, min, sym, subst, arith}
 use Rattle.toml_ordered.specs.Places.{FaultIsPlaced, StopsAtExpression, moved_to, moved_within}
 use Rattle.toml_ordered.specs.Reading.{IsMemory}
 use Rattle.toml_ordered.specs.declared.fault.Fault.{Fault}

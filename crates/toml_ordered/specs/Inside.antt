@@ -71,10 +71,11 @@ IsRefused depth text fault = IsRefusal (val depth text) (ValueTells depth text) 
 abbrev pub Finds : (depth : ℕ) (text : List ℕ) → Result (Found × Bor (List ℕ)) Fault → Type 0
 Finds depth text r = MatchResult r (λ p. IsFound depth text p.0 p.1.now × (length p.1.now < length text)) (IsRefused depth text)
 
--- what is read once a value inside of what begins the text is read, as this one
+-- of the value of each text in which one inside of it is read as this one
 abbrev pub Went : Open → Node → (rest : List ℕ) → ((depth : ℕ) (text : List ℕ) → Type 0) → Type 0
 Went outer node rest then = (depth : ℕ) (text at : List ℕ) → IsInside depth text outer at → IsRead depth at node rest → then (suc depth) text
 
+-- what is read once a value inside of what begins the text is read, as this one
 abbrev pub GoesOn : Open → Node → (rest : List ℕ) → Result (Found × Bor (List ℕ)) Fault → Type 0
 GoesOn outer node rest r =
     MatchResult r

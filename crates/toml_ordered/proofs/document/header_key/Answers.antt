@@ -1,5 +1,4 @@
 use Rattle.std.proofs.Common.{arith, length}
-use Rattle.toml.specs.Parse.{header_key}
 use Rattle.toml_parser.specs.Reading.{key_view}
 use Rattle.toml_ordered.proofs.Heads.{header_key_none, header_key_other, header_key_some, no_text, no_token}
 use Rattle.toml_ordered.proofs.document.header_key.Goals as goal

@@ -1,4 +1,4 @@
-use Rattle.std.proofs.Common.{◌≡◌, ◌==◌, ◌≤◌, ◌-◌, suc, length, false, inl, inr, ◌∙◌, rules, arith, ap}
+use Rattle.std.proofs.Common.{◌≡◌, ◌==◌, ◌-◌, suc, length, false, inl, inr, ◌∙◌, rules, arith, ap}
 use Rattle.std.proofs.lemmas.Grind.{common_steps}
 use Rattle.toml_parser.specs.Lexical.{skip_blank}
 use Rattle.toml_ordered.proofs.Conflicts.{expressions_conflict, knows_more, knows_none, reads_more, value_reason}

@@ -1,5 +1,4 @@
-use Rattle.std.proofs.Common.{◌≡◌, ◌-◌, false, length, take, refl, sym, ◌∙◌, arith}
-use Rattle.std.proofs.lemmas.Grind.{common_steps}
+use Rattle.std.proofs.Common.{◌≡◌, ◌-◌, false, length, take, refl, sym, ◌∙◌}
 use Rattle.toml_parser.specs.Strings.{starts_string}
 use Rattle.toml_ordered.proofs.Heads.{no_token, scalar_bad, text_bad, text_is}
 use Rattle.toml_ordered.proofs.Turns.{atom_scalar}
@@ -23,7 +22,8 @@ returns-in-Ok-scalar_node c =
     let s = c.args.s.now in
     let rest = c.in-Ok-unquoted.rest.now in
     let other : starts_string s ≡ false = sym c.starts_string.ensures ∙ c.if-starts_string.false in
-    let is : node_view c.in-Ok-scalar_node.node ≡ scalar_node (take (length s - length rest) s) c.in-Ok-unquoted.scalar = rw c.as_bytes.ensures.value at c.in-Ok-scalar_node.ensures in
+    let is : node_view c.in-Ok-scalar_node.node ≡ scalar_node (take (length s - length rest) s) c.in-Ok-unquoted.scalar =
+    rw c.as_bytes.ensures.value at c.in-Ok-scalar_node.ensures in
     (atom_scalar s c.in-Ok-unquoted.scalar rest (node_view c.in-Ok-scalar_node.node) other c.in-Ok-unquoted.ensures.value is, c.in-Ok-unquoted.ensures.shorter)
 
 pub returns-in-Err-scalar_node : goal.returns-in-Err-scalar_node

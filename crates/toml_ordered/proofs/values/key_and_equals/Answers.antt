@@ -1,5 +1,4 @@
 use Rattle.std.proofs.Common.{arith, length}
-use Rattle.toml.specs.Parse.{key_equals}
 use Rattle.toml_parser.specs.Reading.{key_view}
 use Rattle.toml_ordered.proofs.Heads.{key_equals_none, key_equals_other, key_equals_some, no_text, no_token}
 use Rattle.toml_ordered.proofs.values.key_and_equals.Goals as goal

@@ -1,5 +1,4 @@
 use Rattle.std.proofs.Common.{refl, ap, length, ◌∙◌, arith}
-use Rattle.toml_parser.specs.Reading.{key_view}
 use Rattle.toml_ordered.proofs.Around.{braces_end, braces_nameless, inside_ends}
 use Rattle.toml_ordered.proofs.Conflicts.{other_than}
 use Rattle.toml_ordered.proofs.Depths.{ends_within}
