@@ -7,7 +7,7 @@ use Rattle.std.proofs.lemmas.Nat.{mul-le}
 use Rattle.toml_ordered.specs.Counts.{IsEntered, IsExchanged, IsLeft, IsPopped, draft_count, key_count, member_count, node_count}
 use Rattle.toml_ordered.specs.declared.tree.Node.{Node, Array, Table, Tables, the_lemmas as node_lemmas}
 use Rattle.toml_ordered.specs.declared.tree.Origin.{Origin}
-use Rattle.toml_ordered.specs.declared.drafts.Draft.{Draft, Open, the_lemmas as draft_lemmas}
+use Rattle.toml_ordered.specs.declared.drafts.Draft.{Draft, Growing, the_lemmas as draft_lemmas}
 use Rattle.toml_ordered.specs.declared.drafts.Holder.{Holder}
 use Rattle.std.specs.BTreeMap.{BTreeMap}
 
@@ -40,9 +40,9 @@ pub node_count-Tables : (done : Vec Node Global) (last : Vec (String Global × N
     → node_count (Tables done last) ≡ suc (sum_by node_count done.items + sum_by member_count last.items)
 node_count-Tables done last = search (rules, node_lemmas, sum-map, sum_by-map)
 
-pub draft_count-Open : (holder : Holder) (keys : Vec (String Global × Draft × ℕ) Global) (index : BTreeMap (String Global) ℕ)
-    → draft_count (Open holder keys index) ≡ suc (sum_by key_count keys.items)
-draft_count-Open holder keys index = search (rules, draft_lemmas, sum_by-map)
+pub draft_count-Growing : (holder : Holder) (keys : Vec (String Global × Draft × ℕ) Global) (index : BTreeMap (String Global) ℕ)
+    → draft_count (Growing holder keys index) ≡ suc (sum_by key_count keys.items)
+draft_count-Growing holder keys index = search (rules, draft_lemmas, sum_by-map)
 
 -- a value is taken out, and another put into its place
 within : {E : Type 0} (counts : E → ℕ) (xs : List E) (i : ℕ) (d : E) → i < length xs → counts (get_or xs i d) ≤ sum_by counts xs

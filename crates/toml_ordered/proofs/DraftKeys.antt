@@ -6,7 +6,7 @@ use Rattle.std.proofs.lemmas.Bool.{cases_Bool, eq-eqb, eqb-true, false≢true}
 use Rattle.std.proofs.lemmas.Slice.Eq.{bytes_eq-Decides}
 use Rattle.std.specs.BTreeMap.{get_by_text}
 use Rattle.std.specs.Map.{update}
-use Rattle.toml_ordered.specs.declared.drafts.Draft.{Draft as CodeDraft, Open, the_lemmas}
+use Rattle.toml_ordered.specs.declared.drafts.Draft.{Draft as CodeDraft, Growing, the_lemmas}
 use Rattle.toml_ordered.specs.declared.drafts.Holder.{Holder}
 use Rattle.toml_ordered.specs.Data.{TomlNode, TomlNodes}
 use Rattle.toml_ordered.specs.Drafts.{is_place, kept, nodes_from, draft_view, drafts_view, held_view, keys_view, HasKey, IsIndexedAt}
@@ -243,5 +243,5 @@ appended index after es w none noted =
 
 -- ---- values
 
-pub draft_view-Open : (h : Holder) (keys : Vec Draft Global) (index : Places) → draft_view (Open h keys index) ≡ held_view h (keys_view keys.items index)
-draft_view-Open h keys index = search (rules, the_lemmas)
+pub draft_view-Growing : (h : Holder) (keys : Vec Draft Global) (index : Places) → draft_view (Growing h keys index) ≡ held_view h (keys_view keys.items index)
+draft_view-Growing h keys index = search (rules, the_lemmas)

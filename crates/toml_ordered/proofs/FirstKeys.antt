@@ -4,7 +4,7 @@ use Rattle.std.proofs.Common.{◌⊎◌, rules, set, get_or, Result}
 use Rattle.std.proofs.lemmas.Result.{IfOk-weaker, IfErr-weaker}
 use Rattle.std.specs.Result.{IfOk, IfErr}
 use Rattle.std.proofs.lemmas.Slice.Eq.{bytes_eq-Decides}
-use Rattle.toml_ordered.specs.declared.drafts.Draft.{Open, the_lemmas}
+use Rattle.toml_ordered.specs.declared.drafts.Draft.{Growing, the_lemmas}
 use Rattle.toml_ordered.specs.declared.fault.Fault.{Fault}
 use Rattle.toml_ordered.specs.declared.fault.Fault.TheVariants as fault
 use Rattle.toml_ordered.specs.declared.drafts.Holder.{Holder}
@@ -15,8 +15,8 @@ use Rattle.toml_ordered.specs.Firsts.{Firsts, no_firsts, HasFirst, draft_firsts,
 use Rattle.toml_ordered.specs.Reading.{IsPassed, IsSameKey}
 use Rattle.toml_ordered.specs.Tables.{get_node, steps_along}
 
-pub draft_firsts-Open : (h : Holder) (keys : Vec Draft Global) (index : Places) → draft_firsts (Open h keys index) ≡ keys_firsts keys.items
-draft_firsts-Open h keys index = search (rules, the_lemmas)
+pub draft_firsts-Growing : (h : Holder) (keys : Vec Draft Global) (index : Places) → draft_firsts (Growing h keys index) ≡ keys_firsts keys.items
+draft_firsts-Growing h keys index = search (rules, the_lemmas)
 
 -- ---- lists of keys
 

@@ -2,8 +2,8 @@
 use Rattle.std.proofs.Common.{◌≡◌, ℕ, zero, suc, ◌<◌, length, List, [], ◌∷◌, ◌++◌, Some, None, string_bytes, option_map}
 use Rattle.std.proofs.Common.{refl, sym, ap, subst, ◌∙◌, arith, set, get_or, reverse}
 use Rattle.std.proofs.lemmas.List.{reverse-append}
-use Rattle.toml_ordered.proofs.DraftKeys.{Draft, Places, found_here, written_here, draft_view-Open}
-use Rattle.toml_ordered.proofs.FirstKeys.{adds_inside, adds_missing, again_here, again_inside, again_nothing, draft_firsts-Open}
+use Rattle.toml_ordered.proofs.DraftKeys.{Draft, Places, found_here, written_here, draft_view-Growing}
+use Rattle.toml_ordered.proofs.FirstKeys.{adds_inside, adds_missing, again_here, again_inside, again_nothing, draft_firsts-Growing}
 use Rattle.toml_ordered.proofs.Turns.{along_found, along_refused, along_new, along_new_refused}
 use Rattle.toml_ordered.specs.Data.{TomlNode, TomlNodes, no_nodes, table}
 use Rattle.toml_ordered.specs.Drafts.{IsIndexedAt, draft_view, held_view, keys_view, table_view}
@@ -40,10 +40,10 @@ with_value-last x (e ∷ es) w = ap (λ (ds : List Draft). e ∷ ds) (with_value
 -- ---- what holds a table
 
 held_is : (h : Holder) (t : OpenTable) → draft_view (held h t) ≡ held_view h (table_view t)
-held_is h t = draft_view-Open h t.keys t.index
+held_is h t = draft_view-Growing h t.keys t.index
 
 held_firsts : (h : Holder) (t : OpenTable) → draft_firsts (held h t) ≡ keys_firsts t.keys.items
-held_firsts h t = draft_firsts-Open h t.keys t.index
+held_firsts h t = draft_firsts-Growing h t.keys t.index
 
 -- ---- one table that is passed
 

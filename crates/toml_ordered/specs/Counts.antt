@@ -28,7 +28,7 @@ member_count m = node_count m.1
 -- A value in a table that may still grow, likewise, but for what it holds that takes no more.
 abbrev pub draft_level : Draft-F ℕ → ℕ
 draft_level (Draft-F.Value x) = 1
-draft_level (Draft-F.Open holder keys index) = suc (sum_by (λ e. e.1) keys.items)
+draft_level (Draft-F.Growing holder keys index) = suc (sum_by (λ e. e.1) keys.items)
 
 abbrev pub draft_count : Draft → ℕ
 draft_count = fold-Draft ℕ draft_level

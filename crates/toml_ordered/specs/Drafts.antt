@@ -40,7 +40,7 @@ held_view (holder.Tables done) inner = tables (items_view done.items) inner
 -- one level of a value, with each value inside seen already
 abbrev pub draft_step : Draft-F TomlNode → TomlNode
 draft_step (Draft-F.Value x) = sealed (node_view x)
-draft_step (Draft-F.Open holder keys index) = held_view holder (nodes_from index 0 keys.items)
+draft_step (Draft-F.Growing holder keys index) = held_view holder (nodes_from index 0 keys.items)
 
 -- what contracts see of a value
 abbrev pub draft_view : CodeDraft → TomlNode

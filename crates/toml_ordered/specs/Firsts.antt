@@ -27,7 +27,7 @@ firsts_of (m ∷ ms) = first_of (string_bytes m.0) m.2 m.1 (firsts_of ms)
 -- one level of a value, with what is inside of each key
 abbrev pub firsts_step : Draft-F Firsts → Firsts
 firsts_step (Draft-F.Value x) = no_firsts
-firsts_step (Draft-F.Open holder keys index) = firsts_of keys.items
+firsts_step (Draft-F.Growing holder keys index) = firsts_of keys.items
 
 -- the keys inside of a value, and those of a table
 abbrev pub draft_firsts : CodeDraft → Firsts

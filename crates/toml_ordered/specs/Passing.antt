@@ -5,7 +5,7 @@ use Rattle.toml_ordered.specs.Drafts.{draft_view, held_view, table_view}
 use Rattle.toml_ordered.specs.Firsts.{AddsFirsts, IsAgain, draft_firsts, keys_firsts, keys_in}
 use Rattle.toml_ordered.specs.Reading.{IsMemory}
 use Rattle.toml_ordered.specs.Tables.{Edit, along, passed}
-use Rattle.toml_ordered.specs.declared.drafts.Draft.{Draft as CodeDraft, Open}
+use Rattle.toml_ordered.specs.declared.drafts.Draft.{Draft as CodeDraft, Growing}
 use Rattle.toml_ordered.specs.declared.drafts.OpenTable.{OpenTable}
 use Rattle.toml_ordered.specs.declared.fault.Fault.{Fault}
 use Rattle.toml_ordered.specs.declared.route.Way.{Way}
@@ -14,7 +14,7 @@ use Rattle.toml_ordered.specs.declared.passed.Passed.{Passed}
 
 -- the value that holds a table
 abbrev pub held : Holder → OpenTable → CodeDraft
-held h inner = Open h inner.keys inner.index
+held h inner = Growing h inner.keys inner.index
 
 -- the keys, with another value at a place
 abbrev pub with_value : ℕ → CodeDraft → List (String Global × CodeDraft × ℕ) → List (String Global × CodeDraft × ℕ)

@@ -23,7 +23,7 @@ pub(crate) enum Draft {
     /// It takes no more.
     Value(Node),
     /// It holds a table that may grow.
-    Open(Holder, Keys, Index),
+    Growing(Holder, Keys, Index),
 }
 
 /// A value without the table in it that may still grow.

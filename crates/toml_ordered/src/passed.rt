@@ -26,7 +26,7 @@ impl Passed {
             holder,
         } = self;
         let OpenTable { keys, index } = inner;
-        drop(mem::replace(&mut table.keys[at].1, Draft::Open(holder, keys, index)));
+        drop(mem::replace(&mut table.keys[at].1, Draft::Growing(holder, keys, index)));
         table
     }
 }

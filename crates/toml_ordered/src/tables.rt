@@ -188,7 +188,7 @@ fn redefine(
     ensures again { IfErr result (IsPassed (string_bytes member.old.0) member.old.2 left) }
 {
     let (key, draft, first) = member;
-    if let Draft::Open(holder, last, index) = draft {
+    if let Draft::Growing(holder, last, index) = draft {
         match holder {
             Holder::Table(origin) => {
                 if *origin == Origin::Implicit && matches!(what, Definition::Table) {
@@ -232,5 +232,5 @@ fn new_draft(alloc: Global, what: Definition) -> Draft
         Definition::Table => Holder::Table(Origin::Header),
         Definition::Tables => Holder::Tables(Vec::new(alloc)),
     };
-    Draft::Open(holder, Vec::new(alloc), BTreeMap::new(alloc))
+    Draft::Growing(holder, Vec::new(alloc), BTreeMap::new(alloc))
 }

@@ -258,24 +258,31 @@ fn scalar_node(alloc: Global, word: &[u8], scalar: Scalar) -> Result<Node, Alloc
         Scalar::Boolean(flag) => Ok(Node::Boolean(flag)),
         Scalar::Integer(integer) => Ok(Node::Integer(integer)),
         Scalar::Datetime(datetime) => Ok(Node::Datetime(datetime)),
-        Scalar::Float(_) => {
-            let plain = plain_word(alloc, word)?;
-            let sign = first(plain.as_str());
-            let signed = sign == b'+' || sign == b'-';
-            let name = if signed {
-                skip(plain.as_str(), 1)
-            } else {
-                plain.as_str()
-            };
-            if name == "inf" {
-                let negative = sign == b'-';
-                Ok(Node::Infinity { negative })
-            } else if name == "nan" {
-                Ok(Node::NotANumber)
-            } else {
-                Ok(Node::Decimal(plain))
-            }
-        }
+        Scalar::Float(_) => match plain_word(alloc, word) {
+            Ok(plain) => Ok(float_node(plain)),
+            Err(refused) => Err(refused),
+        },
+    }
+}
+
+/// Returns a float, by its characters without underscores.
+fn float_node(plain: String) -> Node
+    ensures { node_view result ≡ spec.float_node (string_bytes plain) }
+{
+    let sign = first(plain.as_str());
+    let signed = sign == b'+' || sign == b'-';
+    let name = if signed {
+        skip(plain.as_str(), 1)
+    } else {
+        plain.as_str()
+    };
+    if name == "inf" {
+        let negative = sign == b'-';
+        Node::Infinity { negative }
+    } else if name == "nan" {
+        Node::NotANumber
+    } else {
+        Node::Decimal(plain)
     }
 }
 

@@ -18,7 +18,7 @@ impl Draft {
     {
         match self {
             Draft::Value(_) => Err(other),
-            Draft::Open(_holder, keys, _index) => exchange(keys, other),
+            Draft::Growing(_holder, keys, _index) => exchange(keys, other),
         }
     }
 
@@ -28,7 +28,7 @@ impl Draft {
     {
         match self {
             Draft::Value(_) => None,
-            Draft::Open(_holder, keys, _index) => pop(keys),
+            Draft::Growing(_holder, keys, _index) => pop(keys),
         }
     }
 
@@ -38,7 +38,7 @@ impl Draft {
     {
         match self {
             Draft::Value(_) => {}
-            Draft::Open(_holder, keys, _index) => keys.destroy_empty(),
+            Draft::Growing(_holder, keys, _index) => keys.destroy_empty(),
         }
     }
 
@@ -50,7 +50,7 @@ impl Draft {
     {
         match self {
             Draft::Value(node) => Err(node),
-            Draft::Open(holder, keys, index) => Ok((holder, keys, index)),
+            Draft::Growing(holder, keys, index) => Ok((holder, keys, index)),
         }
     }
 
@@ -59,7 +59,7 @@ impl Draft {
         ensures { MatchOption result (IsShut way self) (λ opened. IsOpened way self opened.0 opened.1) }
     {
         match self {
-            Draft::Open(holder, keys, index) => match holder.passed_by(way) {
+            Draft::Growing(holder, keys, index) => match holder.passed_by(way) {
                 Some(after) => Some((after, OpenTable { keys, index })),
                 None => None,
             },

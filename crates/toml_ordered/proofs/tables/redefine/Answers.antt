@@ -1,5 +1,5 @@
 use Rattle.std.proofs.Common.{Some, Vec, Global, sym, ap, ap₂, ◌∙◌}
-use Rattle.toml_ordered.proofs.DraftKeys.{Draft, Places, draft_view-Open}
+use Rattle.toml_ordered.proofs.DraftKeys.{Draft, Places, draft_view-Growing}
 use Rattle.toml_ordered.specs.Data.{TomlNode, Items, TomlNodes, table, tables, push_item, items_view}
 use Rattle.toml_ordered.specs.Drafts.{draft_view, held_view, keys_view}
 use Rattle.toml_ordered.specs.Reading.{definition_view}
@@ -17,15 +17,15 @@ Nodes = Vec CodeNode Global
 
 pub returns-in-Tables-what-clause-value : goal.returns-in-Tables-what-clause-value
 returns-in-Tables-what-clause-value c =
-    let it = c.in-Open in
+    let it = c.in-Growing in
     let begun = c.in_ok-begin_table-in-Tables.ensures in
     let new = c.begin_table.new in
     let keys = keys_view it.last.items it.index in
     ap (λ what. redefine (definition_view what) (draft_view c.args.member.now.1)) c.in-Tables-what.is
     ∙ ap (λ x. redefine array_table (draft_view x)) it.is
-    ∙ ap (redefine array_table) (draft_view-Open it.holder it.last it.index ∙ ap (λ h. held_view h keys) (sym it.holder-is ∙ c.in-Tables.is))
+    ∙ ap (redefine array_table) (draft_view-Growing it.holder it.last it.index ∙ ap (λ h. held_view h keys) (sym it.holder-is ∙ c.in-Tables.is))
     ∙ ap (λ (x : TomlNode). Some x)
-    (sym (draft_view-Open (Tables new.done) new.last new.index
+    (sym (draft_view-Growing (Tables new.done) new.last new.index
     ∙ ap₂ (λ (xs : Items) (ns : TomlNodes). tables xs ns)
     (begun.done
     ∙ ap₂ (λ (done : Nodes) (x : TomlNode). push_item (items_view done.items) x) c.in-Tables.done-is
