@@ -7,9 +7,23 @@ mod random;
 mod refused;
 mod toml;
 
-use std::alloc::Allocator;
+use crate::tests::equal;
+use std::alloc::{Allocator, Global};
+use std::fmt::Display;
+use std::process::Abort;
 use yaml_read::{ReadError, Value, read_canonical};
 use yaml_value::{write_canonical, yaml_error_t};
+
+/// Pushes an item.
+fn push<T: Drop>(rt: &impl Abort, items: &mut Vec<T>, item: T) {
+    items.push(item).expect(rt, "no memory");
+}
+
+/// Checks what is printed.
+fn check_printed(rt: &impl Abort, alloc: Global, printed: &impl Display, wanted: &str) {
+    let text = printed.to_string(alloc).expect(rt, "no memory");
+    equal(rt, &text.as_str(), &wanted);
+}
 
 /// Returns the canonical bytes of a value. (Tests need none of the clauses of the call.)
 fn written<A: Allocator + Copy>(alloc: A, value: &Value<A>) -> Result<Vec<u8, A>, yaml_error_t> {

@@ -38,19 +38,20 @@ fn dump_alone(
 }
 
 /// Returns the canonical bytes of a document's dump.
-fn dumped(alloc: Global, document: yaml_document_t<Global>) -> Result<Vec<u8>, yaml_error_t> {
-    let Ok(mut emitter) = yaml_emitter_t::with_settings(alloc, canonical_settings()) else {
-        return Err(yaml_error_t::Memory);
-    };
-    dump_alone(alloc, &mut emitter, document)?;
-    Ok(yaml_emitter_take_output(&mut emitter))
+fn dumped(rt: &impl Abort, alloc: Global, document: yaml_document_t<Global>) -> Vec<u8> {
+    let settings = canonical_settings();
+    let mut emitter = yaml_emitter_t::with_settings(alloc, settings).expect(rt, "no memory");
+    dump_alone(alloc, &mut emitter, document).expect(rt, "not dumped");
+    let bytes = yaml_emitter_take_output(&mut emitter);
+    drop(emitter);
+    bytes
 }
 
 /// Reads a document and dumps it again, which gives the same bytes; or returns why it isn't read.
 fn read_and_dumped(rt: &impl Abort, alloc: Global, bytes: &[u8]) -> Option<ReadError> {
     match document_of(alloc, bytes) {
         Ok(document) => {
-            let again = dumped(alloc, document).expect(rt, "not dumped");
+            let again = dumped(rt, alloc, document);
             equal(rt, &again.as_slice(), &bytes);
             None
         }

@@ -1,5 +1,5 @@
 //! The words of the errors of reading. (`tests/c/canonical.c` has why bytes aren't read, and where.)
-use crate::tests::equal;
+use super::check_printed;
 use yaml_read::ReadError;
 
 /// Errors, and what they print.
@@ -25,7 +25,6 @@ const PRINTED: &[(ReadError, &str)] = &[
 #[test]
 fn errors_print_their_place(rt: HostRuntime) {
     for (error, wanted) in PRINTED {
-        let printed = format!(in rt.alloc(); "{error}").expect(&rt, "no memory");
-        equal(&rt, &printed.as_str(), wanted);
+        check_printed(&rt, rt.alloc(), error, wanted);
     }
 }

@@ -1,6 +1,6 @@
 //! Random values, written and read back, also with one byte changed, and where memory is refused.
 use super::refused::refuse_growths;
-use super::{read, written};
+use super::{push, read, written};
 use crate::tests::equal;
 use std::alloc::Global;
 use std::process::Abort;
@@ -31,6 +31,14 @@ impl Random {
     pub(super) fn small(&mut self, bound: usize) -> usize {
         let bound = u64::try_from(bound).unwrap_or(1);
         usize::try_from(self.below(bound)).unwrap_or(0)
+    }
+
+    /// Returns one of these, of which there is at least one.
+    pub(super) fn pick<T: Copy>(&mut self, all: &[T], other: T) -> T {
+        match all.get(self.small(all.len())) {
+            Some(one) => *one,
+            None => other,
+        }
     }
 }
 
@@ -67,11 +75,7 @@ const CHARACTERS: &[char] = &[
 /// Returns one of the characters, or any other.
 fn random_character(random: &mut Random) -> char {
     if random.below(3) > 0 {
-        return CHARACTERS
-            .iter()
-            .nth(random.small(CHARACTERS.len()))
-            .copied()
-            .unwrap_or('a');
+        return random.pick(CHARACTERS, 'a');
     }
     char::from_u32(u32::try_from(random.below(0x11_0000)).unwrap_or(0)).unwrap_or(' ')
 }
@@ -114,7 +118,7 @@ fn take_items(
     let mut items = Vec::new(alloc);
     for _ in 0..count {
         if let Some(value) = values.pop() {
-            items.push(value).expect(rt, "no memory");
+            push(rt, &mut items, value);
         }
     }
     Value::List(items)
@@ -131,44 +135,43 @@ fn take_pairs(
     for _ in 0..count {
         let key = values.pop().unwrap_or(Value::Null);
         let value = values.pop().unwrap_or(Value::Null);
-        pairs.push((key, value)).expect(rt, "no memory");
+        push(rt, &mut pairs, (key, value));
     }
     Value::Map(pairs)
 }
 
-/// Returns a value of so many parts: each is a scalar, or a list or a map of some before it.
-fn random_value(rt: &impl Abort, alloc: Global, random: &mut Random, parts: u64) -> Value<Global> {
+/// Returns a value of at most 30 parts: each is a scalar, or a list or a map of some before it.
+fn random_value(rt: &impl Abort, alloc: Global, random: &mut Random) -> Value<Global> {
     let mut values = Vec::new(alloc);
-    for _ in 0..parts {
+    for _ in 0..random.below(30).saturating_add(1) {
         let count = random.below(5);
         let value = match random.below(4) {
             0 => take_items(rt, alloc, &mut values, count),
             1 => take_pairs(rt, alloc, &mut values, count),
             _ => random_scalar(rt, alloc, random),
         };
-        values.push(value).expect(rt, "no memory");
+        push(rt, &mut values, value);
     }
     values.pop().unwrap_or(Value::Null)
 }
 
-/// Returns the canonical bytes of a value of at most 30 parts.
+/// Returns the canonical bytes of a random value.
 fn random_bytes(rt: &impl Abort, alloc: Global, random: &mut Random) -> Vec<u8> {
-    let parts = random.below(30).saturating_add(1);
-    let value = random_value(rt, alloc, random, parts);
+    let value = random_value(rt, alloc, random);
     written(alloc, &value).expect(rt, "not written")
 }
 
 /// Returns the bytes with one of them changed to another, or left out.
 fn spoiled(rt: &impl Abort, alloc: Global, random: &mut Random, bytes: &[u8]) -> Vec<u8> {
-    let offset = random.small(bytes.len().max(1)).min(bytes.len());
-    let (before, rest) = bytes.split_at(offset);
-    let mut spoiled = Vec::from_slice(alloc, before).expect(rt, "no memory");
-    if let Some((byte, behind)) = rest.split_first() {
-        if random.below(8) > 0 {
-            let change = u8::try_from(random.below(255).saturating_add(1)).unwrap_or(1);
-            spoiled.push(*byte ^ change).expect(rt, "no memory");
+    let mut spoiled = Vec::from_slice(alloc, bytes).expect(rt, "no memory");
+    let offset = random.small(bytes.len());
+    if random.below(8) > 0 {
+        let change = u8::try_from(random.below(255).saturating_add(1)).unwrap_or(1);
+        if let Some(byte) = spoiled.get_mut(offset) {
+            *byte ^= change;
         }
-        spoiled.extend_from_slice(behind).expect(rt, "no memory");
+    } else if offset < spoiled.len() {
+        let _left_out = spoiled.remove(offset);
     }
     spoiled
 }

@@ -1,4 +1,5 @@
 //! TOML: what only a caller sees. (`tests/toml/run` has the grammar, the order of keys, what is refused, and where.)
+use super::check_printed;
 use crate::tests::equal;
 use std::alloc::Global;
 use std::process::Abort;
@@ -19,29 +20,30 @@ const VALUES: &[(&str, &str)] = &[
     ("d = 07:32", "07:32"),
 ];
 
-/// Returns the first value of a document as it stands there, if it is a decimal, or a date or a time.
-fn first_value(rt: &impl Abort, alloc: Global, text: &str) -> Option<String> {
-    let keys = read_document(alloc, text).ok()?;
-    let printed = match keys.first() {
-        Some((_, Node::Decimal(digits), _)) => format!(in alloc; "#{}", digits.as_str()),
-        Some((_, Node::Datetime(value), _)) => format!(in alloc; "{value}"),
-        _ => return None,
-    };
-    Some(printed.expect(rt, "no memory"))
+/// Checks how a value stands in the text.
+fn check_value(rt: &impl Abort, alloc: Global, value: &Node, wanted: &str) {
+    match value {
+        Node::Decimal(digits) => equal(rt, &Some(digits.as_str()), &wanted.strip_prefix("#")),
+        Node::Datetime(time) => check_printed(rt, alloc, time, wanted),
+        _ => equal(rt, &None, &Some(wanted)),
+    }
+}
+
+/// Checks how the first value of a document stands there.
+fn check_first(rt: &impl Abort, alloc: Global, text: &str, wanted: &str) {
+    let keys = read_document(alloc, text).ok().expect(rt, "not TOML");
+    match keys.first() {
+        Some((_, value, _)) => check_value(rt, alloc, value, wanted),
+        None => equal(rt, &None, &Some(wanted)),
+    }
+    drop(keys);
 }
 
 #[test]
 fn digits_and_kinds_of_dates_are_kept(rt: HostRuntime) {
     for (text, wanted) in VALUES {
-        let value = first_value(&rt, rt.alloc(), text).expect(&rt, "another value");
-        equal(&rt, &value.as_str(), wanted);
+        check_first(&rt, rt.alloc(), text, wanted);
     }
-}
-
-/// Checks what an error prints.
-fn check_printed(rt: &impl Abort, alloc: Global, error: &TomlError, wanted: &str) {
-    let printed = format!(in alloc; "{error}").expect(rt, "no memory");
-    equal(rt, &printed.as_str(), &wanted);
 }
 
 #[test]

@@ -1,4 +1,5 @@
 //! Documents as tables write them.
+use crate::tests::reading::push;
 use std::alloc::{AllocError, Global};
 use std::process::Abort;
 use yaml_base::{
@@ -47,16 +48,10 @@ fn contents(alloc: Global, holds: &Holds) -> Result<yaml_node_data_t<Global>, Al
 }
 
 /// Returns a node without a style.
-pub(super) fn node(
-    rt: &impl Abort,
-    alloc: Global,
-    tag: &str,
-    holds: &Holds,
-) -> yaml_node_t<Global> {
-    yaml_node_t {
-        tag: String::from_str(alloc, tag).expect(rt, "no memory"),
-        contents: contents(alloc, holds).expect(rt, "no memory"),
-    }
+fn node(alloc: Global, tag: &str, holds: &Holds) -> Result<yaml_node_t<Global>, AllocError> {
+    let contents = contents(alloc, holds)?;
+    let tag = String::from_str(alloc, tag)?;
+    Ok(yaml_node_t { tag, contents })
 }
 
 /// Returns a document of these nodes, without marks and directives.
@@ -78,9 +73,8 @@ pub(super) fn given_document(
 ) -> yaml_document_t<Global> {
     let mut nodes = Vec::new(alloc);
     for (tag, holds) in given {
-        nodes
-            .push(node(rt, alloc, tag, holds))
-            .expect(rt, "no memory");
+        let node = node(alloc, tag, holds).expect(rt, "no memory");
+        push(rt, &mut nodes, node);
     }
     document(rt, alloc, nodes)
 }

@@ -1,6 +1,6 @@
 //! Documents read where memory is refused.
 use super::document_of;
-use super::taken::TAKEN;
+use super::taken::taken;
 use crate::tests::equal;
 use crate::tests::reading::refused::is_reported;
 use std::alloc::Global;
@@ -21,7 +21,7 @@ fn check_row(rt: &impl Abort, heap: &Refusing<Global>, bytes: &[u8]) {
 #[test]
 fn a_refused_growth_is_reported(rt: HostRuntime) {
     let heap = Refusing::new(rt.alloc());
-    for (_, text) in TAKEN {
+    for (_, text) in taken() {
         check_row(&rt, &heap, text.as_bytes());
     }
 }

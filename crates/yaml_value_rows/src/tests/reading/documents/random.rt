@@ -1,13 +1,16 @@
 //! Random graphs, dumped and read back, and with one byte changed.
-use super::graphs::Holds::{Items, Pairs, Value};
-use super::graphs::{document, node};
+use super::graphs::document;
 use super::spoiled::replaced;
 use super::{dumped, read_and_dumped};
 use crate::tests::equal;
+use crate::tests::reading::push;
 use crate::tests::reading::random::{Random, random_text};
 use std::alloc::Global;
 use std::process::Abort;
-use yaml_base::{yaml_document_t, yaml_node_t};
+use yaml_base::{
+    YAML_ANY_MAPPING_STYLE, YAML_ANY_SCALAR_STYLE, YAML_ANY_SEQUENCE_STYLE, yaml_document_t,
+    yaml_node_data_t, yaml_node_pair_t, yaml_node_t,
+};
 
 /// Tags that are written in ways of their own, and parts of tags.
 const TAGS: &[&str] = &[
@@ -23,17 +26,9 @@ const TAGS: &[&str] = &[
     "tag:example.org,2026:é%<>",
 ];
 
-/// Returns one of the tags.
-fn tag_of(random: &mut Random) -> &'static str {
-    match TAGS.get(random.small(TAGS.len())) {
-        Some(tag) => *tag,
-        None => "x",
-    }
-}
-
 /// Returns one of the tags, with a random text behind it or not.
 fn random_tag(rt: &impl Abort, alloc: Global, random: &mut Random) -> String {
-    let mut tag = String::from_str(alloc, tag_of(random)).expect(rt, "no memory");
+    let mut tag = String::from_str(alloc, random.pick(TAGS, "x")).expect(rt, "no memory");
     if random.below(3) == 0 {
         let more = random_text(rt, alloc, random);
         tag.push_str(more.as_str()).expect(rt, "no memory");
@@ -51,7 +46,7 @@ fn random_items(rt: &impl Abort, alloc: Global, random: &mut Random, count: u64)
     let mut items = Vec::new(alloc);
     for _ in 0..random.below(4) {
         let item = random_number(random, count);
-        items.push(item).expect(rt, "no memory");
+        push(rt, &mut items, item);
     }
     items
 }
@@ -62,35 +57,36 @@ fn random_pairs(
     alloc: Global,
     random: &mut Random,
     count: u64,
-) -> Vec<(i32, i32)> {
+) -> Vec<yaml_node_pair_t> {
     let mut pairs = Vec::new(alloc);
     for _ in 0..random.below(3) {
-        let pair = (random_number(random, count), random_number(random, count));
-        pairs.push(pair).expect(rt, "no memory");
+        let key = random_number(random, count);
+        let value = random_number(random, count);
+        push(rt, &mut pairs, yaml_node_pair_t { key, value });
     }
     pairs
 }
 
-fn random_node(
+/// Returns the contents of a node, without a style.
+fn random_contents(
     rt: &impl Abort,
     alloc: Global,
     random: &mut Random,
     count: u64,
-) -> yaml_node_t<Global> {
-    let tag = random_tag(rt, alloc, random);
+) -> yaml_node_data_t<Global> {
     match random.below(4) {
-        0 => {
-            let value = random_text(rt, alloc, random);
-            node(rt, alloc, tag.as_str(), &Value(value.as_str()))
-        }
-        1 => {
-            let pairs = random_pairs(rt, alloc, random, count);
-            node(rt, alloc, tag.as_str(), &Pairs(pairs.as_slice()))
-        }
-        _ => {
-            let items = random_items(rt, alloc, random, count);
-            node(rt, alloc, tag.as_str(), &Items(items.as_slice()))
-        }
+        0 => yaml_node_data_t::Scalar {
+            value: random_text(rt, alloc, random),
+            style: YAML_ANY_SCALAR_STYLE,
+        },
+        1 => yaml_node_data_t::Mapping {
+            pairs: random_pairs(rt, alloc, random, count),
+            style: YAML_ANY_MAPPING_STYLE,
+        },
+        _ => yaml_node_data_t::Sequence {
+            items: random_items(rt, alloc, random, count),
+            style: YAML_ANY_SEQUENCE_STYLE,
+        },
     }
 }
 
@@ -99,9 +95,9 @@ fn random_document(rt: &impl Abort, alloc: Global, random: &mut Random) -> yaml_
     let count = random.below(9).saturating_add(1);
     let mut nodes = Vec::new(alloc);
     for _ in 0..count {
-        nodes
-            .push(random_node(rt, alloc, random, count))
-            .expect(rt, "no memory");
+        let tag = random_tag(rt, alloc, random);
+        let contents = random_contents(rt, alloc, random, count);
+        push(rt, &mut nodes, yaml_node_t { tag, contents });
     }
     document(rt, alloc, nodes)
 }
@@ -124,7 +120,7 @@ fn check_read(rt: &impl Abort, alloc: Global, bytes: &[u8]) {
 
 fn check_random(rt: &impl Abort, alloc: Global, random: &mut Random) {
     let document = random_document(rt, alloc, random);
-    let bytes = dumped(alloc, document).expect(rt, "not dumped");
+    let bytes = dumped(rt, alloc, document);
     check_read(rt, alloc, bytes.as_slice());
     check_spoiled(rt, alloc, random, bytes.as_slice());
 }

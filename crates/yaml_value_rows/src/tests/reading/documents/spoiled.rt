@@ -1,6 +1,6 @@
 //! The bytes of dumps with one byte changed.
 use super::read_and_dumped;
-use super::taken::TAKEN;
+use super::taken::taken;
 use crate::tests::equal;
 use std::alloc::Global;
 use std::process::Abort;
@@ -48,7 +48,7 @@ fn count_all_read(rt: &impl Abort, alloc: Global, bytes: &[u8]) -> usize {
 /// In each text some byte of a tag can be another.
 #[test]
 fn a_byte_changed_is_refused_or_gives_another_document(rt: HostRuntime) {
-    for (_, text) in TAKEN {
+    for (_, text) in taken() {
         let count = count_all_read(&rt, rt.alloc(), text.as_bytes());
         equal(&rt, &(*text, count > 0), &(*text, true));
     }
@@ -64,7 +64,7 @@ fn check_cut(rt: &impl Abort, alloc: Global, bytes: &[u8]) {
 
 #[test]
 fn what_is_cut_off_is_refused(rt: HostRuntime) {
-    for (_, text) in TAKEN {
+    for (_, text) in taken() {
         check_cut(&rt, rt.alloc(), text.as_bytes());
     }
 }

@@ -13,7 +13,7 @@ const SEQ: &str = "tag:yaml.org,2002:seq";
 const MAP: &str = "tag:yaml.org,2002:map";
 
 /// Documents whose nodes are numbered in the order in which they begin, and the bytes of their dumps.
-pub(super) const TAKEN: &[(&[Given<'static>], &str)] = &[
+const TAKEN: &[(&[Given<'static>], &str)] = &[
     (&[(STR, Value("a"))], "---\n!!str \"a\"\n"),
     (
         &[("tag:yaml.org,2002:int", Value("é\n"))],
@@ -69,9 +69,9 @@ pub(super) const TAKEN: &[(&[Given<'static>], &str)] = &[
     ),
 ];
 
-/// Returns the bytes of the dump of the document of a row.
-fn dumped_row(rt: &impl Abort, alloc: Global, given: &[Given]) -> Vec<u8> {
-    dumped(alloc, given_document(rt, alloc, given)).expect(rt, "not dumped")
+/// Returns the rows. (A table is spelled out in each function that names it.)
+pub(super) fn taken() -> &'static [(&'static [Given<'static>], &'static str)] {
+    TAKEN
 }
 
 /// Checks that these bytes are read as the document of a row.
@@ -82,31 +82,33 @@ fn check_read(rt: &impl Abort, alloc: Global, bytes: &[u8], given: &[Given]) {
 
 /// Checks that a document is dumped as a text, which is read as this document, and is dumped as this text again.
 fn check_taken(rt: &impl Abort, alloc: Global, given: &[Given], bytes: &[u8]) {
-    equal(rt, &dumped_row(rt, alloc, given).as_slice(), &bytes);
     check_read(rt, alloc, bytes, given);
     equal(rt, &read_and_dumped(rt, alloc, bytes), &None);
+    let dump = dumped(rt, alloc, given_document(rt, alloc, given));
+    equal(rt, &dump.as_slice(), &bytes);
 }
 
 #[test]
 fn what_was_dumped_is_read(rt: HostRuntime) {
-    for (given, text) in TAKEN {
+    for (given, text) in taken() {
         check_taken(&rt, rt.alloc(), given, text.as_bytes());
     }
 }
 
-/// A document with a node that isn't reached and another order of its nodes, and the same in the order in which they begin.
-const OTHERWISE: (&[Given<'static>], &[Given<'static>]) = (
-    &[
-        (SEQ, Items(&[4, 2])),
-        (STR, Value("b")),
-        (STR, Value("unreached")),
-        (STR, Value("a")),
-    ],
-    &[(SEQ, Items(&[2, 3])), (STR, Value("a")), (STR, Value("b"))],
-);
+/// A document with a node that isn't reached and another order of its nodes.
+const OTHERWISE: &[Given<'static>] = &[
+    (SEQ, Items(&[4, 2])),
+    (STR, Value("b")),
+    (STR, Value("unreached")),
+    (STR, Value("a")),
+];
+
+/// The same in the order in which they begin.
+const IN_ORDER: &[Given<'static>] = &[(SEQ, Items(&[2, 3])), (STR, Value("a")), (STR, Value("b"))];
 
 #[test]
 fn nodes_are_numbered_as_they_begin(rt: HostRuntime) {
-    let bytes = dumped_row(&rt, rt.alloc(), OTHERWISE.0);
-    check_read(&rt, rt.alloc(), bytes.as_slice(), OTHERWISE.1);
+    let document = given_document(&rt, rt.alloc(), OTHERWISE);
+    let bytes = dumped(&rt, rt.alloc(), document);
+    check_read(&rt, rt.alloc(), bytes.as_slice(), IN_ORDER);
 }
