@@ -21,7 +21,7 @@ fn push<T: Drop>(rt: &impl Abort, items: &mut Vec<T>, item: T) {
 
 /// Checks what is printed.
 fn check_printed(rt: &impl Abort, alloc: Global, printed: &impl Display, wanted: &str) {
-    let text = printed.to_string(alloc).expect(rt, "no memory");
+    let text = format!(in alloc; "{printed}").expect(rt, "no memory");
     equal(rt, &text.as_str(), &wanted);
 }
 

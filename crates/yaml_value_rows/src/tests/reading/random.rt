@@ -108,57 +108,47 @@ fn random_scalar(rt: &impl Abort, alloc: Global, random: &mut Random) -> Value<G
     }
 }
 
-/// Makes a list of the last values, at most so many.
-fn take_items(
-    rt: &impl Abort,
-    alloc: Global,
-    values: &mut Vec<Value<Global>>,
-    count: u64,
-) -> Value<Global> {
+/// Puts a list of the last values in their place, at most so many.
+fn join_items(rt: &impl Abort, alloc: Global, values: &mut Vec<Value<Global>>, count: u64) {
     let mut items = Vec::new(alloc);
     for _ in 0..count {
         if let Some(value) = values.pop() {
             push(rt, &mut items, value);
         }
     }
-    Value::List(items)
+    push(rt, values, Value::List(items));
 }
 
-/// Makes a map of the last values, at most so many pairs.
-fn take_pairs(
-    rt: &impl Abort,
-    alloc: Global,
-    values: &mut Vec<Value<Global>>,
-    count: u64,
-) -> Value<Global> {
+/// Puts a map of the last values in their place, at most so many pairs.
+fn join_pairs(rt: &impl Abort, alloc: Global, values: &mut Vec<Value<Global>>, count: u64) {
     let mut pairs = Vec::new(alloc);
     for _ in 0..count {
         let key = values.pop().unwrap_or(Value::Null);
         let value = values.pop().unwrap_or(Value::Null);
         push(rt, &mut pairs, (key, value));
     }
-    Value::Map(pairs)
+    push(rt, values, Value::Map(pairs));
 }
 
-/// Returns a value of at most 30 parts: each is a scalar, or a list or a map of some before it.
-fn random_value(rt: &impl Abort, alloc: Global, random: &mut Random) -> Value<Global> {
+/// Returns values of at most 30 parts: each is a scalar, or a list or a map of some before it. There is at least one.
+fn random_values(rt: &impl Abort, alloc: Global, random: &mut Random) -> Vec<Value<Global>> {
     let mut values = Vec::new(alloc);
     for _ in 0..random.below(30).saturating_add(1) {
         let count = random.below(5);
-        let value = match random.below(4) {
-            0 => take_items(rt, alloc, &mut values, count),
-            1 => take_pairs(rt, alloc, &mut values, count),
-            _ => random_scalar(rt, alloc, random),
-        };
-        push(rt, &mut values, value);
+        match random.below(4) {
+            0 => join_items(rt, alloc, &mut values, count),
+            1 => join_pairs(rt, alloc, &mut values, count),
+            _ => push(rt, &mut values, random_scalar(rt, alloc, random)),
+        }
     }
-    values.pop().unwrap_or(Value::Null)
+    values
 }
 
 /// Returns the canonical bytes of a random value.
 fn random_bytes(rt: &impl Abort, alloc: Global, random: &mut Random) -> Vec<u8> {
-    let value = random_value(rt, alloc, random);
-    written(alloc, &value).expect(rt, "not written")
+    let values = random_values(rt, alloc, random);
+    let value = values.last().expect(rt, "a value");
+    written(alloc, value).expect(rt, "not written")
 }
 
 /// Returns the bytes with one of them changed to another, or left out.

@@ -48,10 +48,11 @@ fn contents(alloc: Global, holds: &Holds) -> Result<yaml_node_data_t<Global>, Al
 }
 
 /// Returns a node without a style.
-fn node(alloc: Global, tag: &str, holds: &Holds) -> Result<yaml_node_t<Global>, AllocError> {
-    let contents = contents(alloc, holds)?;
-    let tag = String::from_str(alloc, tag)?;
-    Ok(yaml_node_t { tag, contents })
+fn node(rt: &impl Abort, alloc: Global, tag: &str, holds: &Holds) -> yaml_node_t<Global> {
+    yaml_node_t {
+        tag: String::from_str(alloc, tag).expect(rt, "no memory"),
+        contents: contents(alloc, holds).expect(rt, "no memory"),
+    }
 }
 
 /// Returns a document of these nodes, without marks and directives.
@@ -73,8 +74,7 @@ pub(super) fn given_document(
 ) -> yaml_document_t<Global> {
     let mut nodes = Vec::new(alloc);
     for (tag, holds) in given {
-        let node = node(alloc, tag, holds).expect(rt, "no memory");
-        push(rt, &mut nodes, node);
+        push(rt, &mut nodes, node(rt, alloc, tag, holds));
     }
     document(rt, alloc, nodes)
 }

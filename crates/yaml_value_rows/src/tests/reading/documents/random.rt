@@ -1,8 +1,7 @@
 //! Random graphs, dumped and read back, and with one byte changed.
 use super::graphs::document;
 use super::spoiled::replaced;
-use super::{dumped, read_and_dumped};
-use crate::tests::equal;
+use super::{check_answer, dumped, read_and_dumped};
 use crate::tests::reading::push;
 use crate::tests::reading::random::{Random, random_text};
 use std::alloc::Global;
@@ -112,16 +111,10 @@ fn check_spoiled(rt: &impl Abort, alloc: Global, random: &mut Random, bytes: &[u
     }
 }
 
-/// Checks that the bytes of a dump are read.
-fn check_read(rt: &impl Abort, alloc: Global, bytes: &[u8]) {
-    let answer = read_and_dumped(rt, alloc, bytes);
-    equal(rt, &(bytes, answer), &(bytes, None));
-}
-
 fn check_random(rt: &impl Abort, alloc: Global, random: &mut Random) {
     let document = random_document(rt, alloc, random);
     let bytes = dumped(rt, alloc, document);
-    check_read(rt, alloc, bytes.as_slice());
+    check_answer(rt, alloc, bytes.as_slice(), None);
     check_spoiled(rt, alloc, random, bytes.as_slice());
 }
 

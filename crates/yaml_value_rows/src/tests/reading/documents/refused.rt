@@ -1,5 +1,5 @@
 //! Bytes that are no document's, or no dump's.
-use super::read_and_dumped;
+use super::{check_answer, read_and_dumped};
 use crate::tests::equal;
 use std::alloc::Global;
 use std::process::Abort;
@@ -86,12 +86,8 @@ const NOT_NUMBERED: &[&str] = &[
 #[test]
 fn other_names_are_refused(rt: HostRuntime) {
     for text in NOT_NUMBERED {
-        let refused = read_and_dumped(&rt, rt.alloc(), text.as_bytes());
-        equal(
-            &rt,
-            &(*text, refused),
-            &(*text, Some(ReadError::NotNumbered)),
-        );
+        let error = ReadError::NotNumbered;
+        check_answer(&rt, rt.alloc(), text.as_bytes(), Some(error));
     }
 }
 
@@ -107,11 +103,10 @@ const PLACED: &[(&[u8], usize, usize)] = &[
 #[test]
 fn errors_have_a_place(rt: HostRuntime) {
     for (bytes, line, column) in PLACED {
-        let wanted = ReadError::NotCanonical {
+        let error = ReadError::NotCanonical {
             line: *line,
             column: *column,
         };
-        let refused = read_and_dumped(&rt, rt.alloc(), bytes);
-        equal(&rt, &(*bytes, refused), &(*bytes, Some(wanted)));
+        check_answer(&rt, rt.alloc(), bytes, Some(error));
     }
 }

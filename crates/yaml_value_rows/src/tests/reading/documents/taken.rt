@@ -1,7 +1,7 @@
 //! Documents, dumped and read back. Each text was written by hand.
 use super::graphs::Holds::{Items, Pairs, Value};
 use super::graphs::{Given, given_document};
-use super::{document_of, dumped, read_and_dumped};
+use super::{check_answer, document_of, dumped};
 use crate::tests::equal;
 use std::alloc::Global;
 use std::process::Abort;
@@ -13,7 +13,7 @@ const SEQ: &str = "tag:yaml.org,2002:seq";
 const MAP: &str = "tag:yaml.org,2002:map";
 
 /// Documents whose nodes are numbered in the order in which they begin, and the bytes of their dumps.
-const TAKEN: &[(&[Given<'static>], &str)] = &[
+static TAKEN: &[(&[Given<'static>], &str)] = &[
     (&[(STR, Value("a"))], "---\n!!str \"a\"\n"),
     (
         &[("tag:yaml.org,2002:int", Value("é\n"))],
@@ -83,7 +83,7 @@ fn check_read(rt: &impl Abort, alloc: Global, bytes: &[u8], given: &[Given]) {
 /// Checks that a document is dumped as a text, which is read as this document, and is dumped as this text again.
 fn check_taken(rt: &impl Abort, alloc: Global, given: &[Given], bytes: &[u8]) {
     check_read(rt, alloc, bytes, given);
-    equal(rt, &read_and_dumped(rt, alloc, bytes), &None);
+    check_answer(rt, alloc, bytes, None);
     let dump = dumped(rt, alloc, given_document(rt, alloc, given));
     equal(rt, &dump.as_slice(), &bytes);
 }
