@@ -12,7 +12,7 @@ use std::alloc::{Allocator, Global};
 use std::fmt::Display;
 use std::process::Abort;
 use yaml_read::{ReadError, Value, read_canonical};
-use yaml_value::{write_canonical, yaml_error_t};
+use yaml_value::write_canonical;
 
 /// Pushes an item.
 fn push<T: Drop>(rt: &impl Abort, items: &mut Vec<T>, item: T) {
@@ -26,8 +26,8 @@ fn check_printed(rt: &impl Abort, alloc: Global, printed: &impl Display, wanted:
 }
 
 /// Returns the canonical bytes of a value. (Tests need none of the clauses of the call.)
-fn written<A: Allocator + Copy>(alloc: A, value: &Value<A>) -> Result<Vec<u8, A>, yaml_error_t> {
-    write_canonical(alloc, value)
+fn written(rt: &impl Abort, alloc: Global, value: &Value<Global>) -> Vec<u8> {
+    write_canonical(alloc, value).expect(rt, "not written")
 }
 
 /// Returns the value that has these canonical bytes. (The same.)

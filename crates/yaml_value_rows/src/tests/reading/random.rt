@@ -80,8 +80,14 @@ fn random_character(random: &mut Random) -> char {
     char::from_u32(u32::try_from(random.below(0x11_0000)).unwrap_or(0)).unwrap_or(' ')
 }
 
-pub(super) fn random_text(rt: &impl Abort, alloc: Global, random: &mut Random) -> String {
-    let mut text = String::new(alloc);
+/// Returns a text with at most five random characters behind these.
+pub(super) fn random_text(
+    rt: &impl Abort,
+    alloc: Global,
+    random: &mut Random,
+    start: &str,
+) -> String {
+    let mut text = String::from_str(alloc, start).expect(rt, "no memory");
     for _ in 0..random.below(6) {
         text.push(random_character(random)).expect(rt, "no memory");
     }
@@ -104,51 +110,61 @@ fn random_scalar(rt: &impl Abort, alloc: Global, random: &mut Random) -> Value<G
         0 => Value::Null,
         1 => Value::Bool(random.below(2) == 0),
         2 | 3 => Value::Int(random_integer(random)),
-        _ => Value::Text(random_text(rt, alloc, random)),
+        _ => Value::Text(random_text(rt, alloc, random, "")),
     }
 }
 
-/// Puts a list of the last values in their place, at most so many.
-fn join_items(rt: &impl Abort, alloc: Global, values: &mut Vec<Value<Global>>, count: u64) {
+/// Makes a list of the last values, at most so many.
+fn take_items(
+    rt: &impl Abort,
+    alloc: Global,
+    values: &mut Vec<Value<Global>>,
+    count: u64,
+) -> Value<Global> {
     let mut items = Vec::new(alloc);
     for _ in 0..count {
         if let Some(value) = values.pop() {
             push(rt, &mut items, value);
         }
     }
-    push(rt, values, Value::List(items));
+    Value::List(items)
 }
 
-/// Puts a map of the last values in their place, at most so many pairs.
-fn join_pairs(rt: &impl Abort, alloc: Global, values: &mut Vec<Value<Global>>, count: u64) {
+/// Makes a map of the last values, at most so many pairs.
+fn take_pairs(
+    rt: &impl Abort,
+    alloc: Global,
+    values: &mut Vec<Value<Global>>,
+    count: u64,
+) -> Value<Global> {
     let mut pairs = Vec::new(alloc);
     for _ in 0..count {
         let key = values.pop().unwrap_or(Value::Null);
         let value = values.pop().unwrap_or(Value::Null);
         push(rt, &mut pairs, (key, value));
     }
-    push(rt, values, Value::Map(pairs));
+    Value::Map(pairs)
 }
 
-/// Returns values of at most 30 parts: each is a scalar, or a list or a map of some before it. There is at least one.
-fn random_values(rt: &impl Abort, alloc: Global, random: &mut Random) -> Vec<Value<Global>> {
+/// Returns a value of at most 30 parts: each is a scalar, or a list or a map of some before it.
+fn random_value(rt: &impl Abort, alloc: Global, random: &mut Random) -> Value<Global> {
     let mut values = Vec::new(alloc);
     for _ in 0..random.below(30).saturating_add(1) {
         let count = random.below(5);
-        match random.below(4) {
-            0 => join_items(rt, alloc, &mut values, count),
-            1 => join_pairs(rt, alloc, &mut values, count),
-            _ => push(rt, &mut values, random_scalar(rt, alloc, random)),
-        }
+        let value = match random.below(4) {
+            0 => take_items(rt, alloc, &mut values, count),
+            1 => take_pairs(rt, alloc, &mut values, count),
+            _ => random_scalar(rt, alloc, random),
+        };
+        push(rt, &mut values, value);
     }
-    values
+    values.pop().unwrap_or(Value::Null)
 }
 
 /// Returns the canonical bytes of a random value.
 fn random_bytes(rt: &impl Abort, alloc: Global, random: &mut Random) -> Vec<u8> {
-    let values = random_values(rt, alloc, random);
-    let value = values.last().expect(rt, "a value");
-    written(alloc, value).expect(rt, "not written")
+    let value = random_value(rt, alloc, random);
+    written(rt, alloc, &value)
 }
 
 /// Returns the bytes with one of them changed to another, or left out.
@@ -170,7 +186,7 @@ fn spoiled(rt: &impl Abort, alloc: Global, random: &mut Random, bytes: &[u8]) ->
 fn read_and_written(rt: &impl Abort, alloc: Global, bytes: &[u8]) -> Option<ReadError> {
     match read(alloc, bytes) {
         Ok(value) => {
-            let again = written(alloc, &value).expect(rt, "not written");
+            let again = written(rt, alloc, &value);
             equal(rt, &again.as_slice(), &bytes);
             None
         }

@@ -3,7 +3,7 @@ use super::check_printed;
 use crate::tests::equal;
 use std::alloc::Global;
 use std::process::Abort;
-use toml_ordered::{Node, Nodes, read_document};
+use toml_ordered::{Node, read_document};
 use yaml_toml::TomlError;
 
 /// A document of one key, and its value as the text has it: a decimal behind `#`, or a date or a time. YAML shows other digits, and texts in
@@ -20,23 +20,20 @@ const VALUES: &[(&str, &str)] = &[
     ("d = 07:32", "07:32"),
 ];
 
-/// Checks how the first value stands in the text.
-fn check_value(rt: &impl Abort, alloc: Global, keys: &Nodes, wanted: &str) {
-    match keys.first() {
-        Some((_, Node::Decimal(digits), _)) => {
-            equal(rt, &Some(digits.as_str()), &wanted.strip_prefix("#"))
-        }
-        Some((_, Node::Datetime(time), _)) => check_printed(rt, alloc, time, wanted),
+/// Checks how a value stands in the text.
+fn check_value(rt: &impl Abort, alloc: Global, value: &Node, wanted: &str) {
+    match value {
+        Node::Decimal(digits) => equal(rt, &Some(digits.as_str()), &wanted.strip_prefix("#")),
+        Node::Datetime(time) => check_printed(rt, alloc, time, wanted),
         _ => equal(rt, &None, &Some(wanted)),
     }
 }
 
 /// Checks how the first value of a document stands there.
 fn check_first(rt: &impl Abort, alloc: Global, text: &str, wanted: &str) {
-    match read_document(alloc, text) {
-        Ok(keys) => check_value(rt, alloc, &keys, wanted),
-        Err(_fault) => equal(rt, &None, &Some(wanted)),
-    }
+    let keys = read_document(alloc, text).ok().expect(rt, "not TOML");
+    let first = keys.first().expect(rt, "no key");
+    check_value(rt, alloc, &first.1, wanted);
 }
 
 #[test]
@@ -48,11 +45,24 @@ fn digits_and_kinds_of_dates_are_kept(rt: HostRuntime) {
 
 #[test]
 fn errors_print_their_place(rt: HostRuntime) {
-    let error = TomlError::NotToml { line: 2, column: 5 };
-    check_printed(&rt, rt.alloc(), &error, "line 2, column 5: not TOML");
-    let error = TomlError::TooDeepToRead { line: 2, column: 5 };
-    let words = "line 2, column 5: arrays and tables nest too deep";
-    check_printed(&rt, rt.alloc(), &error, words);
+    check_printed(
+        &rt,
+        rt.alloc(),
+        &TomlError::NotToml { line: 2, column: 5 },
+        "line 2, column 5: not TOML",
+    );
+    check_printed(
+        &rt,
+        rt.alloc(),
+        &TomlError::TooDeepToRead { line: 2, column: 5 },
+        "line 2, column 5: arrays and tables nest too deep",
+    );
+    check_printed(
+        &rt,
+        rt.alloc(),
+        &TomlError::TooDeep,
+        "arrays and tables nest too deep",
+    );
     let error = TomlError::DefinedAgain {
         key: String::from_str(rt.alloc(), "a").expect(&rt, "no memory"),
         first_line: 1,
@@ -62,10 +72,5 @@ fn errors_print_their_place(rt: HostRuntime) {
     };
     let words = "line 3, column 1: a is defined at line 1, column 1, and takes no more";
     check_printed(&rt, rt.alloc(), &error, words);
-    check_printed(
-        &rt,
-        rt.alloc(),
-        &TomlError::TooDeep,
-        "arrays and tables nest too deep",
-    );
+    drop(error);
 }

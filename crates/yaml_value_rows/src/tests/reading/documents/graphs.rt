@@ -1,6 +1,6 @@
 //! Documents as tables write them.
 use crate::tests::reading::push;
-use std::alloc::{AllocError, Global};
+use std::alloc::Global;
 use std::process::Abort;
 use yaml_base::{
     YAML_ANY_MAPPING_STYLE, YAML_ANY_SCALAR_STYLE, YAML_ANY_SEQUENCE_STYLE, yaml_document_t,
@@ -19,31 +19,32 @@ pub(super) enum Holds<'a> {
 pub(super) type Given<'a> = (&'a str, Holds<'a>);
 
 /// Returns the pairs of a mapping.
-fn pairs_of(alloc: Global, pairs: &[(i32, i32)]) -> Result<Vec<yaml_node_pair_t>, AllocError> {
+fn pairs_of(rt: &impl Abort, alloc: Global, pairs: &[(i32, i32)]) -> Vec<yaml_node_pair_t> {
     let mut all = Vec::new(alloc);
     for (key, value) in pairs {
-        all.push(yaml_node_pair_t {
+        let pair = yaml_node_pair_t {
             key: *key,
             value: *value,
-        })?;
+        };
+        push(rt, &mut all, pair);
     }
-    Ok(all)
+    all
 }
 
-fn contents(alloc: Global, holds: &Holds) -> Result<yaml_node_data_t<Global>, AllocError> {
+fn contents(rt: &impl Abort, alloc: Global, holds: &Holds) -> yaml_node_data_t<Global> {
     match holds {
-        Holds::Value(value) => Ok(yaml_node_data_t::Scalar {
-            value: String::from_str(alloc, value)?,
+        Holds::Value(value) => yaml_node_data_t::Scalar {
+            value: String::from_str(alloc, value).expect(rt, "no memory"),
             style: YAML_ANY_SCALAR_STYLE,
-        }),
-        Holds::Items(items) => Ok(yaml_node_data_t::Sequence {
-            items: Vec::from_slice(alloc, items)?,
+        },
+        Holds::Items(items) => yaml_node_data_t::Sequence {
+            items: Vec::from_slice(alloc, items).expect(rt, "no memory"),
             style: YAML_ANY_SEQUENCE_STYLE,
-        }),
-        Holds::Pairs(pairs) => Ok(yaml_node_data_t::Mapping {
-            pairs: pairs_of(alloc, pairs)?,
+        },
+        Holds::Pairs(pairs) => yaml_node_data_t::Mapping {
+            pairs: pairs_of(rt, alloc, pairs),
             style: YAML_ANY_MAPPING_STYLE,
-        }),
+        },
     }
 }
 
@@ -51,7 +52,7 @@ fn contents(alloc: Global, holds: &Holds) -> Result<yaml_node_data_t<Global>, Al
 fn node(rt: &impl Abort, alloc: Global, tag: &str, holds: &Holds) -> yaml_node_t<Global> {
     yaml_node_t {
         tag: String::from_str(alloc, tag).expect(rt, "no memory"),
-        contents: contents(alloc, holds).expect(rt, "no memory"),
+        contents: contents(rt, alloc, holds),
     }
 }
 
@@ -74,7 +75,8 @@ pub(super) fn given_document(
 ) -> yaml_document_t<Global> {
     let mut nodes = Vec::new(alloc);
     for (tag, holds) in given {
-        push(rt, &mut nodes, node(rt, alloc, tag, holds));
+        let node = node(rt, alloc, tag, holds);
+        push(rt, &mut nodes, node);
     }
     document(rt, alloc, nodes)
 }

@@ -5,12 +5,11 @@ use std::alloc::Global;
 use std::process::Abort;
 use yaml_read::ReadError;
 
-/// Returns whether bytes aren't laid out as those of a document.
-fn is_not_canonical(rt: &impl Abort, alloc: Global, bytes: &[u8]) -> bool {
-    matches!(
-        read_and_dumped(rt, alloc, bytes),
-        Some(ReadError::NotCanonical { .. })
-    )
+/// Checks that bytes aren't laid out as those of a document.
+fn check_not_canonical(rt: &impl Abort, alloc: Global, bytes: &[u8]) {
+    let answer = read_and_dumped(rt, alloc, bytes);
+    let is_refused = matches!(answer, Some(ReadError::NotCanonical { .. }));
+    equal(rt, &(bytes, is_refused), &(bytes, true));
 }
 
 /// Bytes that aren't laid out so.
@@ -64,8 +63,7 @@ const NOT_CANONICAL: &[&[u8]] = &[
 #[test]
 fn what_is_laid_out_otherwise_is_refused(rt: HostRuntime) {
     for bytes in NOT_CANONICAL {
-        let is_refused = is_not_canonical(&rt, rt.alloc(), bytes);
-        equal(&rt, &(*bytes, is_refused), &(*bytes, true));
+        check_not_canonical(&rt, rt.alloc(), bytes);
     }
 }
 

@@ -36,21 +36,20 @@ fn count_read(rt: &impl Abort, alloc: Global, bytes: &[u8], offset: usize) -> us
     count
 }
 
-/// Returns the same of all offsets.
-fn count_all_read(rt: &impl Abort, alloc: Global, bytes: &[u8]) -> usize {
+/// Checks that some are read, of all offsets.
+fn check_changed(rt: &impl Abort, alloc: Global, bytes: &[u8]) {
     let mut count = 0usize;
     for offset in 0..bytes.len() {
         count = count.saturating_add(count_read(rt, alloc, bytes, offset));
     }
-    count
+    equal(rt, &(bytes, count > 0), &(bytes, true));
 }
 
 /// In each text some byte of a tag can be another.
 #[test]
 fn a_byte_changed_is_refused_or_gives_another_document(rt: HostRuntime) {
     for (_, text) in taken() {
-        let count = count_all_read(&rt, rt.alloc(), text.as_bytes());
-        equal(&rt, &(*text, count > 0), &(*text, true));
+        check_changed(&rt, rt.alloc(), text.as_bytes());
     }
 }
 

@@ -13,7 +13,7 @@ const SEQ: &str = "tag:yaml.org,2002:seq";
 const MAP: &str = "tag:yaml.org,2002:map";
 
 /// Documents whose nodes are numbered in the order in which they begin, and the bytes of their dumps.
-static TAKEN: &[(&[Given<'static>], &str)] = &[
+const TAKEN: &[(&[Given<'static>], &str)] = &[
     (&[(STR, Value("a"))], "---\n!!str \"a\"\n"),
     (
         &[("tag:yaml.org,2002:int", Value("é\n"))],
