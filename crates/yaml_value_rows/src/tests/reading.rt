@@ -25,6 +25,15 @@ fn check_printed(rt: &impl Abort, alloc: Global, printed: &impl Display, wanted:
     equal(rt, &text.as_str(), &wanted);
 }
 
+/// Checks that a value is this integer.
+fn check_integer(rt: &impl Abort, value: &Value<Global>, wanted: i64) {
+    let found = match value {
+        Value::Int(number) => Some(*number),
+        _ => None,
+    };
+    equal(rt, &found, &Some(wanted));
+}
+
 /// Returns the canonical bytes of a value. (Tests need none of the clauses of the call.)
 fn written(rt: &impl Abort, alloc: Global, value: &Value<Global>) -> Vec<u8> {
     write_canonical(alloc, value).expect(rt, "not written")

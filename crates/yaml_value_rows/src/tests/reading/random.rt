@@ -80,14 +80,8 @@ fn random_character(random: &mut Random) -> char {
     char::from_u32(u32::try_from(random.below(0x11_0000)).unwrap_or(0)).unwrap_or(' ')
 }
 
-/// Returns a text with at most five random characters behind these.
-pub(super) fn random_text(
-    rt: &impl Abort,
-    alloc: Global,
-    random: &mut Random,
-    start: &str,
-) -> String {
-    let mut text = String::from_str(alloc, start).expect(rt, "no memory");
+pub(super) fn random_text(rt: &impl Abort, alloc: Global, random: &mut Random) -> String {
+    let mut text = String::new(alloc);
     for _ in 0..random.below(6) {
         text.push(random_character(random)).expect(rt, "no memory");
     }
@@ -110,7 +104,7 @@ fn random_scalar(rt: &impl Abort, alloc: Global, random: &mut Random) -> Value<G
         0 => Value::Null,
         1 => Value::Bool(random.below(2) == 0),
         2 | 3 => Value::Int(random_integer(random)),
-        _ => Value::Text(random_text(rt, alloc, random, "")),
+        _ => Value::Text(random_text(rt, alloc, random)),
     }
 }
 

@@ -45,24 +45,11 @@ fn digits_and_kinds_of_dates_are_kept(rt: HostRuntime) {
 
 #[test]
 fn errors_print_their_place(rt: HostRuntime) {
-    check_printed(
-        &rt,
-        rt.alloc(),
-        &TomlError::NotToml { line: 2, column: 5 },
-        "line 2, column 5: not TOML",
-    );
-    check_printed(
-        &rt,
-        rt.alloc(),
-        &TomlError::TooDeepToRead { line: 2, column: 5 },
-        "line 2, column 5: arrays and tables nest too deep",
-    );
-    check_printed(
-        &rt,
-        rt.alloc(),
-        &TomlError::TooDeep,
-        "arrays and tables nest too deep",
-    );
+    let error = TomlError::NotToml { line: 2, column: 5 };
+    check_printed(&rt, rt.alloc(), &error, "line 2, column 5: not TOML");
+    let error = TomlError::TooDeepToRead { line: 2, column: 5 };
+    let words = "line 2, column 5: arrays and tables nest too deep";
+    check_printed(&rt, rt.alloc(), &error, words);
     let error = TomlError::DefinedAgain {
         key: String::from_str(rt.alloc(), "a").expect(&rt, "no memory"),
         first_line: 1,
@@ -72,5 +59,10 @@ fn errors_print_their_place(rt: HostRuntime) {
     };
     let words = "line 3, column 1: a is defined at line 1, column 1, and takes no more";
     check_printed(&rt, rt.alloc(), &error, words);
-    drop(error);
+    check_printed(
+        &rt,
+        rt.alloc(),
+        &TomlError::TooDeep,
+        "arrays and tables nest too deep",
+    );
 }

@@ -27,11 +27,12 @@ const TAGS: &[&str] = &[
 
 /// Returns one of the tags, with a random text behind it or not.
 fn random_tag(rt: &impl Abort, alloc: Global, random: &mut Random) -> String {
-    let tag = random.pick(TAGS, "x");
-    match random.below(3) {
-        0 => random_text(rt, alloc, random, tag),
-        _ => String::from_str(alloc, tag).expect(rt, "no memory"),
+    let mut tag = String::from_str(alloc, random.pick(TAGS, "x")).expect(rt, "no memory");
+    if random.below(3) == 0 {
+        let more = random_text(rt, alloc, random);
+        tag.push_str(more.as_str()).expect(rt, "no memory");
     }
+    tag
 }
 
 /// Returns a number of one of so many nodes.
@@ -74,7 +75,7 @@ fn random_contents(
 ) -> yaml_node_data_t<Global> {
     match random.below(4) {
         0 => yaml_node_data_t::Scalar {
-            value: random_text(rt, alloc, random, ""),
+            value: random_text(rt, alloc, random),
             style: YAML_ANY_SCALAR_STYLE,
         },
         1 => yaml_node_data_t::Mapping {
