@@ -37,7 +37,6 @@ pub fn yaml_emitter_emit<A: Allocator + Copy>(
     ensures waits { (given : Settings) (all : List Event) → StandsAfter given all emitter.old → emitter.old.error ≡ None
         → written (all ++ seen_event event ∷ []) ≡ written all → IsOk result }
     ensures kept { IsSome emitter.old.error → emitter.new ≡ record emitter.old { started = true } }
-    ensures output { emitter.new.has_output ≡ true }
 {
     emitter.started = true;
     // (a refused event is dropped by name: that is one call, where a scope's end has one for each of its texts)
@@ -75,7 +74,6 @@ pub fn yaml_emitter_flush<A: Allocator + Copy>(
     ensures empty { (given : Settings) (all : List Event) → StandsAfter given all emitter.old → emitter.old.error ≡ None → HasAllBytes given all emitter.old
         → emitter.new ≡ emitter.old }
     ensures kept { IsSome emitter.old.error → emitter.new ≡ emitter.old }
-    ensures output { emitter.new.has_output ≡ true }
 {
     if let Some(error) = emitter.machine.error() {
         return Err(error);

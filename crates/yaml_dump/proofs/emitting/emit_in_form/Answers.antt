@@ -31,7 +31,7 @@ returns-in-Err g c =
                 subst (λ (event : Event). Moves now.emitter (event ∷ []) (Err c.in-Err.error) c.yaml_emitter_emit.new.emitter) c.event.ensures
                 c.in-Err.ensures.moves;
           };
-      output = c.yaml_emitter_emit.ensures.output;
+      output = c.yaml_emitter_emit.ensures.moves.set.has_output ∙ now.invariant.2;
     }
 
 pub loop-event-preserved : goal.loop-event-preserved
@@ -42,7 +42,7 @@ loop-event-preserved g c =
     let next = seen_event c.in-Some.event in (
       tt,
       tt,
-      c.yaml_emitter_emit.ensures.output,
+      c.yaml_emitter_emit.ensures.moves.set.has_output ∙ now.invariant.2,
       none_from_result c.yaml_emitter_emit.new.emitter.error c.in_default.ensures.moves.answered,
       parts_more now.yielded c.in-Some.event (into_iter_items c.next.new.self)
           (into_iter_items now.event-iterator) c.args.events.items now.invariant.4 c.in-Some.ensures.steps.0,

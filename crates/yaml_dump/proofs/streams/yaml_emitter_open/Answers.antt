@@ -22,7 +22,7 @@ returns-clause-kept g c =
     (none_from_result c.yaml_emitter_emit.new.emitter.error c.in_default.ensures.moves.answered)
 
 pub returns-in-Err-clause-output : goal.returns-in-Err-clause-output
-returns-in-Err-clause-output g c = c.yaml_emitter_emit.ensures.output
+returns-in-Err-clause-output g c = c.yaml_emitter_emit.ensures.moves.set.has_output ∙ c.requires.output
 
 pub returns-clause-output : goal.returns-clause-output
 returns-clause-output g c = (returns-clause-moves g c).set.has_output ∙ c.requires.output

@@ -21,7 +21,6 @@ returns-in-Some g c =
       promised = emitted.promised;
       waits = emitted.waits;
       kept = emitted.kept;
-      output = emitted.moves.set.has_output ∙ c.requires;
     }
 
 pub returns-in-Err : goal.returns-in-Err
@@ -38,7 +37,6 @@ returns-in-Err g c =
       promised = emitted.promised;
       waits = emitted.waits;
       kept = emitted.kept;
-      output = emitted.moves.set.has_output ∙ c.requires;
     }
 
 pub invariant_of-emitter-then-followers-eq0 : goal.invariant_of-emitter-then-followers-eq0
@@ -78,7 +76,6 @@ returns-then-followers-eq0 g c =
       promised = emitted.promised;
       waits = emitted.waits;
       kept = emitted.kept;
-      output = emitted.moves.set.has_output ∙ c.requires;
     }
 
 pub push_reserved-requires : goal.push_reserved-requires
@@ -142,7 +139,6 @@ returns g c =
       promised = emitted.promised;
       waits = emitted.waits;
       kept = emitted.kept;
-      output = emitted.moves.set.has_output ∙ c.requires;
     }
 
 pub invariant_of-emitter : goal.invariant_of-emitter

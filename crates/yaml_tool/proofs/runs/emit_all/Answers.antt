@@ -36,7 +36,7 @@ loop-numbered-preserved g c =
     let now = c.loop-numbered in (
       tt,
       tt,
-      c.yaml_emitter_emit.ensures.output,
+      c.yaml_emitter_emit.ensures.moves.set.has_output ∙ now.invariant.2,
       parts_more now.yielded c.in-Some.numbered (into_iter_items c.next.new.self)
           (into_iter_items now.numbered-iterator) c.args.events.items now.invariant.3 c.in-Some.ensures.steps.0,
       subst (λ events. Moves c.args.emitter.now events (Ok tt) c.yaml_emitter_emit.new.emitter) (events_more now.yielded c.in-Some.numbered)
