@@ -2,18 +2,22 @@
 use Rattle.yaml_toml.proofs.Common.{◌≡◌, ◌⊎◌, ◌∷◌, ◌++◌, [], List, Bool, Option, None, Some, Result, Ok, Err, IfErr, OnOk, inl, inr, refl, subst, sym, ◌∙◌, ap₂}
 use Rattle.yaml_toml.proofs.Common.{append-nil, append_assoc, Event, State, WriterState, GaveEvent, WroteEvent, IsBare, end_event, EndsInnermost, AddsEvents}
 use Rattle.yaml_toml.proofs.Common.{Text, Scalar, scalar, plain, is_none, is_some, ◌||◌}
-use Rattle.yaml_writer.proofs.GivenLemmas.{ended, gave_then, leaves_same, none_more, on_ok, same_last, wrote_event}
+use Rattle.yaml_writer.proofs.GivenLemmas.{ended, gave_then, leaves_same, none_more, on_ok, same_last, text_is, wrote_event}
 use Rattle.yaml_writer.specs.Failing.{HasErrorSaid}
 use Rattle.yaml_writer.proofs.Taken.{gives_ok, gives_err, moves_add}
+use Rattle.std.specs.Str.{chars}
+use Rattle.toml_datetime.specs.Text.{datetime_text}
+use Rattle.toml_datetime.specs.declared.datetime.Datetime.{Datetime}
 use Rattle.toml_ordered.specs.Data.{TomlNode}
 use Rattle.yaml_pen.{proofs.Composing.grows_itself, proofs.Composing.grows_then, proofs.Writing.none_from_result, specs.Wrote.Grows}
 use Rattle.yaml_emitter.proofs.Common.{some_from_result}
 use Rattle.yaml_base.specs.declared.errors.{yaml_error_t.yaml_error_t, yaml_error_t.TheVariants.Memory}
 use Rattle.yaml_base.specs.declared.kinds.CollectionKind.{CollectionKind}
 use Rattle.yaml_writer.specs.Times.{Moment, timestamp_text}
+use Rattle.yaml_writer.specs.TomlDates.{moment_event}
 use Rattle.yaml_writer.specs.Writing.{Gives, tag_or_default, timestamp_event, timestamp_tag}
 use Rattle.yaml_toml.specs.Depth.{toml_nesting}
-use Rattle.yaml_toml.specs.Events.{moment_content, toml_events}
+use Rattle.yaml_toml.specs.Events.{date_content, moment_content, toml_events}
 use Rattle.yaml_toml.specs.Walk.{Answers, GivesScalar, HasNumbers, node_size, KeptAfterStop, SoundAfterStop, stop_error, IsStopOf, IsOwnMemory, Moved}
 use Rattle.yaml_toml.specs.WalkSteps.{WroteScalar}
 use Rattle.yaml_toml.specs.declared.walk.Stop.{Stop}
@@ -143,6 +147,12 @@ timestamp_by tagged text anchor tag =
 pub timestamp_is : (writer : WriterState) (moment : Moment) → IsBare writer → timestamp_event writer moment ≡ scalar (moment_content writer.canonical moment)
 timestamp_is writer moment bare =
     ap₂ (λ (anchor tag : Option Text). timestamp_by (writer.canonical || is_some moment.time) (timestamp_text moment) anchor tag) bare.0 bare.1
+
+-- or the text that stands for one
+pub datetime_is : (writer : WriterState) (date : Datetime) (found : Option Moment) → IsBare writer
+    → moment_event writer date found ≡ scalar (date_content writer.canonical date found)
+datetime_is writer date (Some moment) bare = timestamp_is writer moment bare
+datetime_is writer date None bare = text_is writer (chars (datetime_text date)) bare
 
 -- two clauses of one answer
 pub on_both : {A E : Type 0} (P Q : Type 0) (answer : Result A E) → OnOk answer P → OnOk answer Q → OnOk answer (P × Q)

@@ -3,20 +3,17 @@ ghost use Rattle.std.specs.Prelude.{◌≡◌, OnOk, chars};
 ghost use Rattle.toml_ordered.specs.Data.{node_view};
 ghost use Rattle.yaml_writer.specs.Contents.{text_content};
 ghost use Rattle.yaml_writer.specs.WasGiven.{IsBare};
-ghost use Rattle.yaml_toml.specs.Events.{date_content, decimal_content, infinite, json_word};
+ghost use Rattle.yaml_toml.specs.Events.{decimal_content, infinite, json_word};
 ghost use Rattle.yaml_toml.specs.Walk.{GivesScalar, IsJsonWord};
 ghost use Rattle.yaml_toml.specs.WalkSteps.{IsNoCollection, WroteScalar};
-ghost use Rattle.yaml_writer.specs.TomlDates.{moment_of};
 
-use std::alloc::{Allocator, Global};
-use toml_datetime::Datetime;
+use std::alloc::Allocator;
 use toml_ordered::Node;
 use toml_parser::text::{first, skip};
-use yaml_writer::{SpecialFloat, Timestamp, Writer, number_of, write_timestamp, yaml_error_t};
+use yaml_writer::{SpecialFloat, Writer, number_of, write_datetime, yaml_error_t};
 
 /// Writes a value that is neither an array nor a table.
 pub(crate) fn write_scalar<A: Allocator + Copy>(
-    alloc: Global,
     writer: &mut Writer<A>,
     node: &Node,
 ) -> Result<(), yaml_error_t>
@@ -31,7 +28,7 @@ pub(crate) fn write_scalar<A: Allocator + Copy>(
         Node::Infinity { negative } => writer.special_float(infinity(*negative)),
         Node::NotANumber => writer.special_float(SpecialFloat::NotANumber),
         Node::Boolean(flag) => writer.bool(*flag),
-        Node::Datetime(datetime) => write_datetime(alloc, writer, datetime),
+        Node::Datetime(datetime) => write_datetime(writer, datetime),
         Node::Array(_) | Node::Table(..) | Node::Tables(..) => unreachable!(),
     }
 }
@@ -80,23 +77,5 @@ fn write_decimal<A: Allocator + Copy>(
         Some(number) => writer.number(&number),
         // The characters of a float are a number of JSON, so this isn't reached.
         None => Err(yaml_error_t::Memory),
-    }
-}
-
-/// Writes a date or a time: a timestamp, where YAML 1.1 has it, else a text.
-fn write_datetime<A: Allocator + Copy>(
-    alloc: Global,
-    writer: &mut Writer<A>,
-    datetime: &Datetime,
-) -> Result<(), yaml_error_t>
-    requires { IsBare writer.old }
-    ensures { GivesScalar writer.old (date_content writer.old.canonical datetime.now (moment_of datetime.now)) result writer.new }
-{
-    match Timestamp::try_from(*datetime).ok() {
-        Some(timestamp) => write_timestamp(writer, &timestamp),
-        None => match format!(in alloc; "{datetime}") {
-            Ok(text) => writer.text(text.as_str()),
-            Err(_) => Err(yaml_error_t::Memory),
-        },
     }
 }

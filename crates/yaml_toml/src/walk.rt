@@ -137,7 +137,6 @@ fn enter<'a, A: Allocator + Copy>(
 
 /// Writes a value; of an array or a table the beginning alone.
 fn write_node<'a, A: Allocator + Copy>(
-    alloc: Global,
     writer: &mut Writer<A>,
     opened: &mut Vec<Rest<'a>>,
     node: &'a Node,
@@ -148,7 +147,7 @@ fn write_node<'a, A: Allocator + Copy>(
 {
     match rest_of(node) {
         Some(rest) => enter(writer, opened, rest, settings),
-        None => stop_of(write_scalar(alloc, writer, node)),
+        None => stop_of(write_scalar(writer, node)),
     }
 }
 
@@ -172,7 +171,6 @@ fn rest_of(node: &Node) -> Option<Rest<'_>>
 
 /// Writes the next of what is left of the innermost collection, or ends it.
 fn write_rest<'a, A: Allocator + Copy>(
-    alloc: Global,
     writer: &mut Writer<A>,
     opened: &mut Vec<Rest<'a>>,
     rest: Rest<'a>,
@@ -183,7 +181,7 @@ fn write_rest<'a, A: Allocator + Copy>(
     ensures { TomlStep settings.now (rest_due rest.entry) (walk_at writer.old opened.old.items) result (walk_at writer.new opened.new.items) }
 {
     match rest {
-        Rest::Items(items) => write_item(alloc, writer, opened, items, settings),
+        Rest::Items(items) => write_item(writer, opened, items, settings),
         Rest::Tables(done, last) => match done.split_first() {
             None => {
                 if let Err(stop) = keep(opened, Rest::Items(&[])) {
@@ -195,16 +193,15 @@ fn write_rest<'a, A: Allocator + Copy>(
                 if let Err(stop) = keep(opened, Rest::Tables(others, last)) {
                     return Err(stop);
                 }
-                write_node(alloc, writer, opened, table, settings)
+                write_node(writer, opened, table, settings)
             }
         },
-        Rest::Members(keys) => write_member(alloc, writer, opened, keys, settings),
+        Rest::Members(keys) => write_member(writer, opened, keys, settings),
     }
 }
 
 /// Writes the next item of an array, or ends it.
 fn write_item<'a, A: Allocator + Copy>(
-    alloc: Global,
     writer: &mut Writer<A>,
     opened: &mut Vec<Rest<'a>>,
     items: &'a [Node],
@@ -220,14 +217,13 @@ fn write_item<'a, A: Allocator + Copy>(
             if let Err(stop) = keep(opened, Rest::Items(others)) {
                 return Err(stop);
             }
-            write_node(alloc, writer, opened, item, settings)
+            write_node(writer, opened, item, settings)
         }
     }
 }
 
 /// Writes the next key of a table and its value, or ends it.
 fn write_member<'a, A: Allocator + Copy>(
-    alloc: Global,
     writer: &mut Writer<A>,
     opened: &mut Vec<Rest<'a>>,
     keys: &'a [(String, Node, usize)],
@@ -246,7 +242,7 @@ fn write_member<'a, A: Allocator + Copy>(
             if let Err(stop) = stop_of(write_text(writer, key.as_str())) {
                 return Err(stop);
             }
-            write_node(alloc, writer, opened, node, settings)
+            write_node(writer, opened, node, settings)
         }
     }
 }
@@ -271,7 +267,7 @@ pub(crate) fn write_root<A: Allocator + Copy>(
         return Err(stop);
     }
     'rests: while let Some(rest) = take_innermost(&mut opened) {
-        if let Err(stop) = write_rest(alloc, writer, &mut opened, rest, settings) {
+        if let Err(stop) = write_rest(writer, &mut opened, rest, settings) {
             return Err(stop);
         }
     }

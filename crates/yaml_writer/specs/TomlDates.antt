@@ -1,14 +1,18 @@
 -- The dates and times of TOML that YAML 1.1 has as timestamps.
 use Rattle.std.specs.Prelude.{ℤ, pos, negsuc, Bool, true, false, Option, None, Some, ◌/◌, ◌%◌, nat_lt, option_map, option_and_then, unwrap_or}
 use Rattle.std.specs.Prelude.{if◌then◌else◌}
+use Rattle.std.specs.Str.{chars}
+use Rattle.toml_datetime.specs.Text.{datetime_text}
 use Rattle.toml_datetime.specs.Valid.{magnitude}
 use Rattle.toml_datetime.specs.declared.datetime.Date as toml_date
 use Rattle.toml_datetime.specs.declared.datetime.Time as toml_time
 use Rattle.toml_datetime.specs.declared.datetime.Offset as toml_offset
 use Rattle.toml_datetime.specs.declared.datetime.Offset.TheVariants.{Z, Custom}
 use Rattle.toml_datetime.specs.declared.datetime.Datetime.{Datetime}
+use Rattle.yaml_base.specs.Event.{Event}
 use Rattle.yaml_writer.specs.Dates.{CalendarDate, calendar_date, is_calendar_date}
 use Rattle.yaml_writer.specs.Times.{ClockOffset, ClockTime, Moment, clock_time, is_clock_reading}
+use Rattle.yaml_writer.specs.Writing.{WriterState, text_event, timestamp_event}
 
 -- a date of the years 1 to 9999
 abbrev pub date_of : toml_date.Date → Option CalendarDate
@@ -45,3 +49,11 @@ moment_by date _ _ = None
 
 abbrev pub moment_of : Datetime → Option Moment
 moment_of datetime = option_and_then (λ date. moment_by date datetime.time datetime.offset) (option_and_then date_of datetime.date)
+
+-- the event of a date or a time: a timestamp where YAML 1.1 has it, else a text, spelled as in TOML
+abbrev pub moment_event : WriterState → Datetime → Option Moment → Event
+moment_event writer datetime (Some moment) = timestamp_event writer moment
+moment_event writer datetime None = text_event writer (chars (datetime_text datetime))
+
+abbrev pub datetime_event : WriterState → Datetime → Event
+datetime_event writer datetime = moment_event writer datetime (moment_of datetime)

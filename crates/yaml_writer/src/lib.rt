@@ -44,6 +44,7 @@ pub use spelling::{Spelling, number_spelling};
 pub use texts::is_surely_text;
 pub use times::{Offset, Time};
 pub use timestamps::{Timestamp, write_timestamp};
+pub use toml_dates::write_datetime;
 pub use typed::{typed_content, typed_event};
 pub use writer::Writer;
 pub use yaml_base::{

@@ -1,14 +1,18 @@
-//! Dates and times of TOML, as timestamps.
+//! Dates and times of TOML, as timestamps and as texts.
 ghost use Rattle.std.specs.Prelude.{◌≡◌, option_map};
 ghost use Rattle.yaml_writer.specs.TomlDates as spec;
 ghost use Rattle.yaml_writer.specs.SeenDates.{seen_date};
 ghost use Rattle.yaml_writer.specs.SeenTimes.{seen_offset, seen_time};
+ghost use Rattle.yaml_writer.specs.Writing.{Gives};
 
 use crate::dates::{Date, NoTimestamp};
 use crate::numbers::Sign;
 use crate::times::{Offset, Time};
-use crate::timestamps::Timestamp;
+use crate::timestamps::{Timestamp, write_timestamp};
+use crate::writer::Writer;
+use std::alloc::Allocator;
 use toml_datetime::Datetime;
+use yaml_base::yaml_error_t;
 
 fn date_of(date: toml_datetime::Date) -> Option<Date>
     ensures { option_map seen_date result ≡ spec.date_of date }
@@ -98,5 +102,25 @@ impl TryFrom<Datetime> for Timestamp {
             },
             _ => Err(NoTimestamp),
         }
+    }
+}
+
+/// Gives a writer a date or a time of TOML: as `write_timestamp` does, where YAML 1.1 has such a timestamp, else as a text, spelled as in
+/// TOML. A time without a date and one without an offset are texts.
+///
+/// # Errors
+/// Those of the emitter, and `Memory`.
+pub fn write_datetime<A: Allocator + Copy>(
+    writer: &mut Writer<A>,
+    datetime: &Datetime,
+) -> Result<(), yaml_error_t>
+    ensures { Gives writer.old (spec.datetime_event writer.old datetime.now) result writer.new }
+{
+    match Timestamp::try_from(*datetime).ok() {
+        Some(timestamp) => write_timestamp(writer, &timestamp),
+        None => match format!(in writer.alloc; "{datetime}") {
+            Ok(text) => writer.text(text.as_str()),
+            Err(_) => Err(yaml_error_t::Memory),
+        },
     }
 }

@@ -8,12 +8,12 @@ use Rattle.toml_ordered.specs.Data as toml
 use Rattle.toml_ordered.specs.Data.{node_view}
 use Rattle.yaml_writer.specs.Floats.{special_event, special_text}
 use Rattle.yaml_writer.specs.Writing.{Gives, bool_event, int_event}
-use Rattle.yaml_writer.specs.TomlDates.{moment_of}
+use Rattle.yaml_writer.specs.TomlDates.{datetime_event, moment_of}
 use Rattle.yaml_writer.specs.declared.floats.SpecialFloat.{SpecialFloat}
 use Rattle.yaml_writer.specs.declared.floats.SpecialFloat.TheVariants as special
 use Rattle.yaml_toml.specs.Events.{date_content, decimal_content, integer_content, special_content}
 use Rattle.yaml_toml.specs.Walk.{IsJsonWord}
-use Rattle.yaml_toml.proofs.Answering.{gives_scalar, wrote_scalar}
+use Rattle.yaml_toml.proofs.Answering.{datetime_is, gives_scalar, wrote_scalar}
 use Rattle.yaml_toml.proofs.Integers.{few_digits}
 use Rattle.yaml_toml.proofs.Views.{node_view-Text, node_view-Integer, node_view-Decimal, node_view-Infinity, node_view-NotANumber, node_view-Boolean}
 use Rattle.yaml_toml.proofs.Views.{node_view-Datetime}
@@ -91,4 +91,5 @@ returns-in-Datetime g c =
     let date = c.in-Datetime.datetime in
     wrote_scalar was c.write_datetime.new.writer (node_view a.node.now) (toml.datetime date) (date_content was.canonical date (moment_of date))
     c.write_datetime.result (ap node_view c.in-Datetime.is ∙ node_view-Datetime date) (λ flow. refl) refl refl (always c.write_datetime.result tt)
-    c.write_datetime.ensures
+    (gives_scalar was c.write_datetime.new.writer (datetime_event was date) (date_content was.canonical date (moment_of date)) c.write_datetime.result
+    (datetime_is was date (moment_of date) c.requires.bare) c.write_datetime.ensures)
