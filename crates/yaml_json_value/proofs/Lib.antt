@@ -1,7 +1,6 @@
 pub mod Depths
 pub mod Integers
 pub mod Running
-pub mod SeenLevels
 pub mod Steps
 pub mod Taking
 pub mod Checked

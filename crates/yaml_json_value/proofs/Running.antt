@@ -7,11 +7,12 @@ use Rattle.json.specs.Tree.{json_tokens, items_tokens, members_tokens}
 use Rattle.yaml_base.specs.values.TypedValues.{text_value, list_value, map_value, TypedValues, no_values, values_and, TypedPairs, no_value_pairs}
 use Rattle.yaml_base.specs.values.TypedValues.{value_pairs_and}
 use Rattle.yaml_json.proofs.TokenLemmas.{value_spelled}
-use Rattle.yaml_json_value.specs.Standing.{OpenCollection, items_open, members_open, value_due, whole, within, give, run}
+use Rattle.yaml_value.specs.OpenLevels.{OpenLevel, items_open, pairs_open, value_due}
+use Rattle.yaml_json_value.specs.Standing.{whole, within, give, run}
 use Rattle.yaml_json_value.specs.Typed.{typed_value, typed_items, typed_members}
 
 mutual
-  runs_value : (json : Json) (rest : List Token) (levels : List OpenCollection)
+  runs_value : (json : Json) (rest : List Token) (levels : List OpenLevel)
       → run (json_tokens json ++ rest) (within levels) ≡ option_and_then (run rest) (give levels (typed_value json))
   runs_value null rest levels = refl
   runs_value (boolean flag) rest levels = refl
@@ -20,7 +21,7 @@ mutual
   runs_value (array items) rest levels = runs_items items no_values rest levels
   runs_value (object members) rest levels = runs_members members no_value_pairs rest levels
 
-  runs_items : (items : Items) (before : TypedValues) (rest : List Token) (levels : List OpenCollection)
+  runs_items : (items : Items) (before : TypedValues) (rest : List Token) (levels : List OpenLevel)
       → run (items_tokens items ++ rest) (within (items_open before ∷ levels))
       ≡ option_and_then (run rest) (give levels (list_value (typed_items items before)))
   runs_items no_items before rest levels = refl
@@ -29,8 +30,8 @@ mutual
       ∙ runs_value json (items_tokens items ++ rest) (items_open before ∷ levels)
       ∙ runs_items items (values_and before (typed_value json)) rest levels
 
-  runs_members : (members : Members) (before : TypedPairs) (rest : List Token) (levels : List OpenCollection)
-      → run (members_tokens members ++ rest) (within (members_open before ∷ levels))
+  runs_members : (members : Members) (before : TypedPairs) (rest : List Token) (levels : List OpenLevel)
+      → run (members_tokens members ++ rest) (within (pairs_open before ∷ levels))
       ≡ option_and_then (run rest) (give levels (map_value (typed_members members before)))
   runs_members no_members before rest levels = refl
   runs_members (member name json members) before rest levels =

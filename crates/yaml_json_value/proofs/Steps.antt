@@ -4,17 +4,15 @@ use Rattle.std.proofs.lemmas.List.Elements.{All-nil, All-push}
 use Rattle.std.specs.Prelude.{Result, Ok, Err, OnOk}
 use Rattle.json.specs.Token.{Token}
 use Rattle.yaml_base.specs.values.TypedValues.{TypedValue}
-use Rattle.yaml_value.specs.SeenValues.{seen_value}
-use Rattle.yaml_value.specs.declared.value.Value.{Value}
-use Rattle.yaml_json_value.specs.Standing.{OpenCollection, ValueStanding, run, take_token, whole, within}
+use Rattle.yaml_value.specs.{OpenLevels.OpenLevel, SeenValues.seen_value, declared.levels.Level.Level, declared.value.Value.Value}
+use Rattle.yaml_json_value.specs.Standing.{ValueStanding, run, take_token, whole, within}
 use Rattle.yaml_json_value.specs.Typed.{AreIntegers, IsIntegerToken}
 use Rattle.yaml_json_value.specs.Walked.{EndsAt, IsRoot, ReadsNoToken, StopsAtOther, Taken, WalkedTo}
 use Rattle.yaml_json_value.specs.declared.error.Stop.{Stop}
 use Rattle.yaml_json_value.specs.declared.error.Stop.TheVariants as stop
-use Rattle.yaml_json_value.specs.declared.levels.Level.{Level}
 
 -- what a token makes of the walk
-runs_on : (start ahead left : List Token) (token : Token) (levels : List OpenCollection) (now : Option ValueStanding) → WalkedTo start ahead levels
+runs_on : (start ahead left : List Token) (token : Token) (levels : List OpenLevel) (now : Option ValueStanding) → WalkedTo start ahead levels
     → ahead ≡ token ∷ left
     → take_token token levels ≡ now → run start (within []) ≡ option_and_then (run left) now
 runs_on start ahead left token levels now walked first taken =
@@ -25,7 +23,7 @@ more_parts : (all ahead left before : List Token) (token : Token) → before ++ 
 more_parts all ahead left before token parts first =
     append_assoc before (token ∷ []) left ∙ ap (λ (ts : List Token). before ++ ts) (sym first) ∙ parts
 
-pub step_on : (start ahead left : List Token) (token : Token) (levels after : List OpenCollection) → WalkedTo start ahead levels → ahead ≡ token ∷ left
+pub step_on : (start ahead left : List Token) (token : Token) (levels after : List OpenLevel) → WalkedTo start ahead levels → ahead ≡ token ∷ left
     → take_token token levels ≡ Some (within after) → IsIntegerToken token → WalkedTo start left after
 step_on start ahead left token levels after walked first taken integer =
     record {
@@ -41,11 +39,11 @@ begins_walk all = record { before = []; parts = refl; integers = All-nil IsInteg
 none_apart : (root : TypedValue) (found : Option ValueStanding) → found ≡ None → found ≡ Some (whole root) → ⊥
 none_apart root found none is = cc
 
-within_apart : (root : TypedValue) (levels : List OpenCollection) (found : Option ValueStanding) → found ≡ Some (within levels) → found ≡ Some (whole root) → ⊥
+within_apart : (root : TypedValue) (levels : List OpenLevel) (found : Option ValueStanding) → found ≡ Some (within levels) → found ≡ Some (whole root) → ⊥
 within_apart root levels found none is = cc
 
 -- no token was read
-pub ends_short : (A : Type 0) (start ahead : List Token) (levels : List OpenCollection) (root : TypedValue) (why : Stop) → WalkedTo start ahead levels
+pub ends_short : (A : Type 0) (start ahead : List Token) (levels : List OpenLevel) (root : TypedValue) (why : Stop) → WalkedTo start ahead levels
     → ReadsNoToken ahead why → run start (within []) ≡ Some (whole root) → IsRoot {A = A} root (Err why)
 ends_short A start ahead levels root stop.Misplaced walked none runs =
     within_apart root levels (run start (within [])) (walked.runs ∙ ap (λ (ts : List Token). run ts (within levels)) none) runs
@@ -58,7 +56,7 @@ no_other A all ahead from stop.NotInteger none = absurd none
 no_other A all ahead from stop.Memory none = tt
 
 -- a token was refused
-pub refused : {A : Type 0} (start ahead left : List Token) (token : Token) (levels : List OpenCollection) (after : List (Level A)) (root : TypedValue)
+pub refused : {A : Type 0} (start ahead left : List Token) (token : Token) (levels : List OpenLevel) (after : List (Level A)) (root : TypedValue)
     (why : Stop)
     → WalkedTo start ahead levels → ahead ≡ token ∷ left → Taken token levels after (Err why) → run start (within []) ≡ Some (whole root)
     → IsRoot {A = A} root (Err why)
@@ -67,7 +65,7 @@ refused start ahead left token levels after root stop.Misplaced walked first tak
 refused start ahead left token levels after root stop.NotInteger walked first taken runs = tt
 refused start ahead left token levels after root stop.Memory walked first taken runs = tt
 
-pub other_first : {A : Type 0} (start ahead left from : List Token) (token : Token) (levels : List OpenCollection) (after : List (Level A)) (why : Stop)
+pub other_first : {A : Type 0} (start ahead left from : List Token) (token : Token) (levels : List OpenLevel) (after : List (Level A)) (why : Stop)
     → WalkedTo start ahead levels → from ≡ ahead → ahead ≡ token ∷ left → Taken token levels after (Err why) → StopsAtOther {A = A} start from (Err why)
 other_first start ahead left from token levels after stop.Misplaced walked at first taken = tt
 other_first start ahead left from token levels after stop.NotInteger walked at first (digits, is, none) =
@@ -83,7 +81,7 @@ other_first start ahead left from token levels after stop.NotInteger walked at f
 other_first start ahead left from token levels after stop.Memory walked at first taken = tt
 
 -- a value is whole
-pub ends_whole : {A : Type 0} (start ahead left : List Token) (token : Token) (levels : List OpenCollection) (found root : TypedValue)
+pub ends_whole : {A : Type 0} (start ahead left : List Token) (token : Token) (levels : List OpenLevel) (found root : TypedValue)
     (answer : Result (Value A) Stop)
     → WalkedTo start ahead levels → ahead ≡ token ∷ left → take_token token levels ≡ Some (whole found) → EndsAt left found answer
     → run start (within []) ≡ Some (whole root) → IsRoot root answer
@@ -102,7 +100,7 @@ ends_whole start ahead left token levels found root (Err stop.Misplaced) walked 
 ends_whole start ahead left token levels found root (Err stop.NotInteger) walked first taken ends runs = tt
 ends_whole start ahead left token levels found root (Err stop.Memory) walked first taken ends runs = tt
 
-pub ends_integers : {A : Type 0} (start ahead left : List Token) (token : Token) (levels : List OpenCollection) (found : TypedValue)
+pub ends_integers : {A : Type 0} (start ahead left : List Token) (token : Token) (levels : List OpenLevel) (found : TypedValue)
     (answer : Result (Value A) Stop)
     → WalkedTo start ahead levels → ahead ≡ token ∷ left → IsIntegerToken token → EndsAt left found answer → OnOk answer (AreIntegers start)
 ends_integers start ahead left token levels found (Ok value) walked first integer ends =

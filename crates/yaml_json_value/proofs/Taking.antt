@@ -3,17 +3,17 @@ use Rattle.yaml_base.proofs.Common.{List, [], ◌∷◌, ◌++◌, refl, ◌≡�
 use Rattle.std.specs.Prelude.{Result, Ok, Err, Vec, option_map}
 use Rattle.json.specs.Token.{Token}
 use Rattle.yaml_base.specs.values.TypedValues.{TypedValue}
-use Rattle.yaml_value.specs.declared.value.Value.{Value}
-use Rattle.yaml_json_value.specs.Standing.{OpenCollection, ValueStanding, end_list, end_map, give, name_member, take_token, within, with_value}
+use Rattle.yaml_value.specs.OpenLevels.{OpenLevel, seen_level, seen_levels, with_value}
+use Rattle.yaml_value.specs.{declared.levels.Level.Level, declared.value.Value.Value}
+use Rattle.yaml_value.proofs.SeenLevels.{level_more}
+use Rattle.yaml_json_value.specs.Standing.{ValueStanding, end_list, end_map, give, name_member, take_token, within, given}
 use Rattle.yaml_json_value.specs.Typed.{IsIntegerToken}
-use Rattle.yaml_json_value.specs.Walked.{HasMore, IsIntegerIn, IsText, StandsAt, Taken, seen_open, seen_all_open}
+use Rattle.yaml_json_value.specs.Walked.{HasMore, IsIntegerIn, IsText, StandsAt, Taken}
 use Rattle.yaml_json_value.specs.declared.error.Stop.{Stop}
 use Rattle.yaml_json_value.specs.declared.error.Stop.TheVariants as stop
-use Rattle.yaml_json_value.specs.declared.levels.Level.{Level}
-use Rattle.yaml_json_value.specs.declared.levels.Level.TheVariants as code
-use Rattle.yaml_json_value.proofs.SeenLevels.{popped}
+use Rattle.yaml_value.specs.declared.levels.Level.TheVariants as code
 
-pub taken_as : {A : Type 0} (token : Token) (before : List OpenCollection) (levels : List (Level A)) (due : Option ValueStanding)
+pub taken_as : {A : Type 0} (token : Token) (before : List OpenLevel) (levels : List (Level A)) (due : Option ValueStanding)
     (answer : Result (Option (Value A)) Stop)
     → take_token token before ≡ due → IsIntegerToken token → StandsAt due levels answer → Taken token before levels answer
 taken_as token before levels due (Ok (Some value)) is integer stands = (is ∙ stands, integer)
@@ -23,38 +23,38 @@ taken_as token before levels due (Err stop.NotInteger) is integer stands = absur
 taken_as token before levels due (Err stop.Memory) is integer stands = tt
 
 -- after a value in a level, which has it
-pub given : {A : Type 0} (level : OpenCollection) (outer : List OpenCollection) (value : TypedValue) (more : Level A) (levels : List (Level A))
-    (answer : Result (Option (Value A)) Stop) → HasMore level value (Ok more) → StandsAt (Some (within (seen_open more ∷ outer))) levels answer
+pub value_given : {A : Type 0} (level : OpenLevel) (outer : List OpenLevel) (value : TypedValue) (more : Level A) (levels : List (Level A))
+    (answer : Result (Option (Value A)) Stop) → HasMore level value (Ok more) → StandsAt (Some (within (seen_level more ∷ outer))) levels answer
     → StandsAt (give (level ∷ outer) value) levels answer
-given level outer value more levels answer has stands =
-    subst (λ (due : Option ValueStanding). StandsAt due levels answer) (sym (by (with_value level value) has)) stands
+value_given level outer value more levels answer has stands =
+    subst (λ (due : Option ValueStanding). StandsAt due levels answer) (sym (by (given level value) has)) stands
   where
-    by : (found : Option OpenCollection) → found ≡ Some (seen_open more)
-        → option_map (λ inner. within (inner ∷ outer)) found ≡ Some (within (seen_open more ∷ outer))
+    by : (found : Option OpenLevel) → found ≡ Some (seen_level more)
+        → option_map (λ inner. within (inner ∷ outer)) found ≡ Some (within (seen_level more ∷ outer))
     by found is = ap (option_map (λ inner. within (inner ∷ outer))) is
 
 -- a level that can't have it
-pub not_given : {A : Type 0} (level : OpenCollection) (outer : List OpenCollection) (value : TypedValue) (levels : List (Level A)) (why : Stop)
+pub not_given : {A : Type 0} (level : OpenLevel) (outer : List OpenLevel) (value : TypedValue) (levels : List (Level A)) (why : Stop)
     → HasMore {A = A} level value (Err why) → StandsAt {A = A} (give (level ∷ outer) value) levels (Err why)
 not_given level outer value levels stop.Misplaced none = ap (option_map (λ inner. within (inner ∷ outer))) none
 not_given level outer value levels stop.NotInteger none = none
 not_given level outer value levels stop.Memory none = tt
 
 -- what follows of the innermost level, taken from the others
-pub on_innermost : {A : Type 0} (after : List OpenCollection → Option ValueStanding) (old new later : List (Level A)) (level : Level A)
-    (answer : Result (Option (Value A)) Stop) → old ≡ new ++ level ∷ [] → StandsAt (after (seen_open level ∷ seen_all_open new)) later answer
-    → StandsAt (after (seen_all_open old)) later answer
+pub on_innermost : {A : Type 0} (after : List OpenLevel → Option ValueStanding) (old new later : List (Level A)) (level : Level A)
+    (answer : Result (Option (Value A)) Stop) → old ≡ new ++ level ∷ [] → StandsAt (after (seen_level level ∷ seen_levels new)) later answer
+    → StandsAt (after (seen_levels old)) later answer
 on_innermost after old new later level answer is stands =
-    subst (λ (levels : List OpenCollection). StandsAt (after levels) later answer) (sym (popped old new level is)) stands
+    subst (λ (levels : List OpenLevel). StandsAt (after levels) later answer) (sym (level_more new old level is)) stands
 
 -- no text, and no integer
-pub no_text : {A : Type 0} (text : List ℕ) (token : Token) (before : List OpenCollection) (levels : List (Level A)) (why : Stop)
+pub no_text : {A : Type 0} (text : List ℕ) (token : Token) (before : List OpenLevel) (levels : List (Level A)) (why : Stop)
     → IsText {A = A} text (Err why) → Taken token before levels (Err why)
 no_text text token before levels stop.Misplaced none = absurd none
 no_text text token before levels stop.NotInteger none = absurd none
 no_text text token before levels stop.Memory none = tt
 
-pub no_integer : {A : Type 0} (digits : List ℕ) (before : List OpenCollection) (levels : List (Level A)) (why : Stop)
+pub no_integer : {A : Type 0} (digits : List ℕ) (before : List OpenLevel) (levels : List (Level A)) (why : Stop)
     → IsIntegerIn digits (Err why) → Taken (Token.number digits) before levels (Err why)
 no_integer digits before levels stop.Misplaced none = absurd none
 no_integer digits before levels stop.NotInteger none = (digits, refl, none)
@@ -62,10 +62,10 @@ no_integer digits before levels stop.Memory none = absurd none
 
 -- a level was opened, or not
 pub entered : {A : Type 0} (level : Level A) (old new : List (Level A)) (answer : Result (Option (Value A)) Stop) → answer ≡ Ok None
-    → new ≡ old ++ level ∷ [] → StandsAt (Some (within (seen_open level ∷ seen_all_open old))) new answer
+    → new ≡ old ++ level ∷ [] → StandsAt (Some (within (seen_level level ∷ seen_levels old))) new answer
 entered level old new answer is items =
-    subst (λ (r : Result (Option (Value _)) Stop). StandsAt (Some (within (seen_open level ∷ seen_all_open old))) new r) (sym is)
-    (ap (λ (levels : List OpenCollection). Some (within levels)) (sym (popped new old level items)))
+    subst (λ (r : Result (Option (Value _)) Stop). StandsAt (Some (within (seen_level level ∷ seen_levels old))) new r) (sym is)
+    (ap (λ (levels : List OpenLevel). Some (within levels)) (sym (level_more old new level items)))
 
 pub not_entered : {A : Type 0} (due : Option ValueStanding) (levels : List (Level A)) (answer : Result (Option (Value A)) Stop) → answer ≡ Err stop.Memory
     → StandsAt due levels answer
@@ -73,20 +73,26 @@ not_entered due levels answer is = subst (λ (r : Result (Option (Value _)) Stop
 
 -- ---- a level that is none of the kind that is asked for
 
-pub no_list : {A : Type 0} (level : Level A) (outer : List OpenCollection) → ((items : Vec (Value A) A) → level ≡ code.Items items → ⊥)
-    → end_list (seen_open level ∷ outer) ≡ None
+pub no_list : {A : Type 0} (level : Level A) (outer : List OpenLevel) → ((items : Vec (Value A) A) → level ≡ code.Items items → ⊥)
+    → end_list (seen_level level ∷ outer) ≡ None
 no_list (code.Items items) outer other = absurd (other items refl)
-no_list (code.Members members) outer other = refl
-no_list (code.MembersAndName members name) outer other = refl
+no_list (code.Pairs members) outer other = refl
+no_list (code.PairsAndKey members name) outer other = refl
 
-pub no_map : {A : Type 0} (level : Level A) (outer : List OpenCollection) → ((members : Vec (Value A × Value A) A) → level ≡ code.Members members → ⊥)
-    → end_map (seen_open level ∷ outer) ≡ None
+pub no_map : {A : Type 0} (level : Level A) (outer : List OpenLevel) → ((members : Vec (Value A × Value A) A) → level ≡ code.Pairs members → ⊥)
+    → end_map (seen_level level ∷ outer) ≡ None
 no_map (code.Items items) outer other = refl
-no_map (code.Members members) outer other = absurd (other members refl)
-no_map (code.MembersAndName members name) outer other = refl
+no_map (code.Pairs members) outer other = absurd (other members refl)
+no_map (code.PairsAndKey members name) outer other = refl
 
-pub no_name : {A : Type 0} (level : Level A) (outer : List OpenCollection) (name : TypedValue)
-    → ((members : Vec (Value A × Value A) A) → level ≡ code.Members members → ⊥) → name_member (seen_open level ∷ outer) name ≡ None
+pub no_name : {A : Type 0} (level : Level A) (outer : List OpenLevel) (name : TypedValue)
+    → ((members : Vec (Value A × Value A) A) → level ≡ code.Pairs members → ⊥) → name_member (seen_level level ∷ outer) name ≡ None
 no_name (code.Items items) outer name other = refl
-no_name (code.Members members) outer name other = absurd (other members refl)
-no_name (code.MembersAndName members due) outer name other = refl
+no_name (code.Pairs members) outer name other = absurd (other members refl)
+no_name (code.PairsAndKey members due) outer name other = refl
+
+pub no_name_due : {A : Type 0} (level : Level A) (value : TypedValue) → ((members : Vec (Value A × Value A) A) → level ≡ code.Pairs members → ⊥)
+    → given (seen_level level) value ≡ Some (with_value (seen_level level) value)
+no_name_due (code.Items items) value other = refl
+no_name_due (code.Pairs members) value other = absurd (other members refl)
+no_name_due (code.PairsAndKey members name) value other = refl

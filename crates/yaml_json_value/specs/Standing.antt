@@ -2,63 +2,56 @@
 use Rattle.std.specs.Prelude.{Option, None, Some, option_map, option_and_then, List, [], ◌∷◌}
 use Rattle.std.specs.Str.{chars}
 use Rattle.json.specs.Token.{Token}
-use Rattle.yaml_base.specs.values.TypedValues.{TypedValue, null_value, bool_value, int_value, text_value, list_value, map_value, TypedValues, no_values}
-use Rattle.yaml_base.specs.values.TypedValues.{values_and, TypedPairs, no_value_pairs, value_pairs_and}
+use Rattle.yaml_base.specs.values.TypedValues.{TypedValue, null_value, bool_value, int_value, text_value, list_value, map_value, no_values, no_value_pairs}
+use Rattle.yaml_value.specs.OpenLevels.{OpenLevel, items_open, pairs_open, value_due, with_value}
 use Rattle.yaml_json_value.specs.Typed.{integer_of}
-
--- a list or a map that is open, with what it holds: a list; a map that awaits a name; one that awaits the value of this name
-pub data OpenCollection : Type 0 where
-  items_open : TypedValues → OpenCollection
-  members_open : TypedPairs → OpenCollection
-  value_due : TypedPairs → (name : TypedValue) → OpenCollection
 
 -- a value is whole, or it is within these levels, the innermost first
 pub data ValueStanding : Type 0 where
   whole : TypedValue → ValueStanding
-  within : List OpenCollection → ValueStanding
+  within : List OpenLevel → ValueStanding
 
--- a level with a value more
-abbrev pub with_value : OpenCollection → TypedValue → Option OpenCollection
-with_value (items_open items) value = Some (items_open (values_and items value))
-with_value (members_open pairs) value = None
-with_value (value_due pairs name) value = Some (members_open (value_pairs_and pairs name value))
+-- a level with a value more, which is misplaced where a name is due
+abbrev pub given : OpenLevel → TypedValue → Option OpenLevel
+given (pairs_open pairs) value = None
+given level value = Some (with_value level value)
 
 -- after a value
-abbrev pub give : List OpenCollection → TypedValue → Option ValueStanding
+abbrev pub give : List OpenLevel → TypedValue → Option ValueStanding
 give [] value = Some (whole value)
-give (level ∷ outer) value = option_map (λ more. within (more ∷ outer)) (with_value level value)
+give (level ∷ outer) value = option_map (λ more. within (more ∷ outer)) (given level value)
 
 -- after the end of a list, of a map, and after a name
-abbrev pub end_list_in : OpenCollection → List OpenCollection → Option ValueStanding
+abbrev pub end_list_in : OpenLevel → List OpenLevel → Option ValueStanding
 end_list_in (items_open items) outer = give outer (list_value items)
-end_list_in (members_open pairs) outer = None
+end_list_in (pairs_open pairs) outer = None
 end_list_in (value_due pairs name) outer = None
 
-abbrev pub end_list : List OpenCollection → Option ValueStanding
+abbrev pub end_list : List OpenLevel → Option ValueStanding
 end_list [] = None
 end_list (level ∷ outer) = end_list_in level outer
 
-abbrev pub end_map_in : OpenCollection → List OpenCollection → Option ValueStanding
+abbrev pub end_map_in : OpenLevel → List OpenLevel → Option ValueStanding
 end_map_in (items_open items) outer = None
-end_map_in (members_open pairs) outer = give outer (map_value pairs)
+end_map_in (pairs_open pairs) outer = give outer (map_value pairs)
 end_map_in (value_due pairs name) outer = None
 
-abbrev pub end_map : List OpenCollection → Option ValueStanding
+abbrev pub end_map : List OpenLevel → Option ValueStanding
 end_map [] = None
 end_map (level ∷ outer) = end_map_in level outer
 
-abbrev pub name_member_in : OpenCollection → List OpenCollection → TypedValue → Option ValueStanding
+abbrev pub name_member_in : OpenLevel → List OpenLevel → TypedValue → Option ValueStanding
 name_member_in (items_open items) outer name = None
-name_member_in (members_open pairs) outer name = Some (within (value_due pairs name ∷ outer))
+name_member_in (pairs_open pairs) outer name = Some (within (value_due pairs name ∷ outer))
 name_member_in (value_due pairs other) outer name = None
 
-abbrev pub name_member : List OpenCollection → TypedValue → Option ValueStanding
+abbrev pub name_member : List OpenLevel → TypedValue → Option ValueStanding
 name_member [] name = None
 name_member (level ∷ outer) name = name_member_in level outer name
 
 -- after a token
-abbrev pub take_token : Token → List OpenCollection → Option ValueStanding
-take_token Token.begin_object levels = Some (within (members_open no_value_pairs ∷ levels))
+abbrev pub take_token : Token → List OpenLevel → Option ValueStanding
+take_token Token.begin_object levels = Some (within (pairs_open no_value_pairs ∷ levels))
 take_token Token.end_object levels = end_map levels
 take_token Token.begin_array levels = Some (within (items_open no_values ∷ levels))
 take_token Token.end_array levels = end_list levels

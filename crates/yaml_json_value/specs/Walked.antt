@@ -6,27 +6,12 @@ use Rattle.yaml_base.specs.values.TypedValues.{TypedValue, most_nested, text_val
 use Rattle.yaml_emitter.specs.Given.{seen_settings}
 use Rattle.yaml_json.specs.declared.settings.JsonSettings.{JsonSettings}
 use Rattle.yaml_writer.specs.Given.{given_for_values}
-use Rattle.yaml_value.specs.SeenValues.{seen_value, seen_values, seen_pairs}
-use Rattle.yaml_value.specs.declared.value.Value.{Value}
-use Rattle.yaml_json_value.specs.Standing.{OpenCollection, ValueStanding, items_open, members_open, value_due, whole, within, with_value, run, take_token}
+use Rattle.yaml_value.specs.{OpenLevels.OpenLevel, OpenLevels.seen_level, OpenLevels.seen_levels, SeenValues.seen_value}
+use Rattle.yaml_value.specs.{declared.levels.Level.Level, declared.value.Value.Value}
+use Rattle.yaml_json_value.specs.Standing.{ValueStanding, whole, within, given, run, take_token}
 use Rattle.yaml_json_value.specs.Typed.{AreIntegers, IsFromOtherNumber, IsIntegerText, IsIntegerToken, integer_of}
 use Rattle.yaml_json_value.specs.declared.error.Stop.{Stop}
 use Rattle.yaml_json_value.specs.declared.error.Stop.TheVariants as stop
-use Rattle.yaml_json_value.specs.declared.levels.Level.{Level}
-use Rattle.yaml_json_value.specs.declared.levels.Level.TheVariants as code
-
-abbrev pub seen_open : {A : Type 0} → Level A → OpenCollection
-seen_open (code.Items items) = items_open (seen_values items.items)
-seen_open (code.Members members) = members_open (seen_pairs members.items)
-seen_open (code.MembersAndName members name) = value_due (seen_pairs members.items) (seen_value name)
-
--- the innermost first
-abbrev pub collections_onto : {A : Type 0} → List OpenCollection → List (Level A) → List OpenCollection
-collections_onto outer [] = outer
-collections_onto outer (level ∷ levels) = collections_onto (seen_open level ∷ outer) levels
-
-abbrev pub seen_all_open : {A : Type 0} → List (Level A) → List OpenCollection
-seen_all_open levels = collections_onto [] levels
 
 -- the digits are those of this integer, or of none, unless memory ran out
 abbrev pub IsIntegerIn : (digits : List ℕ) → Result ℤ Stop → Type 0
@@ -36,16 +21,16 @@ IsIntegerIn digits (Err stop.NotInteger) = IsIntegerText digits → ⊥
 IsIntegerIn digits (Err stop.Memory) = ⊥
 
 -- the level has the value more, unless memory ran out
-abbrev pub HasMore : {A : Type 0} → OpenCollection → TypedValue → Result (Level A) Stop → Type 0
-HasMore level value (Ok more) = with_value level value ≡ Some (seen_open more)
-HasMore level value (Err stop.Misplaced) = with_value level value ≡ None
+abbrev pub HasMore : {A : Type 0} → OpenLevel → TypedValue → Result (Level A) Stop → Type 0
+HasMore level value (Ok more) = given level value ≡ Some (seen_level more)
+HasMore level value (Err stop.Misplaced) = given level value ≡ None
 HasMore level value (Err stop.NotInteger) = ⊥
 HasMore level value (Err stop.Memory) = Unit {0}
 
 -- so the walk stands, unless memory ran out, or a number is no integer
 abbrev pub StandsAt : {A : Type 0} → Option ValueStanding → List (Level A) → Result (Option (Value A)) Stop → Type 0
 StandsAt due levels (Ok (Some value)) = due ≡ Some (whole (seen_value value))
-StandsAt due levels (Ok None) = due ≡ Some (within (seen_all_open levels))
+StandsAt due levels (Ok None) = due ≡ Some (within (seen_levels levels))
 StandsAt due levels (Err stop.Misplaced) = due ≡ None
 StandsAt due levels (Err stop.NotInteger) = ⊥
 StandsAt due levels (Err stop.Memory) = Unit {0}
@@ -55,9 +40,9 @@ abbrev pub IsOtherNumber : Token → Type 0
 IsOtherNumber token = (digits : List ℕ) × (token ≡ Token.number digits) × (IsIntegerText digits → ⊥)
 
 -- a token's answer: where the walk stands; whether it is an integer, if it is a number
-abbrev pub Taken : {A : Type 0} → Token → List OpenCollection → List (Level A) → Result (Option (Value A)) Stop → Type 0
+abbrev pub Taken : {A : Type 0} → Token → List OpenLevel → List (Level A) → Result (Option (Value A)) Stop → Type 0
 Taken token before levels (Ok (Some value)) = (take_token token before ≡ Some (whole (seen_value value))) × IsIntegerToken token
-Taken token before levels (Ok None) = (take_token token before ≡ Some (within (seen_all_open levels))) × IsIntegerToken token
+Taken token before levels (Ok None) = (take_token token before ≡ Some (within (seen_levels levels))) × IsIntegerToken token
 Taken token before levels (Err stop.Misplaced) = take_token token before ≡ None
 Taken token before levels (Err stop.NotInteger) = IsOtherNumber token
 Taken token before levels (Err stop.Memory) = Unit {0}
@@ -75,7 +60,7 @@ StopsAtOther all from (Err stop.NotInteger) = IsFromOtherNumber all from
 StopsAtOther all from _ = Unit {0}
 
 -- of all tokens those ahead are left, those before have integers alone, and the walk is within these levels
-pub record WalkedTo (all ahead : List Token) (levels : List OpenCollection) : Type 0 where
+pub record WalkedTo (all ahead : List Token) (levels : List OpenLevel) : Type 0 where
   pub before : List Token
   pub parts : before ++ ahead ≡ all
   pub integers : AreIntegers before

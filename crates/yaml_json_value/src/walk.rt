@@ -3,18 +3,19 @@ ghost use Rattle.std.specs.Prelude.{◌≡◌, ◌∷◌, [], IfErr, IfOk, OnOk,
 ghost use Rattle.json.specs.Reads.{token_of};
 ghost use Rattle.json.specs.Token as spec;
 ghost use Rattle.yaml_base.specs.values.TypedValues.{TypedValue};
+ghost use Rattle.yaml_value.specs.OpenLevels.{seen_levels};
 ghost use Rattle.yaml_value.specs.SeenValues.{seen_value};
 ghost use Rattle.yaml_json_value.specs.Standing.{run, whole, within};
 ghost use Rattle.yaml_json_value.specs.Typed.{AreIntegers};
-ghost use Rattle.yaml_json_value.specs.Walked.{EndsAt, IsRoot, IsText, ReadsNoToken, StopsAtOther, Taken, seen_all_open};
+ghost use Rattle.yaml_json_value.specs.Walked.{EndsAt, IsRoot, IsText, ReadsNoToken, StopsAtOther, Taken};
 
 use crate::error::Stop;
-use crate::levels::{Level, enter, give_name, leave_list, leave_map, settle};
+use crate::levels::{enter, give_name, leave_list, leave_map, settle};
 use crate::numbers::integer_in;
 use json::Token;
 use std::alloc::Allocator;
 use yaml_json::Tokens;
-use yaml_value::Value;
+use yaml_value::{Level, Value};
 
 fn text_of<A: Allocator + Copy>(alloc: A, text: &str) -> Result<Value<A>, Stop>
     ensures { IsText text.now result }
@@ -30,7 +31,7 @@ fn take_text<A: Allocator + Copy>(
     levels: &mut Vec<Level<A>, A>,
     text: &str,
 ) -> Result<Option<Value<A>>, Stop>
-    ensures { Taken (spec.string text.now) (seen_all_open levels.old.items) levels.new.items result }
+    ensures { Taken (spec.string text.now) (seen_levels levels.old.items) levels.new.items result }
 {
     match text_of(alloc, text) {
         Ok(value) => settle(levels, value),
@@ -43,7 +44,7 @@ fn take_name<A: Allocator + Copy>(
     levels: &mut Vec<Level<A>, A>,
     name: &str,
 ) -> Result<Option<Value<A>>, Stop>
-    ensures { Taken (spec.key name.now) (seen_all_open levels.old.items) levels.new.items result }
+    ensures { Taken (spec.key name.now) (seen_levels levels.old.items) levels.new.items result }
 {
     match text_of(alloc, name) {
         Ok(name) => give_name(levels, name),
@@ -55,7 +56,7 @@ fn take_number<A: Allocator + Copy>(
     levels: &mut Vec<Level<A>, A>,
     digits: &str,
 ) -> Result<Option<Value<A>>, Stop>
-    ensures { Taken (spec.number digits.now) (seen_all_open levels.old.items) levels.new.items result }
+    ensures { Taken (spec.number digits.now) (seen_levels levels.old.items) levels.new.items result }
 {
     match integer_in(digits) {
         Ok(number) => settle(levels, Value::Int(number)),
@@ -69,7 +70,7 @@ fn take_token<'a, A: Allocator + Copy>(
     levels: &mut Vec<Level<A>, A>,
     token: Token<'a>,
 ) -> Result<Option<Value<A>>, Stop>
-    ensures { Taken (token_of token.entry) (seen_all_open levels.old.items) levels.new.items result }
+    ensures { Taken (token_of token.entry) (seen_levels levels.old.items) levels.new.items result }
 {
     match token {
         Token::Null => settle(levels, Value::Null),
@@ -79,7 +80,7 @@ fn take_token<'a, A: Allocator + Copy>(
         Token::Key(name) => take_name(alloc, levels, name),
         Token::BeginArray => enter(levels, Level::Items(Vec::new(alloc))),
         Token::EndArray => leave_list(levels),
-        Token::BeginObject => enter(levels, Level::Members(Vec::new(alloc))),
+        Token::BeginObject => enter(levels, Level::Pairs(Vec::new(alloc))),
         Token::EndObject => leave_map(levels),
         Token::Bad => Err(Stop::Misplaced),
     }

@@ -9,7 +9,7 @@ use Rattle.std.{proofs.lemmas.Bool.cases_lt, specs.Fmt.signed_decimal, specs.Int
 use Rattle.yaml_read.specs.Grammar.{behind_in, behind_tag, characters, these_or_those, integer, line_then, node, nothing, quoted_text, unless_deep, word_then}
 use Rattle.yaml_read.specs.Heads.{ReadsCharacter, tag_word}
 use Rattle.yaml_read.specs.Places.{BreaksAt, BreaksOff, IsHere, IsHereOrMemory, IsWholeWord, LacksEnd, StopsIn, behind_all, behind_node, in_node, more_follows}
-use Rattle.yaml_read.specs.Remaining.{OpenLevel, items_open, pairs_open, value_due}
+use Rattle.yaml_value.specs.OpenLevels.{OpenLevel, items_open, pairs_open, value_due}
 use Rattle.yaml_read.specs.{Opened.HasRead, Opened.IsOpen, Opened.OpenCanBeRead, Places.no_end, Sound.IsCharacter, Words.OrMemory}
 use Rattle.yaml_read.specs.{Words.past_word, declared.errors.Stop.Stop, declared.heads.Kind.Kind}
 use Rattle.yaml_read.proofs.{Breaking.here, Breaking.missing, Breaking.passed, Breaking.passed_at, Breaking.second_of}

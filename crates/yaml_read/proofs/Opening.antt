@@ -5,10 +5,13 @@ use Rattle.yaml_base.specs.values.TypedValues.{TypedValue, TypedValues, no_value
 use Rattle.yaml_base.specs.values.TypedValues.{map_value, most_nested}
 use Rattle.yaml_base.specs.values.ValueText.{line_at, value_text, items_text, pairs_text, entry_lead, has_no_values, has_no_value_pairs, document_text}
 use Rattle.std.proofs.lemmas.Str.{encodes-append}
-use Rattle.yaml_read.specs.Remaining.{Completes, IsRead, text_ends, OpenLevel, items_open, pairs_open, value_due, column_in, seen_level, seen_levels}
-use Rattle.yaml_read.specs.{Opened.opened_text, Opened.IsOpen, Opened.HasRead, Readable.CanBeReadAt, declared.levels.Level.Level}
+use Rattle.yaml_value.specs.OpenLevels.{OpenLevel, items_open, pairs_open, seen_level, seen_levels, value_due}
+use Rattle.yaml_value.specs.declared.levels.Level.{Level}
+use Rattle.yaml_value.proofs.SeenLevels.{level_more}
+use Rattle.yaml_read.specs.Remaining.{Completes, IsRead, text_ends, column_in}
+use Rattle.yaml_read.specs.{Opened.opened_text, Opened.IsOpen, Opened.HasRead, Readable.CanBeReadAt}
 use Rattle.yaml_read.specs.{Places.LacksEnd, Places.more_follows, Places.no_end, declared.errors.Stop.Stop}
-use Rattle.yaml_read.proofs.{SeenLevels.level_more, Encoded.are_ascii, Encoded.word_encoded, Encoded.line_encoded, Turns.column_is, Turns.line_deeper}
+use Rattle.yaml_read.proofs.{Encoded.are_ascii, Encoded.word_encoded, Encoded.line_encoded, Turns.column_is, Turns.line_deeper}
 use Rattle.yaml_read.proofs.{Turns.cut_is, Words.no_word}
 
 -- a word that is its own bytes is read
@@ -231,7 +234,7 @@ pub taken : {A : Type 0} (before : List OpenLevel) (first value : TypedValue) (t
     (whole : List ℕ) → ReadsOn before first text (seen_levels old) value bytes → old ≡ new ++ level ∷ [] → HasRead whole before first text
     → HasRead whole (seen_level level ∷ seen_levels new) value bytes
 taken before first value text bytes old new level whole goes is read =
-    subst (λ (levels : List OpenLevel). HasRead whole levels value bytes) (ap seen_levels is ∙ level_more new level) (goes.read whole read)
+    subst (λ (levels : List OpenLevel). HasRead whole levels value bytes) (level_more new old level is) (goes.read whole read)
 
 -- a text that is empty
 pub nothing_left : (bytes : List ℕ) (empty : Bool) → empty ≡ (length bytes == 0) → empty ≡ true → bytes ≡ []

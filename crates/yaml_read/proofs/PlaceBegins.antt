@@ -4,11 +4,12 @@ use Rattle.yaml_base.proofs.Common.{length, line_feed, encode_utf8_all, Text}
 use Rattle.yaml_base.specs.values.TypedValues.{TypedValue, list_value, map_value, most_nested, value_pairs_and, values_and}
 use Rattle.yaml_base.specs.values.ValueText.{line_at, value_text}
 use Rattle.std.{proofs.Math.Seq.take-append_seam, proofs.lemmas.List.length-append, proofs.lemmas.Str.encodes-append, specs.Prelude.take}
-use Rattle.yaml_read.specs.Remaining.{Completes, OpenLevel, column_in, item_follows, items_open, list_ends, map_ends, pair_follows, pairs_open, text_ends}
+use Rattle.yaml_value.specs.OpenLevels.{OpenLevel, items_open, pairs_open, value_due}
+use Rattle.yaml_read.specs.Remaining.{Completes, column_in, item_follows, list_ends, map_ends, pair_follows, text_ends}
 use Rattle.yaml_read.proofs.Opening.{item_on, item_out, key_on, pair_on, pair_out, value_in, value_out}
 use Rattle.yaml_read.proofs.Turns.{comma_deeper, comma_line, key_line}
 use Rattle.yaml_read.{specs.Grammar.behind_value, specs.Opened.opened_text, specs.Readable.CanBeReadAt, proofs.WordTexts.node_words, proofs.WordsBehind.closing}
-use Rattle.yaml_read.{specs.Grammar.node, specs.Opened.HasRead, specs.Opened.IsOpen, specs.Places.BreaksOff, specs.Remaining.value_due, proofs.WordTexts.flat}
+use Rattle.yaml_read.{specs.Grammar.node, specs.Opened.HasRead, specs.Opened.IsOpen, specs.Places.BreaksOff, proofs.WordTexts.flat}
 use Rattle.yaml_read.{specs.Remaining.value_follows, specs.TextsAndWords.BeginsValue, proofs.Encoded.word_encoded, proofs.WordsBehind.behind_words}
 
 -- ---- what was read and what completes it are a value's text

@@ -5,7 +5,8 @@ use Rattle.yaml_base.specs.values.TypedValues.{values_and, TypedPairs, no_value_
 use Rattle.yaml_base.specs.values.TypedValues.{nesting, values_nesting, value_pairs_nesting, most_nested}
 use Rattle.yaml_base.specs.values.ValueText.{line_at, value_text, items_text, pairs_text}
 use Rattle.yaml_read.specs.Readable.{HasScalarTexts, HaveScalarTexts, PairsHaveScalarTexts, CanBeRead, CanBeReadAt, AllCanBeReadAt, PairsCanBeReadAt}
-use Rattle.yaml_read.specs.Remaining.{OpenLevel, items_open, pairs_open, value_due, column_in, Completes, item_follows, value_follows, pair_follows}
+use Rattle.yaml_value.specs.OpenLevels.{OpenLevel, items_open, pairs_open, value_due}
+use Rattle.yaml_read.specs.Remaining.{column_in, Completes, item_follows, value_follows, pair_follows}
 
 -- ---- readable values
 

@@ -13,7 +13,9 @@ use Rattle.yaml_read.specs.Grammar.{integer, line_then, nothing, quoted_text, tr
 use Rattle.yaml_read.specs.Heads.{IsScalar, IsWhole, tag_word}
 use Rattle.yaml_read.specs.Opened.{IsOpen}
 use Rattle.yaml_read.specs.Places.{BreaksAt, IsHere, IsHereOrMemory}
-use Rattle.yaml_read.specs.Remaining.{IsDue, OpenLevel, Reached, column_in, items_open, pairs_open}
+use Rattle.yaml_value.specs.OpenLevels.{OpenLevel, items_open, pairs_open}
+use Rattle.yaml_value.proofs.SeenLevels.{seen_null, seen_string}
+use Rattle.yaml_read.specs.Remaining.{IsDue, Reached, column_in}
 use Rattle.yaml_read.specs.Stepped.{BracketLacks, Entered, EntryLacks, NextShorter, ScalarRead, Settled, Stepped, no_bracket, no_lead, no_line}
 use Rattle.yaml_read.specs.Stepped.{no_memory, no_room}
 use Rattle.yaml_read.specs.{Readable.CanBeReadAt, Sound.IsInteger, Sound.IsScalarValue, Sound.IsTruth, Words.OrMemory, Words.past_word}
@@ -23,7 +25,7 @@ use Rattle.yaml_read.proofs.HeadTexts.{list_bracket, list_empty, map_bracket, ma
 use Rattle.yaml_read.proofs.HeadsRead.{empty_list, empty_map, integer_read, null_read, string_read, truth_read}
 use Rattle.yaml_read.proofs.Opening.{list_in, map_in, value_in}
 use Rattle.yaml_read.proofs.Turns.{Opens, cut_is, into, list_opens, map_opens, whole_read}
-use Rattle.yaml_read.proofs.{Encoded.word_encoded, SeenLevels.seen_null, SeenLevels.seen_string, Words.error_stays, Words.no_word}
+use Rattle.yaml_read.proofs.{Encoded.word_encoded, Words.error_stays, Words.no_word}
 use Rattle.yaml_value.{specs.SeenValues.seen_value, specs.declared.value.Value.Value}
 use Rattle.yaml_value.specs.declared.value.Value as declared
 use Rattle.yaml_read.specs.declared.errors.Stop.{Stop}

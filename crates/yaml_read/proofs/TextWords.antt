@@ -8,7 +8,8 @@ use Rattle.std.specs.Prelude.{ℤ, ◌^◌}
 use Rattle.std.{proofs.lemmas.Str.encodes-append, specs.Fmt.signed_decimal, specs.Int.Signed.mag}
 use Rattle.yaml_read.specs.Grammar.{behind_tag, behind_value, characters, these_or_those, entry_end, integer, levels_then, line_then, node, nothing}
 use Rattle.yaml_read.specs.Grammar.{quoted_text, truth, unless_deep, word_then}
-use Rattle.yaml_read.specs.Remaining.{IsDue, IsRead, OpenLevel, column_in, items_open, pairs_open, value_due}
+use Rattle.yaml_value.specs.OpenLevels.{OpenLevel, items_open, pairs_open, value_due}
+use Rattle.yaml_read.specs.Remaining.{IsDue, IsRead, column_in}
 use Rattle.yaml_read.proofs.HeadTexts.{list_tail, map_tail, value_bytes, value_tail, value_word}
 use Rattle.yaml_read.proofs.Turns.{EntryEnds, Leads, column_is, item_ends, key_ends, leads_on, leads_out, pair_ends, text_ended}
 use Rattle.yaml_read.{specs.Heads.tag_word, specs.Readable.CanBeReadAt, proofs.Breaking.level_first, proofs.Encoded.line_encoded, proofs.Encoded.word_encoded}

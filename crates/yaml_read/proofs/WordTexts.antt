@@ -6,7 +6,8 @@ use Rattle.yaml_base.specs.values.TypedValues.{no_value_pairs, no_values, value_
 use Rattle.yaml_base.{specs.scalars.DoubleQuoted.quote, specs.values.ValueText.in_quotes, specs.values.ValueText.line_at, specs.values.ValueText.value_text}
 use Rattle.std.{proofs.lemmas.Str.encodes-append, specs.Fmt.signed_decimal}
 use Rattle.yaml_read.specs.Grammar.{behind_tag, characters, these_or_those, levels_then, line_then, node, nothing, quoted_text, truth, unless_deep, word_then}
-use Rattle.yaml_read.specs.{Heads.tag_word, Readable.CanBeReadAt, Remaining.OpenLevel, Remaining.column_in, TextsAndWords.BeginsText, declared.heads.Kind.Kind}
+use Rattle.yaml_value.specs.OpenLevels.{OpenLevel}
+use Rattle.yaml_read.specs.{Heads.tag_word, Readable.CanBeReadAt, Remaining.column_in, TextsAndWords.BeginsText, declared.heads.Kind.Kind}
 use Rattle.yaml_read.proofs.{Breaking.level_first, CharactersRead.scalars_more, Encoded.word_encoded, HeadTexts.value_bytes, HeadTexts.value_tail}
 use Rattle.yaml_read.proofs.{HeadTexts.value_word, HeadsRead.word_bytes, Remaining.items_behind, Remaining.pairs_behind, TextWords.entry_line}
 use Rattle.yaml_read.specs.declared.heads.Kind.TheVariants as kind

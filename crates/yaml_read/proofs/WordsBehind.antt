@@ -3,8 +3,9 @@ use Rattle.yaml_base.proofs.Common.{ℕ, ◌+◌, ◌*◌, [], ◌∷◌, ◌++�
 use Rattle.yaml_base.specs.values.TypedValues.{TypedValue, TypedValues, TypedPairs, list_value, map_value, null_value, value_pairs_and, values_and}
 use Rattle.yaml_base.{proofs.Common.encode_utf8_all, proofs.Common.Text, specs.values.ValueText.line_at, specs.values.ValueText.value_text}
 use Rattle.yaml_read.specs.Grammar.{behind_value, these_or_those, entry_end, nothing, word_then}
-use Rattle.yaml_read.specs.Remaining.{Completes, OpenLevel, column_in, item_follows, items_open, list_ends, map_ends, pair_follows, pairs_open, text_ends}
-use Rattle.yaml_read.specs.Remaining.{value_due, value_follows}
+use Rattle.yaml_value.specs.OpenLevels.{OpenLevel, items_open, pairs_open, value_due}
+use Rattle.yaml_read.specs.Remaining.{Completes, column_in, item_follows, list_ends, map_ends, pair_follows, text_ends}
+use Rattle.yaml_read.specs.Remaining.{value_follows}
 use Rattle.yaml_read.proofs.WordTexts.{LineWords, flat, line_words, one_word}
 use Rattle.yaml_read.{specs.TextsAndWords.GoesOnWith, proofs.Encoded.word_encoded, proofs.Turns.comma_deeper, proofs.Turns.comma_line, proofs.Turns.key_line}
 

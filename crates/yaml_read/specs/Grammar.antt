@@ -7,7 +7,7 @@ use Rattle.yaml_base.specs.scalars.DoubleQuoted.{character_text}
 use Rattle.yaml_base.specs.values.TypedValues.{most_nested}
 use Rattle.yaml_base.specs.values.ValueText.{in_quotes}
 use Rattle.yaml_read.specs.Heads.{tag_word}
-use Rattle.yaml_read.specs.Remaining.{OpenLevel, items_open, pairs_open, value_due}
+use Rattle.yaml_value.specs.OpenLevels.{OpenLevel, items_open, pairs_open, value_due}
 use Rattle.yaml_read.specs.declared.heads.Kind.{Kind}
 use Rattle.yaml_read.specs.declared.heads.Kind.TheVariants as kind
 

@@ -4,9 +4,10 @@ use Rattle.std.specs.Str.{encode_utf8_all}
 use Rattle.yaml_base.specs.Characters.{Text, line_feed}
 use Rattle.yaml_base.specs.values.TypedValues.{TypedValue, most_nested}
 use Rattle.yaml_base.specs.values.ValueText.{line_at, value_text, items_text, pairs_text, entry_lead, has_no_values, has_no_value_pairs}
+use Rattle.yaml_value.specs.OpenLevels.{OpenLevel, items_open, pairs_open, seen_level, value_due}
 use Rattle.yaml_value.specs.SeenValues.{seen_value}
 use Rattle.yaml_read.specs.Readable.{CanBeReadAt, AllCanBeReadAt, PairsCanBeReadAt}
-use Rattle.yaml_read.specs.Remaining.{OpenLevel, items_open, pairs_open, value_due, column_in, seen_level}
+use Rattle.yaml_read.specs.Remaining.{column_in}
 use Rattle.yaml_read.specs.declared.levels.Entry.{Entry}
 use Rattle.yaml_read.specs.declared.levels.Entry.TheVariants.{Another, End}
 use Rattle.yaml_read.specs.declared.levels.Turn.{Turn}

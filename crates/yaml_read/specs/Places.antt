@@ -9,7 +9,7 @@ use Rattle.yaml_base.specs.values.TypedValues.{TypedValue, most_nested}
 use Rattle.yaml_base.specs.values.ValueText.{line_at}
 use Rattle.yaml_read.specs.Grammar.{behind_value, node, nothing, word_then}
 use Rattle.yaml_read.specs.Opened.{HasRead, IsOpen}
-use Rattle.yaml_read.specs.Remaining.{OpenLevel}
+use Rattle.yaml_value.specs.OpenLevels.{OpenLevel}
 use Rattle.yaml_read.specs.Words.{Cuts, CutsIf, past_word}
 use Rattle.yaml_read.specs.declared.errors.ReadError.{ReadError}
 use Rattle.yaml_read.specs.declared.errors.ReadError.TheVariants as told

@@ -4,22 +4,15 @@ use Rattle.std.specs.Str.{encode_utf8_all}
 use Rattle.yaml_base.specs.Characters.{Text, line_feed}
 use Rattle.yaml_base.specs.values.TypedValues.{TypedValue, list_value, map_value, TypedValues, values_and, TypedPairs, value_pairs_and}
 use Rattle.yaml_base.specs.values.ValueText.{line_at, value_text}
-use Rattle.yaml_value.specs.SeenValues.{seen_value, seen_values, seen_pairs}
+use Rattle.yaml_value.specs.OpenLevels.{OpenLevel, items_open, pairs_open, seen_level, value_due}
+use Rattle.yaml_value.specs.SeenValues.{seen_value}
 use Rattle.yaml_read.specs.Readable.{CanBeReadAt}
 use Rattle.yaml_read.specs.declared.errors.Stop.{Stop}
 use Rattle.yaml_read.specs.declared.errors.Stop.TheVariants as stop
-use Rattle.yaml_read.specs.declared.levels.Level.{Level}
-use Rattle.yaml_read.specs.declared.levels.Level.TheVariants as code
 use Rattle.yaml_read.specs.declared.levels.Turn.{Turn}
 use Rattle.yaml_read.specs.declared.levels.Turn.TheVariants.{Continues, Ends}
 use Rattle.yaml_read.specs.declared.levels.Next.{Next}
 use Rattle.yaml_read.specs.declared.levels.Next.TheVariants.{Done, Node}
-
--- a list or a map that is open, with what was read of it
-pub data OpenLevel : Type 0 where
-  items_open : TypedValues → OpenLevel
-  pairs_open : TypedPairs → OpenLevel
-  value_due : TypedPairs → TypedValue → OpenLevel
 
 -- the column of entries, the innermost level first
 abbrev pub column_in : List OpenLevel → ℕ
@@ -68,20 +61,6 @@ pub record IsRead (root : TypedValue) (levels : List OpenLevel) (value : TypedVa
   pub completes : Completes root levels value rest
 
 -- ---- the code's answers
-
--- a list or a map of the code
-abbrev pub seen_level : {A : Type 0} → Level A → OpenLevel
-seen_level (code.Items items) = items_open (seen_values items.items)
-seen_level (code.Pairs pairs) = pairs_open (seen_pairs pairs.items)
-seen_level (code.PairsAndKey pairs key) = value_due (seen_pairs pairs.items) (seen_value key)
-
--- the innermost first, before outer ones
-abbrev pub onto : {A : Type 0} → List OpenLevel → List (Level A) → List OpenLevel
-onto outer [] = outer
-onto outer (level ∷ levels) = onto (seen_level level ∷ outer) levels
-
-abbrev pub seen_levels : {A : Type 0} → List (Level A) → List OpenLevel
-seen_levels levels = onto [] levels
 
 -- behind a value in a list or a map, unless memory gave out
 abbrev pub TurnReached : {A : Type 0} → TypedValue → List OpenLevel → Result (Turn A) Stop → Type 0

@@ -4,17 +4,17 @@ use Rattle.std.specs.Borrow.{Bor}
 use Rattle.std.specs.Str.{all_scalars, encode_utf8_all}
 use Rattle.yaml_base.specs.Characters.{Text}
 use Rattle.yaml_base.specs.Seen.{seen_text}
-use Rattle.yaml_base.specs.values.TypedValues.{TypedValue, most_nested}
+use Rattle.yaml_base.specs.values.TypedValues.{TypedValue, TypedValues, values_and, TypedPairs, value_pairs_and, most_nested}
 use Rattle.yaml_base.specs.values.ValueText.{document_text, in_quotes, line_at, value_text}
-use Rattle.yaml_value.specs.SeenValues.{seen_value}
-use Rattle.yaml_value.specs.declared.value.Value.{Value}
+use Rattle.yaml_value.specs.OpenLevels.{OpenLevel, items_open, pairs_open, value_due}
+use Rattle.yaml_value.specs.{SeenValues.seen_value, declared.value.Value.Value}
 use Rattle.yaml_read.specs.Awaits.{EntryStands}
 use Rattle.yaml_read.specs.Entries.{EntryFound}
 use Rattle.yaml_read.specs.Grammar.{behind_in, behind_tag, entry_end, line_then, nothing, quoted_text, these_or_those, word_then}
 use Rattle.yaml_read.specs.Heads.{IsWhole, tag_word}
 use Rattle.yaml_read.specs.Opened.{EntryCut, HasRead, IsOpen, NextRead, TurnRead}
 use Rattle.yaml_read.specs.Places.{BreaksAt, IsDeepHere, IsHere, LacksLine, StopsAt, StopsIn}
-use Rattle.yaml_read.specs.Remaining.{IsDue, IsRead, OpenLevel, Reached, TurnReached}
+use Rattle.yaml_read.specs.Remaining.{IsDue, IsRead, Reached, TurnReached}
 use Rattle.yaml_read.specs.Readable.{CanBeRead, CanBeReadAt}
 use Rattle.yaml_read.specs.Sound.{IsScalarValue}
 use Rattle.yaml_read.specs.Words.{Cuts, OrMemory, past_word}
@@ -138,6 +138,14 @@ pub record Taken {A : Type 0} (depth : ℕ) (level : OpenLevel) (value : TypedVa
       → IfOk result (TurnRead whole levels)
   pub breaks : IfErr result (BreaksAt (behind_in depth level) text)
   pub shorter : IfOk result (TurnShorter text)
+
+-- behind the value that such a list or a map took last
+abbrev pub LastTaken : {A : Type 0} → (depth : ℕ) → OpenLevel → (text : List ℕ) → Result (Turn A) Stop → Type 0
+LastTaken depth (items_open items) text result =
+    (before : TypedValues) (item : TypedValue) → items ≡ values_and before item → Taken depth (items_open before) item text result
+LastTaken depth (value_due pairs key) text result = Taken depth (pairs_open pairs) key text result
+LastTaken depth (pairs_open pairs) text result =
+    (before : TypedPairs) (key value : TypedValue) → pairs ≡ value_pairs_and before key value → Taken depth (value_due before key) value text result
 
 -- ---- documents
 

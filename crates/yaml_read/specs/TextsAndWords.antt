@@ -5,7 +5,8 @@ use Rattle.yaml_base.specs.Characters.{Text, line_feed}
 use Rattle.yaml_base.specs.values.TypedValues.{TypedValue}
 use Rattle.yaml_base.specs.values.ValueText.{value_text}
 use Rattle.yaml_read.specs.Readable.{CanBeReadAt}
-use Rattle.yaml_read.specs.Remaining.{Completes, OpenLevel, column_in}
+use Rattle.yaml_value.specs.OpenLevels.{OpenLevel}
+use Rattle.yaml_read.specs.Remaining.{Completes, column_in}
 
 -- some of these words begin the bytes
 pub record BeginsWith (These : List (List ℕ) → Type 0) (bytes : List ℕ) : Type 0 where

@@ -9,10 +9,11 @@ ghost use Rattle.yaml_read.specs.Opened.{HasRead, IsOpen};
 ghost use Rattle.yaml_read.specs.Places.{BreaksOff};
 ghost use Rattle.yaml_read.specs.ReadBack.{IsAnswerTo};
 ghost use Rattle.yaml_read.specs.Readable.{CanBeRead};
-ghost use Rattle.yaml_read.specs.Remaining.{IsDue, IsRead, OpenLevel};
+ghost use Rattle.yaml_read.specs.Remaining.{IsDue, IsRead};
 ghost use Rattle.yaml_read.specs.TextsAndWords.{BeginsText, BeginsValue, BeginsWith, GoesOnWith};
 ghost use Rattle.yaml_read.specs.declared.errors.ReadError.TheVariants as told;
 ghost use Rattle.yaml_read.specs.declared.errors.ReadError.{ReadError};
+ghost use Rattle.yaml_value.specs.OpenLevels.{OpenLevel};
 ghost use Rattle.yaml_value.specs.SeenValues.{seen_value};
 ghost use Rattle.yaml_value.specs.declared.value.Value.{Value};
 

@@ -1,9 +1,9 @@
 //! The lists and maps that are open.
 ghost use Rattle.std.specs.Prelude.{◌≡◌, ◌++◌, [], List, length};
 ghost use Rattle.yaml_read.specs.Heads.{tag_word};
-ghost use Rattle.yaml_read.specs.Remaining.{OpenLevel, items_open, pairs_open, seen_level, seen_levels, value_due};
-ghost use Rattle.yaml_read.specs.Stepped.{BracketRead, Entered, EntryRead, Settled, Stepped, Taken};
+ghost use Rattle.yaml_read.specs.Stepped.{BracketRead, Entered, EntryRead, LastTaken, Settled, Stepped, Taken};
 ghost use Rattle.yaml_read.specs.declared.heads.Kind.TheVariants as kind;
+ghost use Rattle.yaml_value.specs.OpenLevels.{OpenLevel, items_open, pairs_open, seen_level, seen_levels, value_due};
 ghost use Rattle.yaml_value.specs.SeenValues.{seen_pairs, seen_value, seen_values};
 
 use crate::cuts::{after, after_lead, end_text, past};
@@ -11,20 +11,10 @@ use crate::errors::Stop;
 use crate::leads::another_entry;
 use crate::steps::push;
 use std::alloc::Allocator;
-use yaml_value::Value;
+use yaml_value::{Level, Value};
 
 /// The maximum nesting depth of lists and maps.
 const MOST_NESTED: usize = 1_000;
-
-/// A list or a map that is open, with what it holds.
-#[derive(Drop)]
-pub(crate) enum Level<A: Allocator> {
-    Items(Vec<Value<A>, A>),
-    /// A key is to come.
-    Pairs(Vec<(Value<A>, Value<A>), A>),
-    /// The value of this key is to come.
-    PairsAndKey(Vec<(Value<A>, Value<A>), A>, Value<A>),
-}
 
 /// After a value in a list or a map: another node in it follows, or it ends. The text is what follows then.
 #[derive(Drop)]
@@ -56,20 +46,14 @@ fn next_entry<'a>(text: &'a str, depth: usize, lead: &str, end: &str) -> Result<
     }
 }
 
-/// Takes an item of a list.
-fn take_item<'a, A: Allocator>(
+/// Reads what follows the last item of a list.
+fn behind_item<'a, A: Allocator>(
     items: Vec<Value<A>, A>,
-    item: Value<A>,
     text: &'a str,
     depth: usize,
 ) -> Result<Turn<'a, A>, Stop>
-    ensures { Taken depth (items_open (seen_values items.items)) (seen_value item) text.now result }
+    ensures { LastTaken depth (items_open (seen_values items.items)) text.now result }
 {
-    let mut items = items;
-    match push(&mut items, item) {
-        Ok(()) => {}
-        Err(stop) => return Err(stop),
-    }
     match next_entry(text, depth, "  ", "]") {
         Ok(Entry::Another(rest)) => Ok(Turn::Continues(Level::Items(items), rest)),
         Ok(Entry::End(rest)) => Ok(Turn::Ends(Value::List(items), rest)),
@@ -77,20 +61,14 @@ fn take_item<'a, A: Allocator>(
     }
 }
 
-/// Takes a pair of a map.
-fn take_pair<'a, A: Allocator>(
+/// Reads what follows the last pair of a map.
+fn behind_pair<'a, A: Allocator>(
     pairs: Vec<(Value<A>, Value<A>), A>,
-    pair: (Value<A>, Value<A>),
     text: &'a str,
     depth: usize,
 ) -> Result<Turn<'a, A>, Stop>
-    ensures { Taken depth (value_due (seen_pairs pairs.items) (seen_value pair.0)) (seen_value pair.1) text.now result }
+    ensures { LastTaken depth (pairs_open (seen_pairs pairs.items)) text.now result }
 {
-    let mut pairs = pairs;
-    match push(&mut pairs, pair) {
-        Ok(()) => {}
-        Err(stop) => return Err(stop),
-    }
     match next_entry(text, depth, "  ? ", "}") {
         Ok(Entry::Another(rest)) => Ok(Turn::Continues(Level::Pairs(pairs), rest)),
         Ok(Entry::End(rest)) => Ok(Turn::Ends(Value::Map(pairs), rest)),
@@ -98,14 +76,14 @@ fn take_pair<'a, A: Allocator>(
     }
 }
 
-/// Takes a key of a map.
-fn take_key<'a, A: Allocator>(
+/// Reads what follows a key of a map.
+fn behind_key<'a, A: Allocator>(
     pairs: Vec<(Value<A>, Value<A>), A>,
     key: Value<A>,
     text: &'a str,
     depth: usize,
 ) -> Result<Turn<'a, A>, Stop>
-    ensures { Taken depth (pairs_open (seen_pairs pairs.items)) (seen_value key) text.now result }
+    ensures { LastTaken depth (value_due (seen_pairs pairs.items) (seen_value key)) text.now result }
 {
     match after_lead(text, depth, "  : ") {
         Ok(rest) => Ok(Turn::Continues(Level::PairsAndKey(pairs, key), rest)),
@@ -125,10 +103,13 @@ fn take_value<'a, A: Allocator>(
 ) -> Result<Turn<'a, A>, Stop>
     ensures { Taken depth (seen_level level) (seen_value value) text.now result }
 {
-    match level {
-        Level::Items(items) => take_item(items, value, text, depth),
-        Level::Pairs(pairs) => take_key(pairs, value, text, depth),
-        Level::PairsAndKey(pairs, key) => take_pair(pairs, (key, value), text, depth),
+    match level.with(value) {
+        Ok(more) => match more {
+            Level::Items(items) => behind_item(items, text, depth),
+            Level::Pairs(pairs) => behind_pair(pairs, text, depth),
+            Level::PairsAndKey(pairs, key) => behind_key(pairs, key, text, depth),
+        },
+        Err(_) => Err(Stop::Memory),
     }
 }
 

@@ -7,17 +7,17 @@ ghost use Rattle.yaml_base.specs.values.ValueText.{document_text};
 ghost use Rattle.yaml_read.specs.Errors.{Tells};
 ghost use Rattle.yaml_read.specs.Places.{HasPlaceOf, IsNotCanonicalAt, IsPlaced};
 ghost use Rattle.yaml_read.specs.Readable.{CanBeRead};
-ghost use Rattle.yaml_read.specs.Remaining.{seen_levels};
 ghost use Rattle.yaml_read.specs.Stepped.{Stepped, TextRead};
+ghost use Rattle.yaml_value.specs.OpenLevels.{seen_levels};
 ghost use Rattle.yaml_value.specs.SeenValues.{seen_value};
 
 use crate::cuts::after;
 use crate::errors::{ReadError, Stop};
 use crate::heads::{Kind, read_scalar, read_tag};
-use crate::levels::{Level, Next, begin_list, begin_map, settle};
+use crate::levels::{Next, begin_list, begin_map, settle};
 use std::alloc::Allocator;
 use yaml_base::place_of;
-use yaml_value::Value;
+use yaml_value::{Level, Value};
 
 /// Reads the next node, from its tag on.
 fn step<'a, A: Allocator + Copy>(

@@ -1,43 +1,28 @@
 -- How the count of a list or a map grows by one more item or pair, and the count of a value by each step of a walk over it.
-use Rattle.yaml_value.proofs.Common.{min, ℕ, ◌+◌, ◌<◌, ◌≤◌, length, slice_index_or as get_or, take, List, [], map, ◌++◌, ◌∷◌, ◌⊎◌, refl, ◌≡◌, inr, ap, ap₂, sym}
-use Rattle.yaml_value.proofs.Common.{◌∙◌, arith, map-append, largest_usize, TypedValue, TypedValues, TypedPairs, no_values, values_and, no_value_pairs}
-use Rattle.yaml_value.proofs.Common.{value_pairs_and, values_count, value_pairs_count, values_of, pairs_of, seen_value, seen_values, seen_pairs}
+use Rattle.yaml_value.proofs.Common.{min, ℕ, ◌+◌, ◌<◌, ◌≤◌, length, slice_index_or as get_or, take, List, [], ◌++◌, ◌∷◌, ◌⊎◌, refl, ◌≡◌, inr, ap, ap₂, sym}
+use Rattle.yaml_value.proofs.Common.{◌∙◌, arith, largest_usize, TypedValue, values_and, value_pairs_and}
+use Rattle.yaml_value.proofs.Common.{values_count, value_pairs_count, seen_value, seen_values, seen_pairs}
 use Rattle.std.proofs.{Common.inl, Math.Nat.min-eq_left, Math.Nat.min-eq_right, Math.Nat.min-le_right, lemmas.Bool.cases_lt, lemmas.List.take_more}
 use Rattle.yaml_base.specs.values.TypedValues.{value_count}
 use Rattle.yaml_value.specs.declared.value.Value.{Value}
 use Rattle.yaml_value.specs.Walk.{CountsEntered, Left, count_all, count_left, entered, split}
+use Rattle.yaml_value.proofs.SeenLevels.{item_more, pair_more}
 use Rattle.yaml_value.proofs.WalkLemmas.{count_entered, count_left-append, entered_one, work}
 use Rattle.yaml_base.proofs.Common.{length-append, Option}
 use Rattle.std.specs.Prelude.{None, Some}
-
-values_of-append : (before : TypedValues) (first second : List TypedValue) → values_of before (first ++ second) ≡ values_of (values_of before first) second
-values_of-append before [] second = refl
-values_of-append before (value ∷ first) second = values_of-append (values_and before value) first second
-
-pairs_of-append : (before : TypedPairs) (first second : List (TypedValue × TypedValue))
-    → pairs_of before (first ++ second) ≡ pairs_of (pairs_of before first) second
-pairs_of-append before [] second = refl
-pairs_of-append before (pair ∷ first) second = pairs_of-append (value_pairs_and before pair.0 pair.1) first second
 
 -- one item more
 seen_values-more : {A : Type 0} (values : List (Value A)) (count : ℕ) (next : Value A) → count < length values
     → seen_values (take (count + 1) values) ≡ values_and (seen_values (take count values)) (seen_value (get_or values count next))
 seen_values-more {A} values count next inside =
-    ap (seen_values {A = A}) (take_more values count next inside)
-    ∙ ap (values_of no_values) (map-append (seen_value {A = A}) (take count values) (get_or values count next ∷ []))
-    ∙ values_of-append no_values (map (seen_value {A = A}) (take count values)) (seen_value (get_or values count next) ∷ [])
-
-abbrev seen_pair : {A : Type 0} → Value A × Value A → TypedValue × TypedValue
-seen_pair pair = (seen_value pair.0, seen_value pair.1)
+    ap (seen_values {A = A}) (take_more values count next inside) ∙ item_more (take count values) (get_or values count next)
 
 -- one pair more
 seen_pairs-more : {A : Type 0} (pairs : List (Value A × Value A)) (count : ℕ) (next : Value A × Value A) → count < length pairs
     → seen_pairs (take (count + 1) pairs)
     ≡ value_pairs_and (seen_pairs (take count pairs)) (seen_value (get_or pairs count next).0) (seen_value (get_or pairs count next).1)
 seen_pairs-more {A} pairs count next inside =
-    ap (seen_pairs {A = A}) (take_more pairs count next inside)
-    ∙ ap (pairs_of no_value_pairs) (map-append (seen_pair {A = A}) (take count pairs) (get_or pairs count next ∷ []))
-    ∙ pairs_of-append no_value_pairs (map (seen_pair {A = A}) (take count pairs)) (seen_pair (get_or pairs count next) ∷ [])
+    ap (seen_pairs {A = A}) (take_more pairs count next inside) ∙ pair_more (take count pairs) (get_or pairs count next)
 
 -- the largest count
 abbrev pub most_counted : ℕ

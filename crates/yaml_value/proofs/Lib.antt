@@ -1,6 +1,7 @@
 pub mod Common
 pub mod AcceptedLemmas
 pub mod ContentLemmas
+pub mod SeenLevels
 pub mod CountLemmas
 pub mod EventLemmas
 pub mod WalkLemmas

@@ -1,2 +1,3 @@
 pub mod SeenValues
 pub mod Walk
+pub mod OpenLevels

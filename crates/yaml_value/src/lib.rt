@@ -3,6 +3,7 @@
 
 mod events;
 mod laws;
+mod levels;
 mod size;
 mod tags;
 mod value;
@@ -10,6 +11,7 @@ mod walk;
 mod writing;
 
 pub use laws::equal_bytes_equal_values;
+pub use levels::Level;
 pub use value::Value;
 pub use writing::{canonical_settings, write_canonical};
 pub use yaml_base::{

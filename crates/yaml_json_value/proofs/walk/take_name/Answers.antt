@@ -1,18 +1,17 @@
 use Rattle.std.proofs.Common.{ap, sym}
 use Rattle.json.specs.Token.{Token}
 use Rattle.yaml_base.specs.values.TypedValues.{TypedValue}
-use Rattle.yaml_value.specs.SeenValues.{seen_value}
+use Rattle.yaml_value.specs.{OpenLevels.seen_levels, SeenValues.seen_value}
 use Rattle.yaml_json_value.specs.Standing.{name_member}
-use Rattle.yaml_json_value.specs.Walked.{seen_all_open}
 use Rattle.yaml_json_value.proofs.Taking.{no_text, taken_as}
 use Rattle.yaml_json_value.proofs.walk.take_name.Goals as goal
 
 pub returns-in-Ok : goal.returns-in-Ok
 returns-in-Ok g c =
-    let before = seen_all_open c.args.levels.now.items in
+    let before = seen_levels c.args.levels.now.items in
     taken_as (Token.key c.args.name.now) before c.give_name.new.levels.items (name_member before (seen_value c.in-Ok.name)) c.give_name.result
     (ap (λ (value : TypedValue). name_member before value) (sym c.in-Ok.ensures)) tt c.give_name.ensures
 
 pub returns-in-Err : goal.returns-in-Err
 returns-in-Err g c =
-    no_text c.args.name.now (Token.key c.args.name.now) (seen_all_open c.args.levels.now.items) c.args.levels.now.items c.in-Err.stop c.in-Err.ensures
+    no_text c.args.name.now (Token.key c.args.name.now) (seen_levels c.args.levels.now.items) c.args.levels.now.items c.in-Err.stop c.in-Err.ensures

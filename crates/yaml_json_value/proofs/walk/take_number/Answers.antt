@@ -2,19 +2,18 @@ use Rattle.std.proofs.Common.{FitsSigned, ap, of_z, subst, sym, to_z, w64, â—Œâˆ
 use Rattle.std.proofs.lemmas.Int.{to_z-of_z}
 use Rattle.json.specs.Token.{Token}
 use Rattle.yaml_base.specs.values.TypedValues.{TypedValue, int_value}
-use Rattle.yaml_value.specs.SeenValues.{seen_value}
+use Rattle.yaml_value.specs.{OpenLevels.seen_levels, SeenValues.seen_value}
 use Rattle.yaml_value.specs.declared.value.Value as declared
 use Rattle.yaml_read.proofs.Scalars.{fits_signed}
-use Rattle.yaml_read.proofs.SeenLevels.{seen_integer}
+use Rattle.yaml_value.proofs.SeenLevels.{seen_integer}
 use Rattle.yaml_json_value.specs.Standing.{give}
 use Rattle.yaml_json_value.specs.Typed.{integer_of}
-use Rattle.yaml_json_value.specs.Walked.{seen_all_open}
 use Rattle.yaml_json_value.proofs.Taking.{no_integer, taken_as}
 use Rattle.yaml_json_value.proofs.walk.take_number.Goals as goal
 
 pub returns-in-Ok : goal.returns-in-Ok
 returns-in-Ok g c =
-    let before = seen_all_open c.args.levels.now.items in
+    let before = seen_levels c.args.levels.now.items in
     let digits = c.args.digits.now in
     let n = c.in-Ok.number in
     let found = c.in-Ok.ensures in
@@ -26,4 +25,4 @@ returns-in-Ok g c =
 
 pub returns-in-Err : goal.returns-in-Err
 returns-in-Err g c =
-    no_integer c.args.digits.now (seen_all_open c.args.levels.now.items) c.args.levels.now.items c.in-Err.stop c.in-Err.ensures
+    no_integer c.args.digits.now (seen_levels c.args.levels.now.items) c.args.levels.now.items c.in-Err.stop c.in-Err.ensures

@@ -1,7 +1,7 @@
 use Rattle.std.proofs.Common.{List, ℕ, ap, ◌∙◌}
 use Rattle.std.specs.Str.{chars}
 use Rattle.yaml_base.specs.values.TypedValues.{text_value}
-use Rattle.yaml_read.proofs.SeenLevels.{seen_string}
+use Rattle.yaml_value.proofs.SeenLevels.{seen_string}
 use Rattle.yaml_json_value.proofs.walk.text_of.Goals as goal
 
 pub returns-in-Ok : goal.returns-in-Ok

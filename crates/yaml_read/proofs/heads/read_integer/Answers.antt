@@ -2,7 +2,8 @@ use Rattle.std.proofs.Common.{◌≡◌, ◌++◌, ap, sym, ◌∙◌, w64, List
 use Rattle.std.{proofs.lemmas.Fmt.signed_decimal_injective, proofs.lemmas.Int.to_z-of_z, specs.Fmt.signed_decimal}
 use Rattle.yaml_value.{specs.SeenValues.seen_value, specs.declared.value.Value.Value}
 use Rattle.yaml_base.{specs.values.TypedValues.int_value, specs.values.ValueText.in_quotes, specs.Seen.seen_text}
-use Rattle.yaml_read.proofs.{Scalars.digits_are, Scalars.fits_signed, Scalars.int_scalars, SeenLevels.seen_integer}
+use Rattle.yaml_value.proofs.SeenLevels.{seen_integer}
+use Rattle.yaml_read.proofs.{Scalars.digits_are, Scalars.fits_signed, Scalars.int_scalars}
 use Rattle.yaml_read.proofs.BreakingNodes.{whole_placed, whole_refused}
 use Rattle.yaml_read.proofs.{HeadsRead.digits_seen, Stepping.integer_scalar, Stepping.no_integer_scalar}
 use Rattle.yaml_read.specs.{Heads.IsWhole}

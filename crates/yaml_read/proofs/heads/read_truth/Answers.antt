@@ -1,6 +1,7 @@
 use Rattle.std.proofs.Common.{◌++◌, true, false, refl, ap, sym, ◌∙◌, Ok, Err, arith, codes}
 use Rattle.yaml_value.specs.declared.value.Value as declared
-use Rattle.yaml_read.proofs.HeadsRead.{false_there, no_truth_there, seen_truth, true_there, word_bytes}
+use Rattle.yaml_value.proofs.SeenLevels.{seen_truth}
+use Rattle.yaml_read.proofs.HeadsRead.{false_there, no_truth_there, true_there, word_bytes}
 use Rattle.yaml_read.{proofs.Breaking.neither, proofs.Stepping.truth_scalar}
 use Rattle.yaml_read.proofs.heads.read_truth.Goals as goal
 

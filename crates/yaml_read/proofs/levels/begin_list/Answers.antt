@@ -1,9 +1,10 @@
 use Rattle.std.proofs.Common.{◌<◌, [], arith, ap, subst, sym, ◌∙◌, codes, length}
 use Rattle.yaml_base.specs.values.TypedValues.{list_value, most_nested}
-use Rattle.yaml_value.specs.SeenValues.{seen_values, seen_value}
+use Rattle.yaml_value.specs.{OpenLevels.items_open, OpenLevels.seen_levels, SeenValues.seen_values, SeenValues.seen_value}
 use Rattle.yaml_value.specs.declared.value.Value as declared
-use Rattle.yaml_read.specs.{Remaining.items_open, Remaining.seen_levels, Stepped.BracketLacks, Stepped.Entered}
-use Rattle.yaml_read.proofs.{SeenLevels.levels_length, SeenLevels.seen_list, Stepping.empty_list_steps, Stepping.list_steps, Stepping.no_list_steps}
+use Rattle.yaml_value.proofs.SeenLevels.{seen_list}
+use Rattle.yaml_read.specs.{Stepped.BracketLacks, Stepped.Entered}
+use Rattle.yaml_read.proofs.{SeenLevels.levels_length, Stepping.empty_list_steps, Stepping.list_steps, Stepping.no_list_steps}
 use Rattle.yaml_read.proofs.levels.begin_list.Goals as goal
 
 pub returns-in-Some : goal.returns-in-Some

@@ -1,9 +1,10 @@
 use Rattle.std.proofs.Common.{◌<◌, arith, ap, subst, sym, ◌∙◌, codes, length}
 use Rattle.yaml_base.specs.values.TypedValues.{map_value, most_nested}
-use Rattle.yaml_value.specs.SeenValues.{seen_pairs, seen_value}
+use Rattle.yaml_value.specs.{OpenLevels.pairs_open, OpenLevels.seen_levels, SeenValues.seen_pairs, SeenValues.seen_value}
 use Rattle.yaml_value.specs.declared.value.Value as declared
-use Rattle.yaml_read.specs.{Remaining.pairs_open, Remaining.seen_levels, Stepped.BracketLacks, Stepped.Entered}
-use Rattle.yaml_read.proofs.{SeenLevels.levels_length, SeenLevels.seen_map, Stepping.empty_map_steps, Stepping.map_steps, Stepping.no_map_steps}
+use Rattle.yaml_value.proofs.SeenLevels.{seen_map}
+use Rattle.yaml_read.specs.{Stepped.BracketLacks, Stepped.Entered}
+use Rattle.yaml_read.proofs.{SeenLevels.levels_length, Stepping.empty_map_steps, Stepping.map_steps, Stepping.no_map_steps}
 use Rattle.yaml_read.proofs.levels.begin_map.Goals as goal
 
 pub returns-in-Some : goal.returns-in-Some

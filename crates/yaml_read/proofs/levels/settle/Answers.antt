@@ -1,12 +1,13 @@
 use Rattle.std.proofs.Common.{◌≡◌, ◌<◌, ℕ, List, subst, sym, ◌∙◌, rules, arith, Ok, length}
-use Rattle.yaml_value.specs.SeenValues.{seen_value}
-use Rattle.yaml_read.specs.Remaining.{IsDue, IsRead, OpenLevel, TurnReached, seen_level, seen_levels}
+use Rattle.yaml_value.specs.{OpenLevels.OpenLevel, OpenLevels.seen_level, OpenLevels.seen_levels, SeenValues.seen_value}
+use Rattle.yaml_value.proofs.SeenLevels.{no_levels}
+use Rattle.yaml_read.specs.Remaining.{IsDue, IsRead, TurnReached}
 use Rattle.yaml_read.specs.Opened.{HasRead, IsOpen, TurnRead}
 use Rattle.yaml_read.proofs.BreakingNodes.{value_stops}
 use Rattle.yaml_read.proofs.Stepping.{next_less}
 use Rattle.std.proofs.lemmas.Result.{IfOk-weaker}
 use Rattle.yaml_read.specs.{declared.levels.Turn.Turn, Stepped.TurnShorter}
-use Rattle.yaml_read.proofs.{SeenLevels.levels_length, SeenLevels.no_levels, SeenLevels.pushed_on, Turns.popped, Turns.turn_error, Opening.taken}
+use Rattle.yaml_read.proofs.{SeenLevels.levels_length, SeenLevels.pushed_on, Turns.popped, Turns.turn_error, Opening.taken}
 use Rattle.yaml_read.proofs.levels.settle.Goals as goal
 
 pub returns-in-Err : goal.returns-in-Err

@@ -1,7 +1,7 @@
 use Rattle.std.proofs.Common.{◌≤◌, length, vec_len}
 use denote.{Text.Utf8, Shadow.shadow}
-use Rattle.yaml_value.specs.SeenValues.{seen_value}
-use Rattle.yaml_read.{specs.Remaining.seen_levels, proofs.Opening.ReadsOn, proofs.Turns.GoesOn}
+use Rattle.yaml_value.specs.{OpenLevels.seen_levels, SeenValues.seen_value}
+use Rattle.yaml_read.{proofs.Opening.ReadsOn, proofs.Turns.GoesOn}
 use Rattle.yaml_read.proofs.levels.settle.Given as goal
 
 abbrev pub invariant-loop-level : goal.invariant-loop-level

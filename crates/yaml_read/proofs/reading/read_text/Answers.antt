@@ -2,7 +2,8 @@ use Rattle.std.proofs.Common.{List, subst, sym, rules, Ok, codes}
 use Rattle.yaml_value.{specs.SeenValues.seen_value}
 use Rattle.yaml_read.proofs.Opening.{TextOpen, text_open, text_read}
 use Rattle.yaml_read.{specs.Remaining.Reached, proofs.Turns.root_due, proofs.Turns.text_due, proofs.Placing.text_stops}
-use Rattle.yaml_read.{specs.Remaining.seen_levels, proofs.Placing.marker_stops, specs.declared.levels.Level.Level, specs.declared.levels.Next.Next}
+use Rattle.yaml_value.specs.{OpenLevels.seen_levels, declared.levels.Level.Level}
+use Rattle.yaml_read.{proofs.Placing.marker_stops, specs.declared.levels.Next.Next}
 use Rattle.yaml_read.{proofs.Turns.TextDue, proofs.Words.no_word, specs.Opened.NextRead}
 use Rattle.yaml_read.proofs.reading.read_text.Goals as goal
 

@@ -1,6 +1,7 @@
 use Rattle.std.proofs.Common.{length}
 use denote.{Text.Utf8, Shadow.shadow}
-use Rattle.yaml_read.{specs.Remaining.seen_levels, proofs.Opening.TextOpen, proofs.Turns.TextDue}
+use Rattle.yaml_value.specs.OpenLevels.{seen_levels}
+use Rattle.yaml_read.{proofs.Opening.TextOpen, proofs.Turns.TextDue}
 use Rattle.yaml_read.proofs.reading.read_text.Given as goal
 
 abbrev pub invariant-nodes : goal.invariant-nodes

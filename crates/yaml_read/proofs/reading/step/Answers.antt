@@ -1,5 +1,4 @@
-use Rattle.yaml_value.specs.SeenValues.{seen_value}
-use Rattle.yaml_read.specs.Remaining.{seen_levels}
+use Rattle.yaml_value.specs.{OpenLevels.seen_levels, SeenValues.seen_value}
 use Rattle.yaml_read.proofs.Stepping.{no_scalar_steps, no_tag_steps, scalar_steps}
 use Rattle.yaml_read.proofs.reading.step.Goals as goal
 

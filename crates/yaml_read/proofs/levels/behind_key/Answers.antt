@@ -3,7 +3,7 @@ use Rattle.yaml_base.specs.values.ValueText.{line_at}
 use Rattle.yaml_value.specs.SeenValues.{seen_pairs, seen_value}
 use Rattle.yaml_read.{specs.Remaining.IsDue, proofs.Turns.cut_is, proofs.Turns.key_bytes, proofs.Turns.key_ends, proofs.Words.no_word, proofs.Opening.key_on}
 use Rattle.yaml_read.proofs.Entries.{lead_breaks}
-use Rattle.yaml_read.proofs.levels.take_key.Goals as goal
+use Rattle.yaml_read.proofs.levels.behind_key.Goals as goal
 
 pub returns-in-Err : goal.returns-in-Err
 returns-in-Err g c =
