@@ -1,14 +1,14 @@
 -- A token's answer, from where the walk stands after it.
 use Rattle.yaml_base.proofs.Common.{List, [], ◌∷◌, ◌++◌, refl, ◌≡◌, ap, subst, sym, ◌∙◌, Option, None, Some, ℕ}
-use Rattle.std.specs.Prelude.{Result, Ok, Err, Vec, option_map}
+use Rattle.std.specs.Prelude.{Result, Ok, Err, Vec}
 use Rattle.json.specs.Token.{Token}
 use Rattle.yaml_base.specs.values.TypedValues.{TypedValue}
 use Rattle.yaml_value.specs.OpenLevels.{OpenLevel, seen_level, seen_levels, with_value}
 use Rattle.yaml_value.specs.{declared.levels.Level.Level, declared.value.Value.Value}
 use Rattle.yaml_value.proofs.SeenLevels.{level_more}
-use Rattle.yaml_json_value.specs.Standing.{ValueStanding, end_list, end_map, give, name_member, take_token, within, given}
+use Rattle.yaml_json_value.specs.Standing.{ValueStanding, end_list, end_map, give, name_member, take_token, within}
 use Rattle.yaml_json_value.specs.Typed.{IsIntegerToken}
-use Rattle.yaml_json_value.specs.Walked.{HasMore, IsIntegerIn, IsText, StandsAt, Taken}
+use Rattle.yaml_json_value.specs.Walked.{IsIntegerIn, IsText, StandsAt, Taken}
 use Rattle.yaml_json_value.specs.declared.error.Stop.{Stop}
 use Rattle.yaml_json_value.specs.declared.error.Stop.TheVariants as stop
 use Rattle.yaml_value.specs.declared.levels.Level.TheVariants as code
@@ -21,24 +21,6 @@ taken_as token before levels due (Ok None) is integer stands = (is ∙ stands, i
 taken_as token before levels due (Err stop.Misplaced) is integer stands = is ∙ stands
 taken_as token before levels due (Err stop.NotInteger) is integer stands = absurd stands
 taken_as token before levels due (Err stop.Memory) is integer stands = tt
-
--- after a value in a level, which has it
-pub value_given : {A : Type 0} (level : OpenLevel) (outer : List OpenLevel) (value : TypedValue) (more : Level A) (levels : List (Level A))
-    (answer : Result (Option (Value A)) Stop) → HasMore level value (Ok more) → StandsAt (Some (within (seen_level more ∷ outer))) levels answer
-    → StandsAt (give (level ∷ outer) value) levels answer
-value_given level outer value more levels answer has stands =
-    subst (λ (due : Option ValueStanding). StandsAt due levels answer) (sym (by (given level value) has)) stands
-  where
-    by : (found : Option OpenLevel) → found ≡ Some (seen_level more)
-        → option_map (λ inner. within (inner ∷ outer)) found ≡ Some (within (seen_level more ∷ outer))
-    by found is = ap (option_map (λ inner. within (inner ∷ outer))) is
-
--- a level that can't have it
-pub not_given : {A : Type 0} (level : OpenLevel) (outer : List OpenLevel) (value : TypedValue) (levels : List (Level A)) (why : Stop)
-    → HasMore {A = A} level value (Err why) → StandsAt {A = A} (give (level ∷ outer) value) levels (Err why)
-not_given level outer value levels stop.Misplaced none = ap (option_map (λ inner. within (inner ∷ outer))) none
-not_given level outer value levels stop.NotInteger none = none
-not_given level outer value levels stop.Memory none = tt
 
 -- what follows of the innermost level, taken from the others
 pub on_innermost : {A : Type 0} (after : List OpenLevel → Option ValueStanding) (old new later : List (Level A)) (level : Level A)
@@ -91,8 +73,10 @@ no_name (code.Items items) outer name other = refl
 no_name (code.Pairs members) outer name other = absurd (other members refl)
 no_name (code.PairsAndKey members due) outer name other = refl
 
-pub no_name_due : {A : Type 0} (level : Level A) (value : TypedValue) → ((members : Vec (Value A × Value A) A) → level ≡ code.Pairs members → ⊥)
-    → given (seen_level level) value ≡ Some (with_value (seen_level level) value)
-no_name_due (code.Items items) value other = refl
-no_name_due (code.Pairs members) value other = absurd (other members refl)
-no_name_due (code.PairsAndKey members name) value other = refl
+-- a level that has a value more
+pub value_given : {A : Type 0} (level more : Level A) (outer : List OpenLevel) (value : TypedValue)
+    → ((members : Vec (Value A × Value A) A) → level ≡ code.Pairs members → ⊥) → seen_level more ≡ with_value (seen_level level) value
+    → give (seen_level level ∷ outer) value ≡ Some (within (seen_level more ∷ outer))
+value_given (code.Items items) more outer value other is = ap (λ (inner : OpenLevel). Some (within (inner ∷ outer))) (sym is)
+value_given (code.Pairs members) more outer value other is = absurd (other members refl)
+value_given (code.PairsAndKey members name) more outer value other is = ap (λ (inner : OpenLevel). Some (within (inner ∷ outer))) (sym is)

@@ -1,5 +1,5 @@
 -- Where a walk over tokens stands that builds a typed value.
-use Rattle.std.specs.Prelude.{Option, None, Some, option_map, option_and_then, List, [], ◌∷◌}
+use Rattle.std.specs.Prelude.{Option, None, Some, option_and_then, List, [], ◌∷◌}
 use Rattle.std.specs.Str.{chars}
 use Rattle.json.specs.Token.{Token}
 use Rattle.yaml_base.specs.values.TypedValues.{TypedValue, null_value, bool_value, int_value, text_value, list_value, map_value, no_values, no_value_pairs}
@@ -11,15 +11,11 @@ pub data ValueStanding : Type 0 where
   whole : TypedValue → ValueStanding
   within : List OpenLevel → ValueStanding
 
--- a level with a value more, which is misplaced where a name is due
-abbrev pub given : OpenLevel → TypedValue → Option OpenLevel
-given (pairs_open pairs) value = None
-given level value = Some (with_value level value)
-
--- after a value
+-- after a value, which is misplaced where a name is due
 abbrev pub give : List OpenLevel → TypedValue → Option ValueStanding
 give [] value = Some (whole value)
-give (level ∷ outer) value = option_map (λ more. within (more ∷ outer)) (given level value)
+give (pairs_open pairs ∷ outer) value = None
+give (level ∷ outer) value = Some (within (with_value level value ∷ outer))
 
 -- after the end of a list, of a map, and after a name
 abbrev pub end_list_in : OpenLevel → List OpenLevel → Option ValueStanding

@@ -6,9 +6,9 @@ use Rattle.yaml_base.specs.values.TypedValues.{TypedValue, most_nested, text_val
 use Rattle.yaml_emitter.specs.Given.{seen_settings}
 use Rattle.yaml_json.specs.declared.settings.JsonSettings.{JsonSettings}
 use Rattle.yaml_writer.specs.Given.{given_for_values}
-use Rattle.yaml_value.specs.{OpenLevels.OpenLevel, OpenLevels.seen_level, OpenLevels.seen_levels, SeenValues.seen_value}
+use Rattle.yaml_value.specs.{OpenLevels.OpenLevel, OpenLevels.seen_levels, SeenValues.seen_value}
 use Rattle.yaml_value.specs.{declared.levels.Level.Level, declared.value.Value.Value}
-use Rattle.yaml_json_value.specs.Standing.{ValueStanding, whole, within, given, run, take_token}
+use Rattle.yaml_json_value.specs.Standing.{ValueStanding, whole, within, run, take_token}
 use Rattle.yaml_json_value.specs.Typed.{AreIntegers, IsFromOtherNumber, IsIntegerText, IsIntegerToken, integer_of}
 use Rattle.yaml_json_value.specs.declared.error.Stop.{Stop}
 use Rattle.yaml_json_value.specs.declared.error.Stop.TheVariants as stop
@@ -19,13 +19,6 @@ IsIntegerIn digits (Ok number) = IsIntegerText digits × (number ≡ integer_of 
 IsIntegerIn digits (Err stop.Misplaced) = ⊥
 IsIntegerIn digits (Err stop.NotInteger) = IsIntegerText digits → ⊥
 IsIntegerIn digits (Err stop.Memory) = ⊥
-
--- the level has the value more, unless memory ran out
-abbrev pub HasMore : {A : Type 0} → OpenLevel → TypedValue → Result (Level A) Stop → Type 0
-HasMore level value (Ok more) = given level value ≡ Some (seen_level more)
-HasMore level value (Err stop.Misplaced) = given level value ≡ None
-HasMore level value (Err stop.NotInteger) = ⊥
-HasMore level value (Err stop.Memory) = Unit {0}
 
 -- so the walk stands, unless memory ran out, or a number is no integer
 abbrev pub StandsAt : {A : Type 0} → Option ValueStanding → List (Level A) → Result (Option (Value A)) Stop → Type 0

@@ -3,24 +3,11 @@ ghost use Rattle.std.specs.Prelude.{◌∷◌, Some};
 ghost use Rattle.yaml_value.specs.OpenLevels.{seen_level, seen_levels};
 ghost use Rattle.yaml_value.specs.SeenValues.{seen_value};
 ghost use Rattle.yaml_json_value.specs.Standing.{end_list, end_map, give, name_member, within};
-ghost use Rattle.yaml_json_value.specs.Walked.{HasMore, StandsAt};
+ghost use Rattle.yaml_json_value.specs.Walked.{StandsAt};
 
 use crate::error::Stop;
 use std::alloc::Allocator;
 use yaml_value::{Level, Value};
-
-/// Returns a list or a map with a value more, where no name is due.
-fn with_value<A: Allocator>(level: Level<A>, value: Value<A>) -> Result<Level<A>, Stop>
-    ensures { HasMore (seen_level level) (seen_value value) result }
-{
-    match level {
-        Level::Pairs(_) => Err(Stop::Misplaced),
-        level => match level.with(value) {
-            Ok(more) => Ok(more),
-            Err(_) => Err(Stop::Memory),
-        },
-    }
-}
 
 /// Opens a level within the others. No value is whole.
 pub(crate) fn enter<A: Allocator>(
@@ -35,7 +22,7 @@ pub(crate) fn enter<A: Allocator>(
     }
 }
 
-/// Gives a value to the innermost level, which was taken from the others.
+/// Gives a value to the innermost level, which was taken from the others. It is misplaced where a name is due.
 fn give_to<A: Allocator>(
     levels: &mut Vec<Level<A>, A>,
     level: Level<A>,
@@ -43,9 +30,12 @@ fn give_to<A: Allocator>(
 ) -> Result<Option<Value<A>>, Stop>
     ensures { StandsAt (give (seen_level level ∷ seen_levels levels.old.items) (seen_value value)) levels.new.items result }
 {
-    match with_value(level, value) {
-        Ok(more) => enter(levels, more),
-        Err(stop) => Err(stop),
+    match level {
+        Level::Pairs(_) => Err(Stop::Misplaced),
+        level => match level.with(value) {
+            Ok(more) => enter(levels, more),
+            Err(_) => Err(Stop::Memory),
+        },
     }
 }
 

@@ -1,5 +1,5 @@
 -- Where the bytes of a node break off, and those behind a node.
-use Rattle.yaml_base.proofs.Common.{ℕ, ◌+◌, ◌<◌, ◌≤◌, suc, true, Option, None, Some, List, [], ◌∷◌, ◌++◌, refl, ◌≡◌, ap, subst, sym, ◌∙◌, ◌⊎◌, inl, inr, pos}
+use Rattle.yaml_base.proofs.Common.{ℕ, ◌<◌, ◌≤◌, suc, true, Option, None, Some, List, [], ◌∷◌, ◌++◌, refl, ◌≡◌, ap, subst, sym, ◌∙◌, ◌⊎◌, inl, inr, pos}
 use Rattle.yaml_base.proofs.Common.{arith, append_assoc, append-nil, codes, flat_map, length, encode_utf8_all, encode_utf8, character_text, Text}
 use Rattle.yaml_base.specs.values.TypedValues.{TypedValue, most_nested}
 use Rattle.yaml_base.{specs.scalars.DoubleQuoted.quote, specs.values.ValueText.in_quotes}

@@ -1,5 +1,5 @@
 -- A line with a lead, and an entry behind its comma.
-use Rattle.yaml_base.proofs.Common.{ℕ, ◌+◌, ◌*◌, ◌<◌, [], ◌∷◌, ◌++◌, ◌≡◌, ◌∙◌, List, refl, ap, subst, sym, arith, append_assoc, length, codes}
+use Rattle.yaml_base.proofs.Common.{ℕ, ◌*◌, ◌<◌, [], ◌∷◌, ◌++◌, ◌≡◌, ◌∙◌, List, refl, ap, subst, sym, arith, append_assoc, length, codes}
 use Rattle.yaml_base.specs.values.ValueText.{line_at}
 use Rattle.std.specs.{Prelude.Result, Prelude.Ok, Prelude.Err, Prelude.IfErr, Prelude.IfOk, Borrow.Bor}
 use Rattle.yaml_read.specs.Grammar.{entry_end, line_then, nothing, these_or_those, word_then}
