@@ -2,8 +2,8 @@ use Rattle.yaml_value.proofs.Common.{min, ◌+◌, ◌≡◌, ap, sym, ◌∙◌
 use Rattle.yaml_value.proofs.Common.{TypedValues, TypedPairs, list_value, map_value, values_count, value_pairs_count, seen_value, seen_values, seen_pairs}
 use Rattle.yaml_base.specs.values.TypedValues.{value_count}
 use Rattle.yaml_value.specs.declared.value.Value as declared
-use Rattle.yaml_value.specs.declared.value.Value.TheViews as views
 use Rattle.yaml_value.proofs.CountLemmas.{most_counted, items_counted, pairs_counted}
+use Rattle.yaml_value.proofs.SeenLevels.{seen_list, seen_map}
 use Rattle.yaml_value.proofs.size.+count_by_recursion.Goals as goal
 
 -- a list counts as one more than its items
@@ -22,15 +22,13 @@ map_counted pairs count is =
 
 pub count_by_recursion-returns-in-List : goal.count_by_recursion-returns-in-List
 count_by_recursion-returns-in-List g t c =
-    let is : seen_value (views.List c.in-List.items) ≡ list_value (seen_values c.in-List.items.items) = search (rules, declared.the_lemmas) in
     list_counted (seen_values c.in-List.items.items) c.count_items.result c.count_items.ensures
-    ∙ ap (λ value. min (value_count value) most_counted) (sym (ap seen_value c.in-List.is ∙ is))
+    ∙ ap (λ value. min (value_count value) most_counted) (sym (ap seen_value c.in-List.is ∙ seen_list c.in-List.items))
 
 pub count_by_recursion-returns-in-Map : goal.count_by_recursion-returns-in-Map
 count_by_recursion-returns-in-Map g t c =
-    let is : seen_value (views.Map c.in-Map.pairs) ≡ map_value (seen_pairs c.in-Map.pairs.items) = search (rules, declared.the_lemmas) in
     map_counted (seen_pairs c.in-Map.pairs.items) c.count_pairs.result c.count_pairs.ensures
-    ∙ ap (λ value. min (value_count value) most_counted) (sym (ap seen_value c.in-Map.is ∙ is))
+    ∙ ap (λ value. min (value_count value) most_counted) (sym (ap seen_value c.in-Map.is ∙ seen_map c.in-Map.pairs))
 
 pub count_items-loop-item-preserved : goal.count_items-loop-item-preserved
 count_items-loop-item-preserved g t c =

@@ -1,8 +1,7 @@
-use Rattle.yaml_value.proofs.Common.{List, [], map, ◌∷◌, ◌≡◌, ap, sym, ◌∙◌, rules, TypedValue, list_value, map_value, seen_value, seen_values, seen_pairs}
+use Rattle.yaml_value.proofs.Common.{List, [], map, ◌∷◌, ap, sym, ◌∙◌, TypedValue, seen_value}
 use Rattle.yaml_base.specs.Event.{sequence_end, mapping_end}
 use Rattle.yaml_value.{proofs.WalkLemmas.items_seen, proofs.WalkLemmas.pairs_seen, specs.Walk.entered, specs.Walk.seen_flat, specs.Walk.Left}
-use Rattle.yaml_value.specs.declared.value.Value as declared
-use Rattle.yaml_value.specs.declared.value.Value.TheViews as views
+use Rattle.yaml_value.proofs.SeenLevels.{seen_list, seen_map}
 use Rattle.yaml_value.proofs.walk.Rest.of.Goals as goal
 
 abbrev items_left : List TypedValue → List Left
@@ -13,12 +12,10 @@ fields_left values = record { values = values; end = mapping_end } ∷ []
 
 pub returns-in-List : goal.returns-in-List
 returns-in-List g c =
-    let is : seen_value (views.List c.in-List.items) ≡ list_value (seen_values c.in-List.items.items) = search (rules, declared.the_lemmas) in
     ap items_left (ap (map seen_value) c.as_slice.ensures.value ∙ sym (items_seen c.in-List.items.items))
-    ∙ sym (ap entered is) ∙ sym (ap (λ value. entered (seen_value value)) c.in-List.is)
+    ∙ sym (ap entered (seen_list c.in-List.items)) ∙ sym (ap (λ value. entered (seen_value value)) c.in-List.is)
 
 pub returns-in-Map : goal.returns-in-Map
 returns-in-Map g c =
-    let is : seen_value (views.Map c.in-Map.pairs) ≡ map_value (seen_pairs c.in-Map.pairs.items) = search (rules, declared.the_lemmas) in
     ap fields_left (ap seen_flat c.as_slice-in-Map.ensures.value ∙ sym (pairs_seen c.in-Map.pairs.items))
-    ∙ sym (ap entered is) ∙ sym (ap (λ value. entered (seen_value value)) c.in-Map.is)
+    ∙ sym (ap entered (seen_map c.in-Map.pairs)) ∙ sym (ap (λ value. entered (seen_value value)) c.in-Map.is)
