@@ -3,10 +3,10 @@ use Rattle.yaml_base.proofs.Common.{ℕ, ◌<◌, Bool, true, false, None, List,
 use Rattle.yaml_base.proofs.Common.{Text, encode_utf8_all, chars, chars-IsAscii, pos, negsuc, ℤ}
 use Rattle.yaml_base.specs.values.TypedValues.{TypedValue, null_value, bool_value, text_value, list_value, map_value, no_values, no_value_pairs, bool_text}
 use Rattle.yaml_base.{specs.Seen.seen_text, specs.values.ValueText.in_quotes, specs.values.ValueText.value_text}
-use Rattle.std.proofs.Common.{FitsSigned, w64, rules, ◌^◌, Result, Ok, Err, String, string_bytes}
+use Rattle.std.proofs.Common.{FitsSigned, w64, ◌^◌, Result, Ok, Err, String, string_bytes}
 use Rattle.std.proofs.lemmas.Str.{IsUtf8-string_bytes, scalars-chars}
 use Rattle.std.{proofs.lemmas.Fmt.IsAscii-signed, specs.Fmt.signed_decimal, specs.Int.Signed.mag, specs.Str.Parse.ParsesSigned}
-use Rattle.yaml_value.specs.SeenValues.{seen_value}
+use Rattle.yaml_value.{proofs.SeenLevels.seen_truth, specs.SeenValues.seen_value}
 use Rattle.yaml_read.specs.Sound.{IsInteger, IsTruth, IsScalarValue}
 use Rattle.yaml_read.{proofs.Encoded.are_ascii, proofs.Encoded.word_encoded, proofs.Turns.cut_is, proofs.Words.no_word}
 use Rattle.yaml_read.specs.Words.{past_word}
@@ -15,9 +15,6 @@ use Rattle.yaml_value.specs.declared.value.Value as declared
 -- a word of ASCII is its bytes
 pub word_bytes : (word : Text) → are_ascii word ≡ true → encode_utf8_all word ≡ word
 word_bytes word h = ap encode_utf8_all (sym (append-nil word)) ∙ word_encoded word [] h ∙ append-nil word
-
-pub seen_truth : (A : Type 0) (b : Bool) → seen_value {A = A} (declared.Bool b) ≡ bool_value b
-seen_truth A b = search (rules, declared.the_lemmas)
 
 -- an integer that was parsed has 64 bits
 pub parsed_fits : {E : Type 0} (bytes : List ℕ) (n : ℤ) (answer : Result ℤ E) → ParsesSigned w64 10 bytes answer → answer ≡ Ok n → FitsSigned w64 n
