@@ -51,6 +51,17 @@ pub enum Failure {
     WriteFailed(io::Error),
 }
 
+/// Writes why, without the place.
+impl fmt::Display for Failure {
+    fn fmt<W: fmt::Write>(&self, f: &mut fmt::Formatter<W>) -> fmt::Result {
+        match self {
+            Failure::Refused { reason, .. } => reason.fmt(f),
+            Failure::Unwritten(error) => error.fmt(f),
+            Failure::ReadFailed(error) | Failure::WriteFailed(error) => error.fmt(f),
+        }
+    }
+}
+
 /// The failure that is reported where no memory is left.
 pub const NO_MEMORY: Failure = Failure::Unwritten(yaml_error_t::Memory);
 
@@ -97,38 +108,44 @@ fn is_out_of_memory(error: &Failure) -> bool {
     }
 }
 
-/// Says in a line what went wrong, with the name of the file that can't be read or written, or whose text is refused.
+/// Returns what couldn't be done with the file, where anything is to be said of it.
+fn deed_of(error: &Failure) -> &'static str {
+    match error {
+        Failure::ReadFailed(_) => "cannot read ",
+        Failure::WriteFailed(_) => "cannot write ",
+        _ => "",
+    }
+}
+
+/// Returns the name of the file that can't be read or written, or whose text is refused.
+fn name_of<'a>(error: &Failure, name: Option<&'a str>) -> &'a str {
+    match name {
+        Some(name) if name != STREAM => name,
+        _ => match error {
+            Failure::WriteFailed(_) => "standard output",
+            _ => "standard input",
+        },
+    }
+}
+
+/// Says in a line what went wrong, with the name of the file.
 fn write_error<W: Write>(
     error: &Failure,
     name: Option<&str>,
     faults: &mut Messages<W>,
 ) -> io::Result<()> {
     faults.end_line();
-    let program = faults.words.name;
-    let name = match name {
-        Some(name) if name != STREAM => name,
-        _ => match error {
-            Failure::WriteFailed(_) => "standard output",
-            _ => "standard input",
-        },
-    };
-    match error {
-        Failure::ReadFailed(error) => {
-            writeln!(&mut faults.sink, "{program}: cannot read {name}: {error}")
-        }
-        Failure::WriteFailed(error) => {
-            writeln!(&mut faults.sink, "{program}: cannot write {name}: {error}")
-        }
-        Failure::Refused {
-            place: Some((line, column)),
-            reason,
-        } => writeln!(&mut faults.sink, "{name}:{line}:{column}: {reason}"),
-        Failure::Refused {
-            place: None,
-            reason,
-        } => writeln!(&mut faults.sink, "{program}: {name}: {reason}"),
-        Failure::Unwritten(error) => writeln!(&mut faults.sink, "{program}: {name}: {error}"),
+    let name = name_of(error, name);
+    if let Failure::Refused {
+        place: Some((line, column)),
+        reason,
+    } = error
+    {
+        return writeln!(&mut faults.sink, "{name}:{line}:{column}: {reason}");
     }
+    let program = faults.words.name;
+    let deed = deed_of(error);
+    writeln!(&mut faults.sink, "{program}: {deed}{name}: {error}")
 }
 
 /// Says why a program does nothing or no more, and returns the status where its arguments are at fault.

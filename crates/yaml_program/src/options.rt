@@ -106,6 +106,34 @@ fn files_argument<'a>(alloc: Global, words: &Wording) -> Arg<'a> {
         .num_args(0..)
 }
 
+/// Returns the option by which each file is written to one beside it.
+fn each_option<'a>(alloc: Global, words: &Wording) -> Result<Arg<'a>, AllocError> {
+    let option = flag(alloc, "each", words.each, words.each_long);
+    match option.conflicts_with("output") {
+        Ok(option) => option.requires_arg("files"),
+        Err(refused) => Err(refused),
+    }
+}
+
+/// Returns the option for the columns of a level.
+fn indent_option<'a>(alloc: Global, words: &Wording) -> Arg<'a> {
+    let option = option_with_value(alloc, "indent", "COLUMNS", INDENT_HELP, words.indent);
+    option.value_parser(ValueParser::signed(2, 9))
+}
+
+/// Returns the option for the column past which texts are folded.
+fn width_option<'a>(alloc: Global, words: &Wording) -> Arg<'a> {
+    option_with_value(alloc, "width", "COLUMN", WIDTH_HELP, words.width)
+        .allow_negative_numbers(true)
+        .value_parser(clap::value_parser!(i32))
+}
+
+/// Returns the option for the maximum depth.
+fn depth_option<'a>(alloc: Global, words: &Wording) -> Arg<'a> {
+    let option = option_with_value(alloc, "depth", "LEVELS", words.depth, words.depth_long);
+    option.value_parser(ValueParser::unsigned(0, 1_000_000))
+}
+
 /// An argument that has a value, or depends on what else is there.
 enum Setting {
     Output,
@@ -127,28 +155,13 @@ fn argument_of<'a>(
         Setting::Output => {
             Ok(option_with_value(alloc, "output", "FILE", OUTPUT_HELP, words.output).short('o'))
         }
-        Setting::Each => flag(alloc, "each", words.each, words.each_long)
-            .conflicts_with("output")?
-            .requires_arg("files"),
+        Setting::Each => each_option(alloc, words),
         Setting::Heading => {
             Ok(option_with_value(alloc, "heading", "TEXT", HEADING_HELP, words.heading))
         }
-        Setting::Indent => {
-            let option = option_with_value(alloc, "indent", "COLUMNS", INDENT_HELP, words.indent);
-            Ok(option.value_parser(ValueParser::signed(2, 9)))
-        }
-        Setting::Width => {
-            let option = option_with_value(alloc, "width", "COLUMN", WIDTH_HELP, words.width);
-            Ok(
-                option
-                    .allow_negative_numbers(true)
-                    .value_parser(clap::value_parser!(i32)),
-            )
-        }
-        Setting::Depth => {
-            let option = option_with_value(alloc, "depth", "LEVELS", words.depth, words.depth_long);
-            Ok(option.value_parser(ValueParser::unsigned(0, 1_000_000)))
-        }
+        Setting::Indent => Ok(indent_option(alloc, words)),
+        Setting::Width => Ok(width_option(alloc, words)),
+        Setting::Depth => Ok(depth_option(alloc, words)),
         Setting::Files => Ok(files_argument(alloc, words)),
     }
 }
