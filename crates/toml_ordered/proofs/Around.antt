@@ -15,7 +15,7 @@ use Rattle.toml_ordered.specs.Data.{Items, TomlNode, TomlNodes, array, no_items,
 use Rattle.toml_ordered.specs.Drafts.{table_view}
 use Rattle.toml_ordered.specs.Firsts.{AddsFirsts, IsAgain, keys_firsts}
 use Rattle.toml_ordered.specs.Grammar.{val}
-use Rattle.toml_ordered.specs.Inside.{ArrayUpTo, BracesUpTo, Finds, GoesOn, IsFound, IsInside, IsRead, IsRefused, NextPair}
+use Rattle.toml_ordered.specs.Inside.{ArrayUpTo, BracesUpTo, Finds, GoesOnInside, IsFoundHere, IsNextInside, IsValueRead, IsValueRefused, NextPair}
 use Rattle.toml_ordered.specs.Nesting.{NestsPast}
 use Rattle.toml_ordered.specs.Places.{EndsWith, PairAt, key_parts}
 use Rattle.toml_ordered.specs.Reading.{IsMemory}
@@ -116,7 +116,7 @@ module _ (depth : ℕ) (text : List ℕ) (found : OpenTable) (rest : List ℕ) (
           within = let blank = blank_within rest in omega (arith, is, blank)
 
           pub braces_again : (refused : Fault) → ((IsMemory refused → ⊥) → put key x (table_view found) ≡ None)
-              → IsAgain (key_parts key) here (keys_firsts found.keys.items) refused → IsRefused (suc depth) text refused
+              → IsAgain (key_parts key) here (keys_firsts found.keys.items) refused → IsValueRefused (suc depth) text refused
           braces_again refused denies again = (
             λ real.
                 known.value
@@ -153,12 +153,12 @@ pub pair_begins : (depth less : ℕ) (text from : List ℕ) (found : OpenTable) 
     → BracesUpTo less text found from → length from < length text → NextPair found from r → Finds depth text r
 pair_begins depth less text from found (Ok p) is known shorter next =
     let within = next.1 in
-    (subst (λ (n : ℕ). IsFound n text p.0 p.1.now) is (next.0 less text known), omega (arith, within, shorter))
-pair_begins depth less text from found (Err fault) is known shorter next = subst (λ (n : ℕ). IsRefused n text fault) is (next less text known)
+    (subst (λ (n : ℕ). IsFoundHere n text p.0 p.1.now) is (next.0 less text known), omega (arith, within, shorter))
+pair_begins depth less text from found (Err fault) is known shorter next = subst (λ (n : ℕ). IsValueRefused n text fault) is (next less text known)
 
 pub pair_goes_on : (outer : Open) (node : Node) (text' from : List ℕ) (found : OpenTable) (r : Result (Found × Bor (List ℕ)) Fault)
-    → ((depth : ℕ) (text at : List ℕ) → IsInside depth text outer at → IsRead depth at node text' → BracesUpTo depth text found from)
-    → length from ≤ length text' → NextPair found from r → GoesOn outer node text' r
+    → ((depth : ℕ) (text at : List ℕ) → IsNextInside depth text outer at → IsValueRead depth at node text' → BracesUpTo depth text found from)
+    → length from ≤ length text' → NextPair found from r → GoesOnInside outer node text' r
 pair_goes_on outer node text' from found (Ok p) known fewer next =
     let within = next.1 in
     ((λ depth text at inside read. next.0 depth text (known depth text at inside read)), omega (arith, within, fewer))
@@ -166,8 +166,8 @@ pair_goes_on outer node text' from found (Err fault) known fewer next = λ depth
 
 -- ---- from the inside outwards
 
-inside_refused : (depth : ℕ) (text : List ℕ) (outer : Open) (at : List ℕ) (fault : Fault) → IsInside depth text outer at → IsRefused depth at fault
-    → IsRefused (suc depth) text fault
+inside_refused : (depth : ℕ) (text : List ℕ) (outer : Open) (at : List ℕ) (fault : Fault) → IsNextInside depth text outer at → IsValueRefused depth at fault
+    → IsValueRefused (suc depth) text fault
 inside_refused depth text (Array found) at fault (rest, known, other, is) refused = (
   λ real. array_bad depth text _ rest known other (rw is at refused.0 real),
   (reason_in text at fault (λ left. NestsPast depth left at) (λ left. NestsPast (suc depth) left text)
@@ -194,7 +194,7 @@ inside_refused depth text (Braces found) at fault (rest, known, other, named, is
 abbrev pub Stands : List Open → (depth : ℕ) (text : List ℕ) → (inner : ℕ) (at : List ℕ) → Type 0
 Stands [] depth text inner at = (depth ≡ inner) × (text ≡ at)
 Stands (outer ∷ others) depth text inner at =
-    (less : ℕ) × (next : List ℕ) × (depth ≡ suc less) × IsInside less text outer next × Stands others less next inner at
+    (less : ℕ) × (next : List ℕ) × (depth ≡ suc less) × IsNextInside less text outer next × Stands others less next inner at
 
 stands_depth : (opened : List Open) (depth : ℕ) (text : List ℕ) (inner : ℕ) (at : List ℕ) → Stands opened depth text inner at
     → depth ≡ length opened + inner
@@ -204,26 +204,26 @@ stands_depth (outer ∷ others) depth text inner at (less, next, is, inside, sta
     omega (arith, is, more)
 
 stands_push : (opened : List Open) (depth : ℕ) (text : List ℕ) (inner : ℕ) (at : List ℕ) (innermost : Open) (next : List ℕ)
-    → Stands opened depth text (suc inner) at → IsInside inner at innermost next → Stands (opened ++ innermost ∷ []) depth text inner next
+    → Stands opened depth text (suc inner) at → IsNextInside inner at innermost next → Stands (opened ++ innermost ∷ []) depth text inner next
 stands_push [] depth text inner at innermost next (is, same) inside = (inner, next, is, rw same inside, (refl, refl))
 stands_push (outer ∷ others) depth text inner at innermost next (less, middle, is, around, stands) inside =
     (less, middle, is, around, stands_push others less middle inner at innermost next stands inside)
 
 stands_pop : (opened : List Open) (depth : ℕ) (text : List ℕ) (inner : ℕ) (at : List ℕ) (innermost : Open)
-    → Stands (opened ++ innermost ∷ []) depth text inner at → (from : List ℕ) × Stands opened depth text (suc inner) from × IsInside inner from innermost at
+    → Stands (opened ++ innermost ∷ []) depth text inner at → (from : List ℕ) × Stands opened depth text (suc inner) from × IsNextInside inner from innermost at
 stands_pop [] depth text inner at innermost (less, next, is, inside, (same, there)) =
-    let there_inside = subst (λ (t : List ℕ). IsInside less text innermost t) there inside in
-    (text, (is ∙ ap suc same, refl), subst (λ (n : ℕ). IsInside n text innermost at) same there_inside)
+    let there_inside = subst (λ (t : List ℕ). IsNextInside less text innermost t) there inside in
+    (text, (is ∙ ap suc same, refl), subst (λ (n : ℕ). IsNextInside n text innermost at) same there_inside)
 stands_pop (outer ∷ others) depth text inner at innermost (less, next, is, inside, stands) =
     let (from, more, innermost_is) = stands_pop others less next inner at innermost stands in
     (from, (less, next, is, inside, more), innermost_is)
 
 -- what is found there opens
 pub stands_opened : (opened pushed : List Open) (depth : ℕ) (text : List ℕ) (inner : ℕ) (at : List ℕ) (found : Found) (innermost : Open) (rest : List ℕ)
-    → Stands opened depth text inner at → IsFound inner at found rest → found ≡ Opened innermost → pushed ≡ opened ++ innermost ∷ []
+    → Stands opened depth text inner at → IsFoundHere inner at found rest → found ≡ Opened innermost → pushed ≡ opened ++ innermost ∷ []
     → (count : ℕ) → count ≡ length pushed → (count ≤ depth) × Stands pushed depth text (depth - count) rest
 stands_opened opened pushed depth text inner at found innermost rest stands is_found is one_more count counts =
-    let (less, suc_less, inside) = subst (λ (f : Found). IsFound inner at f rest) is is_found in
+    let (less, suc_less, inside) = subst (λ (f : Found). IsFoundHere inner at f rest) is is_found in
     let more = subst (λ (os : List Open). Stands os depth text less rest) (sym one_more)
     (stands_push opened depth text less at innermost rest (subst (λ (n : ℕ). Stands opened depth text n at) suc_less stands) inside) in
     let whole = stands_depth pushed depth text less rest more in
@@ -232,17 +232,17 @@ stands_opened opened pushed depth text inner at found innermost rest stands is_f
 
 -- it is a value, in what is innermost
 pub stands_closed : (opened popped : List Open) (depth : ℕ) (text : List ℕ) (inner : ℕ) (at : List ℕ) (found : Found) (node : Node) (rest : List ℕ)
-    (innermost : Open) → Stands opened depth text inner at → IsFound inner at found rest → found ≡ Value node → opened ≡ popped ++ innermost ∷ []
-    → (from : List ℕ) × Stands popped depth text (suc inner) from × IsInside inner from innermost at × IsRead inner at node rest
+    (innermost : Open) → Stands opened depth text inner at → IsFoundHere inner at found rest → found ≡ Value node → opened ≡ popped ++ innermost ∷ []
+    → (from : List ℕ) × Stands popped depth text (suc inner) from × IsNextInside inner from innermost at × IsValueRead inner at node rest
 stands_closed opened popped depth text inner at found node rest innermost stands is_found is one_less =
     let (from, fewer, inside) =
     stands_pop popped depth text inner at innermost (subst (λ (os : List Open). Stands os depth text inner at) one_less stands) in
-    (from, fewer, inside, subst (λ (f : Found). IsFound inner at f rest) is is_found)
+    (from, fewer, inside, subst (λ (f : Found). IsFoundHere inner at f rest) is is_found)
 
 pub stands_refused : (opened : List Open) (depth : ℕ) (text : List ℕ) (inner : ℕ) (at : List ℕ) (fault : Fault) → Stands opened depth text inner at
-    → IsRefused inner at fault → IsRefused depth text fault
+    → IsValueRefused inner at fault → IsValueRefused depth text fault
 stands_refused [] depth text inner at fault (is, same) refused =
-    subst (λ (n : ℕ). IsRefused n text fault) (sym is) (subst (λ (t : List ℕ). IsRefused inner t fault) (sym same) refused)
+    subst (λ (n : ℕ). IsValueRefused n text fault) (sym is) (subst (λ (t : List ℕ). IsValueRefused inner t fault) (sym same) refused)
 stands_refused (outer ∷ others) depth text inner at fault (less, next, is, inside, stands) refused =
-    subst (λ (n : ℕ). IsRefused n text fault) (sym is)
+    subst (λ (n : ℕ). IsValueRefused n text fault) (sym is)
     (inside_refused less text outer next fault inside (stands_refused others less next inner at fault stands refused))

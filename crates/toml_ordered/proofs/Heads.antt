@@ -16,34 +16,35 @@ use Rattle.toml_ordered.specs.Drafts.{sealed}
 use Rattle.toml_ordered.specs.Grammar.{atom, expression, line, val}
 use Rattle.toml_ordered.specs.Tables.{Expression, array_table, key_value, std_table}
 use Rattle.toml_ordered.specs.Firsts.{FaultTells, IsOther}
-use Rattle.toml_ordered.specs.Reading.{IsRefusal, Reads, fault_of}
+use Rattle.toml_ordered.specs.Reading.{IsGrammarRefusal, ReadsExpected, fault_of}
 use Rattle.toml_ordered.specs.declared.fault.Fault.{Fault}
 use Rattle.toml_ordered.specs.declared.tree.Node.{Text, the_lemmas}
 use Rattle.toml_ordered.specs.declared.fault.Fault.TheVariants as fault
 
 -- an error of `toml_parser`
 pub no_token : {B : Type 0} (error : ParseError) (found : Fault) (expected : Option B) → found ≡ fault_of error
-    → ((error ≡ parse.OutOfMemory → ⊥) → expected ≡ None) → IsRefusal expected IsOther found
-no_token error found expected is none = subst (IsRefusal expected IsOther) (sym is) (by error none)
+    → ((error ≡ parse.OutOfMemory → ⊥) → expected ≡ None) → IsGrammarRefusal expected IsOther found
+no_token error found expected is none = subst (IsGrammarRefusal expected IsOther) (sym is) (by error none)
   where
-    by : (e : ParseError) → ((e ≡ parse.OutOfMemory → ⊥) → expected ≡ None) → IsRefusal expected IsOther (fault_of e)
+    by : (e : ParseError) → ((e ≡ parse.OutOfMemory → ⊥) → expected ≡ None) → IsGrammarRefusal expected IsOther (fault_of e)
     by parse.OutOfMemory refused = (λ real. absurd (real refl), tt)
     by (parse.At kind from to) refused = (λ real. refused (λ m. cc), tt)
 
 -- and what is read besides, of which more is told
 pub reads_tells : {A B : Type 0} (f : A → B) (text : List ℕ) (expected : Read B) (again : List ℕ → ℕ → ℕ → Type 0) (deep : ℕ → Type 0)
-    → (r : Result (A × Bor (List ℕ)) Fault) → Reads f text expected IsOther r → Reads f text expected (λ found. FaultTells found again deep) r
+    → (r : Result (A × Bor (List ℕ)) Fault) → ReadsExpected f text expected IsOther r → ReadsExpected f text expected (λ found. FaultTells found again deep) r
 reads_tells f text expected again deep (Ok p) read = read
 reads_tells f text expected again deep (Err found) refused = (refused.0, other_than again deep found refused.1)
 
 -- no text of the grammar goes on here, and more is told
 pub ends_text : {B : Type 0} (left : ℕ) (found : Fault) (expected : Option B) (again : List ℕ → ℕ → ℕ → Type 0) (deep : ℕ → Type 0)
-    → found ≡ fault.NotToml left → expected ≡ None → IsRefusal expected (λ f. FaultTells f again deep) found
-ends_text left found expected again deep is none = subst (IsRefusal expected (λ f. FaultTells f again deep)) (sym is) (λ real. none, tt)
+    → found ≡ fault.NotToml left → expected ≡ None → IsGrammarRefusal expected (λ f. FaultTells f again deep) found
+ends_text left found expected again deep is none = subst (IsGrammarRefusal expected (λ f. FaultTells f again deep)) (sym is) (λ real. none, tt)
 
 -- no text of the grammar goes on here
-pub no_text : {B : Type 0} (left : ℕ) (found : Fault) (expected : Option B) → found ≡ fault.NotToml left → expected ≡ None → IsRefusal expected IsOther found
-no_text left found expected is none = subst (IsRefusal expected IsOther) (sym is) (λ real. none, tt)
+pub no_text : {B : Type 0} (left : ℕ) (found : Fault) (expected : Option B) → found ≡ fault.NotToml left → expected ≡ None
+    → IsGrammarRefusal expected IsOther found
+no_text left found expected is none = subst (IsGrammarRefusal expected IsOther) (sym is) (λ real. none, tt)
 
 -- the byte behind the blanks, which closes an array or a table in braces, or not
 module _ (closing : ℕ) (text start : List ℕ) (blank : start ≡ skip_blank text) (byte : ℕ) (here : byte ≡ first start) where

@@ -8,7 +8,7 @@ use Rattle.toml_ordered.proofs.Turns.{along_found, along_refused, along_new, alo
 use Rattle.toml_ordered.specs.Data.{TomlNode, TomlNodes, no_nodes, table}
 use Rattle.toml_ordered.specs.Drafts.{IsIndexedAt, draft_view, held_view, keys_view, table_view}
 use Rattle.toml_ordered.specs.Firsts.{Firsts, AddsFirsts, IsAgain, draft_firsts, keys_firsts, keys_in, no_firsts}
-use Rattle.toml_ordered.specs.Passing.{held, with_value, Fills, IsFilled, AreFilled, IsOpened, IsShut, Passes, Refuses, keys_of}
+use Rattle.toml_ordered.specs.Passing.{held, with_value_at, Fills, IsFilled, AreFilled, IsOpened, IsShut, PassesSteps, RefusesSteps, keys_of}
 use Rattle.toml_ordered.specs.Reading.{IsPassed, IsSameKey}
 use Rattle.toml_ordered.specs.Tables.{along, append, get_node, made_by, replace}
 use Rattle.toml_ordered.specs.declared.drafts.Draft.{Draft as CodeDraft}
@@ -22,20 +22,20 @@ use Rattle.toml_ordered.specs.declared.tree.Origin.{Origin}
 
 -- ---- another value at a place
 
-pub with_value-set : (at : ℕ) (x : CodeDraft) (es : List Draft) (w : Draft) → with_value at x (set es at w) ≡ set es at (w.0, x, w.2)
-with_value-set at x [] w = refl
-with_value-set zero x (e ∷ es) w = refl
-with_value-set (suc at) x (e ∷ es) w = ap (λ (ds : List Draft). e ∷ ds) (with_value-set at x es w)
+pub with_value_at-set : (at : ℕ) (x : CodeDraft) (es : List Draft) (w : Draft) → with_value_at at x (set es at w) ≡ set es at (w.0, x, w.2)
+with_value_at-set at x [] w = refl
+with_value_at-set zero x (e ∷ es) w = refl
+with_value_at-set (suc at) x (e ∷ es) w = ap (λ (ds : List Draft). e ∷ ds) (with_value_at-set at x es w)
 
-pub with_value-here : (at : ℕ) (x : CodeDraft) (es : List Draft) (e : Draft) → at < length es → get_or es at e ≡ e
-    → set es at (e.0, x, e.2) ≡ with_value at x es
-with_value-here at x [] e within is = refl
-with_value-here zero x (d ∷ es) e within is = ap (λ (m : Draft). (m.0, x, m.2) ∷ es) (sym is)
-with_value-here (suc at) x (d ∷ es) e within is = ap (λ (ds : List Draft). d ∷ ds) (with_value-here at x es e (omega (arith, within)) is)
+pub with_value_at-here : (at : ℕ) (x : CodeDraft) (es : List Draft) (e : Draft) → at < length es → get_or es at e ≡ e
+    → set es at (e.0, x, e.2) ≡ with_value_at at x es
+with_value_at-here at x [] e within is = refl
+with_value_at-here zero x (d ∷ es) e within is = ap (λ (m : Draft). (m.0, x, m.2) ∷ es) (sym is)
+with_value_at-here (suc at) x (d ∷ es) e within is = ap (λ (ds : List Draft). d ∷ ds) (with_value_at-here at x es e (omega (arith, within)) is)
 
-with_value-last : (x : CodeDraft) (es : List Draft) (w : Draft) → with_value (length es) x (es ++ w ∷ []) ≡ es ++ (w.0, x, w.2) ∷ []
-with_value-last x [] w = refl
-with_value-last x (e ∷ es) w = ap (λ (ds : List Draft). e ∷ ds) (with_value-last x es w)
+with_value_at-last : (x : CodeDraft) (es : List Draft) (w : Draft) → with_value_at (length es) x (es ++ w ∷ []) ≡ es ++ (w.0, x, w.2) ∷ []
+with_value_at-last x [] w = refl
+with_value_at-last x (e ∷ es) w = ap (λ (ds : List Draft). e ∷ ds) (with_value_at-last x es w)
 
 -- ---- what holds a table
 
@@ -53,7 +53,7 @@ module _ (by : Way) (k : List ℕ) (rest : List (Way × List ℕ)) (left at : �
   found : get_node k (table_view outer) ≡ Some (draft_view e.1)
   found = found_here k at outer.keys.items e outer.index has is
 
-  pub refuses_there : (fault : Fault) → IsPassed (string_bytes e.0) e.2 left fault → IsShut by e.1 → Refuses ((by, k) ∷ rest) left outer fault
+  pub refuses_there : (fault : Fault) → IsPassed (string_bytes e.0) e.2 left fault → IsShut by e.1 → RefusesSteps ((by, k) ∷ rest) left outer fault
   refuses_there fault own shut = record {
     value = λ edit real. along_refused by k rest edit (table_view outer) (draft_view e.1) found (shut (along rest edit));
     again = λ key. again_here k (keys_of rest ++ key ∷ []) left at outer.keys.items e fault has.1 is own;
@@ -67,7 +67,7 @@ module _ (by : Way) (k : List ℕ) (rest : List (Way × List ℕ)) (left at : �
 
     items_are : (new whole : OpenTable) → Fills t at h new whole → whole.keys.items ≡ set outer.keys.items at (now new)
     items_are new whole fills =
-        fills.0 ∙ ap (with_value at (held h new)) keys ∙ with_value-set at (held h new) outer.keys.items w
+        fills.0 ∙ ap (with_value_at at (held h new)) keys ∙ with_value_at-set at (held h new) outer.keys.items w
 
     view_is : (new whole : OpenTable) → Fills t at h new whole → table_view whole ≡ replace k (held_view h (table_view new)) (table_view outer)
     view_is new whole fills =
@@ -89,7 +89,7 @@ module _ (by : Way) (k : List ℕ) (rest : List (Way × List ℕ)) (left at : �
         (sym (items_are new whole fills))
         (adds_inside k path left (table_view outer) (draft_view e.1) at outer.keys.items e (now new) found has.1 is same inside)
 
-    pub passes_there : Passes ((by, k) ∷ rest) rest left outer inner (Fills t at h)
+    pub passes_there : PassesSteps ((by, k) ∷ rest) rest left outer inner (Fills t at h)
     passes_there = record {
       value = λ edit new whole fills known.
           along_found by k rest edit (table_view outer) (draft_view e.1) (held_view h (table_view new)) (table_view whole) found
@@ -112,8 +112,8 @@ module _ (by : Way) (rest : List (Way × List ℕ)) (left at : ℕ) (outer inner
       (view : (x : CodeDraft) → keys_view (outer.keys.items ++ (w.0, x, w.2) ∷ []) t.index ≡ append (table_view outer) (string_bytes w.0) (draft_view x)) where
     items_made : (new whole : OpenTable) → Fills t at (holder.Table origin) new whole → whole.keys.items ≡ outer.keys.items ++ made new ∷ []
     items_made new whole fills =
-        fills.0 ∙ ap (λ (n : ℕ). with_value n (made new).1 t.keys.items) place
-        ∙ ap (with_value (length outer.keys.items) (made new).1) keys ∙ with_value-last (made new).1 outer.keys.items w
+        fills.0 ∙ ap (λ (n : ℕ). with_value_at n (made new).1 t.keys.items) place
+        ∙ ap (with_value_at (length outer.keys.items) (made new).1) keys ∙ with_value_at-last (made new).1 outer.keys.items w
 
     view_made : (new whole : OpenTable) → Fills t at (holder.Table origin) new whole
         → table_view whole ≡ append (table_view outer) (string_bytes w.0) (table (made_by by) (table_view new))
@@ -126,7 +126,7 @@ module _ (by : Way) (rest : List (Way × List ℕ)) (left at : ℕ) (outer inner
     nothing_in : table_view inner ≡ no_nodes
     nothing_in = ap (λ (es : List Draft). keys_view es inner.index) empty
 
-    pub passes_new : Passes ((by, string_bytes w.0) ∷ rest) rest left outer inner (Fills t at (holder.Table origin))
+    pub passes_new : PassesSteps ((by, string_bytes w.0) ∷ rest) rest left outer inner (Fills t at (holder.Table origin))
     passes_new = record {
       value = λ edit new whole fills known.
           along_new by (string_bytes w.0) rest edit (table_view outer) (table_view new) (table_view whole) none
@@ -148,10 +148,10 @@ module _ (by : Way) (rest : List (Way × List ℕ)) (left at : ℕ) (outer inner
 
 -- one more
 pub passes_on : (all middle rest : List (Way × List ℕ)) (left : ℕ) (outer here inner : OpenTable) (ps : List Passed) (p : Passed)
-    → Passes all middle left outer here (AreFilled (reverse ps)) → Passes middle rest left here inner (IsFilled p)
-    → Passes all rest left outer inner (AreFilled (reverse (ps ++ p ∷ [])))
+    → PassesSteps all middle left outer here (AreFilled (reverse ps)) → PassesSteps middle rest left here inner (IsFilled p)
+    → PassesSteps all rest left outer inner (AreFilled (reverse (ps ++ p ∷ [])))
 passes_on all middle rest left outer here inner ps p before step =
-    subst (λ (qs : List Passed). Passes all rest left outer inner (AreFilled qs)) (sym (reverse-append ps (p ∷ []))) record {
+    subst (λ (qs : List Passed). PassesSteps all rest left outer inner (AreFilled qs)) (sym (reverse-append ps (p ∷ []))) record {
       value = λ edit new whole fills known. before.value edit fills.0 whole fills.2 (step.value edit new fills.0 fills.1 known);
       refused = λ edit none. before.refused edit (step.refused edit none);
       firsts = λ key new whole fills adds. before.firsts key fills.0 whole fills.2 (step.firsts key new fills.0 fills.1 adds);
@@ -159,7 +159,7 @@ passes_on all middle rest left outer here inner ps p before step =
     }
 
 pub refused_on : (all middle : List (Way × List ℕ)) (left : ℕ) (outer here : OpenTable) (Fill : OpenTable → OpenTable → Type 0) (fault : Fault)
-    → Passes all middle left outer here Fill → Refuses middle left here fault → Refuses all left outer fault
+    → PassesSteps all middle left outer here Fill → RefusesSteps middle left here fault → RefusesSteps all left outer fault
 refused_on all middle left outer here Fill fault before refused = record {
   value = λ edit real. before.refused edit (refused.value edit real);
   again = λ key. before.again key fault (refused.again key);

@@ -2,7 +2,7 @@
 use Rattle.std.proofs.Common.{◌≡◌, ℕ, suc, ◌+◌, ◌*◌, ◌<◌, List, [], ◌∷◌, ◌++◌, length, String, Vec, Global, string_bytes, refl, sym, ap, ap₂, ◌∙◌, arith}
 use Rattle.toml_ordered.proofs.Trees.{Entry}
 use Rattle.toml_ordered.specs.Data.{TomlNode, table, tables, TomlNodes, no_nodes, node, node_view, entries_view}
-use Rattle.toml_ordered.specs.Unfinished.{IsBegun, live_view}
+use Rattle.toml_ordered.specs.Unfinished.{IsHalfBegun, live_view}
 use Rattle.toml_ordered.specs.declared.drafts.Around.{Around}
 use Rattle.toml_ordered.specs.declared.drafts.Half.{Half}
 use Rattle.toml_ordered.specs.Drafts.{held_view}
@@ -91,7 +91,7 @@ completed outer was now e x next is pushed =
 -- a table inside is begun
 pub entered : (outer all : List Around) (was now : Half) (rest : LiveKeys) (place : String Global × Holder × ℕ) (x : TomlNode) (ns : TomlNodes)
     → all ≡ outer ++ record { table = record { nodes = was.nodes; keys = rest }; place = place } ∷ []
-    → live_view was.keys ≡ node (string_bytes place.0) x (live_view rest) → x ≡ held_view place.1 ns → IsBegun ns now → Turns all now outer was
+    → live_view was.keys ≡ node (string_bytes place.0) x (live_view rest) → x ≡ held_view place.1 ns → IsHalfBegun ns now → Turns all now outer was
 entered outer all was now rest place x ns more next is begun =
     let a : Around = record { table = record { nodes = was.nodes; keys = rest }; place = place } in
     let size = ap nodes_size next in

@@ -10,7 +10,7 @@ use Rattle.toml_ordered.specs.Firsts.{Firsts, HasFirst, keys_firsts}
 use Rattle.toml_ordered.specs.Grammar.{items, members, val}
 use Rattle.toml_ordered.specs.Nesting.{ValueTells, after_items}
 use Rattle.toml_ordered.specs.Places.{EndsWith, PairFirstDefines, after_pairs}
-use Rattle.toml_ordered.specs.Reading.{IsRefusal}
+use Rattle.toml_ordered.specs.Reading.{IsGrammarRefusal}
 use Rattle.toml_ordered.specs.declared.drafts.OpenTable.{OpenTable}
 use Rattle.toml_ordered.specs.declared.fault.Fault.{Fault}
 use Rattle.toml_ordered.specs.declared.tree.Node.{Node}
@@ -47,48 +47,48 @@ pub record BracesUpTo (depth : ℕ) (text : List ℕ) (found : OpenTable) (rest 
   pub read : after_pairs depth count (drop 1 text) ≡ Some (table_view found, rest)
 
 -- behind what is read of the array or the table in braces that begins the text, the value of the next item or pair begins here
-abbrev pub IsInside : (depth : ℕ) (text : List ℕ) → Open → (at : List ℕ) → Type 0
-IsInside depth text (Array found) at =
+abbrev pub IsNextInside : (depth : ℕ) (text : List ℕ) → Open → (at : List ℕ) → Type 0
+IsNextInside depth text (Array found) at =
     (rest : List ℕ) × ArrayUpTo depth text (items_view found.items) rest × ((first (skip_blank rest) == right_bracket) ≡ false) × (at ≡ skip_blank rest)
-IsInside depth text (Braces found) at =
+IsNextInside depth text (Braces found) at =
     (rest : List ℕ) × BracesUpTo depth text found.table rest × ((first (skip_blank rest) == right_brace) ≡ false)
     × (key_equals (skip_blank rest) ≡ Some (key_view found.key, at)) × (found.left ≡ length (skip_blank rest))
 
 -- the value that begins the text is this one, and the rest follows it
-abbrev pub IsRead : (depth : ℕ) (text : List ℕ) → Node → (rest : List ℕ) → Type 0
-IsRead depth text node rest = (val depth text ≡ Some (node_view node, rest)) × (length rest < length text)
+abbrev pub IsValueRead : (depth : ℕ) (text : List ℕ) → Node → (rest : List ℕ) → Type 0
+IsValueRead depth text node rest = (val depth text ≡ Some (node_view node, rest)) × (length rest < length text)
 
 -- it is read; or a value inside of it begins the rest
-abbrev pub IsFound : (depth : ℕ) (text : List ℕ) → Found → (rest : List ℕ) → Type 0
-IsFound depth text (Value node) rest = IsRead depth text node rest
-IsFound depth text (Opened inner) rest = (less : ℕ) × (depth ≡ suc less) × IsInside less text inner rest
+abbrev pub IsFoundHere : (depth : ℕ) (text : List ℕ) → Found → (rest : List ℕ) → Type 0
+IsFoundHere depth text (Value node) rest = IsValueRead depth text node rest
+IsFoundHere depth text (Opened inner) rest = (less : ℕ) × (depth ≡ suc less) × IsNextInside less text inner rest
 
 -- no value begins the text, unless an allocation failed; and why
-abbrev pub IsRefused : (depth : ℕ) (text : List ℕ) → Fault → Type 0
-IsRefused depth text fault = IsRefusal (val depth text) (ValueTells depth text) fault
+abbrev pub IsValueRefused : (depth : ℕ) (text : List ℕ) → Fault → Type 0
+IsValueRefused depth text fault = IsGrammarRefusal (val depth text) (ValueTells depth text) fault
 
 -- what is read of the value that begins the text
 abbrev pub Finds : (depth : ℕ) (text : List ℕ) → Result (Found × Bor (List ℕ)) Fault → Type 0
-Finds depth text r = MatchResult r (λ p. IsFound depth text p.0 p.1.now × (length p.1.now < length text)) (IsRefused depth text)
+Finds depth text r = MatchResult r (λ p. IsFoundHere depth text p.0 p.1.now × (length p.1.now < length text)) (IsValueRefused depth text)
 
 -- of the value of each text in which one inside of it is read as this one
 abbrev pub Went : Open → Node → (rest : List ℕ) → ((depth : ℕ) (text : List ℕ) → Type 0) → Type 0
-Went outer node rest then = (depth : ℕ) (text at : List ℕ) → IsInside depth text outer at → IsRead depth at node rest → then (suc depth) text
+Went outer node rest then = (depth : ℕ) (text at : List ℕ) → IsNextInside depth text outer at → IsValueRead depth at node rest → then (suc depth) text
 
 -- what is read once a value inside of what begins the text is read, as this one
-abbrev pub GoesOn : Open → Node → (rest : List ℕ) → Result (Found × Bor (List ℕ)) Fault → Type 0
-GoesOn outer node rest r =
+abbrev pub GoesOnInside : Open → Node → (rest : List ℕ) → Result (Found × Bor (List ℕ)) Fault → Type 0
+GoesOnInside outer node rest r =
     MatchResult r
-    (λ p. Went outer node rest (λ depth text. IsFound depth text p.0 p.1.now) × (length p.1.now ≤ length rest))
-    (λ fault. Went outer node rest (λ depth text. IsRefused depth text fault))
+    (λ p. Went outer node rest (λ depth text. IsFoundHere depth text p.0 p.1.now) × (length p.1.now ≤ length rest))
+    (λ fault. Went outer node rest (λ depth text. IsValueRefused depth text fault))
 
 -- what is read next of an array, or of a table in braces
 abbrev pub NextItem : Items → (from : List ℕ) → Found → (rest : List ℕ) → Type 0
 NextItem items from found rest =
-    ((depth : ℕ) (text : List ℕ) → ArrayUpTo depth text items from → IsFound (suc depth) text found rest) × (length rest ≤ length from)
+    ((depth : ℕ) (text : List ℕ) → ArrayUpTo depth text items from → IsFoundHere (suc depth) text found rest) × (length rest ≤ length from)
 
 abbrev pub NextPair : OpenTable → (from : List ℕ) → Result (Found × Bor (List ℕ)) Fault → Type 0
 NextPair found from r =
     MatchResult r
-    (λ p. ((depth : ℕ) (text : List ℕ) → BracesUpTo depth text found from → IsFound (suc depth) text p.0 p.1.now) × (length p.1.now ≤ length from))
-    (λ fault. (depth : ℕ) (text : List ℕ) → BracesUpTo depth text found from → IsRefused (suc depth) text fault)
+    (λ p. ((depth : ℕ) (text : List ℕ) → BracesUpTo depth text found from → IsFoundHere (suc depth) text p.0 p.1.now) × (length p.1.now ≤ length from))
+    (λ fault. (depth : ℕ) (text : List ℕ) → BracesUpTo depth text found from → IsValueRefused (suc depth) text fault)

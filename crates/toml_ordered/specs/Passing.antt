@@ -17,14 +17,14 @@ abbrev pub held : Holder → OpenTable → CodeDraft
 held h inner = Growing h inner.keys inner.index
 
 -- the keys, with another value at a place
-abbrev pub with_value : ℕ → CodeDraft → List (String Global × CodeDraft × ℕ) → List (String Global × CodeDraft × ℕ)
-with_value at x [] = []
-with_value zero x (m ∷ ms) = (m.0, x, m.2) ∷ ms
-with_value (suc at) x (m ∷ ms) = m ∷ with_value at x ms
+abbrev pub with_value_at : ℕ → CodeDraft → List (String Global × CodeDraft × ℕ) → List (String Global × CodeDraft × ℕ)
+with_value_at at x [] = []
+with_value_at zero x (m ∷ ms) = (m.0, x, m.2) ∷ ms
+with_value_at (suc at) x (m ∷ ms) = m ∷ with_value_at at x ms
 
 -- the whole is a table with an inner one in the value at a place
 abbrev pub Fills : OpenTable → ℕ → Holder → (inner whole : OpenTable) → Type 0
-Fills t at h inner whole = (whole.keys.items ≡ with_value at (held h inner) t.keys.items) × (whole.index ≡ t.index)
+Fills t at h inner whole = (whole.keys.items ≡ with_value_at at (held h inner) t.keys.items) × (whole.index ≡ t.index)
 
 -- the whole is what was passed, with the inner table put back
 abbrev pub IsFilled : Passed → (inner whole : OpenTable) → Type 0
@@ -51,7 +51,7 @@ keys_of steps = map (λ step. step.1) steps
 
 -- What is defined by all the steps, in the outer table, is what is defined by the rest of them in the inner one: with a new table in place of
 -- the inner one, which Fill tells, the whole takes the place of the outer one.
-pub record Passes (all rest : List (Way × List ℕ)) (left : ℕ) (outer inner : OpenTable) (Fill : OpenTable → OpenTable → Type 0) : Type 0 where
+pub record PassesSteps (all rest : List (Way × List ℕ)) (left : ℕ) (outer inner : OpenTable) (Fill : OpenTable → OpenTable → Type 0) : Type 0 where
   pub value : (edit : Edit) (new whole : OpenTable) → Fill new whole → along rest edit (table_view inner) ≡ Some (table_view new)
       → along all edit (table_view outer) ≡ Some (table_view whole)
   pub refused : (edit : Edit) → along rest edit (table_view inner) ≡ None → along all edit (table_view outer) ≡ None
@@ -62,6 +62,6 @@ pub record Passes (all rest : List (Way × List ℕ)) (left : ℕ) (outer inner 
       → IsAgain (keys_of all ++ key ∷ []) left (keys_firsts outer.keys.items) fault
 
 -- nothing is defined by the steps in the table, and why
-pub record Refuses (all : List (Way × List ℕ)) (left : ℕ) (outer : OpenTable) (fault : Fault) : Type 0 where
+pub record RefusesSteps (all : List (Way × List ℕ)) (left : ℕ) (outer : OpenTable) (fault : Fault) : Type 0 where
   pub value : (edit : Edit) → (IsMemory fault → ⊥) → along all edit (table_view outer) ≡ None
   pub again : (key : List ℕ) → IsAgain (keys_of all ++ key ∷ []) left (keys_firsts outer.keys.items) fault

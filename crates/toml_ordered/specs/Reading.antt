@@ -36,24 +36,24 @@ abbrev pub ParsesTo : {A B : Type 0} → (A → B) → Result A Fault → Option
 ParsesTo f r expected = MatchResult r (λ a. expected ≡ Some (f a)) (λ e. (IsMemory e → ⊥) → expected ≡ None)
 
 -- the grammar gives nothing, unless an allocation failed; and what the fault tells
-abbrev pub IsRefusal : {B : Type 0} → Option B → (tells : Fault → Type 0) → Fault → Type 0
-IsRefusal expected tells found = ((IsMemory found → ⊥) → expected ≡ None) × tells found
+abbrev pub IsGrammarRefusal : {B : Type 0} → Option B → (tells : Fault → Type 0) → Fault → Type 0
+IsGrammarRefusal expected tells found = ((IsMemory found → ⊥) → expected ≡ None) × tells found
 
 -- what the grammar gives is read, seen through f, and less text is left; or the text is refused
-abbrev pub Reads : {A B : Type 0} → (A → B) → (text : List ℕ) → Read B → (tells : Fault → Type 0) → Result (A × Bor (List ℕ)) Fault → Type 0
-Reads f text expected tells r =
-    MatchResult r (λ p. (expected ≡ Some (f p.0, p.1.now)) × (length p.1.now < length text)) (IsRefusal expected tells)
+abbrev pub ReadsExpected : {A B : Type 0} → (A → B) → (text : List ℕ) → Read B → (tells : Fault → Type 0) → Result (A × Bor (List ℕ)) Fault → Type 0
+ReadsExpected f text expected tells r =
+    MatchResult r (λ p. (expected ≡ Some (f p.0, p.1.now)) × (length p.1.now < length text)) (IsGrammarRefusal expected tells)
 
 -- the same of what only passes a part of the text
 abbrev pub ReadsPast : (text : List ℕ) → Option (List ℕ) → Result (Bor (List ℕ)) Fault → Type 0
-ReadsPast text expected r = MatchResult r (λ rest. (expected ≡ Some rest.now) × (length rest.now ≤ length text)) (IsRefusal expected IsOther)
+ReadsPast text expected r = MatchResult r (λ rest. (expected ≡ Some rest.now) × (length rest.now ≤ length text)) (IsGrammarRefusal expected IsOther)
 
 -- what the rules give is defined in a table, along the whole path, here; or the definition is refused
 abbrev pub Defines : {A : Type 0} → Option A → (new : A) → (whole : List (List ℕ)) → (here : ℕ) → (from to : OpenTable) → Result (Unit {0}) Fault → Type 0
 Defines expected new whole here from to r =
     MatchResult r
     (λ _. (expected ≡ Some new) × AddsFirsts whole here (table_view from) (keys_firsts from.keys.items) (keys_firsts to.keys.items))
-    (IsRefusal expected (IsAgain whole here (keys_firsts from.keys.items)))
+    (IsGrammarRefusal expected (IsAgain whole here (keys_firsts from.keys.items)))
 
 abbrev pub definition_view : code_definition.Definition → Definition
 definition_view (Value x) = key_value (sealed (node_view x))

@@ -11,5 +11,5 @@ abbrev pub live_view : LiveKeys → TomlNodes
 live_view l = nodes_from l.index l.at (drafts_view (into_iter_items l.keys))
 
 -- a table of these keys, of which none is complete
-abbrev pub IsBegun : TomlNodes → Half → Type 0
-IsBegun ns h = (h.nodes.items ≡ []) × (live_view h.keys ≡ ns)
+abbrev pub IsHalfBegun : TomlNodes → Half → Type 0
+IsHalfBegun ns h = (h.nodes.items ≡ []) × (live_view h.keys ≡ ns)

@@ -9,7 +9,7 @@ ghost use Rattle.toml_ordered.specs.Firsts.{IsOther};
 ghost use Rattle.toml_ordered.specs.Grammar as spec;
 ghost use Rattle.toml_ordered.specs.Nesting.{ExpressionTells, HasReason};
 ghost use Rattle.toml_ordered.specs.Places.{FaultIsPlaced, key_parts, whole_path};
-ghost use Rattle.toml_ordered.specs.Reading.{Defines, ParsesTo, Reads, definition_view, document_view, expression_view};
+ghost use Rattle.toml_ordered.specs.Reading.{Defines, ParsesTo, ReadsExpected, definition_view, document_view, expression_view};
 ghost use Rattle.toml_ordered.specs.Tables.{define, defined_header, defined_pair};
 
 use crate::drafts::OpenTable;
@@ -153,7 +153,7 @@ fn past_mark(s: &str) -> &str
 
 /// Reads an expression that has its line to itself.
 fn line(alloc: Global, s: &str) -> Result<((Key, Definition), &str), Fault>
-    ensures { Reads expression_view s.now (spec.line s.now) (ExpressionTells s.now) result }
+    ensures { ReadsExpected expression_view s.now (spec.line s.now) (ExpressionTells s.now) result }
 {
     let (expression, rest) = match expression(alloc, s) {
         Ok(read) => read,
@@ -169,7 +169,7 @@ fn line(alloc: Global, s: &str) -> Result<((Key, Definition), &str), Fault>
 
 /// Reads a header, or a pair.
 fn expression(alloc: Global, s: &str) -> Result<((Key, Definition), &str), Fault>
-    ensures { Reads expression_view s.now (spec.expression s.now) (ExpressionTells s.now) result }
+    ensures { ReadsExpected expression_view s.now (spec.expression s.now) (ExpressionTells s.now) result }
 {
     if first(s) == b'[' {
         return header(alloc, s);
@@ -187,7 +187,7 @@ fn expression(alloc: Global, s: &str) -> Result<((Key, Definition), &str), Fault
 /// Reads a header.
 fn header(alloc: Global, s: &str) -> Result<((Key, Definition), &str), Fault>
     requires { first s.now ≡ 91 }
-    ensures { Reads expression_view s.now (spec.expression s.now) IsOther result }
+    ensures { ReadsExpected expression_view s.now (spec.expression s.now) IsOther result }
 {
     if byte_at(s, 1) != b'[' {
         return match header_key(alloc, skip(s, 1)) {
@@ -209,7 +209,7 @@ fn header(alloc: Global, s: &str) -> Result<((Key, Definition), &str), Fault>
 
 /// Returns the key of a header, and what follows its first closing bracket.
 fn header_key(alloc: Global, s: &str) -> Result<(Key, &str), Fault>
-    ensures { Reads key_view s.now (header_key s.now) IsOther result }
+    ensures { ReadsExpected key_view s.now (header_key s.now) IsOther result }
 {
     match dotted_key(alloc, skip_ws(s)) {
         Ok((key, rest)) => {

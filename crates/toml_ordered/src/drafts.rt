@@ -7,7 +7,7 @@ ghost use Rattle.toml_ordered.specs.Drafts.{IsIndexedAt, draft_view, keys_view};
 ghost use Rattle.toml_ordered.specs.declared.drafts.Draft.{Draft as CodeDraft};
 ghost use Rattle.toml_ordered.specs.Reading.{ParsesTo, IsMemory};
 ghost use Rattle.toml_ordered.specs.Tables.{append, get_node};
-ghost use Rattle.toml_ordered.specs.Unfinished.{IsBegun};
+ghost use Rattle.toml_ordered.specs.Unfinished.{IsHalfBegun};
 
 mod apart;
 mod live;
@@ -167,7 +167,7 @@ struct Around {
 impl Half {
     /// Begins a table of these keys.
     fn new(alloc: Global, keys: Keys, index: Index) -> Result<Half, AllocError>
-        ensures { IfOk result (IsBegun (keys_view keys.items index)) }
+        ensures { IfOk result (IsHalfBegun (keys_view keys.items index)) }
     {
         let nodes = Vec::with_capacity(alloc, keys.len())?;
         let keys = LiveKeys::new(keys, index);

@@ -3,7 +3,7 @@ ghost use Rattle.std.specs.Prelude.{◌≡◌, ◌⊎◌, ℕ, List, [], ◌∷�
 ghost use Rattle.toml_ordered.specs.Data.{items_view, push_item, table};
 ghost use Rattle.toml_ordered.specs.Drafts.{draft_view, keys_view};
 ghost use Rattle.toml_ordered.specs.Firsts.{AddsFirsts, IsAgain, draft_firsts, keys_firsts, no_firsts};
-ghost use Rattle.toml_ordered.specs.Passing.{AreFilled, IsFilled, IsOpened, IsShut, Passes, Refuses};
+ghost use Rattle.toml_ordered.specs.Passing.{AreFilled, IsFilled, IsOpened, IsShut, PassesSteps, RefusesSteps};
 ghost use Rattle.toml_ordered.specs.Reading.{ParsesTo, IsPassed, IsSameKey, along_route, definition_view, steps_of, whole_of};
 ghost use Rattle.toml_ordered.specs.Tables as spec;
 ghost use Rattle.toml_ordered.specs.declared.route.Way.{Way};
@@ -83,8 +83,8 @@ fn descend(
     left: usize,
 ) -> Result<(Vec<Passed>, OpenTable), Fault>
     ensures { MatchResult result
-        (λ found. Passes (steps_of route.entry) [] left outermost found.1 (AreFilled (reverse found.0.items)))
-        (Refuses (steps_of route.entry) left outermost) }
+        (λ found. PassesSteps (steps_of route.entry) [] left outermost found.1 (AreFilled (reverse found.0.items)))
+        (RefusesSteps (steps_of route.entry) left outermost) }
 {
     let mut passed = Vec::new(alloc);
     let mut here = outermost;
@@ -122,8 +122,8 @@ fn enter(
     outer: OpenTable,
 ) -> Result<(Passed, OpenTable), Fault>
     ensures { MatchResult result
-        (λ entered. (rest : List (Way × List ℕ)) → Passes ((way, string_bytes key.now) ∷ rest) rest left outer entered.1 (IsFilled entered.0))
-        (λ fault. (rest : List (Way × List ℕ)) → Refuses ((way, string_bytes key.now) ∷ rest) left outer fault) }
+        (λ entered. (rest : List (Way × List ℕ)) → PassesSteps ((way, string_bytes key.now) ∷ rest) rest left outer entered.1 (IsFilled entered.0))
+        (λ fault. (rest : List (Way × List ℕ)) → RefusesSteps ((way, string_bytes key.now) ∷ rest) left outer fault) }
 {
     let mut table = outer;
     match find(&table.keys, &table.index, key.as_str()) {

@@ -6,10 +6,10 @@ ghost use Rattle.toml_ordered.specs.Data.{items_view, node_view};
 ghost use Rattle.toml_ordered.specs.Drafts.{sealed, table_view};
 ghost use Rattle.toml_ordered.specs.Firsts.{IsOther};
 ghost use Rattle.toml_ordered.specs.Grammar as spec;
-ghost use Rattle.toml_ordered.specs.Inside.{Finds, GoesOn, NextItem, NextPair};
+ghost use Rattle.toml_ordered.specs.Inside.{Finds, GoesOnInside, NextItem, NextPair};
 ghost use Rattle.toml_ordered.specs.Nesting.{ValueTells};
 ghost use Rattle.toml_ordered.specs.Places.{key_parts};
-ghost use Rattle.toml_ordered.specs.Reading.{Defines, Reads, ReadsPast};
+ghost use Rattle.toml_ordered.specs.Reading.{Defines, ReadsExpected, ReadsPast};
 ghost use Rattle.toml_ordered.specs.Tables as tables;
 
 use crate::drafts::OpenTable;
@@ -45,7 +45,7 @@ enum Found {
 
 /// Returns a value, in which arrays and tables in braces nest at most `depth` deep, and the text after it.
 pub(crate) fn value(alloc: Global, s: &str, depth: usize) -> Result<(Node, &str), Fault>
-    ensures { Reads node_view s.now (spec.val depth s.now) (ValueTells depth s.now) result }
+    ensures { ReadsExpected node_view s.now (spec.val depth s.now) (ValueTells depth s.now) result }
 {
     let mut open: Vec<Open> = Vec::new(alloc);
     let (mut found, mut rest) = match begin(alloc, s, depth) {
@@ -95,7 +95,7 @@ fn begin(alloc: Global, s: &str, depth: usize) -> Result<(Found, &str), Fault>
 
 /// Puts a value into what is open around it, and reads on to the next value in that, or to its end.
 fn go_on(alloc: Global, outer: Open, node: Node, s: &str) -> Result<(Found, &str), Fault>
-    ensures { GoesOn outer node s.now result }
+    ensures { GoesOnInside outer node s.now result }
 {
     match outer {
         Open::Array(items) => put_item(items, node, s),
@@ -105,7 +105,7 @@ fn go_on(alloc: Global, outer: Open, node: Node, s: &str) -> Result<(Found, &str
 
 /// Puts an item into an array, and reads on to the next one, or to the array's end.
 fn put_item(mut items: Vec<Node>, item: Node, s: &str) -> Result<(Found, &str), Fault>
-    ensures { GoesOn (Open.Array items) item s.now result }
+    ensures { GoesOnInside (Open.Array items) item s.now result }
 {
     if let Err(_) = items.push(item) {
         return Err(Fault::Memory);
@@ -130,7 +130,7 @@ fn next_item(items: Vec<Node>, s: &str) -> (Found, &str)
 
 /// Defines the pair whose value was read, and reads on to the value of the next one, or to the table's end.
 fn put_pair(alloc: Global, braces: Braces, value: Node, s: &str) -> Result<(Found, &str), Fault>
-    ensures { GoesOn (Open.Braces braces) value s.now result }
+    ensures { GoesOnInside (Open.Braces braces) value s.now result }
 {
     let Braces {
         mut table,
@@ -214,7 +214,7 @@ fn past_element(s: &str, closing: u8) -> Result<&str, Fault>
 
 /// Reads a key, `=` and the blanks after it.
 pub(crate) fn key_and_equals(alloc: Global, s: &str) -> Result<(Key, &str), Fault>
-    ensures { Reads key_view s.now (key_equals s.now) IsOther result }
+    ensures { ReadsExpected key_view s.now (key_equals s.now) IsOther result }
 {
     match dotted_key(alloc, s) {
         Ok((key, rest)) => {
@@ -230,7 +230,7 @@ pub(crate) fn key_and_equals(alloc: Global, s: &str) -> Result<(Key, &str), Faul
 
 /// Reads a string or a scalar.
 fn atom(alloc: Global, s: &str) -> Result<(Node, &str), Fault>
-    ensures { Reads node_view s.now (spec.atom s.now) IsOther result }
+    ensures { ReadsExpected node_view s.now (spec.atom s.now) IsOther result }
 {
     if starts_string(s) {
         return match quoted(alloc, s) {

@@ -10,13 +10,13 @@ use Rattle.std.proofs.Common.{String, Bor}
 use Rattle.std.{specs.Fmt.signed_decimal, specs.Int.Signed.mag, specs.Str.IsUtf8, specs.Str.all_scalars}
 use Rattle.std.proofs.lemmas.Result.{IfOk-weaker}
 use Rattle.yaml_read.specs.Grammar.{integer, line_then, nothing, quoted_text, truth}
-use Rattle.yaml_read.specs.Heads.{IsScalar, IsWhole, tag_word}
+use Rattle.yaml_read.specs.Heads.{IsScalarKind, IsWhole, tag_word}
 use Rattle.yaml_read.specs.Opened.{IsOpen}
 use Rattle.yaml_read.specs.Places.{BreaksAt, IsHere, IsHereOrMemory}
 use Rattle.yaml_value.specs.OpenLevels.{OpenLevel, items_open, pairs_open}
 use Rattle.yaml_value.proofs.SeenLevels.{seen_null, seen_string}
 use Rattle.yaml_read.specs.Remaining.{IsDue, Reached, column_in}
-use Rattle.yaml_read.specs.Stepped.{BracketLacks, Entered, EntryLacks, NextShorter, ScalarRead, Settled, Stepped, no_bracket, no_lead, no_line}
+use Rattle.yaml_read.specs.Stepped.{BracketLacks, Entered, EntryLacks, NextShorter, ScalarRead, ValueSettled, NodeStepped, no_bracket, no_lead, no_line}
 use Rattle.yaml_read.specs.Stepped.{no_memory, no_room}
 use Rattle.yaml_read.specs.{Readable.CanBeReadAt, Sound.IsInteger, Sound.IsScalarValue, Sound.IsTruth, Words.OrMemory, Words.past_word}
 use Rattle.yaml_read.proofs.{Breaking.line_lacks, Breaking.missing, Entries.lead_breaks}
@@ -55,7 +55,7 @@ behind_tag_less kind.Map text behind is = omega (arith, ap length is)
 value_steps : {A : Type 0} (before after : List OpenLevel) (text rest : List ℕ) (value : TypedValue) (result : Result (Next A) Stop)
     → text ≡ encode_utf8_all (value_text (column_in before) value) ++ rest → CanBeReadAt (length before) value
     → ((root : TypedValue) (due : IsDue root before text) → (value ≡ due.value) × (rest ≡ encode_utf8_all due.rest)) → length rest < length text
-    → Settled before after value rest result → Stepped before after text result
+    → ValueSettled before after value rest result → NodeStepped before after text result
 value_steps before after text rest value result is readable reads less settled =
     record {
       reached = λ root due. settled.reached root (whole_read root value before text rest due (reads root due));
@@ -68,7 +68,7 @@ pub scalar_steps : {A : Type 0} (before after : List OpenLevel) (k : Kind) (text
     → text ≡ tag_word k ++ behind → IsScalarValue (tag_word k ++ behind) value rest
     → ((depth column : ℕ) (v : TypedValue) (t : Text) → CanBeReadAt depth v → tag_word k ++ behind ≡ encode_utf8_all (value_text column v ++ t)
     → (value ≡ v) × (rest ≡ encode_utf8_all t)) → length rest < length behind
-    → Settled before after value rest result → Stepped before after text result
+    → ValueSettled before after value rest result → NodeStepped before after text result
 scalar_steps before after k text behind rest value result tagged found reads less settled =
     value_steps before after text rest value result (tagged ∙ found.text (column_in before)) (found.readable (length before))
     (λ root due. reads (length before) (column_in before) due.value due.rest due.readable (sym tagged ∙ due.text))
@@ -81,7 +81,7 @@ no_scalar_reached A Holds root after (stop.Refused n) is = is
 no_scalar_reached A Holds root after (stop.TooDeep n) is = is
 
 pub no_scalar_steps : (A : Type 0) (before after : List OpenLevel) (k : Kind) (text behind : List ℕ) (error : Stop) → text ≡ tag_word k ++ behind
-    → ScalarRead {A = A} k behind (Err error) → Stepped {A = A} before after text (Err error)
+    → ScalarRead {A = A} k behind (Err error) → NodeStepped {A = A} before after text (Err error)
 no_scalar_steps A before after k text behind error tagged lacks =
     record {
       reached = λ root due.
@@ -94,7 +94,7 @@ no_scalar_steps A before after k text behind error tagged lacks =
     }
 
 pub no_tag_steps : (A : Type 0) (before after : List OpenLevel) (text : List ℕ) (error : Stop)
-    → ((k : Kind) → past_word (tag_word k) text ≡ None) × IsHere text error → Stepped {A = A} before after text (Err error)
+    → ((k : Kind) → past_word (tag_word k) text ≡ None) × IsHere text error → NodeStepped {A = A} before after text (Err error)
 no_tag_steps A before after text error lacks =
     record {
       reached = λ root due. absurd (no_tag (column_in before) due.value due.rest text due.text lacks.0);
@@ -216,7 +216,7 @@ pub of_kind : {A : Type 0} {bytes : List ℕ} {result : Result (Value A × Bor (
 of_kind {A} {bytes} {result} k j is read = subst (λ (k : Kind). ScalarRead k bytes result) (sym is) read
 
 -- the kinds that are left
-pub scalar_kind : (k : Kind) → (k ≡ kind.List → ⊥) → (k ≡ kind.Map → ⊥) → IsScalar k
+pub scalar_kind : (k : Kind) → (k ≡ kind.List → ⊥) → (k ≡ kind.Map → ⊥) → IsScalarKind k
 scalar_kind kind.Null list map = tt
 scalar_kind kind.Bool list map = tt
 scalar_kind kind.Int list map = tt
@@ -224,7 +224,7 @@ scalar_kind kind.Text list map = tt
 scalar_kind kind.List list map = list refl
 scalar_kind kind.Map list map = map refl
 
-pub text_kind : (k : Kind) → IsScalar k → (k ≡ kind.Null → ⊥) → (k ≡ kind.Bool → ⊥) → (k ≡ kind.Int → ⊥) → k ≡ kind.Text
+pub text_kind : (k : Kind) → IsScalarKind k → (k ≡ kind.Null → ⊥) → (k ≡ kind.Bool → ⊥) → (k ≡ kind.Int → ⊥) → k ≡ kind.Text
 text_kind kind.Null scalar null bool int = absurd (null refl)
 text_kind kind.Bool scalar null bool int = absurd (bool refl)
 text_kind kind.Int scalar null bool int = absurd (int refl)
@@ -237,7 +237,7 @@ text_kind kind.Map scalar null bool int = absurd scalar
 -- an empty list
 pub empty_list_steps : {A : Type 0} (before after : List OpenLevel) (text behind inside rest : List ℕ) (value : TypedValue) (result : Result (Next A) Stop)
     → text ≡ tag_word kind.List ++ behind → (behind ≡ codes "[" ++ inside) × (length before < most_nested) → inside ≡ codes "]" ++ rest
-    → value ≡ list_value no_values → Settled before after value rest result → Stepped before after text result
+    → value ≡ list_value no_values → ValueSettled before after value rest result → NodeStepped before after text result
 empty_list_steps before after text behind inside rest value result tagged bracket is same settled =
     value_steps before after text rest (list_value no_values) result (empty_list (column_in before) text behind inside rest tagged bracket.0 is)
     (bracket.1, tt)
@@ -245,11 +245,11 @@ empty_list_steps before after text behind inside rest value result tagged bracke
     let tail = tail_of kind.List (column_in before) due.value due.rest text behind due.text tagged in
     let empty = list_empty (column_in before) tail.0 due.rest behind rest tail.2 (bracket.0 ∙ ap (λ t. codes "[" ++ t) is) in
     (ap list_value (sym empty.0) ∙ sym tail.1, empty.1))
-    (omega (arith, ap length tagged, ap length bracket.0, ap length is)) (subst (λ value. Settled before after value rest result) same settled)
+    (omega (arith, ap length tagged, ap length bracket.0, ap length is)) (subst (λ value. ValueSettled before after value rest result) same settled)
 
 -- a list that can't begin
 pub no_list_steps : (A : Type 0) (before after : List OpenLevel) (text behind : List ℕ) (error : Stop) → text ≡ tag_word kind.List ++ behind
-    → BracketLacks (length before) (codes "[") text behind error → Stepped {A = A} before after text (Err error)
+    → BracketLacks (length before) (codes "[") text behind error → NodeStepped {A = A} before after text (Err error)
 no_list_steps A before after text behind error tagged (no_bracket none place) =
     record {
       reached = λ root due.
@@ -294,7 +294,7 @@ list_breaks depth inside error (no_lead line is none place) = absurd (no_word []
 -- a list that has items
 pub list_steps : {A : Type 0} (before after : List OpenLevel) (text behind inside : List ℕ) (result : Result (Next A) Stop)
     → text ≡ tag_word kind.List ++ behind → (behind ≡ codes "[" ++ inside) × (length before < most_nested) → past_word (codes "]") inside ≡ None
-    → Entered (items_open no_values) [] before after inside result → Stepped before after text result
+    → Entered (items_open no_values) [] before after inside result → NodeStepped before after text result
 list_steps before after text behind inside (Ok (Done value)) tagged bracket none entered = absurd entered
 list_steps before after text behind inside (Ok (Node rest)) tagged bracket none entered =
     let there = tagged ∙ ap (λ t. codes "!!seq " ++ t) bracket.0 in
@@ -325,7 +325,7 @@ list_steps {A} before after text behind inside (Err error) tagged bracket none e
 
 pub empty_map_steps : {A : Type 0} (before after : List OpenLevel) (text behind inside rest : List ℕ) (value : TypedValue) (result : Result (Next A) Stop)
     → text ≡ tag_word kind.Map ++ behind → (behind ≡ codes "{" ++ inside) × (length before < most_nested) → inside ≡ codes "}" ++ rest
-    → value ≡ map_value no_value_pairs → Settled before after value rest result → Stepped before after text result
+    → value ≡ map_value no_value_pairs → ValueSettled before after value rest result → NodeStepped before after text result
 empty_map_steps before after text behind inside rest value result tagged bracket is same settled =
     value_steps before after text rest (map_value no_value_pairs) result (empty_map (column_in before) text behind inside rest tagged bracket.0 is)
     (bracket.1, tt)
@@ -333,10 +333,10 @@ empty_map_steps before after text behind inside rest value result tagged bracket
     let tail = tail_of kind.Map (column_in before) due.value due.rest text behind due.text tagged in
     let empty = map_empty (column_in before) tail.0 due.rest behind rest tail.2 (bracket.0 ∙ ap (λ t. codes "{" ++ t) is) in
     (ap map_value (sym empty.0) ∙ sym tail.1, empty.1))
-    (omega (arith, ap length tagged, ap length bracket.0, ap length is)) (subst (λ value. Settled before after value rest result) same settled)
+    (omega (arith, ap length tagged, ap length bracket.0, ap length is)) (subst (λ value. ValueSettled before after value rest result) same settled)
 
 pub no_map_steps : (A : Type 0) (before after : List OpenLevel) (text behind : List ℕ) (error : Stop) → text ≡ tag_word kind.Map ++ behind
-    → BracketLacks (length before) (codes "{") text behind error → Stepped {A = A} before after text (Err error)
+    → BracketLacks (length before) (codes "{") text behind error → NodeStepped {A = A} before after text (Err error)
 no_map_steps A before after text behind error tagged (no_bracket none place) =
     record {
       reached = λ root due.
@@ -359,7 +359,7 @@ no_map_steps A before after text behind error tagged (no_room inside is many pla
 
 pub map_steps : {A : Type 0} (before after : List OpenLevel) (text behind inside : List ℕ) (result : Result (Next A) Stop)
     → text ≡ tag_word kind.Map ++ behind → (behind ≡ codes "{" ++ inside) × (length before < most_nested) → past_word (codes "}") inside ≡ None
-    → Entered (pairs_open no_value_pairs) (codes "? ") before after inside result → Stepped before after text result
+    → Entered (pairs_open no_value_pairs) (codes "? ") before after inside result → NodeStepped before after text result
 map_steps before after text behind inside (Ok (Done value)) tagged bracket none entered = absurd entered
 map_steps before after text behind inside (Ok (Node rest)) tagged bracket none entered =
     let there = tagged ∙ ap (λ t. codes "!!map " ++ t) bracket.0 in

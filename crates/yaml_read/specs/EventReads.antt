@@ -71,14 +71,14 @@ EndRead found bytes new (Ok _) = (new ≡ found ++ document_end true ∷ []) × 
 EndRead found bytes new (Err error) = StopsAmong bytes error × (bytes ≡ codes "\n" → error ≡ stop.Memory)
 
 -- the events of the whole document, and they are the only ones
-pub record IsRun (whole : List ℕ) (found : List Event) : Type 0 where
+pub record IsEventRun (whole : List ℕ) (found : List Event) : Type 0 where
   pub sound : (events : List Event) × (node : Text) × (found ≡ in_document events) × HasRunText [] events node × All IsInNode events
       × (whole ≡ encode_utf8_all (node ++ line_feed ∷ []))
   pub only : (events : List Event) (node : Text) → HasRunText [] events node → All IsInNode events → whole ≡ encode_utf8_all (node ++ line_feed ∷ [])
       → found ≡ in_document events
 
 abbrev pub RunAnswer : {T : Type 0} (whole : List ℕ) (found : List Event) → Result T Stop → Type 0
-RunAnswer whole found (Ok _) = IsRun whole found
+RunAnswer whole found (Ok _) = IsEventRun whole found
 RunAnswer whole found (Err error) = RunFails whole error
 
 -- the events of a document whose text, behind its first line, this is

@@ -20,10 +20,10 @@ tag_word kind.List = codes "!!seq "
 tag_word kind.Map = codes "!!map "
 
 -- the kinds that aren't lists or maps
-abbrev pub IsScalar : Kind → Type 0
-IsScalar kind.List = ⊥
-IsScalar kind.Map = ⊥
-IsScalar _ = Unit {0}
+abbrev pub IsScalarKind : Kind → Type 0
+IsScalarKind kind.List = ⊥
+IsScalarKind kind.Map = ⊥
+IsScalarKind _ = Unit {0}
 
 -- a value that was read, and what follows it
 abbrev pub IsWhole : {A : Type 0} → TypedValue → Text → Value A × Bor (List ℕ) → Type 0

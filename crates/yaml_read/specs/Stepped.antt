@@ -48,14 +48,14 @@ NextShorter text (Node rest) = length rest.now < length text
 -- ---- nodes, between the lists and maps that were open before and those that are open after
 
 -- at a node: where a value is due it is read, what is read has these bytes, and else they break off
-pub record Stepped {A : Type 0} (before after : List OpenLevel) (text : List ℕ) (result : Result (Next A) Stop) : Type 0 where
+pub record NodeStepped {A : Type 0} (before after : List OpenLevel) (text : List ℕ) (result : Result (Next A) Stop) : Type 0 where
   pub reached : (root : TypedValue) → IsDue root before text → Reached root after result
   pub read : (whole : List ℕ) → IsOpen whole before text → IfOk result (NextRead whole after)
   pub stops : (whole : List ℕ) → IsOpen whole before text → IfErr result (StopsIn whole)
   pub shorter : IfOk result (NextShorter text)
 
 -- behind a value, in the same way
-pub record Settled {A : Type 0} (before after : List OpenLevel) (value : TypedValue) (text : List ℕ) (result : Result (Next A) Stop) : Type 0 where
+pub record ValueSettled {A : Type 0} (before after : List OpenLevel) (value : TypedValue) (text : List ℕ) (result : Result (Next A) Stop) : Type 0 where
   pub reached : (root : TypedValue) → IsRead root before value text → Reached root after result
   pub read : (whole : List ℕ) → HasRead whole before value text → IfOk result (NextRead whole after)
   pub stops : (whole : List ℕ) → HasRead whole before value text → IfErr result (StopsIn whole)
@@ -131,7 +131,7 @@ pub record EntryRead (depth : ℕ) (lead end text : List ℕ) (result : Result E
   pub shorter : IfOk result (EntryShorter text)
 
 -- behind a value in a list or a map that lies so deep
-pub record Taken {A : Type 0} (depth : ℕ) (level : OpenLevel) (value : TypedValue) (text : List ℕ) (result : Result (Turn A) Stop) : Type 0 where
+pub record ValueTaken {A : Type 0} (depth : ℕ) (level : OpenLevel) (value : TypedValue) (text : List ℕ) (result : Result (Turn A) Stop) : Type 0 where
   pub reached : (root : TypedValue) (levels : List OpenLevel) → depth ≡ length levels → IsRead root (level ∷ levels) value text
       → TurnReached root levels result
   pub read : (whole : List ℕ) (levels : List OpenLevel) → depth ≡ length levels → HasRead whole (level ∷ levels) value text
@@ -142,10 +142,10 @@ pub record Taken {A : Type 0} (depth : ℕ) (level : OpenLevel) (value : TypedVa
 -- behind the value that such a list or a map took last
 abbrev pub LastTaken : {A : Type 0} → (depth : ℕ) → OpenLevel → (text : List ℕ) → Result (Turn A) Stop → Type 0
 LastTaken depth (items_open items) text result =
-    (before : TypedValues) (item : TypedValue) → items ≡ values_and before item → Taken depth (items_open before) item text result
-LastTaken depth (value_due pairs key) text result = Taken depth (pairs_open pairs) key text result
+    (before : TypedValues) (item : TypedValue) → items ≡ values_and before item → ValueTaken depth (items_open before) item text result
+LastTaken depth (value_due pairs key) text result = ValueTaken depth (pairs_open pairs) key text result
 LastTaken depth (pairs_open pairs) text result =
-    (before : TypedPairs) (key value : TypedValue) → pairs ≡ value_pairs_and before key value → Taken depth (value_due before key) value text result
+    (before : TypedPairs) (key value : TypedValue) → pairs ≡ value_pairs_and before key value → ValueTaken depth (value_due before key) value text result
 
 -- ---- documents
 

@@ -1,5 +1,5 @@
 //! Tags and scalars.
-ghost use Rattle.yaml_read.specs.Heads.{IsScalar};
+ghost use Rattle.yaml_read.specs.Heads.{IsScalarKind};
 ghost use Rattle.yaml_read.specs.Sound.{IntegerOf};
 ghost use Rattle.yaml_read.specs.Stepped.{ScalarRead, TagRead};
 ghost use Rattle.yaml_read.specs.declared.heads.Kind.TheVariants as kind;
@@ -94,7 +94,7 @@ pub(crate) fn read_scalar<A: Allocator + Copy>(
     kind: Kind,
     text: &str,
 ) -> Result<(Value<A>, &str), Stop>
-    requires { IsScalar kind }
+    requires { IsScalarKind kind }
     ensures { ScalarRead kind text.now result }
 {
     match kind {

@@ -1,7 +1,7 @@
 //! The lists and maps that are open.
 ghost use Rattle.std.specs.Prelude.{◌≡◌, ◌++◌, [], List, length};
 ghost use Rattle.yaml_read.specs.Heads.{tag_word};
-ghost use Rattle.yaml_read.specs.Stepped.{BracketRead, Entered, EntryRead, LastTaken, Settled, Stepped, Taken};
+ghost use Rattle.yaml_read.specs.Stepped.{BracketRead, Entered, EntryRead, LastTaken, NodeStepped, ValueSettled, ValueTaken};
 ghost use Rattle.yaml_read.specs.declared.heads.Kind.TheVariants as kind;
 ghost use Rattle.yaml_value.specs.OpenLevels.{OpenLevel, items_open, pairs_open, seen_level, seen_levels, value_due};
 ghost use Rattle.yaml_value.specs.SeenValues.{seen_pairs, seen_value, seen_values};
@@ -101,7 +101,7 @@ fn take_value<'a, A: Allocator>(
     text: &'a str,
     depth: usize,
 ) -> Result<Turn<'a, A>, Stop>
-    ensures { Taken depth (seen_level level) (seen_value value) text.now result }
+    ensures { ValueTaken depth (seen_level level) (seen_value value) text.now result }
 {
     match level.with(value) {
         Ok(more) => match more {
@@ -115,7 +115,7 @@ fn take_value<'a, A: Allocator>(
 
 /// Ends the text: behind the outermost value comes a line's end, and nothing else.
 fn finish<'a, A: Allocator>(value: Value<A>, text: &'a str) -> Result<Next<'a, A>, Stop>
-    ensures { (levels : List OpenLevel) → Settled [] levels (seen_value value) text.now result }
+    ensures { (levels : List OpenLevel) → ValueSettled [] levels (seen_value value) text.now result }
 {
     match end_text(text) {
         Ok(()) => Ok(Next::Done(value)),
@@ -132,7 +132,7 @@ pub(crate) fn settle<'a, A: Allocator>(
     value: Value<A>,
     text: &'a str,
 ) -> Result<Next<'a, A>, Stop>
-    ensures { Settled (seen_levels levels.old.items) (seen_levels levels.new.items) (seen_value value) text.now result }
+    ensures { ValueSettled (seen_levels levels.old.items) (seen_levels levels.new.items) (seen_value value) text.now result }
 {
     let mut value = value;
     let mut rest = text;
@@ -203,7 +203,7 @@ pub(crate) fn begin_list<'a, A: Allocator + Copy>(
     behind: &'a str,
 ) -> Result<Next<'a, A>, Stop>
     requires { text.now ≡ tag_word kind.List ++ behind.now }
-    ensures { Stepped (seen_levels levels.old.items) (seen_levels levels.new.items) text.now result }
+    ensures { NodeStepped (seen_levels levels.old.items) (seen_levels levels.new.items) text.now result }
 {
     match open(levels, text, behind, "[") {
         Ok(inside) => match past(inside, "]") {
@@ -222,7 +222,7 @@ pub(crate) fn begin_map<'a, A: Allocator + Copy>(
     behind: &'a str,
 ) -> Result<Next<'a, A>, Stop>
     requires { text.now ≡ tag_word kind.Map ++ behind.now }
-    ensures { Stepped (seen_levels levels.old.items) (seen_levels levels.new.items) text.now result }
+    ensures { NodeStepped (seen_levels levels.old.items) (seen_levels levels.new.items) text.now result }
 {
     match open(levels, text, behind, "{") {
         Ok(inside) => match past(inside, "}") {

@@ -7,7 +7,7 @@ ghost use Rattle.yaml_base.specs.values.ValueText.{document_text};
 ghost use Rattle.yaml_read.specs.Errors.{Tells};
 ghost use Rattle.yaml_read.specs.Places.{HasPlaceOf, IsNotCanonicalAt, IsPlaced};
 ghost use Rattle.yaml_read.specs.Readable.{CanBeRead};
-ghost use Rattle.yaml_read.specs.Stepped.{Stepped, TextRead};
+ghost use Rattle.yaml_read.specs.Stepped.{NodeStepped, TextRead};
 ghost use Rattle.yaml_value.specs.OpenLevels.{seen_levels};
 ghost use Rattle.yaml_value.specs.SeenValues.{seen_value};
 
@@ -25,7 +25,7 @@ fn step<'a, A: Allocator + Copy>(
     levels: &mut Vec<Level<A>, A>,
     text: &'a str,
 ) -> Result<Next<'a, A>, Stop>
-    ensures { Stepped (seen_levels levels.old.items) (seen_levels levels.new.items) text.now result }
+    ensures { NodeStepped (seen_levels levels.old.items) (seen_levels levels.new.items) text.now result }
 {
     match read_tag(text) {
         Ok((kind, behind)) => match kind {

@@ -1,6 +1,6 @@
 use Rattle.std.proofs.Common.{ℕ, List, reverse, sym, subst}
 use Rattle.toml_ordered.proofs.Passing.{passes_on, refused_on}
-use Rattle.toml_ordered.specs.Passing.{AreFilled, Passes}
+use Rattle.toml_ordered.specs.Passing.{AreFilled, PassesSteps}
 use Rattle.toml_ordered.specs.Reading.{steps_of}
 use Rattle.toml_ordered.specs.declared.route.Way.{Way}
 use Rattle.toml_ordered.specs.declared.passed.Passed.{Passed}
@@ -9,14 +9,14 @@ use Rattle.toml_ordered.proofs.tables.descend.Goals as goal
 pub returns-in-Err : goal.returns-in-Err
 returns-in-Err c =
     refused_on (steps_of c.args.route) _ c.args.left c.args.outermost c.steps.here (AreFilled (reverse c.steps.passed.items)) c.in-Err.fault
-    (subst (λ (steps : List (Way × List ℕ)). Passes (steps_of c.args.route) steps c.args.left c.args.outermost c.steps.here
+    (subst (λ (steps : List (Way × List ℕ)). PassesSteps (steps_of c.args.route) steps c.args.left c.args.outermost c.steps.here
     (AreFilled (reverse c.steps.passed.items))) c.in-Some.ensures c.steps.invariant) (c.in-Err.ensures (steps_of c.in-Some.rest))
 
 pub steps-preserved : goal.steps-preserved
 steps-preserved c =
-    subst (λ (ps : List Passed). Passes (steps_of c.args.route) (steps_of c.in-Some.rest) c.args.left c.args.outermost c.in-Ok.entered.1
+    subst (λ (ps : List Passed). PassesSteps (steps_of c.args.route) (steps_of c.in-Some.rest) c.args.left c.args.outermost c.in-Ok.entered.1
     (AreFilled (reverse ps))) (sym c.in_ok-push.ensures.items)
     (passes_on (steps_of c.args.route) _ (steps_of c.in-Some.rest) c.args.left c.args.outermost c.steps.here c.in-Ok.entered.1 c.steps.passed.items
     c.in-Ok.entered.0
-    (subst (λ (steps : List (Way × List ℕ)). Passes (steps_of c.args.route) steps c.args.left c.args.outermost c.steps.here
+    (subst (λ (steps : List (Way × List ℕ)). PassesSteps (steps_of c.args.route) steps c.args.left c.args.outermost c.steps.here
     (AreFilled (reverse c.steps.passed.items))) c.in-Some.ensures c.steps.invariant) (c.in-Ok.ensures (steps_of c.in-Some.rest)))

@@ -2,7 +2,7 @@ use Rattle.std.proofs.Common.{◌≡◌, ◌∷◌, ℕ, List, string_bytes, ref
 use Rattle.std.proofs.lemmas.Grind.{common_steps}
 use Rattle.std.specs.Vec.{with_item}
 use Rattle.toml_ordered.proofs.Passing.{passes_there, passes_new, refuses_there}
-use Rattle.toml_ordered.specs.Passing.{Fills, Passes}
+use Rattle.toml_ordered.specs.Passing.{Fills, PassesSteps}
 use Rattle.toml_ordered.specs.declared.drafts.OpenTable.{OpenTable}
 use Rattle.toml_ordered.specs.declared.drafts.Holder.TheVariants as holder
 use Rattle.toml_ordered.proofs.tables.enter.Goals as goal
@@ -27,7 +27,7 @@ returns-in_default c rest =
     let at = c.len-at.result in
     let origin = c.origin.result in
     let t : OpenTable = record { keys = c.append.new.keys; index = c.append.new.index } in
-    subst (λ (k : List ℕ). Passes ((c.args.way, k) ∷ rest) rest c.args.left c.args.outer c.new.result (Fills t at (holder.Table origin))) same
+    subst (λ (k : List ℕ). PassesSteps ((c.args.way, k) ∷ rest) rest c.args.left c.args.outer c.new.result (Fills t at (holder.Table origin))) same
     (passes_new c.args.way rest c.args.left at c.args.outer c.new.result t (name, c.vacant.result, c.args.left) origin
     (rw (c.as_str.ensures.value, ← same) at c.in-None.ensures.found) refl c.new.ensures.keys (c.len-at.ensures ∙ c.args.outer.keys.ok.0)
     c.origin.ensures c.in_default.ensures.last c.in_default.ensures.other)

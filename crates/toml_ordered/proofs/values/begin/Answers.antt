@@ -9,7 +9,7 @@ use Rattle.toml_ordered.proofs.Depths.{nests_here}
 use Rattle.toml_ordered.proofs.Heads.{val_opens}
 use Rattle.toml_ordered.proofs.Turns.{val_atom}
 use Rattle.toml_ordered.specs.Data.{items_view}
-use Rattle.toml_ordered.specs.Inside.{IsFound}
+use Rattle.toml_ordered.specs.Inside.{IsFoundHere}
 use Rattle.toml_ordered.specs.Places.{PairsConflict}
 use Rattle.toml_ordered.proofs.values.begin.Goals as goal
 
@@ -45,7 +45,7 @@ returns-then-byte-eq91 c =
     let a : (first s == 91) ≡ true = rw opening in
     let shorter = c.skip.ensures.shorter in
     let within = c.next_item.ensures.1 in (
-      subst (λ (n : ℕ). IsFound n s c.next_item.result.0 c.next_item.result.1.now) is
+      subst (λ (n : ℕ). IsFoundHere n s c.next_item.result.0 c.next_item.result.1.now) is
           (c.next_item.ensures.0 less s (array_begins less s _ _ a opening c.skip.ensures.rest shorter (ap items_view c.new.ensures.items))),
       omega (arith, shorter, within),
     )

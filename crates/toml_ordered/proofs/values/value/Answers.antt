@@ -1,6 +1,6 @@
 use Rattle.std.proofs.Common.{ℕ, suc, ◌-◌, ◌≤◌, List, rules, ◌∙◌}
 use Rattle.toml_ordered.proofs.Around.{Stands, stands_closed, stands_opened, stands_refused}
-use Rattle.toml_ordered.specs.Inside.{IsInside, IsRead}
+use Rattle.toml_ordered.specs.Inside.{IsNextInside, IsValueRead}
 use Rattle.toml_ordered.proofs.values.value.Goals as goal
 use Rattle.toml_ordered.proofs.values.value.Goals.{After-len, After-go_on}
 
@@ -27,7 +27,7 @@ returns-in-Err-begin c =
 
 closed : (c : After-go_on)
     → (inner : ℕ) × (at : List ℕ) × (from : List ℕ) × Stands c.pop.new.self.items c.args.depth c.args.s.now (suc inner) from
-    × IsInside inner from c.in-Some.outer at × IsRead inner at c.in-Value.node c.values.rest.now
+    × IsNextInside inner from c.in-Some.outer at × IsValueRead inner at c.in-Value.node c.values.rest.now
 closed c =
     let (utf8, inner, at, stands, found) = c.values.invariant in
     let (from, fewer, inside, read) =

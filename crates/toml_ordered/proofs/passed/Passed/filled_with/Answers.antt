@@ -1,6 +1,6 @@
 use Rattle.std.proofs.Common.{◌<◌, length, refl, sym, ap, ◌∙◌, set, arith}
 use Rattle.std.proofs.lemmas.Grind.{common_steps}
-use Rattle.toml_ordered.proofs.Passing.{with_value-here}
+use Rattle.toml_ordered.proofs.Passing.{with_value_at-here}
 use Rattle.toml_ordered.specs.Passing.{held}
 use Rattle.toml_ordered.specs.declared.drafts.Draft.{Draft as CodeDraft}
 use Rattle.toml_ordered.proofs.passed.Passed.filled_with.Goals as goal
@@ -12,6 +12,6 @@ returns c =
     let e = c.index_mut.result.now in
     let within : at < length es = grind (arith, common_steps) in (
       ap (λ (x : CodeDraft). set es at (e.0, x, e.2)) c.replace.ensures.after
-          ∙ with_value-here at (held c.args.self.holder c.args.inner) es e within (sym c.index_mut.ensures.value),
+          ∙ with_value_at-here at (held c.args.self.holder c.args.inner) es e within (sym c.index_mut.ensures.value),
       refl,
     )
