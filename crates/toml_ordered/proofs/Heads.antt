@@ -1,19 +1,19 @@
 -- What begins a value, an expression or a line: strings, scalars, keys and headers.
 use Rattle.std.proofs.Common.{◌≡◌, ◌⊎◌, inl, inr, ℕ, ◌==◌, Bool, true, false, List, drop, slice_index, Option, Some, None, Result, Ok, Err, refl, sym, subst}
-use Rattle.std.proofs.Common.{String, Global, string_bytes, rules}
+use Rattle.std.proofs.Common.{String, Global, string_bytes, rules, arith, option_and_then, option_map, ◌∙◌}
 use Rattle.std.proofs.lemmas.Bool.{eq-eqb, ne_eqb}
 use Rattle.toml_parser.specs.Lexical.{Read, first, skip_blank, skip_ws}
 use Rattle.toml_parser.specs.Strings.{Key, key, quoted, starts_string}
 use Rattle.toml_parser.specs.Numbers.{unquoted}
 use Rattle.toml_parser.specs.declared.error.ParseError.{ParseError}
 use Rattle.toml_parser.specs.declared.error.ParseError.TheVariants as parse
-use Rattle.toml.specs.Parse.{after_element, ends_line, header_key, key_equals}
+use Rattle.toml.specs.Parse.{after_byte, after_element, ends_line, header_key, key_equals}
 use Rattle.std.specs.Borrow.{Bor}
 use Rattle.toml_ordered.proofs.Conflicts.{other_than}
 use Rattle.toml_ordered.proofs.Turns.{val_deep, val_sealed}
 use Rattle.toml_ordered.specs.Data.{TomlNode, node_view, string}
 use Rattle.toml_ordered.specs.Drafts.{sealed}
-use Rattle.toml_ordered.specs.Grammar.{atom, expression, line, val}
+use Rattle.toml_ordered.specs.Grammar.{atom, expression, key_before, line, val}
 use Rattle.toml_ordered.specs.Tables.{Expression, array_table, key_value, std_table}
 use Rattle.toml_ordered.specs.Firsts.{FaultTells, IsOther}
 use Rattle.toml_ordered.specs.Reading.{IsGrammarRefusal, ReadsExpected, fault_of}
@@ -75,33 +75,29 @@ module _ (text : List ℕ) (flag : Bool) (starts : flag ≡ starts_string text) 
   scalar_bad other read = let begins : starts_string text ≡ false = rw (← starts) other in rw (begins, read)
 
 -- keys
-module _ (text : List ℕ) where
-  pub key_equals_none : key text ≡ None → key_equals text ≡ None
-  unfolding key_equals
-  key_equals_none none = rw none
+-- a key that was read, past the blanks behind it
+abbrev pub past_blanks : Key × List ℕ → Key × List ℕ
+past_blanks k = (k.0, skip_ws k.1)
 
-  module _ (name : Key) (rest : List ℕ) (read : key text ≡ Some (name, rest)) (byte : ℕ) (here : byte ≡ first rest) where
-    pub key_equals_some : byte ≡ 61 → (next : List ℕ) → next ≡ skip_ws (drop 1 rest) → key_equals text ≡ Some (name, next)
-    unfolding key_equals
-    key_equals_some is next follows = let equals : (first rest == 61) ≡ true = rw (← here, is) in rw (read, equals, follows)
+pub key_equals_by : (text : List ℕ) → key_equals text ≡ option_map past_blanks (key_before 61 text)
+unfolding key_equals
+key_equals_by text = by (key text)
+  where
+    with : Key → List ℕ → Key × List ℕ
+    with name rest = (name, rest)
 
-    pub key_equals_other : (byte ≡ 61 → ⊥) → key_equals text ≡ None
-    unfolding key_equals
-    key_equals_other other = let equals : (first rest == 61) ≡ false = rw (← here, ne_eqb byte 61 other) in rw (read, equals)
+    behind : (name : Key) (o : Option (List ℕ)) → option_map (λ rest. past_blanks (name, rest)) o ≡ option_map past_blanks (option_map (with name) o)
+    behind name None = refl
+    behind name (Some rest) = refl
 
-module _ (text : List ℕ) where
-  pub header_key_none : key (skip_ws text) ≡ None → header_key text ≡ None
-  unfolding header_key
-  header_key_none none = rw none
+    by : (o : Read Key) → option_and_then (λ k. option_map (λ rest. past_blanks (k.0, rest)) (after_byte 61 k.1)) o
+        ≡ option_map past_blanks (option_and_then (λ k. option_map (with k.0) (after_byte 61 k.1)) o)
+    by None = refl
+    by (Some k) = behind k.0 (after_byte 61 k.1)
 
-  module _ (name : Key) (rest : List ℕ) (read : key (skip_ws text) ≡ Some (name, rest)) (byte : ℕ) (here : byte ≡ first rest) where
-    pub header_key_some : byte ≡ 93 → (next : List ℕ) → next ≡ drop 1 rest → header_key text ≡ Some (name, next)
-    unfolding header_key
-    header_key_some is next follows = let closing : (first rest == 93) ≡ true = rw (← here, is) in rw (read, closing, follows)
-
-    pub header_key_other : (byte ≡ 93 → ⊥) → header_key text ≡ None
-    unfolding header_key
-    header_key_other other = let closing : (first rest == 93) ≡ false = rw (← here, ne_eqb byte 93 other) in rw (read, closing)
+pub header_key_by : (text start : List ℕ) → start ≡ skip_ws text → header_key text ≡ key_before 93 start
+unfolding header_key
+header_key_by text start behind = rw behind
 
 module _ (closing : ℕ) (text rest : List ℕ) (blank : rest ≡ skip_blank text) (byte : ℕ) (here : byte ≡ first rest) where
   pub element_comma : byte ≡ 44 → (next : List ℕ) → next ≡ drop 1 rest → after_element closing text ≡ Some next
@@ -158,25 +154,54 @@ module _ (text : List ℕ) (opens : first text ≡ 91) (byte : ℕ) (second : by
     one_bracket : (slice_index text 1 == 91) ≡ false
     one_bracket = rw (← second, ne_eqb byte 91 other)
 
-    pub table_is : (name : Key) (rest : List ℕ) → header_key after ≡ Some (name, rest) → expression text ≡ Some ((name, std_table), rest)
+    table_is : (name : Key) (rest : List ℕ) → header_key after ≡ Some (name, rest) → expression text ≡ Some ((name, std_table), rest)
     table_is name rest read = let key : header_key (drop 1 text) ≡ Some (name, rest) = rw (← behind) read in rw (opening, one_bracket, key)
 
-    pub table_bad : header_key after ≡ None → expression text ≡ None
+    table_bad : header_key after ≡ None → expression text ≡ None
     table_bad read = let key : header_key (drop 1 text) ≡ None = rw (← behind) read in rw (opening, one_bracket, key)
 
   module _ (same : byte ≡ 91) (behind : after ≡ drop 2 text) where
     two_brackets : (slice_index text 1 == 91) ≡ true
     two_brackets = rw (← second, same)
 
-    pub tables_bad : header_key after ≡ None → expression text ≡ None
+    tables_bad : header_key after ≡ None → expression text ≡ None
     tables_bad read = let key : header_key (drop 2 text) ≡ None = rw (← behind) read in rw (opening, two_brackets, key)
 
     module _ (name : Key) (rest : List ℕ) (read : header_key after ≡ Some (name, rest)) (next : ℕ) (here : next ≡ first rest) where
       key_is : header_key (drop 2 text) ≡ Some (name, rest)
       key_is = rw (← behind) read
 
-      pub tables_is : next ≡ 93 → (end : List ℕ) → end ≡ drop 1 rest → expression text ≡ Some ((name, array_table), end)
+      tables_is : next ≡ 93 → (end : List ℕ) → end ≡ drop 1 rest → expression text ≡ Some ((name, array_table), end)
       tables_is is end ends = let closing : (first rest == 93) ≡ true = rw (← here, is) in rw (opening, two_brackets, key_is, closing, ends)
 
-      pub tables_open : (next ≡ 93 → ⊥) → expression text ≡ None
+      tables_open : (next ≡ 93 → ⊥) → expression text ≡ None
       tables_open more = let closing : (first rest == 93) ≡ false = rw (← here, ne_eqb next 93 more) in rw (opening, two_brackets, key_is, closing)
+
+-- either, by how many brackets there are
+abbrev pub AreBrackets : (byte brackets : ℕ) → Type 0
+AreBrackets byte brackets = ((byte ≡ 91) × (brackets ≡ 2)) ⊎ ((byte ≡ 91 → ⊥) × (brackets ≡ 1))
+
+module _ (text : List ℕ) (opens : first text ≡ 91) (byte : ℕ) (second : byte ≡ slice_index text 1) (brackets : ℕ) (after : List ℕ)
+    (behind : after ≡ drop brackets text) (start : List ℕ) (blank : start ≡ skip_ws after) where
+  cut : (n : ℕ) → brackets ≡ n → after ≡ drop n text
+  cut n is = subst (λ m. after ≡ drop m text) is behind
+
+  pub header_bad : AreBrackets byte brackets → key_before 93 start ≡ None → expression text ≡ None
+  header_bad (inl are) none = tables_bad text opens byte second after are.0 (cut 2 are.1) (header_key_by after start blank ∙ none)
+  header_bad (inr are) none = table_bad text opens byte second after are.0 (cut 1 are.1) (header_key_by after start blank ∙ none)
+
+  module _ (name : Key) (rest : List ℕ) (read : key_before 93 start ≡ Some (name, rest)) where
+    pub header_one : AreBrackets byte brackets → brackets ≡ 1 → expression text ≡ Some ((name, std_table), rest)
+    header_one (inl are) one = let two = are.1 in absurd (omega (arith, two, one))
+    header_one (inr are) one = table_is text opens byte second after are.0 (cut 1 are.1) name rest (header_key_by after start blank ∙ read)
+
+    module _ (more : brackets ≡ 1 → ⊥) (next : ℕ) (here : next ≡ first rest) where
+      pub header_two : AreBrackets byte brackets → next ≡ 93 → (end : List ℕ) → end ≡ drop 1 rest → expression text ≡ Some ((name, array_table), end)
+      header_two (inl are) is end ends =
+          tables_is text opens byte second after are.0 (cut 2 are.1) name rest (header_key_by after start blank ∙ read) next here is end ends
+      header_two (inr are) is end ends = absurd (more are.1)
+
+      pub header_open : AreBrackets byte brackets → (next ≡ 93 → ⊥) → expression text ≡ None
+      header_open (inl are) other =
+          tables_open text opens byte second after are.0 (cut 2 are.1) name rest (header_key_by after start blank ∙ read) next here other
+      header_open (inr are) other = absurd (more are.1)

@@ -4,7 +4,7 @@ use Rattle.std.specs.Prelude.{ℕ, zero, suc, ◌&&◌, ◌||◌, ◌==◌, not,
 use Rattle.std.specs.Prelude.{codes, bytes_eq, Option, Some, None, option_map, option_and_then}
 use Rattle.toml_parser.specs.Lexical.{Read, dash, plus, underscore, left_bracket, right_bracket, left_brace, right_brace}
 use Rattle.toml_parser.specs.Lexical.{first, skip_ws, skip_blank}
-use Rattle.toml_parser.specs.Strings.{Key, quoted, starts_string, recursion_limit}
+use Rattle.toml_parser.specs.Strings.{Key, key, quoted, starts_string, recursion_limit}
 use Rattle.toml_parser.specs.Numbers.{unquoted, word_len}
 use Rattle.toml_parser.specs.declared.scalar.Scalar.{Scalar}
 use Rattle.toml_parser.specs.declared.scalar.Scalar.TheVariants.{Boolean, Integer, Float, Datetime}
@@ -45,6 +45,10 @@ abbrev pub atom : List ℕ → Read TomlNode
 atom text =
     if starts_string text then read_map string (quoted text)
     else read_map (scalar_node (take (word_len text) text)) (unquoted text)
+
+-- a key and this byte behind it
+abbrev pub key_before : ℕ → List ℕ → Read Key
+key_before byte text = key text >>= (λ k. option_map (λ rest. (k.0, rest)) (after_byte byte k.1))
 
 module _ (val : List ℕ → Read TomlNode) where
   -- keyval

@@ -2,7 +2,7 @@
 ghost use Rattle.std.specs.Prelude.{◌≡◌, ◌≤◌, ◌++◌, IfErr, length};
 ghost use Rattle.toml_parser.specs.Lexical.{first};
 ghost use Rattle.toml_parser.specs.Reading.{key_view, path_view};
-ghost use Rattle.toml.specs.Parse.{header_key, skip_bom};
+ghost use Rattle.toml.specs.Parse.{skip_bom};
 ghost use Rattle.toml_ordered.specs.Data.{entries_view, node_view};
 ghost use Rattle.toml_ordered.specs.Drafts.{sealed};
 ghost use Rattle.toml_ordered.specs.Firsts.{IsOther};
@@ -17,10 +17,10 @@ use crate::fault::{Fault, not_toml};
 use crate::route::Route;
 use crate::tables::{Definition, Entry, define_at};
 use crate::tree::{Node, Nodes};
-use crate::values::{key_and_equals, value};
+use crate::values::{key_and_equals, key_before, value};
 use std::alloc::Global;
 use toml_parser::text::{byte_at, first, skip, skip_blank, skip_ws};
-use toml_parser::{Key, RECURSION_LIMIT, dotted_key};
+use toml_parser::{Key, RECURSION_LIMIT};
 
 /// The part of a document that was read: its root table, and the key of the last header.
 #[derive(Drop)]
@@ -189,36 +189,16 @@ fn header(alloc: Global, s: &str) -> Result<((Key, Definition), &str), Fault>
     requires { first s.now ≡ 91 }
     ensures { ReadsExpected expression_view s.now (spec.expression s.now) IsOther result }
 {
-    if byte_at(s, 1) != b'[' {
-        return match header_key(alloc, skip(s, 1)) {
-            Ok((key, rest)) => Ok(((key, Definition::Table), rest)),
-            Err(fault) => Err(fault),
-        };
-    }
-    match header_key(alloc, skip(s, 2)) {
-        Ok((key, rest)) => {
-            if first(rest) == b']' {
-                Ok(((key, Definition::Tables), skip(rest, 1)))
-            } else {
-                Err(not_toml(rest))
-            }
-        }
-        Err(fault) => Err(fault),
-    }
-}
-
-/// Returns the key of a header, and what follows its first closing bracket.
-fn header_key(alloc: Global, s: &str) -> Result<(Key, &str), Fault>
-    ensures { ReadsExpected key_view s.now (header_key s.now) IsOther result }
-{
-    match dotted_key(alloc, skip_ws(s)) {
-        Ok((key, rest)) => {
-            if first(rest) == b']' {
-                Ok((key, skip(rest, 1)))
-            } else {
-                Err(not_toml(rest))
-            }
-        }
-        Err(error) => Err(Fault::from(error)),
+    let brackets = if byte_at(s, 1) == b'[' { 2 } else { 1 };
+    let (key, rest) = match key_before(alloc, skip_ws(skip(s, brackets)), b']') {
+        Ok(read) => read,
+        Err(fault) => return Err(fault),
+    };
+    if brackets == 1 {
+        Ok(((key, Definition::Table), rest))
+    } else if first(rest) == b']' {
+        Ok(((key, Definition::Tables), skip(rest, 1)))
+    } else {
+        Err(not_toml(rest))
     }
 }

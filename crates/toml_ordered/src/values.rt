@@ -1,5 +1,5 @@
 //! Values: strings, scalars, arrays and tables in braces.
-ghost use Rattle.std.specs.Prelude.{◌≡◌, IfOk, string_bytes};
+ghost use Rattle.std.specs.Prelude.{◌≡◌, ◌<◌, IfOk, string_bytes};
 ghost use Rattle.toml_parser.specs.Reading.{key_view};
 ghost use Rattle.toml.specs.Parse.{after_element, key_equals};
 ghost use Rattle.toml_ordered.specs.Data.{items_view, node_view};
@@ -212,19 +212,31 @@ fn past_element(s: &str, closing: u8) -> Result<&str, Fault>
     }
 }
 
-/// Reads a key, `=` and the blanks after it.
-pub(crate) fn key_and_equals(alloc: Global, s: &str) -> Result<(Key, &str), Fault>
-    ensures { ReadsExpected key_view s.now (key_equals s.now) IsOther result }
+/// Reads a key and this byte behind it.
+pub(crate) fn key_before(alloc: Global, s: &str, byte: u8) -> Result<(Key, &str), Fault>
+    requires some { 0 < byte }
+    requires ascii { byte < 128 }
+    ensures { ReadsExpected key_view s.now (spec.key_before byte s.now) IsOther result }
 {
     match dotted_key(alloc, s) {
         Ok((key, rest)) => {
-            if first(rest) == b'=' {
-                Ok((key, skip_ws(skip(rest, 1))))
+            if first(rest) == byte {
+                Ok((key, skip(rest, 1)))
             } else {
                 Err(not_toml(rest))
             }
         }
         Err(error) => Err(Fault::from(error)),
+    }
+}
+
+/// Reads a key, `=` and the blanks after it.
+pub(crate) fn key_and_equals(alloc: Global, s: &str) -> Result<(Key, &str), Fault>
+    ensures { ReadsExpected key_view s.now (key_equals s.now) IsOther result }
+{
+    match key_before(alloc, s, b'=') {
+        Ok((key, rest)) => Ok((key, skip_ws(rest))),
+        Err(fault) => Err(fault),
     }
 }
 
