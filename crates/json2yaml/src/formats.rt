@@ -1,12 +1,15 @@
 //! JSON, as the format of the program.
 ghost use Rattle.std.specs.Prelude.{codes};
-ghost use Rattle.json2yaml.specs.Conversions.{IsYamlOfJsonFiles};
+ghost use Rattle.json2yaml.specs.Conversions.{AreJsonSettings, IsYamlOfJsonFiles};
 ghost use Rattle.yaml_program.specs.Bounds.{is_allowed};
 
 use crate::words;
+use clap::ArgMatches;
 use std::io::Write;
 use yaml_json::JsonSettings;
-use yaml_program::{CommonSettings, Failure, Format, Sources, Wording, send_stream};
+use yaml_program::{
+    CommonSettings, Failure, Format, Sources, Wording, common_settings_of, send_stream,
+};
 
 /// JSON texts, which are written by these settings.
 #[derive(Clone, Copy)]
@@ -17,12 +20,25 @@ pub struct JsonFormat {
 impl Format for JsonFormat {
     ghost is_yaml = { λ format. IsYamlOfJsonFiles format.settings };
 
+    ghost is_asked_by = { λ matches format. AreJsonSettings matches format.settings };
+
     ghost is_bounded = { λ format. is_allowed format.settings.writer format.settings.flow format.settings.depth };
 
     ghost ending = { codes ".json" };
 
-    fn words(&self) -> &'static Wording {
+    fn words() -> &'static Wording {
         words::words()
+    }
+
+    fn from_options(matches: &ArgMatches<'_>) -> Self {
+        let common = common_settings_of(matches);
+        let settings = JsonSettings {
+            writer: common.writer,
+            flow: common.flow,
+            depth: common.depth,
+            unique_names: !matches.get_flag("allow-duplicates"),
+        };
+        JsonFormat { settings }
     }
 
     fn ending(&self) -> &'static str {

@@ -1,11 +1,14 @@
 //! TOML, as the format of the program.
 ghost use Rattle.std.specs.Prelude.{codes};
-ghost use Rattle.toml2yaml.specs.Conversions.{IsYamlOfTomlFiles};
+ghost use Rattle.toml2yaml.specs.Conversions.{AreTomlSettings, IsYamlOfTomlFiles};
 ghost use Rattle.yaml_program.specs.Bounds.{is_allowed};
 
 use crate::words;
+use clap::ArgMatches;
 use std::io::Write;
-use yaml_program::{CommonSettings, Failure, Format, Sources, Wording, send_stream};
+use yaml_program::{
+    CommonSettings, Failure, Format, Sources, Wording, common_settings_of, send_stream,
+};
 use yaml_toml::TomlSettings;
 
 /// TOML documents, which are written by these settings.
@@ -17,12 +20,24 @@ pub struct TomlFormat {
 impl Format for TomlFormat {
     ghost is_yaml = { λ format. IsYamlOfTomlFiles format.settings };
 
+    ghost is_asked_by = { λ matches format. AreTomlSettings matches format.settings };
+
     ghost is_bounded = { λ format. is_allowed format.settings.writer format.settings.flow format.settings.depth };
 
     ghost ending = { codes ".toml" };
 
-    fn words(&self) -> &'static Wording {
+    fn words() -> &'static Wording {
         words::words()
+    }
+
+    fn from_options(matches: &ArgMatches<'_>) -> Self {
+        let common = common_settings_of(matches);
+        let settings = TomlSettings {
+            writer: common.writer,
+            flow: common.flow,
+            depth: common.depth,
+        };
+        TomlFormat { settings }
     }
 
     fn ending(&self) -> &'static str {

@@ -4,8 +4,8 @@ ghost use Rattle.yaml_emitter.specs.Given.{is_double};
 ghost use Rattle.yaml_program.specs.Options.{AreCommonSettings, AreWriterSettings};
 ghost use Rattle.yaml_program.specs.Conversions.{IsAskedBy};
 
+use crate::formats::Format;
 use crate::options::command_of;
-use crate::words::Wording;
 use clap::{ArgMatches, Error};
 use std::alloc::{AllocError, Global};
 use std::rt::Runtime;
@@ -86,25 +86,24 @@ pub fn common_settings_of(matches: &ArgMatches<'_>) -> CommonSettings
     }
 }
 
-/// Returns the conversion of texts in this format that the options ask for.
+/// Returns the conversion that the options ask for.
 ///
 /// # Errors
 ///
 /// An allocation failed.
-pub fn conversion_with<'a, F: Drop>(
+pub fn conversion_by<'a, F: Format>(
     alloc: Global,
-    format: F,
     matches: &ArgMatches<'a>,
 ) -> Result<Conversion<'a, F>, AllocError>
     ensures asked { IfOk result (λ conversion. IsAskedBy matches.now conversion) }
-    ensures format { IfOk result (λ conversion. conversion.format ≡ format) }
+    ensures settings { IfOk result (λ conversion. F.is_asked_by matches.now conversion.format) }
 {
     let files = match matches.get_strs("files") {
         Some(names) => Vec::from_slice(alloc, names)?,
         None => Vec::new(alloc),
     };
     Ok(Conversion {
-        format,
+        format: F::from_options(matches),
         heading: matches.get_str("heading"),
         checks: matches.get_flag("check"),
         each: matches.get_flag("each"),
@@ -113,17 +112,13 @@ pub fn conversion_with<'a, F: Drop>(
     })
 }
 
-/// Returns what the options of a program are found to be in the arguments after its name.
-///
-/// # Errors
-///
-/// Why they ask for no conversion, which may be that they ask for help.
-pub fn matches_of<'a>(
+/// Returns what the arguments after a program's name ask for, or why they ask for no conversion, which may be that they ask for help.
+pub(crate) fn conversion_of<'a, F: Format>(
     alloc: Global,
-    words: &Wording,
     arguments: &'a [String],
-) -> Result<ArgMatches<'a>, Error> {
-    command_of(alloc, words)?.try_get_matches_from(arguments)
+) -> Result<Conversion<'a, F>, Error> {
+    let command = command_of(alloc, F::words())?;
+    Ok(conversion_by(alloc, &command.try_get_matches_from(arguments)?)?)
 }
 
 /// Returns the arguments after the program's name.
@@ -131,7 +126,7 @@ pub fn matches_of<'a>(
 /// # Errors
 ///
 /// One isn't UTF-8 (`InvalidData`), or an allocation failed (`OutOfMemory`).
-pub fn read_arguments<R: Runtime + AllocGlobal>(rt: &R) -> io::Result<Vec<String>> {
+pub(crate) fn read_arguments<R: Runtime + AllocGlobal>(rt: &R) -> io::Result<Vec<String>> {
     let mut words = env::args(rt)?;
     let _program = words.next();
     let mut arguments = Vec::new(rt.alloc());

@@ -1,10 +1,12 @@
 //! The formats that a program converts.
 ghost use Rattle.std.specs.Prelude.{◌≡◌, ℕ, Bool, List, OnOk, map};
+ghost use Rattle.clap.specs.declared.parser.matches.ArgMatches.{ArgMatches};
 ghost use Rattle.yaml_program.specs.Conversions.{OfNames, WroteStream};
 
 use crate::faults::Failure;
 use crate::sources::Sources;
 use crate::words::Wording;
+use clap::ArgMatches;
 use std::io::Write;
 
 /// A format of texts, with the settings by which they are written as YAML.
@@ -12,14 +14,21 @@ pub trait Format {
     // The bytes are the stream of the texts of these files, by these settings.
     ghost is_yaml: { Self → List (List ℕ) → List ℕ → Type 0 };
 
+    // The settings are those that the options ask for.
+    ghost is_asked_by: { ArgMatches → Self → Type 0 };
+
     // Whether the settings allow no deeper nesting than they can.
     ghost is_bounded: { Self → Bool };
 
     // What the names of files of such texts end in.
     ghost ending: { List ℕ };
 
-    /// Returns what the program is called that reads such texts.
-    fn words(&self) -> &'static Wording;
+    /// Returns what the program is called that reads such texts, and what its help says.
+    fn words() -> &'static Wording;
+
+    /// Returns the format with the settings that the options ask for.
+    fn from_options(matches: &ArgMatches<'_>) -> Self
+        ensures { is_asked_by matches.now result };
 
     /// Returns what the names of files of such texts end in, as `.json`.
     fn ending(&self) -> &'static str

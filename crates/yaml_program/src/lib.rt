@@ -18,13 +18,11 @@ mod streams;
 mod version;
 mod words;
 
-pub use arguments::{
-    CommonSettings, Conversion, common_settings_of, conversion_with, matches_of, read_arguments,
-};
+pub use arguments::{CommonSettings, Conversion, common_settings_of, conversion_by};
 pub use bounds::is_allowed;
 pub use faults::{Failure, Messages, NO_MEMORY, Reason};
 pub use formats::Format;
-pub use program::{refuse_arguments, serve};
+pub use program::{run, serve};
 pub use sources::{STREAM, Sources, read_file};
 pub use streams::{SendsFile, send_stream};
 pub use version::VERSION;

@@ -4,7 +4,7 @@ ghost use Rattle.clap.specs.Values.{kind_of};
 ghost use Rattle.yaml_program.specs.Conversions.{AllDone, HaveYaml, IsDone, OfFiles};
 ghost use Rattle.yaml_program.specs.Faults as statuses;
 
-use crate::arguments::Conversion;
+use crate::arguments::{Conversion, conversion_of, read_arguments};
 use crate::checking::check;
 use crate::each::convert_each;
 use crate::faults::{Failure, Messages, give_up, refuse, report, run_out};
@@ -35,7 +35,7 @@ fn send_to_file<'a, F: Format, S: Sources + AllocGlobal>(
 ) -> Result<(), (Option<&'a str>, Failure)>
     ensures { OnOk result (OfFiles (S.bytes_of sources.now) conversion.now (HaveYaml (F.is_yaml conversion.now.format))) }
 {
-    let beside = match Beside::create(rt, conversion.format.words().name, name) {
+    let beside = match Beside::create(rt, F::words().name, name) {
         Ok(made) => made,
         Err(error) => return Err((None, Failure::WriteFailed(error))),
     };
@@ -138,7 +138,7 @@ fn convert<F: Format + Copy + Drop, S: Sources + AllocGlobal, I: IsTerminal + As
 }
 
 /// Says why the arguments can't be read, and returns the program's status.
-pub fn refuse_arguments<W: Write>(error: &io::Error, faults: &mut Messages<W>) -> u8
+fn refuse_arguments<W: Write>(error: &io::Error, faults: &mut Messages<W>) -> u8
     ensures { result ≤ 3 }
 {
     if error.kind() == ErrorKind::OutOfMemory {
@@ -189,5 +189,25 @@ pub fn serve<F: Format + Copy + Drop, S: Sources + AllocGlobal, I: IsTerminal + 
         }
         Ok(conversion) => convert(rt, sources, conversion, stdin, faults),
         Err(error) => answer(rt, error, faults),
+    }
+}
+
+/// Runs a program that converts texts of a format: does what its arguments ask for with files and the standard streams, says on standard
+/// error what went wrong, and returns the status, 0 where all was done. Where what went wrong can't be said, the status is the same.
+pub fn run<F: Format + Copy + Drop>(rt: &HostRuntime) -> u8
+    ensures { result ≤ 3 }
+{
+    let stdin = rt.stdin();
+    let stderr = rt.stderr();
+    let mut faults = Messages::new(F::words(), io::writer(&stderr));
+    match read_arguments(rt) {
+        Ok(words) => {
+            let asked: Result<Conversion<'_, F>, UsageError> = conversion_of(
+                rt.alloc(),
+                words.as_slice(),
+            );
+            serve(rt, rt, &asked, &stdin, &mut faults)
+        }
+        Err(error) => refuse_arguments(&error, &mut faults),
     }
 }
