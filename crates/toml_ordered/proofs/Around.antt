@@ -12,7 +12,7 @@ use Rattle.toml_ordered.proofs.Endings.{after_element_ends, end_left, ends_drop,
 use Rattle.toml_ordered.proofs.Endings.{start_ends, value_ends}
 use Rattle.toml_ordered.proofs.Turns.{items_turn, keyval_is, members_turn, val_array, val_table}
 use Rattle.toml_ordered.specs.Data.{Items, TomlNode, TomlNodes, array, no_items, no_nodes, push_item, table}
-use Rattle.toml_ordered.specs.Drafts.{table_view}
+use Rattle.toml_ordered.specs.Keys.{table_view}
 use Rattle.toml_ordered.specs.Firsts.{AddsFirsts, IsAgain, keys_firsts}
 use Rattle.toml_ordered.specs.Grammar.{val}
 use Rattle.toml_ordered.specs.Inside.{ArrayUpTo, BracesUpTo, Finds, GoesOnInside, IsFoundHere, IsNextInside, IsValueRead, IsValueRefused, NextPair}
@@ -20,7 +20,7 @@ use Rattle.toml_ordered.specs.Nesting.{NestsPast}
 use Rattle.toml_ordered.specs.Places.{EndsWith, PairAt, key_parts}
 use Rattle.toml_ordered.specs.Reading.{IsMemory}
 use Rattle.toml_ordered.specs.Tables.{put}
-use Rattle.toml_ordered.specs.declared.drafts.OpenTable.{OpenTable}
+use Rattle.toml_ordered.specs.declared.tree.Table.{Table as CodeTable}
 use Rattle.toml_ordered.specs.declared.fault.Fault.{Fault}
 use Rattle.toml_ordered.specs.declared.tree.Node.{Node}
 use Rattle.toml_ordered.specs.declared.tree.Origin.TheVariants.{Closed}
@@ -75,7 +75,7 @@ module _ (depth : ℕ) (text : List ℕ) (found : Items) (rest : List ℕ) (know
 
 -- ---- tables in braces
 
-pub braces_begin : (depth : ℕ) (text : List ℕ) (found : OpenTable) (rest : List ℕ) → (first text == 91) ≡ false → (first text == 123) ≡ true
+pub braces_begin : (depth : ℕ) (text : List ℕ) (found : CodeTable) (rest : List ℕ) → (first text == 91) ≡ false → (first text == 123) ≡ true
     → first text ≡ 123 → rest ≡ drop 1 text → length rest < length text → table_view found ≡ no_nodes → found.keys.items ≡ []
     → BracesUpTo depth text found rest
 braces_begin depth text found rest other brace opens is shorter none keyless = record {
@@ -89,7 +89,7 @@ braces_begin depth text found rest other brace opens is shorter none keyless = r
   read = rw (is, none);
 }
 
-module _ (depth : ℕ) (text : List ℕ) (found : OpenTable) (rest : List ℕ) (known : BracesUpTo depth text found rest) where
+module _ (depth : ℕ) (text : List ℕ) (found : CodeTable) (rest : List ℕ) (known : BracesUpTo depth text found rest) where
   pub braces_end : (first (skip_blank rest) == 125) ≡ true → val (suc depth) text ≡ Some (table Closed (table_view found), drop 1 (skip_blank rest))
   braces_end closing = known.value ∙ rw (members_turn (val depth) known.room (table_view found) rest (omega (arith, known.enough)), closing)
 
@@ -127,7 +127,7 @@ module _ (depth : ℕ) (text : List ℕ) (found : OpenTable) (rest : List ℕ) (
                 (keyval_is (val depth) (skip_blank rest) key at after x named read) denies again (λ left. NestsPast (suc depth) left text))),
           )
 
-          pub braces_more : (new : OpenTable) (next : List ℕ) → length after < length at → put key x (table_view found) ≡ Some (table_view new)
+          pub braces_more : (new : CodeTable) (next : List ℕ) → length after < length at → put key x (table_view found) ≡ Some (table_view new)
               → AddsFirsts (key_parts key) here (table_view found) (keys_firsts found.keys.items) (keys_firsts new.keys.items)
               → after_element 125 after ≡ Some next → BracesUpTo depth text new next
           braces_more new next shorter defined adds element =
@@ -149,14 +149,14 @@ module _ (depth : ℕ) (text : List ℕ) (found : OpenTable) (rest : List ℕ) (
               }
 
 -- what `next_pair` reads, at the beginning of a table in braces, and behind a pair
-pub pair_begins : (depth less : ℕ) (text from : List ℕ) (found : OpenTable) (r : Result (Found × Bor (List ℕ)) Fault) → suc less ≡ depth
+pub pair_begins : (depth less : ℕ) (text from : List ℕ) (found : CodeTable) (r : Result (Found × Bor (List ℕ)) Fault) → suc less ≡ depth
     → BracesUpTo less text found from → length from < length text → NextPair found from r → Finds depth text r
 pair_begins depth less text from found (Ok p) is known shorter next =
     let within = next.1 in
     (subst (λ (n : ℕ). IsFoundHere n text p.0 p.1.now) is (next.0 less text known), omega (arith, within, shorter))
 pair_begins depth less text from found (Err fault) is known shorter next = subst (λ (n : ℕ). IsValueRefused n text fault) is (next less text known)
 
-pub pair_goes_on : (outer : Open) (node : Node) (text' from : List ℕ) (found : OpenTable) (r : Result (Found × Bor (List ℕ)) Fault)
+pub pair_goes_on : (outer : Open) (node : Node) (text' from : List ℕ) (found : CodeTable) (r : Result (Found × Bor (List ℕ)) Fault)
     → ((depth : ℕ) (text at : List ℕ) → IsNextInside depth text outer at → IsValueRead depth at node text' → BracesUpTo depth text found from)
     → length from ≤ length text' → NextPair found from r → GoesOnInside outer node text' r
 pair_goes_on outer node text' from found (Ok p) known fewer next =

@@ -4,12 +4,10 @@ use Rattle.std.proofs.Common.{Option, Some, None, Vec, vec_len, Global, String, 
 use Rattle.std.proofs.Math.Nat.{mul-suc, suc-mul}
 use Rattle.std.proofs.lemmas.List.Sums.{sum-map, sum_by-cons, sum_by-set}
 use Rattle.std.proofs.lemmas.Nat.{mul-le}
-use Rattle.toml_ordered.specs.Counts.{IsEntered, IsExchanged, IsLeft, IsPopped, draft_count, key_count, member_count, node_count}
-use Rattle.toml_ordered.specs.declared.tree.Node.{Node, Array, Table, Tables, the_lemmas as node_lemmas}
+use Rattle.toml_ordered.specs.Counts.{IsEntered, IsExchanged, IsLeft, IsPopped, node_count, table_count}
+use Rattle.toml_ordered.specs.declared.tree.Node.{Node, Array, Table, Tables, the_lemmas}
 use Rattle.toml_ordered.specs.declared.tree.Origin.{Origin}
-use Rattle.toml_ordered.specs.declared.drafts.Draft.{Draft, Growing, the_lemmas as draft_lemmas}
-use Rattle.toml_ordered.specs.declared.drafts.Holder.{Holder}
-use Rattle.std.specs.BTreeMap.{BTreeMap}
+use Rattle.toml_ordered.specs.declared.tree.Table.{Table as CodeTable}
 
 -- of so many values in all, and so many of them in what is entered next: a turn enters one inside, or fewer are left
 abbrev pub turns : (all hand : ℕ) → ℕ
@@ -30,19 +28,13 @@ sum_by-map f g (x ∷ xs) =
     sum_by-cons g (f x) (map f xs) ∙ ap (λ n. g (f x) + n) (sum_by-map f g xs) ∙ sym (sum_by-cons (λ y. g (f y)) x xs)
 
 pub node_count-Array : (items : Vec Node Global) → node_count (Array items) ≡ suc (sum_by node_count items.items)
-node_count-Array items = search (rules, node_lemmas, sum-map, sum_by-map)
+node_count-Array items = search (rules, the_lemmas, sum-map, sum_by-map)
 
-pub node_count-Table : (origin : Origin) (keys : Vec (String Global × Node × ℕ) Global)
-    → node_count (Table origin keys) ≡ suc (sum_by member_count keys.items)
-node_count-Table origin keys = search (rules, node_lemmas, sum-map, sum_by-map)
+pub node_count-Table : (origin : Origin) (t : CodeTable) → node_count (Table origin t) ≡ suc (table_count t)
+node_count-Table origin t = search (rules, the_lemmas, sum-map, sum_by-map)
 
-pub node_count-Tables : (done : Vec Node Global) (last : Vec (String Global × Node × ℕ) Global)
-    → node_count (Tables done last) ≡ suc (sum_by node_count done.items + sum_by member_count last.items)
-node_count-Tables done last = search (rules, node_lemmas, sum-map, sum_by-map)
-
-pub draft_count-Growing : (holder : Holder) (keys : Vec (String Global × Draft × ℕ) Global) (index : BTreeMap (String Global) ℕ)
-    → draft_count (Growing holder keys index) ≡ suc (sum_by key_count keys.items)
-draft_count-Growing holder keys index = search (rules, draft_lemmas, sum_by-map)
+pub node_count-Tables : (done : Vec Node Global) (last : CodeTable) → node_count (Tables done last) ≡ suc (sum_by node_count done.items + table_count last)
+node_count-Tables done last = search (rules, the_lemmas, sum-map, sum_by-map)
 
 -- a value is taken out, and another put into its place
 within : {E : Type 0} (counts : E → ℕ) (xs : List E) (i : ℕ) (d : E) → i < length xs → counts (get_or xs i d) ≤ sum_by counts xs
@@ -75,10 +67,7 @@ left counts count xs ys old new None was is popped =
 -- ---- no value inside
 
 pub node_counts : (x : Node) → 0 < node_count x
-node_counts x = search (rules, node_lemmas)
-
-pub draft_counts : (x : Draft) → 0 < draft_count x
-draft_counts x = search (rules, draft_lemmas)
+node_counts x = search (rules, the_lemmas)
 
 nothing : {E : Type 0} (counts : E → ℕ) → ((e : E) → 0 < counts e) → (es : List E) → sum_by counts es ≡ 0 → es ≡ []
 nothing counts some [] none = refl

@@ -5,18 +5,18 @@ use Rattle.std.specs.Result.{IfErr, IfOk}
 use Rattle.toml_parser.specs.Strings.{Key}
 use Rattle.toml_ordered.proofs.FirstKeys.{path_steps}
 use Rattle.toml_ordered.specs.Data.{TomlNode, node_view}
-use Rattle.toml_ordered.specs.Drafts.{sealed, table_view}
+use Rattle.toml_ordered.specs.Keys.{sealed, table_view}
 use Rattle.toml_ordered.specs.Firsts.{AddsFirsts, IsAgain, keys_firsts}
 use Rattle.toml_ordered.specs.Places.{key_parts, whole_path}
 use Rattle.toml_ordered.specs.Reading.{Defines, ParsesTo, definition_view}
 use Rattle.toml_ordered.specs.Tables.{Definition, TomlDocument, along, at_key, define, defined_header, defined_pair, key_value, put, steps_along}
-use Rattle.toml_ordered.specs.declared.drafts.OpenTable.{OpenTable}
+use Rattle.toml_ordered.specs.declared.tree.Table.{Table as CodeTable}
 use Rattle.toml_ordered.specs.declared.fault.Fault.{Fault}
 use Rattle.toml_ordered.specs.declared.tables.Definition as code
 use Rattle.toml_ordered.specs.declared.tables.Definition.TheVariants.{Table, Tables, Value}
 use Rattle.toml_ordered.specs.declared.tree.Node.{Node}
 
-module _ (from to : OpenTable) (here : ℕ) (last : List ℕ) (what : Definition) where
+module _ (from to : CodeTable) (here : ℕ) (last : List ℕ) (what : Definition) where
   module _ (header dots : List (List ℕ)) where
     -- what `define_at` defines, by its clauses
     pub along_route : (r : Result (Unit {0}) Fault)
@@ -39,20 +39,20 @@ module _ (from to : OpenTable) (here : ℕ) (last : List ℕ) (what : Definition
         whole = ap (λ (path : List (List ℕ)). path ++ last ∷ []) (path_steps header dots) ∙ append_assoc header dots (last ∷ [])
 
 -- what is defined in the root table
-pub in_document : {A B : Type 0} (f : A → B) (expected : Option A) (new : A) (whole : List (List ℕ)) (here : ℕ) (from to : OpenTable)
+pub in_document : {A B : Type 0} (f : A → B) (expected : Option A) (new : A) (whole : List (List ℕ)) (here : ℕ) (from to : CodeTable)
     (r : Result (Unit {0}) Fault) → Defines expected new whole here from to r → Defines (option_map f expected) (f new) whole here from to r
 in_document f expected new whole here from to (Ok u) defines = (ap (option_map f) defines.0, defines.1)
 in_document f expected new whole here from to (Err fault) refused = (λ real. ap (option_map f) (refused.0 real), refused.1)
 
 -- a pair of a table in braces, and one of a document
-pub put_defines : (from to : OpenTable) (here : ℕ) (key : Key) (x : TomlNode) (dots : List (List ℕ)) → dots ≡ key.0 → (r : Result (Unit {0}) Fault)
+pub put_defines : (from to : CodeTable) (here : ℕ) (key : Key) (x : TomlNode) (dots : List (List ℕ)) → dots ≡ key.0 → (r : Result (Unit {0}) Fault)
     → Defines (along (steps_along [] dots) (at_key key.1 (key_value x)) (table_view from)) (table_view to) (dots ++ key.1 ∷ []) here from to r
     → Defines (put key x (table_view from)) (table_view to) (key_parts key) here from to r
 put_defines from to here key x dots same r defines =
     subst (λ (d : List (List ℕ)). Defines (along (steps_along [] d) (at_key key.1 (key_value x)) (table_view from)) (table_view to) (d ++ key.1 ∷ [])
     here from to r) same defines
 
-pub pair_defines : (from to : OpenTable) (here : ℕ) (section : List (List ℕ)) (key : Key) (x : TomlNode) (header dots : List (List ℕ)) → header ≡ section
+pub pair_defines : (from to : CodeTable) (here : ℕ) (section : List (List ℕ)) (key : Key) (x : TomlNode) (header dots : List (List ℕ)) → header ≡ section
     → dots ≡ key.0 → (r : Result (Unit {0}) Fault)
     → Defines (along (steps_along header dots) (at_key key.1 (key_value x)) (table_view from)) (table_view to) (header ++ (dots ++ key.1 ∷ [])) here from to r
     → Defines (defined_pair (table_view from, section) key x) (table_view to, section) (section ++ key_parts key) here from to r
@@ -63,7 +63,7 @@ pair_defines from to here section key x header dots first second r defines =
     (subst (λ (d : List (List ℕ)). Defines (along (steps_along header d) (at_key key.1 (key_value x)) (table_view from)) (table_view to)
     (header ++ (d ++ key.1 ∷ [])) here from to r) second defines))
 
-pub header_defines : (from to : OpenTable) (here : ℕ) (key : Key) (what : Definition) (header : List (List ℕ)) (name : List ℕ) → header ≡ key.0 → name ≡ key.1
+pub header_defines : (from to : CodeTable) (here : ℕ) (key : Key) (what : Definition) (header : List (List ℕ)) (name : List ℕ) → header ≡ key.0 → name ≡ key.1
     → (r : Result (Unit {0}) Fault)
     → Defines (along (steps_along header []) (at_key name what) (table_view from)) (table_view to) (header ++ name ∷ []) here from to r
     → Defines {A = TomlDocument} (option_map (λ root. (root, key_parts key)) (along (steps_along key.0 []) (at_key key.1 what) (table_view from)))
@@ -76,7 +76,7 @@ header_defines from to here key what header name first second r defines =
     (header ++ n ∷ []) here from to r) second defines))
 
 -- an expression
-module _ (doc next : TomlDocument) (key : Key) (here : ℕ) (from to : OpenTable) (r : Result (Unit {0}) Fault) where
+module _ (doc next : TomlDocument) (key : Key) (here : ℕ) (from to : CodeTable) (r : Result (Unit {0}) Fault) where
   pub value_defines : (d : code.Definition) (node : Node) → d ≡ Value node
       → Defines (defined_pair doc key (sealed (node_view node))) next (doc.1 ++ key_parts key) here from to r
       → Defines (define doc (key, definition_view d)) next (whole_path doc key (definition_view d)) here from to r

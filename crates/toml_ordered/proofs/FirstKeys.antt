@@ -4,19 +4,43 @@ use Rattle.std.proofs.Common.{◌⊎◌, rules, set, get_or, Result}
 use Rattle.std.proofs.lemmas.Result.{IfOk-weaker, IfErr-weaker}
 use Rattle.std.specs.Result.{IfOk, IfErr}
 use Rattle.std.proofs.lemmas.Slice.Eq.{bytes_eq-Decides}
-use Rattle.toml_ordered.specs.declared.drafts.Draft.{Growing, the_lemmas}
+use Rattle.toml_ordered.specs.declared.tree.Node.{Node as CodeNode, Table, Tables, the_lemmas}
+use Rattle.toml_ordered.specs.declared.tree.Origin.{Origin}
+use Rattle.toml_ordered.specs.declared.tree.Origin.TheVariants.{Implicit, Dotted, Header, Closed}
+use Rattle.toml_ordered.specs.declared.tree.Table.{Table as CodeTable}
 use Rattle.toml_ordered.specs.declared.fault.Fault.{Fault}
 use Rattle.toml_ordered.specs.declared.fault.Fault.TheVariants as fault
-use Rattle.toml_ordered.specs.declared.drafts.Holder.{Holder}
-use Rattle.toml_ordered.proofs.DraftKeys.{Draft, Places}
+use Rattle.toml_ordered.specs.declared.tree.holder.Holder.{Holder}
+use Rattle.toml_ordered.specs.declared.tree.holder.Holder.TheVariants as holder
+use Rattle.toml_ordered.proofs.Trees.{Entry, Places}
 use Rattle.toml_ordered.specs.Data.{TomlNode, TomlNodes, no_nodes}
-use Rattle.toml_ordered.specs.Drafts.{HasKey}
-use Rattle.toml_ordered.specs.Firsts.{Firsts, no_firsts, HasFirst, draft_firsts, keys_firsts, keys_in, keys_at, PassesKey, IsNewKey, AddsFirsts, IsAgain}
+use Rattle.toml_ordered.specs.Passing.{held}
+use Rattle.toml_ordered.specs.Keys.{HasKey}
+use Rattle.toml_ordered.specs.Firsts.{Firsts, no_firsts, HasFirst, node_firsts, keys_firsts, table_firsts, keys_in, keys_at, PassesKey, IsNewKey, AddsFirsts, IsAgain}
 use Rattle.toml_ordered.specs.Reading.{IsPassed, IsSameKey}
 use Rattle.toml_ordered.specs.Tables.{get_node, steps_along}
 
-pub draft_firsts-Growing : (h : Holder) (keys : Vec Draft Global) (index : Places) → draft_firsts (Growing h keys index) ≡ keys_firsts keys.items
-draft_firsts-Growing h keys index = search (rules, the_lemmas)
+-- ---- values
+
+pub node_firsts-Closed : (t : CodeTable) → node_firsts (Table Closed t) ≡ no_firsts
+node_firsts-Closed t = search (rules, the_lemmas)
+
+pub node_firsts-Tables : (done : Vec CodeNode Global) (last : CodeTable) → node_firsts (Tables done last) ≡ table_firsts last
+node_firsts-Tables done last = search (rules, the_lemmas)
+
+pub node_firsts-Table : (origin : Origin) (t : CodeTable) → (origin ≡ Closed → ⊥) → node_firsts (Table origin t) ≡ table_firsts t
+node_firsts-Table Implicit t grows = search (rules, the_lemmas)
+node_firsts-Table Dotted t grows = search (rules, the_lemmas)
+node_firsts-Table Header t grows = search (rules, the_lemmas)
+node_firsts-Table Closed t grows = absurd (grows refl)
+
+-- a value has those of the table that it holds, or none
+pub held_firsts : (h : Holder) (t : CodeTable) → (node_firsts (held h t) ≡ table_firsts t) ⊎ (node_firsts (held h t) ≡ no_firsts)
+held_firsts (holder.Tables done) t = inl (node_firsts-Tables done t)
+held_firsts (holder.Table Implicit) t = inl (node_firsts-Table Implicit t (λ e. cc))
+held_firsts (holder.Table Dotted) t = inl (node_firsts-Table Dotted t (λ e. cc))
+held_firsts (holder.Table Header) t = inl (node_firsts-Table Header t (λ e. cc))
+held_firsts (holder.Table Closed) t = inr (node_firsts-Closed t)
 
 -- ---- lists of keys
 
@@ -28,7 +52,7 @@ abbrev Under : (step : List ℕ) → (inner : Firsts) → Path → (key : List �
 Under step inner path key left = (path' : Path) × (path ≡ step ∷ path') × HasFirst inner path' key left
 
 -- a key that goes last
-pub of_last : (es : List Draft) (w : Draft) (path : Path) (key : List ℕ) (left : ℕ) → HasFirst (keys_firsts (es ++ w ∷ [])) path key left
+pub of_last : (es : List Entry) (w : Entry) (path : Path) (key : List ℕ) (left : ℕ) → HasFirst (keys_firsts (es ++ w ∷ [])) path key left
     → HasFirst (keys_firsts es) path key left ⊎ HasFirst (keys_firsts (w ∷ [])) path key left
 of_last [] w path key left has = inr has
 of_last (e ∷ es) w [] key left (inl here) = inl (inl here)
@@ -43,9 +67,9 @@ of_last (e ∷ es) w (step ∷ path) key left (inr has) = elim (of_last es w (st
 ]
 
 -- another value at the place of a key
-pub of_written : (k : List ℕ) (at : ℕ) (es : List Draft) (d w : Draft) → HasKey k at es → w.0 ≡ (get_or es at d).0 → w.2 ≡ (get_or es at d).2
+pub of_written : (k : List ℕ) (at : ℕ) (es : List Entry) (d w : Entry) → HasKey k at es → w.0 ≡ (get_or es at d).0 → w.2 ≡ (get_or es at d).2
     → (path : Path) (key : List ℕ) (left : ℕ) → HasFirst (keys_firsts (set es at w)) path key left
-    → HasFirst (keys_firsts es) path key left ⊎ Under (string_bytes w.0) (draft_firsts w.1) path key left
+    → HasFirst (keys_firsts es) path key left ⊎ Under (string_bytes w.0) (node_firsts w.1) path key left
 of_written k at [] d w has name place path key left first = absurd has
 of_written k zero (e ∷ es) d w has name place [] key left (inl here) =
     inl (inl (here.0 ∙ ap (λ (s : String Global). string_bytes s) name, here.1 ∙ place))
@@ -65,18 +89,18 @@ of_written k (suc at) (e ∷ es) d w has name place (step ∷ path) key left (in
     ]
 
 -- a key's own place, and what is inside of it
-pub has_own : (k : List ℕ) (at : ℕ) (es : List Draft) (d : Draft) → HasKey k at es → HasFirst (keys_firsts es) [] k (get_or es at d).2
+pub has_own : (k : List ℕ) (at : ℕ) (es : List Entry) (d : Entry) → HasKey k at es → HasFirst (keys_firsts es) [] k (get_or es at d).2
 has_own k at [] d has = absurd has
 has_own k zero (e ∷ es) d has = inl ((bytes_eq-Decides k (string_bytes e.0)).0 has, refl)
 has_own k (suc at) (e ∷ es) d has = inr (has_own k at es d has)
 
-pub has_inside : (k : List ℕ) (at : ℕ) (es : List Draft) (d : Draft) → HasKey k at es → (path : Path) (key : List ℕ) (left : ℕ)
-    → HasFirst (draft_firsts (get_or es at d).1) path key left → HasFirst (keys_firsts es) (k ∷ path) key left
+pub has_inside : (k : List ℕ) (at : ℕ) (es : List Entry) (d : Entry) → HasKey k at es → (path : Path) (key : List ℕ) (left : ℕ)
+    → HasFirst (node_firsts (get_or es at d).1) path key left → HasFirst (keys_firsts es) (k ∷ path) key left
 has_inside k at [] d has path key left first = absurd has
 has_inside k zero (e ∷ es) d has path key left first = inl ((bytes_eq-Decides k (string_bytes e.0)).0 has, first)
 has_inside k (suc at) (e ∷ es) d has path key left first = inr (has_inside k at es d has path key left first)
 
-name_is : (k : List ℕ) (at : ℕ) (es : List Draft) (d : Draft) → HasKey k at es → k ≡ string_bytes (get_or es at d).0
+name_is : (k : List ℕ) (at : ℕ) (es : List Entry) (d : Entry) → HasKey k at es → k ≡ string_bytes (get_or es at d).0
 name_is k at [] d has = absurd has
 name_is k zero (e ∷ es) d has = (bytes_eq-Decides k (string_bytes e.0)).0 has
 name_is k (suc at) (e ∷ es) d has = name_is k at es d has
@@ -92,21 +116,21 @@ new_behind k whole ns inner path key is new =
     (passes_behind k whole path key new.0, ap (λ (keys : TomlNodes). get_node key (keys_at path keys)) is ∙ new.1)
 
 -- what is defined inside of a key that is there
-pub adds_inside : (k : List ℕ) (whole : Path) (here : ℕ) (ns : TomlNodes) (x : TomlNode) (at : ℕ) (es : List Draft) (e w : Draft)
+pub adds_inside : (k : List ℕ) (whole : Path) (here : ℕ) (ns : TomlNodes) (x : TomlNode) (at : ℕ) (es : List Entry) (e w : Entry)
     → get_node k ns ≡ Some x → HasKey k at es → get_or es at e ≡ e → IsSameKey e w
-    → AddsFirsts whole here (keys_in (Some x)) (draft_firsts e.1) (draft_firsts w.1)
+    → AddsFirsts whole here (keys_in (Some x)) (node_firsts e.1) (node_firsts w.1)
     → AddsFirsts (k ∷ whole) here ns (keys_firsts es) (keys_firsts (set es at w))
 adds_inside k whole here ns x at es e w found has is_e same inner path key left first =
-    elim (of_written k at es e w has (same.0 ∙ ap (λ (d : Draft). d.0) (sym is_e)) (same.1 ∙ ap (λ (d : Draft). d.2) (sym is_e)) path key left first) [
+    elim (of_written k at es e w has (same.0 ∙ ap (λ (d : Entry). d.0) (sym is_e)) (same.1 ∙ ap (λ (d : Entry). d.2) (sym is_e)) path key left first) [
       | inl old ↦ inl old
       | inr under ↦
           let name : string_bytes w.0 ≡ k =
-          ap (λ (n : String Global). string_bytes n) same.0 ∙ ap (λ (d : Draft). string_bytes d.0) (sym is_e) ∙ sym (name_is k at es e has) in
+          ap (λ (n : String Global). string_bytes n) same.0 ∙ ap (λ (d : Entry). string_bytes d.0) (sym is_e) ∙ sym (name_is k at es e has) in
           let is : path ≡ k ∷ under.0 = under.1 ∙ ap (λ (s : List ℕ). s ∷ under.0) name in
           elim (inner under.0 key left under.2) [
             | inl old ↦
                 inl (subst (λ (p : Path). HasFirst (keys_firsts es) p key left) (sym is)
-                (has_inside k at es e has under.0 key left (subst (λ (d : Draft). HasFirst (draft_firsts d.1) under.0 key left) (sym is_e) old)))
+                (has_inside k at es e has under.0 key left (subst (λ (d : Entry). HasFirst (node_firsts d.1) under.0 key left) (sym is_e) old)))
             | inr new ↦
                 inr (
                   new.0,
@@ -117,11 +141,11 @@ adds_inside k whole here ns x at es e w found has is_e same inner path key left 
     ]
 
 -- a key that is missing, and what is defined inside of it
-pub adds_missing : (k : List ℕ) (whole : Path) (here : ℕ) (ns : TomlNodes) (es after : List Draft) (w : Draft) → string_bytes w.0 ≡ k → w.2 ≡ here
-    → get_node k ns ≡ None → AddsFirsts whole here no_nodes no_firsts (draft_firsts w.1) → after ≡ es ++ w ∷ []
+pub adds_missing : (k : List ℕ) (whole : Path) (here : ℕ) (ns : TomlNodes) (es after : List Entry) (w : Entry) → string_bytes w.0 ≡ k → w.2 ≡ here
+    → get_node k ns ≡ None → AddsFirsts whole here no_nodes no_firsts (node_firsts w.1) → after ≡ es ++ w ∷ []
     → AddsFirsts (k ∷ whole) here ns (keys_firsts es) (keys_firsts after)
 adds_missing k whole here ns es after w name place none inner is path key left first =
-    elim (of_last es w path key left (subst (λ (ds : List Draft). HasFirst (keys_firsts ds) path key left) is first)) [
+    elim (of_last es w path key left (subst (λ (ds : List Entry). HasFirst (keys_firsts ds) path key left) is first)) [
       | inl old ↦ inl old
       | inr last ↦ inr (by path last)
     ]
@@ -158,14 +182,14 @@ again_nothing whole all here old (fault.TooDeep left) again = again
 again_nothing whole all here old (fault.DefinedAgain key first second) again = absurd again.2
 
 -- the key itself, which stands at the beginning of the whole path
-pub again_here : (k : List ℕ) (rest : Path) (here : ℕ) (at : ℕ) (es : List Draft) (e : Draft) (found : Fault) → HasKey k at es
+pub again_here : (k : List ℕ) (rest : Path) (here : ℕ) (at : ℕ) (es : List Entry) (e : Entry) (found : Fault) → HasKey k at es
     → get_or es at e ≡ e → IsPassed (string_bytes e.0) e.2 here found → IsAgain (k ∷ rest) here (keys_firsts es) found
 again_here k rest here at es e fault.Memory has is_e passed = tt
 again_here k rest here at es e (fault.NotToml left) has is_e passed = tt
 again_here k rest here at es e (fault.TooDeep left) has is_e passed = passed
 again_here k rest here at es e (fault.DefinedAgain key first second) has is_e passed =
-    let is_key : string_bytes key ≡ k = passed.0 ∙ ap (λ (d : Draft). string_bytes d.0) (sym is_e) ∙ sym (name_is k at es e has) in
-    let is_first : first ≡ (get_or es at e).2 = passed.1 ∙ ap (λ (d : Draft). d.2) (sym is_e) in (
+    let is_key : string_bytes key ≡ k = passed.0 ∙ ap (λ (d : Entry). string_bytes d.0) (sym is_e) ∙ sym (name_is k at es e has) in
+    let is_first : first ≡ (get_or es at e).2 = passed.1 ∙ ap (λ (d : Entry). d.2) (sym is_e) in (
       passed.2,
       [],
       subst (λ (l : List ℕ). HasFirst (keys_firsts es) [] l first) (sym is_key)
@@ -174,8 +198,8 @@ again_here k rest here at es e (fault.DefinedAgain key first second) has is_e pa
     )
 
 -- a key inside of it
-pub again_inside : (k : List ℕ) (whole : Path) (here : ℕ) (at : ℕ) (es : List Draft) (e : Draft) (found : Fault) → HasKey k at es → get_or es at e ≡ e
-    → IsAgain whole here (draft_firsts e.1) found → IsAgain (k ∷ whole) here (keys_firsts es) found
+pub again_inside : (k : List ℕ) (whole : Path) (here : ℕ) (at : ℕ) (es : List Entry) (e : Entry) (found : Fault) → HasKey k at es → get_or es at e ≡ e
+    → IsAgain whole here (node_firsts e.1) found → IsAgain (k ∷ whole) here (keys_firsts es) found
 again_inside k whole here at es e fault.Memory has is_e again = tt
 again_inside k whole here at es e (fault.NotToml left) has is_e again = tt
 again_inside k whole here at es e (fault.TooDeep left) has is_e again = again
@@ -183,14 +207,14 @@ again_inside k whole here at es e (fault.DefinedAgain key first second) has is_e
   again.0,
   k ∷ again.1,
   has_inside k at es e has again.1 (string_bytes key) first
-      (subst (λ (d : Draft). HasFirst (draft_firsts d.1) again.1 (string_bytes key) first) (sym is_e) again.2),
+      (subst (λ (d : Entry). HasFirst (node_firsts d.1) again.1 (string_bytes key) first) (sym is_e) again.2),
   passes_behind k whole again.1 (string_bytes key) again.3,
 )
 
 -- what an edit in the value of a key adds, or finds to be defined again
-module _ (all : Path) (k : List ℕ) (whole : Path) (here at : ℕ) (es : List Draft) (e : Draft) (r : Result (Unit {0}) Fault) where
-  pub adds_along : (ns : TomlNodes) (x : TomlNode) (w : Draft) → all ≡ k ∷ whole → get_node k ns ≡ Some x → HasKey k at es → get_or es at e ≡ e → IsSameKey e w
-      → IfOk r (λ _. AddsFirsts whole here (keys_in (Some x)) (draft_firsts e.1) (draft_firsts w.1))
+module _ (all : Path) (k : List ℕ) (whole : Path) (here at : ℕ) (es : List Entry) (e : Entry) (r : Result (Unit {0}) Fault) where
+  pub adds_along : (ns : TomlNodes) (x : TomlNode) (w : Entry) → all ≡ k ∷ whole → get_node k ns ≡ Some x → HasKey k at es → get_or es at e ≡ e → IsSameKey e w
+      → IfOk r (λ _. AddsFirsts whole here (keys_in (Some x)) (node_firsts e.1) (node_firsts w.1))
       → IfOk r (λ _. AddsFirsts all here ns (keys_firsts es) (keys_firsts (set es at w)))
   adds_along ns x w is found has is_e same adds =
       IfOk-weaker r _ _
@@ -198,7 +222,7 @@ module _ (all : Path) (k : List ℕ) (whole : Path) (here at : ℕ) (es : List D
       (adds_inside k whole here ns x at es e w found has is_e same inner)) adds
 
   pub again_along : all ≡ k ∷ whole → HasKey k at es → get_or es at e ≡ e
-      → IfErr r (λ fault. IsPassed (string_bytes e.0) e.2 here fault ⊎ IsAgain whole here (draft_firsts e.1) fault)
+      → IfErr r (λ fault. IsPassed (string_bytes e.0) e.2 here fault ⊎ IsAgain whole here (node_firsts e.1) fault)
       → IfErr r (IsAgain all here (keys_firsts es))
   again_along is has is_e again =
       IfErr-weaker r _ _

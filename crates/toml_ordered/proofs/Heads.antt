@@ -12,7 +12,7 @@ use Rattle.std.specs.Borrow.{Bor}
 use Rattle.toml_ordered.proofs.Conflicts.{other_than}
 use Rattle.toml_ordered.proofs.Turns.{val_deep, val_sealed}
 use Rattle.toml_ordered.specs.Data.{TomlNode, node_view, string}
-use Rattle.toml_ordered.specs.Drafts.{sealed}
+use Rattle.toml_ordered.specs.Keys.{sealed}
 use Rattle.toml_ordered.specs.Grammar.{atom, expression, key_before, line, val}
 use Rattle.toml_ordered.specs.Tables.{Expression, array_table, key_value, std_table}
 use Rattle.toml_ordered.specs.Firsts.{FaultTells, IsOther}

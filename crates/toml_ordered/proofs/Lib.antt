@@ -1,6 +1,5 @@
 pub mod Trees
-pub mod DraftKeys
-pub mod Unfinished
+pub mod KeyPlaces
 pub mod FirstKeys
 pub mod Passing
 pub mod Defining

@@ -1,101 +1,127 @@
 -- A table is taken out of another, and put back.
 use Rattle.std.proofs.Common.{◌≡◌, ℕ, zero, suc, ◌<◌, length, List, [], ◌∷◌, ◌++◌, Some, None, string_bytes, option_map}
-use Rattle.std.proofs.Common.{refl, sym, ap, subst, ◌∙◌, arith, set, get_or, reverse}
+use Rattle.std.proofs.Common.{Vec, Global, inl, inr, refl, sym, ap, subst, ◌∙◌, arith, set, get_or, reverse}
 use Rattle.std.proofs.lemmas.List.{reverse-append}
-use Rattle.toml_ordered.proofs.DraftKeys.{Draft, Places, found_here, written_here, draft_view-Growing}
-use Rattle.toml_ordered.proofs.FirstKeys.{adds_inside, adds_missing, again_here, again_inside, again_nothing, draft_firsts-Growing}
+use Rattle.toml_ordered.proofs.KeyPlaces.{found_here, written_here}
+use Rattle.toml_ordered.proofs.Trees.{Entry, Places, held_is, node_view-Table}
+use Rattle.toml_ordered.proofs.FirstKeys.{adds_inside, adds_missing, again_here, again_inside, again_nothing, held_firsts, node_firsts-Table}
 use Rattle.toml_ordered.proofs.Turns.{along_found, along_refused, along_new, along_new_refused}
-use Rattle.toml_ordered.specs.Data.{TomlNode, TomlNodes, no_nodes, table}
-use Rattle.toml_ordered.specs.Drafts.{IsIndexedAt, draft_view, held_view, keys_view, table_view}
-use Rattle.toml_ordered.specs.Firsts.{Firsts, AddsFirsts, IsAgain, draft_firsts, keys_firsts, keys_in, no_firsts}
+use Rattle.toml_ordered.specs.Data.{TomlNode, TomlNodes, no_nodes, node_view, table}
+use Rattle.toml_ordered.specs.Keys.{IsIndexedAt, held_view, keys_view, table_view}
+use Rattle.toml_ordered.specs.Firsts.{Firsts, AddsFirsts, HasFirst, IsAgain, node_firsts, keys_firsts, keys_in, no_firsts}
 use Rattle.toml_ordered.specs.Passing.{held, with_value_at, Fills, IsFilled, AreFilled, IsOpened, IsShut, PassesSteps, RefusesSteps, keys_of}
 use Rattle.toml_ordered.specs.Reading.{IsPassed, IsSameKey}
-use Rattle.toml_ordered.specs.Tables.{along, append, get_node, made_by, replace}
-use Rattle.toml_ordered.specs.declared.drafts.Draft.{Draft as CodeDraft}
-use Rattle.toml_ordered.specs.declared.drafts.OpenTable.{OpenTable}
+use Rattle.toml_ordered.specs.Tables.{Edit, along, append, get_node, made_by, passed, replace}
+use Rattle.toml_ordered.specs.declared.tree.Node.{Node as CodeNode, Table}
+use Rattle.toml_ordered.specs.declared.tree.Table.{Table as CodeTable}
 use Rattle.toml_ordered.specs.declared.fault.Fault.{Fault}
 use Rattle.toml_ordered.specs.declared.route.Way.{Way}
-use Rattle.toml_ordered.specs.declared.drafts.Holder.{Holder}
-use Rattle.toml_ordered.specs.declared.drafts.Holder.TheVariants as holder
+use Rattle.toml_ordered.specs.declared.tree.holder.Holder.{Holder}
+use Rattle.toml_ordered.specs.declared.tree.holder.Holder.TheVariants as holder
 use Rattle.toml_ordered.specs.declared.passed.Passed.{Passed}
+use Rattle.toml_ordered.specs.declared.route.Way.TheVariants as way
 use Rattle.toml_ordered.specs.declared.tree.Origin.{Origin}
+use Rattle.toml_ordered.specs.declared.tree.Origin.TheVariants.{Closed}
 
 -- ---- another value at a place
 
-pub with_value_at-set : (at : ℕ) (x : CodeDraft) (es : List Draft) (w : Draft) → with_value_at at x (set es at w) ≡ set es at (w.0, x, w.2)
+pub with_value_at-set : (at : ℕ) (x : CodeNode) (es : List Entry) (w : Entry) → with_value_at at x (set es at w) ≡ set es at (w.0, x, w.2)
 with_value_at-set at x [] w = refl
 with_value_at-set zero x (e ∷ es) w = refl
-with_value_at-set (suc at) x (e ∷ es) w = ap (λ (ds : List Draft). e ∷ ds) (with_value_at-set at x es w)
+with_value_at-set (suc at) x (e ∷ es) w = ap (λ (ds : List Entry). e ∷ ds) (with_value_at-set at x es w)
 
-pub with_value_at-here : (at : ℕ) (x : CodeDraft) (es : List Draft) (e : Draft) → at < length es → get_or es at e ≡ e
+pub with_value_at-here : (at : ℕ) (x : CodeNode) (es : List Entry) (e : Entry) → at < length es → get_or es at e ≡ e
     → set es at (e.0, x, e.2) ≡ with_value_at at x es
 with_value_at-here at x [] e within is = refl
-with_value_at-here zero x (d ∷ es) e within is = ap (λ (m : Draft). (m.0, x, m.2) ∷ es) (sym is)
-with_value_at-here (suc at) x (d ∷ es) e within is = ap (λ (ds : List Draft). d ∷ ds) (with_value_at-here at x es e (omega (arith, within)) is)
+with_value_at-here zero x (d ∷ es) e within is = ap (λ (m : Entry). (m.0, x, m.2) ∷ es) (sym is)
+with_value_at-here (suc at) x (d ∷ es) e within is = ap (λ (ds : List Entry). d ∷ ds) (with_value_at-here at x es e (omega (arith, within)) is)
 
-with_value_at-last : (x : CodeDraft) (es : List Draft) (w : Draft) → with_value_at (length es) x (es ++ w ∷ []) ≡ es ++ (w.0, x, w.2) ∷ []
+with_value_at-last : (x : CodeNode) (es : List Entry) (w : Entry) → with_value_at (length es) x (es ++ w ∷ []) ≡ es ++ (w.0, x, w.2) ∷ []
 with_value_at-last x [] w = refl
-with_value_at-last x (e ∷ es) w = ap (λ (ds : List Draft). e ∷ ds) (with_value_at-last x es w)
+with_value_at-last x (e ∷ es) w = ap (λ (ds : List Entry). e ∷ ds) (with_value_at-last x es w)
 
 -- ---- what holds a table
 
-held_is : (h : Holder) (t : OpenTable) → draft_view (held h t) ≡ held_view h (table_view t)
-held_is h t = draft_view-Growing h t.keys t.index
+-- the table in a value that lets a key pass
+pub opened : (by : Way) (origin after : Origin) (t : CodeTable) (x : CodeNode) → x ≡ Table origin t
+    → ((edit : Edit) (inner : TomlNodes) → passed by edit (table origin inner) ≡ option_map (table after) (edit inner))
+    → IsOpened by x (holder.Table after) t
+opened by origin after t x is passes =
+    let view = ap node_view is ∙ node_view-Table origin t in (
+      λ edit. ap (passed by edit) view ∙ passes edit (table_view t),
+      ap (λ (y : TomlNode). keys_in (Some y)) view,
+      ap node_firsts is ∙ node_firsts-Table origin t grows,
+    )
+  where
+    shut : (way : Way) → passed way (λ ns. Some ns) (table Closed no_nodes) ≡ None
+    shut way.Header = refl
+    shut way.Dots = refl
 
-held_firsts : (h : Holder) (t : OpenTable) → draft_firsts (held h t) ≡ keys_firsts t.keys.items
-held_firsts h t = draft_firsts-Growing h t.keys t.index
+    some_none : Some (table after no_nodes) ≡ None → ⊥
+    some_none e = cc
+
+    grows : origin ≡ Closed → ⊥
+    grows closed = some_none (sym (passes (λ ns. Some ns) no_nodes) ∙ ap (λ (o : Origin). passed by (λ ns. Some ns) (table o no_nodes)) closed ∙ shut by)
+
+-- nothing more is defined in it than in the table
+adds_held : (whole : List (List ℕ)) (here : ℕ) (ns : TomlNodes) (old : Firsts) (h : Holder) (t : CodeTable)
+    → AddsFirsts whole here ns old (keys_firsts t.keys.items) → AddsFirsts whole here ns old (node_firsts (held h t))
+adds_held whole here ns old h t adds = elim (held_firsts h t) [
+  | inl same ↦ subst (AddsFirsts whole here ns old) (sym same) adds
+  | inr none ↦ λ path key left first. absurd (subst (λ (f : Firsts). HasFirst f path key left) none first)
+]
 
 -- ---- one table that is passed
 
 -- a key that is there
-module _ (by : Way) (k : List ℕ) (rest : List (Way × List ℕ)) (left at : ℕ) (outer : OpenTable) (e : Draft)
+module _ (by : Way) (k : List ℕ) (rest : List (Way × List ℕ)) (left at : ℕ) (outer : CodeTable) (e : Entry)
     (has : IsIndexedAt k at outer.keys.items outer.index) (is : get_or outer.keys.items at e ≡ e) where
-  found : get_node k (table_view outer) ≡ Some (draft_view e.1)
+  found : get_node k (table_view outer) ≡ Some (node_view e.1)
   found = found_here k at outer.keys.items e outer.index has is
 
   pub refuses_there : (fault : Fault) → IsPassed (string_bytes e.0) e.2 left fault → IsShut by e.1 → RefusesSteps ((by, k) ∷ rest) left outer fault
   refuses_there fault own shut = record {
-    value = λ edit real. along_refused by k rest edit (table_view outer) (draft_view e.1) found (shut (along rest edit));
+    value = λ edit real. along_refused by k rest edit (table_view outer) (node_view e.1) found (shut (along rest edit));
     again = λ key. again_here k (keys_of rest ++ key ∷ []) left at outer.keys.items e fault has.1 is own;
   }
 
   -- w stands in its place, once the table inside is taken out
-  module _ (w : Draft) (h : Holder) (inner t : OpenTable) (same : IsSameKey e w) (opened : IsOpened by e.1 h inner)
+  module _ (w : Entry) (h : Holder) (inner t : CodeTable) (same : IsSameKey e w) (opened : IsOpened by e.1 h inner)
       (keys : t.keys.items ≡ set outer.keys.items at w) (index : t.index ≡ outer.index) where
-    abbrev now : OpenTable → Draft
+    abbrev now : CodeTable → Entry
     now new = (w.0, held h new, w.2)
 
-    items_are : (new whole : OpenTable) → Fills t at h new whole → whole.keys.items ≡ set outer.keys.items at (now new)
+    items_are : (new whole : CodeTable) → Fills t at h new whole → whole.keys.items ≡ set outer.keys.items at (now new)
     items_are new whole fills =
         fills.0 ∙ ap (with_value_at at (held h new)) keys ∙ with_value_at-set at (held h new) outer.keys.items w
 
-    view_is : (new whole : OpenTable) → Fills t at h new whole → table_view whole ≡ replace k (held_view h (table_view new)) (table_view outer)
+    view_is : (new whole : CodeTable) → Fills t at h new whole → table_view whole ≡ replace k (held_view h (table_view new)) (table_view outer)
     view_is new whole fills =
-        ap (λ (es : List Draft). keys_view es whole.index) (items_are new whole fills)
+        ap (λ (es : List Entry). keys_view es whole.index) (items_are new whole fills)
         ∙ ap (λ (places : Places). keys_view (set outer.keys.items at (now new)) places) (fills.1 ∙ index)
         ∙ written_here k at outer.keys.items e (now new) outer.index has is same.0
         ∙ ap (λ (x : TomlNode). replace k x (table_view outer)) (held_is h new)
 
-    adds_there : (key : List ℕ) (new whole : OpenTable) → Fills t at h new whole
+    adds_there : (key : List ℕ) (new whole : CodeTable) → Fills t at h new whole
         → AddsFirsts (keys_of rest ++ key ∷ []) left (table_view inner) (keys_firsts inner.keys.items) (keys_firsts new.keys.items)
         → AddsFirsts (k ∷ keys_of rest ++ key ∷ []) left (table_view outer) (keys_firsts outer.keys.items) (keys_firsts whole.keys.items)
     adds_there key new whole fills adds =
         let path = keys_of rest ++ key ∷ [] in
-        let inside : AddsFirsts path left (keys_in (Some (draft_view e.1))) (draft_firsts e.1) (draft_firsts (held h new)) =
-        subst (λ (ns : TomlNodes). AddsFirsts path left ns (draft_firsts e.1) (draft_firsts (held h new))) (sym opened.1)
-        (subst (λ (f : Firsts). AddsFirsts path left (table_view inner) f (draft_firsts (held h new))) (sym opened.2)
-        (subst (AddsFirsts path left (table_view inner) (keys_firsts inner.keys.items)) (sym (held_firsts h new)) adds)) in
-        subst (λ (es : List Draft). AddsFirsts (k ∷ path) left (table_view outer) (keys_firsts outer.keys.items) (keys_firsts es))
+        let inside : AddsFirsts path left (keys_in (Some (node_view e.1))) (node_firsts e.1) (node_firsts (held h new)) =
+        subst (λ (ns : TomlNodes). AddsFirsts path left ns (node_firsts e.1) (node_firsts (held h new))) (sym opened.1)
+        (subst (λ (f : Firsts). AddsFirsts path left (table_view inner) f (node_firsts (held h new))) (sym opened.2)
+        (adds_held path left (table_view inner) (keys_firsts inner.keys.items) h new adds)) in
+        subst (λ (es : List Entry). AddsFirsts (k ∷ path) left (table_view outer) (keys_firsts outer.keys.items) (keys_firsts es))
         (sym (items_are new whole fills))
-        (adds_inside k path left (table_view outer) (draft_view e.1) at outer.keys.items e (now new) found has.1 is same inside)
+        (adds_inside k path left (table_view outer) (node_view e.1) at outer.keys.items e (now new) found has.1 is same inside)
 
     pub passes_there : PassesSteps ((by, k) ∷ rest) rest left outer inner (Fills t at h)
     passes_there = record {
       value = λ edit new whole fills known.
-          along_found by k rest edit (table_view outer) (draft_view e.1) (held_view h (table_view new)) (table_view whole) found
+          along_found by k rest edit (table_view outer) (node_view e.1) (held_view h (table_view new)) (table_view whole) found
           (opened.0 (along rest edit) ∙ ap (option_map (held_view h)) known) (view_is new whole fills);
       refused = λ edit none.
-          along_refused by k rest edit (table_view outer) (draft_view e.1) found (opened.0 (along rest edit) ∙ ap (option_map (held_view h)) none);
+          along_refused by k rest edit (table_view outer) (node_view e.1) found (opened.0 (along rest edit) ∙ ap (option_map (held_view h)) none);
       firsts = adds_there;
       again = λ key fault again.
           again_inside k (keys_of rest ++ key ∷ []) left at outer.keys.items e fault has.1 is
@@ -103,28 +129,28 @@ module _ (by : Way) (k : List ℕ) (rest : List (Way × List ℕ)) (left at : �
     }
 
 -- a key that is missing, and is put behind the others with some value
-module _ (by : Way) (rest : List (Way × List ℕ)) (left at : ℕ) (outer inner t : OpenTable) (w : Draft) (origin : Origin) where
-  abbrev made : OpenTable → Draft
+module _ (by : Way) (rest : List (Way × List ℕ)) (left at : ℕ) (outer inner t : CodeTable) (w : Entry) (origin : Origin) where
+  abbrev made : CodeTable → Entry
   made new = (w.0, held (holder.Table origin) new, w.2)
 
   module _ (none : get_node (string_bytes w.0) (table_view outer) ≡ None) (here : w.2 ≡ left) (empty : inner.keys.items ≡ [])
       (place : at ≡ length outer.keys.items) (is : origin ≡ made_by by) (keys : t.keys.items ≡ outer.keys.items ++ w ∷ [])
-      (view : (x : CodeDraft) → keys_view (outer.keys.items ++ (w.0, x, w.2) ∷ []) t.index ≡ append (table_view outer) (string_bytes w.0) (draft_view x)) where
-    items_made : (new whole : OpenTable) → Fills t at (holder.Table origin) new whole → whole.keys.items ≡ outer.keys.items ++ made new ∷ []
+      (view : (x : CodeNode) → keys_view (outer.keys.items ++ (w.0, x, w.2) ∷ []) t.index ≡ append (table_view outer) (string_bytes w.0) (node_view x)) where
+    items_made : (new whole : CodeTable) → Fills t at (holder.Table origin) new whole → whole.keys.items ≡ outer.keys.items ++ made new ∷ []
     items_made new whole fills =
         fills.0 ∙ ap (λ (n : ℕ). with_value_at n (made new).1 t.keys.items) place
         ∙ ap (with_value_at (length outer.keys.items) (made new).1) keys ∙ with_value_at-last (made new).1 outer.keys.items w
 
-    view_made : (new whole : OpenTable) → Fills t at (holder.Table origin) new whole
+    view_made : (new whole : CodeTable) → Fills t at (holder.Table origin) new whole
         → table_view whole ≡ append (table_view outer) (string_bytes w.0) (table (made_by by) (table_view new))
     view_made new whole fills =
-        ap (λ (es : List Draft). keys_view es whole.index) (items_made new whole fills)
+        ap (λ (es : List Entry). keys_view es whole.index) (items_made new whole fills)
         ∙ ap (λ (places : Places). keys_view (outer.keys.items ++ made new ∷ []) places) fills.1 ∙ view (made new).1
         ∙ ap (append (table_view outer) (string_bytes w.0))
         (held_is (holder.Table origin) new ∙ ap (λ (o : Origin). table o (table_view new)) is)
 
     nothing_in : table_view inner ≡ no_nodes
-    nothing_in = ap (λ (es : List Draft). keys_view es inner.index) empty
+    nothing_in = ap (λ (es : List Entry). keys_view es inner.index) empty
 
     pub passes_new : PassesSteps ((by, string_bytes w.0) ∷ rest) rest left outer inner (Fills t at (holder.Table origin))
     passes_new = record {
@@ -134,20 +160,20 @@ module _ (by : Way) (rest : List (Way × List ℕ)) (left at : ℕ) (outer inner
       refused = λ edit bad. along_new_refused by (string_bytes w.0) rest edit (table_view outer) none (ap (along rest edit) (sym nothing_in) ∙ bad);
       firsts = λ key new whole fills adds.
           let path = keys_of rest ++ key ∷ [] in
-          let inside : AddsFirsts path left no_nodes no_firsts (draft_firsts (made new).1) =
-          subst (AddsFirsts path left no_nodes no_firsts) (sym (held_firsts (holder.Table origin) new))
-          (subst (λ (es : List Draft). AddsFirsts path left (keys_view es inner.index) (keys_firsts es) (keys_firsts new.keys.items)) empty adds) in
+          let inside : AddsFirsts path left no_nodes no_firsts (node_firsts (made new).1) =
+          adds_held path left no_nodes no_firsts (holder.Table origin) new
+          (subst (λ (es : List Entry). AddsFirsts path left (keys_view es inner.index) (keys_firsts es) (keys_firsts new.keys.items)) empty adds) in
           adds_missing (string_bytes w.0) path left (table_view outer) outer.keys.items whole.keys.items (made new) refl here none inside
           (items_made new whole fills);
       again = λ key fault again.
           again_nothing (keys_of rest ++ key ∷ []) (string_bytes w.0 ∷ keys_of rest ++ key ∷ []) left (keys_firsts outer.keys.items) fault
-          (subst (λ (es : List Draft). IsAgain (keys_of rest ++ key ∷ []) left (keys_firsts es) fault) empty again);
+          (subst (λ (es : List Entry). IsAgain (keys_of rest ++ key ∷ []) left (keys_firsts es) fault) empty again);
     }
 
 -- ---- several
 
 -- one more
-pub passes_on : (all middle rest : List (Way × List ℕ)) (left : ℕ) (outer here inner : OpenTable) (ps : List Passed) (p : Passed)
+pub passes_on : (all middle rest : List (Way × List ℕ)) (left : ℕ) (outer here inner : CodeTable) (ps : List Passed) (p : Passed)
     → PassesSteps all middle left outer here (AreFilled (reverse ps)) → PassesSteps middle rest left here inner (IsFilled p)
     → PassesSteps all rest left outer inner (AreFilled (reverse (ps ++ p ∷ [])))
 passes_on all middle rest left outer here inner ps p before step =
@@ -158,7 +184,7 @@ passes_on all middle rest left outer here inner ps p before step =
       again = λ key fault found. before.again key fault (step.again key fault found);
     }
 
-pub refused_on : (all middle : List (Way × List ℕ)) (left : ℕ) (outer here : OpenTable) (Fill : OpenTable → OpenTable → Type 0) (fault : Fault)
+pub refused_on : (all middle : List (Way × List ℕ)) (left : ℕ) (outer here : CodeTable) (Fill : CodeTable → CodeTable → Type 0) (fault : Fault)
     → PassesSteps all middle left outer here Fill → RefusesSteps middle left here fault → RefusesSteps all left outer fault
 refused_on all middle left outer here Fill fault before refused = record {
   value = λ edit real. before.refused edit (refused.value edit real);
@@ -166,7 +192,7 @@ refused_on all middle left outer here Fill fault before refused = record {
 }
 
 -- the last of them is filled first
-pub filled_before : (all before : List Passed) (p : Passed) (inner outer whole : OpenTable) → all ≡ before ++ p ∷ [] → IsFilled p inner outer
+pub filled_before : (all before : List Passed) (p : Passed) (inner outer whole : CodeTable) → all ≡ before ++ p ∷ [] → IsFilled p inner outer
     → AreFilled (reverse before) outer whole → AreFilled (reverse all) inner whole
 filled_before all before p inner outer whole is fills filled =
     subst (λ (ps : List Passed). AreFilled ps inner whole) (sym (ap reverse is ∙ reverse-append before (p ∷ []))) (outer, fills, filled)

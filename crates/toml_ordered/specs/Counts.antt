@@ -1,13 +1,15 @@
 -- How many values a value holds, itself among them.
 use Rattle.std.specs.Prelude.{◌≡◌, ℕ, suc, ◌+◌, ◌≤◌, ◌<◌, List, [], MatchOption, MatchResult, Option, Result, String, sum_by, sum}
 use Rattle.std.specs.declared.alloc.Global.{Global}
-use Rattle.toml_ordered.specs.declared.drafts.Draft.{Draft, fold-Draft}
-use Rattle.toml_ordered.specs.declared.drafts.Draft.TheOpen.{Draft-F}
 use Rattle.toml_ordered.specs.declared.tree.Node.{Node, fold-Node}
-use Rattle.toml_ordered.specs.declared.tree.Node.TheOpen.{Node-F}
+use Rattle.toml_ordered.specs.declared.tree.Node.TheOpen.{Node-F, Table-F}
+use Rattle.toml_ordered.specs.declared.tree.Table.{Table}
 
--- one level of a value, with each value inside counted already
-abbrev pub count_level : Node-F ℕ → ℕ
+-- one level of a table, which itself isn't counted, and of a value, with what is inside counted already
+abbrev pub count_keys : Table-F ℕ ℕ → ℕ
+count_keys t = sum_by (λ e. e.1) t.keys.items
+
+abbrev pub count_level : Node-F ℕ ℕ → ℕ
 count_level (Node-F.Text s) = 1
 count_level (Node-F.Integer z) = 1
 count_level (Node-F.Decimal s) = 1
@@ -16,25 +18,17 @@ count_level Node-F.NotANumber = 1
 count_level (Node-F.Boolean b) = 1
 count_level (Node-F.Datetime d) = 1
 count_level (Node-F.Array v) = suc (sum v.items)
-count_level (Node-F.Table origin m) = suc (sum_by (λ e. e.1) m.items)
-count_level (Node-F.Tables done m) = suc (sum done.items + sum_by (λ e. e.1) m.items)
+count_level (Node-F.Table origin keys) = suc keys
+count_level (Node-F.Tables done last) = suc (sum done.items + last)
 
 abbrev pub node_count : Node → ℕ
-node_count = fold-Node ℕ count_level
+node_count = fold-Node ℕ ℕ count_level count_keys
 
 abbrev pub member_count : String Global × Node × ℕ → ℕ
 member_count m = node_count m.1
 
--- A value in a table that may still grow, likewise, but for what it holds that takes no more.
-abbrev pub draft_level : Draft-F ℕ → ℕ
-draft_level (Draft-F.Value x) = 1
-draft_level (Draft-F.Growing holder keys index) = suc (sum_by (λ e. e.1) keys.items)
-
-abbrev pub draft_count : Draft → ℕ
-draft_count = fold-Draft ℕ draft_level
-
-abbrev pub key_count : String Global × Draft × ℕ → ℕ
-key_count m = draft_count m.1
+abbrev pub table_count : Table → ℕ
+table_count t = sum_by member_count t.keys.items
 
 -- The last of some values, or of the values of some keys, is taken out, and another put into its place.
 abbrev pub IsExchanged : {E X : Type 0} (counts : E → ℕ) (count : X → ℕ) (old new : List E) → X → Result X X → Type 0

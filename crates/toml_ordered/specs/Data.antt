@@ -1,9 +1,10 @@
 -- What a document holds, the keys of each table in the order in which they are first defined.
-use Rattle.std.specs.Prelude.{ℕ, ℤ, Bool, List, [], ◌∷◌, map, String, string_bytes}
+use Rattle.std.specs.Prelude.{ℕ, ℤ, suc, ◌==◌, Bool, true, false, List, [], ◌∷◌, map, String, string_bytes, Option, Some, None}
+use Rattle.std.specs.BTreeMap.{BTreeMap, get_by_text}
 use Rattle.std.specs.declared.alloc.Global.{Global}
 use Rattle.toml_datetime.specs.declared.datetime.Datetime.{Datetime}
 use Rattle.toml_ordered.specs.declared.tree.Node.{Node as CodeNode, fold-Node}
-use Rattle.toml_ordered.specs.declared.tree.Node.TheOpen.{Node-F}
+use Rattle.toml_ordered.specs.declared.tree.Node.TheOpen.{Node-F, Table-F}
 use Rattle.toml_ordered.specs.declared.tree.Origin.{Origin}
 
 -- A value. A decimal is a float that is a number, by its characters without underscores; the tables of an array are those that are
@@ -39,13 +40,26 @@ abbrev pub items_of : List TomlNode → Items
 items_of [] = no_items
 items_of (x ∷ xs) = item x (items_of xs)
 
--- keys with their values and places
-abbrev pub nodes_of : List (String Global × TomlNode × ℕ) → TomlNodes
-nodes_of [] = no_nodes
-nodes_of (m ∷ ms) = node (string_bytes m.0) m.1 (nodes_of ms)
+-- a place that an index tells is this one
+abbrev pub is_place : Option ℕ → ℕ → Bool
+is_place None at = false
+is_place (Some place) at = place == at
 
--- one level of a value, with each value inside seen already
-abbrev pub node_level : Node-F TomlNode → TomlNode
+-- a key before others, if it counts
+abbrev pub kept : Bool → List ℕ → TomlNode → TomlNodes → TomlNodes
+kept true k x ns = node k x ns
+kept false k x ns = ns
+
+-- the keys that stand where the index says, from this place on; the others count for nothing
+abbrev pub nodes_from : BTreeMap (String Global) ℕ → ℕ → List (String Global × TomlNode × ℕ) → TomlNodes
+nodes_from index at [] = no_nodes
+nodes_from index at (m ∷ ms) = kept (is_place (get_by_text index (string_bytes m.0)) at) (string_bytes m.0) m.1 (nodes_from index (suc at) ms)
+
+-- one level of a table and of a value, with what is inside seen already
+abbrev pub table_level : Table-F TomlNode TomlNodes → TomlNodes
+table_level t = nodes_from t.index 0 t.keys.items
+
+abbrev pub node_level : Node-F TomlNode TomlNodes → TomlNode
 node_level (Node-F.Text s) = string (string_bytes s)
 node_level (Node-F.Integer z) = integer z
 node_level (Node-F.Decimal s) = decimal (string_bytes s)
@@ -54,16 +68,13 @@ node_level Node-F.NotANumber = not_a_number
 node_level (Node-F.Boolean b) = boolean b
 node_level (Node-F.Datetime d) = datetime d
 node_level (Node-F.Array v) = array (items_of v.items)
-node_level (Node-F.Table origin m) = table origin (nodes_of m.items)
-node_level (Node-F.Tables done m) = tables (items_of done.items) (nodes_of m.items)
+node_level (Node-F.Table origin keys) = table origin keys
+node_level (Node-F.Tables done last) = tables (items_of done.items) last
 
 -- what contracts see of a value
 abbrev pub node_view : CodeNode → TomlNode
-node_view = fold-Node TomlNode node_level
+node_view = fold-Node TomlNode TomlNodes node_level table_level
 
--- of some values, and of the keys of a table
+-- of some values
 abbrev pub items_view : List CodeNode → Items
 items_view xs = items_of (map node_view xs)
-
-abbrev pub entries_view : List (String Global × CodeNode × ℕ) → TomlNodes
-entries_view ms = nodes_of (map (λ m. (m.0, node_view m.1, m.2)) ms)

@@ -3,8 +3,10 @@ use Rattle.std.specs.Prelude.{◌≡◌, ◌⊎◌, ℕ, List, [], ◌∷◌, �
 use Rattle.std.specs.declared.alloc.Global.{Global}
 use Rattle.toml_ordered.specs.Data.{TomlNode, table, tables, TomlNodes, no_nodes}
 use Rattle.toml_ordered.specs.Tables.{get_node}
-use Rattle.toml_ordered.specs.declared.drafts.Draft.{Draft as CodeDraft, fold-Draft}
-use Rattle.toml_ordered.specs.declared.drafts.Draft.TheOpen.{Draft-F}
+use Rattle.toml_ordered.specs.declared.tree.Node.{Node as CodeNode, fold-Node}
+use Rattle.toml_ordered.specs.declared.tree.Node.TheOpen.{Node-F, Table-F}
+use Rattle.toml_ordered.specs.declared.tree.Table.{Table}
+use Rattle.toml_ordered.specs.declared.tree.Origin.TheVariants.{Closed}
 use Rattle.toml_ordered.specs.declared.fault.Fault.{Fault}
 use Rattle.toml_ordered.specs.declared.fault.Fault.TheVariants as fault
 
@@ -24,17 +26,25 @@ abbrev pub firsts_of : List (String Global × Firsts × ℕ) → Firsts
 firsts_of [] = no_firsts
 firsts_of (m ∷ ms) = first_of (string_bytes m.0) m.2 m.1 (firsts_of ms)
 
--- one level of a value, with what is inside of each key
-abbrev pub firsts_step : Draft-F Firsts → Firsts
-firsts_step (Draft-F.Value x) = no_firsts
-firsts_step (Draft-F.Growing holder keys index) = firsts_of keys.items
+-- one level of a table and of a value, with what is inside; no key can be defined in what takes no more
+abbrev pub table_firsts_level : Table-F Firsts Firsts → Firsts
+table_firsts_level t = firsts_of t.keys.items
 
--- the keys inside of a value, and those of a table
-abbrev pub draft_firsts : CodeDraft → Firsts
-draft_firsts = fold-Draft Firsts firsts_step
+abbrev pub firsts_level : Node-F Firsts Firsts → Firsts
+firsts_level (Node-F.Table Closed keys) = no_firsts
+firsts_level (Node-F.Table origin keys) = keys
+firsts_level (Node-F.Tables done last) = last
+firsts_level other = no_firsts
 
-abbrev pub keys_firsts : List (String Global × CodeDraft × ℕ) → Firsts
-keys_firsts ms = firsts_of (map (λ m. (m.0, draft_firsts m.1, m.2)) ms)
+-- the keys inside of a value, those of a list, and those of a table
+abbrev pub node_firsts : CodeNode → Firsts
+node_firsts = fold-Node Firsts Firsts firsts_level table_firsts_level
+
+abbrev pub keys_firsts : List (String Global × CodeNode × ℕ) → Firsts
+keys_firsts ms = firsts_of (map (λ m. (m.0, node_firsts m.1, m.2)) ms)
+
+abbrev pub table_firsts : Table → Firsts
+table_firsts t = keys_firsts t.keys.items
 
 -- the keys of a table, or of the last of an array of tables
 abbrev pub keys_in : Option TomlNode → TomlNodes

@@ -5,13 +5,13 @@ use Rattle.toml_parser.specs.Lexical.{first, left_brace, left_bracket, right_bra
 use Rattle.toml_parser.specs.Reading.{key_view}
 use Rattle.toml.specs.Parse.{key_equals, read_map}
 use Rattle.toml_ordered.specs.Data.{Items, array, items_view, node_view, table}
-use Rattle.toml_ordered.specs.Drafts.{table_view}
-use Rattle.toml_ordered.specs.Firsts.{Firsts, HasFirst, keys_firsts}
+use Rattle.toml_ordered.specs.Keys.{table_view}
+use Rattle.toml_ordered.specs.Firsts.{Firsts, HasFirst, table_firsts}
 use Rattle.toml_ordered.specs.Grammar.{items, members, val}
 use Rattle.toml_ordered.specs.Nesting.{ValueTells, after_items}
 use Rattle.toml_ordered.specs.Places.{EndsWith, PairFirstDefines, after_pairs}
 use Rattle.toml_ordered.specs.Reading.{IsGrammarRefusal}
-use Rattle.toml_ordered.specs.declared.drafts.OpenTable.{OpenTable}
+use Rattle.toml_ordered.specs.declared.tree.Table.{Table as CodeTable}
 use Rattle.toml_ordered.specs.declared.fault.Fault.{Fault}
 use Rattle.toml_ordered.specs.declared.tree.Node.{Node}
 use Rattle.toml_ordered.specs.declared.tree.Origin.TheVariants.{Closed}
@@ -36,13 +36,13 @@ KnowsPairs depth text firsts rest =
     (path : List (List ℕ)) (key : List ℕ) (left : ℕ) → HasFirst firsts path key left → PairFirstDefines depth text path key left × (length rest < left)
 
 -- a table in braces begins the text, and its first pairs are read, up to the rest
-pub record BracesUpTo (depth : ℕ) (text : List ℕ) (found : OpenTable) (rest : List ℕ) : Type 0 where
+pub record BracesUpTo (depth : ℕ) (text : List ℕ) (found : CodeTable) (rest : List ℕ) : Type 0 where
   pub opens : first text ≡ left_brace
   pub room : ℕ
   pub enough : length rest < room
   pub value : val (suc depth) text ≡ read_map (table Closed) (members (val depth) room (table_view found) rest)
   pub ends : EndsWith (drop 1 text) rest
-  pub knows : KnowsPairs depth (drop 1 text) (keys_firsts found.keys.items) rest
+  pub knows : KnowsPairs depth (drop 1 text) (table_firsts found) rest
   pub count : ℕ
   pub read : after_pairs depth count (drop 1 text) ≡ Some (table_view found, rest)
 
@@ -87,7 +87,7 @@ abbrev pub NextItem : Items → (from : List ℕ) → Found → (rest : List ℕ
 NextItem items from found rest =
     ((depth : ℕ) (text : List ℕ) → ArrayUpTo depth text items from → IsFoundHere (suc depth) text found rest) × (length rest ≤ length from)
 
-abbrev pub NextPair : OpenTable → (from : List ℕ) → Result (Found × Bor (List ℕ)) Fault → Type 0
+abbrev pub NextPair : CodeTable → (from : List ℕ) → Result (Found × Bor (List ℕ)) Fault → Type 0
 NextPair found from r =
     MatchResult r
     (λ p. ((depth : ℕ) (text : List ℕ) → BracesUpTo depth text found from → IsFoundHere (suc depth) text p.0 p.1.now) × (length p.1.now ≤ length from))

@@ -1,8 +1,7 @@
 pub mod Data
 pub mod Tables
 pub mod Grammar
-pub mod Drafts
-pub mod Unfinished
+pub mod Keys
 pub mod Firsts
 pub mod Reading
 pub mod Places

@@ -8,8 +8,8 @@ use Rattle.toml_parser.specs.declared.error.ParseError.{ParseError}
 use Rattle.toml_parser.specs.declared.error.ParseError.TheVariants as parse
 use Rattle.toml_parser.specs.declared.key.Key as code_key
 use Rattle.toml_ordered.specs.Data.{node_view}
-use Rattle.toml_ordered.specs.Drafts.{sealed, table_view}
-use Rattle.toml_ordered.specs.Firsts.{AddsFirsts, IfAgain, IsAgain, IsOther, keys_firsts}
+use Rattle.toml_ordered.specs.Keys.{sealed, table_view}
+use Rattle.toml_ordered.specs.Firsts.{AddsFirsts, IfAgain, IsAgain, IsOther, table_firsts}
 use Rattle.toml_ordered.specs.Tables.{Definition, TomlDocument, Edit, Expression, key_value, std_table, array_table, steps_along, along, at_key}
 use Rattle.toml_ordered.specs.declared.route.Way.{Way}
 use Rattle.toml_ordered.specs.declared.document.Document.{Document as CodeDocument}
@@ -18,8 +18,8 @@ use Rattle.toml_ordered.specs.declared.fault.Fault.TheVariants as fault
 use Rattle.toml_ordered.specs.declared.route.Route.{Route}
 use Rattle.toml_ordered.specs.declared.tables.Definition as code_definition
 use Rattle.toml_ordered.specs.declared.tables.Entry.{Entry}
-use Rattle.toml_ordered.specs.declared.drafts.Draft.{Draft as CodeDraft}
-use Rattle.toml_ordered.specs.declared.drafts.OpenTable.{OpenTable}
+use Rattle.toml_ordered.specs.declared.tree.Node.{Node as CodeNode}
+use Rattle.toml_ordered.specs.declared.tree.Table.{Table as CodeTable}
 use Rattle.toml_ordered.specs.declared.tables.Definition.TheVariants.{Value, Table, Tables}
 
 -- an allocation failed
@@ -49,11 +49,11 @@ abbrev pub ReadsPast : (text : List ℕ) → Option (List ℕ) → Result (Bor (
 ReadsPast text expected r = MatchResult r (λ rest. (expected ≡ Some rest.now) × (length rest.now ≤ length text)) (IsGrammarRefusal expected IsOther)
 
 -- what the rules give is defined in a table, along the whole path, here; or the definition is refused
-abbrev pub Defines : {A : Type 0} → Option A → (new : A) → (whole : List (List ℕ)) → (here : ℕ) → (from to : OpenTable) → Result (Unit {0}) Fault → Type 0
+abbrev pub Defines : {A : Type 0} → Option A → (new : A) → (whole : List (List ℕ)) → (here : ℕ) → (from to : CodeTable) → Result (Unit {0}) Fault → Type 0
 Defines expected new whole here from to r =
     MatchResult r
-    (λ _. (expected ≡ Some new) × AddsFirsts whole here (table_view from) (keys_firsts from.keys.items) (keys_firsts to.keys.items))
-    (IsGrammarRefusal expected (IsAgain whole here (keys_firsts from.keys.items)))
+    (λ _. (expected ≡ Some new) × AddsFirsts whole here (table_view from) (table_firsts from) (table_firsts to))
+    (IsGrammarRefusal expected (IsAgain whole here (table_firsts from)))
 
 abbrev pub definition_view : code_definition.Definition → Definition
 definition_view (Value x) = key_value (sealed (node_view x))
@@ -83,7 +83,7 @@ abbrev pub IsPassed : (key : List ℕ) → (first here : ℕ) → Fault → Type
 IsPassed key first here found = IfAgain found (λ k place second. (k ≡ key) × (place ≡ first) × (second ≡ here))
 
 -- a key and its place are what they were
-abbrev pub IsSameKey : (old new : String Global × CodeDraft × ℕ) → Type 0
+abbrev pub IsSameKey : (old new : String Global × CodeNode × ℕ) → Type 0
 IsSameKey old new = (new.0 ≡ old.0) × (new.2 ≡ old.2)
 
 -- what was read of a document

@@ -3,8 +3,8 @@ ghost use Rattle.std.specs.Prelude.{◌≡◌, ◌≤◌, ◌++◌, IfErr, lengt
 ghost use Rattle.toml_parser.specs.Lexical.{first};
 ghost use Rattle.toml_parser.specs.Reading.{key_view, path_view};
 ghost use Rattle.toml.specs.Parse.{skip_bom};
-ghost use Rattle.toml_ordered.specs.Data.{entries_view, node_view};
-ghost use Rattle.toml_ordered.specs.Drafts.{sealed};
+ghost use Rattle.toml_ordered.specs.Data.{node_view};
+ghost use Rattle.toml_ordered.specs.Keys.{sealed, table_view};
 ghost use Rattle.toml_ordered.specs.Firsts.{IsOther};
 ghost use Rattle.toml_ordered.specs.Grammar as spec;
 ghost use Rattle.toml_ordered.specs.Nesting.{ExpressionTells, HasReason};
@@ -12,11 +12,10 @@ ghost use Rattle.toml_ordered.specs.Places.{FaultIsPlaced, key_parts, whole_path
 ghost use Rattle.toml_ordered.specs.Reading.{Defines, ParsesTo, ReadsExpected, definition_view, document_view, expression_view};
 ghost use Rattle.toml_ordered.specs.Tables.{define, defined_header, defined_pair};
 
-use crate::drafts::OpenTable;
 use crate::fault::{Fault, not_toml};
 use crate::route::Route;
 use crate::tables::{Definition, Entry, define_at};
-use crate::tree::{Node, Nodes};
+use crate::tree::{Node, Table};
 use crate::values::{key_and_equals, key_before, value};
 use std::alloc::Global;
 use toml_parser::text::{byte_at, first, skip, skip_blank, skip_ws};
@@ -25,7 +24,7 @@ use toml_parser::{Key, RECURSION_LIMIT};
 /// The part of a document that was read: its root table, and the key of the last header.
 #[derive(Drop)]
 struct Document {
-    root: OpenTable,
+    root: Table,
     section: Vec<String>,
 }
 
@@ -62,13 +61,7 @@ impl Document {
             what: Definition::Value(node),
             left,
         };
-        define_at(
-            alloc,
-            &mut self.root.keys,
-            &mut self.root.index,
-            route,
-            entry,
-        )
+        define_at(alloc, &mut self.root, route, entry)
     }
 
     /// Defines the table of a header.
@@ -92,13 +85,7 @@ impl Document {
             what,
             left,
         };
-        if let Err(fault) = define_at(
-            alloc,
-            &mut self.root.keys,
-            &mut self.root.index,
-            route,
-            entry,
-        ) {
+        if let Err(fault) = define_at(alloc, &mut self.root, route, entry) {
             return Err(fault);
         }
         path.push(last)?;
@@ -107,26 +94,26 @@ impl Document {
     }
 }
 
-/// Reads a document: the keys of its root table and their values.
+/// Reads a document: its root table.
 ///
 /// # Errors
 ///
 /// `NotToml` where the text isn't TOML 1.1, or a key has more than 80 parts; `TooDeep` where arrays and tables in braces nest more than
 /// 80 deep; `DefinedAgain` where a key is defined twice; `Memory` where an allocation fails.
-pub fn read_document(alloc: Global, text: &str) -> Result<Nodes, Fault>
-    ensures value { ParsesTo (λ root. entries_view root.items) result (spec.ordered_document text.now) }
+pub fn read_document(alloc: Global, text: &str) -> Result<Table, Fault>
+    ensures value { ParsesTo table_view result (spec.ordered_document text.now) }
     ensures placed { IfErr result (FaultIsPlaced text.now) }
     ensures reason { IfErr result (HasReason text.now) }
 {
     let mut read = Document {
-        root: OpenTable::new(alloc),
+        root: Table::new(alloc),
         section: Vec::new(alloc),
     };
     let mut rest = past_mark(text);
     'lines: loop {
         let start = skip_blank(rest, true);
         if start.is_empty() {
-            return Ok(read.root.finish(alloc)?);
+            return Ok(read.root);
         }
         let (expression, after) = match line(alloc, start) {
             Ok(found) => found,

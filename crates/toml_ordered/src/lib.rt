@@ -3,8 +3,8 @@
 #![tactic(auto)]
 
 mod document;
-mod drafts;
 mod fault;
+mod keys;
 mod laws;
 mod passed;
 mod route;
@@ -14,5 +14,6 @@ mod values;
 
 pub use document::read_document;
 pub use fault::Fault;
+pub use keys::LiveKeys;
 pub use laws::ordered_is_sorted;
-pub use tree::{Node, Nodes, Origin};
+pub use tree::{Node, Origin, Table};

@@ -1,21 +1,19 @@
 //! The rules by which keys and headers define tables.
 ghost use Rattle.std.specs.Prelude.{◌≡◌, ◌⊎◌, ℕ, List, [], ◌∷◌, IfErr, IfOk, MatchResult, reverse, string_bytes};
-ghost use Rattle.toml_ordered.specs.Data.{items_view, push_item, table};
-ghost use Rattle.toml_ordered.specs.Drafts.{draft_view, keys_view};
-ghost use Rattle.toml_ordered.specs.Firsts.{AddsFirsts, IsAgain, draft_firsts, keys_firsts, no_firsts};
+ghost use Rattle.toml_ordered.specs.Data.{items_view, node_view, push_item, table};
+ghost use Rattle.toml_ordered.specs.Keys.{table_view};
+ghost use Rattle.toml_ordered.specs.Firsts.{AddsFirsts, IsAgain, node_firsts, no_firsts, table_firsts};
 ghost use Rattle.toml_ordered.specs.Passing.{AreFilled, IsFilled, IsOpened, IsShut, PassesSteps, RefusesSteps};
 ghost use Rattle.toml_ordered.specs.Reading.{ParsesTo, IsPassed, IsSameKey, along_route, definition_view, steps_of, whole_of};
 ghost use Rattle.toml_ordered.specs.Tables as spec;
 ghost use Rattle.toml_ordered.specs.declared.route.Way.{Way};
 ghost use Rattle.toml_ordered.specs.declared.tree.Origin.TheVariants.{Closed};
 
-use crate::drafts::{Draft, Holder, Index, Keys, OpenTable, append, find, finish, vacant};
 use crate::fault::Fault;
 use crate::passed::Passed;
 use crate::route::{Route, Way};
-use crate::tree::{Node, Origin};
+use crate::tree::{Holder, Node, Origin, Table};
 use std::alloc::{AllocError, Global};
-use std::collections::BTreeMap;
 use std::mem;
 
 /// A definition that stands with a key on a line.
@@ -48,40 +46,34 @@ fn defined_again(key: &String, first: usize, second: usize) -> Fault
 /// Defines an entry in the table at the end of a route. Where that fails, the keys are lost.
 pub(crate) fn define_at(
     alloc: Global,
-    keys: &mut Keys,
-    index: &mut Index,
+    table: &mut Table,
     route: Route<'_>,
     entry: Entry,
 ) -> Result<(), Fault>
-    ensures value { ParsesTo (λ _. keys_view keys.new.items index.new) result (along_route route.entry entry (keys_view keys.old.items index.old)) }
-    ensures firsts { IfOk result (λ _. AddsFirsts (whole_of route.entry entry) entry.left (keys_view keys.old.items index.old)
-        (keys_firsts keys.old.items) (keys_firsts keys.new.items)) }
-    ensures again { IfErr result (IsAgain (whole_of route.entry entry) entry.left (keys_firsts keys.old.items)) }
+    ensures value { ParsesTo (λ _. table_view table.new) result (along_route route.entry entry (table_view table.old)) }
+    ensures firsts { IfOk result (λ _. AddsFirsts (whole_of route.entry entry) entry.left (table_view table.old)
+        (table_firsts table.old) (table_firsts table.new)) }
+    ensures again { IfErr result (IsAgain (whole_of route.entry entry) entry.left (table_firsts table.old)) }
 {
-    let outermost = OpenTable {
-        keys: mem::replace(keys, Vec::new(alloc)),
-        index: mem::replace(index, BTreeMap::new(alloc)),
-    };
+    let outermost = mem::replace(table, Table::new(alloc));
     let (passed, mut last) = match descend(alloc, outermost, route, entry.left) {
         Ok(found) => found,
         Err(fault) => return Err(fault),
     };
-    if let Err(fault) = at_key(alloc, &mut last.keys, &mut last.index, entry) {
+    if let Err(fault) = at_key(alloc, &mut last, entry) {
         return Err(fault);
     }
-    let whole = ascend(passed, last);
-    *keys = whole.keys;
-    *index = whole.index;
+    *table = ascend(passed, last);
     Ok(())
 }
 
 /// Takes out the table at the end of a route, and each table that the route passes.
 fn descend(
     alloc: Global,
-    outermost: OpenTable,
+    outermost: Table,
     route: Route<'_>,
     left: usize,
-) -> Result<(Vec<Passed>, OpenTable), Fault>
+) -> Result<(Vec<Passed>, Table), Fault>
     ensures { MatchResult result
         (λ found. PassesSteps (steps_of route.entry) [] left outermost found.1 (AreFilled (reverse found.0.items)))
         (RefusesSteps (steps_of route.entry) left outermost) }
@@ -102,7 +94,7 @@ fn descend(
 }
 
 /// Puts a table back into those that were passed, the last of them first.
-fn ascend(passed: Vec<Passed>, last: OpenTable) -> OpenTable
+fn ascend(passed: Vec<Passed>, last: Table) -> Table
     ensures { AreFilled (reverse passed.items) last result }
 {
     let mut outer = passed;
@@ -119,14 +111,14 @@ fn enter(
     way: Way,
     key: &String,
     left: usize,
-    outer: OpenTable,
-) -> Result<(Passed, OpenTable), Fault>
+    outer: Table,
+) -> Result<(Passed, Table), Fault>
     ensures { MatchResult result
         (λ entered. (rest : List (Way × List ℕ)) → PassesSteps ((way, string_bytes key.now) ∷ rest) rest left outer entered.1 (IsFilled entered.0))
         (λ fault. (rest : List (Way × List ℕ)) → RefusesSteps ((way, string_bytes key.now) ∷ rest) left outer fault) }
 {
     let mut table = outer;
-    match find(&table.keys, &table.index, key.as_str()) {
+    match table.find(key.as_str()) {
         Some(at) => match take_out(way, &mut table.keys[at], left) {
             Ok((holder, inner)) => Ok((Passed { table, at, holder }, inner)),
             Err(fault) => Err(fault),
@@ -134,11 +126,11 @@ fn enter(
         None => {
             let at = table.keys.len();
             let name = key.clone()?;
-            if let Err(fault) = append(&mut table.keys, &mut table.index, name, vacant(), left) {
+            if let Err(fault) = table.append(name, Node::NotANumber, left) {
                 return Err(fault);
             }
             let holder = Holder::Table(way.origin());
-            Ok((Passed { table, at, holder }, OpenTable::new(alloc)))
+            Ok((Passed { table, at, holder }, Table::new(alloc)))
         }
     }
 }
@@ -146,32 +138,33 @@ fn enter(
 /// Takes the table out of the value of a key that is passed.
 fn take_out(
     way: Way,
-    member: &mut (String, Draft, usize),
+    member: &mut (String, Node, usize),
     left: usize,
-) -> Result<(Holder, OpenTable), Fault>
+) -> Result<(Holder, Table), Fault>
     ensures same_key { IsSameKey member.old member.new }
     ensures taken { MatchResult result
         (λ taken. IsOpened way member.old.1 taken.0 taken.1)
         (λ fault. IsPassed (string_bytes member.old.0) member.old.2 left fault × IsShut way member.old.1) }
 {
     let (key, value, first) = member;
-    match mem::replace(value, vacant()).open(way) {
+    match mem::replace(value, Node::NotANumber).open(way) {
         Some(taken) => Ok(taken),
         None => Err(defined_again(key, *first, left)),
     }
 }
 
-fn at_key(alloc: Global, keys: &mut Keys, index: &mut Index, entry: Entry) -> Result<(), Fault>
-    ensures value { ParsesTo (λ _. keys_view keys.new.items index.new) result
-        (spec.at_key (string_bytes entry.key) (definition_view entry.what) (keys_view keys.old.items index.old)) }
-    ensures firsts { IfOk result (λ _. AddsFirsts (string_bytes entry.key ∷ []) entry.left (keys_view keys.old.items index.old)
-        (keys_firsts keys.old.items) (keys_firsts keys.new.items)) }
-    ensures again { IfErr result (IsAgain (string_bytes entry.key ∷ []) entry.left (keys_firsts keys.old.items)) }
+/// Defines an entry in a table.
+fn at_key(alloc: Global, table: &mut Table, entry: Entry) -> Result<(), Fault>
+    ensures value { ParsesTo (λ _. table_view table.new) result
+        (spec.at_key (string_bytes entry.key) (definition_view entry.what) (table_view table.old)) }
+    ensures firsts { IfOk result (λ _. AddsFirsts (string_bytes entry.key ∷ []) entry.left (table_view table.old)
+        (table_firsts table.old) (table_firsts table.new)) }
+    ensures again { IfErr result (IsAgain (string_bytes entry.key ∷ []) entry.left (table_firsts table.old)) }
 {
     let Entry { key, what, left } = entry;
-    match find(keys, index, key.as_str()) {
-        Some(at) => redefine(alloc, &what, &mut keys[at], left),
-        None => append(keys, index, key, new_draft(alloc, what), left),
+    match table.find(key.as_str()) {
+        Some(at) => redefine(alloc, &what, &mut table.keys[at], left),
+        None => table.append(key, new_node(alloc, what)?, left),
     }
 }
 
@@ -179,58 +172,50 @@ fn at_key(alloc: Global, keys: &mut Keys, index: &mut Index, entry: Entry) -> Re
 fn redefine(
     alloc: Global,
     what: &Definition,
-    member: &mut (String, Draft, usize),
+    member: &mut (String, Node, usize),
     left: usize,
 ) -> Result<(), Fault>
     ensures same_key { IsSameKey member.old member.new }
-    ensures value { ParsesTo (λ _. draft_view member.new.1) result (spec.redefine (definition_view what.now) (draft_view member.old.1)) }
-    ensures firsts { IfOk result (λ _. (draft_firsts member.new.1 ≡ draft_firsts member.old.1) ⊎ (draft_firsts member.new.1 ≡ no_firsts)) }
+    ensures value { ParsesTo (λ _. node_view member.new.1) result (spec.redefine (definition_view what.now) (node_view member.old.1)) }
+    ensures firsts { IfOk result (λ _. (node_firsts member.new.1 ≡ node_firsts member.old.1) ⊎ (node_firsts member.new.1 ≡ no_firsts)) }
     ensures again { IfErr result (IsPassed (string_bytes member.old.0) member.old.2 left) }
 {
-    let (key, draft, first) = member;
-    if let Draft::Growing(holder, last, index) = draft {
-        match holder {
-            Holder::Table(origin) => {
-                if *origin == Origin::Implicit && matches!(what, Definition::Table) {
-                    *origin = Origin::Header;
-                    return Ok(());
-                }
-            }
-            Holder::Tables(done) => {
-                if let Definition::Tables = what {
-                    return Ok(begin_table(alloc, done, last, index)?);
-                }
+    let (key, node, first) = member;
+    match node {
+        Node::Table(origin, _table) => {
+            if *origin == Origin::Implicit && matches!(what, Definition::Table) {
+                *origin = Origin::Header;
+                return Ok(());
             }
         }
+        Node::Tables(done, last) => {
+            if let Definition::Tables = what {
+                return Ok(begin_table(alloc, done, last)?);
+            }
+        }
+        _ => {}
     }
     Err(defined_again(key, *first, left))
 }
 
 /// Closes the last table of an array, and begins another behind it.
-fn begin_table(
-    alloc: Global,
-    done: &mut Vec<Node>,
-    last: &mut Keys,
-    index: &mut Index,
-) -> Result<(), AllocError>
-    ensures done { IfOk result (λ _. items_view done.new.items ≡ push_item (items_view done.old.items) (table Closed (keys_view last.old.items index.old))) }
-    ensures last { IfOk result (λ _. last.new.items ≡ []) }
+fn begin_table(alloc: Global, done: &mut Vec<Node>, last: &mut Table) -> Result<(), AllocError>
+    ensures done { IfOk result (λ _. items_view done.new.items ≡ push_item (items_view done.old.items) (table Closed (table_view last.old))) }
+    ensures last { IfOk result (λ _. last.new.keys.items ≡ []) }
 {
-    let places = mem::replace(index, BTreeMap::new(alloc));
-    let nodes = finish(alloc, mem::replace(last, Vec::new(alloc)), places)?;
-    done.push(Node::Table(Origin::Closed, nodes))?;
+    let closed = mem::replace(last, Table::new(alloc));
+    done.push(Node::Table(Origin::Closed, closed))?;
     Ok(())
 }
 
 /// Returns what a key holds that was not there.
-fn new_draft(alloc: Global, what: Definition) -> Draft
-    ensures value { draft_view result ≡ spec.new_node (definition_view what) }
-    ensures firsts { draft_firsts result ≡ no_firsts }
+fn new_node(alloc: Global, what: Definition) -> Result<Node, AllocError>
+    ensures value { IfOk result (λ node. node_view node ≡ spec.new_node (definition_view what)) }
+    ensures firsts { IfOk result (λ node. node_firsts node ≡ no_firsts) }
 {
-    let holder = match what {
-        Definition::Value(node) => return Draft::Value(node),
-        Definition::Table => Holder::Table(Origin::Header),
-        Definition::Tables => Holder::Tables(Vec::new(alloc)),
-    };
-    Draft::Growing(holder, Vec::new(alloc), BTreeMap::new(alloc))
+    match what {
+        Definition::Value(node) => node.sealed(),
+        Definition::Table => Ok(Node::Table(Origin::Header, Table::new(alloc))),
+        Definition::Tables => Ok(Node::Tables(Vec::new(alloc), Table::new(alloc))),
+    }
 }

@@ -1,12 +1,18 @@
 //! The contents of a document.
-ghost use Rattle.std.specs.Prelude.{◌≡◌, IfOk};
-ghost use Rattle.toml_ordered.specs.Counts.{IsEntered, IsExchanged, IsLeft, IsPopped, member_count, node_count};
+ghost use Rattle.std.specs.Prelude.{◌≡◌, suc, ◌+◌, IfOk, sum_by, vec_len};
+ghost use Rattle.toml_ordered.specs.Counts.{IsEntered, IsExchanged, IsLeft, IsPopped, member_count, node_count, table_count};
 ghost use Rattle.toml_ordered.specs.Data.{node_view};
-ghost use Rattle.toml_ordered.specs.Drafts as drafts;
+ghost use Rattle.toml_ordered.specs.Firsts.{no_firsts, node_firsts};
+ghost use Rattle.toml_ordered.specs.Keys as spec;
+
+mod holder;
 
 use std::alloc::AllocError;
+use std::collections::BTreeMap;
 use std::mem;
 use toml_datetime::Datetime;
+
+pub(crate) use holder::Holder;
 
 /// The construct that made a table, by which its text tells whether more may come to it.
 #[derive(Clone, Copy, PartialEq, Eq, Debug)]
@@ -22,6 +28,7 @@ pub enum Origin {
 }
 
 /// A value.
+#[cycle(tree)]
 pub enum Node {
     Text(String),
     Integer(i64),
@@ -32,14 +39,21 @@ pub enum Node {
     Boolean(bool),
     Datetime(Datetime),
     Array(Vec<Node>),
-    Table(Origin, Nodes),
+    Table(Origin, Table),
     /// The tables of an array that headers in double brackets make. The last is apart, since only that one can grow.
-    Tables(Vec<Node>, Nodes),
+    Tables(Vec<Node>, Table),
 }
 
-/// The keys of a table, in the order in which they are first defined. Each has its value, and how many bytes of the text were left
-/// where the expression begins that first defines it.
-pub type Nodes = Vec<(String, Node, usize)>;
+/// A table. It has an index of its keys, so that none is searched for one by one.
+#[derive(Drop)]
+#[cycle(tree)]
+pub struct Table {
+    /// The keys, in the order in which they are first defined. Each has its value, and how many bytes of the text were left where
+    /// the expression begins that first defines it.
+    pub(crate) keys: Vec<(String, Node, usize)>,
+    /// The place of each key. What doesn't stand at the place of its key counts for nothing.
+    pub(crate) index: BTreeMap<String, usize>,
+}
 
 /// Drops the value by a loop, so that no depth takes stack. That needs no memory: a value that waits lies in the place of the one that
 /// was taken out of it.
@@ -75,11 +89,8 @@ impl Node {
     {
         match self {
             Node::Array(items) => exchange(items, other),
-            Node::Table(_origin, keys) => exchange_member(keys, other),
-            Node::Tables(done, last) => match exchange(done, other) {
-                Ok(inner) => Ok(inner),
-                Err(other) => exchange_member(last, other),
-            },
+            Node::Table(_origin, table) => table.exchange(other),
+            Node::Tables(done, last) => exchange_table(done, last, other),
             _ => Err(other),
         }
     }
@@ -90,11 +101,8 @@ impl Node {
     {
         match self {
             Node::Array(items) => items.pop(),
-            Node::Table(_origin, keys) => pop_member(keys),
-            Node::Tables(done, last) => match done.pop() {
-                Some(inner) => Some(inner),
-                None => pop_member(last),
-            },
+            Node::Table(_origin, table) => table.pop(),
+            Node::Tables(done, last) => pop_table(done, last),
             _ => None,
         }
     }
@@ -105,10 +113,10 @@ impl Node {
     {
         match self {
             Node::Array(items) => items.destroy_empty(),
-            Node::Table(_origin, keys) => keys.destroy_empty(),
+            Node::Table(_origin, table) => table.end(),
             Node::Tables(done, last) => {
                 done.destroy_empty();
-                last.destroy_empty();
+                last.end();
             }
             Node::Text(_)
             | Node::Integer(_)
@@ -122,10 +130,11 @@ impl Node {
 
     /// Returns the value as one that takes no more.
     pub(crate) fn sealed(self) -> Result<Node, AllocError>
-        ensures { IfOk result (λ sealed. node_view sealed ≡ drafts.sealed (node_view self)) }
+        ensures value { IfOk result (λ sealed. node_view sealed ≡ spec.sealed (node_view self)) }
+        ensures firsts { IfOk result (λ sealed. node_firsts sealed ≡ no_firsts) }
     {
         match self {
-            Node::Table(_, keys) => Ok(Node::Table(Origin::Closed, keys)),
+            Node::Table(_, table) => Ok(Node::Table(Origin::Closed, table)),
             Node::Tables(mut done, last) => {
                 done.push(Node::Table(Origin::Closed, last))?;
                 Ok(Node::Array(done))
@@ -145,22 +154,57 @@ fn exchange(items: &mut Vec<Node>, other: Node) -> Result<Node, Node>
     }
 }
 
-/// Takes out the value of the last of some keys, and puts another into its place.
-fn exchange_member(keys: &mut Nodes, other: Node) -> Result<Node, Node>
-    ensures { IsExchanged member_count node_count keys.old.items keys.new.items other result }
+/// Takes out the last of some tables, or the last value in the table behind them, and puts another into its place.
+fn exchange_table(done: &mut Vec<Node>, last: &mut Table, other: Node) -> Result<Node, Node>
+    ensures { IsEntered node_count (suc (sum_by node_count done.old.items + table_count last.old)) (suc (sum_by node_count done.new.items + table_count last.new))
+        other result }
 {
-    match keys.last_mut() {
-        Some(member) => Ok(mem::replace(&mut member.1, other)),
-        None => Err(other),
+    match exchange(done, other) {
+        Ok(inner) => Ok(inner),
+        Err(other) => last.exchange(other),
     }
 }
 
-/// Takes out the value of the last of some keys.
-fn pop_member(keys: &mut Nodes) -> Option<Node>
-    ensures { IsPopped member_count node_count keys.old.items keys.new.items result }
+/// Takes out the last of some tables, or the last value in the table behind them.
+fn pop_table(done: &mut Vec<Node>, last: &mut Table) -> Option<Node>
+    ensures { IsLeft node_count (suc (sum_by node_count done.old.items + table_count last.old)) (suc (sum_by node_count done.new.items + table_count last.new))
+        result }
 {
-    match keys.pop() {
-        Some((_, value, _)) => Some(value),
-        None => None,
+    match done.pop() {
+        Some(inner) => Some(inner),
+        None => last.pop(),
+    }
+}
+
+impl Table {
+    /// Takes out the value of the last key, and puts another into its place.
+    fn exchange(&mut self, other: Node) -> Result<Node, Node>
+        ensures { IsExchanged member_count node_count self.old.keys.items self.new.keys.items other result }
+    {
+        match self.keys.last_mut() {
+            Some(member) => Ok(mem::replace(&mut member.1, other)),
+            None => Err(other),
+        }
+    }
+
+    /// Takes out the value of the last key.
+    fn pop(&mut self) -> Option<Node>
+        ensures { IsPopped member_count node_count self.old.keys.items self.new.keys.items result }
+    {
+        match self.keys.pop() {
+            Some((_, value, _)) => Some(value),
+            None => None,
+        }
+    }
+
+    /// Ends a table without keys.
+    fn end(self)
+        requires { vec_len self.keys ≡ 0 }
+    {
+        let Table {
+            keys,
+            index: _index,
+        } = self;
+        keys.destroy_empty();
     }
 }

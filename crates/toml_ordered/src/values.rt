@@ -3,7 +3,7 @@ ghost use Rattle.std.specs.Prelude.{◌≡◌, ◌<◌, IfOk, string_bytes};
 ghost use Rattle.toml_parser.specs.Reading.{key_view};
 ghost use Rattle.toml.specs.Parse.{after_element, key_equals};
 ghost use Rattle.toml_ordered.specs.Data.{items_view, node_view};
-ghost use Rattle.toml_ordered.specs.Drafts.{sealed, table_view};
+ghost use Rattle.toml_ordered.specs.Keys.{sealed, table_view};
 ghost use Rattle.toml_ordered.specs.Firsts.{IsOther};
 ghost use Rattle.toml_ordered.specs.Grammar as spec;
 ghost use Rattle.toml_ordered.specs.Inside.{Finds, GoesOnInside, NextItem, NextPair};
@@ -12,11 +12,10 @@ ghost use Rattle.toml_ordered.specs.Places.{key_parts};
 ghost use Rattle.toml_ordered.specs.Reading.{Defines, ReadsExpected, ReadsPast};
 ghost use Rattle.toml_ordered.specs.Tables as tables;
 
-use crate::drafts::OpenTable;
 use crate::fault::{Fault, not_toml, too_deep};
 use crate::route::Route;
 use crate::tables::{Definition, Entry, define_at};
-use crate::tree::{Node, Nodes, Origin};
+use crate::tree::{Node, Origin, Table};
 use std::alloc::{AllocError, Global};
 use toml_parser::text::{first, skip, skip_blank, skip_ws};
 use toml_parser::{Key, Scalar, dotted_key, quoted, starts_string, unquoted};
@@ -31,7 +30,7 @@ enum Open {
 /// A table in braces, and the key of the pair whose value is being read, with how many bytes of the text were left where it begins.
 #[derive(Drop)]
 struct Braces {
-    table: OpenTable,
+    table: Table,
     key: Key,
     left: usize,
 }
@@ -89,7 +88,7 @@ fn begin(alloc: Global, s: &str, depth: usize) -> Result<(Found, &str), Fault>
     if byte == b'[' {
         Ok(next_item(Vec::new(alloc), skip(s, 1)))
     } else {
-        next_pair(alloc, OpenTable::new(alloc), skip(s, 1))
+        next_pair(alloc, Table::new(alloc), skip(s, 1))
     }
 }
 
@@ -147,18 +146,13 @@ fn put_pair(alloc: Global, braces: Braces, value: Node, s: &str) -> Result<(Foun
 }
 
 /// Reads on to the value of the next pair of a table in braces, or to the table's end.
-fn next_pair(alloc: Global, table: OpenTable, s: &str) -> Result<(Found, &str), Fault>
+fn next_pair(alloc: Global, table: Table, s: &str) -> Result<(Found, &str), Fault>
     ensures { NextPair table s.now result }
 {
     let start = skip_blank(s, true);
     if first(start) == b'}' {
-        return match table.finish(alloc) {
-            Ok(members) => Ok((
-                Found::Value(Node::Table(Origin::Closed, members)),
-                skip(start, 1),
-            )),
-            Err(_) => Err(Fault::Memory),
-        };
+        let node = Node::Table(Origin::Closed, table);
+        return Ok((Found::Value(node), skip(start, 1)));
     }
     match key_and_equals(alloc, start) {
         Ok((key, rest)) => {
@@ -175,7 +169,7 @@ fn next_pair(alloc: Global, table: OpenTable, s: &str) -> Result<(Found, &str), 
 /// Defines a pair of a table in braces.
 fn put(
     alloc: Global,
-    table: &mut OpenTable,
+    table: &mut Table,
     key: Key,
     value: Node,
     left: usize,
@@ -194,7 +188,7 @@ fn put(
         what,
         left,
     };
-    define_at(alloc, &mut table.keys, &mut table.index, route, entry)
+    define_at(alloc, table, route, entry)
 }
 
 /// Returns what follows a comma, or the closing bracket.

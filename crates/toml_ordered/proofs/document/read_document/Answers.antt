@@ -30,7 +30,7 @@ returns-then-is_empty-clause-value c =
     let loop = l.invariant.4 in
     let start_is = c.skip_blank-start.ensures.rest in
     let none : length (skip_blank l.rest.now) ≡ 0 = grind (arith, common_steps) in
-    document_some c.args.text.now doc (loop ∙ lines_end m doc l.rest.now (omega arith) none) ∙ rw c.in_ok-finish.ensures
+    document_some c.args.text.now doc (loop ∙ lines_end m doc l.rest.now (omega arith) none)
 
 pub returns-in-Err-clause-value : goal.returns-in-Err-clause-value
 returns-in-Err-clause-value c refused =

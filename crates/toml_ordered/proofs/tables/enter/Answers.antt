@@ -3,13 +3,14 @@ use Rattle.std.proofs.lemmas.Grind.{common_steps}
 use Rattle.std.specs.Vec.{with_item}
 use Rattle.toml_ordered.proofs.Passing.{passes_there, passes_new, refuses_there}
 use Rattle.toml_ordered.specs.Passing.{Fills, PassesSteps}
-use Rattle.toml_ordered.specs.declared.drafts.OpenTable.{OpenTable}
-use Rattle.toml_ordered.specs.declared.drafts.Holder.TheVariants as holder
+use Rattle.toml_ordered.specs.declared.tree.Node.{NotANumber}
+use Rattle.toml_ordered.specs.declared.tree.Table.{Table as CodeTable}
+use Rattle.toml_ordered.specs.declared.tree.holder.Holder.TheVariants as holder
 use Rattle.toml_ordered.proofs.tables.enter.Goals as goal
 
 pub returns-in-Ok : goal.returns-in-Ok
 returns-in-Ok c rest =
-    let t : OpenTable = record { keys = with_item c.args.outer.keys c.in-Some.at c.take_out.new.member; index = c.args.outer.index } in
+    let t : CodeTable = record { keys = with_item c.args.outer.keys c.in-Some.at c.take_out.new.member; index = c.args.outer.index } in
     passes_there c.args.way (string_bytes c.args.key.now) rest c.args.left c.in-Some.at c.args.outer c.index_mut.result.now
     (rw c.as_str.ensures.value at c.in-Some.ensures.found) (sym c.index_mut.ensures.value) c.take_out.new.member c.in-Ok.holder c.in-Ok.inner t
     c.take_out.ensures.same_key c.in-Ok.ensures.taken refl refl
@@ -26,8 +27,8 @@ returns-in_default c rest =
     let same : string_bytes name ≡ string_bytes c.args.key.now = grind (arith, common_steps) in
     let at = c.len-at.result in
     let origin = c.origin.result in
-    let t : OpenTable = record { keys = c.append.new.keys; index = c.append.new.index } in
+    let t : CodeTable = c.append.new.self in
     subst (λ (k : List ℕ). PassesSteps ((c.args.way, k) ∷ rest) rest c.args.left c.args.outer c.new.result (Fills t at (holder.Table origin))) same
-    (passes_new c.args.way rest c.args.left at c.args.outer c.new.result t (name, c.vacant.result, c.args.left) origin
+    (passes_new c.args.way rest c.args.left at c.args.outer c.new.result t (name, NotANumber, c.args.left) origin
     (rw (c.as_str.ensures.value, ← same) at c.in-None.ensures.found) refl c.new.ensures.keys (c.len-at.ensures ∙ c.args.outer.keys.ok.0)
     c.origin.ensures c.in_default.ensures.last c.in_default.ensures.other)

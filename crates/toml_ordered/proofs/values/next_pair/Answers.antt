@@ -7,8 +7,8 @@ use Rattle.toml_ordered.proofs.Trees.{node_view-Table}
 use Rattle.toml_ordered.specs.declared.tree.Origin.TheVariants.{Closed}
 use Rattle.toml_ordered.proofs.values.next_pair.Goals as goal
 
-pub returns-in-Ok : goal.returns-in-Ok
-returns-in-Ok c =
+pub returns-then-first-eq125 : goal.returns-then-first-eq125
+returns-then-first-eq125 c =
     let s = c.args.s.now in
     let blank = c.skip_blank-start.ensures.rest in
     let before = c.skip_blank-start.ensures.within in
@@ -17,31 +17,28 @@ returns-in-Ok c =
       (λ depth text known.
           let within = ends_within text s (inside_ends text s known.ends) in (
             braces_end depth text c.args.table s known closing
-                ∙ rw (c.skip.ensures.rest, blank, node_view-Table Closed c.in-Ok.members, c.in-Ok.ensures),
+                ∙ rw (c.skip.ensures.rest, blank, node_view-Table Closed c.args.table),
             omega arith,
           )),
       omega (arith, before, shorter),
     )
 
-pub returns-in-Err : goal.returns-in-Err
-returns-in-Err c depth text known = (λ real. absurd (real refl), tt)
-
-pub returns-in-Ok-key_and_equals : goal.returns-in-Ok-key_and_equals
-returns-in-Ok-key_and_equals c =
+pub returns-in-Ok : goal.returns-in-Ok
+returns-in-Ok c =
     let s = c.args.s.now in
     let blank = c.skip_blank-start.ensures.rest in
     let before = c.skip_blank-start.ensures.within in
-    let shorter = c.in-Ok-key_and_equals.ensures.1 in
+    let shorter = c.in-Ok.ensures.1 in
     let other = closes_not 125 s c.skip_blank-start.result.now blank c.first.result c.first.ensures c.if-first-eq125.false in (
-      (λ depth text known. (depth, refl, (s, known, other, rw blank at c.in-Ok-key_and_equals.ensures.0, ap length blank))),
+      (λ depth text known. (depth, refl, (s, known, other, rw blank at c.in-Ok.ensures.0, ap length blank))),
       omega (arith, before, shorter),
     )
 
-pub returns-in-Err-key_and_equals : goal.returns-in-Err-key_and_equals
-returns-in-Err-key_and_equals c depth text known =
+pub returns-in-Err : goal.returns-in-Err
+returns-in-Err c depth text known =
     let s = c.args.s.now in
     let blank = c.skip_blank-start.ensures.rest in
     let other = closes_not 125 s c.skip_blank-start.result.now blank c.first.result c.first.ensures c.if-first-eq125.false in (
-      (λ real. braces_nameless depth text c.args.table s known other (rw blank at (c.in-Err-key_and_equals.ensures.0 real))),
-      other_than _ _ c.in-Err-key_and_equals.fault c.in-Err-key_and_equals.ensures.1,
+      (λ real. braces_nameless depth text c.args.table s known other (rw blank at (c.in-Err.ensures.0 real))),
+      other_than _ _ c.in-Err.fault c.in-Err.ensures.1,
     )

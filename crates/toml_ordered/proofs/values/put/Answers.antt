@@ -2,15 +2,14 @@ use Rattle.std.proofs.Common.{[], ap, string_bytes}
 use Rattle.toml_parser.specs.Reading.{key_view, path_view}
 use Rattle.toml_ordered.proofs.Defining.{along_route, put_defines}
 use Rattle.toml_ordered.specs.Data.{node_view}
-use Rattle.toml_ordered.specs.Drafts.{sealed}
+use Rattle.toml_ordered.specs.Keys.{sealed}
 use Rattle.toml_ordered.specs.Tables.{key_value}
-use Rattle.toml_ordered.specs.declared.drafts.OpenTable.{OpenTable}
 use Rattle.toml_ordered.proofs.values.put.Goals as goal
 
 pub returns : goal.returns
 returns c =
     let from = c.args.table.now in
-    let to : OpenTable = record { keys = c.define_at.new.keys; index = c.define_at.new.index } in
+    let to = c.define_at.new.table in
     let x = sealed (node_view c.args.value) in
     let dots = path_view c.deref.result.now in
     put_defines from to c.args.left (key_view c.args.key) x dots (ap path_view c.deref.ensures.value) c.define_at.result

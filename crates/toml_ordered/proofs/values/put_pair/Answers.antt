@@ -5,7 +5,7 @@ use Rattle.toml_ordered.proofs.Around.{braces_again, braces_more, braces_unended
 use Rattle.toml_ordered.proofs.Conflicts.{other_than}
 use Rattle.toml_ordered.proofs.Turns.{val_sealed}
 use Rattle.toml_ordered.specs.Data.{TomlNode, node_view}
-use Rattle.toml_ordered.specs.Drafts.{sealed}
+use Rattle.toml_ordered.specs.Keys.{sealed}
 use Rattle.toml_ordered.specs.declared.values.Open.TheVariants.{Braces}
 use Rattle.toml_ordered.proofs.values.put_pair.Goals as goal
 

@@ -2,15 +2,14 @@ use Rattle.std.proofs.Common.{◌≡◌, ◌∷◌, [], ◌++◌, ℕ, List, Ok,
 use Rattle.std.proofs.lemmas.List.{map-append}
 use Rattle.toml_parser.specs.Reading.{key_view, path_view}
 use Rattle.toml_ordered.proofs.Defining.{along_route, header_defines}
-use Rattle.toml_ordered.specs.Drafts.{table_view}
+use Rattle.toml_ordered.specs.Keys.{table_view}
 use Rattle.toml_ordered.specs.Reading.{definition_view}
-use Rattle.toml_ordered.specs.declared.drafts.OpenTable.{OpenTable}
 use Rattle.toml_ordered.proofs.document.Document.define_header.Goals as goal
 
 pub returns-in-Err : goal.returns-in-Err
 returns-in-Err c =
     let from = c.args.self.now.root in
-    let to : OpenTable = record { keys = c.define_at.new.keys; index = c.define_at.new.index } in
+    let to = c.define_at.new.table in
     let what = definition_view c.args.what in
     let header = path_view c.deref.result.now in
     let name = string_bytes c.in_ok-clone.field-0 in
@@ -21,7 +20,7 @@ returns-in-Err c =
 pub returns : goal.returns
 returns c =
     let from = c.args.self.now.root in
-    let to : OpenTable = record { keys = c.define_at.new.keys; index = c.define_at.new.index } in
+    let to = c.define_at.new.table in
     let what = definition_view c.args.what in
     let header = path_view c.deref.result.now in
     let name = string_bytes c.in_ok-clone.field-0 in

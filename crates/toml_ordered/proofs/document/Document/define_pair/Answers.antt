@@ -2,15 +2,14 @@ use Rattle.std.proofs.Common.{ap, string_bytes}
 use Rattle.toml_parser.specs.Reading.{key_view, path_view}
 use Rattle.toml_ordered.proofs.Defining.{along_route, pair_defines}
 use Rattle.toml_ordered.specs.Data.{node_view}
-use Rattle.toml_ordered.specs.Drafts.{sealed}
+use Rattle.toml_ordered.specs.Keys.{sealed}
 use Rattle.toml_ordered.specs.Tables.{key_value}
-use Rattle.toml_ordered.specs.declared.drafts.OpenTable.{OpenTable}
 use Rattle.toml_ordered.proofs.document.Document.define_pair.Goals as goal
 
 pub returns : goal.returns
 returns c =
     let from = c.args.self.now.root in
-    let to : OpenTable = record { keys = c.define_at.new.keys; index = c.define_at.new.index } in
+    let to = c.define_at.new.table in
     let x = sealed (node_view c.args.node) in
     let header = path_view c.deref.result.now in
     let dots = path_view c.deref-2.result.now in

@@ -2,7 +2,7 @@ use Rattle.std.proofs.Common.{◌<◌, length, refl, sym, ap, ◌∙◌, set, ar
 use Rattle.std.proofs.lemmas.Grind.{common_steps}
 use Rattle.toml_ordered.proofs.Passing.{with_value_at-here}
 use Rattle.toml_ordered.specs.Passing.{held}
-use Rattle.toml_ordered.specs.declared.drafts.Draft.{Draft as CodeDraft}
+use Rattle.toml_ordered.specs.declared.tree.Node.{Node as CodeNode}
 use Rattle.toml_ordered.proofs.passed.Passed.filled_with.Goals as goal
 
 pub returns : goal.returns
@@ -11,7 +11,7 @@ returns c =
     let at = c.args.self.at in
     let e = c.index_mut.result.now in
     let within : at < length es = grind (arith, common_steps) in (
-      ap (λ (x : CodeDraft). set es at (e.0, x, e.2)) c.replace.ensures.after
+      ap (λ (x : CodeNode). set es at (e.0, x, e.2)) (c.replace.ensures.after ∙ c.filled_with.ensures)
           ∙ with_value_at-here at (held c.args.self.holder c.args.inner) es e within (sym c.index_mut.ensures.value),
       refl,
     )

@@ -1,12 +1,12 @@
 use Rattle.std.proofs.Common.{sym, ap, ◌∙◌}
 use Rattle.toml_ordered.proofs.Trees.{items_view-push, node_view-Table, node_view-Tables, node_view-Array}
 use Rattle.toml_ordered.specs.Data.{TomlNode, Items, array, push_item, items_view, node_view}
-use Rattle.toml_ordered.specs.Drafts.{sealed}
+use Rattle.toml_ordered.specs.Keys.{sealed}
 use Rattle.toml_ordered.specs.declared.tree.Origin.TheVariants.{Closed}
 use Rattle.toml_ordered.proofs.tree.Node.sealed.Goals as goal
 
-pub returns-in_ok-push-in-Tables : goal.returns-in_ok-push-in-Tables
-returns-in_ok-push-in-Tables c =
+pub returns-in_ok-push-in-Tables-clause-value : goal.returns-in_ok-push-in-Tables-clause-value
+returns-in_ok-push-in-Tables-clause-value c =
     let it = c.in-Tables in
     let pushed = c.in_ok-push-in-Tables.ensures.items in
     node_view-Array c.push.new.self

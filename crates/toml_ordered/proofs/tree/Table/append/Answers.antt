@@ -3,15 +3,16 @@ use Rattle.std.proofs.lemmas.Grind.{common_steps}
 use Rattle.std.proofs.lemmas.Map.Text.{btree_map_updates_text}
 use Rattle.std.specs.BTreeMap.{get_by_text}
 use Rattle.std.specs.Map.{update}
-use Rattle.toml_ordered.proofs.DraftKeys.{Draft, appended}
+use Rattle.toml_ordered.proofs.KeyPlaces.{appended}
+use Rattle.toml_ordered.proofs.Trees.{Entry}
 use Rattle.toml_ordered.specs.Data.{TomlNodes}
-use Rattle.toml_ordered.specs.Drafts.{keys_view}
-use Rattle.toml_ordered.proofs.drafts.append.Goals as goal
+use Rattle.toml_ordered.specs.Keys.{keys_view}
+use Rattle.toml_ordered.proofs.tree.Table.append.Goals as goal
 
 pub returns : goal.returns
 returns c =
-    let es = c.args.keys.now.items in
-    let before = c.args.index.now in
+    let es = c.args.self.now.keys.items in
+    let before = c.args.self.now.index in
     let after = c.insert.new.self in
     let count : c.len-at.result ≡ length es = grind (arith, common_steps) in
     let same : string_bytes c.in_ok-clone.field-0 ≡ string_bytes c.args.key = grind (arith, common_steps) in
@@ -22,7 +23,7 @@ returns c =
     record {
       last = c.in_ok-push.ensures.items;
       failed = search rules;
-      value = ap (λ (ns : TomlNodes). Some ns) (sym (appended before after es (c.args.key, c.args.draft, c.args.left) c.requires noted))
-          ∙ ap (λ (ds : List Draft). Some (keys_view ds after)) (sym c.in_ok-push.ensures.items);
+      value = ap (λ (ns : TomlNodes). Some ns) (sym (appended before after es (c.args.key, c.args.value, c.args.left) c.requires noted))
+          ∙ ap (λ (ds : List Entry). Some (keys_view ds after)) (sym c.in_ok-push.ensures.items);
       other = λ x. appended before after es (c.args.key, x, c.args.left) c.requires noted;
     }

@@ -1,4 +1,4 @@
--- A table while it is read beside the keys and values that it stands for.
+-- The keys of a table and their index beside the keys and values that they stand for.
 use Rattle.std.proofs.Common.{◌≡◌, ℕ, zero, suc, ◌+◌, ◌<◌, ◌≤◌, ◌==◌, true, false, Bool, List, [], ◌∷◌, ◌++◌, length, Option, Some, None, cond}
 use Rattle.std.proofs.Common.{String, Vec, BTreeMap, Global, string_bytes, bytes_eq, refl, sym, ap, subst, ◌∙◌}
 use Rattle.std.proofs.Common.{inl, inr, rules, arith, set, get_or}
@@ -6,17 +6,10 @@ use Rattle.std.proofs.lemmas.Bool.{cases_Bool, eq-eqb, eqb-true, false≢true}
 use Rattle.std.proofs.lemmas.Slice.Eq.{bytes_eq-Decides}
 use Rattle.std.specs.BTreeMap.{get_by_text}
 use Rattle.std.specs.Map.{update}
-use Rattle.toml_ordered.specs.declared.drafts.Draft.{Draft as CodeDraft, Growing, the_lemmas}
-use Rattle.toml_ordered.specs.declared.drafts.Holder.{Holder}
-use Rattle.toml_ordered.specs.Data.{TomlNode, TomlNodes}
-use Rattle.toml_ordered.specs.Drafts.{is_place, kept, nodes_from, draft_view, drafts_view, held_view, keys_view, HasKey, IsIndexedAt}
+use Rattle.toml_ordered.proofs.Trees.{Entry, Places}
+use Rattle.toml_ordered.specs.Data.{TomlNode, TomlNodes, is_place, kept, nodes_from, node_view}
+use Rattle.toml_ordered.specs.Keys.{entries_view, keys_view, HasKey, IsIndexedAt}
 use Rattle.toml_ordered.specs.Tables.{get_node, append, replace}
-
-abbrev pub Draft : Type 0
-Draft = String Global × CodeDraft × ℕ
-
-abbrev pub Places : Type 0
-Places = BTreeMap (String Global) ℕ
 
 -- ---- a key that doesn't count, or is another
 
@@ -74,26 +67,26 @@ elsewhere index n k l away live = elim (cases_Bool (bytes_eq k l)) [
 -- ---- a key that is there
 
 module _ (index : Places) (k : List ℕ) where
-  live_here : (n : ℕ) (e : Draft) → get_by_text index k ≡ Some (n + 0) → bytes_eq k (string_bytes e.0) ≡ true
+  live_here : (n : ℕ) (e : Entry) → get_by_text index k ≡ Some (n + 0) → bytes_eq k (string_bytes e.0) ≡ true
       → is_place (get_by_text index (string_bytes e.0)) n ≡ true
   live_here n e is same =
       let here : (n + 0 == n) ≡ true = eq-eqb (n + 0) n (omega arith) in
       ap (λ (j : List ℕ). is_place (get_by_text index j) n) (sym (same_bytes k (string_bytes e.0) same)) ∙ ap (λ (o : Option ℕ). is_place o n) is ∙ here
 
-  found_from : (n at : ℕ) (es : List Draft) (d : Draft) → get_by_text index k ≡ Some (n + at) → HasKey k at es
-      → get_node k (nodes_from index n (drafts_view es)) ≡ Some (draft_view (get_or es at d).1)
+  found_from : (n at : ℕ) (es : List Entry) (d : Entry) → get_by_text index k ≡ Some (n + at) → HasKey k at es
+      → get_node k (nodes_from index n (entries_view es)) ≡ Some (node_view (get_or es at d).1)
   found_from n at [] d is has = absurd has
   found_from n zero (e ∷ es) d is has =
       let here : is_place (get_by_text index (string_bytes e.0)) n ≡ true = live_here n e is has in
       rw (here, has)
   found_from n (suc at) (e ∷ es) d is has =
       let next : n + suc at ≡ suc n + at = omega arith in
-      passed_over (is_place (get_by_text index (string_bytes e.0)) n) k (string_bytes e.0) (draft_view e.1) (nodes_from index (suc n) (drafts_view es))
+      passed_over (is_place (get_by_text index (string_bytes e.0)) n) k (string_bytes e.0) (node_view e.1) (nodes_from index (suc n) (entries_view es))
       (elsewhere index n k (string_bytes e.0) (apart (get_by_text index k) n at is))
       ∙ found_from (suc n) at es d (is ∙ ap (λ (m : ℕ). Some m) next) has
 
-  written_from : (n at : ℕ) (es : List Draft) (d w : Draft) → get_by_text index k ≡ Some (n + at) → HasKey k at es → w.0 ≡ (get_or es at d).0
-      → nodes_from index n (drafts_view (set es at w)) ≡ replace k (draft_view w.1) (nodes_from index n (drafts_view es))
+  written_from : (n at : ℕ) (es : List Entry) (d w : Entry) → get_by_text index k ≡ Some (n + at) → HasKey k at es → w.0 ≡ (get_or es at d).0
+      → nodes_from index n (entries_view (set es at w)) ≡ replace k (node_view w.1) (nodes_from index n (entries_view es))
   written_from n at [] d w is has same = absurd has
   written_from n zero (e ∷ es) d w is has same =
       let here : is_place (get_by_text index (string_bytes e.0)) n ≡ true = live_here n e is has in
@@ -101,18 +94,18 @@ module _ (index : Places) (k : List ℕ) where
   written_from n (suc at) (e ∷ es) d w is has same =
       let next : n + suc at ≡ suc n + at = omega arith in
       let b = is_place (get_by_text index (string_bytes e.0)) n in
-      let ns = nodes_from index (suc n) (drafts_view es) in
-      ap (kept b (string_bytes e.0) (draft_view e.1)) (written_from (suc n) at es d w (is ∙ ap (λ (m : ℕ). Some m) next) has same)
-      ∙ sym (replaced_over b k (string_bytes e.0) (draft_view e.1) (draft_view w.1) ns
+      let ns = nodes_from index (suc n) (entries_view es) in
+      ap (kept b (string_bytes e.0) (node_view e.1)) (written_from (suc n) at es d w (is ∙ ap (λ (m : ℕ). Some m) next) has same)
+      ∙ sym (replaced_over b k (string_bytes e.0) (node_view e.1) (node_view w.1) ns
       (elsewhere index n k (string_bytes e.0) (apart (get_by_text index k) n at is)))
 
   -- ---- a key that isn't there
 
-  absent_from : (n : ℕ) (es : List Draft) → ((at : ℕ) → HasKey k at es → is_place (get_by_text index k) (n + at) ≡ false)
-      → get_node k (nodes_from index n (drafts_view es)) ≡ None
+  absent_from : (n : ℕ) (es : List Entry) → ((at : ℕ) → HasKey k at es → is_place (get_by_text index k) (n + at) ≡ false)
+      → get_node k (nodes_from index n (entries_view es)) ≡ None
   absent_from n [] none = refl
   absent_from n (e ∷ es) none =
-      passed_over (is_place (get_by_text index (string_bytes e.0)) n) k (string_bytes e.0) (draft_view e.1) (nodes_from index (suc n) (drafts_view es)) not_here
+      passed_over (is_place (get_by_text index (string_bytes e.0)) n) k (string_bytes e.0) (node_view e.1) (nodes_from index (suc n) (entries_view es)) not_here
       ∙ absent_from (suc n) es later
     where
       not_here : is_place (get_by_text index (string_bytes e.0)) n ≡ true → bytes_eq k (string_bytes e.0) ≡ false
@@ -130,43 +123,43 @@ module _ (index : Places) (k : List ℕ) where
           ap (is_place (get_by_text index k)) next ∙ none (suc at) has
 
 -- the value at the place of a key
-pub found_at : (k : List ℕ) (at : ℕ) (es : List Draft) (d : Draft) (index : Places) → IsIndexedAt k at es index
-    → get_node k (keys_view es index) ≡ Some (draft_view (get_or es at d).1)
+pub found_at : (k : List ℕ) (at : ℕ) (es : List Entry) (d : Entry) (index : Places) → IsIndexedAt k at es index
+    → get_node k (keys_view es index) ≡ Some (node_view (get_or es at d).1)
 found_at k at es d index has =
     let start : at ≡ 0 + at = omega arith in
     found_from index k 0 at es d (has.0 ∙ ap (λ (m : ℕ). Some m) start) has.1
 
 -- another written in its place
-pub written_at : (k : List ℕ) (at : ℕ) (es : List Draft) (d w : Draft) (index : Places) → IsIndexedAt k at es index → w.0 ≡ (get_or es at d).0
-    → keys_view (set es at w) index ≡ replace k (draft_view w.1) (keys_view es index)
+pub written_at : (k : List ℕ) (at : ℕ) (es : List Entry) (d w : Entry) (index : Places) → IsIndexedAt k at es index → w.0 ≡ (get_or es at d).0
+    → keys_view (set es at w) index ≡ replace k (node_view w.1) (keys_view es index)
 written_at k at es d w index has same =
     let start : at ≡ 0 + at = omega arith in
     written_from index k 0 at es d w (has.0 ∙ ap (λ (m : ℕ). Some m) start) has.1 same
 
 -- the same of the value that stands there
-pub found_here : (k : List ℕ) (at : ℕ) (es : List Draft) (e : Draft) (index : Places) → IsIndexedAt k at es index → get_or es at e ≡ e
-    → get_node k (keys_view es index) ≡ Some (draft_view e.1)
-found_here k at es e index has is = found_at k at es e index has ∙ ap (λ (x : Draft). Some (draft_view x.1)) is
+pub found_here : (k : List ℕ) (at : ℕ) (es : List Entry) (e : Entry) (index : Places) → IsIndexedAt k at es index → get_or es at e ≡ e
+    → get_node k (keys_view es index) ≡ Some (node_view e.1)
+found_here k at es e index has is = found_at k at es e index has ∙ ap (λ (x : Entry). Some (node_view x.1)) is
 
-pub written_here : (k : List ℕ) (at : ℕ) (es : List Draft) (e w : Draft) (index : Places) → IsIndexedAt k at es index → get_or es at e ≡ e → w.0 ≡ e.0
-    → keys_view (set es at w) index ≡ replace k (draft_view w.1) (keys_view es index)
-written_here k at es e w index has is same = written_at k at es e w index has (same ∙ ap (λ (x : Draft). x.0) (sym is))
+pub written_here : (k : List ℕ) (at : ℕ) (es : List Entry) (e w : Entry) (index : Places) → IsIndexedAt k at es index → get_or es at e ≡ e → w.0 ≡ e.0
+    → keys_view (set es at w) index ≡ replace k (node_view w.1) (keys_view es index)
+written_here k at es e w index has is same = written_at k at es e w index has (same ∙ ap (λ (x : Entry). x.0) (sym is))
 
 -- a key without a place
-pub absent : (k : List ℕ) (es : List Draft) (index : Places) → get_by_text index k ≡ None → get_node k (keys_view es index) ≡ None
+pub absent : (k : List ℕ) (es : List Entry) (index : Places) → get_by_text index k ≡ None → get_node k (keys_view es index) ≡ None
 absent k es index none = absent_from index k 0 es (λ at has. ap (λ (o : Option ℕ). is_place o (0 + at)) none)
 
-has_within : (k : List ℕ) (at : ℕ) (es : List Draft) → HasKey k at es → at < length es
+has_within : (k : List ℕ) (at : ℕ) (es : List Entry) → HasKey k at es → at < length es
 has_within k at [] has = absurd has
 has_within k zero (e ∷ es) has = omega arith
 has_within k (suc at) (e ∷ es) has = let less = has_within k at es has in omega (arith, less)
 
-has_here : (k : List ℕ) (at : ℕ) (es : List Draft) (d : Draft) → HasKey k at es → bytes_eq k (string_bytes (get_or es at d).0) ≡ true
+has_here : (k : List ℕ) (at : ℕ) (es : List Entry) (d : Entry) → HasKey k at es → bytes_eq k (string_bytes (get_or es at d).0) ≡ true
 has_here k at [] d has = absurd has
 has_here k zero (e ∷ es) d has = has
 has_here k (suc at) (e ∷ es) d has = has_here k at es d has
 
-pub key_here : (k : List ℕ) (at : ℕ) (es : List Draft) (d : Draft) → at < length es → bytes_eq k (string_bytes (get_or es at d).0) ≡ true → HasKey k at es
+pub key_here : (k : List ℕ) (at : ℕ) (es : List Entry) (d : Entry) → at < length es → bytes_eq k (string_bytes (get_or es at d).0) ≡ true → HasKey k at es
 key_here k at [] d within same = absurd (omega (arith, within))
 key_here k zero (e ∷ es) d within same = same
 key_here k (suc at) (e ∷ es) d within same = key_here k at es d (omega (arith, within)) same
@@ -178,14 +171,14 @@ is_place_only o place at is other = elim (cases_Bool (is_place o at)) [
   | inr differs ↦ differs
 ]
 
-pub absent_past : (k : List ℕ) (place : ℕ) (es : List Draft) (index : Places) → get_by_text index k ≡ Some place → length es ≤ place
+pub absent_past : (k : List ℕ) (place : ℕ) (es : List Entry) (index : Places) → get_by_text index k ≡ Some place → length es ≤ place
     → get_node k (keys_view es index) ≡ None
 absent_past k place es index is past =
     absent_from index k 0 es λ at has.
     let less = has_within k at es has in
     is_place_only (get_by_text index k) place (0 + at) is (λ same. omega (arith, less, past, same))
 
-pub absent_other : (k : List ℕ) (place : ℕ) (es : List Draft) (d : Draft) (index : Places) → get_by_text index k ≡ Some place
+pub absent_other : (k : List ℕ) (place : ℕ) (es : List Entry) (d : Entry) (index : Places) → get_by_text index k ≡ Some place
     → bytes_eq k (string_bytes (get_or es place d).0) ≡ false → get_node k (keys_view es index) ≡ None
 absent_other k place es d index is other =
     absent_from index k 0 es λ at has.
@@ -195,8 +188,8 @@ absent_other k place es d index is other =
 
 -- ---- a key that goes last
 
-module _ (index after : Places) (w : Draft) where
-  as_before : (n : ℕ) (e : Draft) (more : ℕ)
+module _ (index after : Places) (w : Entry) where
+  as_before : (n : ℕ) (e : Entry) (more : ℕ)
       → (is_place (get_by_text index (string_bytes e.0)) n ≡ true → bytes_eq (string_bytes w.0) (string_bytes e.0) ≡ false)
       → get_by_text after (string_bytes e.0) ≡ update bytes_eq (get_by_text index) (string_bytes w.0) (Some (n + suc more)) (string_bytes e.0)
       → is_place (get_by_text after (string_bytes e.0)) n ≡ is_place (get_by_text index (string_bytes e.0)) n
@@ -212,9 +205,9 @@ module _ (index after : Places) (w : Draft) where
     | inr differs ↦ ap (λ (o : Option ℕ). is_place o n) (noted ∙ ap (λ (b : Bool). cond b (Some (n + suc more)) (get_by_text index (string_bytes e.0))) differs)
   ]
 
-  appended_from : (n : ℕ) (es : List Draft) → get_node (string_bytes w.0) (nodes_from index n (drafts_view es)) ≡ None
+  appended_from : (n : ℕ) (es : List Entry) → get_node (string_bytes w.0) (nodes_from index n (entries_view es)) ≡ None
       → ((k : List ℕ) → get_by_text after k ≡ update bytes_eq (get_by_text index) (string_bytes w.0) (Some (n + length es)) k)
-      → nodes_from after n (drafts_view (es ++ w ∷ [])) ≡ append (nodes_from index n (drafts_view es)) (string_bytes w.0) (draft_view w.1)
+      → nodes_from after n (entries_view (es ++ w ∷ [])) ≡ append (nodes_from index n (entries_view es)) (string_bytes w.0) (node_view w.1)
   appended_from n [] none noted =
       let itself : bytes_eq (string_bytes w.0) (string_bytes w.0) ≡ true = bytes_same (string_bytes w.0) in
       let zeroth : (n + 0 == n) ≡ true = eq-eqb (n + 0) n (omega arith) in
@@ -226,22 +219,17 @@ module _ (index after : Places) (w : Draft) where
       let k = string_bytes w.0 in
       let l = string_bytes e.0 in
       let b = is_place (get_by_text index l) n in
-      let ns = nodes_from index (suc n) (drafts_view es) in
+      let ns = nodes_from index (suc n) (entries_view es) in
       let next : n + suc (length es) ≡ suc n + length es = omega arith in
-      let same : is_place (get_by_text after l) n ≡ b = as_before n e (length es) (none_here b k l (draft_view e.1) ns none) (noted l) in
-      ap (λ (c : Bool). kept c l (draft_view e.1) (nodes_from after (suc n) (drafts_view (es ++ w ∷ [])))) same
-      ∙ ap (kept b l (draft_view e.1)) (appended_from (suc n) es (none_behind b k l (draft_view e.1) ns none)
+      let same : is_place (get_by_text after l) n ≡ b = as_before n e (length es) (none_here b k l (node_view e.1) ns none) (noted l) in
+      ap (λ (c : Bool). kept c l (node_view e.1) (nodes_from after (suc n) (entries_view (es ++ w ∷ [])))) same
+      ∙ ap (kept b l (node_view e.1)) (appended_from (suc n) es (none_behind b k l (node_view e.1) ns none)
       (λ j. noted j ∙ ap (λ (m : ℕ). update bytes_eq (get_by_text index) k (Some m) j) next))
-      ∙ sym (appended_over b k l (draft_view e.1) (draft_view w.1) ns)
+      ∙ sym (appended_over b k l (node_view e.1) (node_view w.1) ns)
 
-pub appended : (index after : Places) (es : List Draft) (w : Draft) → get_node (string_bytes w.0) (keys_view es index) ≡ None
+pub appended : (index after : Places) (es : List Entry) (w : Entry) → get_node (string_bytes w.0) (keys_view es index) ≡ None
     → ((k : List ℕ) → get_by_text after k ≡ update bytes_eq (get_by_text index) (string_bytes w.0) (Some (length es)) k)
-    → keys_view (es ++ w ∷ []) after ≡ append (keys_view es index) (string_bytes w.0) (draft_view w.1)
+    → keys_view (es ++ w ∷ []) after ≡ append (keys_view es index) (string_bytes w.0) (node_view w.1)
 appended index after es w none noted =
     let start : length es ≡ 0 + length es = omega arith in
     appended_from index after w 0 es none (λ k. noted k ∙ ap (λ (m : ℕ). update bytes_eq (get_by_text index) (string_bytes w.0) (Some m) k) start)
-
--- ---- values
-
-pub draft_view-Growing : (h : Holder) (keys : Vec Draft Global) (index : Places) → draft_view (Growing h keys index) ≡ held_view h (keys_view keys.items index)
-draft_view-Growing h keys index = search (rules, the_lemmas)

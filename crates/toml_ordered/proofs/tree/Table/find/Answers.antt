@@ -1,37 +1,37 @@
 use Rattle.std.proofs.Common.{◌≡◌, ◌≤◌, ◌<◌, length, get_or, true, false, Some, None, string_bytes, bytes_eq, arith}
 use Rattle.std.proofs.lemmas.Grind.{common_steps}
 use Rattle.std.specs.BTreeMap.{get_by_text}
-use Rattle.toml_ordered.proofs.DraftKeys.{absent, absent_past, absent_other, key_here}
-use Rattle.toml_ordered.proofs.drafts.find.Goals as goal
+use Rattle.toml_ordered.proofs.KeyPlaces.{absent, absent_past, absent_other, key_here}
+use Rattle.toml_ordered.proofs.tree.Table.find.Goals as goal
 
 pub returns-in-None-clause-found : goal.returns-in-None-clause-found
 returns-in-None-clause-found c =
-    let none : get_by_text c.args.index.now c.args.key.now ≡ None = grind (arith, common_steps) in
-    absent c.args.key.now c.args.keys.now.items c.args.index.now none
+    let none : get_by_text c.args.self.now.index c.args.key.now ≡ None = grind (arith, common_steps) in
+    absent c.args.key.now c.args.self.now.keys.items c.args.self.now.index none
 
 pub returns-then-at-len-clause-found : goal.returns-then-at-len-clause-found
 returns-then-at-len-clause-found c =
-    let es = c.args.keys.now.items in
+    let es = c.args.self.now.keys.items in
     let at = c.in-Some.at.now in
-    let is : get_by_text c.args.index.now c.args.key.now ≡ Some at = grind (arith, common_steps) in
+    let is : get_by_text c.args.self.now.index c.args.key.now ≡ Some at = grind (arith, common_steps) in
     let past : length es ≤ at = grind (arith, common_steps) in
-    absent_past c.args.key.now at es c.args.index.now is past
+    absent_past c.args.key.now at es c.args.self.now.index is past
 
 pub returns-then-eq-clause-found : goal.returns-then-eq-clause-found
 returns-then-eq-clause-found c =
-    let es = c.args.keys.now.items in
+    let es = c.args.self.now.keys.items in
     let at = c.in-Some.at.now in
     let e = c.index.result.now in
-    let is : get_by_text c.args.index.now c.args.key.now ≡ Some at = grind (arith, common_steps) in
+    let is : get_by_text c.args.self.now.index c.args.key.now ≡ Some at = grind (arith, common_steps) in
     let within : at < length es = grind (arith, common_steps) in
     let here : bytes_eq c.args.key.now (string_bytes (get_or es at e).0) ≡ true = grind (arith, common_steps) in
     (is, key_here c.args.key.now at es e within here)
 
 pub returns-else-eq-clause-found : goal.returns-else-eq-clause-found
 returns-else-eq-clause-found c =
-    let es = c.args.keys.now.items in
+    let es = c.args.self.now.keys.items in
     let at = c.in-Some.at.now in
     let e = c.index.result.now in
-    let is : get_by_text c.args.index.now c.args.key.now ≡ Some at = grind (arith, common_steps) in
+    let is : get_by_text c.args.self.now.index c.args.key.now ≡ Some at = grind (arith, common_steps) in
     let other : bytes_eq c.args.key.now (string_bytes (get_or es at e).0) ≡ false = grind (arith, common_steps) in
-    absent_other c.args.key.now at es e c.args.index.now is other
+    absent_other c.args.key.now at es e c.args.self.now.index is other
