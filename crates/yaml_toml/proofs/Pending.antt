@@ -1,12 +1,10 @@
 -- What is pending, as collections are begun and go on.
 use Rattle.yaml_toml.proofs.Common.{◌≡◌, ℕ, suc, length, length-append, Scalar, ◌+◌, ◌<◌, ◌≤◌, arith, ◌∷◌, ◌++◌, [], List, Bool, refl, ap, subst, sym, ◌∙◌}
 use Rattle.yaml_toml.proofs.Common.{append-nil, append_assoc}
-use Rattle.std.specs.Prelude.{String, string_bytes}
-use Rattle.std.specs.declared.alloc.Global.{Global}
 use Rattle.yaml_toml.proofs.Common.{Event, WriterState, WroteEvent, start_event, scalar, text_content, chars, sequence_end, mapping_end}
 use Rattle.yaml_base.specs.declared.kinds.CollectionKind.{CollectionKind}
 use Rattle.yaml_base.specs.declared.kinds.CollectionKind.TheVariants.{Mapping, Sequence}
-use Rattle.toml_ordered.specs.Data.{items_view, entries_view, node_view}
+use Rattle.toml_ordered.specs.Data.{TomlNode, TomlNodes, node, items_view, node_view}
 use Rattle.toml_ordered.specs.declared.tree.Node.{Node as CodeNode}
 use Rattle.std.proofs.lemmas.List.{length-map}
 use Rattle.yaml_toml.specs.Events.{toml_events, toml_items_events, keys_events}
@@ -30,12 +28,11 @@ module _ (canonical in_flow : Bool) where
       → items_left canonical in_flow (x ∷ xs) ≡ toml_events canonical in_flow (node_view x) ++ items_left canonical in_flow xs
   items_left-more x xs = append_assoc (toml_events canonical in_flow (node_view x)) (toml_items_events canonical in_flow (items_view xs)) (sequence_end ∷ [])
 
-  pub keys_left-more : (m : String Global × CodeNode × ℕ) (ms : List (String Global × CodeNode × ℕ))
-      → keys_left canonical in_flow (m ∷ ms)
-      ≡ scalar (text_content (chars (string_bytes m.0))) ∷ (toml_events canonical in_flow (node_view m.1) ++ keys_left canonical in_flow ms)
-  keys_left-more m ms =
-      ap (λ (events : List Event). scalar (text_content (chars (string_bytes m.0))) ∷ events)
-      (append_assoc (toml_events canonical in_flow (node_view m.1)) (keys_events canonical in_flow (entries_view ms)) (mapping_end ∷ []))
+  pub keys_left-more : (k : List ℕ) (x : TomlNode) (ns : TomlNodes)
+      → keys_left canonical in_flow (node k x ns) ≡ scalar (text_content (chars k)) ∷ (toml_events canonical in_flow x ++ keys_left canonical in_flow ns)
+  keys_left-more k x ns =
+      ap (λ (events : List Event). scalar (text_content (chars k)) ∷ events)
+      (append_assoc (toml_events canonical in_flow x) (keys_events canonical in_flow ns) (mapping_end ∷ []))
 
 pub kinds-push : (opened : List Rest) (r : Rest) → kinds_of (opened ++ r ∷ []) ≡ kinds_of opened ++ rest_kind r ∷ []
 kinds-push [] r = refl

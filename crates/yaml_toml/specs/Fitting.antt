@@ -1,6 +1,7 @@
 -- Whether what is left of a document nests no deeper than is allowed.
 use Rattle.std.specs.Prelude.{◌↔◌, ℕ, suc, max, ◌<◌, ◌≤◌, ◌-◌, Result, Ok, Err, List, [], ◌∷◌, length}
-use Rattle.toml_ordered.specs.Data.{TomlNodes, items_view, entries_view}
+use Rattle.toml_ordered.specs.Data.{TomlNodes, items_view}
+use Rattle.toml_ordered.specs.Keys.{live_view}
 use Rattle.yaml_toml.specs.Depth.{document_nesting, items_nesting, keys_nesting}
 use Rattle.yaml_toml.specs.declared.walk.Rest.{Rest}
 use Rattle.yaml_toml.specs.declared.walk.Rest.TheVariants as rest
@@ -10,8 +11,8 @@ use Rattle.yaml_toml.specs.declared.walk.Stop.TheVariants as stop
 -- how deep what is left of a collection nests within it
 abbrev pub rest_nesting : Rest → ℕ
 rest_nesting (rest.Items items) = items_nesting (items_view items.now)
-rest_nesting (rest.Tables done last) = max (items_nesting (items_view done.now)) (suc (keys_nesting (entries_view last.now)))
-rest_nesting (rest.Members keys) = keys_nesting (entries_view keys.now)
+rest_nesting (rest.Tables done last) = max (items_nesting (items_view done.now)) (suc (keys_nesting (live_view last)))
+rest_nesting (rest.Members keys) = keys_nesting (live_view keys)
 
 -- what is left of the collections that are open within so many others fits what is allowed
 abbrev pub PendingFits : (depth around : ℕ) → List Rest → Type 0

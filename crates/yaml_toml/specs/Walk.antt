@@ -1,9 +1,8 @@
 -- What a writer is given of a document, and what is left of it.
-use Rattle.std.specs.Prelude.{◌≡◌, ℕ, ℤ, ◌<◌, ◌+◌, ◌^◌, Bool, Option, None, Some, Result, Ok, Err, List, [], ◌∷◌, ◌++◌, map, String, length, ◌≤◌, IfErr, OnOk}
-use Rattle.std.specs.declared.alloc.Global.{Global}
+use Rattle.std.specs.Prelude.{◌≡◌, ℕ, ℤ, ◌<◌, ◌+◌, ◌^◌, Bool, Option, None, Some, Result, Ok, Err, List, [], ◌∷◌, ◌++◌, map, length, ◌≤◌, IfErr, OnOk}
 use Rattle.std.specs.Int.Signed.{mag}
 use Rattle.toml_ordered.specs.Data.{TomlNode, integer, decimal, array, table, tables, Items, no_items, item, TomlNodes, no_nodes, node, items_view}
-use Rattle.toml_ordered.specs.Data.{entries_view}
+use Rattle.toml_ordered.specs.Keys.{live_view}
 use Rattle.toml_parser.specs.Numbers.{word_value}
 use Rattle.toml_parser.specs.declared.scalar.Scalar.{Scalar}
 use Rattle.toml_ordered.specs.Grammar.{ordered_document, scalar_node}
@@ -72,20 +71,20 @@ rest_kind (rest.Members keys) = Mapping
 abbrev pub items_left : (canonical in_flow : Bool) → List CodeNode → List Event
 items_left canonical in_flow items = toml_items_events canonical in_flow (items_view items) ++ sequence_end ∷ []
 
-abbrev pub keys_left : (canonical in_flow : Bool) → List (String Global × CodeNode × ℕ) → List Event
-keys_left canonical in_flow keys = keys_events canonical in_flow (entries_view keys) ++ mapping_end ∷ []
+abbrev pub keys_left : (canonical in_flow : Bool) → TomlNodes → List Event
+keys_left canonical in_flow keys = keys_events canonical in_flow keys ++ mapping_end ∷ []
 
 abbrev pub rest_events : (canonical in_flow : Bool) → Rest → List Event
 rest_events canonical in_flow (rest.Items items) = items_left canonical in_flow items.now
 rest_events canonical in_flow (rest.Tables done last) =
     toml_items_events canonical in_flow (items_view done.now)
-    ++ mapping_start (collection_in in_flow) ∷ (keys_events canonical in_flow (entries_view last.now) ++ mapping_end ∷ sequence_end ∷ [])
-rest_events canonical in_flow (rest.Members keys) = keys_left canonical in_flow keys.now
+    ++ mapping_start (collection_in in_flow) ∷ (keys_events canonical in_flow (live_view last) ++ mapping_end ∷ sequence_end ∷ [])
+rest_events canonical in_flow (rest.Members keys) = keys_left canonical in_flow (live_view keys)
 
 abbrev pub RestHasNumbers : Rest → Type 0
 RestHasNumbers (rest.Items items) = ItemsHaveNumbers (items_view items.now)
-RestHasNumbers (rest.Tables done last) = ItemsHaveNumbers (items_view done.now) × KeysHaveNumbers (entries_view last.now)
-RestHasNumbers (rest.Members keys) = KeysHaveNumbers (entries_view keys.now)
+RestHasNumbers (rest.Tables done last) = ItemsHaveNumbers (items_view done.now) × KeysHaveNumbers (live_view last)
+RestHasNumbers (rest.Members keys) = KeysHaveNumbers (live_view keys)
 
 -- of all that are open, the innermost last
 abbrev pub kinds_of : List Rest → List CollectionKind
@@ -118,8 +117,8 @@ abbrev mutual
 
 abbrev pub rest_size : Rest → ℕ
 rest_size (rest.Items items) = 1 + items_size (items_view items.now)
-rest_size (rest.Tables done last) = 4 + (items_size (items_view done.now) + keys_size (entries_view last.now))
-rest_size (rest.Members keys) = 1 + keys_size (entries_view keys.now)
+rest_size (rest.Tables done last) = 4 + (items_size (items_view done.now) + keys_size (live_view last))
+rest_size (rest.Members keys) = 1 + keys_size (live_view keys)
 
 abbrev pub pending_size : List Rest → ℕ
 pending_size [] = 0

@@ -1,6 +1,7 @@
 -- What the calls of a walk over a document do, by their results.
 use Rattle.std.specs.Prelude.{◌≡◌, ℕ, suc, ◌+◌, Bool, Option, None, Some, OnOk, Result, Ok, Err, List, [], ◌∷◌, ◌++◌}
-use Rattle.toml_ordered.specs.Data.{TomlNode, TomlNodes, array, table, tables, items_view, entries_view}
+use Rattle.toml_ordered.specs.Data.{TomlNode, TomlNodes, array, table, tables, items_view}
+use Rattle.toml_ordered.specs.Keys.{live_view}
 use Rattle.toml_ordered.specs.declared.tree.Origin.{Origin}
 use Rattle.toml_ordered.specs.declared.tree.Origin.TheVariants.{Header}
 use Rattle.yaml_base.specs.Event.{Event, Scalar, scalar}
@@ -71,8 +72,8 @@ all_due in_flow due walk = events_due walk.writer.canonical in_flow due ++ pendi
 -- the value that a collection is
 abbrev pub value_of_rest : Origin → Rest → TomlNode
 value_of_rest origin (rest.Items items) = array (items_view items.now)
-value_of_rest origin (rest.Tables done last) = tables (items_view done.now) (entries_view last.now)
-value_of_rest origin (rest.Members keys) = table origin (entries_view keys.now)
+value_of_rest origin (rest.Tables done last) = tables (items_view done.now) (live_view last)
+value_of_rest origin (rest.Members keys) = table origin (live_view keys)
 
 -- it is neither an array nor a table
 abbrev pub IsNoCollection : TomlNode → Type 0

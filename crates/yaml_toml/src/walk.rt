@@ -1,7 +1,8 @@
 //! A walk over a document, depth first, from its tree to a writer. What is left of each array and table that is open stands in a
 //! list.
 ghost use Rattle.std.specs.Prelude.{◌≡◌, List, [], ◌∷◌, ◌++◌, IfErr, MatchOption, OnOk};
-ghost use Rattle.toml_ordered.specs.Data.{entries_view, node_view};
+ghost use Rattle.toml_ordered.specs.Data.{node_view};
+ghost use Rattle.toml_ordered.specs.Keys.{table_view};
 ghost use Rattle.yaml_base.specs.declared.kinds.CollectionKind.TheVariants.{Mapping, Sequence};
 ghost use Rattle.yaml_base.specs.declared.kinds.CollectionKind.{CollectionKind};
 ghost use Rattle.yaml_writer.specs.WasGiven.{IsBare, start_event};
@@ -13,7 +14,7 @@ ghost use Rattle.yaml_writer.specs.Writing.{end_event};
 use crate::scalars::{write_scalar, write_text};
 use crate::settings::TomlSettings;
 use std::alloc::{Allocator, Global};
-use toml_ordered::{Node, Nodes};
+use toml_ordered::{LiveKeys, Node, Table};
 use yaml_writer::{
     CollectionKind, Writer, YAML_BLOCK_MAPPING_STYLE, YAML_BLOCK_SEQUENCE_STYLE,
     YAML_FLOW_MAPPING_STYLE, YAML_FLOW_SEQUENCE_STYLE, yaml_error_t,
@@ -33,8 +34,8 @@ pub(crate) enum Stop {
 pub(crate) enum Rest<'a> {
     Items(&'a [Node]),
     /// Of an array of tables, with its last.
-    Tables(&'a [Node], &'a [(String, Node, usize)]),
-    Members(&'a [(String, Node, usize)]),
+    Tables(&'a [Node], LiveKeys<'a>),
+    Members(LiveKeys<'a>),
 }
 
 impl Rest<'_> {
@@ -157,8 +158,8 @@ fn rest_of(node: &Node) -> Option<Rest<'_>>
 {
     match node {
         Node::Array(items) => Some(Rest::Items(items.as_slice())),
-        Node::Table(_, keys) => Some(Rest::Members(keys.as_slice())),
-        Node::Tables(done, last) => Some(Rest::Tables(done.as_slice(), last.as_slice())),
+        Node::Table(_, table) => Some(Rest::Members(table.live_keys())),
+        Node::Tables(done, last) => Some(Rest::Tables(done.as_slice(), last.live_keys())),
         Node::Text(_)
         | Node::Integer(_)
         | Node::Decimal(_)
@@ -226,7 +227,7 @@ fn write_item<'a, A: Allocator + Copy>(
 fn write_member<'a, A: Allocator + Copy>(
     writer: &mut Writer<A>,
     opened: &mut Vec<Rest<'a>>,
-    keys: &'a [(String, Node, usize)],
+    keys: LiveKeys<'a>,
     settings: &TomlSettings,
 ) -> Result<(), Stop>
     requires bare { IsBare writer.old }
@@ -235,7 +236,7 @@ fn write_member<'a, A: Allocator + Copy>(
 {
     match keys.split_first() {
         None => stop_of(end_innermost(writer)),
-        Some(((key, node, _), others)) => {
+        Some((key, node, others)) => {
             if let Err(stop) = keep(opened, Rest::Members(others)) {
                 return Err(stop);
             }
@@ -251,19 +252,15 @@ fn write_member<'a, A: Allocator + Copy>(
 pub(crate) fn write_root<A: Allocator + Copy>(
     alloc: Global,
     writer: &mut Writer<A>,
-    root: &Nodes,
+    root: &Table,
     settings: &TomlSettings,
 ) -> Result<(), Stop>
     requires { IsBare writer.old }
-    ensures { RootStep settings.now (entries_view root.now.items) writer.old result writer.new }
+    ensures { RootStep settings.now (table_view root.now) writer.old result writer.new }
 {
     let mut opened: Vec<Rest<'_>> = Vec::new(alloc);
-    if let Err(stop) = enter(
-        writer,
-        &mut opened,
-        Rest::Members(root.as_slice()),
-        settings,
-    ) {
+    let members = Rest::Members(root.live_keys());
+    if let Err(stop) = enter(writer, &mut opened, members, settings) {
         return Err(stop);
     }
     'rests: while let Some(rest) = take_innermost(&mut opened) {

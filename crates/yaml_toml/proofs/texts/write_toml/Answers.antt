@@ -1,5 +1,5 @@
 use Rattle.yaml_toml.proofs.Common.{◌≡◌, Some, refl}
-use Rattle.toml_ordered.specs.Data.{entries_view}
+use Rattle.toml_ordered.specs.Keys.{table_view}
 use Rattle.toml_ordered.specs.Grammar.{ordered_document}
 use Rattle.yaml_pen.proofs.Composing.{grows_itself}
 use Rattle.yaml_toml.proofs.WhyFailed.{stops_read, stops_unread}
@@ -30,7 +30,7 @@ returns-in-Err g c =
 
 pub returns-in-Ok-write_root : goal.returns-in-Ok-write_root
 returns-in-Ok-write_root g c =
-    let root = entries_view c.in-Ok.root.items in
+    let root = table_view c.in-Ok.root in
     let read : ordered_document c.args.text.now ≡ Some root = c.in-Ok.ensures.value in
     let step = c.in-Ok-write_root.ensures in
     record {
@@ -46,7 +46,7 @@ returns-in-Err-TooDeep g c =
     let text = c.args.text.now in
     let was = c.args.writer.now in
     let now = c.write_root.new.writer in
-    let root = entries_view c.in-Ok.root.items in
+    let root = table_view c.in-Ok.root in
     let read : ordered_document text ≡ Some root = c.in-Ok.ensures.value in
     let step = rw c.in-Err-TooDeep.field-0-is at c.in-Err-TooDeep.ensures in
     record {
@@ -65,7 +65,7 @@ returns g c =
     let text = c.args.text.now in
     let was = c.args.writer.now in
     let now = c.write_root.new.writer in
-    let root = entries_view c.in-Ok.root.items in
+    let root = table_view c.in-Ok.root in
     let read : ordered_document text ≡ Some root = c.in-Ok.ensures.value in
     let step = rw c.in-Err-Failed.field-0-is at c.in-Err-Failed.ensures in
     record {

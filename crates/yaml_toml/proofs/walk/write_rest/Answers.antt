@@ -2,7 +2,8 @@ use Rattle.yaml_toml.proofs.Common.{◌≡◌, ◌∷◌, ◌++◌, [], List, re
 use Rattle.yaml_toml.proofs.Common.{collection_in, arith, Event}
 use Rattle.std.proofs.lemmas.List.{nil_from_length}
 use Rattle.std.specs.Prelude.{max, suc}
-use Rattle.toml_ordered.specs.Data.{items_view, entries_view, node_view}
+use Rattle.toml_ordered.specs.Data.{items_view, node_view}
+use Rattle.toml_ordered.specs.Keys.{live_view}
 use Rattle.toml_ordered.specs.declared.tree.Node.{Node as CodeNode}
 use Rattle.yaml_toml.specs.Depth.{items_nesting, keys_nesting}
 use Rattle.yaml_toml.specs.Events.{toml_events, toml_items_events, keys_events}
@@ -36,10 +37,10 @@ returns-in_default g c =
     let done = c.in-Tables.done in
     let last = c.in-Tables.last in
     let none : [] ≡ done.now = sym (nil_from_length done.now c.in-None.ensures.cases) in
-    let keys = keys_events was.canonical s.flow (entries_view last.now) in
+    let keys = keys_events was.canonical s.flow (live_view last) in
     let begins = mapping_start (collection_in s.flow) in
     let behind = begins ∷ (keys ++ mapping_end ∷ sequence_end ∷ []) in
-    let nested = suc (keys_nesting (entries_view last.now)) in
+    let nested = suc (keys_nesting (live_view last)) in
     let nests = ap (λ (ds : List CodeNode). max (items_nesting (items_view ds)) nested) none in
     subst (λ (r : Rest). TomlStep s (rest_due r) (walk_at was opened) c.enter.result (walk_at now left)) (sym c.in-Tables.is)
     (step_same s was now (collection_due (rest.Members last)) (rest_due (rest.Tables done last)) kept opened left c.enter.result
@@ -64,8 +65,8 @@ returns-in_default-keep g c =
     let xs = c.in-Some.others.now in
     let all : x ∷ xs ≡ done.now = sym c.in-Some.ensures.cases.0 in
     let behind =
-    mapping_start (collection_in s.flow) ∷ (keys_events was.canonical s.flow (entries_view last.now) ++ mapping_end ∷ sequence_end ∷ []) in
-    let nested = suc (keys_nesting (entries_view last.now)) in
+    mapping_start (collection_in s.flow) ∷ (keys_events was.canonical s.flow (live_view last) ++ mapping_end ∷ sequence_end ∷ []) in
+    let nested = suc (keys_nesting (live_view last)) in
     let nests = ap (λ (ds : List CodeNode). max (items_nesting (items_view ds)) nested) all in
     let sizes = ap (λ (ds : List CodeNode). items_size (items_view ds)) all in
     subst (λ (r : Rest). TomlStep s (rest_due r) (walk_at was opened) c.write_node.result (walk_at now left)) (sym c.in-Tables.is)

@@ -1,8 +1,6 @@
-use Rattle.yaml_toml.proofs.Common.{◌≡◌, ◌+◌, ◌++◌, ◌∷◌, [], ℕ, List, Result, Ok, Err, Event, WriterState, subst, ap, sym, arith}
-use Rattle.std.specs.Prelude.{String}
-use Rattle.std.specs.declared.alloc.Global.{Global}
-use Rattle.toml_ordered.specs.Data.{TomlNodes, entries_view, table}
-use Rattle.toml_ordered.specs.declared.tree.Node.{Node as CodeNode}
+use Rattle.yaml_toml.proofs.Common.{◌≡◌, ◌+◌, ◌++◌, ◌∷◌, [], List, Result, Ok, Err, Event, WriterState, subst, ap, sym, arith}
+use Rattle.toml_ordered.specs.Data.{TomlNodes, table}
+use Rattle.toml_ordered.specs.Keys.{table_view}
 use Rattle.toml_ordered.specs.declared.tree.Origin.TheVariants.{Header}
 use Rattle.yaml_toml.specs.Events.{toml_events}
 use Rattle.yaml_toml.specs.Walk.{KeysHaveNumbers, pending_size, rest_size}
@@ -18,9 +16,6 @@ use Rattle.yaml_toml.proofs.Running.{Running, innermost, runs_first, runs_on, ru
 use Rattle.yaml_toml.proofs.Stepping.{step_begun}
 use Rattle.yaml_toml.proofs.walk.write_root.Goals as goal
 
-abbrev Entry : Type 0
-Entry = String Global × CodeNode × ℕ
-
 -- the root table is begun
 first_step : (settings : TomlSettings) (start now : WriterState) (root : TomlNodes) (r : Rest) (opened after : List Rest) (result : Result (Unit {0}) Stop)
     → opened ≡ [] → table Header root ≡ value_of_rest Header r → TomlStep settings (collection_due r) (walk_at start opened) result (walk_at now after)
@@ -31,27 +26,27 @@ first_step settings start now root r opened after result none seen step =
 
 pub rests-init : goal.rests-init
 rests-init g c =
-    let root = entries_view c.args.root.now.items in
+    let root = table_view c.args.root.now in
     runs_first c.args.settings.now c.args.writer.now c.enter.new.writer root c.enter.new.opened.items
-    (first_step c.args.settings.now c.args.writer.now c.enter.new.writer root (rest.Members c.as_slice.result) c.new-opened.result.items
+    (first_step c.args.settings.now c.args.writer.now c.enter.new.writer root (rest.Members c.live_keys.result) c.new-opened.result.items
     c.enter.new.opened.items (Ok tt) c.new-opened.ensures.items
-    (ap (λ (ms : List Entry). table Header (entries_view ms)) (sym c.as_slice.ensures.value)) c.in_default.ensures)
+    (ap (table Header) (sym c.live_keys.ensures)) c.in_default.ensures)
 
 pub returns-in-Err : goal.returns-in-Err
 returns-in-Err g c =
-    let root = entries_view c.args.root.now.items in
+    let root = table_view c.args.root.now in
     let stopped = c.in-Err.stop in
     stopped_first c.args.settings.now c.args.writer.now c.enter.new.writer root c.enter.new.opened.items stopped
-    (first_step c.args.settings.now c.args.writer.now c.enter.new.writer root (rest.Members c.as_slice.result) c.new-opened.result.items
+    (first_step c.args.settings.now c.args.writer.now c.enter.new.writer root (rest.Members c.live_keys.result) c.new-opened.result.items
     c.enter.new.opened.items (Err stopped) c.new-opened.ensures.items
-    (ap (λ (ms : List Entry). table Header (entries_view ms)) (sym c.as_slice.ensures.value)) c.in-Err.ensures)
+    (ap (table Header) (sym c.live_keys.ensures)) c.in-Err.ensures)
 
 pub write_rest-requires-clause-innermost : goal.write_rest-requires-clause-innermost
 write_rest-requires-clause-innermost g c =
     let start = c.args.writer.now in
     let flow = c.args.settings.now.flow in
-    let all : List Event = toml_events start.canonical flow (table Header (entries_view c.args.root.now.items)) in
-    let numbers : Type 0 = KeysHaveNumbers (entries_view c.args.root.now.items) in
+    let all : List Event = toml_events start.canonical flow (table Header (table_view c.args.root.now)) in
+    let numbers : Type 0 = KeysHaveNumbers (table_view c.args.root.now) in
     let left = c.take_innermost.new.opened.items in
     let depth = c.args.settings.now.depth in
     let so = subst (λ (opened : List Rest). Running depth flow start all numbers c.rests.writer opened) c.in-Some.ensures c.rests.invariant.1 in
@@ -61,8 +56,8 @@ pub write_rest-requires-clause-bare : goal.write_rest-requires-clause-bare
 write_rest-requires-clause-bare g c =
     let start = c.args.writer.now in
     let flow = c.args.settings.now.flow in
-    let all : List Event = toml_events start.canonical flow (table Header (entries_view c.args.root.now.items)) in
-    let numbers : Type 0 = KeysHaveNumbers (entries_view c.args.root.now.items) in
+    let all : List Event = toml_events start.canonical flow (table Header (table_view c.args.root.now)) in
+    let numbers : Type 0 = KeysHaveNumbers (table_view c.args.root.now) in
     let left = c.take_innermost.new.opened.items in
     let depth = c.args.settings.now.depth in
     let so = subst (λ (opened : List Rest). Running depth flow start all numbers c.rests.writer opened) c.in-Some.ensures c.rests.invariant.1 in
@@ -77,12 +72,12 @@ pub rests-preserved : goal.rests-preserved
 rests-preserved g c =
     let start = c.args.writer.now in
     let flow = c.args.settings.now.flow in
-    let all : List Event = toml_events start.canonical flow (table Header (entries_view c.args.root.now.items)) in
-    let numbers : Type 0 = KeysHaveNumbers (entries_view c.args.root.now.items) in
+    let all : List Event = toml_events start.canonical flow (table Header (table_view c.args.root.now)) in
+    let numbers : Type 0 = KeysHaveNumbers (table_view c.args.root.now) in
     let left = c.take_innermost.new.opened.items in
     let depth = c.args.settings.now.depth in
     let so = subst (λ (opened : List Rest). Running depth flow start all numbers c.rests.writer opened) c.in-Some.ensures c.rests.invariant.1 in
-    let root = entries_view c.args.root.now.items in
+    let root = table_view c.args.root.now in
     let step = c.in_default-write_rest.ensures in
     let fits = subst (λ (opened : List Rest). DocumentFits depth root opened) c.in-Some.ensures c.rests.invariant.0 in (
       nests_on depth root left c.write_rest.new.opened.items c.in-Some.rest fits step.nests,
@@ -95,7 +90,7 @@ returns g c =
     let start = c.args.writer.now in
     let flow = c.args.settings.now.flow in
     let depth = c.args.settings.now.depth in
-    let root = entries_view c.args.root.now.items in
+    let root = table_view c.args.root.now in
     let all : List Event = toml_events start.canonical flow (table Header root) in
     let numbers : Type 0 = KeysHaveNumbers root in
     let none = c.in_default-take_innermost.ensures.0 in
@@ -112,7 +107,7 @@ returns-in-Err-write_rest g c =
     let start = c.args.writer.now in
     let flow = c.args.settings.now.flow in
     let depth = c.args.settings.now.depth in
-    let root = entries_view c.args.root.now.items in
+    let root = table_view c.args.root.now in
     let all : List Event = toml_events start.canonical flow (table Header root) in
     let numbers : Type 0 = KeysHaveNumbers root in
     let left = c.take_innermost.new.opened.items in

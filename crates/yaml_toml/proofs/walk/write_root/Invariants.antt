@@ -1,4 +1,5 @@
-use Rattle.toml_ordered.specs.Data.{entries_view, table}
+use Rattle.toml_ordered.specs.Data.{table}
+use Rattle.toml_ordered.specs.Keys.{table_view}
 use Rattle.toml_ordered.specs.declared.tree.Origin.TheVariants.{Header}
 use Rattle.yaml_toml.specs.Events.{toml_events}
 use Rattle.yaml_toml.specs.Walk.{KeysHaveNumbers, pending_size}
@@ -8,10 +9,10 @@ use Rattle.yaml_toml.proofs.walk.write_root.Given as goal
 
 abbrev pub invariant-rests : goal.invariant-rests
 invariant-rests g l =
-    DocumentFits l.fn.settings.depth (entries_view l.fn.root.items) l.opened.items
+    DocumentFits l.fn.settings.depth (table_view l.fn.root) l.opened.items
     × Running l.fn.settings.depth l.fn.settings.flow l.fn.writer
-    (toml_events l.fn.writer.canonical l.fn.settings.flow (table Header (entries_view l.fn.root.items)))
-    (KeysHaveNumbers (entries_view l.fn.root.items)) l.writer l.opened.items
+    (toml_events l.fn.writer.canonical l.fn.settings.flow (table Header (table_view l.fn.root)))
+    (KeysHaveNumbers (table_view l.fn.root)) l.writer l.opened.items
 
 abbrev pub decreases-rests : goal.decreases-rests
 decreases-rests g l = pending_size l.opened.items

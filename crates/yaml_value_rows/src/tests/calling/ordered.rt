@@ -5,8 +5,8 @@ use toml_ordered::{Fault, read_document};
 
 /// Returns whether the first key that a document defines is this one.
 fn begins_with(alloc: Global, text: &str, key: &str) -> Result<bool, Fault> {
-    let keys = read_document(alloc, text)?;
-    match keys.first() {
+    let root = read_document(alloc, text)?;
+    match root.live_keys().split_first() {
         Some((name, _, _)) => Ok(name.as_str() == key),
         None => Ok(false),
     }

@@ -31,9 +31,9 @@ fn check_value(rt: &impl Abort, alloc: Global, value: &Node, wanted: &str) {
 
 /// Checks how the first value of a document stands there.
 fn check_first(rt: &impl Abort, alloc: Global, text: &str, wanted: &str) {
-    let keys = read_document(alloc, text).ok().expect(rt, "not TOML");
-    let first = keys.first().expect(rt, "no key");
-    check_value(rt, alloc, &first.1, wanted);
+    let root = read_document(alloc, text).ok().expect(rt, "not TOML");
+    let (_, value, _) = root.live_keys().split_first().expect(rt, "no key");
+    check_value(rt, alloc, value, wanted);
 }
 
 #[test]
