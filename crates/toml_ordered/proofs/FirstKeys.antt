@@ -12,7 +12,7 @@ use Rattle.toml_ordered.specs.declared.fault.Fault.{Fault}
 use Rattle.toml_ordered.specs.declared.fault.Fault.TheVariants as fault
 use Rattle.toml_ordered.specs.declared.tree.holder.Holder.{Holder}
 use Rattle.toml_ordered.specs.declared.tree.holder.Holder.TheVariants as holder
-use Rattle.toml_ordered.proofs.Trees.{Entry, Places}
+use Rattle.toml_ordered.proofs.Trees.{Entry}
 use Rattle.toml_ordered.specs.Data.{TomlNode, TomlNodes, no_nodes}
 use Rattle.toml_ordered.specs.Passing.{held}
 use Rattle.toml_ordered.specs.Keys.{HasKey}

@@ -1,6 +1,6 @@
 -- A table is taken out of another, and put back.
 use Rattle.std.proofs.Common.{◌≡◌, ℕ, zero, suc, ◌<◌, length, List, [], ◌∷◌, ◌++◌, Some, None, string_bytes, option_map}
-use Rattle.std.proofs.Common.{Vec, Global, inl, inr, refl, sym, ap, subst, ◌∙◌, arith, set, get_or, reverse}
+use Rattle.std.proofs.Common.{inl, inr, refl, sym, ap, subst, ◌∙◌, arith, set, get_or, reverse}
 use Rattle.std.proofs.lemmas.List.{reverse-append}
 use Rattle.toml_ordered.proofs.KeyPlaces.{found_here, written_here}
 use Rattle.toml_ordered.proofs.Trees.{Entry, Places, held_is, node_view-Table}
