@@ -53,9 +53,15 @@ impl Table {
         ensures other { IfOk result (λ _. (other : CodeNode) → keys_view (self.old.keys.items ++ (key, other, left) ∷ []) self.new.index
             ≡ append (table_view self.old) (string_bytes key) (node_view other)) }
     {
-        let at = self.keys.len();
-        self.index.insert(key.clone()?, at)?;
-        self.keys.push((key, value, left))?;
+        let Ok(name) = key.clone() else {
+            return Err(Fault::Memory);
+        };
+        if let Err(_) = self.index.insert(name, self.keys.len()) {
+            return Err(Fault::Memory);
+        }
+        if let Err(_) = self.keys.push((key, value, left)) {
+            return Err(Fault::Memory);
+        }
         Ok(())
     }
 

@@ -39,18 +39,18 @@ returns-in-Some-clause-again c =
     again_along (k ∷ []) k [] c.args.entry.left c.in-Some.at c.args.table.now.keys.items c.index_mut.result.now c.redefine.result refl has.1
     (sym c.index_mut.ensures.value) (IfErr-weaker c.redefine.result _ _ (λ _ own. inl own) c.redefine.ensures.again)
 
-pub returns-in_ok-new_node-in-None-clause-value : goal.returns-in_ok-new_node-in-None-clause-value
-returns-in_ok-new_node-in-None-clause-value c =
+pub returns-in-Ok-clause-value : goal.returns-in-Ok-clause-value
+returns-in-Ok-clause-value c =
     let k = string_bytes c.args.entry.key in
     let none = rw c.as_str.ensures.value at c.in-None.ensures.found in
-    rw (at_key_new k (definition_view c.args.entry.what) _ none) (rw c.in_ok-new_node-in-None.ensures.value at c.append.ensures.value)
+    rw (at_key_new k (definition_view c.args.entry.what) _ none) (rw c.in-Ok.ensures.value at c.append.ensures.value)
 
-pub returns-in_ok-new_node-in-None-clause-firsts : goal.returns-in_ok-new_node-in-None-clause-firsts
-returns-in_ok-new_node-in-None-clause-firsts c =
+pub returns-in-Ok-clause-firsts : goal.returns-in-Ok-clause-firsts
+returns-in-Ok-clause-firsts c =
     let k = string_bytes c.args.entry.key in
     let es = c.args.table.now.keys.items in
     let left = c.args.entry.left in
     let none = rw c.as_str.ensures.value at c.in-None.ensures.found in
     IfOk-weaker c.append.result _ _
-    (λ _ last. adds_missing k [] left (keys_view es c.args.table.now.index) es _ (c.args.entry.key, c.in_ok-new_node-in-None.field-0, left) refl refl none
-    (adds_none [] left _ _ c.in_ok-new_node-in-None.ensures.firsts) last) c.append.ensures.last
+    (λ _ last. adds_missing k [] left (keys_view es c.args.table.now.index) es _ (c.args.entry.key, c.in-Ok.node, left) refl refl none
+    (adds_none [] left _ _ c.in-Ok.ensures.firsts) last) c.append.ensures.last

@@ -14,16 +14,16 @@ returns c =
     let es = c.args.self.now.keys.items in
     let before = c.args.self.now.index in
     let after = c.insert.new.self in
-    let count : c.len-at.result ≡ length es = grind (arith, common_steps) in
-    let same : string_bytes c.in_ok-clone.field-0 ≡ string_bytes c.args.key = grind (arith, common_steps) in
+    let count : c.len.result ≡ length es = grind (arith, common_steps) in
+    let same : string_bytes c.in-Ok.name ≡ string_bytes c.args.key = grind (arith, common_steps) in
     let noted : (k : List ℕ) → get_by_text after k ≡ update bytes_eq (get_by_text before) (string_bytes c.args.key) (Some (length es)) k = λ k.
-    subst (λ (l : List ℕ). get_by_text after k ≡ update bytes_eq (get_by_text before) l (Some c.len-at.result) k) same
-    (btree_map_updates_text (string_bytes c.in_ok-clone.field-0) before after _ c.in_ok-insert.ensures.updates k)
+    subst (λ (l : List ℕ). get_by_text after k ≡ update bytes_eq (get_by_text before) l (Some c.len.result) k) same
+    (btree_map_updates_text (string_bytes c.in-Ok.name) before after _ c.in_default-insert.ensures.updates k)
     ∙ ap (λ (n : ℕ). update bytes_eq (get_by_text before) (string_bytes c.args.key) (Some n) k) count in
     record {
-      last = c.in_ok-push.ensures.items;
+      last = c.in_default-push.ensures.items;
       failed = search rules;
       value = ap (λ (ns : TomlNodes). Some ns) (sym (appended before after es (c.args.key, c.args.value, c.args.left) c.requires noted))
-          ∙ ap (λ (ds : List Entry). Some (keys_view ds after)) (sym c.in_ok-push.ensures.items);
+          ∙ ap (λ (ds : List Entry). Some (keys_view ds after)) (sym c.in_default-push.ensures.items);
       other = λ x. appended before after es (c.args.key, x, c.args.left) c.requires noted;
     }

@@ -7,14 +7,14 @@ use Rattle.toml_ordered.specs.Tables.{array_table, redefine}
 use Rattle.toml_ordered.specs.declared.tree.Origin.TheVariants.{Closed}
 use Rattle.toml_ordered.specs.declared.tree.Node.{Node as CodeNode}
 use Rattle.toml_ordered.specs.declared.tree.Table.{Table as CodeTable}
-use Rattle.toml_ordered.proofs.tables.redefine.Goals as goal
+use Rattle.toml_ordered.proofs.tables.takes_more.Goals as goal
 
-pub returns-in-Tables-what-clause-value : goal.returns-in-Tables-what-clause-value
-returns-in-Tables-what-clause-value c =
+pub returns-in-Ok-clause-value : goal.returns-in-Ok-clause-value
+returns-in-Ok-clause-value c =
     let it = c.in-Tables in
-    let begun = c.in_ok-begin_table-in-Tables.ensures in
+    let begun = c.in-Ok.ensures in
     let new = c.begin_table.new in
-    ap (λ what. redefine (definition_view what) (node_view c.args.member.now.1)) c.in-Tables-what.is
+    ap (λ what. redefine (definition_view what) (node_view c.args.node.now)) c.in-Tables-what.is
     ∙ ap (λ x. redefine array_table (node_view x)) it.is ∙ ap (redefine array_table) (node_view-Tables it.done it.last)
     ∙ ap (λ (x : TomlNode). Some x)
     (sym (node_view-Tables new.done new.last
