@@ -1,5 +1,5 @@
 //! The rules by which keys and headers define tables.
-ghost use Rattle.std.specs.Prelude.{◌≡◌, ◌⊎◌, ℕ, List, [], ◌∷◌, IfErr, IfOk, MatchResult, None, Some, if◌then◌else◌, reverse, string_bytes};
+ghost use Rattle.std.specs.Prelude.{◌≡◌, ◌⊎◌, ℕ, List, [], ◌∷◌, IfErr, IfOk, MatchResult, reverse, string_bytes};
 ghost use Rattle.toml_ordered.specs.Data.{items_view, node_view, push_item, table};
 ghost use Rattle.toml_ordered.specs.Keys.{table_view};
 ghost use Rattle.toml_ordered.specs.Firsts.{AddsFirsts, IsAgain, node_firsts, no_firsts, table_firsts};
@@ -184,34 +184,17 @@ fn redefine(
     ensures again { IfErr result (IsPassed (string_bytes member.old.0) member.old.2 left) }
 {
     let (key, node, first) = member;
-    match takes_more(alloc, what, node) {
-        Ok(true) => Ok(()),
-        Ok(false) => Err(defined_again(key, *first, left)),
-        Err(_) => Err(Fault::Memory),
-    }
-}
-
-/// Defines a value once more; returns whether it takes that.
-fn takes_more(alloc: Global, what: &Definition, node: &mut Node) -> Result<bool, AllocError>
-    ensures value { IfOk result (λ takes. spec.redefine (definition_view what.now) (node_view node.old) ≡ if takes then Some (node_view node.new) else None) }
-    ensures firsts { IfOk result (λ _. (node_firsts node.new ≡ node_firsts node.old) ⊎ (node_firsts node.new ≡ no_firsts)) }
-{
     match node {
-        Node::Table(origin, _table) => {
-            if *origin == Origin::Implicit && matches!(what, Definition::Table) {
-                *origin = Origin::Header;
-                return Ok(true);
-            }
-            Ok(false)
+        Node::Table(origin, _table)
+            if *origin == Origin::Implicit && matches!(what, Definition::Table) =>
+        {
+            *origin = Origin::Header;
+            Ok(())
         }
-        Node::Tables(done, last) => match what {
-            Definition::Tables => match begin_table(alloc, done, last) {
-                Ok(()) => Ok(true),
-                Err(refused) => Err(refused),
-            },
-            _ => Ok(false),
-        },
-        _ => Ok(false),
+        Node::Tables(done, last) if matches!(what, Definition::Tables) => {
+            Ok(begin_table(alloc, done, last)?)
+        }
+        _ => Err(defined_again(key, *first, left)),
     }
 }
 

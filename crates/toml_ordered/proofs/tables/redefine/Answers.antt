@@ -1,20 +1,27 @@
-use Rattle.std.proofs.Common.{Some, Vec, Global, sym, ap, ap₂, ◌∙◌}
+use Rattle.std.proofs.Common.{◌≡◌, Some, Vec, Global, sym, ap, ap₂, ◌∙◌}
+use Rattle.std.proofs.lemmas.Bool.{false≢true}
 use Rattle.toml_ordered.proofs.Trees.{node_view-Tables}
 use Rattle.toml_ordered.specs.Data.{TomlNode, Items, TomlNodes, node_view, table, tables, push_item, items_view}
 use Rattle.toml_ordered.specs.Keys.{keys_view, table_view}
 use Rattle.toml_ordered.specs.Reading.{definition_view}
 use Rattle.toml_ordered.specs.Tables.{array_table, redefine}
+use Rattle.toml_ordered.specs.declared.tables.Definition.TheVariants.{Tables}
 use Rattle.toml_ordered.specs.declared.tree.Origin.TheVariants.{Closed}
 use Rattle.toml_ordered.specs.declared.tree.Node.{Node as CodeNode}
 use Rattle.toml_ordered.specs.declared.tree.Table.{Table as CodeTable}
-use Rattle.toml_ordered.proofs.tables.takes_more.Goals as goal
+use Rattle.toml_ordered.proofs.tables.redefine.Goals as goal
+use Rattle.toml_ordered.proofs.tables.redefine.Goals.{in-Tables-matches, in_default-matches-2}
 
-pub returns-in-Ok-clause-value : goal.returns-in-Ok-clause-value
-returns-in-Ok-clause-value c =
+pub returns-in_ok-begin_table-in-Tables-clause-value : goal.returns-in_ok-begin_table-in-Tables-clause-value
+returns-in_ok-begin_table-in-Tables-clause-value c =
     let it = c.in-Tables in
-    let begun = c.in-Ok.ensures in
+    let begun = c.in_ok-begin_table-in-Tables.ensures in
     let new = c.begin_table.new in
-    ap (λ what. redefine (definition_view what) (node_view c.args.node.now)) c.in-Tables-what.is
+    let is : c.args.what.now ≡ Tables = elim c.match-matches-2.branch [
+      | in-Tables-matches w ↦ w.in-Tables-matches.is
+      | in_default-matches-2 w ↦ absurd (false≢true (sym w.matches-is ∙ c.if-matches-2.true))
+    ] in
+    ap (λ what. redefine (definition_view what) (node_view c.args.member.now.1)) is
     ∙ ap (λ x. redefine array_table (node_view x)) it.is ∙ ap (redefine array_table) (node_view-Tables it.done it.last)
     ∙ ap (λ (x : TomlNode). Some x)
     (sym (node_view-Tables new.done new.last
