@@ -13,7 +13,7 @@ use Rattle.toml_ordered.proofs.Endings.{start_ends, value_ends}
 use Rattle.toml_ordered.proofs.Turns.{items_turn, keyval_is, members_turn, val_array, val_table}
 use Rattle.toml_ordered.specs.Data.{Items, TomlNode, TomlNodes, array, no_items, no_nodes, push_item, table}
 use Rattle.toml_ordered.specs.Keys.{table_view}
-use Rattle.toml_ordered.specs.Firsts.{AddsFirsts, IsAgain, keys_firsts}
+use Rattle.toml_ordered.specs.Firsts.{AddsFirsts, IsAgain, keys_firsts, table_firsts}
 use Rattle.toml_ordered.specs.Grammar.{val}
 use Rattle.toml_ordered.specs.Inside.{ArrayUpTo, BracesUpTo, Finds, GoesOnInside, IsFoundHere, IsNextInside, IsValueRead, IsValueRefused, NextPair}
 use Rattle.toml_ordered.specs.Nesting.{NestsPast}
@@ -116,19 +116,19 @@ module _ (depth : ℕ) (text : List ℕ) (found : CodeTable) (rest : List ℕ) (
           within = let blank = blank_within rest in omega (arith, is, blank)
 
           pub braces_again : (refused : Fault) → ((IsMemory refused → ⊥) → put key x (table_view found) ≡ None)
-              → IsAgain (key_parts key) here (keys_firsts found.keys.items) refused → IsValueRefused (suc depth) text refused
+              → IsAgain (key_parts key) here (table_firsts found) refused → IsValueRefused (suc depth) text refused
           braces_again refused denies again = (
             λ real.
                 known.value
                 ∙ rw (members_turn (val depth) known.room (table_view found) rest (omega (arith, known.enough)), other, named, read, denies real),
             (reason_in text (drop 1 text) refused (λ left. NestsPast (suc depth) left text) (λ left. NestsPast (suc depth) left text) (ends_drop 1 text)
                 (λ left deep. deep)
-                (pairs_conflict depth (drop 1 text) rest (table_view found) key here (keys_firsts found.keys.items) refused known.knows pair_at within x after
+                (pairs_conflict depth (drop 1 text) rest (table_view found) key here (table_firsts found) refused known.knows pair_at within x after
                 (keyval_is (val depth) (skip_blank rest) key at after x named read) denies again (λ left. NestsPast (suc depth) left text))),
           )
 
           pub braces_more : (new : CodeTable) (next : List ℕ) → length after < length at → put key x (table_view found) ≡ Some (table_view new)
-              → AddsFirsts (key_parts key) here (table_view found) (keys_firsts found.keys.items) (keys_firsts new.keys.items)
+              → AddsFirsts (key_parts key) here (table_view found) (table_firsts found) (table_firsts new)
               → after_element 125 after ≡ Some next → BracesUpTo depth text new next
           braces_more new next shorter defined adds element =
               let start = skip_blank rest in

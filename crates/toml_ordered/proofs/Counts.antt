@@ -5,7 +5,7 @@ use Rattle.std.proofs.Math.Nat.{mul-suc, suc-mul}
 use Rattle.std.proofs.lemmas.List.Sums.{sum-map, sum_by-cons, sum_by-set, sum_by_push}
 use Rattle.std.specs.Prelude.{MatchOption, option_to_list}
 use Rattle.std.proofs.lemmas.Nat.{mul-le}
-use Rattle.toml_ordered.specs.Counts.{IsEntered, IsExchanged, IsLeft, IsPopped, node_count, table_count}
+use Rattle.toml_ordered.specs.Counts.{IsEntered, IsExchanged, IsLeft, IsPopped, node_count, table_count, tables_count}
 use Rattle.toml_ordered.specs.declared.tree.Node.{Node, Array, Table, Tables, the_lemmas}
 use Rattle.toml_ordered.specs.declared.tree.Origin.{Origin}
 use Rattle.toml_ordered.specs.declared.tree.Table.{Table as CodeTable}
@@ -34,7 +34,7 @@ node_count-Array items = search (rules, the_lemmas, sum-map, sum_by-map)
 pub node_count-Table : (origin : Origin) (t : CodeTable) → node_count (Table origin t) ≡ suc (table_count t)
 node_count-Table origin t = search (rules, the_lemmas, sum-map, sum_by-map)
 
-pub node_count-Tables : (done : Vec Node Global) (last : CodeTable) → node_count (Tables done last) ≡ suc (sum_by node_count done.items + table_count last)
+pub node_count-Tables : (done : Vec Node Global) (last : CodeTable) → node_count (Tables done last) ≡ tables_count done.items last
 node_count-Tables done last = search (rules, the_lemmas, sum-map, sum_by-map)
 
 -- a value is taken out, and another put into its place

@@ -6,7 +6,7 @@ use Rattle.toml_parser.specs.Strings.{Key}
 use Rattle.toml_ordered.proofs.FirstKeys.{path_steps}
 use Rattle.toml_ordered.specs.Data.{TomlNode, node_view}
 use Rattle.toml_ordered.specs.Keys.{sealed, table_view}
-use Rattle.toml_ordered.specs.Firsts.{AddsFirsts, IsAgain, keys_firsts}
+use Rattle.toml_ordered.specs.Firsts.{AddsFirsts, IsAgain, table_firsts}
 use Rattle.toml_ordered.specs.Places.{key_parts, whole_path}
 use Rattle.toml_ordered.specs.Reading.{Defines, ParsesTo, definition_view}
 use Rattle.toml_ordered.specs.Tables.{Definition, TomlDocument, along, at_key, define, defined_header, defined_pair, key_value, put, steps_along}
@@ -22,18 +22,18 @@ module _ (from to : CodeTable) (here : ℕ) (last : List ℕ) (what : Definition
     pub along_route : (r : Result (Unit {0}) Fault)
         → ParsesTo (λ _. table_view to) r (along (steps_along header dots) (at_key last what) (table_view from))
         → IfOk r (λ _. AddsFirsts (map (λ step. step.1) (steps_along header dots) ++ last ∷ []) here (table_view from)
-        (keys_firsts from.keys.items) (keys_firsts to.keys.items))
-        → IfErr r (IsAgain (map (λ step. step.1) (steps_along header dots) ++ last ∷ []) here (keys_firsts from.keys.items))
+        (table_firsts from) (table_firsts to))
+        → IfErr r (IsAgain (map (λ step. step.1) (steps_along header dots) ++ last ∷ []) here (table_firsts from))
         → Defines (along (steps_along header dots) (at_key last what) (table_view from)) (table_view to) (header ++ (dots ++ last ∷ [])) here from to r
     along_route (Ok u) value firsts again = (
       value,
-      subst (λ (path : List (List ℕ)). AddsFirsts path here (table_view from) (keys_firsts from.keys.items) (keys_firsts to.keys.items)) whole firsts,
+      subst (λ (path : List (List ℕ)). AddsFirsts path here (table_view from) (table_firsts from) (table_firsts to)) whole firsts,
     )
       where
         whole : map (λ step. step.1) (steps_along header dots) ++ last ∷ [] ≡ header ++ (dots ++ last ∷ [])
         whole = ap (λ (path : List (List ℕ)). path ++ last ∷ []) (path_steps header dots) ∙ append_assoc header dots (last ∷ [])
     along_route (Err fault) value firsts again =
-        (value, subst (λ (path : List (List ℕ)). IsAgain path here (keys_firsts from.keys.items) fault) whole again)
+        (value, subst (λ (path : List (List ℕ)). IsAgain path here (table_firsts from) fault) whole again)
       where
         whole : map (λ step. step.1) (steps_along header dots) ++ last ∷ [] ≡ header ++ (dots ++ last ∷ [])
         whole = ap (λ (path : List (List ℕ)). path ++ last ∷ []) (path_steps header dots) ∙ append_assoc header dots (last ∷ [])

@@ -16,7 +16,8 @@ use Rattle.toml_ordered.proofs.Trees.{Entry}
 use Rattle.toml_ordered.specs.Data.{TomlNode, TomlNodes, no_nodes}
 use Rattle.toml_ordered.specs.Passing.{held}
 use Rattle.toml_ordered.specs.Keys.{HasKey}
-use Rattle.toml_ordered.specs.Firsts.{Firsts, no_firsts, HasFirst, node_firsts, keys_firsts, table_firsts, keys_in, keys_at, PassesKey, IsNewKey, AddsFirsts, IsAgain}
+use Rattle.toml_ordered.specs.Firsts.{Firsts, no_firsts, HasFirst, node_firsts, keys_firsts, table_firsts, keys_in}
+use Rattle.toml_ordered.specs.Firsts.{keys_at, PassesKey, IsNewKey, AddsFirsts, IsAgain}
 use Rattle.toml_ordered.specs.Reading.{IsPassed, IsSameKey}
 use Rattle.toml_ordered.specs.Tables.{get_node, steps_along}
 

@@ -8,7 +8,7 @@ use Rattle.toml_ordered.proofs.FirstKeys.{adds_inside, adds_missing, again_here,
 use Rattle.toml_ordered.proofs.Turns.{along_found, along_refused, along_new, along_new_refused}
 use Rattle.toml_ordered.specs.Data.{TomlNode, TomlNodes, no_nodes, node_view, table}
 use Rattle.toml_ordered.specs.Keys.{IsIndexedAt, held_view, keys_view, table_view}
-use Rattle.toml_ordered.specs.Firsts.{Firsts, AddsFirsts, HasFirst, IsAgain, node_firsts, keys_firsts, keys_in, no_firsts}
+use Rattle.toml_ordered.specs.Firsts.{Firsts, AddsFirsts, HasFirst, IsAgain, node_firsts, keys_firsts, table_firsts, keys_in, no_firsts}
 use Rattle.toml_ordered.specs.Passing.{held, with_value_at, Fills, IsFilled, AreFilled, IsOpened, IsShut, PassesSteps, RefusesSteps, keys_of}
 use Rattle.toml_ordered.specs.Reading.{IsPassed, IsSameKey}
 use Rattle.toml_ordered.specs.Tables.{Edit, along, append, get_node, made_by, passed, replace}
@@ -65,7 +65,7 @@ opened by origin after t x is passes =
 
 -- nothing more is defined in it than in the table
 adds_held : (whole : List (List ℕ)) (here : ℕ) (ns : TomlNodes) (old : Firsts) (h : Holder) (t : CodeTable)
-    → AddsFirsts whole here ns old (keys_firsts t.keys.items) → AddsFirsts whole here ns old (node_firsts (held h t))
+    → AddsFirsts whole here ns old (table_firsts t) → AddsFirsts whole here ns old (node_firsts (held h t))
 adds_held whole here ns old h t adds = elim (held_firsts h t) [
   | inl same ↦ subst (AddsFirsts whole here ns old) (sym same) adds
   | inr none ↦ λ path key left first. absurd (subst (λ (f : Firsts). HasFirst f path key left) none first)
@@ -103,15 +103,15 @@ module _ (by : Way) (k : List ℕ) (rest : List (Way × List ℕ)) (left at : �
         ∙ ap (λ (x : TomlNode). replace k x (table_view outer)) (held_is h new)
 
     adds_there : (key : List ℕ) (new whole : CodeTable) → Fills t at h new whole
-        → AddsFirsts (keys_of rest ++ key ∷ []) left (table_view inner) (keys_firsts inner.keys.items) (keys_firsts new.keys.items)
-        → AddsFirsts (k ∷ keys_of rest ++ key ∷ []) left (table_view outer) (keys_firsts outer.keys.items) (keys_firsts whole.keys.items)
+        → AddsFirsts (keys_of rest ++ key ∷ []) left (table_view inner) (table_firsts inner) (table_firsts new)
+        → AddsFirsts (k ∷ keys_of rest ++ key ∷ []) left (table_view outer) (table_firsts outer) (table_firsts whole)
     adds_there key new whole fills adds =
         let path = keys_of rest ++ key ∷ [] in
         let inside : AddsFirsts path left (keys_in (Some (node_view e.1))) (node_firsts e.1) (node_firsts (held h new)) =
         subst (λ (ns : TomlNodes). AddsFirsts path left ns (node_firsts e.1) (node_firsts (held h new))) (sym opened.1)
         (subst (λ (f : Firsts). AddsFirsts path left (table_view inner) f (node_firsts (held h new))) (sym opened.2)
-        (adds_held path left (table_view inner) (keys_firsts inner.keys.items) h new adds)) in
-        subst (λ (es : List Entry). AddsFirsts (k ∷ path) left (table_view outer) (keys_firsts outer.keys.items) (keys_firsts es))
+        (adds_held path left (table_view inner) (table_firsts inner) h new adds)) in
+        subst (λ (es : List Entry). AddsFirsts (k ∷ path) left (table_view outer) (table_firsts outer) (keys_firsts es))
         (sym (items_are new whole fills))
         (adds_inside k path left (table_view outer) (node_view e.1) at outer.keys.items e (now new) found has.1 is same inside)
 
@@ -162,11 +162,11 @@ module _ (by : Way) (rest : List (Way × List ℕ)) (left at : ℕ) (outer inner
           let path = keys_of rest ++ key ∷ [] in
           let inside : AddsFirsts path left no_nodes no_firsts (node_firsts (made new).1) =
           adds_held path left no_nodes no_firsts (holder.Table origin) new
-          (subst (λ (es : List Entry). AddsFirsts path left (keys_view es inner.index) (keys_firsts es) (keys_firsts new.keys.items)) empty adds) in
+          (subst (λ (es : List Entry). AddsFirsts path left (keys_view es inner.index) (keys_firsts es) (table_firsts new)) empty adds) in
           adds_missing (string_bytes w.0) path left (table_view outer) outer.keys.items whole.keys.items (made new) refl here none inside
           (items_made new whole fills);
       again = λ key fault again.
-          again_nothing (keys_of rest ++ key ∷ []) (string_bytes w.0 ∷ keys_of rest ++ key ∷ []) left (keys_firsts outer.keys.items) fault
+          again_nothing (keys_of rest ++ key ∷ []) (string_bytes w.0 ∷ keys_of rest ++ key ∷ []) left (table_firsts outer) fault
           (subst (λ (es : List Entry). IsAgain (keys_of rest ++ key ∷ []) left (keys_firsts es) fault) empty again);
     }
 

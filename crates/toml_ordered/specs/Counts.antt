@@ -30,6 +30,10 @@ member_count m = node_count m.1
 abbrev pub table_count : Table → ℕ
 table_count t = sum_by member_count t.keys.items
 
+-- of an array of tables, and the last behind them
+abbrev pub tables_count : List Node → Table → ℕ
+tables_count done last = suc (sum_by node_count done + table_count last)
+
 -- The last of some values, or of the values of some keys, is taken out, and another put into its place.
 abbrev pub IsExchanged : {E X : Type 0} (counts : E → ℕ) (count : X → ℕ) (old new : List E) → X → Result X X → Type 0
 IsExchanged counts count old new other result = MatchResult result

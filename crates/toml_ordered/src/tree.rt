@@ -1,6 +1,6 @@
 //! The contents of a document.
-ghost use Rattle.std.specs.Prelude.{◌≡◌, suc, ◌+◌, IfOk, sum_by, vec_len};
-ghost use Rattle.toml_ordered.specs.Counts.{IsEntered, IsExchanged, IsLeft, IsPopped, member_count, node_count, table_count};
+ghost use Rattle.std.specs.Prelude.{◌≡◌, IfOk, vec_len};
+ghost use Rattle.toml_ordered.specs.Counts.{IsEntered, IsExchanged, IsLeft, IsPopped, member_count, node_count, tables_count};
 ghost use Rattle.toml_ordered.specs.Data.{node_view};
 ghost use Rattle.toml_ordered.specs.Firsts.{no_firsts, node_firsts};
 ghost use Rattle.toml_ordered.specs.Keys as spec;
@@ -156,8 +156,7 @@ fn exchange(items: &mut Vec<Node>, other: Node) -> Result<Node, Node>
 
 /// Takes out the last of some tables, or the last value in the table behind them, and puts another into its place.
 fn exchange_table(done: &mut Vec<Node>, last: &mut Table, other: Node) -> Result<Node, Node>
-    ensures { IsEntered node_count (suc (sum_by node_count done.old.items + table_count last.old)) (suc (sum_by node_count done.new.items + table_count last.new))
-        other result }
+    ensures { IsEntered node_count (tables_count done.old.items last.old) (tables_count done.new.items last.new) other result }
 {
     match exchange(done, other) {
         Ok(inner) => Ok(inner),
@@ -167,8 +166,7 @@ fn exchange_table(done: &mut Vec<Node>, last: &mut Table, other: Node) -> Result
 
 /// Takes out the last of some tables, or the last value in the table behind them.
 fn pop_table(done: &mut Vec<Node>, last: &mut Table) -> Option<Node>
-    ensures { IsLeft node_count (suc (sum_by node_count done.old.items + table_count last.old)) (suc (sum_by node_count done.new.items + table_count last.new))
-        result }
+    ensures { IsLeft node_count (tables_count done.old.items last.old) (tables_count done.new.items last.new) result }
 {
     match done.pop() {
         Some(inner) => Some(inner),

@@ -1,6 +1,6 @@
-use Rattle.std.proofs.Common.{◌≡◌, suc, ◌+◌, sym, ap, ◌∙◌, arith, sum_by}
+use Rattle.std.proofs.Common.{◌≡◌, sym, ap, ◌∙◌, arith}
 use Rattle.toml_ordered.proofs.Counts.{none_in, node_counts, node_count-Array, node_count-Table, node_count-Tables}
-use Rattle.toml_ordered.specs.Counts.{node_count, table_count}
+use Rattle.toml_ordered.specs.Counts.{node_count, tables_count}
 use Rattle.toml_ordered.proofs.tree.Node.end.Goals as goal
 use Rattle.toml_ordered.proofs.tree.Node.end.Goals.{In-Tables}
 
@@ -15,7 +15,7 @@ end-requires c =
     let one = sym (node_count-Table it._origin it.table) ∙ ap node_count (sym it.is) ∙ c.requires in
     none_in _ (λ m. node_counts m.1) it.table.keys (omega (arith, one))
 
-one : (c : In-Tables) → suc (sum_by node_count c.in-Tables.done.items + table_count c.in-Tables.last) ≡ 1
+one : (c : In-Tables) → tables_count c.in-Tables.done.items c.in-Tables.last ≡ 1
 one c = let it = c.in-Tables in sym (node_count-Tables it.done it.last) ∙ ap node_count (sym it.is) ∙ c.requires
 
 pub destroy_empty-requires-in-Tables : goal.destroy_empty-requires-in-Tables
