@@ -6,9 +6,9 @@ use Rattle.toml_parser.specs.Strings.{Key}
 use Rattle.toml_ordered.proofs.FirstKeys.{path_steps}
 use Rattle.toml_ordered.specs.Data.{TomlNode, node_view}
 use Rattle.toml_ordered.specs.Keys.{sealed, table_view}
-use Rattle.toml_ordered.specs.Firsts.{AddsFirsts, IsAgain, table_firsts}
+use Rattle.toml_ordered.specs.Firsts.{Firsts, AddsFirsts, IsAgain, table_firsts}
 use Rattle.toml_ordered.specs.Places.{key_parts, whole_path}
-use Rattle.toml_ordered.specs.Reading.{Defines, ParsesTo, definition_view}
+use Rattle.toml_ordered.specs.Reading.{Defines, IsMemory, ParsesTo, definition_view}
 use Rattle.toml_ordered.specs.Tables.{Definition, TomlDocument, along, at_key, define, defined_header, defined_pair, key_value, put, steps_along}
 use Rattle.toml_ordered.specs.declared.tree.Table.{Table as CodeTable}
 use Rattle.toml_ordered.specs.declared.fault.Fault.{Fault}
@@ -16,27 +16,25 @@ use Rattle.toml_ordered.specs.declared.tables.Definition as code
 use Rattle.toml_ordered.specs.declared.tables.Definition.TheVariants.{Table, Tables, Value}
 use Rattle.toml_ordered.specs.declared.tree.Node.{Node}
 
-module _ (from to : CodeTable) (here : ℕ) (last : List ℕ) (what : Definition) where
-  module _ (header dots : List (List ℕ)) where
-    -- what `define_at` defines, by its clauses
-    pub along_route : (r : Result (Unit {0}) Fault)
-        → ParsesTo (λ _. table_view to) r (along (steps_along header dots) (at_key last what) (table_view from))
-        → IfOk r (λ _. AddsFirsts (map (λ step. step.1) (steps_along header dots) ++ last ∷ []) here (table_view from)
-        (table_firsts from) (table_firsts to))
-        → IfErr r (IsAgain (map (λ step. step.1) (steps_along header dots) ++ last ∷ []) here (table_firsts from))
-        → Defines (along (steps_along header dots) (at_key last what) (table_view from)) (table_view to) (header ++ (dots ++ last ∷ [])) here from to r
-    along_route (Ok u) value firsts again = (
-      value,
-      subst (λ (path : List (List ℕ)). AddsFirsts path here (table_view from) (table_firsts from) (table_firsts to)) whole firsts,
-    )
-      where
-        whole : map (λ step. step.1) (steps_along header dots) ++ last ∷ [] ≡ header ++ (dots ++ last ∷ [])
-        whole = ap (λ (path : List (List ℕ)). path ++ last ∷ []) (path_steps header dots) ∙ append_assoc header dots (last ∷ [])
-    along_route (Err fault) value firsts again =
-        (value, subst (λ (path : List (List ℕ)). IsAgain path here (table_firsts from) fault) whole again)
-      where
-        whole : map (λ step. step.1) (steps_along header dots) ++ last ∷ [] ≡ header ++ (dots ++ last ∷ [])
-        whole = ap (λ (path : List (List ℕ)). path ++ last ∷ []) (path_steps header dots) ∙ append_assoc header dots (last ∷ [])
+-- a fault of an allocation
+pub again_memory : (whole : List (List ℕ)) (here : ℕ) (old : Firsts) (fault : Fault) → IsMemory fault → IsAgain whole here old fault
+again_memory whole here old fault is = subst (IsAgain whole here old) (sym is) tt
+
+-- what is defined, by what is read, where the keys are first defined, and what is refused
+pub defines : {A : Type 0} (expected : Option A) (new : A) (whole : List (List ℕ)) (here : ℕ) (from to : CodeTable) (r : Result (Unit {0}) Fault)
+    → ParsesTo (λ _. new) r expected → IfOk r (λ _. AddsFirsts whole here (table_view from) (table_firsts from) (table_firsts to))
+    → IfErr r (IsAgain whole here (table_firsts from)) → Defines expected new whole here from to r
+defines expected new whole here from to (Ok u) value firsts again = (value, firsts)
+defines expected new whole here from to (Err fault) value firsts again = (value, again)
+
+-- the whole path of a route
+pub along_route : (from to : CodeTable) (here : ℕ) (last : List ℕ) (what : Definition) (header dots : List (List ℕ)) (r : Result (Unit {0}) Fault)
+    → Defines (along (steps_along header dots) (at_key last what) (table_view from)) (table_view to)
+    (map (λ step. step.1) (steps_along header dots) ++ last ∷ []) here from to r
+    → Defines (along (steps_along header dots) (at_key last what) (table_view from)) (table_view to) (header ++ (dots ++ last ∷ [])) here from to r
+along_route from to here last what header dots r =
+    subst (λ (path : List (List ℕ)). Defines (along (steps_along header dots) (at_key last what) (table_view from)) (table_view to) path here from to r)
+    (ap (λ (path : List (List ℕ)). path ++ last ∷ []) (path_steps header dots) ∙ append_assoc header dots (last ∷ []))
 
 -- what is defined in the root table
 pub in_document : {A B : Type 0} (f : A → B) (expected : Option A) (new : A) (whole : List (List ℕ)) (here : ℕ) (from to : CodeTable)

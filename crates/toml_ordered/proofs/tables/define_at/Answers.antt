@@ -4,18 +4,28 @@ use Rattle.toml_ordered.specs.Reading.{definition_view}
 use Rattle.toml_ordered.specs.Tables.{Edit, at_key}
 use Rattle.toml_ordered.proofs.tables.define_at.Goals as goal
 
-pub returns-in-Err-at_key-clause-value : goal.returns-in-Err-at_key-clause-value
-returns-in-Err-at_key-clause-value c real =
+pub returns-in-Err : goal.returns-in-Err
+returns-in-Err c =
     let edit : Edit = at_key (string_bytes c.args.entry.key) (definition_view c.args.entry.what) in
-    rw c.replace-outermost.ensures.value at (c.in-Ok.ensures.refused edit (along_end edit _ ∙ c.in-Err-at_key.ensures.value real))
+    let same = c.replace-outermost.ensures.value in
+    (λ real. rw same at (c.in-Err.ensures.value edit real), rw same at (c.in-Err.ensures.again (string_bytes c.args.entry.key)))
 
-pub returns-clause-value : goal.returns-clause-value
-returns-clause-value c =
+pub returns-in-Err-at_key : goal.returns-in-Err-at_key
+returns-in-Err-at_key c =
     let edit : Edit = at_key (string_bytes c.args.entry.key) (definition_view c.args.entry.what) in
-    rw c.replace-outermost.ensures.value at
-    (c.in-Ok.ensures.value edit c.at_key.new.table c.ascend.result c.ascend.ensures (along_end edit _ ∙ c.in_default.ensures.value))
+    let same = c.replace-outermost.ensures.value in
+    let refused = c.in-Err-at_key.ensures in (
+      λ real. rw same at (c.in-Ok.ensures.refused edit (along_end edit _ ∙ refused.0 real)),
+      rw same at (c.in-Ok.ensures.again (string_bytes c.args.entry.key) c.in-Err-at_key.fault refused.1),
+    )
 
-pub returns-clause-firsts : goal.returns-clause-firsts
-returns-clause-firsts c =
-    rw c.replace-outermost.ensures.value at
-    (c.in-Ok.ensures.firsts (string_bytes c.args.entry.key) c.at_key.new.table c.ascend.result c.ascend.ensures c.in_default.ensures.firsts)
+pub returns : goal.returns
+returns c =
+    let edit : Edit = at_key (string_bytes c.args.entry.key) (definition_view c.args.entry.what) in
+    let same = c.replace-outermost.ensures.value in
+    let passes = c.in-Ok.ensures in
+    let last = c.at_key.new.table in
+    let whole = c.ascend.result in (
+      rw same at (passes.value edit last whole c.ascend.ensures (along_end edit _ ∙ c.in_default.ensures.0)),
+      rw same at (passes.firsts (string_bytes c.args.entry.key) last whole c.ascend.ensures c.in_default.ensures.1),
+    )

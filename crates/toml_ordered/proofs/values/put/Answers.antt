@@ -14,4 +14,4 @@ returns c =
     let dots = path_view c.deref.result.now in
     put_defines from to c.args.left (key_view c.args.key) x dots (ap path_view c.deref.ensures.value) c.define_at.result
     (along_route from to c.args.left (string_bytes c.args.key.last) (key_value x) [] dots c.define_at.result
-    c.define_at.ensures.value c.define_at.ensures.firsts c.define_at.ensures.again)
+    c.define_at.ensures)

@@ -15,7 +15,7 @@ returns-in-Err c =
     let name = string_bytes c.in_ok-clone.field-0 in
     header_defines from to c.args.left (key_view c.args.key) what header name (ap path_view c.deref.ensures.value) c.in_ok-clone.ensures.cases
     (Err c.in-Err.fault)
-    (along_route from to c.args.left name what header [] (Err c.in-Err.fault) c.in-Err.ensures.value tt c.in-Err.ensures.again)
+    (along_route from to c.args.left name what header [] (Err c.in-Err.fault) c.in-Err.ensures)
 
 pub returns : goal.returns
 returns c =
@@ -26,7 +26,7 @@ returns c =
     let name = string_bytes c.in_ok-clone.field-0 in
     let defines =
     header_defines from to c.args.left (key_view c.args.key) what header name (ap path_view c.deref.ensures.value) c.in_ok-clone.ensures.cases (Ok tt)
-    (along_route from to c.args.left name what header [] (Ok tt) c.in_default.ensures.value c.in_default.ensures.firsts tt) in
+    (along_route from to c.args.left name what header [] (Ok tt) c.in_default.ensures) in
     let section : path_view c.push.new.self.items ≡ path_view c.args.key.path.items ++ string_bytes c.args.key.last ∷ [] =
     ap path_view c.in_ok-push.ensures.items ∙ map-append string_bytes c.args.key.path.items (c.args.key.last ∷ []) in
     (defines.0 ∙ ap (λ (path : List (List ℕ)). Some (table_view to, path)) (sym section), defines.1)

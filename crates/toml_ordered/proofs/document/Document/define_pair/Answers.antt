@@ -16,4 +16,4 @@ returns c =
     pair_defines from to c.args.left (path_view c.args.self.now.section.items) (key_view c.args.key) x header dots (ap path_view c.deref.ensures.value)
     (ap path_view c.deref-2.ensures.value) c.define_at.result
     (along_route from to c.args.left (string_bytes c.args.key.last) (key_value x) header dots c.define_at.result
-    c.define_at.ensures.value c.define_at.ensures.firsts c.define_at.ensures.again)
+    c.define_at.ensures)
