@@ -80,15 +80,20 @@ impl Document {
             header: &path,
             dots: &[],
         };
+        let Ok(name) = last.clone() else {
+            return Err(Fault::Memory);
+        };
         let entry = Entry {
-            key: last.clone()?,
+            key: name,
             what,
             left,
         };
         if let Err(fault) = define_at(alloc, &mut self.root, route, entry) {
             return Err(fault);
         }
-        path.push(last)?;
+        if let Err(_) = path.push(last) {
+            return Err(Fault::Memory);
+        }
         self.section = path;
         Ok(())
     }

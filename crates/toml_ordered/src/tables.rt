@@ -84,7 +84,9 @@ fn descend(
             Ok(entered) => entered,
             Err(fault) => return Err(fault),
         };
-        passed.push(outer)?;
+        if let Err(_) = passed.push(outer) {
+            return Err(Fault::Memory);
+        }
         here = inner;
         to_pass = rest;
     }

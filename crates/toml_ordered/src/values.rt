@@ -54,7 +54,9 @@ pub(crate) fn value(alloc: Global, s: &str, depth: usize) -> Result<(Node, &str)
     'values: loop {
         match found {
             Found::Opened(innermost) => {
-                open.push(innermost)?;
+                if let Err(_) = open.push(innermost) {
+                    return Err(Fault::Memory);
+                }
                 match begin(alloc, rest, depth - open.len()) {
                     Ok(next) => (found, rest) = next,
                     Err(fault) => return Err(fault),

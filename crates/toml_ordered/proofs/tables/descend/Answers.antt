@@ -15,7 +15,7 @@ returns-in-Err c =
 pub steps-preserved : goal.steps-preserved
 steps-preserved c =
     subst (λ (ps : List Passed). PassesSteps (steps_of c.args.route) (steps_of c.in-Some.rest) c.args.left c.args.outermost c.in-Ok.entered.1
-    (AreFilled (reverse ps))) (sym c.in_ok-push.ensures.items)
+    (AreFilled (reverse ps))) (sym c.in_default-push.ensures.items)
     (passes_on (steps_of c.args.route) _ (steps_of c.in-Some.rest) c.args.left c.args.outermost c.steps.here c.in-Ok.entered.1 c.steps.passed.items
     c.in-Ok.entered.0
     (subst (λ (steps : List (Way × List ℕ)). PassesSteps (steps_of c.args.route) steps c.args.left c.args.outermost c.steps.here

@@ -9,7 +9,7 @@ opened : (c : After-len)
 opened c =
     let (utf8, inner, at, stands, found) = c.values.invariant in
     stands_opened c.values.open.items c.push.new.self.items c.args.depth c.args.s.now inner at c.values.found c.in-Opened.innermost c.values.rest.now
-    stands found c.in-Opened.is c.in_ok-push-in-Opened.ensures.items c.len.result (c.len.ensures ∙ c.push.new.self.ok.0)
+    stands found c.in-Opened.is c.in_default.ensures.items c.len.result (c.len.ensures ∙ c.push.new.self.ok.0)
 
 pub overflow_sub-depth : goal.overflow_sub-depth
 overflow_sub-depth c = (opened c).0

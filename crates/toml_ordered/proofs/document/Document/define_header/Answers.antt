@@ -12,8 +12,8 @@ returns-in-Err c =
     let to = c.define_at.new.table in
     let what = definition_view c.args.what in
     let header = path_view c.deref.result.now in
-    let name = string_bytes c.in_ok-clone.field-0 in
-    header_defines from to c.args.left (key_view c.args.key) what header name (ap path_view c.deref.ensures.value) c.in_ok-clone.ensures.cases
+    let name = string_bytes c.in-Ok.name in
+    header_defines from to c.args.left (key_view c.args.key) what header name (ap path_view c.deref.ensures.value) c.in-Ok.ensures.cases
     (Err c.in-Err.fault)
     (along_route from to c.args.left name what header [] (Err c.in-Err.fault) c.in-Err.ensures)
 
@@ -23,10 +23,10 @@ returns c =
     let to = c.define_at.new.table in
     let what = definition_view c.args.what in
     let header = path_view c.deref.result.now in
-    let name = string_bytes c.in_ok-clone.field-0 in
+    let name = string_bytes c.in-Ok.name in
     let defines =
-    header_defines from to c.args.left (key_view c.args.key) what header name (ap path_view c.deref.ensures.value) c.in_ok-clone.ensures.cases (Ok tt)
-    (along_route from to c.args.left name what header [] (Ok tt) c.in_default.ensures) in
+    header_defines from to c.args.left (key_view c.args.key) what header name (ap path_view c.deref.ensures.value) c.in-Ok.ensures.cases (Ok tt)
+    (along_route from to c.args.left name what header [] (Ok tt) c.in_default-define_at.ensures) in
     let section : path_view c.push.new.self.items ≡ path_view c.args.key.path.items ++ string_bytes c.args.key.last ∷ [] =
-    ap path_view c.in_ok-push.ensures.items ∙ map-append string_bytes c.args.key.path.items (c.args.key.last ∷ []) in
+    ap path_view c.in_default-push.ensures.items ∙ map-append string_bytes c.args.key.path.items (c.args.key.last ∷ []) in
     (defines.0 ∙ ap (λ (path : List (List ℕ)). Some (table_view to, path)) (sym section), defines.1)
