@@ -80,14 +80,10 @@ impl Document {
             header: &path,
             dots: &[],
         };
-        let Ok(name) = last.clone() else {
+        let Ok(key) = last.clone() else {
             return Err(Fault::Memory);
         };
-        let entry = Entry {
-            key: name,
-            what,
-            left,
-        };
+        let entry = Entry { key, what, left };
         if let Err(fault) = define_at(alloc, &mut self.root, route, entry) {
             return Err(fault);
         }

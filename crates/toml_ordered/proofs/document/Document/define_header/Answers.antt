@@ -12,7 +12,7 @@ returns-in-Err c =
     let to = c.define_at.new.table in
     let what = definition_view c.args.what in
     let header = path_view c.deref.result.now in
-    let name = string_bytes c.in-Ok.name in
+    let name = string_bytes c.in-Ok.key in
     header_defines from to c.args.left (key_view c.args.key) what header name (ap path_view c.deref.ensures.value) c.in-Ok.ensures.cases
     (Err c.in-Err.fault)
     (along_route from to c.args.left name what header [] (Err c.in-Err.fault) c.in-Err.ensures)
@@ -23,7 +23,7 @@ returns c =
     let to = c.define_at.new.table in
     let what = definition_view c.args.what in
     let header = path_view c.deref.result.now in
-    let name = string_bytes c.in-Ok.name in
+    let name = string_bytes c.in-Ok.key in
     let defines =
     header_defines from to c.args.left (key_view c.args.key) what header name (ap path_view c.deref.ensures.value) c.in-Ok.ensures.cases (Ok tt)
     (along_route from to c.args.left name what header [] (Ok tt) c.in_default-define_at.ensures) in
