@@ -6,19 +6,15 @@ use Rattle.toml_parser.specs.Strings.{Key}
 use Rattle.toml_ordered.proofs.FirstKeys.{path_steps}
 use Rattle.toml_ordered.specs.Data.{TomlNode, node_view}
 use Rattle.toml_ordered.specs.Keys.{sealed, table_view}
-use Rattle.toml_ordered.specs.Firsts.{Firsts, AddsFirsts, IsAgain, table_firsts}
+use Rattle.toml_ordered.specs.Firsts.{AddsFirsts, IsAgain, table_firsts}
 use Rattle.toml_ordered.specs.Places.{key_parts, whole_path}
-use Rattle.toml_ordered.specs.Reading.{Defines, IsMemory, ParsesTo, definition_view}
+use Rattle.toml_ordered.specs.Reading.{Defines, ParsesTo, definition_view}
 use Rattle.toml_ordered.specs.Tables.{Definition, TomlDocument, along, at_key, define, defined_header, defined_pair, key_value, put, steps_along}
 use Rattle.toml_ordered.specs.declared.tree.Table.{Table as CodeTable}
 use Rattle.toml_ordered.specs.declared.fault.Fault.{Fault}
 use Rattle.toml_ordered.specs.declared.tables.Definition as code
 use Rattle.toml_ordered.specs.declared.tables.Definition.TheVariants.{Table, Tables, Value}
 use Rattle.toml_ordered.specs.declared.tree.Node.{Node}
-
--- a fault of an allocation
-pub again_memory : (whole : List (List ℕ)) (here : ℕ) (old : Firsts) (fault : Fault) → IsMemory fault → IsAgain whole here old fault
-again_memory whole here old fault is = subst (IsAgain whole here old) (sym is) tt
 
 -- what is defined, by what is read, where the keys are first defined, and what is refused
 pub defines : {A : Type 0} (expected : Option A) (new : A) (whole : List (List ℕ)) (here : ℕ) (from to : CodeTable) (r : Result (Unit {0}) Fault)

@@ -18,7 +18,7 @@ use Rattle.toml_ordered.specs.Passing.{held}
 use Rattle.toml_ordered.specs.Keys.{HasKey}
 use Rattle.toml_ordered.specs.Firsts.{Firsts, no_firsts, HasFirst, node_firsts, keys_firsts, table_firsts, keys_in}
 use Rattle.toml_ordered.specs.Firsts.{keys_at, PassesKey, IsNewKey, AddsFirsts, IsAgain}
-use Rattle.toml_ordered.specs.Reading.{IsPassed, IsSameKey}
+use Rattle.toml_ordered.specs.Reading.{IsMemory, IsPassed, IsSameKey}
 use Rattle.toml_ordered.specs.Tables.{get_node, steps_along}
 
 -- ---- values
@@ -174,6 +174,10 @@ adds_nothing whole here ns old new (inl same) path key left first = inl (subst (
 adds_nothing whole here ns old new (inr gone) path key left first = absurd (subst (λ (f : Firsts). HasFirst f path key left) gone first)
 
 -- ---- keys that are defined again
+
+-- a fault of an allocation
+pub again_memory : (whole : Path) (here : ℕ) (old : Firsts) (fault : Fault) → IsMemory fault → IsAgain whole here old fault
+again_memory whole here old fault is = subst (IsAgain whole here old) (sym is) tt
 
 -- none was defined before in an empty table
 pub again_nothing : (whole all : Path) (here : ℕ) (old : Firsts) (found : Fault) → IsAgain whole here no_firsts found → IsAgain all here old found

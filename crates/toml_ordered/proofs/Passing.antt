@@ -4,13 +4,13 @@ use Rattle.std.proofs.Common.{inl, inr, refl, sym, ap, subst, ◌∙◌, arith, 
 use Rattle.std.proofs.lemmas.List.{reverse-append}
 use Rattle.toml_ordered.proofs.KeyPlaces.{found_here, written_here}
 use Rattle.toml_ordered.proofs.Trees.{Entry, Places, held_is, node_view-Table}
-use Rattle.toml_ordered.proofs.FirstKeys.{adds_inside, adds_missing, again_here, again_inside, again_nothing, held_firsts, node_firsts-Table}
+use Rattle.toml_ordered.proofs.FirstKeys.{adds_inside, adds_missing, again_here, again_inside, again_memory, again_nothing, held_firsts, node_firsts-Table}
 use Rattle.toml_ordered.proofs.Turns.{along_found, along_refused, along_new, along_new_refused}
 use Rattle.toml_ordered.specs.Data.{TomlNode, TomlNodes, no_nodes, node_view, table}
 use Rattle.toml_ordered.specs.Keys.{IsIndexedAt, held_view, keys_view, table_view}
 use Rattle.toml_ordered.specs.Firsts.{Firsts, AddsFirsts, HasFirst, IsAgain, node_firsts, keys_firsts, table_firsts, keys_in, no_firsts}
 use Rattle.toml_ordered.specs.Passing.{held, with_value_at, Fills, IsFilled, AreFilled, IsOpened, IsShut, PassesSteps, RefusesSteps, keys_of}
-use Rattle.toml_ordered.specs.Reading.{IsPassed, IsSameKey}
+use Rattle.toml_ordered.specs.Reading.{IsMemory, IsPassed, IsSameKey}
 use Rattle.toml_ordered.specs.Tables.{Edit, along, append, get_node, made_by, passed, replace}
 use Rattle.toml_ordered.specs.declared.tree.Node.{Node as CodeNode, Table}
 use Rattle.toml_ordered.specs.declared.tree.Table.{Table as CodeTable}
@@ -169,6 +169,13 @@ module _ (by : Way) (rest : List (Way × List ℕ)) (left at : ℕ) (outer inner
           again_nothing (keys_of rest ++ key ∷ []) (string_bytes w.0 ∷ keys_of rest ++ key ∷ []) left (table_firsts outer) fault
           (subst (λ (es : List Entry). IsAgain (keys_of rest ++ key ∷ []) left (keys_firsts es) fault) empty again);
     }
+
+-- an allocation that failed
+pub refuses_memory : (all : List (Way × List ℕ)) (left : ℕ) (outer : CodeTable) (fault : Fault) → IsMemory fault → RefusesSteps all left outer fault
+refuses_memory all left outer fault is = record {
+  value = λ edit real. absurd (real is);
+  again = λ key. again_memory (keys_of all ++ key ∷ []) left (table_firsts outer) fault is;
+}
 
 -- ---- several
 

@@ -125,7 +125,9 @@ fn enter(
         },
         None => {
             let at = table.keys.len();
-            let name = key.clone()?;
+            let Ok(name) = key.clone() else {
+                return Err(Fault::Memory);
+            };
             if let Err(fault) = table.append(name, Node::NotANumber, left) {
                 return Err(fault);
             }

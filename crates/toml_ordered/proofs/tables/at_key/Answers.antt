@@ -1,9 +1,9 @@
 use Rattle.std.proofs.Common.{[], ◌∷◌, string_bytes, refl, sym, inl}
 use Rattle.std.proofs.lemmas.Result.{IfOk-weaker, IfErr-weaker}
 use Rattle.std.specs.Vec.{with_item}
-use Rattle.toml_ordered.proofs.Defining.{again_memory, defines}
+use Rattle.toml_ordered.proofs.Defining.{defines}
 use Rattle.toml_ordered.proofs.KeyPlaces.{found_here, written_here}
-use Rattle.toml_ordered.proofs.FirstKeys.{adds_along, adds_missing, adds_none, adds_nothing, again_along}
+use Rattle.toml_ordered.proofs.FirstKeys.{adds_along, adds_missing, adds_none, adds_nothing, again_along, again_memory}
 use Rattle.toml_ordered.proofs.Turns.{at_key_there, at_key_new}
 use Rattle.toml_ordered.specs.Data.{node_view}
 use Rattle.toml_ordered.specs.Keys.{table_view}

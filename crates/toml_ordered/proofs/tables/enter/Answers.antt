@@ -1,7 +1,7 @@
 use Rattle.std.proofs.Common.{◌≡◌, ◌∷◌, ℕ, List, string_bytes, refl, sym, subst, ◌∙◌, arith}
 use Rattle.std.proofs.lemmas.Grind.{common_steps}
 use Rattle.std.specs.Vec.{with_item}
-use Rattle.toml_ordered.proofs.Passing.{passes_there, passes_new, refuses_there}
+use Rattle.toml_ordered.proofs.Passing.{passes_there, passes_new, refuses_memory, refuses_there}
 use Rattle.toml_ordered.specs.Passing.{Fills, PassesSteps}
 use Rattle.toml_ordered.specs.declared.tree.Node.{NotANumber}
 use Rattle.toml_ordered.specs.declared.tree.Table.{Table as CodeTable}
@@ -22,8 +22,14 @@ returns-in-Err c rest =
     c.in-Err.ensures.taken.1
 
 pub returns-in_default : goal.returns-in_default
-returns-in_default c rest =
-    let name = c.in_ok-name-in-None.name in
+returns-in_default c rest = refuses_memory _ c.args.left c.args.outer _ refl
+
+pub returns-in-Err-append : goal.returns-in-Err-append
+returns-in-Err-append c rest = refuses_memory _ c.args.left c.args.outer c.in-Err-append.fault c.in-Err-append.ensures.failed
+
+pub returns-in_default-append : goal.returns-in_default-append
+returns-in_default-append c rest =
+    let name = c.in-Ok-clone.name in
     let same : string_bytes name ≡ string_bytes c.args.key.now = grind (arith, common_steps) in
     let at = c.len-at.result in
     let origin = c.origin.result in
@@ -31,4 +37,4 @@ returns-in_default c rest =
     subst (λ (k : List ℕ). PassesSteps ((c.args.way, k) ∷ rest) rest c.args.left c.args.outer c.new.result (Fills t at (holder.Table origin))) same
     (passes_new c.args.way rest c.args.left at c.args.outer c.new.result t (name, NotANumber, c.args.left) origin
     (rw (c.as_str.ensures.value, ← same) at c.in-None.ensures.found) refl c.new.ensures.keys (c.len-at.ensures ∙ c.args.outer.keys.ok.0)
-    c.origin.ensures c.in_default.ensures.last c.in_default.ensures.other)
+    c.origin.ensures c.in_default-append.ensures.last c.in_default-append.ensures.other)
