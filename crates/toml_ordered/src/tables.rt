@@ -185,8 +185,7 @@ fn redefine(
     let (key, node, first) = member;
     match node {
         Node::Table(origin, _table)
-            if *origin == Origin::Implicit && matches!(what, Definition::Table) =>
-        {
+            if *origin == Origin::Implicit && matches!(what, Definition::Table) => {
             *origin = Origin::Header;
             Ok(())
         }

@@ -7,12 +7,11 @@ ghost use Rattle.toml_ordered.specs.Keys as spec;
 
 mod holder;
 
+pub(crate) use holder::Holder;
 use std::alloc::AllocError;
 use std::collections::BTreeMap;
 use std::mem;
 use toml_datetime::Datetime;
-
-pub(crate) use holder::Holder;
 
 /// The construct that made a table, by which its text tells whether more may come to it.
 #[derive(Clone, Copy, PartialEq, Eq, Debug)]

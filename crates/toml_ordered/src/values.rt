@@ -169,13 +169,7 @@ fn next_pair(alloc: Global, table: Table, s: &str) -> Result<(Found, &str), Faul
 }
 
 /// Defines a pair of a table in braces.
-fn put(
-    alloc: Global,
-    table: &mut Table,
-    key: Key,
-    value: Node,
-    left: usize,
-) -> Result<(), Fault>
+fn put(alloc: Global, table: &mut Table, key: Key, value: Node, left: usize) -> Result<(), Fault>
     ensures { Defines (tables.put (key_view key) (sealed (node_view value)) (table_view table.old)) (table_view table.new) (key_parts (key_view key)) left
         table.old table.new result }
 {
